@@ -1,0 +1,53 @@
+/// How many steps an instant may take, where nothing else is said.
+pub const DEFAULT_BUDGET: u32 = 100_000;
+
+/// What is to be done with a program.
+#[derive(Debug, Drop)]
+pub struct Job {
+    /// What messages call the file of the program.
+    pub file: String,
+    /// How many steps an instant may take, from 1 to 1,000,000,000.
+    pub budget: u32,
+}
+
+/// What a program of ours answers to the shell.
+#[derive(Clone, Copy, Debug, PartialEq, Eq)]
+pub enum Status {
+    Well,
+    /// The source has an error.
+    SourceErrors,
+    /// The words of the call are no call.
+    Usage,
+    /// A file, the input or the output failed.
+    InputOutput,
+    /// Memory ran out.
+    Memory,
+    /// The program faulted while it ran.
+    ProgramFault,
+    /// A line of the trace is bad.
+    TraceFault,
+}
+
+impl Status {
+    /// The number that the shell sees.
+    pub fn code(self) -> u8 {
+        match self {
+            Status::Well => 0,
+            Status::SourceErrors => 1,
+            Status::Usage => 2,
+            Status::InputOutput => 3,
+            Status::Memory => 4,
+            Status::ProgramFault => 5,
+            Status::TraceFault => 6,
+        }
+    }
+}
+
+/// What the rules say of a program.
+#[derive(Debug, Drop)]
+pub struct Report {
+    /// A line for each message, in the order of the source.
+    pub messages: Vec<u8>,
+    /// `Well`, or `SourceErrors` where a message is an error.
+    pub status: Status,
+}

@@ -1,0 +1,41 @@
+ghost use Rattle.std.specs.Prelude.{◌-◌, ◌^◌, ◌<◌};
+
+use crate::jobs::{Job, Status};
+use crate::messages::{Findings, judged};
+use snl_machine::{Machine, Sink};
+use snl_trace::{End, Source, run};
+use std::alloc::{AllocError, Global};
+
+/// Reads and checks a program and, if it has no error, runs it over a trace: the messages, how the run
+/// ended, and the status.
+///
+/// With an error in the program neither the trace nor the sink is touched, and there is no end. The
+/// same holds where memory ran out, which is the only failure: a run takes no memory.
+pub fn session<R: Source, S: Sink>(
+    alloc: Global,
+    source: &[u8],
+    job: &Job,
+    trace: &mut R,
+    sink: &mut S,
+) -> Result<(Vec<u8>, Option<End>, Status), AllocError>
+    requires trace { R.failures trace.old < 2 ^ 64 - 1 }
+    requires sink { S.failures sink.old < 2 ^ 64 - 1 }
+{
+    let Findings { messages, checked } = judged(alloc, source, job.file.as_str())?;
+    let Some(checked) = checked else {
+        return Ok((messages, None, Status::SourceErrors));
+    };
+    let mut machine = Machine::load(alloc, checked, job.budget)?;
+    let end = run(&mut machine, trace, sink);
+    Ok((messages, Some(end), status(end)))
+}
+
+/// The status of a run that ended so.
+fn status(end: End) -> Status {
+    match end {
+        End::TraceEnded | End::ProgramEnded => Status::Well,
+        End::Fault(_, _) => Status::ProgramFault,
+        End::TraceFault(_, _) => Status::TraceFault,
+        End::SourceFailed | End::SinkFailed => Status::InputOutput,
+    }
+}

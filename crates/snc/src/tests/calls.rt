@@ -1,0 +1,132 @@
+//! Each public call of the crates below, once.
+
+use crate::tests::PROGRAM;
+use arrayvec::ArrayVec;
+use snl_check::{Severity, check};
+use snl_machine::{Event, Live, Machine};
+use snl_text::{Kind, lex};
+use snl_trace::{Sheet, TraceFault, read_line};
+use snl_tree::{ParseFault, parse};
+use std::test::Fail;
+
+#[test]
+fn lead_from_bytes_to_a_run(rt: HostRuntime) -> Result<(), Fail> {
+    let lexed = lex(rt.alloc(), PROGRAM)?;
+    assert_eq!(rt; lexed.tokens.len(), 58);
+    assert_eq!(rt; lexed.eof.line, 15);
+    let second = lexed.tokens.get(1).ok_or("no second token")?;
+    assert!(rt; second.kind == Kind::Name && second.text == b"p".as_slice());
+    assert!(rt; second.pos.offset == 8 && second.pos.file == 0 && second.pos.line == 1);
+    let outcome = check(rt.alloc(), parse(rt.alloc(), &lexed)?)?;
+    assert_eq!(rt; outcome.messages.len(), 1);
+    let message = outcome.messages.get(0).ok_or("no message")?;
+    assert!(rt; message.severity == Severity::Warning && message.number == 7);
+    assert_eq!(rt;
+        message.text.as_slice(),
+        b"state 'hi' has no clauses".as_slice()
+    );
+    let checked = outcome.checked.ok_or("not accepted")?;
+    assert_eq!(rt; checked.program().name.text, b"p".as_slice());
+    let mut machine = Machine::load(rt.alloc(), checked, 10)?;
+    let mut sheet = Sheet::new(rt.alloc(), 100, 3)?;
+    assert_eq!(rt; machine.channel(b"b"), Some(1));
+    assert_eq!(rt; machine.channel(b"c"), None);
+    assert_eq!(rt; machine.event(3, &Event::Up(0), &mut sheet)?, Live::Waiting);
+    assert_eq!(rt; machine.event(4, &Event::Up(1), &mut sheet)?, Live::Waiting);
+    let mut values = ArrayVec::new();
+    values.push(4);
+    let event = Event::Val(0, values);
+    assert!(rt; machine.fits(&event) && !machine.fits(&Event::Up(2)));
+    assert_eq!(rt; machine.event(5, &event, &mut sheet)?, Live::Running);
+    assert_eq!(rt; machine.time(), 5);
+    assert_eq!(rt;
+        sheet.text(),
+        b"5 start p\n5 put b 8\n5 go s lo hi\n".as_slice()
+    );
+    Ok(())
+}
+
+#[test]
+fn refuse_the_first_impossible_token(rt: HostRuntime) -> Result<(), Fail> {
+    let lexed = lex(rt.alloc(), b"program p option +s; int int;")?;
+    let refused = parse(rt.alloc(), &lexed).err();
+    assert_eq!(rt; refused, Some(ParseFault::Unexpected(7)));
+    Ok(())
+}
+
+/// Lines with what is wrong with them, after an event at 5.
+const BAD_LINES: [(&[u8], TraceFault); 24] = [
+    (b"5 tick \x80", TraceFault::NotAscii),
+    (b"5 tick\r\r", TraceFault::NotAscii),
+    (b"\0", TraceFault::NotAscii),
+    (b"x tick", TraceFault::BadTime),
+    (b"-5 tick", TraceFault::BadTime),
+    (b" # no comment", TraceFault::BadTime),
+    (b"1x tick", TraceFault::BadTime),
+    (b"00000000000000005 tick", TraceFault::BadTime),
+    (b"1000000000000001 tick", TraceFault::BadTime),
+    (b"4 tick", TraceFault::BackInTime),
+    (b"4 tock", TraceFault::BackInTime),
+    (b"5 tock a b", TraceFault::UnknownWord),
+    (b"5 down a", TraceFault::UnknownWord),
+    (b"5", TraceFault::FieldCount),
+    (b"5 tick a", TraceFault::FieldCount),
+    (b"5 up", TraceFault::FieldCount),
+    (b"5 up a b", TraceFault::FieldCount),
+    (b"5 val a", TraceFault::FieldCount),
+    (b"5 val zz +5", TraceFault::BadValue),
+    (b"5 val zz 9223372036854775808", TraceFault::BadValue),
+    (
+        b"5 val a 99999999999 00000000000000000001",
+        TraceFault::BadValue,
+    ),
+    (b"5 val a -", TraceFault::BadValue),
+    (b"5 val a 2147483648", TraceFault::OutOfRange),
+    (b"5 val a -2147483649 0", TraceFault::OutOfRange),
+];
+
+#[test]
+fn read_each_line_or_name_its_fault(rt: HostRuntime) -> Result<(), Fail> {
+    let lexed = lex(rt.alloc(), PROGRAM)?;
+    let checked = check(rt.alloc(), parse(rt.alloc(), &lexed)?)?
+        .checked
+        .ok_or("not accepted")?;
+    let machine = Machine::load(rt.alloc(), checked, 10)?;
+    for (line, fault) in &BAD_LINES {
+        assert_eq!(rt; read_line(line, &machine, 5).err(), Some(*fault));
+    }
+    for line in [b"".as_slice(), b" \t", b"\r", b"#5 \x80\0", b"#"] {
+        assert!(rt; matches!(read_line(line, &machine, 5), Ok(None)));
+    }
+    let (ms, event) = read_line(b"\t1000000000000000  up b\t\r", &machine, 5)?.ok_or("no event")?;
+    assert!(rt; ms == 1_000_000_000_000_000 && matches!(event, Event::Up(1)));
+    let (ms, event) = read_line(
+        b"0000000000000005 val zz -9223372036854775808",
+        &machine,
+        5,
+    )?.ok_or("no event")?;
+    assert!(rt; ms == 5 && matches!(event, Event::Other));
+    let (_, event) = read_line(b"5 val a 1 2147483648", &machine, 5)?.ok_or("no event")?;
+    let Event::Val(0, values) = event else {
+        return Err("not a value".into());
+    };
+    assert_eq!(rt; values.as_slice(), [1i64, 2_147_483_648].as_slice());
+    Ok(())
+}
+
+#[test]
+fn read_lines_up_to_their_limit(rt: HostRuntime) -> Result<(), Fail> {
+    let lexed = lex(rt.alloc(), PROGRAM)?;
+    let checked = check(rt.alloc(), parse(rt.alloc(), &lexed)?)?
+        .checked
+        .ok_or("not accepted")?;
+    let machine = Machine::load(rt.alloc(), checked, 10)?;
+    let mut line = vec![in rt.alloc(); b' '; 32_768]?;
+    assert!(rt; matches!(read_line(line.as_slice(), &machine, 5), Ok(None)));
+    line.push(b' ')?;
+    assert_eq!(rt;
+        read_line(line.as_slice(), &machine, 5).err(),
+        Some(TraceFault::LineTooLong)
+    );
+    Ok(())
+}

@@ -1,0 +1,26 @@
+-- What devices tell: the bytes that a sink was given.
+use Rattle.std.specs.Prelude.{◌==◌, ◌+◌, ℕ, ◌&&◌, Bool, true, false, not, List, ◌++◌, Option, None, Some, Result, Ok, Err, nat_lt}
+use Rattle.snl_machine.specs.declared.faults.Stop.{Stop}
+use Rattle.snl_machine.specs.declared.faults.Stop.TheVariants.{Fault, Sink}
+use Rattle.snl_machine.specs.declared.sinks.SinkFault.{SinkFault}
+
+-- what a sink tells once it took more bytes: nothing, where it told nothing before
+abbrev pub told_more : Option (List ℕ) → List ℕ → Option (List ℕ)
+told_more None bytes = None
+told_more (Some before) bytes = Some (before ++ bytes)
+
+-- whether a write of a piece of some length failed: by its answer, or by taking nothing of something
+abbrev pub write_fails : Result ℕ SinkFault → ℕ → Bool
+write_fails (Ok n) size = (n == 0) && nat_lt 0 size
+write_fails (Err fault) size = true
+
+-- a count of failures, after one more or none
+abbrev pub counted : Bool → ℕ → ℕ
+counted true n = n + 1
+counted false n = n
+
+-- whether it was the sink that stopped the machine
+abbrev pub stopped_by_sink : {A : Type 0} → Result A Stop → Bool
+stopped_by_sink (Ok done) = false
+stopped_by_sink (Err (Fault fault line)) = false
+stopped_by_sink (Err Sink) = true

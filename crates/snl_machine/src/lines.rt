@@ -1,0 +1,107 @@
+ghost use Rattle.std.specs.Prelude.{◌≡◌, ◌-◌, ◌^◌, ◌<◌, is_err};
+ghost use Rattle.snl_machine.specs.Devices.{counted};
+
+use crate::sinks::{Sink, SinkFault};
+use itoa::Buffer;
+
+/// `MS start PROGRAM`
+pub fn write_start<'t, S: Sink>(sink: &mut S, ms: u64, program: &'t [u8]) -> Result<(), SinkFault>
+    requires { S.failures sink.old < 2 ^ 64 - 1 }
+    ensures failures { S.failures sink.new ≡ counted (is_err result) (S.failures sink.old) }
+{
+    let mut time = Buffer::new();
+    write_pieces(
+        sink,
+        &[time.format(ms).as_bytes(), b" start ", program, b"\n"],
+    )
+}
+
+/// `MS put CHANNEL VALUE`
+pub fn write_put<'t, S: Sink>(
+    sink: &mut S,
+    ms: u64,
+    channel: &'t [u8],
+    value: i64,
+) -> Result<(), SinkFault>
+    requires { S.failures sink.old < 2 ^ 64 - 1 }
+    ensures failures { S.failures sink.new ≡ counted (is_err result) (S.failures sink.old) }
+{
+    let mut time = Buffer::new();
+    let mut number = Buffer::new();
+    let value = number.format(value).as_bytes();
+    write_pieces(
+        sink,
+        &[
+            time.format(ms).as_bytes(),
+            b" put ",
+            channel,
+            b" ",
+            value,
+            b"\n",
+        ],
+    )
+}
+
+/// `MS go STATE-SET FROM TO`
+pub fn write_go<'t, S: Sink>(
+    sink: &mut S,
+    ms: u64,
+    state_set: &'t [u8],
+    from: &'t [u8],
+    to: &'t [u8],
+) -> Result<(), SinkFault>
+    requires { S.failures sink.old < 2 ^ 64 - 1 }
+    ensures failures { S.failures sink.new ≡ counted (is_err result) (S.failures sink.old) }
+{
+    let mut time = Buffer::new();
+    let ms = time.format(ms).as_bytes();
+    write_pieces(sink, &[ms, b" go ", state_set, b" ", from, b" ", to, b"\n"])
+}
+
+/// `MS fault STATE-SET LINE TEXT`
+pub fn write_fault<'t, S: Sink>(
+    sink: &mut S,
+    ms: u64,
+    state_set: &'t [u8],
+    line: usize,
+    text: &'t [u8],
+) -> Result<(), SinkFault>
+    requires { S.failures sink.old < 2 ^ 64 - 1 }
+    ensures failures { S.failures sink.new ≡ counted (is_err result) (S.failures sink.old) }
+{
+    let mut time = Buffer::new();
+    let mut number = Buffer::new();
+    let ms = time.format(ms).as_bytes();
+    let line = number.format(line).as_bytes();
+    write_pieces(
+        sink,
+        &[ms, b" fault ", state_set, b" ", line, b" ", text, b"\n"],
+    )
+}
+
+/// Hands pieces to a sink, one after another.
+fn write_pieces<S: Sink>(sink: &mut S, pieces: &[&[u8]]) -> Result<(), SinkFault>
+    requires { S.failures sink.old < 2 ^ 64 - 1 }
+    ensures failures { S.failures sink.new ≡ counted (is_err result) (S.failures sink.old) }
+{
+    for piece in pieces {
+        write_whole(sink, piece)?;
+    }
+    Ok(())
+}
+
+/// Hands a piece to a sink until it has taken all of it, however few bytes it takes a call.
+fn write_whole<S: Sink>(sink: &mut S, piece: &[u8]) -> Result<(), SinkFault>
+    requires { S.failures sink.old < 2 ^ 64 - 1 }
+    ensures failures { S.failures sink.new ≡ counted (is_err result) (S.failures sink.old) }
+{
+    let mut written = 0;
+    while written < piece.len() {
+        let taken = sink.write(&piece[written..])?;
+        if taken == 0 {
+            return Err(SinkFault);
+        }
+        written += taken;
+    }
+    Ok(())
+}

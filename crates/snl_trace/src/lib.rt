@@ -1,0 +1,20 @@
+//! Traces: what the lines of a recorded trace say, and the run of a machine over them.
+//!
+//! `read_line` says what one line tells, or what is wrong with it; `run` takes a trace from a
+//! `Source`, in whatever pieces it comes, and hands the lines of the run to a sink. The rules are told
+//! in `docs/TRACE.md`.
+#![tactic(auto)]
+
+mod fields;
+mod memory;
+mod numbers;
+mod reader;
+mod runner;
+mod sources;
+mod trace_faults;
+
+pub use memory::{Feed, Sheet};
+pub use reader::read_line;
+pub use runner::{End, run};
+pub use sources::{Source, SourceFault};
+pub use trace_faults::{LINE_LIMIT, TIME_LIMIT, TraceFault};
