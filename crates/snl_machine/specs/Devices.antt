@@ -1,5 +1,5 @@
 -- What devices tell: the bytes that a sink was given.
-use Rattle.std.specs.Prelude.{◌==◌, ◌+◌, ℕ, ◌&&◌, Bool, true, false, not, List, ◌++◌, Option, None, Some, Result, Ok, Err, nat_lt}
+use Rattle.std.specs.Prelude.{◌≡◌, ◌==◌, ◌+◌, ℕ, ◌&&◌, Bool, true, false, not, List, ◌++◌, Option, None, Some, Result, Ok, Err, nat_lt}
 use Rattle.snl_machine.specs.declared.faults.Stop.{Stop}
 use Rattle.snl_machine.specs.declared.faults.Stop.TheVariants.{Fault, Sink}
 use Rattle.snl_machine.specs.declared.sinks.SinkFault.{SinkFault}
@@ -8,6 +8,18 @@ use Rattle.snl_machine.specs.declared.sinks.SinkFault.{SinkFault}
 abbrev pub told_more : Option (List ℕ) → List ℕ → Option (List ℕ)
 told_more None bytes = None
 told_more (Some before) bytes = Some (before ++ bytes)
+
+-- the sink took a front of a text, and not what was behind
+pub record IsCutShort (text : List ℕ) (old new : Option (List ℕ)) : Type 0 where
+  pub front : List ℕ
+  pub back : List ℕ
+  pub is : text ≡ front ++ back
+  pub told : new ≡ told_more old front
+
+-- what a sink tells behind a call that hands it a text: all of that, or a beginning where the call failed
+abbrev pub Wrote : {A E : Type 0} → Result A E → List ℕ → Option (List ℕ) → Option (List ℕ) → Type 0
+Wrote (Ok done) text old new = new ≡ told_more old text
+Wrote (Err fault) text old new = IsCutShort text old new
 
 -- whether a write of a piece of some length failed: by its answer, or by taking nothing of something
 abbrev pub write_fails : Result ℕ SinkFault → ℕ → Bool

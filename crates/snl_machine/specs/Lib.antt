@@ -1,1 +1,15 @@
 pub mod Devices
+pub mod Does
+pub mod Effect
+pub mod Event
+pub mod Examples
+pub mod First
+pub mod Held
+pub mod Instant
+pub mod Lines
+pub mod Program
+pub mod Ran
+pub mod Turn
+pub mod Value
+pub mod Views
+pub mod World

@@ -16,8 +16,13 @@ pub enum Fault {
 }
 
 impl Fault {
+    ghost use Rattle.std.specs.Prelude.{◌≡◌};
+    ghost use Rattle.snl_machine.specs.Lines.{fault_text};
+
     /// What a fault's line says of it.
-    pub fn text(self) -> &'static [u8] {
+    pub fn text(self) -> &'static [u8]
+        ensures { result.now ≡ fault_text self }
+    {
         match self {
             Fault::Overflow => b"overflow",
             Fault::DoesNotFit => b"value does not fit",

@@ -5,8 +5,11 @@
 //! `docs/LANGUAGE.md`, "How a program runs".
 #![tactic(auto)]
 
+mod arrivals;
 mod events;
 mod faults;
+mod instants;
+mod laws;
 mod lines;
 mod machine;
 mod numbering;
@@ -19,5 +22,6 @@ mod values;
 
 pub use events::{Event, Live, VALUES_KEPT};
 pub use faults::{Fault, Stop};
+pub use laws::examples;
 pub use machine::Machine;
 pub use sinks::{Sink, SinkFault};

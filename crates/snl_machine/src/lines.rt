@@ -1,5 +1,6 @@
-ghost use Rattle.std.specs.Prelude.{◌≡◌, ◌-◌, ◌^◌, ◌<◌, is_err};
-ghost use Rattle.snl_machine.specs.Devices.{counted};
+ghost use Rattle.std.specs.Prelude.{◌≡◌, ◌-◌, ◌^◌, ◌<◌, is_err, map};
+ghost use Rattle.snl_machine.specs.Devices.{counted, Wrote};
+ghost use Rattle.snl_machine.specs.Lines.{joined, start_line, put_line, go_line, fault_line};
 
 use crate::sinks::{Sink, SinkFault};
 use itoa::Buffer;
@@ -7,6 +8,7 @@ use itoa::Buffer;
 /// `MS start PROGRAM`
 pub fn write_start<'t, S: Sink>(sink: &mut S, ms: u64, program: &'t [u8]) -> Result<(), SinkFault>
     requires { S.failures sink.old < 2 ^ 64 - 1 }
+    ensures told { Wrote result (start_line ms program.now) (S.told sink.old) (S.told sink.new) }
     ensures failures { S.failures sink.new ≡ counted (is_err result) (S.failures sink.old) }
 {
     let mut time = Buffer::new();
@@ -24,6 +26,7 @@ pub fn write_put<'t, S: Sink>(
     value: i64,
 ) -> Result<(), SinkFault>
     requires { S.failures sink.old < 2 ^ 64 - 1 }
+    ensures told { Wrote result (put_line ms channel.now value) (S.told sink.old) (S.told sink.new) }
     ensures failures { S.failures sink.new ≡ counted (is_err result) (S.failures sink.old) }
 {
     let mut time = Buffer::new();
@@ -51,6 +54,7 @@ pub fn write_go<'t, S: Sink>(
     to: &'t [u8],
 ) -> Result<(), SinkFault>
     requires { S.failures sink.old < 2 ^ 64 - 1 }
+    ensures told { Wrote result (go_line ms state_set.now from.now to.now) (S.told sink.old) (S.told sink.new) }
     ensures failures { S.failures sink.new ≡ counted (is_err result) (S.failures sink.old) }
 {
     let mut time = Buffer::new();
@@ -67,6 +71,7 @@ pub fn write_fault<'t, S: Sink>(
     text: &'t [u8],
 ) -> Result<(), SinkFault>
     requires { S.failures sink.old < 2 ^ 64 - 1 }
+    ensures told { Wrote result (fault_line ms state_set.now line text.now) (S.told sink.old) (S.told sink.new) }
     ensures failures { S.failures sink.new ≡ counted (is_err result) (S.failures sink.old) }
 {
     let mut time = Buffer::new();
@@ -82,6 +87,7 @@ pub fn write_fault<'t, S: Sink>(
 /// Hands pieces to a sink, one after another.
 fn write_pieces<S: Sink>(sink: &mut S, pieces: &[&[u8]]) -> Result<(), SinkFault>
     requires { S.failures sink.old < 2 ^ 64 - 1 }
+    ensures told { Wrote result (joined (map (λ piece. piece.now) pieces.now)) (S.told sink.old) (S.told sink.new) }
     ensures failures { S.failures sink.new ≡ counted (is_err result) (S.failures sink.old) }
 {
     for piece in pieces {
@@ -93,6 +99,7 @@ fn write_pieces<S: Sink>(sink: &mut S, pieces: &[&[u8]]) -> Result<(), SinkFault
 /// Hands a piece to a sink until it has taken all of it, however few bytes it takes a call.
 fn write_whole<S: Sink>(sink: &mut S, piece: &[u8]) -> Result<(), SinkFault>
     requires { S.failures sink.old < 2 ^ 64 - 1 }
+    ensures told { Wrote result piece.now (S.told sink.old) (S.told sink.new) }
     ensures failures { S.failures sink.new ≡ counted (is_err result) (S.failures sink.old) }
 {
     let mut written = 0;

@@ -1,14 +1,15 @@
-ghost use Rattle.std.specs.Prelude.{◌≡◌, ◌-◌, ◌^◌, ◌<◌};
+ghost use Rattle.std.specs.Prelude.{◌≡◌, ◌-◌, ◌^◌, ◌<◌, IfOk, OnErr};
 ghost use Rattle.snl_machine.specs.Devices.{counted, stopped_by_sink};
+ghost use Rattle.snl_machine.specs.Does.{Does};
 
+use crate::arrivals::apply;
 use crate::events::{Event, Live};
 use crate::faults::Stop;
-use crate::lines::write_fault;
+use crate::instants::instant;
 use crate::numbering::numbered;
 use crate::programs::{Link, Numbered};
 use crate::sinks::Sink;
 use crate::stores::Store;
-use crate::turns::{apply, instant};
 use indexmap::IndexMap;
 use snl_check::Checked;
 use std::alloc::{AllocError, Global};
@@ -24,11 +25,18 @@ pub struct Machine<'a> {
 }
 
 impl<'a> Machine<'a> {
+    ghost use Rattle.snl_machine.specs.Event.{line_of};
+    ghost use Rattle.snl_machine.specs.First.{first_world};
+    ghost use Rattle.snl_machine.specs.Held.{program_held, world_held};
+
     /// Makes the machine of a program, which waits for its start. All the room that a run takes is
     /// made here. The budget is the number of steps that one instant may take.
     ///
     /// Fails only where that room was not to be had; the program is dropped then.
-    pub fn load(alloc: Global, checked: Checked<'a>, budget: u32) -> Result<Self, AllocError> {
+    pub fn load(alloc: Global, checked: Checked<'a>, budget: u32) -> Result<Self, AllocError>
+        ensures first { IfOk result (λ machine. world_held machine ≡ first_world (program_held machine)) }
+        ensures budget { IfOk result (λ machine. machine.budget ≡ budget) }
+    {
         let program = numbered(alloc, checked.program())?;
         let mut channels = IndexMap::new(alloc);
         for (number, name) in program.channels.iter().enumerate() {
@@ -49,7 +57,9 @@ impl<'a> Machine<'a> {
     }
 
     /// The time of the last event, in milliseconds; 0 before the first.
-    pub fn time(&self) -> u64 {
+    pub fn time(&self) -> u64
+        ensures { result ≡ (world_held self.now).time }
+    {
         self.store.time
     }
 
@@ -83,6 +93,11 @@ impl<'a> Machine<'a> {
     /// After a fault, and where the sink fails, the machine has ended, and what was written stands.
     pub fn event<S: Sink>(&mut self, ms: u64, event: &Event, sink: &mut S) -> Result<Live, Stop>
         requires { S.failures sink.old < 2 ^ 64 - 1 }
+        ensures does { Does (λ live. live) result (world_held self.new) (S.told sink.old) (S.told sink.new)
+            (line_of (program_held self.old) self.old.budget ms event.now (world_held self.old)) }
+        ensures ended { OnErr result ((world_held self.new).phase ≡ Live.Ended) }
+        ensures program { program_held self.new ≡ program_held self.old }
+        ensures budget { self.new.budget ≡ self.old.budget }
         ensures failures { S.failures sink.new ≡ counted (stopped_by_sink result) (S.failures sink.old) }
     {
         if self.store.phase == Live::Ended {
@@ -92,14 +107,9 @@ impl<'a> Machine<'a> {
         apply(event, &self.program, &mut self.store);
         match instant(&self.program, self.budget, &mut self.store, sink) {
             Ok(()) => Ok(self.store.phase),
-            Err(Stop::Sink) => {
+            Err(stop) => {
                 self.store.phase = Live::Ended;
-                Err(Stop::Sink)
-            }
-            Err(Stop::Fault(fault, line)) => {
-                self.store.phase = Live::Ended;
-                write_fault(sink, ms, self.program.state_set, line, fault.text())?;
-                Err(Stop::Fault(fault, line))
+                Err(stop)
             }
         }
     }

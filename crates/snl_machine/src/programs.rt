@@ -11,6 +11,41 @@ pub struct Numbered<'a> {
     pub states: Vec<State<'a>>,
 }
 
+impl<'a> Numbered<'a> {
+    ghost use Rattle.std.specs.Prelude.{◌≡◌, map, [], slice_get, slice_index_or};
+    ghost use Rattle.snl_machine.specs.Turn.{state_name};
+    ghost use Rattle.snl_machine.specs.Views.{program_of, seen_state, state_of};
+
+    pub fn link(&self, link: usize) -> Option<Link>
+        ensures { result ≡ slice_get self.now.links.items link }
+    {
+        self.links.get(link).copied()
+    }
+
+    pub fn state(&self, state: usize) -> Option<&State<'a>>
+        ensures { seen_state result ≡ slice_get (map state_of self.now.states.items) state }
+    {
+        self.states.get(state)
+    }
+
+    /// The name of a state; empty where there is no such state.
+    pub fn state_name(&self, state: usize) -> &'a [u8]
+        ensures { result.now ≡ state_name (program_of self.now) 0 state }
+    {
+        match self.states.get(state) {
+            Some(state) => state.name,
+            None => b"",
+        }
+    }
+
+    /// The name of a channel; empty where there is no such channel.
+    pub fn channel(&self, channel: usize) -> &'a [u8]
+        ensures { result.now ≡ slice_index_or (map (λ c. c.now) self.now.channels.items) channel [] }
+    {
+        self.channels.get(channel).copied().unwrap_or(b"")
+    }
+}
+
 /// A variable tied to a channel.
 #[derive(Clone, Copy, Debug)]
 pub struct Link {

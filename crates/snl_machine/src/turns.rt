@@ -1,145 +1,112 @@
-ghost use Rattle.std.specs.Prelude.{◌≡◌, ◌-◌, ◌^◌, ◌<◌};
+ghost use Rattle.std.specs.Prelude.{◌≡◌, ◌-◌, ◌^◌, ◌<◌, map, slice_get, Some};
 ghost use Rattle.snl_machine.specs.Devices.{counted, stopped_by_sink};
+ghost use Rattle.snl_machine.specs.Does.{Does};
+ghost use Rattle.snl_machine.specs.Turn.{refreshed_from, refreshed_link, chosen, spent, arrived, acted, transition, fired, tried, turn_of};
+ghost use Rattle.snl_machine.specs.Views.{clause_of, state_of, program_of, world_of, gave, picked, seen_clause};
 
-use crate::events::{Event, Live};
 use crate::faults::{Charge, Fault, Stop};
-use crate::lines::{write_go, write_start};
-use crate::programs::{Clause, Link, Numbered};
+use crate::lines::{write_fault, write_go};
+use crate::programs::{Clause, Link, Numbered, State};
 use crate::sinks::Sink;
-use crate::statements::execute;
+use crate::statements::execute_all;
 use crate::stores::Store;
 use crate::values::value;
 
-/// Lets an event change the channels and their buffers.
-pub fn apply(event: &Event, program: &Numbered, store: &mut Store) {
-    match event {
-        Event::Up(channel) => {
-            if let Some(up) = store.ups.get_mut(*channel) {
-                *up = true;
-            }
-        }
-        Event::Val(channel, values) => {
-            if let Some(valued) = store.valued.get_mut(*channel) {
-                *valued = true;
-            }
-            if let Some(first) = values.as_slice().first() {
-                receive(*channel, *first, program, store);
-            }
-        }
-        Event::Tick | Event::Other => {}
-    }
-}
-
-/// Puts a value into the buffer of each link of a channel, and marks the monitored ones.
-fn receive(channel: usize, value: i64, program: &Numbered, store: &mut Store) {
-    for (number, link) in program.links.iter().enumerate() {
-        if link.channel == channel {
-            if let Some(buffer) = store.buffers.get_mut(number) {
-                *buffer = value;
-            }
-            if link.is_monitored {
-                mark(number, true, store);
-            }
-        }
-    }
-}
-
-fn mark(link: usize, is_marked: bool, store: &mut Store) {
-    if let Some(place) = store.marks.get_mut(link) {
-        *place = is_marked;
-    }
-}
-
-/// Whether every channel is connected, and every monitored one was valued.
-fn is_ready(program: &Numbered, store: &Store) -> bool {
-    program.links.iter().all(|link| is_link_ready(link, store))
-}
-
-fn is_link_ready(link: &Link, store: &Store) -> bool {
-    let is_up = store.ups.get(link.channel).copied().unwrap_or(false);
-    let was_valued = store.valued.get(link.channel).copied().unwrap_or(false);
-    is_up && (was_valued || !link.is_monitored)
-}
-
-/// What happens at one time: the start, if it is due, and turns until nothing moves.
-pub fn instant<S: Sink>(
-    program: &Numbered,
-    budget: u32,
-    store: &mut Store,
-    sink: &mut S,
-) -> Result<(), Stop>
+/// One turn of the state set; answers whether it had a transition. A fault in it is told in a line.
+pub fn turn<S: Sink>(program: &Numbered, store: &mut Store, sink: &mut S) -> Result<bool, Stop>
     requires { S.failures sink.old < 2 ^ 64 - 1 }
+    ensures does { Does (λ x. x) result (world_of store.new) (S.told sink.old) (S.told sink.new)
+        (turn_of (program_of program.now) 0 (world_of store.old)) }
     ensures failures { S.failures sink.new ≡ counted (stopped_by_sink result) (S.failures sink.old) }
 {
-    store.ticks = budget;
-    if store.phase == Live::Waiting {
-        if !is_ready(program, store) {
-            return Ok(());
+    refresh(program.links.as_slice(), store);
+    match try_clauses(program, store, sink) {
+        Ok(moved) => Ok(moved),
+        Err(Stop::Sink) => Err(Stop::Sink),
+        Err(Stop::Fault(fault, line)) => {
+            match write_fault(sink, store.time, program.state_set, line, fault.text()) {
+                Ok(()) => Err(Stop::Fault(fault, line)),
+                Err(_) => Err(Stop::Sink),
+            }
         }
-        start(program, store, sink)?;
-    }
-    rounds(program, store, sink)
-}
-
-fn start<S: Sink>(program: &Numbered, store: &mut Store, sink: &mut S) -> Result<(), Stop>
-    requires { S.failures sink.old < 2 ^ 64 - 1 }
-    ensures failures { S.failures sink.new ≡ counted (stopped_by_sink result) (S.failures sink.old) }
-{
-    store.phase = Live::Running;
-    write_start(sink, store.time, program.name)?;
-    refresh(program, store);
-    store.state = 0;
-    store.entered = store.time;
-    Ok(())
-}
-
-/// Turns until one has no transition. Each transition spends a step, so there are no more turns than
-/// steps are left, and one.
-fn rounds<S: Sink>(program: &Numbered, store: &mut Store, sink: &mut S) -> Result<(), Stop>
-    requires { S.failures sink.old < 2 ^ 64 - 1 }
-    ensures failures { S.failures sink.new ≡ counted (stopped_by_sink result) (S.failures sink.old) }
-{
-    for _ in 0..u64::from(store.ticks) + 1 {
-        if !turn(program, store, sink)? {
-            return Ok(());
-        }
-    }
-    Ok(())
-}
-
-/// One turn of the state set; answers whether it had a transition.
-fn turn<S: Sink>(program: &Numbered, store: &mut Store, sink: &mut S) -> Result<bool, Stop>
-    requires { S.failures sink.old < 2 ^ 64 - 1 }
-    ensures failures { S.failures sink.new ≡ counted (stopped_by_sink result) (S.failures sink.old) }
-{
-    refresh(program, store);
-    let Some(state) = program.states.get(store.state) else {
-        return Ok(false);
-    };
-    match first_true(state.clauses.as_slice(), store)? {
-        Some(clause) => {
-            transit(clause, state.name, program, store, sink)?;
-            Ok(true)
-        }
-        None => Ok(false),
     }
 }
 
 /// Copies the buffer of each marked link into its variable, and takes the mark away.
-fn refresh(program: &Numbered, store: &mut Store) {
-    for (number, link) in program.links.iter().enumerate() {
-        if store.marks.get(number).copied().unwrap_or(false) {
-            let value = store.buffers.get(number).copied().unwrap_or(0);
-            if let Some(variable) = store.variables.get_mut(link.variable) {
-                *variable = value;
-            }
-            mark(number, false, store);
-        }
+pub fn refresh(links: &[Link], store: &mut Store)
+    ensures { world_of store.new ≡ refreshed_from 0 0 links.now (world_of store.old) }
+{
+    for (number, link) in links.iter().enumerate() {
+        refresh_link(number, *link, store);
+    }
+}
+
+fn refresh_link(number: usize, link: Link, store: &mut Store)
+    ensures { world_of store.new ≡ refreshed_link 0 number link (world_of store.old) }
+{
+    if store.is_marked(number) {
+        let value = store.buffer(number);
+        store.set_variable(link.variable, value);
+        store.set_mark(number, false);
+    }
+}
+
+/// The conditions of the state that the state set is in, and the transition of the clause that fires.
+fn try_clauses<S: Sink>(program: &Numbered, store: &mut Store, sink: &mut S) -> Result<bool, Stop>
+    requires { S.failures sink.old < 2 ^ 64 - 1 }
+    ensures does { Does (λ x. x) result (world_of store.new) (S.told sink.old) (S.told sink.new)
+        (tried (program_of program.now) 0 (slice_get (map state_of program.now.states.items) store.old.state) (world_of store.old)) }
+    ensures failures { S.failures sink.new ≡ counted (stopped_by_sink result) (S.failures sink.old) }
+{
+    match program.state(store.state) {
+        Some(state) => try_state(state, program, store, sink),
+        None => Ok(false),
+    }
+}
+
+fn try_state<S: Sink>(
+    state: &State,
+    program: &Numbered,
+    store: &mut Store,
+    sink: &mut S,
+) -> Result<bool, Stop>
+    requires { S.failures sink.old < 2 ^ 64 - 1 }
+    ensures does { Does (λ x. x) result (world_of store.new) (S.told sink.old) (S.told sink.new)
+        (tried (program_of program.now) 0 (Some (state_of state.now)) (world_of store.old)) }
+    ensures failures { S.failures sink.new ≡ counted (stopped_by_sink result) (S.failures sink.old) }
+{
+    match first_true(state.clauses.as_slice(), store) {
+        Ok(clause) => fire(clause, state.name, program, store, sink),
+        Err(charge) => Err(Stop::Fault(charge.fault, charge.line)),
+    }
+}
+
+/// The transition of the clause that was chosen, if one was; answers whether there was one.
+fn fire<S: Sink>(
+    clause: Option<&Clause>,
+    from: &[u8],
+    program: &Numbered,
+    store: &mut Store,
+    sink: &mut S,
+) -> Result<bool, Stop>
+    requires { S.failures sink.old < 2 ^ 64 - 1 }
+    ensures does { Does (λ x. x) result (world_of store.new) (S.told sink.old) (S.told sink.new)
+        (fired (program_of program.now) 0 from.now (seen_clause clause.entry) (world_of store.old)) }
+    ensures failures { S.failures sink.new ≡ counted (stopped_by_sink result) (S.failures sink.old) }
+{
+    match clause {
+        None => Ok(false),
+        Some(clause) => match transit(clause, from, program, store, sink) {
+            Ok(()) => Ok(true),
+            Err(stop) => Err(stop),
+        },
     }
 }
 
 /// The first clause whose condition is not 0. Those behind it are not evaluated.
-fn first_true<'p>(clauses: &'p [Clause], store: &Store) -> Result<Option<&'p Clause>, Charge> {
+fn first_true<'p>(clauses: &'p [Clause], store: &Store) -> Result<Option<&'p Clause>, Charge>
+    ensures { chosen 0 (map clause_of clauses.now) (world_of store.now) ≡ picked result (world_of store.now) }
+{
     for clause in clauses {
         if value(&clause.condition, store)? != 0 {
             return Ok(Some(clause));
@@ -157,21 +124,74 @@ fn transit<S: Sink>(
     sink: &mut S,
 ) -> Result<(), Stop>
     requires { S.failures sink.old < 2 ^ 64 - 1 }
+    ensures does { Does (λ x. x) result (world_of store.new) (S.told sink.old) (S.told sink.new)
+        (transition (program_of program.now) 0 from.now (clause_of clause.now) (world_of store.old)) }
     ensures failures { S.failures sink.new ≡ counted (stopped_by_sink result) (S.failures sink.old) }
 {
+    match spend(clause.line, store) {
+        Ok(()) => act(clause, from, program, store, sink),
+        Err(charge) => Err(Stop::Fault(charge.fault, charge.line)),
+    }
+}
+
+/// Spends a step of the budget.
+fn spend(line: usize, store: &mut Store) -> Result<(), Charge>
+    ensures { spent line (world_of store.old) ≡ gave result (world_of store.new) }
+{
     if store.ticks == 0 {
-        return Err(Stop::Fault(Fault::BudgetSpent, clause.line));
+        return Err(Charge {
+            fault: Fault::BudgetSpent,
+            line,
+        });
     }
     store.ticks -= 1;
-    for statement in &clause.block {
-        execute(statement, program, store, sink)?;
-    }
-    let to = match program.states.get(clause.target) {
-        Some(state) => state.name,
-        None => b"",
-    };
-    write_go(sink, store.time, program.state_set, from, to)?;
-    store.state = clause.target;
-    store.entered = store.time;
     Ok(())
+}
+
+/// A clause's block, and then its state.
+fn act<S: Sink>(
+    clause: &Clause,
+    from: &[u8],
+    program: &Numbered,
+    store: &mut Store,
+    sink: &mut S,
+) -> Result<(), Stop>
+    requires { S.failures sink.old < 2 ^ 64 - 1 }
+    ensures does { Does (λ x. x) result (world_of store.new) (S.told sink.old) (S.told sink.new)
+        (acted (program_of program.now) 0 from.now (clause_of clause.now) (world_of store.old)) }
+    ensures failures { S.failures sink.new ≡ counted (stopped_by_sink result) (S.failures sink.old) }
+{
+    match execute_all(clause.block.as_slice(), program, store, sink) {
+        Ok(()) => arrive(clause.target, from, program, store, sink),
+        Err(stop) => Err(stop),
+    }
+}
+
+/// Writes the line of a transition, and takes the new state.
+fn arrive<S: Sink>(
+    target: usize,
+    from: &[u8],
+    program: &Numbered,
+    store: &mut Store,
+    sink: &mut S,
+) -> Result<(), Stop>
+    requires { S.failures sink.old < 2 ^ 64 - 1 }
+    ensures does { Does (λ x. x) result (world_of store.new) (S.told sink.old) (S.told sink.new)
+        (arrived (program_of program.now) 0 from.now target (world_of store.old)) }
+    ensures failures { S.failures sink.new ≡ counted (stopped_by_sink result) (S.failures sink.old) }
+{
+    match write_go(
+        sink,
+        store.time,
+        program.state_set,
+        from,
+        program.state_name(target),
+    ) {
+        Ok(()) => {
+            store.state = target;
+            store.entered = store.time;
+            Ok(())
+        }
+        Err(_) => Err(Stop::Sink),
+    }
 }

@@ -1,0 +1,9 @@
+pub mod Blocks
+pub mod Faulting
+pub mod Marks
+pub mod Opening
+pub mod Rounds
+pub mod Starting
+pub mod Steps
+pub mod Trees
+pub mod Writing

@@ -1,0 +1,33 @@
+use Rattle.std.proofs.Common.{◌≡◌, ◌∙◌, ℕ, true, List, ap, Err, sym, subst, if◌then◌else◌}
+use Rattle.std.specs.List.{list_all}
+use Rattle.snl_machine.specs.declared.events.Live.{Live}
+use Rattle.snl_machine.specs.declared.events.Live.TheVariants.{Waiting}
+use Rattle.snl_machine.specs.declared.programs.Link.{Link}
+use Rattle.snl_machine.specs.Does.{Does}
+use Rattle.snl_machine.specs.Instant.{is_link_ready, is_ready, started, all_rounds, instant_by, instant_of}
+use Rattle.snl_machine.specs.Ran.{Ran, Gives, then_do}
+use Rattle.snl_machine.specs.Views.{program_of, world_of}
+use Rattle.snl_machine.specs.World.{World}
+use Rattle.snl_machine.proofs.Starting.{instant-starts}
+use Rattle.snl_machine.proofs.Steps.{does-then, stopped-then}
+use Rattle.snl_machine.proofs.instants.instant.Goals as goal
+
+pub returns-in-Ok-clause-does : goal.returns-in-Ok-clause-does
+returns-in-Ok-clause-does g c =
+    let p = program_of c.args.program.now in
+    let w = world_of c.args.store.now in
+    let u = record w { ticks = c.args.budget } in
+    let ready : true ≡ is_ready p u = c.if-not-are_ready.ensures ∙ ap (list_all (is_link_ready u)) c.as_slice.ensures.value in
+    let starts = instant-starts p c.args.budget w c.in-Waiting.is ready in
+    subst (λ (r : Ran (Unit {0})). Does (λ x. x) c.rounds-in-Ok.result (world_of c.rounds-in-Ok.new.store) (g.S.Sink.told c.args.sink.now) (g.S.Sink.told c.rounds-in-Ok.new.sink) r) (sym starts)
+    (does-then (λ x. x) _ (started p u) (λ _ v. all_rounds p v) _ _ _ _ _ _ c.in-Ok.ensures.does c.rounds-in-Ok.ensures.does)
+
+pub returns-in-Err-clause-does : goal.returns-in-Err-clause-does
+returns-in-Err-clause-does g c =
+    let p = program_of c.args.program.now in
+    let w = world_of c.args.store.now in
+    let u = record w { ticks = c.args.budget } in
+    let ready : true ≡ is_ready p u = c.if-not-are_ready.ensures ∙ ap (list_all (is_link_ready u)) c.as_slice.ensures.value in
+    let starts = instant-starts p c.args.budget w c.in-Waiting.is ready in
+    subst (λ (r : Ran (Unit {0})). Does {V = Unit {0}} (λ x. x) (Err c.in-Err.stop) (world_of c.start.new.store) (g.S.Sink.told c.args.sink.now) (g.S.Sink.told c.start.new.sink) r) (sym starts)
+    (stopped-then {V = Unit {0}} (λ x. x) {U = Unit {0}} (λ x. x) c.in-Err.stop (started p u) (λ _ v. all_rounds p v) _ _ _ c.in-Err.ensures.does)

@@ -1,0 +1,41 @@
+use Rattle.std.proofs.Common.{◌≡◌, ◌+◌, ◌-◌, ℕ, suc, rules, arith, refl, subst}
+use Rattle.snl_machine.specs.Instant.{all_rounds, rounds_of}
+use Rattle.snl_machine.specs.Views.{program_of, world_of}
+use Rattle.snl_machine.proofs.Rounds.{round-goes_on, round-ends, round-stops}
+use Rattle.snl_machine.proofs.Steps.{IsOnWay, on_way-start}
+use Rattle.snl_machine.proofs.instants.rounds.Goals as goal
+
+pub loop-round-init : goal.loop-round-init
+loop-round-init g c =
+    let p = program_of c.args.program.now in
+    let w = world_of c.args.store.now in
+    let told = g.S.Sink.told c.args.sink.now in
+    let fuel : suc c.args.store.now.ticks ≡ c.from-round-end.result + 1 - 0 = omega (arith, c.from-round-end.ensures) in
+    record {
+      on_way = subst (λ (n : ℕ). IsOnWay told told (all_rounds p w) (rounds_of p n w)) fuel (on_way-start told (all_rounds p w));
+      none_failed = refl;
+    }
+
+pub returns-in-Ok-false-clause-does : goal.returns-in-Ok-false-clause-does
+returns-in-Ok-false-clause-does g c =
+    let end = c.from-round-end.result + 1 in
+    let i = c.loop-round._round in
+    let fuel : end - i ≡ suc (end - (i + 1)) = omega (arith, c.loop-round-test.true) in
+    round-ends c.args.program.now c.loop-round.store (end - i) (end - (i + 1)) fuel _ c.turn.new.store _ _ _ c.loop-round.invariant.on_way (rw c.in-Ok-false.field-0-test at c.in-Ok-false.ensures.does)
+
+pub returns-in-Err-clause-does : goal.returns-in-Err-clause-does
+returns-in-Err-clause-does g c =
+    let end = c.from-round-end.result + 1 in
+    let i = c.loop-round._round in
+    let fuel : end - i ≡ suc (end - (i + 1)) = omega (arith, c.loop-round-test.true) in
+    round-stops c.args.program.now c.loop-round.store (end - i) (end - (i + 1)) fuel _ _ c.in-Err.stop _ _ _ c.loop-round.invariant.on_way c.in-Err.ensures.does
+
+pub loop-round-preserved : goal.loop-round-preserved
+loop-round-preserved g c =
+    let end = c.from-round-end.result + 1 in
+    let i = c.loop-round._round in
+    let fuel : end - i ≡ suc (end - (i + 1)) = omega (arith, c.loop-round-test.true) in
+    record {
+      on_way = round-goes_on c.args.program.now c.loop-round.store (end - i) (end - (i + 1)) fuel _ c.turn.new.store _ _ _ c.loop-round.invariant.on_way (rw c.in-Ok-true.field-0-test at c.in-Ok-true.ensures.does);
+      none_failed = search rules;
+    }
