@@ -11,43 +11,95 @@ pub struct Findings<'a> {
     pub checked: Option<Checked<'a>>,
 }
 
+/// What the files are called that places speak of: the one that was read, and those of the markers.
+#[derive(Clone, Copy)]
+struct Names<'n, 'a> {
+    read: &'n str,
+    marked: &'n [&'a [u8]],
+}
+
 /// Reads and checks a source. A lexical fault has its one message alone, and so has a syntax fault.
 pub fn judged<'a>(alloc: Global, source: &'a [u8], file: &str) -> Result<Findings<'a>, AllocError> {
-    let lexed = match lex(alloc, source) {
-        Ok(lexed) => lexed,
-        Err(fault) => return lexical_fault(alloc, fault, file),
-    };
-    let program = match parse(alloc, &lexed) {
-        Ok(program) => program,
-        Err(ParseFault::Memory) => return Err(AllocError),
-        Err(ParseFault::Unexpected(k)) => return syntax_fault(alloc, &lexed, k, file),
-    };
-    let outcome = check(alloc, program)?;
-    let mut messages = Vec::new(alloc);
-    for message in &outcome.messages {
-        push_message(&mut messages, file, message)?;
+    match lex(alloc, source) {
+        Ok(lexed) => parsed(alloc, &lexed, file),
+        Err(fault) => lexical_fault(alloc, source, fault, file),
     }
-    Ok(Findings {
-        messages,
-        checked: outcome.checked,
-    })
 }
 
 /// The one message of a source that is no list of tokens.
 fn lexical_fault<'a>(
     alloc: Global,
+    source: &[u8],
     fault: LexFault,
     file: &str,
 ) -> Result<Findings<'a>, AllocError> {
-    match fault {
-        LexFault::BadByte(pos) => refused(alloc, file, pos, 3, &[b"bad byte"]),
-        LexFault::OpenString(pos) => refused(alloc, file, pos, 3, &[b"unclosed string"]),
-        LexFault::BadNumber(pos) => refused(alloc, file, pos, 3, &[b"bad number"]),
-        LexFault::SourceTooLong(pos) => {
-            refused(alloc, file, pos, 3, &[b"source longer than 1048576 bytes"])
-        }
-        LexFault::Memory => Err(AllocError),
+    let (Some(text), Some(pos)) = (fault.text(), fault.pos()) else {
+        return Err(AllocError);
+    };
+    let marked = names_before(alloc, source, pos)?;
+    let names = Names {
+        read: file,
+        marked: marked.as_slice(),
+    };
+    refused(alloc, names, pos, 3, text.as_bytes())
+}
+
+/// The names that markers gave in front of a fault, where the fault's place needs one.
+fn names_before<'a>(
+    alloc: Global,
+    source: &'a [u8],
+    pos: Pos,
+) -> Result<Vec<&'a [u8]>, AllocError> {
+    if pos.file == 0 {
+        return Ok(Vec::new(alloc));
     }
+    match lex(alloc, source.get(..pos.offset).unwrap_or(source)) {
+        Ok(Lexed { files, .. }) => Ok(files),
+        Err(LexFault::Memory) => Err(AllocError),
+        Err(_) => Ok(Vec::new(alloc)),
+    }
+}
+
+/// Parses and checks a source that was cut into tokens.
+fn parsed<'a>(alloc: Global, lexed: &Lexed<'a>, file: &str) -> Result<Findings<'a>, AllocError> {
+    let names = Names {
+        read: file,
+        marked: lexed.files.as_slice(),
+    };
+    let program = match parse(alloc, lexed) {
+        Ok(program) => program,
+        Err(ParseFault::Memory) => return Err(AllocError),
+        Err(ParseFault::Unexpected(k)) => return syntax_fault(alloc, lexed, k, names),
+    };
+    let mut outcome = check(alloc, program)?;
+    refuse_embedded(alloc, lexed, &mut outcome.messages)?;
+    let mut messages = Vec::new(alloc);
+    for message in &outcome.messages {
+        push_message(&mut messages, names, message)?;
+    }
+    let checked = if lexed.embedded.is_empty() {
+        outcome.checked
+    } else {
+        None
+    };
+    Ok(Findings { messages, checked })
+}
+
+/// Adds a message for each piece of embedded C, which has no meaning here.
+fn refuse_embedded(
+    alloc: Global,
+    lexed: &Lexed,
+    messages: &mut Vec<Message>,
+) -> Result<(), AllocError> {
+    for pos in &lexed.embedded {
+        messages.push(Message {
+            pos: *pos,
+            severity: Severity::Error,
+            number: 10,
+            text: Vec::from_slice(alloc, b"embedded C is not supported")?,
+        })?;
+    }
+    messages.sort_by_key(|message| (message.pos.offset, message.severity, message.number))
 }
 
 /// The one message of tokens that are no program, at the first that can't stand where it does.
@@ -55,32 +107,27 @@ fn syntax_fault<'a>(
     alloc: Global,
     lexed: &Lexed,
     k: usize,
-    file: &str,
+    names: Names,
 ) -> Result<Findings<'a>, AllocError> {
-    match lexed.tokens.get(k) {
-        Some(token) => refused(
-            alloc,
-            file,
-            token.pos,
-            1,
-            &[b"syntax error at '", token.text, b"'"],
-        ),
-        None => refused(alloc, file, lexed.eof, 1, &[b"syntax error at end of file"]),
-    }
+    let Some(token) = lexed.tokens.get(k) else {
+        return refused(alloc, names, lexed.eof, 1, b"syntax error at end of file");
+    };
+    let mut text = Vec::from_slice(alloc, b"syntax error at '")?;
+    text.extend_from_slice(token.text)?;
+    text.push(b'\'')?;
+    refused(alloc, names, token.pos, 1, text.as_slice())
 }
 
 fn refused<'a>(
     alloc: Global,
-    file: &str,
+    names: Names,
     pos: Pos,
     number: u8,
-    text: &[&[u8]],
+    text: &[u8],
 ) -> Result<Findings<'a>, AllocError> {
     let mut messages = Vec::new(alloc);
-    push_head(&mut messages, file, pos.line, Severity::Error, number)?;
-    for piece in text {
-        messages.extend_from_slice(piece)?;
-    }
+    push_head(&mut messages, names, pos, Severity::Error, number)?;
+    messages.extend_from_slice(text)?;
     messages.push(b'\n')?;
     Ok(Findings {
         messages,
@@ -88,14 +135,8 @@ fn refused<'a>(
     })
 }
 
-fn push_message(out: &mut Vec<u8>, file: &str, message: &Message) -> Result<(), AllocError> {
-    push_head(
-        out,
-        file,
-        message.pos.line,
-        message.severity,
-        message.number,
-    )?;
+fn push_message(out: &mut Vec<u8>, names: Names, message: &Message) -> Result<(), AllocError> {
+    push_head(out, names, message.pos, message.severity, message.number)?;
     out.extend_from_slice(message.text.as_slice())?;
     out.push(b'\n')?;
     Ok(())
@@ -104,15 +145,15 @@ fn push_message(out: &mut Vec<u8>, file: &str, message: &Message) -> Result<(), 
 /// `FILE:LINE: error: E01 `: an error's number has two digits.
 fn push_head(
     out: &mut Vec<u8>,
-    file: &str,
-    line: usize,
+    names: Names,
+    pos: Pos,
     severity: Severity,
     number: u8,
 ) -> Result<(), AllocError> {
     let mut digits = Buffer::new();
-    out.extend_from_slice(file.as_bytes())?;
+    out.extend_from_slice(file_name(names, pos))?;
     out.push(b':')?;
-    out.extend_from_slice(digits.format(line).as_bytes())?;
+    out.extend_from_slice(digits.format(pos.line).as_bytes())?;
     out.extend_from_slice(match severity {
         Severity::Error if number < 10 => b": error: E0".as_slice(),
         Severity::Error => b": error: E".as_slice(),
@@ -121,4 +162,12 @@ fn push_head(
     out.extend_from_slice(digits.format(number).as_bytes())?;
     out.push(b' ')?;
     Ok(())
+}
+
+/// What the file of a place is called.
+fn file_name<'n>(names: Names<'n, 'n>, pos: Pos) -> &'n [u8] {
+    match pos.file.checked_sub(1).and_then(|k| names.marked.get(k)) {
+        Some(name) => name,
+        None => names.read.as_bytes(),
+    }
 }

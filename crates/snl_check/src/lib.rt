@@ -5,10 +5,13 @@
 #![tactic(auto)]
 
 mod checked;
-mod firsts;
+mod entries;
+mod gather;
 mod messages;
-mod rules;
-mod tables;
+mod scopes;
+mod sites;
+mod telling;
+mod walk;
 
 pub use checked::{Checked, Outcome, check};
 pub use messages::{Message, Severity};

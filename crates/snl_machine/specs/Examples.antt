@@ -31,14 +31,14 @@ doubling = record {
   sets = record {
     name = codes "s";
     states = record {
-        name = codes "lo";
-        clauses = record {
-            condition = Chain (Variable 0) (more Greater 10 (Whole (pos 3)) end);
-            block = Assign 1 10 (Chain (Variable 0) (more Multiply 10 (Whole (pos 2)) end)) ∷ Put 1 ∷ [];
-            target = 1;
-            line = 10;
-          } ∷ [];
-      } ∷ record { name = codes "hi"; clauses = [] } ∷ [];
+      name = codes "lo";
+      clauses = record {
+        condition = Chain (Variable 0) (more Greater 10 (Whole (pos 3)) end);
+        block = Assign 1 10 (Chain (Variable 0) (more Multiply 10 (Whole (pos 2)) end)) ∷ Put 1 ∷ [];
+        target = 1;
+        line = 10;
+      } ∷ [];
+    } ∷ record { name = codes "hi"; clauses = [] } ∷ [];
   } ∷ [];
 }
 
@@ -52,19 +52,19 @@ counting added = record {
   sets = record {
     name = codes "s";
     states = record {
-        name = codes "w";
-        clauses = record {
-            condition = Chain (Variable 0) (more Less 4 (Whole (pos 2)) end);
-            block = Assign 0 4 (Chain (Variable 0) (more Add 4 (Whole (pos 1)) end)) ∷ [];
-            target = 0;
-            line = 4;
-          } ∷ record {
-            condition = Whole (pos 1);
-            block = Assign 0 6 (Chain (Variable 0) (more Add 7 added end)) ∷ [];
-            target = 0;
-            line = 5;
-          } ∷ [];
+      name = codes "w";
+      clauses = record {
+        condition = Chain (Variable 0) (more Less 4 (Whole (pos 2)) end);
+        block = Assign 0 4 (Chain (Variable 0) (more Add 4 (Whole (pos 1)) end)) ∷ [];
+        target = 0;
+        line = 4;
+      } ∷ record {
+        condition = Whole (pos 1);
+        block = Assign 0 6 (Chain (Variable 0) (more Add 7 added end)) ∷ [];
+        target = 0;
+        line = 5;
       } ∷ [];
+    } ∷ [];
   } ∷ [];
 }
 

@@ -5,6 +5,10 @@ pub enum Kind {
     Name,
     /// A whole number.
     Whole,
+    /// A number with a point.
+    Decimal,
+    /// A character constant, quotes included.
+    Character,
     /// A string, quotes included.
     Text,
     Assign,

@@ -1,19 +1,32 @@
 //! The tokens of a source in the State Notation Language, each with its place.
 //!
-//! `lex` cuts the whole source, or answers the first place where no token can stand. A token borrows
-//! its bytes from the source. The rules are told in `docs/LANGUAGE.md`, "Source text".
+//! [`lex`] cuts the whole source into pieces, or answers the first place where none can stand. A token borrows
+//! its bytes from the source; [`whole_value`], [`decimal_value`] and [`character_value`] say what it is worth.
+//! The rules are told in `docs/LANGUAGE.md`, "Source text".
 #![tactic(auto)]
 
 mod classes;
 mod faults;
 mod kinds;
+mod laws;
+mod lexer;
+mod markers;
 mod numbers;
 mod pieces;
+mod quotes;
 mod scanner;
+mod signs;
+#[cfg(test)]
+mod tests;
 mod tokens;
+mod words;
 
 pub use faults::LexFault;
 pub use kinds::Kind;
-pub use numbers::whole_value;
-pub use scanner::{SOURCE_LIMIT, lex};
+pub use laws::{
+    at_most_one_cut, at_most_one_fault, examples_of_texts, no_cut_passes, no_longer_piece,
+};
+pub use lexer::{SOURCE_LIMIT, lex};
+pub use numbers::{DecimalValue, decimal_value, whole_value};
+pub use quotes::character_value;
 pub use tokens::{Lexed, Pos, Token};

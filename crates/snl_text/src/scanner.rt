@@ -1,84 +1,150 @@
-ghost use Rattle.std.specs.Prelude.{length, IfOk, ◌<◌, ◌≤◌};
+//! The walk over the source, piece by piece.
 
-use crate::classes::{is_blank, is_name_byte, is_number_byte};
-use crate::faults::LexFault;
-use crate::kinds::Kind;
-use crate::numbers::whole_value;
-use crate::pieces::{begins_number, run, sign, string_length, word_kind};
-use crate::tokens::{Lexed, Pos, Token};
-use std::alloc::Global;
+ghost use Rattle.snl_text.specs.Cut.{after, along, beyond, newlines, nothing_read, number_of, renamed, with_name};
+ghost use Rattle.snl_text.specs.Pieces.{SortFits};
+ghost use Rattle.std.specs.Prelude.{◌+◌, ◌<◌, ◌≡◌, ◌≤◌, ◌^◌, IfOk, OnOk, length, map};
 
-/// The most bytes that a source may have.
-pub const SOURCE_LIMIT: usize = 1_048_576;
+use crate::markers::Marker;
+use crate::pieces::Sort;
+use crate::tokens::{Pos, Token};
+use indexmap::IndexSet;
+use std::alloc::{AllocError, Global};
 
-/// Cuts a source into tokens, each the longest that can stand at its place, with blanks between them.
-///
-/// Answers the first place where no token can stand, `SourceTooLong` before all others, and `Memory`
-/// where the list of tokens found no room.
-pub fn lex<'a>(alloc: Global, source: &'a [u8]) -> Result<Lexed<'a>, LexFault> {
-    let mut pos = Pos {
-        offset: 0,
-        file: 0,
-        line: 1,
-    };
-    if source.len() > SOURCE_LIMIT {
-        return Err(LexFault::SourceTooLong(pos));
-    }
-    let mut tokens = Vec::new(alloc);
-    while pos.offset < source.len() {
-        let rest = &source[pos.offset..];
-        if rest[0] == b'\n' {
-            pos = Pos {
-                offset: pos.offset + 1,
-                file: 0,
-                line: pos.line + 1,
-            };
-        } else if is_blank(rest[0]) {
-            pos = Pos {
-                offset: pos.offset + 1,
-                file: 0,
-                line: pos.line,
-            };
-        } else {
-            let (kind, length) = token_at(rest, pos)?;
-            let token = Token {
-                kind,
-                text: &rest[..length],
-                pos,
-            };
-            tokens.push(token).map_err(|_| LexFault::Memory)?;
-            pos = Pos {
-                offset: pos.offset + length,
-                file: 0,
-                line: pos.line,
-            };
-        }
-    }
-    Ok(Lexed { tokens, eof: pos })
+/// What has been read of a source, up to a place.
+#[derive(Drop)]
+pub struct Scanner<'a> {
+    pub pos: Pos,
+    /// No more than spaces and tabs stand before the place in its line.
+    pub opens_line: bool,
+    pub tokens: Vec<Token<'a>>,
+    pub embedded: Vec<Pos>,
+    /// The names of files that markers gave, in order of first use.
+    pub files: IndexSet<&'a [u8]>,
 }
 
-/// The token that the bytes at a place begin with, and its length.
-fn token_at(bytes: &[u8], pos: Pos) -> Result<(Kind, usize), LexFault>
-    requires { 0 < length bytes.now }
-    ensures { IfOk result (λ found. (0 < found.1) × (found.1 ≤ length bytes.now)) }
+/// How many lines end in a text.
+fn newlines(text: &[u8]) -> usize
+    ensures value { result ≡ newlines text.now }
+    ensures within { result ≤ length text.now }
 {
-    let first = bytes[0];
-    if begins_number(bytes) {
-        let length = 1 + run(&bytes[1..], is_number_byte);
-        return match whole_value(&bytes[..length]) {
-            Some(_) => Ok((Kind::Whole, length)),
-            None => Err(LexFault::BadNumber(pos)),
+    let mut count = 0;
+    for byte in text {
+        if *byte == b'\n' {
+            count += 1;
+        }
+    }
+    count
+}
+
+/// Notes the name of a file, and answers its number, from 1.
+fn note_name<'a>(files: &mut IndexSet<&'a [u8]>, name: &'a [u8]) -> Result<usize, AllocError>
+    requires { length (map (λ name. name.now) files.old.keys) < 2 ^ 32 }
+    ensures number { IfOk result (λ number. number ≡ number_of (map (λ name. name.now) files.old.keys) name.now) }
+    ensures names { OnOk result (map (λ name. name.now) files.new.keys ≡ with_name (map (λ name. name.now) files.old.keys) name.now) }
+{
+    let (index, _) = files.insert_full(name)?;
+    Ok(index + 1)
+}
+
+/// The place behind bytes of the same line.
+fn along(pos: Pos, text: &[u8]) -> Pos
+    requires { pos.offset + length text.now < 2 ^ 64 }
+    ensures { result ≡ along pos text.now }
+{
+    Pos {
+        offset: pos.offset + text.len(),
+        file: pos.file,
+        line: pos.line,
+    }
+}
+
+/// The place behind bytes that may end lines.
+fn beyond(pos: Pos, text: &[u8]) -> Pos
+    requires offset { pos.offset + length text.now < 2 ^ 64 }
+    requires line { pos.line + length text.now < 2 ^ 64 }
+    ensures { result ≡ beyond pos text.now }
+{
+    Pos {
+        offset: pos.offset + text.len(),
+        file: pos.file,
+        line: pos.line + newlines(text),
+    }
+}
+
+impl<'a> Scanner<'a> {
+    ghost use Rattle.snl_text.specs.Scanning.{reading};
+
+    /// At the begin: line 1 of the file that is read, which is number 0.
+    pub fn new(alloc: Global) -> Self
+        ensures { reading result ≡ nothing_read }
+    {
+        Scanner {
+            pos: Pos {
+                offset: 0,
+                file: 0,
+                line: 1,
+            },
+            opens_line: true,
+            tokens: Vec::new(alloc),
+            embedded: Vec::new(alloc),
+            files: IndexSet::new(alloc),
+        }
+    }
+
+    /// Takes a piece, of this sort and text.
+    pub fn take(&mut self, sort: Sort, text: &'a [u8]) -> Result<(), AllocError>
+        requires offset { self.old.pos.offset + length text.now < 2 ^ 32 }
+        requires line { self.old.pos.line < 2 ^ 63 + self.old.pos.offset }
+        requires files { length (reading self.old).files < 2 ^ 32 }
+        requires fits { SortFits (length text.now) sort }
+        ensures { OnOk result (reading self.new ≡ after (reading self.old) text.now sort) }
+    {
+        match sort {
+            Sort::Blank => self.pos = along(self.pos, text),
+            Sort::LineEnd => {
+                self.pos = beyond(self.pos, text);
+                self.opens_line = true;
+            }
+            Sort::Skipped => {
+                self.pos = beyond(self.pos, text);
+                self.opens_line = false;
+            }
+            Sort::EmbeddedC => {
+                self.embedded.push(self.pos)?;
+                self.pos = beyond(self.pos, text);
+                self.opens_line = false;
+            }
+            Sort::Marker(marker) => self.take_marker(marker, text)?,
+            Sort::Token(kind) => {
+                self.tokens.push(Token {
+                    kind,
+                    text,
+                    pos: self.pos,
+                })?;
+                self.pos = along(self.pos, text);
+                self.opens_line = false;
+            }
+        }
+        Ok(())
+    }
+
+    /// Takes a marker: the next line has its number, in its file or in the same one.
+    fn take_marker(&mut self, marker: Marker, text: &'a [u8]) -> Result<(), AllocError>
+        requires offset { self.old.pos.offset + length text.now < 2 ^ 32 }
+        requires files { length (reading self.old).files < 2 ^ 32 }
+        requires fits { SortFits (length text.now) (Sort.Marker marker) }
+        ensures { OnOk result (reading self.new ≡ renamed (reading self.old) text.now marker marker.name) }
+    {
+        let file = match marker.name {
+            Some(span) => note_name(&mut self.files, &text[span.start..span.end])?,
+            None => self.pos.file,
         };
-    }
-    if is_name_byte(first) {
-        let length = 1 + run(&bytes[1..], is_name_byte);
-        return Ok((word_kind(&bytes[..length]), length));
-    }
-    if first == b'"' {
-        return match string_length(bytes) {
-            Some(length) => Ok((Kind::Text, length)),
-            None => Err(LexFault::OpenString(pos)),
+        self.pos = Pos {
+            offset: self.pos.offset + text.len(),
+            file,
+            line: marker.line,
         };
+        self.opens_line = true;
+        Ok(())
     }
-    sign(bytes).ok_or(LexFault::BadByte(pos))
 }

@@ -5,7 +5,7 @@ use crate::kinds::Kind;
 pub struct Pos {
     /// Bytes before the place.
     pub offset: usize,
-    /// 0 for the file that was read. No source names another one yet.
+    /// 0 for the file that was read; else the number, from 1, of a name in [`Lexed::files`].
     pub file: usize,
     /// Counted from 1; only a newline ends a line.
     pub line: usize,
@@ -25,6 +25,10 @@ pub struct Token<'a> {
 pub struct Lexed<'a> {
     /// In the order of the source.
     pub tokens: Vec<Token<'a>>,
+    /// Where each piece of embedded C begins, in the order of the source.
+    pub embedded: Vec<Pos>,
+    /// The names of files that markers gave, as spelled between their quotes. The first has number 1.
+    pub files: Vec<&'a [u8]>,
     /// Where the source ends.
     pub eof: Pos,
 }

@@ -6,12 +6,14 @@
 #![tactic(auto)]
 
 mod fields;
+mod lines;
 mod memory;
 mod numbers;
 mod reader;
 mod runner;
 mod sources;
 mod trace_faults;
+mod words;
 
 pub use memory::{Feed, Sheet};
 pub use reader::read_line;

@@ -1,7 +1,8 @@
 //! The trees of programs in the State Notation Language, and the parser that makes them.
 //!
 //! Today this is the first language of `docs/LANGUAGE.md`: one state set, `int` variables, channels,
-//! and clauses that compare, assign and put.
+//! and clauses that compare, assign and put. The expressions of the whole language stand in [`whole`],
+//! and no program is read with them yet.
 #![tactic(auto)]
 
 mod definitions;
@@ -11,6 +12,7 @@ mod programs;
 mod rest;
 mod statements;
 mod trees;
+pub mod whole;
 
 pub use faults::ParseFault;
 pub use programs::parse;

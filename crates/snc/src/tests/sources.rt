@@ -4,7 +4,7 @@ use snl_trace::{Feed, Sheet};
 use std::test::Fail;
 
 /// Sources with what is to be said of them.
-const REFUSED: [(&[u8], &[u8]); 16] = [
+const REFUSED: [(&[u8], &[u8]); 20] = [
     (b"", b"p.st:1: error: E01 syntax error at end of file\n"),
     (
         b"\r\n\n",
@@ -12,6 +12,22 @@ const REFUSED: [(&[u8], &[u8]); 16] = [
     ),
     (b"program p\noption +s;\0", b"p.st:2: error: E03 bad byte\n"),
     (b"program \x80", b"p.st:1: error: E03 bad byte\n"),
+    (
+        b"# 40 \"q.stt\"\nprogram\np 09;",
+        b"q.stt:41: error: E03 bad number\n",
+    ),
+    (
+        b"# 40 \"q.stt\"\nprogram /* a\ncomment */ p option +;",
+        b"q.stt:41: error: E01 syntax error at ';'\n",
+    ),
+    (
+        b"program p // more\n/* open",
+        b"p.st:2: error: E03 unclosed comment\n",
+    ),
+    (
+        b"program p option +s; %{ int c; }% ss s { state w {\n%% int d;\nwhen (0x0A) {} state w } }",
+        b"p.st:1: error: E10 embedded C is not supported\np.st:2: error: E10 embedded C is not supported\n",
+    ),
     (
         b"program p\n\"a\n\"",
         b"p.st:2: error: E03 unclosed string\n",

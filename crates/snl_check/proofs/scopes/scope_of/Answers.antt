@@ -1,0 +1,16 @@
+use Rattle.std.proofs.Common.{[], ◌++◌, map}
+use Rattle.snl_check.specs.Facts.{noted}
+use Rattle.snl_check.specs.Sites.{declarations}
+use Rattle.snl_check.specs.Tables.{found_in}
+use Rattle.snl_check.proofs.WalkLaws.{table_step, declared_step}
+use Rattle.snl_check.proofs.scopes.scope_of.Goals as goal
+
+pub loop-name-preserved : goal.loop-name-preserved
+loop-name-preserved c =
+    let names = c.deref-name-items.result.now in (
+      table_step names c.loop-name.name-index _ c.loop-name-test.true (found_in c.loop-name.firsts) (found_in c.note_first.new.firsts)
+          c.loop-name.invariant.0 c.in_ok-is_later.ensures.firsts,
+      declared_step c.args.named names c.loop-name.name-index _ c.loop-name-test.true (found_in c.loop-name.firsts) c.in_ok-is_later.is_later
+          c.loop-name.sites.items c.push.new.self.items (c.args.sites.now.items ++ map noted (declarations c.args.named [] names))
+          c.loop-name.invariant.0 c.loop-name.invariant.1 c.in_ok-is_later.ensures.later c.in_ok-push.ensures.items,
+    )

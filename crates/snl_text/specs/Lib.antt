@@ -1,0 +1,12 @@
+pub mod Bytes
+pub mod Cut
+pub mod Faults
+pub mod Lexing
+pub mod Markers
+pub mod Numbers
+pub mod Pieces
+pub mod Quotes
+pub mod Scanning
+pub mod Signs
+pub mod Texts
+pub mod Words

@@ -1,0 +1,13 @@
+use Rattle.std.proofs.Common.{◌≡◌, ◌<◌, ◌^◌, take, true}
+use Rattle.std.specs.Char.{is_ascii_digit}
+use Rattle.std.specs.List.{list_all}
+use Rattle.std.specs.Str.Parse.{digits_value}
+use Rattle.snl_trace.proofs.numbers.number.Given as goal
+
+-- the bytes so far are digits, and spell the number so far
+abbrev pub invariant-loop-byte : goal.invariant-loop-byte
+invariant-loop-byte l = record {
+  digits : list_all is_ascii_digit (take l.byte-index l.field) ≡ true;
+  spelled : l.number ≡ digits_value 10 (take l.byte-index l.field);
+  small : l.number < 10 ^ l.byte-index;
+}

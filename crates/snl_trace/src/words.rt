@@ -1,0 +1,138 @@
+ghost use Rattle.std.specs.Prelude.{◌≡◌, ◌∷◌, [], ◌++◌, ℤ, List, take};
+ghost use Rattle.snl_trace.specs.Fields.{fields};
+ghost use Rattle.snl_trace.specs.Grammar as grammar;
+ghost use Rattle.snl_trace.specs.Grammar.{told_by, kept, values_of, kept_values, up_with, val_with, tick_with, ended, word_of};
+ghost use Rattle.snl_trace.specs.Told.{seen, told};
+
+use crate::fields::first_field;
+use crate::numbers::value;
+use crate::trace_faults::TraceFault;
+use arrayvec::ArrayVec;
+use snl_machine::VALUES_KEPT;
+
+/// The values of one line, as many as are kept.
+pub type Values = ArrayVec<i64, VALUES_KEPT>;
+
+/// The words of a trace.
+#[derive(Clone, Copy, Debug, PartialEq, Eq)]
+pub enum Word {
+    Up,
+    Val,
+    Tick,
+}
+
+/// What a line tells, with a channel by its name. The values of a `val` stand apart.
+#[derive(Clone, Copy, Debug)]
+pub enum Telling<'a> {
+    Up(&'a [u8]),
+    Val(&'a [u8]),
+    Tick,
+}
+
+/// The word that a field spells.
+#[tactic(auto, unfolding(crate::specs::Grammar::word_of))]
+fn word_in(field: &[u8]) -> Option<Word>
+    ensures { result ≡ word_of field.now }
+{
+    if field == b"up".as_slice() {
+        Some(Word::Up)
+    } else if field == b"val".as_slice() {
+        Some(Word::Val)
+    } else if field == b"tick".as_slice() {
+        Some(Word::Tick)
+    } else {
+        None
+    }
+}
+
+/// What the fields of a text tell: a word, and what follows it. The values of a `val` take the place
+/// of those that stood in `values`.
+#[tactic(auto, unfolding(crate::specs::Grammar::told_by))]
+pub fn heard<'a>(text: &'a [u8], values: &mut Values) -> Result<Telling<'a>, TraceFault>
+    ensures { seen (told values.new.items) result ≡ told_by (fields text.now) }
+{
+    let (field, rest) = first_field(text).ok_or(TraceFault::FieldCount)?;
+    match word_in(field) {
+        None => Err(TraceFault::UnknownWord),
+        Some(Word::Up) => up(rest),
+        Some(Word::Val) => val(rest, values),
+        Some(Word::Tick) => tick(rest),
+    }
+}
+
+/// What `up` tells: the name that follows it.
+#[tactic(auto, unfolding(crate::specs::Grammar::up_with))]
+fn up(rest: &[u8]) -> Result<Telling, TraceFault>
+    ensures { (values : List ℤ) → seen (told values) result ≡ up_with (fields rest.now) }
+{
+    let (name, rest) = first_field(rest).ok_or(TraceFault::FieldCount)?;
+    end(rest)?;
+    Ok(Telling::Up(name))
+}
+
+/// What `tick` tells: nothing follows it.
+#[tactic(auto, unfolding(crate::specs::Grammar::tick_with))]
+fn tick<'a>(rest: &'a [u8]) -> Result<Telling<'a>, TraceFault>
+    ensures { (values : List ℤ) → seen (told values) result ≡ tick_with (fields rest.now) }
+{
+    end(rest)?;
+    Ok(Telling::Tick)
+}
+
+/// What `val` tells: the name that follows it, and the values behind that.
+#[tactic(auto, unfolding(crate::specs::Grammar::val_with))]
+fn val<'a>(rest: &'a [u8], values: &mut Values) -> Result<Telling<'a>, TraceFault>
+    ensures { seen (told values.new.items) result ≡ val_with (fields rest.now) }
+{
+    let (name, rest) = first_field(rest).ok_or(TraceFault::FieldCount)?;
+    keep_values(rest, values)?;
+    Ok(Telling::Val(name))
+}
+
+/// Nothing more may follow.
+fn end(rest: &[u8]) -> Result<(), TraceFault>
+    ensures { seen (λ _. tt) result ≡ ended (fields rest.now) }
+{
+    match first_field(rest) {
+        None => Ok(()),
+        Some(_) => Err(TraceFault::FieldCount),
+    }
+}
+
+/// Puts the values of the fields, of which there has to be one, in place of those that stood there.
+#[tactic(auto, using(crate::proofs::ValueLaws::kept_values_bad, crate::proofs::ValueLaws::kept_values_none, crate::proofs::ValueLaws::kept_values_some))]
+fn keep_values(rest: &[u8], values: &mut Values) -> Result<(), TraceFault>
+    ensures { seen (λ _. values.new.items) result ≡ kept_values (fields rest.now) }
+{
+    all_values(rest, values)?;
+    if values.is_empty() {
+        return Err(TraceFault::FieldCount);
+    }
+    Ok(())
+}
+
+/// Puts the values of the fields in place of those that stood there.
+#[tactic(auto, using(crate::proofs::ValueLaws::kept_after_start, crate::proofs::ValueLaws::kept_after_more, crate::proofs::ValueLaws::kept_after_bad, crate::proofs::ValueLaws::kept_after_end))]
+fn all_values(rest: &[u8], values: &mut Values) -> Result<(), TraceFault>
+    ensures { seen (λ _. values.new.items) result ≡ kept (values_of (fields rest.now)) }
+{
+    values.clear();
+    let mut left = rest;
+    while let Some((field, behind)) = first_field(left) {
+        let value = value(field).ok_or(TraceFault::BadValue)?;
+        keep(values, value);
+        left = behind;
+    }
+    Ok(())
+}
+
+/// Adds a value, where there is room for it.
+#[tactic(auto, using(crate::proofs::ValueLaws::take_room, crate::proofs::ValueLaws::take_full))]
+fn keep(values: &mut Values, value: i64)
+    ensures { values.new.items ≡ take 1024 (values.old.items ++ value ∷ []) }
+{
+    if values.is_full() {
+        return;
+    }
+    values.push(value);
+}

@@ -1,0 +1,17 @@
+pub mod Spelling
+pub mod Laws
+pub mod Both
+pub mod Choices
+pub mod Lists
+pub mod Growth
+pub mod Shapes
+pub mod Inside
+pub mod Primaries
+pub mod Operators
+pub mod Limits
+pub mod Theorem
+pub mod Loops
+pub mod Parsing
+pub mod Opened
+pub mod Forms
+pub mod Rows

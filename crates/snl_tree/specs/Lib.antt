@@ -1,0 +1,9 @@
+pub mod Kinds
+pub mod Slots
+pub mod Readers
+pub mod Expressions
+pub mod Reading
+pub mod View
+pub mod Results
+pub mod Begins
+pub mod Parsing

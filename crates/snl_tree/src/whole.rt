@@ -1,0 +1,16 @@
+//! The expressions of the whole language: the definitions of which tokens spell which tree, functions that
+//! read their parts, and the laws that each list of tokens spells at most one expression and otherwise has
+//! a first token with which none goes on.
+//!
+//! The program parser above still has its own, smaller expressions.
+
+mod expr;
+mod expressions;
+mod faults;
+mod kinds;
+mod place;
+mod unambiguous;
+
+pub use expr::{Argument, Expr, Term};
+pub use faults::ParseFault;
+pub use unambiguous::{expressions_differ_in_spelling, tokens_have_an_answer};

@@ -1,0 +1,46 @@
+use snl_text::Token;
+
+/// An expression. Each name, operator and constant keeps its token.
+#[derive(Debug, Drop)]
+#[cycle(expr)]
+pub enum Expr<'a> {
+    /// A number or a character constant.
+    Constant(Token<'a>),
+    /// `( expression )`
+    Parenthesized(Box<Expr<'a>>),
+    /// A name alone.
+    Named(Token<'a>),
+    /// `name [ expression ]`
+    Element(Token<'a>, Box<Expr<'a>>),
+    /// `name ( argument , .. )`, with any number of arguments.
+    Call(Token<'a>, Vec<Argument<'a>>),
+    /// `x ++` or `x --`, with the operator.
+    Postfix(Box<Expr<'a>>, Token<'a>),
+    /// One of `+ - ! ~ ++ --` and its operand.
+    Prefix(Token<'a>, Box<Expr<'a>>),
+    /// Operands with the operators of one level between them, grouping to the left: those of one of the
+    /// ten levels of binary operators, or commas. At least one operator.
+    Chain(Box<Expr<'a>>, Vec<Term<'a>>),
+    /// `condition ? expression : expression`
+    Conditional(Box<Expr<'a>>, Box<Expr<'a>>, Box<Expr<'a>>),
+    /// `target = expression`, or with a compound operator. Any unary may stand as the target here.
+    Assignment(Box<Expr<'a>>, Token<'a>, Box<Expr<'a>>),
+}
+
+/// An operator of a [`Chain`](Expr::Chain) and the operand behind it.
+#[derive(Debug, Drop)]
+#[cycle(expr)]
+pub struct Term<'a> {
+    pub operator: Token<'a>,
+    pub operand: Expr<'a>,
+}
+
+/// An argument of a call.
+#[derive(Debug, Drop)]
+#[cycle(expr)]
+pub enum Argument<'a> {
+    /// An expression without a comma outside of parentheses.
+    Value(Expr<'a>),
+    /// A string.
+    Text(Token<'a>),
+}
