@@ -1,5 +1,5 @@
 -- Entries in the derived order are messages in order.
-use Rattle.std.proofs.Common.{◌≡◌, ℕ, Bool, true, false, List, [], ◌∷◌, map, ◌⊎◌, inl, inr, if◌then◌else◌, refl, sym, ap, subst, ◌∙◌, arith, Contains, Any, ◌↔◌}
+use Rattle.std.proofs.Common.{◌≡◌, ℕ, Bool, true, false, List, [], ◌∷◌, map, inl, inr, if◌then◌else◌, refl, sym, ap, subst, ◌∙◌, arith, Contains, Any, ◌↔◌}
 use Rattle.std.specs.Cmp.Lexicographic.{slice_cmp}
 use Rattle.std.specs.List.{AllByRecursion}
 use Rattle.std.specs.List.Sorted.{IsStrictlySortedBy}
@@ -13,7 +13,7 @@ use Rattle.snl_check.specs.declared.entries.Entry.{Entry}
 use Rattle.snl_check.specs.declared.messages.Severity.{Severity}
 use Rattle.snl_check.specs.declared.messages.Severity.TheVariants.{Error, Warning}
 use Rattle.snl_check.specs.Entries.{said_entry}
-use Rattle.snl_check.specs.Messages.{Said, IsBefore, IsInOrder, severity_cmp, message_cmp}
+use Rattle.snl_check.specs.Messages.{Said, IsBefore, IsInOrder, severity_cmp}
 
 -- the derived order
 abbrev pub entry_cmp : Entry → Entry → Ordering

@@ -1,7 +1,9 @@
 pub mod AcceptedLaws
+pub mod BindingLaws
 pub mod EntryLaws
 pub mod OrderLaws
 pub mod SaidLaws
 pub mod SiteLaws
 pub mod TableLaws
+pub mod UseLaws
 pub mod WalkLaws

@@ -1,5 +1,5 @@
 -- What a sort and a `dedup` leave.
-use Rattle.std.proofs.Common.{◌≡◌, Bool, true, List, [], refl, sym, ◌∙◌, subst, Contains, Any}
+use Rattle.std.proofs.Common.{◌≡◌, Bool, true, List, refl, sym, ◌∙◌, subst, Contains, Any}
 use Rattle.std.specs.Cmp.{IsTotalOrder, IsEquivalence}
 use Rattle.std.specs.List.{dedup}
 use Rattle.std.specs.List.Sorted.{IsPermutation, IsSorted, IsStrictlySortedBy}

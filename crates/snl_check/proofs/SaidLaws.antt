@@ -1,5 +1,5 @@
 -- What is told of the sites is what the rules say of the program.
-use Rattle.std.proofs.Common.{◌≡◌, ℕ, ◌<◌, ◌⊎◌, inl, inr, Bool, true, false, ◌||◌, List, [], ◌∷◌, ◌++◌, length, map, Option, None, Some, is_some, refl, sym, ap, subst, ◌∙◌, append_assoc, arith, Contains, if◌then◌else◌, ◌==◌, ◌↔◌}
+use Rattle.std.proofs.Common.{◌≡◌, ℕ, ◌⊎◌, inl, inr, Bool, true, false, ◌||◌, List, [], ◌∷◌, ◌++◌, map, Option, None, Some, is_some, refl, sym, ap, subst, ◌∙◌, append_assoc, arith, Contains, if◌then◌else◌, ◌==◌, ◌↔◌}
 use Rattle.std.proofs.lemmas.Bool.{false≢true, eqb-true}
 use Rattle.std.proofs.Common.{eq-eqb}
 use Rattle.std.proofs.lemmas.List.{map-append, append-nil}
@@ -11,7 +11,6 @@ use Rattle.snl_check.specs.declared.messages.Rule.TheVariants.{Undeclared, Decla
 use Rattle.snl_check.specs.declared.sites.Named.TheVariants.{Variable, StateName}
 use Rattle.snl_check.specs.declared.sites.Purpose.{Purpose}
 use Rattle.snl_check.specs.declared.sites.Purpose.TheVariants.{Value, Assigned, Channel}
-use Rattle.snl_check.specs.declared.sites.Site.{Site as Noted}
 use Rattle.snl_check.specs.declared.sites.Site.TheVariants.{Use}
 use Rattle.snl_check.specs.Facts.{noted, has_items}
 use Rattle.snl_check.specs.Messages.{Said, message_of}

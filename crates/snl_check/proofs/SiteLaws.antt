@@ -1,8 +1,7 @@
 -- The sites that are noted are those of the program.
-use Rattle.std.proofs.Common.{◌≡◌, List, [], ◌∷◌, ◌++◌, map, refl, sym, ap, ◌∙◌, append_assoc}
+use Rattle.std.proofs.Common.{◌≡◌, List, [], ◌∷◌, ◌++◌, map, sym, ap, ◌∙◌}
 use Rattle.std.specs.List.{flat_map}
 use Rattle.std.proofs.lemmas.List.{map-append}
-use Rattle.snl_text.specs.declared.tokens.Token.{Token}
 use Rattle.snl_tree.specs.declared.trees.Program.{Program}
 use Rattle.snl_tree.specs.declared.trees.Def.{Def}
 use Rattle.snl_tree.specs.declared.trees.State.{State}

@@ -1,6 +1,6 @@
 -- The step of each loop that gathers sites or tells messages.
 use Rattle.std.proofs.Common.{◌≡◌, ℕ, ◌+◌, ◌<◌, ◌≤◌, Bool, ◌||◌, List, [], ◌∷◌, ◌++◌, length, get_or, take, drop, map, Option, Vec, Box, Global, is_some, refl, sym, ap, ◌∙◌, append_assoc, add-one}
-use Rattle.std.specs.List.{flat_map, list_any}
+use Rattle.std.specs.List.{flat_map}
 use Rattle.std.proofs.Math.Bool.{or-false}
 use Rattle.std.proofs.Math.ListN.{drop_of_length-le}
 use Rattle.std.proofs.Math.Seq.{drop-cons}
@@ -57,19 +57,17 @@ table_step names i d h before after inv step q =
     step q ∙ ap (λ o. or_in o (only q (get_or names i d))) (inv q)
     ∙ sym (first_of_last q (take i names) (get_or names i d)) ∙ ap (first_of q) (sym (take_more names i d h))
 
-pub declared_step : (named : Named) (names : List Token) (i : ℕ) (d : Token) → i < length names → (before : List ℕ → Option Token) (later : Bool) (old new all : List Noted)
+pub declared_step : (named : Named) (names : List Token) (i : ℕ) (d : Token) → i < length names → (before : List ℕ → Option Token) (old new all : List Noted)
     → ((q : List ℕ) → before q ≡ first_of q (take i names))
     → old ++ map noted (declarations named (take i names) (drop i names)) ≡ all
-    → later ≡ is_some (before (get_or names i d).text.now)
-    → new ≡ old ++ Declaration named (get_or names i d) later ∷ []
+    → new ≡ old ++ Declaration named (get_or names i d) (is_some (before (get_or names i d).text.now)) ∷ []
     → new ++ map noted (declarations named (take (i + 1) names) (drop (i + 1) names)) ≡ all
-declared_step named names i d h before later old new all inv so_far l e =
+declared_step named names i d h before old new all inv so_far e =
     let t = get_or names i d in
     let front : take (i + 1) names ≡ take i names ++ t ∷ [] = take_more names i d h in
     let back : drop i names ≡ t ∷ drop (i + 1) names = drop-cons names i d h ∙ ap (λ k. t ∷ drop k names) (sym (add-one i)) in
-    let fact : later ≡ is_some (first_of t.text.now (take i names)) = l ∙ ap is_some (inv t.text.now) in
     let added : new ≡ old ++ Declaration named t (is_some (first_of t.text.now (take i names))) ∷ [] =
-    e ∙ ap (λ b. old ++ Declaration named t b ∷ []) fact in
+    e ∙ ap (λ o. old ++ Declaration named t (is_some o) ∷ []) (inv t.text.now) in
     (λ j. added j ++ map noted (declarations named (front j) (drop (i + 1) names)))
     ∙ append_assoc old (Declaration named t (is_some (first_of t.text.now (take i names))) ∷ []) (map noted (declarations named (take i names ++ t ∷ []) (drop (i + 1) names)))
     ∙ ap (λ l. old ++ map noted (declarations named (take i names) l)) (sym back) ∙ so_far

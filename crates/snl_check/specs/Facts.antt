@@ -1,6 +1,5 @@
 -- What the code notes of a site: what its scopes say, in the place of the scopes.
-use Rattle.std.specs.Prelude.{List, Option, is_some, not, is_none}
-use Rattle.std.specs.List.{flat_map}
+use Rattle.std.specs.Prelude.{List, is_some}
 use Rattle.snl_text.specs.declared.tokens.Token.{Token}
 use Rattle.snl_check.specs.declared.sites.Purpose.{Purpose}
 use Rattle.snl_check.specs.declared.sites.Site.{Site as Noted}

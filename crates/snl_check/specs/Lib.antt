@@ -6,3 +6,4 @@ pub mod Scopes
 pub mod Sites
 pub mod Tables
 pub mod Told
+pub mod Uses

@@ -1,12 +1,12 @@
 -- The rules of the check, each as one line on a site, and what they say of a program.
-use Rattle.std.specs.Prelude.{◌≡◌, ℕ, ◌⊎◌, List, [], ◌∷◌, ◌++◌, Option, None, Some}
+use Rattle.std.specs.Prelude.{◌≡◌, ℕ, ◌⊎◌, List, [], ◌∷◌, ◌++◌, None, Some}
 use Rattle.snl_text.specs.declared.tokens.Token.{Token}
 use Rattle.snl_tree.specs.declared.trees.Program.{Program}
 use Rattle.snl_check.specs.declared.messages.Rule.{Rule}
 use Rattle.snl_check.specs.declared.messages.Rule.TheVariants.{Undeclared, DeclaredTwice, AssignedTwice, Unassigned, StateTwice, NoState, NoClauses}
 use Rattle.snl_check.specs.declared.messages.Severity.TheVariants.{Error}
 use Rattle.snl_check.specs.declared.sites.Named.TheVariants.{Variable, StateName}
-use Rattle.snl_check.specs.declared.sites.Purpose.TheVariants.{Value, Assigned, Channel}
+use Rattle.snl_check.specs.declared.sites.Purpose.TheVariants.{Assigned, Channel}
 use Rattle.snl_check.specs.Messages.{Said, message_of}
 use Rattle.snl_check.specs.Scopes.{Scope, first_of, bound}
 use Rattle.snl_check.specs.Sites.{Site, Declares, Uses, Goes, Stands, sites}

@@ -18,9 +18,9 @@ first_of name [] = None
 first_of name (t ∷ ts) = if is_spelled name t then Some t else first_of name ts
 
 -- the first of two, where it is there, and else the second
-abbrev pub or_in : Option Token → Option Token → Option Token
+abbrev pub or_in : {A : Type 0} → Option A → Option A → Option A
 or_in None other = other
-or_in (Some t) other = Some t
+or_in (Some x) other = Some x
 
 -- what a name is bound to: the first declaration of it in the innermost of the scopes that declares it
 abbrev pub bound : List Scope → List ℕ → Option Token

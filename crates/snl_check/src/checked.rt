@@ -1,12 +1,19 @@
-ghost use Rattle.std.specs.Prelude.{◌≡◌, ◌↔◌, map, Contains, IfOk, IfSome, IsSome};
+ghost use Rattle.std.specs.Prelude.{◌≡◌, ◌↔◌, ◌++◌, map, Contains, IfOk, IfSome, IsSome, Some};
+ghost use Rattle.std.proofs.Props.{props};
+ghost use Rattle.snl_text.specs.declared.tokens.Pos.{Pos};
 ghost use Rattle.snl_check.specs.Messages.{Said, IsInOrder, said};
 ghost use Rattle.snl_check.specs.Rules.{Says, HasNoError};
+ghost use Rattle.snl_check.specs.Tables.{IsTableOf};
 ghost use Rattle.snl_check.specs.Told.{accepted};
+ghost use Rattle.snl_check.specs.Uses.{IsDeclared, IsUsed};
 
 use crate::entries::in_order;
 use crate::gather::sites_of;
 use crate::messages::{Message, Severity};
 use crate::telling::entries_of;
+use crate::uses::uses_of;
+use indexmap::IndexMap;
+use snl_text::Pos;
 use snl_tree::Program;
 use std::alloc::{AllocError, Global};
 
@@ -14,13 +21,28 @@ use std::alloc::{AllocError, Global};
 #[derive(Debug, Drop)]
 pub struct Checked<'a> {
     program: Program<'a>,
+    /// The places of the declarations that uses mean, by the offsets of the uses.
+    uses: IndexMap<usize, Pos>,
+    pub ghost without_error: { HasNoError program },
+    ghost bound: { IsTableOf uses program } by { Prim.hlevel props },
 }
 
 impl<'a> Checked<'a> {
     pub fn program(&self) -> &Program<'a>
-        ensures { result.now ≡ self.now.program }
+        ensures tree { result.now ≡ self.now.program }
+        ensures accepted { HasNoError result.now }
     {
         &self.program
+    }
+
+    /// Where the variable is declared that a use at a byte offset of the source means.
+    ///
+    /// None where no use of a variable begins at the offset.
+    pub fn declared(&self, offset: usize) -> Option<Pos>
+        ensures means { (place : Pos) → (result ≡ Some place) ↔ IsDeclared self.now.program offset place }
+        ensures used { IsSome result ↔ IsUsed self.now.program offset }
+    {
+        self.uses.get(&offset).copied()
     }
 }
 
@@ -33,15 +55,25 @@ pub struct Outcome<'a> {
     pub checked: Option<Checked<'a>>,
 }
 
-/// The messages that hold of a program.
-fn messages_of(alloc: Global, program: &Program) -> Result<Vec<Message>, AllocError>
-    ensures exactly { IfOk result (λ v. (m : Said) → Contains (map said v.items) m ↔ Says program.now m) }
-    ensures in_order { IfOk result (λ v. IsInOrder (map said v.items)) }
+/// What holds of a program.
+#[derive(Drop)]
+struct Findings {
+    messages: Vec<Message>,
+    /// The places of the declarations that uses mean, by the offsets of the uses.
+    uses: IndexMap<usize, Pos>,
+}
+
+/// Finds the messages of a program, and what its names mean.
+fn examine(alloc: Global, program: &Program) -> Result<Findings, AllocError>
+    ensures exactly { IfOk result (λ f. (m : Said) → Contains (map said f.messages.items) m ↔ Says program.now m) }
+    ensures in_order { IfOk result (λ f. IsInOrder (map said f.messages.items)) }
+    ensures uses { IfOk result (λ f. IsTableOf f.uses program.now) }
 {
     let sites = sites_of(alloc, program)?;
     let entries = entries_of(alloc, sites.as_slice())?;
     let messages = in_order(alloc, entries)?;
-    Ok(messages)
+    let uses = uses_of(alloc, sites.as_slice())?;
+    Ok(Findings { messages, uses })
 }
 
 /// Whether none of the messages is an error.
@@ -66,9 +98,9 @@ pub fn check<'a>(alloc: Global, program: Program<'a>) -> Result<Outcome<'a>, All
     ensures accepted { IfOk result (λ o. IsSome o.checked ↔ HasNoError program.entry) }
     ensures same { IfOk result (λ o. IfSome o.checked (λ c. c.program ≡ program.entry)) }
 {
-    let messages = messages_of(alloc, &program)?;
+    let Findings { messages, uses } = examine(alloc, &program)?;
     let checked = if is_accepted(messages.as_slice()) {
-        Some(Checked { program })
+        Some(Checked { program, uses })
     } else {
         None
     };

@@ -1,4 +1,5 @@
-ghost use Rattle.std.specs.Prelude.{◌≡◌, ◌↔◌, ◌++◌, map, Contains, Any, OnOk, IfOk};
+ghost use Rattle.std.specs.Prelude.{◌≡◌, ◌↔◌, [], ◌++◌, map, Contains, Any, OnOk, IfOk};
+ghost use Rattle.std.specs.List.Retain.{DiffersFromLast, IsFiltered};
 ghost use Rattle.std.specs.List.Sorted.{IsStrictlySortedBy};
 ghost use Rattle.std.specs.declared.cmp.Ordering.TheVariants.{Equal};
 ghost use Rattle.snl_check.specs.Told.{is_warning};
@@ -110,6 +111,13 @@ impl Entry {
     }
 }
 
+/// Keeps one of the equal items that stand side by side.
+fn drop_repeated<K: Ord + Drop>(items: &mut Vec<K>)
+    ensures { IsFiltered (DiffersFromLast K.eq) [] items.old.items items.new.items }
+{
+    items.dedup();
+}
+
 /// Sorts items, and keeps one of those that compare equal.
 fn sort_and_dedup<K: Ord + Drop>(items: &mut Vec<K>) -> Result<(), AllocError>
     ensures kept { OnOk result ((x : K) → Contains items.old.items x → Any (λ y. K.cmp x y ≡ Equal) items.new.items) }
@@ -117,7 +125,7 @@ fn sort_and_dedup<K: Ord + Drop>(items: &mut Vec<K>) -> Result<(), AllocError>
     ensures sorted { OnOk result (IsStrictlySortedBy K.cmp items.new.items) }
 {
     items.sort()?;
-    items.dedup();
+    drop_repeated(items);
     Ok(())
 }
 

@@ -11,6 +11,7 @@ mod messages;
 mod scopes;
 mod sites;
 mod telling;
+mod uses;
 mod walk;
 
 pub use checked::{Checked, Outcome, check};

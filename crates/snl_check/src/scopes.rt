@@ -1,5 +1,6 @@
-ghost use Rattle.std.specs.Prelude.{◌≡◌, ℕ, List, [], ◌++◌, map, is_some, OnOk, IfOk};
+ghost use Rattle.std.specs.Prelude.{◌≡◌, ℕ, List, [], ◌∷◌, ◌++◌, map, is_some, OnOk, IfOk};
 ghost use Rattle.snl_text.specs.declared.tokens.Token.{Token};
+ghost use Rattle.snl_check.specs.declared.sites.Site.TheVariants.{Declaration};
 ghost use Rattle.snl_check.specs.Facts.{noted};
 ghost use Rattle.snl_check.specs.Scopes.{first_of, or_in};
 ghost use Rattle.snl_check.specs.Sites.{declarations};
@@ -52,6 +53,26 @@ fn note_first<'a>(
     Ok(false)
 }
 
+/// Notes a declaration, behind those before it in its scope.
+fn declare<'a>(
+    named: Named,
+    name: Token<'a>,
+    firsts: &mut IndexMap<&'a [u8], Token<'a>>,
+    sites: &mut Vec<Site<'a>>,
+) -> Result<(), AllocError>
+    ensures firsts { OnOk result ((q : List ℕ) → found_in firsts.new q ≡ or_in (found_in firsts.old q) (only q name.entry)) }
+    ensures sites { OnOk result (sites.new.items ≡ sites.old.items
+        ++ Declaration named name.entry (is_some (found_in firsts.old name.entry.text.now)) ∷ []) }
+{
+    let is_later = note_first(firsts, name)?;
+    sites.push(Site::Declaration {
+        named,
+        name,
+        is_later,
+    })?;
+    Ok(())
+}
+
 /// The scope that declares these names, in their order; notes each declaration.
 pub fn scope_of<'a>(
     alloc: Global,
@@ -64,12 +85,7 @@ pub fn scope_of<'a>(
 {
     let mut firsts = IndexMap::new(alloc);
     for name in &names {
-        let is_later = note_first(&mut firsts, *name)?;
-        sites.push(Site::Declaration {
-            named,
-            name: *name,
-            is_later,
-        })?;
+        declare(named, *name, &mut firsts, sites)?;
     }
     Ok(Scope {
         declared: names,

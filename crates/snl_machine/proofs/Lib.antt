@@ -1,6 +1,7 @@
 pub mod Blocks
 pub mod Faulting
 pub mod Marks
+pub mod Names
 pub mod Opening
 pub mod Rounds
 pub mod Starting

@@ -7,6 +7,7 @@ pub mod First
 pub mod Held
 pub mod Instant
 pub mod Lines
+pub mod Lookup
 pub mod Program
 pub mod Ran
 pub mod Turn

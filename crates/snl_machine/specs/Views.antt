@@ -51,7 +51,7 @@ program_of p = record {
   name = p.name.now;
   variables = p.variables;
   links = p.links.items;
-  channels = map (λ c. c.now) p.channels.items;
+  channels = map (λ c. c.now) p.channels.keys;
   sets = record { name = p.state_set.now; states = map state_of p.states.items } ∷ [];
 }
 

@@ -1,5 +1,8 @@
-ghost use Rattle.std.specs.Prelude.{◌≡◌};
+ghost use Rattle.std.specs.Prelude.{◌≡◌, ◌==◌, ◌||◌, not, take};
+ghost use Rattle.std.specs.List.{list_all};
 ghost use Rattle.snl_machine.specs.Event.{applied, received_from, received_link};
+ghost use Rattle.snl_machine.specs.Lookup.{is_link_fit};
+ghost use Rattle.snl_machine.specs.Value.{is_within};
 ghost use Rattle.snl_machine.specs.Views.{program_of, world_of};
 
 use crate::events::Event;
@@ -37,5 +40,27 @@ fn receive_link(channel: usize, values: &[i64], number: usize, link: Link, store
         if link.is_monitored {
             store.set_marks(number);
         }
+    }
+}
+
+/// Whether each value that a link of a channel keeps fits the link's variable.
+pub fn fit_links(channel: usize, values: &[i64], links: &[Link]) -> bool
+    ensures { result ≡ list_all (λ link. not (link.channel == channel) || is_link_fit values.now link) links.now }
+{
+    for link in links {
+        if link.channel == channel && !fit_variable(values) {
+            return false;
+        }
+    }
+    true
+}
+
+/// Whether of some values those fit a variable that it keeps: that is the first, if one came.
+fn fit_variable(values: &[i64]) -> bool
+    ensures { result ≡ list_all (is_within 31) (take 1 values.now) }
+{
+    match values {
+        [first, ..] => i32::try_from(*first).is_ok(),
+        [] => true,
     }
 }

@@ -2,15 +2,14 @@ ghost use Rattle.std.specs.Prelude.{◌≡◌, ◌-◌, ◌^◌, ◌<◌, IfOk, 
 ghost use Rattle.snl_machine.specs.Devices.{counted, stopped_by_sink};
 ghost use Rattle.snl_machine.specs.Does.{Does};
 
-use crate::arrivals::apply;
+use crate::arrivals::{apply, fit_links};
 use crate::events::{Event, Live};
 use crate::faults::Stop;
 use crate::instants::instant;
 use crate::numbering::numbered;
-use crate::programs::{Link, Numbered};
+use crate::programs::Numbered;
 use crate::sinks::Sink;
 use crate::stores::Store;
-use indexmap::IndexMap;
 use snl_check::Checked;
 use std::alloc::{AllocError, Global};
 
@@ -18,8 +17,6 @@ use std::alloc::{AllocError, Global};
 #[derive(Drop)]
 pub struct Machine<'a> {
     program: Numbered<'a>,
-    /// The number of each channel's name.
-    channels: IndexMap<&'a [u8], usize>,
     budget: u32,
     store: Store,
 }
@@ -28,6 +25,7 @@ impl<'a> Machine<'a> {
     ghost use Rattle.snl_machine.specs.Event.{line_of};
     ghost use Rattle.snl_machine.specs.First.{first_world};
     ghost use Rattle.snl_machine.specs.Held.{program_held, world_held};
+    ghost use Rattle.snl_machine.specs.Lookup.{channel_of, fits_of};
 
     /// Makes the machine of a program, which waits for its start. All the room that a run takes is
     /// made here. The budget is the number of steps that one instant may take.
@@ -38,22 +36,20 @@ impl<'a> Machine<'a> {
         ensures budget { IfOk result (λ machine. machine.budget ≡ budget) }
     {
         let program = numbered(alloc, checked.program())?;
-        let mut channels = IndexMap::new(alloc);
-        for (number, name) in program.channels.iter().enumerate() {
-            channels.insert(*name, number)?;
-        }
         let store = Store::new(alloc, &program)?;
         Ok(Machine {
             program,
-            channels,
             budget,
             store,
         })
     }
 
-    /// The number of the channel of a name; None where the program uses no such channel.
-    pub fn channel(&self, name: &[u8]) -> Option<usize> {
-        self.channels.get(&name).copied()
+    /// The number of the channel of a name; None where the program uses no such channel. Channels have
+    /// the numbers from 0 on, in the order in which `assign` definitions first name them.
+    pub fn channel(&self, name: &[u8]) -> Option<usize>
+        ensures { result ≡ channel_of self.now name.now }
+    {
+        self.program.channel_number(name)
     }
 
     /// The time of the last event, in milliseconds; 0 before the first.
@@ -65,26 +61,17 @@ impl<'a> Machine<'a> {
 
     /// Whether an event speaks of a channel of this machine, and each value that a link of that channel
     /// keeps fits the link's variable.
-    pub fn fits(&self, event: &Event) -> bool {
+    pub fn fits(&self, event: &Event) -> bool
+        ensures { result ≡ fits_of self.now event.now }
+    {
         match event {
-            Event::Up(channel) => *channel < self.program.channels.len(),
+            Event::Up(channel) => self.program.has_channel(*channel),
             Event::Val(channel, values) => {
-                *channel < self.program.channels.len()
-                    && values
-                        .as_slice()
-                        .first()
-                        .is_none_or(|value| self.keeps(*channel, *value))
+                self.program.has_channel(*channel)
+                    && fit_links(*channel, values.as_slice(), self.program.links.as_slice())
             }
             Event::Tick | Event::Other => true,
         }
-    }
-
-    fn keeps(&self, channel: usize, value: i64) -> bool {
-        let fits = i32::try_from(value).is_ok();
-        self.program
-            .links
-            .iter()
-            .all(|link: &Link| fits || link.channel != channel)
     }
 
     /// Does what a line of a trace asks for at a time in milliseconds, and hands the lines of the run to

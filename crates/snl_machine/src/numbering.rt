@@ -1,32 +1,28 @@
 use crate::programs::{Clause, Expr, Link, Numbered, Operator, State, Stmt, Term};
-use indexmap::IndexMap;
+use indexmap::IndexSet;
 use snl_text::{Kind, Token, whole_value};
 use snl_tree as tree;
 use std::alloc::{AllocError, Global};
 
-/// Numbers for the names of one sort of thing, in the order in which they come.
-type Numbers<'a> = IndexMap<&'a [u8], usize>;
-
-/// The names of a program, with their numbers.
+/// The names of a program, each sort in the order in which they come. A name's place is its number.
 #[derive(Drop)]
 struct Names<'a> {
-    variables: Numbers<'a>,
-    /// The number of a variable's link.
-    links: Numbers<'a>,
-    channels: Numbers<'a>,
-    states: Numbers<'a>,
+    variables: IndexSet<&'a [u8]>,
+    /// The variable of each link.
+    links: IndexSet<&'a [u8]>,
+    channels: IndexSet<&'a [u8]>,
+    states: IndexSet<&'a [u8]>,
 }
 
 /// Gives a name the next number, if it has none yet.
-fn note<'a>(numbers: &mut Numbers<'a>, name: &'a [u8]) -> Result<(), AllocError> {
-    let next = numbers.len();
-    numbers.entry(name)?.or_insert(next);
+fn note<'a>(names: &mut IndexSet<&'a [u8]>, name: &'a [u8]) -> Result<(), AllocError> {
+    names.insert(name)?;
     Ok(())
 }
 
 /// The number of a name; one past the last where it has none, which no checked program meets.
-fn number(numbers: &Numbers, name: &[u8]) -> usize {
-    numbers.get(&name).copied().unwrap_or(numbers.len())
+fn number(names: &IndexSet<&[u8]>, name: &[u8]) -> usize {
+    names.get_index_of(&name).unwrap_or(names.len())
 }
 
 /// A string without its quotes.
@@ -44,10 +40,6 @@ pub fn numbered<'a>(
 ) -> Result<Numbered<'a>, AllocError> {
     let names = names_of(alloc, program)?;
     let links = links_of(alloc, program, &names)?;
-    let mut channels = Vec::new(alloc);
-    for name in names.channels.keys() {
-        channels.push(*name)?;
-    }
     let mut states = Vec::new(alloc);
     for state in &program.state_set.states {
         states.push(state_of(alloc, state, &names)?)?;
@@ -56,7 +48,7 @@ pub fn numbered<'a>(
         name: program.name.text,
         variables: names.variables.len(),
         links,
-        channels,
+        channels: names.channels,
         state_set: program.state_set.name.text,
         states,
     })
@@ -64,10 +56,10 @@ pub fn numbered<'a>(
 
 fn names_of<'a>(alloc: Global, program: &tree::Program<'a>) -> Result<Names<'a>, AllocError> {
     let mut names = Names {
-        variables: IndexMap::new(alloc),
-        links: IndexMap::new(alloc),
-        channels: IndexMap::new(alloc),
-        states: IndexMap::new(alloc),
+        variables: IndexSet::new(alloc),
+        links: IndexSet::new(alloc),
+        channels: IndexSet::new(alloc),
+        states: IndexSet::new(alloc),
     };
     for definition in &program.definitions {
         note_definition(definition, &mut names)?;

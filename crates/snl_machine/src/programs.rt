@@ -1,3 +1,5 @@
+use indexmap::IndexSet;
+
 /// A program whose variables, links, channels and states go by number, in the order of the source.
 #[derive(Debug, Drop)]
 pub struct Numbered<'a> {
@@ -5,14 +7,15 @@ pub struct Numbered<'a> {
     /// How many variables there are.
     pub variables: usize,
     pub links: Vec<Link>,
-    /// The name of each channel.
-    pub channels: Vec<&'a [u8]>,
+    /// The name of each channel, at the channel's number.
+    pub channels: IndexSet<&'a [u8]>,
     pub state_set: &'a [u8],
     pub states: Vec<State<'a>>,
 }
 
 impl<'a> Numbered<'a> {
     ghost use Rattle.std.specs.Prelude.{◌≡◌, map, [], slice_get, slice_index_or};
+    ghost use Rattle.snl_machine.specs.Lookup.{place_of, has_channel};
     ghost use Rattle.snl_machine.specs.Turn.{state_name};
     ghost use Rattle.snl_machine.specs.Views.{program_of, seen_state, state_of};
 
@@ -40,9 +43,23 @@ impl<'a> Numbered<'a> {
 
     /// The name of a channel; empty where there is no such channel.
     pub fn channel(&self, channel: usize) -> &'a [u8]
-        ensures { result.now ≡ slice_index_or (map (λ c. c.now) self.now.channels.items) channel [] }
+        ensures { result.now ≡ slice_index_or (map (λ c. c.now) self.now.channels.keys) channel [] }
     {
-        self.channels.get(channel).copied().unwrap_or(b"")
+        self.channels.get_index(channel).copied().unwrap_or(b"")
+    }
+
+    /// The number of the channel of a name; None where the program has no such channel.
+    pub fn channel_number(&self, name: &[u8]) -> Option<usize>
+        ensures { result ≡ place_of (program_of self.now).channels name.now }
+    {
+        self.channels.get_index_of(&name)
+    }
+
+    /// Whether there is a channel of a number.
+    pub fn has_channel(&self, channel: usize) -> bool
+        ensures { result ≡ has_channel (program_of self.now) channel }
+    {
+        channel < self.channels.len()
     }
 }
 

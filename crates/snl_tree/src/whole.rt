@@ -8,9 +8,11 @@ mod expr;
 mod expressions;
 mod faults;
 mod kinds;
+mod lone_expression;
 mod place;
 mod unambiguous;
 
 pub use expr::{Argument, Expr, Term};
 pub use faults::ParseFault;
+pub use lone_expression::{NESTING_LIMIT, parse_expression};
 pub use unambiguous::{expressions_differ_in_spelling, tokens_have_an_answer};

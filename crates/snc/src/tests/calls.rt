@@ -27,6 +27,10 @@ fn lead_from_bytes_to_a_run(rt: HostRuntime) -> Result<(), Fail> {
     );
     let checked = outcome.checked.ok_or("not accepted")?;
     assert_eq!(rt; checked.program().name.text, b"p".as_slice());
+    // `assign x` means the `x` behind `int`, which is no use itself.
+    let declared = checked.declared(35).ok_or("no declaration")?;
+    assert!(rt; declared.offset == 25 && declared.file == 0 && declared.line == 3);
+    assert!(rt; checked.declared(25).is_none() && checked.declared(36).is_none());
     let mut machine = Machine::load(rt.alloc(), checked, 10)?;
     let mut sheet = Sheet::new(rt.alloc(), 100, 3)?;
     assert_eq!(rt; machine.channel(b"b"), Some(1));

@@ -1,11 +1,15 @@
-ghost use Rattle.std.specs.Prelude.{◌≡◌};
+ghost use Rattle.std.specs.Prelude.{◌≡◌, ◌≤◌, ◌-◌};
 ghost use Rattle.snl_tree.specs.Reading as specs;
 ghost use Rattle.snl_tree.specs.Results.{Gives};
-ghost use Rattle.snl_tree.specs.View.{view};
+ghost use Rattle.snl_tree.specs.View.{view, pair_of, pairs, argument_of, arguments_of, list_before};
 
-use crate::whole::expr::Expr;
-use crate::whole::kinds::STEP;
-use crate::whole::place::{Rest, Stop, at_operator, operator};
+use crate::whole::expr::{Argument, Expr, Term};
+use crate::whole::kinds::{ASSIGNMENT, BINARY, COMMA, CONDITIONAL, STEP, UNARY};
+use crate::whole::place::{
+    Rest, Stop, at, at_constant, at_operator, at_prefix, before_close, constant, open_operator,
+    open_prefix, open_sign, operator, sign, token,
+};
+use snl_text::Kind;
 use std::alloc::Global;
 
 /// A tree and the place behind it.
@@ -38,4 +42,240 @@ fn stepped<'t, 'a>(alloc: Global, primary: Expr<'a>, rest: Rest<'t, 'a>) -> Read
     let (step, rest) = operator(rest, STEP)?;
     let primary = Box::new(alloc, primary)?;
     Ok((Expr::Postfix(primary, step), rest))
+}
+
+/// Reads what holds together so tightly, from [`UNARY`] to [`COMMA`]: a whole expression is the last.
+#[cycle(reading)]
+#[tactic(auto, using(crate::proofs::Rows::level_alone, crate::proofs::Rows::level_chained, crate::proofs::Forms::level_form, crate::proofs::Forms::level_assignment, crate::proofs::Forms::level_conditional, crate::proofs::Forms::level_unary))]
+pub fn level<'t, 'a>(
+    alloc: Global,
+    rest: Rest<'t, 'a>,
+    depth: usize,
+    looseness: u8,
+) -> Read<'t, 'a, Expr<'a>>
+    requires low { 2 ≤ looseness }
+    requires high { looseness ≤ 15 }
+    ensures { Gives view result (specs.level_at (specs.inside depth) looseness rest.entry.left.now) }
+{
+    if looseness == ASSIGNMENT {
+        return assignment(alloc, rest, depth);
+    }
+    if looseness == CONDITIONAL {
+        return conditional(alloc, rest, depth);
+    }
+    if looseness == UNARY {
+        return unary(alloc, rest, depth);
+    }
+    let (first, rest) = level(alloc, rest, depth, looseness - 1)?;
+    let (terms, rest) = terms(alloc, rest, depth, looseness)?;
+    if terms.is_empty() {
+        return Ok((first, rest));
+    }
+    let first = Box::new(alloc, first)?;
+    Ok((Expr::Chain(first, terms), rest))
+}
+
+/// Reads the operators of one level, each with the operand behind it.
+#[cycle(reading)]
+#[tactic(auto, using(crate::proofs::Loops::found_first, crate::proofs::Loops::found_more, crate::proofs::Loops::found_all, crate::proofs::Loops::found_fail, crate::proofs::Loops::term_less))]
+fn terms<'t, 'a>(
+    alloc: Global,
+    rest: Rest<'t, 'a>,
+    depth: usize,
+    looseness: u8,
+) -> Read<'t, 'a, Vec<Term<'a>>>
+    requires low { 3 ≤ looseness }
+    requires high { looseness ≤ 15 }
+    ensures { Gives pairs result
+        (specs.terms_at looseness (specs.level_at (specs.inside depth) (looseness - 1)) rest.entry.left.now) }
+{
+    let mut found = Vec::new(alloc);
+    let mut left = rest;
+    while at_operator(left, looseness) {
+        let (next, behind) = term(alloc, left, depth, looseness)?;
+        found.push(next)?;
+        left = behind;
+    }
+    Ok((found, left))
+}
+
+/// Reads an operator of a level and its operand.
+#[cycle(reading)]
+#[tactic(auto, unfolding(crate::specs::Reading::term_at))]
+fn term<'t, 'a>(
+    alloc: Global,
+    rest: Rest<'t, 'a>,
+    depth: usize,
+    looseness: u8,
+) -> Read<'t, 'a, Term<'a>>
+    requires low { 3 ≤ looseness }
+    requires high { looseness ≤ 15 }
+    ensures { Gives pair_of result (specs.term_at depth looseness rest.entry.left.now) }
+{
+    let (operator, rest) = operator(rest, looseness)?;
+    let (operand, rest) = level(alloc, rest, depth, looseness - 1)?;
+    Ok((Term { operator, operand }, rest))
+}
+
+/// Reads an assignment, or what may stand in its place.
+#[cycle(reading)]
+#[tactic(auto, using(crate::proofs::Rows::assignment_made, crate::proofs::Forms::assignment_form), unfolding(crate::specs::Reading::assigned_rest))]
+fn assignment<'t, 'a>(alloc: Global, rest: Rest<'t, 'a>, depth: usize) -> Read<'t, 'a, Expr<'a>>
+    ensures { Gives view result (specs.assignment_at (specs.inside depth) rest.entry.left.now) }
+{
+    let (target, rest) = conditional(alloc, rest, depth)?;
+    if !is_unary(&target) || !at_operator(rest, ASSIGNMENT) {
+        return Ok((target, rest));
+    }
+    let (operator, rest) = open_operator(rest, ASSIGNMENT, depth)?;
+    let (value, rest) = assignment(alloc, rest, depth - 1)?;
+    let target = Box::new(alloc, target)?;
+    let value = Box::new(alloc, value)?;
+    Ok((Expr::Assignment(target, operator, value), rest))
+}
+
+/// Reads a conditional, or what may stand in its place.
+#[cycle(reading)]
+#[tactic(auto, using(crate::proofs::Forms::conditional_form), unfolding(crate::specs::Reading::conditional_rest))]
+fn conditional<'t, 'a>(alloc: Global, rest: Rest<'t, 'a>, depth: usize) -> Read<'t, 'a, Expr<'a>>
+    ensures { Gives view result (specs.conditional_at (specs.inside depth) rest.entry.left.now) }
+{
+    let (condition, rest) = level(alloc, rest, depth, BINARY)?;
+    if !at(rest, Kind::Question) {
+        return Ok((condition, rest));
+    }
+    let rest = open_sign(rest, Kind::Question, depth)?;
+    let (yes, rest) = level(alloc, rest, depth - 1, COMMA)?;
+    let rest = sign(rest, Kind::Colon)?;
+    let (no, rest) = conditional(alloc, rest, depth - 1)?;
+    let condition = Box::new(alloc, condition)?;
+    let yes = Box::new(alloc, yes)?;
+    let no = Box::new(alloc, no)?;
+    Ok((Expr::Conditional(condition, yes, no), rest))
+}
+
+/// Reads prefix operators and what they stand before.
+#[cycle(reading)]
+#[tactic(auto, using(crate::proofs::Forms::unary_form))]
+fn unary<'t, 'a>(alloc: Global, rest: Rest<'t, 'a>, depth: usize) -> Read<'t, 'a, Expr<'a>>
+    ensures { Gives view result (specs.unary_at (specs.inside depth) rest.entry.left.now) }
+{
+    if !at_prefix(rest) {
+        let (primary, rest) = primary(alloc, rest, depth)?;
+        return stepped(alloc, primary, rest);
+    }
+    let (operator, rest) = open_prefix(rest, depth)?;
+    let (operand, rest) = unary(alloc, rest, depth - 1)?;
+    let operand = Box::new(alloc, operand)?;
+    Ok((Expr::Prefix(operator, operand), rest))
+}
+
+/// Reads a constant, an expression in parentheses, or what begins with a name.
+#[cycle(reading)]
+#[tactic(auto, using(crate::proofs::Forms::primary_form))]
+fn primary<'t, 'a>(alloc: Global, rest: Rest<'t, 'a>, depth: usize) -> Read<'t, 'a, Expr<'a>>
+    ensures { Gives view result (specs.primary_at (specs.inside depth) rest.entry.left.now) }
+{
+    if at_constant(rest) {
+        let (token, rest) = constant(rest)?;
+        return Ok((Expr::Constant(token), rest));
+    }
+    if at(rest, Kind::OpenParenthesis) {
+        return parenthesized(alloc, rest, depth);
+    }
+    named(alloc, rest, depth)
+}
+
+/// Reads an expression in parentheses.
+#[cycle(reading)]
+#[tactic(auto, using(crate::proofs::Forms::parenthesized_form))]
+fn parenthesized<'t, 'a>(alloc: Global, rest: Rest<'t, 'a>, depth: usize) -> Read<'t, 'a, Expr<'a>>
+    ensures { Gives view result (specs.parenthesized_at (specs.inside depth) rest.entry.left.now) }
+{
+    let rest = open_sign(rest, Kind::OpenParenthesis, depth)?;
+    let (inner, rest) = level(alloc, rest, depth - 1, COMMA)?;
+    let rest = sign(rest, Kind::CloseParenthesis)?;
+    let inner = Box::new(alloc, inner)?;
+    Ok((Expr::Parenthesized(inner), rest))
+}
+
+/// Reads a name, with a subscript or a call's arguments behind it.
+#[cycle(reading)]
+#[tactic(auto, using(crate::proofs::Rows::named_called, crate::proofs::Forms::named_form), unfolding(crate::specs::Reading::named_rest))]
+fn named<'t, 'a>(alloc: Global, rest: Rest<'t, 'a>, depth: usize) -> Read<'t, 'a, Expr<'a>>
+    ensures { Gives view result (specs.named_at (specs.inside depth) rest.entry.left.now) }
+{
+    let (name, rest) = token(rest, Kind::Name)?;
+    if at(rest, Kind::OpenBracket) {
+        let rest = open_sign(rest, Kind::OpenBracket, depth)?;
+        let (index, rest) = level(alloc, rest, depth - 1, COMMA)?;
+        let rest = sign(rest, Kind::CloseBracket)?;
+        let index = Box::new(alloc, index)?;
+        return Ok((Expr::Element(name, index), rest));
+    }
+    if at(rest, Kind::OpenParenthesis) {
+        let rest = open_sign(rest, Kind::OpenParenthesis, depth)?;
+        let (all, rest) = arguments(alloc, rest, depth - 1)?;
+        let rest = sign(rest, Kind::CloseParenthesis)?;
+        return Ok((Expr::Call(name, all), rest));
+    }
+    Ok((Expr::Named(name), rest))
+}
+
+/// Reads the arguments of a call, with so much depth left inside of its parentheses.
+#[cycle(reading)]
+#[tactic(auto, using(crate::proofs::Forms::arguments_form), unfolding(crate::specs::Reading::more_after))]
+fn arguments<'t, 'a>(
+    alloc: Global,
+    rest: Rest<'t, 'a>,
+    depth: usize,
+) -> Read<'t, 'a, Vec<Argument<'a>>>
+    ensures { Gives arguments_of result
+        (specs.arguments_at (specs.readers (specs.inside depth)) rest.entry.left.now) }
+{
+    let mut found = Vec::new(alloc);
+    if !before_close(rest) {
+        return Ok((found, rest));
+    }
+    let (first, rest) = argument(alloc, rest, depth)?;
+    found.push(first)?;
+    more_arguments(alloc, found, rest, depth)
+}
+
+/// Reads commas and the arguments behind them.
+#[cycle(reading)]
+#[tactic(auto, using(crate::proofs::Loops::after_more, crate::proofs::Loops::after_all, crate::proofs::Loops::after_fail, crate::proofs::Loops::after_stuck, crate::proofs::Loops::argument_less))]
+fn more_arguments<'t, 'a>(
+    alloc: Global,
+    before: Vec<Argument<'a>>,
+    rest: Rest<'t, 'a>,
+    depth: usize,
+) -> Read<'t, 'a, Vec<Argument<'a>>>
+    ensures { Gives arguments_of result
+        (specs.more_after (specs.readers (specs.inside depth)) (list_before before.entry.items) rest.entry.left.now) }
+{
+    let mut found = before;
+    let mut left = rest;
+    while at(left, Kind::Comma) {
+        let behind = sign(left, Kind::Comma)?;
+        let (next, behind) = argument(alloc, behind, depth)?;
+        found.push(next)?;
+        left = behind;
+    }
+    Ok((found, left))
+}
+
+/// Reads an argument: a string, or an assignment.
+#[cycle(reading)]
+#[tactic(auto, using(crate::proofs::Forms::argument_form))]
+fn argument<'t, 'a>(alloc: Global, rest: Rest<'t, 'a>, depth: usize) -> Read<'t, 'a, Argument<'a>>
+    ensures { Gives argument_of result
+        (specs.argument_at (specs.readers (specs.inside depth)) rest.entry.left.now) }
+{
+    if at(rest, Kind::Text) {
+        let (text, rest) = token(rest, Kind::Text)?;
+        return Ok((Argument::Text(text), rest));
+    }
+    let (value, rest) = assignment(alloc, rest, depth)?;
+    Ok((Argument::Value(value), rest))
 }

@@ -1,7 +1,7 @@
-use Rattle.std.proofs.Common.{◌≡◌, ◌∙◌, ap, sym, subst, map, Contains}
+use Rattle.std.proofs.Common.{◌∙◌, ap, sym, subst, map, Contains}
 use Rattle.std.proofs.lemmas.Simd.{map-map}
 use Rattle.snl_check.specs.Messages.{said, IsInOrder}
-use Rattle.snl_check.specs.Entries.{said_entry, message_in}
+use Rattle.snl_check.specs.Entries.{message_in}
 use Rattle.snl_check.proofs.entries.in_order.Goals as goal
 
 pub returns-clause-same : goal.returns-clause-same

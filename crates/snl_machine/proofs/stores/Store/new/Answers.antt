@@ -6,7 +6,7 @@ pub returns : goal.returns
 returns c =
     let p = c.args.program.now in
     let links : c.len-links.result ≡ length p.links.items = search rules in
-    let channels : c.len-channels.result ≡ length p.channels.items = search rules in
+    let channels : c.len-channels.result ≡ length p.channels.keys = search rules in
     opening p _ _ _ _ _
     (c.in_ok-vec.ensures.items_if_clones_equal (λ y e. e))
     (c.in_ok-vec-2.ensures.items_if_clones_equal (λ y e. e) ∙ ap (λ n. replicate n false) channels)

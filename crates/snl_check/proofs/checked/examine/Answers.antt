@@ -1,9 +1,7 @@
-use Rattle.std.proofs.Common.{◌≡◌, ◌∙◌, ap, sym, subst, Contains, map, [], IfOk}
-use Rattle.snl_check.specs.Facts.{noted}
-use Rattle.snl_check.specs.Sites.{sites}
+use Rattle.std.proofs.Common.{◌∙◌, ap, sym, subst, Contains, []}
 use Rattle.snl_check.specs.Told.{messages_at}
 use Rattle.snl_check.proofs.SaidLaws.{exactly_said}
-use Rattle.snl_check.proofs.checked.messages_of.Goals as goal
+use Rattle.snl_check.proofs.checked.examine.Goals as goal
 
 pub returns-clause-exactly : goal.returns-clause-exactly
 returns-clause-exactly c m =

@@ -1,0 +1,65 @@
+use Rattle.std.proofs.Common.{rules, arith, ◌≡◌, ◌≤◌, ◌-◌, ℕ, ◌∷◌, ◌++◌, [], length, Bool, true, false, nat_eq, List, Ok, Err, vec_len, Vec, Global, sym, ap, ◌∙◌, subst}
+use Rattle.std.proofs.lemmas.Result.{err_from_is_err_and}
+use Rattle.snl_text.specs.declared.tokens.Token.{Token}
+use Rattle.snl_text.specs.declared.kinds.Kind.TheVariants.{Comma}
+use Rattle.snl_tree.specs.declared.whole.place.Stop.{Stop}
+use Rattle.snl_tree.specs.declared.whole.place.Stop.TheVariants as Stop
+use Rattle.snl_tree.specs.declared.whole.expr.Argument.{Argument}
+use Rattle.snl_tree.specs.declared.whole.expr.Term.{Term}
+use Rattle.snl_tree.specs.Kinds.{is}
+use Rattle.snl_tree.specs.Readers as reading
+use Rattle.snl_tree.specs.Readers.{starts, one, sign}
+use Rattle.snl_tree.specs.Reading as specs
+use Rattle.snl_tree.specs.Reading.{inside, readers, level_at, terms_at, term_at, argument_at, more_after, is_operator, is_unary, opened, conditional_at, assignment_at}
+use Rattle.snl_tree.specs.Results.{Gives, Fails}
+use Rattle.snl_tree.specs.View.{view, pair_of, pairs, argument_of, arguments_of, list_before}
+use Rattle.snl_tree.proofs.Rows.{assignment_made, level_alone, level_chained}
+use Rattle.snl_tree.proofs.Loops.{Found, found_more, found_all, found_fail, after_fail}
+use Rattle.snl_tree.proofs.whole.expressions.+reading.Goals as goal
+
+-- a fault in an argument is one of the list
+fails_after : (n : ℕ) (found : List Argument) (ts mid : List Token) (stop : Stop) → starts (is Comma) ts ≡ true → sign Comma ts ≡ Ok (tt, mid) → Fails stop (argument_at (readers (inside n)) mid) → Fails stop (more_after (readers (inside n)) (list_before found) ts)
+fails_after n found ts mid (Stop.Stuck rest) s h k = after_fail n found ts mid (reading.Stuck rest.left.now) s h k
+fails_after n found ts mid (Stop.Deep rest) s h k = after_fail n found ts mid (reading.Deep rest.left.now) s h k
+fails_after n found ts mid Stop.Memory s h k = tt
+
+-- a fault in an operator's operand is one of the level
+fails_found : (n r : ℕ) (start : List Token) (found : List Term) (ts : List Token) (stop : Stop) → 3 ≤ r → r ≤ 15 → Found n r start found ts → starts (is_operator r) ts ≡ true → Fails stop (term_at n r ts) → Fails stop (terms_at r (level_at (inside n) (r - 1)) start)
+fails_found n r start found ts (Stop.Stuck rest) low high h s e = found_fail n r start found ts (reading.Stuck rest.left.now) low high h s e
+fails_found n r start found ts (Stop.Deep rest) low high h s e = found_fail n r start found ts (reading.Deep rest.left.now) low high h s e
+fails_found n r start found ts Stop.Memory low high h s e = tt
+
+pub assignment-returns : goal.assignment-returns
+assignment-returns t c =
+    let made = assignment_made c.args.depth c.args.rest.left.now c.in_ok-target.rest.left.now c.in_ok-operator.rest.left.now c.in_ok-value.rest.left.now (view c.in_ok-target.target) (view c.in_ok-value.value) c.in_ok-operator.operator c.in_ok-target.ensures (sym c.if-not-is_unary.ensures) (sym c.if-not-at_operator.ensures) c.in_ok-operator.ensures.gives c.in_ok-value.ensures in
+    let target : view c.in_ok-target-2.target.value ≡ view c.in_ok-target.target = ap view c.in_ok-target-2.ensures.ok in
+    let value : view c.in_ok-value-2.value.value ≡ view c.in_ok-value.value = ap view c.in_ok-value-2.ensures.ok in
+    rw (target, value) made
+
+pub level-returns-then-is_empty : goal.level-returns-then-is_empty
+level-returns-then-is_empty t c =
+    level_alone c.args.depth c.args.looseness c.args.rest.left.now c.in_ok-first.rest.left.now c.in_ok-terms.rest.left.now (view c.in_ok-first.first) c.in_ok-terms.terms (omega arith) c.requires.high c.if-looseness-eq-CONDITIONAL.false c.if-looseness-eq-ASSIGNMENT.false c.in_ok-first.ensures c.in_ok-terms.ensures (sym c.if-is_empty.ensures)
+
+pub level-returns : goal.level-returns
+level-returns t c =
+    let same : view c.in_ok-first-2.first.value ≡ view c.in_ok-first.first = ap view c.in_ok-first-2.ensures.ok in
+    level_chained c.args.depth c.args.looseness c.args.rest.left.now c.in_ok-first.rest.left.now c.in_ok-terms.rest.left.now (view c.in_ok-first.first) c.in_ok-first-2.first c.in_ok-terms.terms (omega arith) c.requires.high c.if-looseness-eq-CONDITIONAL.false c.if-looseness-eq-ASSIGNMENT.false c.in_ok-first.ensures c.in_ok-terms.ensures (sym c.if-is_empty.ensures) same
+
+pub more_arguments-returns-in_err-next : goal.more_arguments-returns-in_err-next
+more_arguments-returns-in_err-next t c =
+    let p = err_from_is_err_and c.from_residual-in_err-next.result c.from_residual-in_err-next.ensures.1 in
+    rw (p.1, p.2) (rw c.loop-alloc.invariant (fails_after c.args.depth c.loop-alloc.found.items c.loop-alloc.left.left.now c.in_ok-behind.behind.left.now c.in_err-next.field-0.0 (sym c.loop-alloc-test.ensures) c.in_ok-behind.ensures c.in_err-next.ensures))
+
+pub terms-returns-in_err-next : goal.terms-returns-in_err-next
+terms-returns-in_err-next t c =
+    let p = err_from_is_err_and c.from_residual.result c.from_residual.ensures.1 in
+    rw (p.1, p.2) (fails_found c.args.depth c.args.looseness c.args.rest.left.now c.loop-alloc.found.items c.loop-alloc.left.left.now c.in_err-next.field-0.0 c.requires.low c.requires.high c.loop-alloc.invariant (sym c.loop-alloc-test.ensures) c.in_err-next.ensures)
+
+pub terms-loop-alloc-preserved : goal.terms-loop-alloc-preserved
+terms-loop-alloc-preserved t c =
+    subst (λ (items : List Term). Found c.args.depth c.args.looseness c.args.rest.left.now items c.in_ok-next.behind.left.now) (sym c.in_ok-push.ensures.items)
+    (found_more c.args.depth c.args.looseness c.args.rest.left.now c.loop-alloc.found.items c.loop-alloc.left.left.now c.in_ok-next.next c.in_ok-next.behind.left.now c.requires.low c.requires.high c.loop-alloc.invariant (sym c.loop-alloc-test.ensures) c.in_ok-next.ensures)
+
+pub terms-returns : goal.terms-returns
+terms-returns t c =
+    found_all c.args.depth c.args.looseness c.args.rest.left.now c.loop-alloc.found.items c.loop-alloc.left.left.now c.loop-alloc.invariant (sym c.loop-alloc-test.ensures)

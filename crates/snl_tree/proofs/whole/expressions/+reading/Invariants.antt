@@ -1,0 +1,58 @@
+use Rattle.std.proofs.Common.{◌≡◌, ℕ, ◌+◌, ◌*◌, ◌-◌, ◌≤◌, ◌++◌, Ok, map, length}
+use Rattle.snl_tree.specs.Readers.{◌>>=◌}
+use Rattle.snl_tree.specs.Reading.{inside, readers, level_at, terms_at, more_after}
+use Rattle.snl_tree.specs.View.{pair_of, list_before}
+use Rattle.snl_tree.proofs.whole.expressions.+reading.Given as goal
+
+-- a nested part costs a hundred, a level five
+abbrev pub decreases-level : goal.decreases-level
+decreases-level l = 100 * l.depth + 5 * l.looseness + 3
+
+abbrev pub decreases-terms : goal.decreases-terms
+decreases-terms l = 100 * l.depth + 5 * l.looseness + 2
+
+abbrev pub decreases-term : goal.decreases-term
+decreases-term l = 100 * l.depth + 5 * l.looseness + 1
+
+abbrev pub decreases-assignment : goal.decreases-assignment
+decreases-assignment l = 100 * l.depth + 72
+
+abbrev pub decreases-conditional : goal.decreases-conditional
+decreases-conditional l = 100 * l.depth + 67
+
+abbrev pub decreases-unary : goal.decreases-unary
+decreases-unary l = 100 * l.depth + 12
+
+abbrev pub decreases-primary : goal.decreases-primary
+decreases-primary l = 100 * l.depth + 11
+
+abbrev pub decreases-parenthesized : goal.decreases-parenthesized
+decreases-parenthesized l = 100 * l.depth + 10
+
+abbrev pub decreases-named : goal.decreases-named
+decreases-named l = 100 * l.depth + 10
+
+abbrev pub decreases-arguments : goal.decreases-arguments
+decreases-arguments l = 100 * l.depth + 98
+
+abbrev pub decreases-more_arguments : goal.decreases-more_arguments
+decreases-more_arguments l = 100 * l.depth + 97
+
+abbrev pub decreases-argument : goal.decreases-argument
+decreases-argument l = 100 * l.depth + 96
+
+-- what was found, and what is left to read
+abbrev pub invariant-terms-loop-alloc : goal.invariant-terms-loop-alloc
+invariant-terms-loop-alloc l =
+    let operand = level_at (inside l.depth) (l.looseness - 1) in
+    terms_at l.looseness operand l.initial.left.left.now ≡ (terms_at l.looseness operand l.left.left.now >>= λ x. Ok (map pair_of l.found.items ++ x.0, x.1))
+
+abbrev pub decreases-terms-loop-alloc : goal.decreases-terms-loop-alloc
+decreases-terms-loop-alloc l = length l.left.left.now
+
+abbrev pub invariant-more_arguments-loop-alloc : goal.invariant-more_arguments-loop-alloc
+invariant-more_arguments-loop-alloc l =
+    more_after (readers (inside l.depth)) (list_before l.initial.found.items) l.initial.left.left.now ≡ more_after (readers (inside l.depth)) (list_before l.found.items) l.left.left.now
+
+abbrev pub decreases-more_arguments-loop-alloc : goal.decreases-more_arguments-loop-alloc
+decreases-more_arguments-loop-alloc l = length l.left.left.now
