@@ -29,8 +29,13 @@ pub enum Status {
 }
 
 impl Status {
+    ghost use Rattle.std.specs.Prelude.{◌≡◌};
+    ghost use Rattle.snc.specs.Outcomes.{code_of};
+
     /// The number that the shell sees.
-    pub fn code(self) -> u8 {
+    pub fn code(self) -> u8
+        ensures { result ≡ code_of self }
+    {
         match self {
             Status::Well => 0,
             Status::SourceErrors => 1,

@@ -4,6 +4,7 @@
 #![tactic(auto)]
 
 mod jobs;
+mod lines;
 mod messages;
 mod reports;
 mod sessions;

@@ -1,7 +1,15 @@
-use itoa::Buffer;
-use snl_check::{Checked, Message, Severity, check};
-use snl_text::{LexFault, Lexed, Pos, lex};
-use snl_tree::{ParseFault, parse};
+//! What the rules say of a source.
+
+ghost use Rattle.std.specs.Prelude.{◌≡◌, [], ◌∷◌, ◌++◌, map, take, codes, IfOk, slice_get};
+ghost use Rattle.std.specs.Option.{option_map};
+ghost use Rattle.snc.specs.Judging.{AreNamesOf, IsJudged, error_at, syntax_error};
+ghost use Rattle.snc.specs.Texts.{text_of};
+ghost use Rattle.snc.specs.Told.{AreTokensTold, IsFaultTold, IsProgramTold};
+
+use crate::lines::{Names, push_line, push_lines};
+use snl_check::{Checked, Outcome, Severity, check};
+use snl_text::{LexFault, Lexed, Pos, Token, lex};
+use snl_tree::{ParseFault, Program, parse};
 use std::alloc::{AllocError, Global};
 
 /// What the rules say of a source: its messages as text, and the program if none is an error.
@@ -11,95 +19,108 @@ pub struct Findings<'a> {
     pub checked: Option<Checked<'a>>,
 }
 
-/// What the files are called that places speak of: the one that was read, and those of the markers.
-#[derive(Clone, Copy)]
-struct Names<'n, 'a> {
-    read: &'n str,
-    marked: &'n [&'a [u8]],
-}
-
 /// Reads and checks a source. A lexical fault has its one message alone, and so has a syntax fault.
-pub fn judged<'a>(alloc: Global, source: &'a [u8], file: &str) -> Result<Findings<'a>, AllocError> {
+pub fn judged<'a>(alloc: Global, source: &'a [u8], file: &[u8]) -> Result<Findings<'a>, AllocError>
+    ensures { IfOk result (λ f. IsJudged file.now source.now f.messages.items (option_map (λ c. c.program) f.checked)) }
+{
     match lex(alloc, source) {
-        Ok(lexed) => parsed(alloc, &lexed, file),
-        Err(fault) => lexical_fault(alloc, source, fault, file),
+        Ok(lexed) => {
+            let found = tokens_judged(alloc, &lexed, file)?;
+            Ok(found)
+        }
+        Err(fault) => {
+            let found = fault_judged(alloc, source, fault, file)?;
+            Ok(found)
+        }
     }
 }
 
 /// The one message of a source that is no list of tokens.
-fn lexical_fault<'a>(
+fn fault_judged<'a>(
     alloc: Global,
     source: &[u8],
     fault: LexFault,
-    file: &str,
-) -> Result<Findings<'a>, AllocError> {
+    file: &[u8],
+) -> Result<Findings<'a>, AllocError>
+    ensures told { IfOk result (λ f. IsFaultTold file.now source.now fault f.messages.items) }
+    ensures none { IfOk result (λ f. f.checked ≡ None) }
+{
     let (Some(text), Some(pos)) = (fault.text(), fault.pos()) else {
         return Err(AllocError);
     };
-    let marked = names_before(alloc, source, pos)?;
+    let marked = marked_names(alloc, front(source, pos.offset))?;
     let names = Names {
         read: file,
         marked: marked.as_slice(),
     };
-    refused(alloc, names, pos, 3, text.as_bytes())
+    let found = refused(alloc, names, pos, 3, text.as_bytes())?;
+    Ok(found)
 }
 
-/// The names that markers gave in front of a fault, where the fault's place needs one.
-fn names_before<'a>(
-    alloc: Global,
-    source: &'a [u8],
-    pos: Pos,
-) -> Result<Vec<&'a [u8]>, AllocError> {
-    if pos.file == 0 {
-        return Ok(Vec::new(alloc));
+/// At most so many of the first bytes.
+fn front(source: &[u8], count: usize) -> &[u8]
+    ensures { result.now ≡ take count source.now }
+{
+    if count < source.len() {
+        &source[..count]
+    } else {
+        source
     }
-    match lex(alloc, source.get(..pos.offset).unwrap_or(source)) {
-        Ok(Lexed { files, .. }) => Ok(files),
+}
+
+/// The names that the markers of a text give to files; none where it can't be cut into tokens.
+fn marked_names<'a>(alloc: Global, text: &'a [u8]) -> Result<Vec<&'a [u8]>, AllocError>
+    ensures { IfOk result (λ names. AreNamesOf text.now (map (λ name. name.now) names.items)) }
+{
+    match lex(alloc, text) {
+        Ok(lexed) => Ok(lexed.files),
         Err(LexFault::Memory) => Err(AllocError),
         Err(_) => Ok(Vec::new(alloc)),
     }
 }
 
 /// Parses and checks a source that was cut into tokens.
-fn parsed<'a>(alloc: Global, lexed: &Lexed<'a>, file: &str) -> Result<Findings<'a>, AllocError> {
+fn tokens_judged<'a>(
+    alloc: Global,
+    lexed: &Lexed<'a>,
+    file: &[u8],
+) -> Result<Findings<'a>, AllocError>
+    ensures { IfOk result (λ f. AreTokensTold file.now lexed.now f.messages.items (option_map (λ c. c.program) f.checked)) }
+{
     let names = Names {
         read: file,
         marked: lexed.files.as_slice(),
     };
-    let program = match parse(alloc, lexed) {
-        Ok(program) => program,
-        Err(ParseFault::Memory) => return Err(AllocError),
-        Err(ParseFault::Unexpected(k)) => return syntax_fault(alloc, lexed, k, names),
-    };
-    let mut outcome = check(alloc, program)?;
-    refuse_embedded(alloc, lexed, &mut outcome.messages)?;
-    let mut messages = Vec::new(alloc);
-    for message in &outcome.messages {
-        push_message(&mut messages, names, message)?;
+    match parse(alloc, lexed) {
+        Ok(program) => {
+            let found = program_judged(alloc, program, lexed.embedded.as_slice(), names)?;
+            Ok(found)
+        }
+        Err(ParseFault::Memory) => Err(AllocError),
+        Err(ParseFault::Unexpected(k)) => {
+            let found = syntax_fault(alloc, lexed, k, names)?;
+            Ok(found)
+        }
     }
-    let checked = if lexed.embedded.is_empty() {
-        outcome.checked
-    } else {
-        None
-    };
-    Ok(Findings { messages, checked })
 }
 
-/// Adds a message for each piece of embedded C, which has no meaning here.
-fn refuse_embedded(
+/// All messages of a program, between whose tokens pieces of embedded C stand at these places.
+fn program_judged<'a>(
     alloc: Global,
-    lexed: &Lexed,
-    messages: &mut Vec<Message>,
-) -> Result<(), AllocError> {
-    for pos in &lexed.embedded {
-        messages.push(Message {
-            pos: *pos,
-            severity: Severity::Error,
-            number: 10,
-            text: Vec::from_slice(alloc, b"embedded C is not supported")?,
-        })?;
-    }
-    messages.sort_by_key(|message| (message.pos.offset, message.severity, message.number))
+    program: Program<'a>,
+    embedded: &[Pos],
+    names: Names,
+) -> Result<Findings<'a>, AllocError>
+    ensures { IfOk result (λ f. IsProgramTold names.entry.read.now (map (λ name. name.now) names.entry.marked.now) program.entry embedded.now
+        f.messages.items (option_map (λ c. c.program) f.checked)) }
+{
+    let Outcome {
+        messages: said,
+        checked,
+    } = check(alloc, program, embedded)?;
+    let mut messages = Vec::new(alloc);
+    push_lines(&mut messages, names, said.as_slice())?;
+    Ok(Findings { messages, checked })
 }
 
 /// The one message of tokens that are no program, at the first that can't stand where it does.
@@ -108,66 +129,57 @@ fn syntax_fault<'a>(
     lexed: &Lexed,
     k: usize,
     names: Names,
-) -> Result<Findings<'a>, AllocError> {
-    let Some(token) = lexed.tokens.get(k) else {
-        return refused(alloc, names, lexed.eof, 1, b"syntax error at end of file");
-    };
-    let mut text = Vec::from_slice(alloc, b"syntax error at '")?;
-    text.extend_from_slice(token.text)?;
-    text.push(b'\'')?;
-    refused(alloc, names, token.pos, 1, text.as_slice())
+) -> Result<Findings<'a>, AllocError>
+    ensures text { IfOk result (λ f. f.messages.items ≡ text_of names.entry.read.now (map (λ name. name.now) names.entry.marked.now)
+        (syntax_error lexed.now (slice_get lexed.now.tokens.items k) ∷ [])) }
+    ensures none { IfOk result (λ f. f.checked ≡ None) }
+{
+    match token_at(lexed, k) {
+        None => {
+            let found = refused(alloc, names, lexed.eof, 1, b"syntax error at end of file")?;
+            Ok(found)
+        }
+        Some(token) => {
+            let text = stuck_at(alloc, token.text)?;
+            let found = refused(alloc, names, token.pos, 1, text.as_slice())?;
+            Ok(found)
+        }
+    }
 }
 
+/// A token by its number; None where there are no more than that.
+fn token_at<'a>(lexed: &Lexed<'a>, k: usize) -> Option<Token<'a>>
+    ensures { result ≡ slice_get lexed.now.tokens.items k }
+{
+    lexed.tokens.get(k).copied()
+}
+
+/// `syntax error at 'TOKEN'`
+fn stuck_at(alloc: Global, token: &[u8]) -> Result<Vec<u8>, AllocError>
+    ensures { IfOk result (λ text. text.items ≡ codes "syntax error at '" ++ (token.now ++ codes "'")) }
+{
+    let mut text = Vec::from_slice(alloc, b"syntax error at '")?;
+    text.extend_from_slice(token)?;
+    text.push(b'\'')?;
+    Ok(text)
+}
+
+/// An error that is the one message of its source.
 fn refused<'a>(
     alloc: Global,
     names: Names,
     pos: Pos,
     number: u8,
     text: &[u8],
-) -> Result<Findings<'a>, AllocError> {
+) -> Result<Findings<'a>, AllocError>
+    ensures text { IfOk result (λ f. f.messages.items ≡ text_of names.entry.read.now (map (λ name. name.now) names.entry.marked.now)
+        (error_at pos number text.now ∷ [])) }
+    ensures none { IfOk result (λ f. f.checked ≡ None) }
+{
     let mut messages = Vec::new(alloc);
-    push_head(&mut messages, names, pos, Severity::Error, number)?;
-    messages.extend_from_slice(text)?;
-    messages.push(b'\n')?;
+    push_line(&mut messages, names, pos, Severity::Error, number, text)?;
     Ok(Findings {
         messages,
         checked: None,
     })
-}
-
-fn push_message(out: &mut Vec<u8>, names: Names, message: &Message) -> Result<(), AllocError> {
-    push_head(out, names, message.pos, message.severity, message.number)?;
-    out.extend_from_slice(message.text.as_slice())?;
-    out.push(b'\n')?;
-    Ok(())
-}
-
-/// `FILE:LINE: error: E01 `: an error's number has two digits.
-fn push_head(
-    out: &mut Vec<u8>,
-    names: Names,
-    pos: Pos,
-    severity: Severity,
-    number: u8,
-) -> Result<(), AllocError> {
-    let mut digits = Buffer::new();
-    out.extend_from_slice(file_name(names, pos))?;
-    out.push(b':')?;
-    out.extend_from_slice(digits.format(pos.line).as_bytes())?;
-    out.extend_from_slice(match severity {
-        Severity::Error if number < 10 => b": error: E0".as_slice(),
-        Severity::Error => b": error: E".as_slice(),
-        Severity::Warning => b": warning: W".as_slice(),
-    })?;
-    out.extend_from_slice(digits.format(number).as_bytes())?;
-    out.push(b' ')?;
-    Ok(())
-}
-
-/// What the file of a place is called.
-fn file_name<'n>(names: Names<'n, 'n>, pos: Pos) -> &'n [u8] {
-    match pos.file.checked_sub(1).and_then(|k| names.marked.get(k)) {
-        Some(name) => name,
-        None => names.read.as_bytes(),
-    }
 }

@@ -1,4 +1,5 @@
-ghost use Rattle.std.specs.Prelude.{◌-◌, ◌^◌, ◌<◌};
+ghost use Rattle.std.specs.Prelude.{◌≡◌, ◌-◌, ◌^◌, ◌<◌, IfOk, OnErr, string_bytes};
+ghost use Rattle.snc.specs.Outcomes.{IsSession, status_of};
 
 use crate::jobs::{Job, Status};
 use crate::messages::{Findings, judged};
@@ -20,8 +21,12 @@ pub fn session<R: Source, S: Sink>(
 ) -> Result<(Vec<u8>, Option<End>, Status), AllocError>
     requires trace { R.failures trace.old < 2 ^ 64 - 1 }
     requires sink { S.failures sink.old < 2 ^ 64 - 1 }
+    ensures answer { IfOk result (λ r. IsSession R.rest R.failures S.told S.failures (string_bytes job.now.file) source.now job.now.budget
+        trace.old trace.new sink.old sink.new r.0.items r.1 r.2) }
+    ensures unread { OnErr result (trace.new ≡ trace.old) }
+    ensures unwritten { OnErr result (sink.new ≡ sink.old) }
 {
-    let Findings { messages, checked } = judged(alloc, source, job.file.as_str())?;
+    let Findings { messages, checked } = judged(alloc, source, job.file.as_bytes())?;
     let Some(checked) = checked else {
         return Ok((messages, None, Status::SourceErrors));
     };
@@ -31,7 +36,9 @@ pub fn session<R: Source, S: Sink>(
 }
 
 /// The status of a run that ended so.
-fn status(end: End) -> Status {
+fn status(end: End) -> Status
+    ensures { result ≡ status_of end }
+{
     match end {
         End::TraceEnded | End::ProgramEnded => Status::Well,
         End::Fault(_, _) => Status::ProgramFault,

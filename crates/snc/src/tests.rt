@@ -8,6 +8,8 @@ use std::alloc::{AllocError, Global};
 use std::process::Abort;
 
 mod calls;
+mod expressions;
+mod hostile;
 mod sources;
 mod traces;
 

@@ -54,7 +54,8 @@ exact_entry x y e =
       text = exact_text x.text.items y.text.items f.1 j;
     }
 
-contains_map : {A B : Type 0} (f : A → B) (xs : List A) (x : A) → Contains xs x → Contains (map f xs) (f x)
+-- what a list has once it is mapped
+pub contains_map : {A B : Type 0} (f : A → B) (xs : List A) (x : A) → Contains xs x → Contains (map f xs) (f x)
 contains_map f [] x h = absurd (omega (arith, h.1))
 contains_map f (y ∷ ys) x h =
     elim (Contains-append_cases (y ∷ []) ys x h) [
@@ -68,7 +69,7 @@ contains_map f (y ∷ ys) x h =
 contained_behind : {A B : Type 0} (f : A → B) (y : A) (ys : List A) (m : B) → ((x : A) × Contains ys x × (f x ≡ m)) → ((x : A) × Contains (y ∷ ys) x × (f x ≡ m))
 contained_behind f y ys m w = (w.0, Contains-append_right (y ∷ []) ys w.0 w.1, w.2)
 
-from_map : {A B : Type 0} (f : A → B) (xs : List A) (m : B) → Contains (map f xs) m → (x : A) × Contains xs x × (f x ≡ m)
+pub from_map : {A B : Type 0} (f : A → B) (xs : List A) (m : B) → Contains (map f xs) m → (x : A) × Contains xs x × (f x ≡ m)
 from_map f [] m h = absurd (omega (arith, h.1))
 from_map f (y ∷ ys) m h =
     elim (Contains-append_cases (f y ∷ []) (map f ys) m h) [

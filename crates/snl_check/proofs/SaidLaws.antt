@@ -4,6 +4,7 @@ use Rattle.std.proofs.lemmas.Bool.{false≢true, eqb-true}
 use Rattle.std.proofs.Common.{eq-eqb}
 use Rattle.std.proofs.lemmas.List.{map-append, append-nil}
 use Rattle.std.proofs.lemmas.List.Elements.{Contains-append_left, Contains-append_right, Contains-append_cases, Contains-push, Contains-push_cases}
+use Rattle.snl_text.specs.declared.tokens.Pos.{Pos}
 use Rattle.snl_text.specs.declared.tokens.Token.{Token}
 use Rattle.snl_tree.specs.declared.trees.Program.{Program}
 use Rattle.snl_check.specs.declared.messages.Rule.{Rule}
@@ -14,7 +15,8 @@ use Rattle.snl_check.specs.declared.sites.Purpose.TheVariants.{Value, Assigned, 
 use Rattle.snl_check.specs.declared.sites.Site.TheVariants.{Use}
 use Rattle.snl_check.specs.Facts.{noted, has_items}
 use Rattle.snl_check.specs.Messages.{Said, message_of}
-use Rattle.snl_check.specs.Rules.{name_of, Among, AssignsTo, IsAssignedIn, Holds, Says}
+use Rattle.snl_check.specs.Rules.{name_of, Among, AssignsTo, IsAssignedIn, Holds, Says, IsSaid, embedded_message}
+use Rattle.snl_check.proofs.EntryLaws.{contains_map, from_map}
 use Rattle.snl_check.specs.Scopes.{Scope, first_of, bound}
 use Rattle.snl_check.specs.Sites.{Site, Declares, Uses, Goes, Stands, sites}
 use Rattle.snl_check.specs.Told.{noted_name, assigned_by, assigned_name, assigned_in, is_offset, told, said_at, messages_at}
@@ -234,3 +236,17 @@ exactly_said p m = (
   }),
   (λ w. subst (λ r. Contains (messages_at (map noted (sites p)) [] (map noted r)) m) (sym w.stands) (said_of (sites p) w.before [] w.site w.after w.rule m w.holds w.says)),
 )
+
+-- and with those of the pieces of embedded C behind them, those that are said of both
+pub exactly_all : (p : Program) (embedded : List Pos) (m : Said) → Contains (messages_at (map noted (sites p)) [] (map noted (sites p)) ++ map embedded_message embedded) m ↔ IsSaid p embedded m
+exactly_all p embedded m =
+    let told = messages_at (map noted (sites p)) [] (map noted (sites p)) in (
+      λ h. elim (Contains-append_cases told (map embedded_message embedded) m h) [
+        | inl k ↦ inl ((exactly_said p m).0 k)
+        | inr k ↦ let w = from_map embedded_message embedded m k in inr (w.0, w.1, sym w.2)
+      ],
+      λ h. elim h [
+        | inl says ↦ Contains-append_left told (map embedded_message embedded) m ((exactly_said p m).1 says)
+        | inr w ↦ Contains-append_right told (map embedded_message embedded) m (subst (Contains (map embedded_message embedded)) (sym w.2) (contains_map embedded_message embedded w.0 w.1))
+      ],
+    )

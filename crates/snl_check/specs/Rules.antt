@@ -1,5 +1,6 @@
 -- The rules of the check, each as one line on a site, and what they say of a program.
-use Rattle.std.specs.Prelude.{◌≡◌, ℕ, ◌⊎◌, List, [], ◌∷◌, ◌++◌, None, Some}
+use Rattle.std.specs.Prelude.{◌≡◌, ℕ, ◌⊎◌, List, [], ◌∷◌, ◌++◌, None, Some, Contains, codes}
+use Rattle.snl_text.specs.declared.tokens.Pos.{Pos}
 use Rattle.snl_text.specs.declared.tokens.Token.{Token}
 use Rattle.snl_tree.specs.declared.trees.Program.{Program}
 use Rattle.snl_check.specs.declared.messages.Rule.{Rule}
@@ -93,6 +94,18 @@ pub record Says (p : Program) (m : Said) : Type 0 where
   pub holds : Holds rule before (sites p) site
   pub says : m ≡ message_of rule (name_of site)
 
--- no error is said of it
+-- no error is said of its tree
 abbrev pub HasNoError : Program → Type 0
 HasNoError p = (m : Said) → Says p m → m.severity ≡ Error → ⊥
+
+-- E10: embedded C has no meaning here; at each piece of it
+abbrev pub embedded_message : Pos → Said
+embedded_message pos = record { pos = pos; severity = Error; number = 10; text = codes "embedded C is not supported" }
+
+-- a message is said of a program between whose tokens these pieces of embedded C stand: of its tree, or of one of them
+abbrev pub IsSaid : Program → List Pos → Said → Type 0
+IsSaid p embedded m = Says p m ⊎ ((pos : Pos) × Contains embedded pos × (m ≡ embedded_message pos))
+
+-- no error is said of it
+abbrev pub IsAccepted : Program → List Pos → Type 0
+IsAccepted p embedded = (m : Said) → IsSaid p embedded m → m.severity ≡ Error → ⊥

@@ -5,6 +5,7 @@ ghost use Rattle.std.specs.declared.cmp.Ordering.TheVariants.{Equal};
 ghost use Rattle.snl_check.specs.Told.{is_warning};
 ghost use Rattle.snl_check.specs.Messages.{Said, IsInOrder, said, message_of, severity_of, number_of, before_name, behind_name};
 ghost use Rattle.snl_check.specs.Entries.{said_entry, message_in};
+ghost use Rattle.snl_check.specs.Rules.{embedded_message};
 
 use crate::messages::{Message, Rule, Severity};
 use snl_text::{Pos, Token};
@@ -88,6 +89,35 @@ impl Rule {
             text,
         })
     }
+}
+
+/// What is said at a piece of embedded C.
+fn embedded_entry(alloc: Global, pos: Pos) -> Result<Entry, AllocError>
+    ensures { IfOk result (λ e. said_entry e ≡ embedded_message pos) }
+{
+    Ok(Entry {
+        offset: pos.offset,
+        is_warning: false,
+        number: 10,
+        file: pos.file,
+        line: pos.line,
+        text: Vec::from_slice(alloc, b"embedded C is not supported")?,
+    })
+}
+
+/// Adds what is said at each piece of embedded C.
+pub fn push_embedded(
+    alloc: Global,
+    embedded: &[Pos],
+    entries: &mut Vec<Entry>,
+) -> Result<(), AllocError>
+    ensures { OnOk result (map said_entry entries.new.items ≡ map said_entry entries.old.items ++ map embedded_message embedded.now) }
+{
+    for pos in embedded {
+        let entry = embedded_entry(alloc, *pos)?;
+        entries.push(entry)?;
+    }
+    Ok(())
 }
 
 impl Entry {

@@ -1,5 +1,5 @@
 -- The statements of a block, one after another.
-use Rattle.std.proofs.Common.{◌≡◌, ℕ, ◌+◌, ◌<◌, List, ◌∷◌, Option, Result, Err, ap, sym, ◌∙◌, subst, drop, map, length, get_or}
+use Rattle.std.proofs.Common.{◌≡◌, ℕ, ◌+◌, ◌<◌, List, ◌∷◌, Option, Err, ap, sym, ◌∙◌, subst, drop, map, length, get_or}
 use Rattle.std.proofs.lemmas.List.{drop_more}
 use Rattle.snl_machine.specs.declared.faults.Stop.{Stop}
 use Rattle.snl_machine.specs.declared.programs.Stmt.{Stmt}

@@ -1,5 +1,5 @@
 -- The line of a fault, behind what was written before.
-use Rattle.std.proofs.Common.{◌≡◌, ℕ, List, ◌++◌, Option, ap, sym, ◌∙◌, append_assoc}
+use Rattle.std.proofs.Common.{ℕ, List, ◌++◌, Option, ap, sym, ◌∙◌, append_assoc}
 use Rattle.snl_machine.specs.declared.faults.Fault.{Fault}
 use Rattle.snl_machine.specs.Devices.{told_more, IsCutShort}
 use Rattle.snl_machine.specs.Does.{Faulted}

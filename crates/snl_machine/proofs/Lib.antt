@@ -2,9 +2,13 @@ pub mod Blocks
 pub mod Faulting
 pub mod Marks
 pub mod Names
+pub mod Numbers
 pub mod Opening
+pub mod Parts
 pub mod Rounds
+pub mod RunLaws
 pub mod Starting
 pub mod Steps
 pub mod Trees
+pub mod Within
 pub mod Writing

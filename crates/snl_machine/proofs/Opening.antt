@@ -1,5 +1,5 @@
 -- The world of a store that was just made.
-use Rattle.std.proofs.Common.{◌≡◌, ℕ, zero, suc, ℤ, pos, Bool, false, List, [], ◌∷◌, None, refl, ap, sym, ◌∙◌, map, length, replicate, subst}
+use Rattle.std.proofs.Common.{◌≡◌, ℕ, zero, suc, ℤ, pos, Bool, false, List, [], ◌∷◌, None, refl, ap, sym, ◌∙◌, map, length, replicate}
 use Rattle.std.proofs.lemmas.List.{length-map}
 use Rattle.snl_machine.specs.declared.events.Live.TheVariants.{Waiting}
 use Rattle.snl_machine.specs.declared.programs.Numbered.{Numbered}

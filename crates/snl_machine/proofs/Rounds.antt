@@ -1,11 +1,10 @@
 -- Rounds of one turn, one after another.
-use Rattle.std.proofs.Common.{◌≡◌, ℕ, suc, Bool, true, false, ◌||◌, List, [], ◌++◌, Option, Result, Ok, Err, refl, ap, sym, ◌∙◌, subst, append-nil, if◌then◌else◌}
+use Rattle.std.proofs.Common.{◌≡◌, ℕ, suc, Bool, true, false, ◌||◌, List, [], Option, Ok, Err, refl, ap, ◌∙◌, subst, append-nil, if◌then◌else◌}
 use Rattle.snl_machine.specs.declared.faults.Stop.{Stop}
 use Rattle.snl_machine.specs.declared.programs.Numbered.{Numbered}
 use Rattle.snl_machine.specs.declared.stores.Store.{Store}
 use Rattle.snl_machine.specs.Does.{Does, Gave}
 use Rattle.snl_machine.specs.Instant.{rounds_of}
-use Rattle.snl_machine.specs.Program.{Program}
 use Rattle.snl_machine.specs.Ran.{Ran, Gives, Faults, then_do}
 use Rattle.snl_machine.specs.Turn.{turn_of}
 use Rattle.snl_machine.specs.Views.{program_of, world_of}

@@ -4,7 +4,7 @@ use Rattle.snl_machine.specs.declared.events.Live.{Live}
 use Rattle.snl_machine.specs.declared.events.Live.TheVariants.{Waiting}
 use Rattle.snl_machine.specs.Instant.{is_ready, started, all_rounds, instant_by, instant_of}
 use Rattle.snl_machine.specs.Program.{Program}
-use Rattle.snl_machine.specs.Ran.{Ran, Gives, then_do}
+use Rattle.snl_machine.specs.Ran.{Gives, then_do}
 use Rattle.snl_machine.specs.World.{World}
 
 -- a program that waits and is ready starts, and then has its rounds

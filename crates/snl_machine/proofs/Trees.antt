@@ -1,12 +1,12 @@
 -- What the program's tree stands for, where the code goes over a list of terms.
-use Rattle.std.proofs.Common.{◌≡◌, ℕ, ℤ, List, [], ◌∷◌, refl, ap, sym, ◌∙◌}
+use Rattle.std.proofs.Common.{◌≡◌, ℤ, List, [], refl, ap, sym, ◌∙◌}
 use Rattle.std.specs.declared.boxed.Box.{Box}
 use Rattle.std.specs.declared.vec.Vec.{Vec}
 use Rattle.std.specs.declared.alloc.Global.{Global}
 use Rattle.snl_machine.specs.declared.programs.Expr as tree
 use Rattle.snl_machine.specs.declared.programs.Expr.TheBlock.{hidden-the_row-Term-0}
 use Rattle.snl_machine.specs.declared.programs.Term.{Term}
-use Rattle.snl_machine.specs.Program.{Chain, Terms, end, more}
+use Rattle.snl_machine.specs.Program.{more}
 use Rattle.snl_machine.specs.Ran.{Gives, then_do}
 use Rattle.snl_machine.specs.Value.{value_of, chained}
 use Rattle.snl_machine.specs.Views.{expression_of, row_of, terms_of}
@@ -18,7 +18,7 @@ row_of-items tree.end_of-Term = refl
 row_of-items (tree.more_of-Term operator line operand terms) = ap (more operator line (expression_of operand)) (row_of-items terms)
 
 -- the terms of a vector, one after another
-row_of-vec : (terms : Vec Term Global) → row_of (hidden-the_row-Term-0 terms) ≡ terms_of terms.items
+pub row_of-vec : (terms : Vec Term Global) → row_of (hidden-the_row-Term-0 terms) ≡ terms_of terms.items
 row_of-vec terms = row_of-items (hidden-the_row-Term-0 terms) ∙ ap terms_of (tree.items_hidden-the_row-Term-0 terms)
 
 -- with the value of the first operand, a chain is the value of what is left of it

@@ -1,5 +1,5 @@
 -- What devices tell: the bytes that a sink was given.
-use Rattle.std.specs.Prelude.{◌≡◌, ◌==◌, ◌+◌, ℕ, ◌&&◌, Bool, true, false, not, List, ◌++◌, Option, None, Some, Result, Ok, Err, nat_lt}
+use Rattle.std.specs.Prelude.{◌≡◌, ◌==◌, ◌+◌, ℕ, ◌&&◌, Bool, true, false, List, ◌++◌, Option, None, Some, Result, Ok, Err, nat_lt}
 use Rattle.snl_machine.specs.declared.faults.Stop.{Stop}
 use Rattle.snl_machine.specs.declared.faults.Stop.TheVariants.{Fault, Sink}
 use Rattle.snl_machine.specs.declared.sinks.SinkFault.{SinkFault}

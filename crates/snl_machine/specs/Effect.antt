@@ -1,12 +1,12 @@
 -- What a statement does, for a state set in a world.
-use Rattle.std.specs.Prelude.{ℕ, ℤ, Bool, true, false, List, [], ◌∷◌, Option, None, Some, slice_get, slice_index_or, slice_set, if◌then◌else◌}
+use Rattle.std.specs.Prelude.{ℕ, ℤ, false, List, [], ◌∷◌, Option, None, Some, slice_get, slice_index_or, slice_set, if◌then◌else◌}
 use Rattle.snl_machine.specs.declared.faults.Fault.TheVariants.{DoesNotFit}
 use Rattle.snl_machine.specs.declared.programs.Link.{Link}
 use Rattle.snl_machine.specs.Lines.{put_line}
 use Rattle.snl_machine.specs.Program.{Program, Statement, Assign, Put}
 use Rattle.snl_machine.specs.Ran.{Ran, Gives, Faults, then_do}
 use Rattle.snl_machine.specs.Value.{value_of, is_within}
-use Rattle.snl_machine.specs.World.{World, Copy, copy_of, with_copy, variable_of}
+use Rattle.snl_machine.specs.World.{World, copy_of, with_copy, variable_of}
 
 -- the world in which a state set's copy of a variable has a number
 abbrev pub with_variable : ℕ → ℕ → ℤ → World → World

@@ -1,9 +1,9 @@
 -- What one line of a trace does.
-use Rattle.std.specs.Prelude.{◌==◌, ℕ, ◌+◌, ℤ, Bool, true, false, List, [], ◌∷◌, ◌++◌, slice_index_or, slice_set, take, drop, length, map, if◌then◌else◌}
+use Rattle.std.specs.Prelude.{◌==◌, ℕ, ◌+◌, ℤ, true, List, [], ◌∷◌, ◌++◌, slice_index_or, slice_set, take, drop, length, map, if◌then◌else◌}
 use Rattle.snl_machine.specs.declared.events.Event.{Event}
 use Rattle.snl_machine.specs.declared.events.Event.TheVariants.{Up, Val, Tick, Other}
 use Rattle.snl_machine.specs.declared.events.Live.{Live}
-use Rattle.snl_machine.specs.declared.events.Live.TheVariants.{Waiting, Running, Ended}
+use Rattle.snl_machine.specs.declared.events.Live.TheVariants.{Ended}
 use Rattle.snl_machine.specs.declared.programs.Link.{Link}
 use Rattle.snl_machine.specs.Instant.{instant_of}
 use Rattle.snl_machine.specs.Program.{Program}

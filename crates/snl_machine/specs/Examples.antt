@@ -1,19 +1,13 @@
 -- Small programs with the text of their runs, computed by the definitions alone.
 use Rattle.std.specs.Prelude.{◌≡◌, ℕ, ℤ, pos, true, false, List, [], ◌∷◌, ◌++◌, codes}
-use Rattle.arrayvec.specs.ArrayVec.{ArrayVec}
 use Rattle.snl_machine.specs.declared.events.Event.{Event}
 use Rattle.snl_machine.specs.declared.events.Event.TheVariants.{Up, Val, Tick}
 use Rattle.snl_machine.specs.declared.programs.Operator.TheVariants.{Add, Multiply, Less, Greater}
 use Rattle.snl_machine.specs.Event.{line_of}
 use Rattle.snl_machine.specs.First.{first_world}
 use Rattle.snl_machine.specs.Program.{Program, Expression, Whole, Variable, Chain, end, more, Assign, Put}
-use Rattle.snl_machine.specs.Ran.{Ran, Gives, Faults, text_of}
+use Rattle.snl_machine.specs.Ran.{text_of, world_after}
 use Rattle.snl_machine.specs.World.{World}
-
--- the world that a step leaves
-abbrev pub world_after : {A : Type 0} → Ran A → World
-world_after (Gives v w text) = w
-world_after (Faults f line w text) = w
 
 -- the text of several events, each with its time
 abbrev pub text_of_events : Program → ℕ → List (ℕ × Event) → World → List ℕ

@@ -1,12 +1,12 @@
 -- What happens at one time: the start, where it is due, and rounds until one has no transition.
-use Rattle.std.specs.Prelude.{ℕ, zero, suc, ◌+◌, Bool, true, false, not, ◌&&◌, ◌||◌, List, [], ◌∷◌, None, slice_index_or, if◌then◌else◌}
+use Rattle.std.specs.Prelude.{ℕ, zero, suc, ◌+◌, Bool, false, not, ◌&&◌, ◌||◌, List, [], ◌∷◌, None, slice_index_or, if◌then◌else◌}
 use Rattle.std.specs.List.{list_all}
 use Rattle.snl_machine.specs.declared.events.Live.{Live}
 use Rattle.snl_machine.specs.declared.events.Live.TheVariants.{Waiting, Running, Ended}
 use Rattle.snl_machine.specs.declared.programs.Link.{Link}
 use Rattle.snl_machine.specs.Lines.{start_line}
 use Rattle.snl_machine.specs.Program.{Program, StateSet}
-use Rattle.snl_machine.specs.Ran.{Ran, Gives, Faults, then_do}
+use Rattle.snl_machine.specs.Ran.{Ran, Gives, then_do}
 use Rattle.snl_machine.specs.Turn.{refreshed, entered_in, turn_of}
 use Rattle.snl_machine.specs.World.{World}
 

@@ -6,10 +6,14 @@ pub mod Examples
 pub mod First
 pub mod Held
 pub mod Instant
+pub mod Laws
 pub mod Lines
 pub mod Lookup
+pub mod Names
+pub mod Numbering
 pub mod Program
 pub mod Ran
+pub mod Sorts
 pub mod Turn
 pub mod Value
 pub mod Views

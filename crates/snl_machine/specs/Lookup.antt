@@ -1,18 +1,14 @@
 -- What a machine says of channels and of events.
-use Rattle.std.specs.Prelude.{ℕ, ℤ, Bool, true, not, ◌==◌, ◌&&◌, ◌||◌, nat_eq, nat_lt, List, Option, position, length, take}
-use Rattle.std.specs.Cmp.Lexicographic.{pointwise}
+use Rattle.std.specs.Prelude.{ℕ, ℤ, Bool, true, not, ◌==◌, ◌&&◌, ◌||◌, nat_lt, List, Option, length, take}
 use Rattle.std.specs.List.{list_all}
 use Rattle.snl_machine.specs.declared.events.Event.{Event}
 use Rattle.snl_machine.specs.declared.events.Event.TheVariants.{Up, Val, Tick, Other}
 use Rattle.snl_machine.specs.declared.machine.Machine.{Machine}
 use Rattle.snl_machine.specs.declared.programs.Link.{Link}
 use Rattle.snl_machine.specs.Held.{program_held}
+use Rattle.snl_machine.specs.Names.{place_of}
 use Rattle.snl_machine.specs.Program.{Program}
 use Rattle.snl_machine.specs.Value.{is_within}
-
--- the first place of a name in a list of names, if it stands there
-abbrev pub place_of : List (List ℕ) → List ℕ → Option ℕ
-place_of names name = position (pointwise nat_eq name) names
 
 -- the number of the channel of a name, if the machine's program has one
 abbrev pub channel_of : Machine → List ℕ → Option ℕ

@@ -27,3 +27,8 @@ outcome_at line (Err f) w = Faults f line w []
 abbrev pub text_of : {A : Type 0} → Ran A → List ℕ
 text_of (Gives v w text) = text
 text_of (Faults f line w text) = text
+
+-- the world that a step leaves
+abbrev pub world_after : {A : Type 0} → Ran A → World
+world_after (Gives v w text) = w
+world_after (Faults f line w text) = w

@@ -1,5 +1,5 @@
 -- A turn of one state set: refresh, conditions, and at most one transition.
-use Rattle.std.specs.Prelude.{◌==◌, ℕ, zero, suc, ◌+◌, ℤ, pos, Bool, true, false, List, [], ◌∷◌, ◌++◌, Option, None, Some, slice_get, slice_index_or, slice_set, if◌then◌else◌}
+use Rattle.std.specs.Prelude.{ℕ, zero, suc, ◌+◌, ℤ, pos, Bool, true, false, List, [], ◌∷◌, ◌++◌, Option, None, Some, slice_get, slice_index_or, slice_set, if◌then◌else◌}
 use Rattle.std.specs.Ordering.{int_eq}
 use Rattle.snl_machine.specs.declared.faults.Fault.TheVariants.{BudgetSpent}
 use Rattle.snl_machine.specs.declared.programs.Link.{Link}
@@ -8,7 +8,7 @@ use Rattle.snl_machine.specs.Lines.{go_line, fault_line, fault_text}
 use Rattle.snl_machine.specs.Program.{Program, StateSet, State, Clause}
 use Rattle.snl_machine.specs.Ran.{Ran, Gives, Faults, then_do}
 use Rattle.snl_machine.specs.Value.{value_of}
-use Rattle.snl_machine.specs.World.{World, Copy, copy_of, with_copy}
+use Rattle.snl_machine.specs.World.{World, copy_of, with_copy}
 
 -- whether a value came to a link that a state set's copy does not have yet
 abbrev pub is_marked : ℕ → ℕ → World → Bool

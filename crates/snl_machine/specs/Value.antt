@@ -1,5 +1,5 @@
 -- The value of an expression, for a state set in a world.
-use Rattle.std.specs.Prelude.{ℕ, ◌^◌, ℤ, pos, negsuc, ◌+ℤ◌, ◌*ℤ◌, int_lt, int_le, Bool, true, false, not, List, [], Result, Ok, Err, nat_lt, if◌then◌else◌}
+use Rattle.std.specs.Prelude.{ℕ, ◌^◌, ℤ, pos, negsuc, ◌+ℤ◌, ◌*ℤ◌, int_lt, int_le, Bool, true, false, not, [], Result, Ok, Err, nat_lt, if◌then◌else◌}
 use Rattle.std.specs.Ordering.{int_eq}
 use Rattle.snl_machine.specs.declared.faults.Fault.{Fault}
 use Rattle.snl_machine.specs.declared.faults.Fault.TheVariants.{Overflow}

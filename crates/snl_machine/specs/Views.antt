@@ -1,5 +1,5 @@
 -- What the machine's own types stand for: its tree for a program, its store for a world.
-use Rattle.std.specs.Prelude.{ℕ, ℤ, List, [], ◌∷◌, Option, None, Some, Result, Ok, Err, map}
+use Rattle.std.specs.Prelude.{ℤ, List, [], ◌∷◌, Option, None, Some, Result, Ok, Err, map}
 use Rattle.std.proofs.Common.{Bor}
 use Rattle.snl_machine.specs.declared.faults.Charge.{Charge}
 use Rattle.snl_machine.specs.declared.programs.Clause.{Clause as NumberedClause}

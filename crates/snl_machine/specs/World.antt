@@ -1,5 +1,5 @@
 -- All that a run changes.
-use Rattle.std.specs.Prelude.{ℕ, ℤ, pos, Bool, List, [], ◌∷◌, Option, slice_index_or, slice_set}
+use Rattle.std.specs.Prelude.{ℕ, ℤ, pos, Bool, List, [], Option, slice_index_or, slice_set}
 use Rattle.snl_machine.specs.declared.events.Live.{Live}
 
 -- what one state set has for itself

@@ -22,6 +22,9 @@ mod values;
 
 pub use events::{Event, Live, VALUES_KEPT};
 pub use faults::{Fault, Stop};
-pub use laws::examples;
+pub use laws::{
+    ended_stays, examples, numbers_lead_to_declarations, rounds_end, time_is_the_events,
+    time_never_falls,
+};
 pub use machine::Machine;
 pub use sinks::{Sink, SinkFault};

@@ -24,16 +24,17 @@ pub struct Machine<'a> {
 impl<'a> Machine<'a> {
     ghost use Rattle.snl_machine.specs.Event.{line_of};
     ghost use Rattle.snl_machine.specs.First.{first_world};
-    ghost use Rattle.snl_machine.specs.Held.{program_held, world_held};
+    ghost use Rattle.snl_machine.specs.Held.{IsMachineOf, program_held, world_held};
     ghost use Rattle.snl_machine.specs.Lookup.{channel_of, fits_of};
 
-    /// Makes the machine of a program, which waits for its start. All the room that a run takes is
+    /// Makes the machine of a program, which waits for its start: variables, links, channels and states go
+    /// by number from then on, in the order in which the source first names them. All the room that a run takes is
     /// made here. The budget is the number of steps that one instant may take.
     ///
     /// Fails only where that room was not to be had; the program is dropped then.
     pub fn load(alloc: Global, checked: Checked<'a>, budget: u32) -> Result<Self, AllocError>
+        ensures made { IfOk result (IsMachineOf checked.entry.program budget) }
         ensures first { IfOk result (λ machine. world_held machine ≡ first_world (program_held machine)) }
-        ensures budget { IfOk result (λ machine. machine.budget ≡ budget) }
     {
         let program = numbered(alloc, checked.program())?;
         let store = Store::new(alloc, &program)?;

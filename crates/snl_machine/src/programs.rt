@@ -15,7 +15,8 @@ pub struct Numbered<'a> {
 
 impl<'a> Numbered<'a> {
     ghost use Rattle.std.specs.Prelude.{◌≡◌, map, [], slice_get, slice_index_or};
-    ghost use Rattle.snl_machine.specs.Lookup.{place_of, has_channel};
+    ghost use Rattle.snl_machine.specs.Lookup.{has_channel};
+    ghost use Rattle.snl_machine.specs.Names.{place_of};
     ghost use Rattle.snl_machine.specs.Turn.{state_name};
     ghost use Rattle.snl_machine.specs.Views.{program_of, seen_state, state_of};
 

@@ -1,7 +1,7 @@
 -- Laws of the fields of a text.
-use Rattle.std.proofs.Common.{◌≡◌, ℕ, zero, suc, ◌+◌, ◌<◌, ◌≤◌, ◌||◌, Bool, true, false, List, [], ◌∷◌, ◌++◌, Option, None, Some, length, take, drop, get_or, nat_eq, refl, sym, ap, ◌∙◌, subst, arith, drop-cons}
+use Rattle.std.proofs.Common.{◌≡◌, ℕ, zero, suc, ◌<◌, ◌≤◌, ◌||◌, true, false, List, [], ◌∷◌, ◌++◌, Option, None, Some, length, take, drop, get_or, nat_eq, refl, sym, ap, ◌∙◌, subst, arith, drop-cons}
 use Rattle.std.specs.Option.{unwrap_or}
-use Rattle.std.specs.List.{slice_split, All}
+use Rattle.std.specs.List.{All}
 use Rattle.std.proofs.lemmas.Bool.{false_from_ne_true, false≢true, ne_eqb}
 use Rattle.std.proofs.lemmas.List.{take-append-drop, get_or-take, get_or_default, length-take-le, take_all, drop_all}
 use Rattle.std.proofs.lemmas.List.Splits.{slice_split-cons_yes, slice_split_at, slice_split_none}

@@ -1,5 +1,5 @@
 -- Laws of lines.
-use Rattle.std.proofs.Common.{◌≡◌, ℕ, suc, ◌+◌, ◌-◌, ◌<◌, true, false, List, [], ◌∷◌, ◌++◌, Option, None, Some, length, take, drop, get_or, refl, sym, ap, ◌∙◌, arith, append_assoc}
+use Rattle.std.proofs.Common.{◌≡◌, ℕ, suc, ◌+◌, ◌-◌, ◌<◌, true, false, List, [], ◌∷◌, ◌++◌, Option, None, Some, length, take, drop, get_or, cond, refl, sym, ap, ◌∙◌, arith, append_assoc}
 use denote.Ref.{Bor}
 use lib.Dec.{eqb}
 use Rattle.std.specs.Cmp.Lexicographic.{pointwise}
@@ -8,7 +8,7 @@ use Rattle.std.proofs.lemmas.Bool.{ne_eqb}
 use Rattle.std.proofs.lemmas.Bool.Decides.{Decides-eqb}
 use Rattle.std.proofs.lemmas.Slice.Eq.{strip_suffix_is}
 use Rattle.std.proofs.lemmas.List.{append-nil}
-use Rattle.snl_trace.specs.Lines.{without_return, lines_from, last_line}
+use Rattle.snl_trace.specs.Lines.{without_return, lines_to}
 
 -- a carriage return at the end is dropped
 without_return-snoc : (front : List ℕ) → without_return (front ++ 13 ∷ []) ≡ front
@@ -31,28 +31,32 @@ without_return-stripped line None h = sym (without_return-other line.now (strip_
 without_return-stripped line (Some x) h = sym (ap without_return (strip_suffix_is Decides-eqb line.now (13 ∷ []) (Some x) h) ∙ without_return-snoc x.now)
 
 -- the line that has begun goes on up to the first newline
-pub lines_from-newline : (begun front rest : List ℕ) → ((j : ℕ) → j < length front → get_or front j 0 ≡ 10 → ⊥) → lines_from begun (front ++ 10 ∷ rest) ≡ (begun ++ front) ∷ lines_from [] rest
-unfolding lines_from
-lines_from-newline begun [] rest none = rw (append-nil begun) refl
-lines_from-newline begun (b ∷ bs) rest none =
+pub lines_to-newline : (last : List ℕ → List (List ℕ)) (begun front rest : List ℕ) → ((j : ℕ) → j < length front → get_or front j 0 ≡ 10 → ⊥) →
+    lines_to last begun (front ++ 10 ∷ rest) ≡ (begun ++ front) ∷ lines_to last [] rest
+unfolding lines_to
+lines_to-newline last begun [] rest none = rw (append-nil begun) refl
+lines_to-newline last begun (b ∷ bs) rest none =
     rw (ne_eqb b 10 (none 0 (omega arith)))
-    (lines_from-newline (begun ++ b ∷ []) bs rest (λ j below. none (suc j) (omega arith))
-    ∙ ap (λ z. z ∷ lines_from [] rest) (append_assoc begun (b ∷ []) bs))
+    (lines_to-newline last (begun ++ b ∷ []) bs rest (λ j below. none (suc j) (omega arith))
+    ∙ ap (λ z. z ∷ lines_to last [] rest) (append_assoc begun (b ∷ []) bs))
 
 -- and without one to the end
-pub lines_from-end : (begun left : List ℕ) → ((j : ℕ) → j < length left → get_or left j 0 ≡ 10 → ⊥) → lines_from begun left ≡ last_line (begun ++ left)
-unfolding lines_from
-lines_from-end begun [] none = rw (append-nil begun) refl
-lines_from-end begun (b ∷ bs) none =
+pub lines_to-end : (last : List ℕ → List (List ℕ)) (begun left : List ℕ) → ((j : ℕ) → j < length left → get_or left j 0 ≡ 10 → ⊥) →
+    lines_to last begun left ≡ last (begun ++ left)
+unfolding lines_to
+lines_to-end last begun [] none = rw (append-nil begun) refl
+lines_to-end last begun (b ∷ bs) none =
     rw (ne_eqb b 10 (none 0 (omega arith)))
-    (lines_from-end (begun ++ b ∷ []) bs (λ j below. none (suc j) (omega arith))
-    ∙ ap last_line (append_assoc begun (b ∷ []) bs))
+    (lines_to-end last (begun ++ b ∷ []) bs (λ j below. none (suc j) (omega arith))
+    ∙ ap last (append_assoc begun (b ∷ []) bs))
 
--- a text without a newline goes on the line that has begun
-pub lines_from-more : (begun left rest : List ℕ) → ((j : ℕ) → j < length left → get_or left j 0 ≡ 10 → ⊥) → lines_from begun (left ++ rest) ≡ lines_from (begun ++ left) rest
-unfolding lines_from
-lines_from-more begun [] rest none = ap (λ z. lines_from z rest) (sym (append-nil begun))
-lines_from-more begun (b ∷ bs) rest none =
-    rw (ne_eqb b 10 (none 0 (omega arith)))
-    (lines_from-more (begun ++ b ∷ []) bs rest (λ j below. none (suc j) (omega arith))
-    ∙ ap (λ z. lines_from z rest) (append_assoc begun (b ∷ []) bs))
+-- one text and then another
+pub lines_to-append : (last : List ℕ → List (List ℕ)) (begun front rest : List ℕ) →
+    lines_to last begun (front ++ rest) ≡ lines_to (λ line. lines_to last line rest) begun front
+unfolding lines_to
+lines_to-append last begun [] rest = refl
+lines_to-append last begun (b ∷ bs) rest =
+    elim (eqb b 10) as (λ t. cond t (begun ∷ lines_to last [] (bs ++ rest)) (lines_to last (begun ++ b ∷ []) (bs ++ rest)) ≡ cond t (begun ∷ lines_to (λ line. lines_to last line rest) [] bs) (lines_to (λ line. lines_to last line rest) (begun ++ b ∷ []) bs)) [
+      | true ↦ ap (λ z. begun ∷ z) (lines_to-append last [] bs rest)
+      | false ↦ lines_to-append last (begun ++ b ∷ []) bs rest
+    ]

@@ -1,42 +1,15 @@
--- What is read of a line follows from what it tells.
-use Rattle.std.proofs.Common.{◌≡◌, ℕ, true, List, Option, None, Some, Result, Ok, Err, ap, ◌∙◌}
+-- Laws of reading a line.
+use Rattle.std.proofs.Common.{◌≡◌, ℕ, Bool, List, Option, Some, Result, Ok, ℤ, ap, ◌∙◌}
 use Rattle.snl_machine.specs.declared.events.Event.{Event}
 use Rattle.snl_trace.specs.declared.trace_faults.TraceFault.{TraceFault}
-use Rattle.snl_trace.specs.Grammar.{Told, ◌>>=◌, told_of, event_of, event_at, read_of}
-use Rattle.snl_trace.specs.Told.{IsEventSomehow, IsReadSomehow}
+use Rattle.snl_trace.specs.Grammar.{Told, Val, ◌>>=◌, told_of, event_at, val_at, val_of, if_fits, read_of}
+use Rattle.snl_trace.specs.Told.{event_at_time}
 
--- a fault of the line
-pub read_fault : (last : ℕ) (line : List ℕ) (fault : TraceFault) → Err fault ≡ told_of last line → IsReadSomehow last line (Err fault)
-read_fault last line fault is = record {
-  number = None;
-  fits = true;
-  is = ap (λ (r : Result (Option (ℕ × Told)) TraceFault). r >>= event_at (λ _. None) (λ _. true)) is;
-}
-
--- no event
-pub read_nothing : (last : ℕ) (line : List ℕ) → Ok None ≡ told_of last line → IsReadSomehow last line (Ok None)
-read_nothing last line is = record {
-  number = None;
-  fits = true;
-  is = ap (λ (r : Result (Option (ℕ × Told)) TraceFault). r >>= event_at (λ _. None) (λ _. true)) is;
-}
-
--- an event that doesn't fit
-pub read_misfit : (last : ℕ) (line : List ℕ) (ms : ℕ) (what : Told) (fault : TraceFault) → Ok (Some (ms, what)) ≡ told_of last line → IsEventSomehow what (Err fault) → IsReadSomehow last line (Err fault)
-read_misfit last line ms what fault is made = record {
-  number = made.number;
-  fits = made.fits;
-  is =
-      ap (λ (r : Result Event TraceFault). r >>= λ event. Ok (Some (ms, event))) made.is
-      ∙ ap (λ (r : Result (Option (ℕ × Told)) TraceFault). r >>= event_at (λ _. made.number) (λ _. made.fits)) is;
-}
-
--- an event
-pub read_event : (last : ℕ) (line : List ℕ) (ms : ℕ) (what : Told) (event : Event) → Ok (Some (ms, what)) ≡ told_of last line → IsEventSomehow what (Ok event) → IsReadSomehow last line (Ok (Some (ms, event)))
-read_event last line ms what event is made = record {
-  number = made.number;
-  fits = made.fits;
-  is =
-      ap (λ (r : Result Event TraceFault). r >>= λ made. Ok (Some (ms, made))) made.is
-      ∙ ap (λ (r : Result (Option (ℕ × Told)) TraceFault). r >>= event_at (λ _. made.number) (λ _. made.fits)) is;
-}
+-- values of a channel that the machine has
+pub read-values : (channel : List ℕ → Option ℕ) (fits : Event → Bool) (last ms number : ℕ) (line name : List ℕ) (values : List ℤ) (read : Result (Option (ℕ × Event)) TraceFault) →
+    Ok (Some (ms, Val name values)) ≡ told_of last line → Some number ≡ channel name →
+    read ≡ event_at_time ms (if_fits (fits (val_of number values)) (val_of number values)) → read ≡ read_of channel fits last line
+read-values channel fits last ms number line name values read told named fit =
+    fit
+    ∙ ap (λ (o : Option ℕ). val_at fits o values >>= λ event. Ok (Some (ms, event))) named
+    ∙ ap (λ (r : Result (Option (ℕ × Told)) TraceFault). r >>= event_at channel fits) told

@@ -13,11 +13,6 @@ abbrev pub sink_failed : End → Bool
 sink_failed SinkFailed = true
 sink_failed _ = false
 
--- whether a run ends here by the source, if it ends here
-abbrev pub ends_by_source : Option End → Bool
-ends_by_source None = false
-ends_by_source (Some end) = source_failed end
-
 -- whether a run ends here by the sink, if it ends here
 abbrev pub ends_by_sink : Option End → Bool
 ends_by_sink None = false

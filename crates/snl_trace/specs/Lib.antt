@@ -3,5 +3,7 @@ pub mod Fields
 pub mod Grammar
 pub mod Lines
 pub mod Numbers
+pub mod Run
 pub mod Sources
 pub mod Told
+pub mod Took

@@ -1,15 +1,25 @@
 -- The lines of a trace.
 use Rattle.std.specs.Prelude.{◌==◌, ℕ, List, [], ◌∷◌, ◌++◌, if◌then◌else◌}
 
--- what a text without a newline at its end has as its last line: nothing, if nothing stands there
+-- the lines of a text that goes on from a line that has begun, where `last` says what becomes of the
+-- bytes behind the last newline
+unfoldable pub lines_to : (List ℕ → List (List ℕ)) → List ℕ → List ℕ → List (List ℕ)
+lines_to last begun [] = last begun
+lines_to last begun (byte ∷ bytes) =
+    if byte == 10 then begun ∷ lines_to last [] bytes else lines_to last (begun ++ byte ∷ []) bytes
+
+-- a last line that no newline ends is one, if anything stands there
 abbrev pub last_line : List ℕ → List (List ℕ)
 last_line [] = []
 last_line (byte ∷ bytes) = (byte ∷ bytes) ∷ []
 
--- the lines of a text that goes on from a line that has begun
-unfoldable pub lines_from : List ℕ → List ℕ → List (List ℕ)
-lines_from begun [] = last_line begun
-lines_from begun (byte ∷ bytes) = if byte == 10 then begun ∷ lines_from [] bytes else lines_from (begun ++ byte ∷ []) bytes
+-- all lines
+abbrev pub lines_from : List ℕ → List ℕ → List (List ℕ)
+lines_from begun bytes = lines_to last_line begun bytes
+
+-- those lines that a newline ends
+abbrev pub whole_lines : List ℕ → List (List ℕ)
+whole_lines bytes = lines_to (λ _. []) [] bytes
 
 -- a line without the one carriage return that may end it
 unfoldable pub without_return : List ℕ → List ℕ

@@ -1,13 +1,14 @@
 -- What the functions of the crate return, in the words of the grammar.
-use Rattle.std.specs.Prelude.{◌≡◌, ℕ, List, Option, option_map, Result, Ok, Err, ℤ, Bool}
+use Rattle.std.specs.Prelude.{ℕ, List, Option, Some, option_map, Result, Ok, Err, ℤ}
 use denote.Ref.{Bor}
 use Rattle.snl_machine.specs.declared.events.Event.{Event}
+use Rattle.snl_machine.specs.declared.events.Event.TheVariants as events
 use Rattle.snl_trace.specs.declared.trace_faults.TraceFault.{TraceFault}
 use Rattle.snl_trace.specs.declared.words.Telling.{Telling}
 use Rattle.snl_trace.specs.declared.words.Telling.TheVariants as telling
 use Rattle.snl_trace.specs.Fields.{fields}
 use Rattle.snl_trace.specs.Grammar as grammar
-use Rattle.snl_trace.specs.Grammar.{Told, event_of, read_of}
+use Rattle.snl_trace.specs.Grammar.{Told, ◌>>=◌}
 
 -- what is told, with the values that stand apart
 abbrev pub told : List ℤ → Telling → Told
@@ -28,14 +29,17 @@ time_seen time = (time.0, fields time.1.now)
 abbrev pub told_seen : List ℤ → Option (ℕ × Telling) → Option (ℕ × Told)
 told_seen values heard = option_map (λ at. (at.0, told values at.1)) heard
 
--- some number for the name of the channel, and some answer whether the event fits, make this of what is told
-pub record IsEventSomehow (what : Told) (result : Result Event TraceFault) : Type 0 where
-  pub number : Option ℕ
-  pub fits : Bool
-  pub is : result ≡ event_of (λ _. number) (λ _. fits) what
+-- the time of an event that stands apart, if there is one
+abbrev pub event_seen : Event → Option ℕ → Option (ℕ × Event)
+event_seen event time = option_map (λ ms. (ms, event)) time
 
--- a machine with some number for the name, and some answer whether it takes the event, is told this
-pub record IsReadSomehow (last : ℕ) (line : List ℕ) (result : Result (Option (ℕ × Event)) TraceFault) : Type 0 where
-  pub number : Option ℕ
-  pub fits : Bool
-  pub is : result ≡ read_of (λ _. number) (λ _. fits) last line
+-- the time and an event, if it is one
+abbrev pub event_at_time : ℕ → Result Event TraceFault → Result (Option (ℕ × Event)) TraceFault
+event_at_time ms made = made >>= λ event. Ok (Some (ms, event))
+
+-- whether an event has room for values
+abbrev pub HasRoom : Event → Type 0
+HasRoom (events.Val channel values) = Unit {0}
+HasRoom (events.Up channel) = ⊥
+HasRoom events.Tick = ⊥
+HasRoom events.Other = ⊥

@@ -1,9 +1,9 @@
-ghost use Rattle.std.specs.Prelude.{◌≡◌, Bool};
+ghost use Rattle.std.specs.Prelude.{◌≡◌};
+ghost use Rattle.snl_machine.specs.Lookup.{channel_of, fits_of};
 ghost use Rattle.snl_trace.specs.Fields.{fields};
 ghost use Rattle.snl_trace.specs.Grammar as grammar;
-ghost use Rattle.snl_trace.specs.Grammar.{told_of, if_fits};
-ghost use Rattle.snl_trace.specs.Told as spec;
-ghost use Rattle.snl_trace.specs.Told.{seen, time_seen, told_seen, IsReadSomehow, IsEventSomehow};
+ghost use Rattle.snl_trace.specs.Grammar.{told_of, read_of, if_fits, up_at};
+ghost use Rattle.snl_trace.specs.Told.{seen, time_seen, told_seen, event_seen, event_at_time, HasRoom};
 
 use crate::fields::{first_field, is_ascii_text, is_silent};
 use crate::lines::without_return;
@@ -16,18 +16,64 @@ use snl_machine::{Event, Machine};
 /// comment and a blank line; else what is wrong with it.
 ///
 /// `last_ms` is the time of the last event. Of the values of a line the first 1,024 are kept.
-#[tactic(auto, using(crate::proofs::ReadLaws::read_fault, crate::proofs::ReadLaws::read_nothing, crate::proofs::ReadLaws::read_misfit, crate::proofs::ReadLaws::read_event))]
 pub fn read_line(
     line: &[u8],
     machine: &Machine,
     last_ms: u64,
 ) -> Result<Option<(u64, Event)>, TraceFault>
-    ensures { IsReadSomehow last_ms line.now result }
+    ensures { result ≡ read_of (channel_of machine.now) (fits_of machine.now) last_ms line.now }
 {
-    let mut values = Values::new();
-    match told(line, last_ms, &mut values)? {
+    let mut event = Event::Tick;
+    match read_event(line, machine, last_ms, &mut event)? {
         None => Ok(None),
-        Some((ms, telling)) => Ok(Some((ms, event(telling, values, machine)?))),
+        Some(ms) => Ok(Some((ms, event))),
+    }
+}
+
+/// The same, with the event put in the place of another one; the answer is its time. So one room serves
+/// the values of all lines.
+pub fn read_event(
+    line: &[u8],
+    machine: &Machine,
+    last_ms: u64,
+    event: &mut Event,
+) -> Result<Option<u64>, TraceFault>
+    ensures { seen (event_seen event.new) result ≡ read_of (channel_of machine.now) (fits_of machine.now) last_ms line.now }
+{
+    make_room(event);
+    match event {
+        Event::Val(channel, values) => match told(line, last_ms, values)? {
+            None => Ok(None),
+            Some((ms, Telling::Val(name))) => match machine.channel(name) {
+                Some(number) => {
+                    *channel = number;
+                    fitting(ms, event, machine)
+                }
+                None => {
+                    *event = Event::Other;
+                    Ok(Some(ms))
+                }
+            },
+            Some((ms, Telling::Up(name))) => {
+                *event = up(name, machine);
+                Ok(Some(ms))
+            }
+            Some((ms, Telling::Tick)) => {
+                *event = Event::Tick;
+                Ok(Some(ms))
+            }
+        },
+        _ => Ok(None),
+    }
+}
+
+/// Makes an event one with room for values, if it is none.
+fn make_room(event: &mut Event)
+    ensures { HasRoom event.new }
+{
+    match event {
+        Event::Val(_, _) => {}
+        _ => *event = Event::Val(0, Values::new()),
     }
 }
 
@@ -68,30 +114,22 @@ fn timed(line: &[u8], last_ms: u64) -> Result<(u64, &[u8]), TraceFault>
     Ok((ms, rest))
 }
 
-/// The event of what is told, for a machine.
-fn event(telling: Telling, values: Values, machine: &Machine) -> Result<Event, TraceFault>
-    ensures { IsEventSomehow (spec.told values.items telling.entry) result }
+/// The event of a channel that is up.
+fn up(name: &[u8], machine: &Machine) -> Event
+    ensures { result ≡ up_at (channel_of machine.now name.now) }
 {
-    match telling {
-        Telling::Tick => Ok(Event::Tick),
-        Telling::Up(name) => Ok(
-            machine
-                .channel(name)
-                .map_or(Event::Other, |channel| Event::Up(channel)),
-        ),
-        Telling::Val(name) => match machine.channel(name) {
-            None => Ok(Event::Other),
-            Some(channel) => fitting(Event::Val(channel, values), machine),
-        },
+    match machine.channel(name) {
+        Some(channel) => Event::Up(channel),
+        None => Event::Other,
     }
 }
 
-/// An event that fits a machine.
-fn fitting(event: Event, machine: &Machine) -> Result<Event, TraceFault>
-    ensures { (fits : Bool) × (result ≡ if_fits fits event) }
+/// The time of an event that fits a machine.
+fn fitting(ms: u64, event: &Event, machine: &Machine) -> Result<Option<u64>, TraceFault>
+    ensures { seen (event_seen event.now) result ≡ event_at_time ms (if_fits (fits_of machine.now event.now) event.now) }
 {
-    if machine.fits(&event) {
-        Ok(event)
+    if machine.fits(event) {
+        Ok(Some(ms))
     } else {
         Err(TraceFault::OutOfRange)
     }

@@ -7,12 +7,12 @@ pub struct SourceFault;
 
 /// Where a trace comes from.
 ///
-/// A source may tell the bytes that it still has (one over a real stream tells nothing), and counts
-/// its failures.
+/// A source may tell the bytes that it still has, fewer than 2^63 (one over a real stream tells
+/// nothing), and counts its failures.
 pub trait Source {
     ghost use Rattle.std.specs.Prelude.{◌≡◌, ◌+◌, ◌-◌, ◌^◌, ◌<◌, ◌≤◌, ℕ, List, Option, IfOk, OnErr, length, is_err};
     ghost use Rattle.snl_machine.specs.Devices.{counted};
-    ghost use Rattle.snl_trace.specs.Sources.{IsGiven};
+    ghost use Rattle.snl_trace.specs.Sources.{IsGiven, IsShort};
 
     ghost rest: { Self → Option (List ℕ) };
 
@@ -24,6 +24,7 @@ pub trait Source {
         requires { failures self.old < 2 ^ 64 - 1 }
         ensures count { IfOk result (λ n. n ≤ length room.old) }
         ensures given { IfOk result (λ n. IsGiven (rest self.old) n room.new (rest self.new)) }
+        ensures short { IsShort (rest self.old) }
         ensures ungiven { OnErr result (rest self.new ≡ rest self.old) }
         ensures failures { failures self.new ≡ counted (is_err result) (failures self.old) };
 }

@@ -1,6 +1,6 @@
-//! The expressions of the whole language: the definitions of which tokens spell which tree, functions that
-//! read their parts, and the laws that each list of tokens spells at most one expression and otherwise has
-//! a first token with which none goes on.
+//! The expressions of the whole language: the definitions of which tokens spell which tree, the parser that
+//! finds the tree or the first token with which none goes on, and the laws that each list of tokens spells
+//! at most one expression and otherwise has such a token.
 //!
 //! The program parser above still has its own, smaller expressions.
 

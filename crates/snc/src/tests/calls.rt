@@ -17,7 +17,11 @@ fn lead_from_bytes_to_a_run(rt: HostRuntime) -> Result<(), Fail> {
     let second = lexed.tokens.get(1).ok_or("no second token")?;
     assert!(rt; second.kind == Kind::Name && second.text == b"p".as_slice());
     assert!(rt; second.pos.offset == 8 && second.pos.file == 0 && second.pos.line == 1);
-    let outcome = check(rt.alloc(), parse(rt.alloc(), &lexed)?)?;
+    let outcome = check(
+        rt.alloc(),
+        parse(rt.alloc(), &lexed)?,
+        lexed.embedded.as_slice(),
+    )?;
     assert_eq!(rt; outcome.messages.len(), 1);
     let message = outcome.messages.get(0).ok_or("no message")?;
     assert!(rt; message.severity == Severity::Warning && message.number == 7);
@@ -92,9 +96,13 @@ const BAD_LINES: [(&[u8], TraceFault); 24] = [
 #[test]
 fn read_each_line_or_name_its_fault(rt: HostRuntime) -> Result<(), Fail> {
     let lexed = lex(rt.alloc(), PROGRAM)?;
-    let checked = check(rt.alloc(), parse(rt.alloc(), &lexed)?)?
-        .checked
-        .ok_or("not accepted")?;
+    let checked = check(
+        rt.alloc(),
+        parse(rt.alloc(), &lexed)?,
+        lexed.embedded.as_slice(),
+    )?
+    .checked
+    .ok_or("not accepted")?;
     let machine = Machine::load(rt.alloc(), checked, 10)?;
     for (line, fault) in &BAD_LINES {
         assert_eq!(rt; read_line(line, &machine, 5).err(), Some(*fault));
@@ -121,9 +129,13 @@ fn read_each_line_or_name_its_fault(rt: HostRuntime) -> Result<(), Fail> {
 #[test]
 fn read_lines_up_to_their_limit(rt: HostRuntime) -> Result<(), Fail> {
     let lexed = lex(rt.alloc(), PROGRAM)?;
-    let checked = check(rt.alloc(), parse(rt.alloc(), &lexed)?)?
-        .checked
-        .ok_or("not accepted")?;
+    let checked = check(
+        rt.alloc(),
+        parse(rt.alloc(), &lexed)?,
+        lexed.embedded.as_slice(),
+    )?
+    .checked
+    .ok_or("not accepted")?;
     let machine = Machine::load(rt.alloc(), checked, 10)?;
     let mut line = vec![in rt.alloc(); b' '; 32_768]?;
     assert!(rt; matches!(read_line(line.as_slice(), &machine, 5), Ok(None)));

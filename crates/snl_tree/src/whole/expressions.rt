@@ -46,7 +46,7 @@ fn stepped<'t, 'a>(alloc: Global, primary: Expr<'a>, rest: Rest<'t, 'a>) -> Read
 
 /// Reads what holds together so tightly, from [`UNARY`] to [`COMMA`]: a whole expression is the last.
 #[cycle(reading)]
-#[tactic(auto, using(crate::proofs::Rows::level_alone, crate::proofs::Rows::level_chained, crate::proofs::Forms::level_form, crate::proofs::Forms::level_assignment, crate::proofs::Forms::level_conditional, crate::proofs::Forms::level_unary))]
+#[tactic(auto, using(crate::proofs::Forms::level_form, crate::proofs::Forms::level_assignment, crate::proofs::Forms::level_conditional, crate::proofs::Forms::level_unary))]
 pub fn level<'t, 'a>(
     alloc: Global,
     rest: Rest<'t, 'a>,
@@ -77,7 +77,7 @@ pub fn level<'t, 'a>(
 
 /// Reads the operators of one level, each with the operand behind it.
 #[cycle(reading)]
-#[tactic(auto, using(crate::proofs::Loops::found_first, crate::proofs::Loops::found_more, crate::proofs::Loops::found_all, crate::proofs::Loops::found_fail, crate::proofs::Loops::term_less))]
+#[tactic(auto, using(crate::proofs::Loops::found_first, crate::proofs::Loops::term_less))]
 fn terms<'t, 'a>(
     alloc: Global,
     rest: Rest<'t, 'a>,
@@ -119,7 +119,7 @@ fn term<'t, 'a>(
 
 /// Reads an assignment, or what may stand in its place.
 #[cycle(reading)]
-#[tactic(auto, using(crate::proofs::Rows::assignment_made, crate::proofs::Forms::assignment_form), unfolding(crate::specs::Reading::assigned_rest))]
+#[tactic(auto, using(crate::proofs::Forms::assignment_form), unfolding(crate::specs::Reading::assigned_rest))]
 fn assignment<'t, 'a>(alloc: Global, rest: Rest<'t, 'a>, depth: usize) -> Read<'t, 'a, Expr<'a>>
     ensures { Gives view result (specs.assignment_at (specs.inside depth) rest.entry.left.now) }
 {
@@ -244,7 +244,7 @@ fn arguments<'t, 'a>(
 
 /// Reads commas and the arguments behind them.
 #[cycle(reading)]
-#[tactic(auto, using(crate::proofs::Loops::after_more, crate::proofs::Loops::after_all, crate::proofs::Loops::after_fail, crate::proofs::Loops::after_stuck, crate::proofs::Loops::argument_less))]
+#[tactic(auto, using(crate::proofs::Loops::after_more, crate::proofs::Loops::after_all, crate::proofs::Loops::after_stuck, crate::proofs::Loops::argument_less))]
 fn more_arguments<'t, 'a>(
     alloc: Global,
     before: Vec<Argument<'a>>,

@@ -57,6 +57,3 @@ fn parse_within<'a>(
         Err(Stop::Memory) => Err(ParseFault::Memory),
     }
 }
-
-#[cfg(test)]
-mod tests;

@@ -1,13 +1,9 @@
-use Rattle.std.proofs.Common.{◌≡◌, ◌∙◌, ℕ, true, List, ap, Err, sym, subst, if◌then◌else◌}
+use Rattle.std.proofs.Common.{◌≡◌, ◌∙◌, true, ap, Err, sym, subst}
 use Rattle.std.specs.List.{list_all}
-use Rattle.snl_machine.specs.declared.events.Live.{Live}
-use Rattle.snl_machine.specs.declared.events.Live.TheVariants.{Waiting}
-use Rattle.snl_machine.specs.declared.programs.Link.{Link}
 use Rattle.snl_machine.specs.Does.{Does}
-use Rattle.snl_machine.specs.Instant.{is_link_ready, is_ready, started, all_rounds, instant_by, instant_of}
-use Rattle.snl_machine.specs.Ran.{Ran, Gives, then_do}
+use Rattle.snl_machine.specs.Instant.{is_link_ready, is_ready, started, all_rounds}
+use Rattle.snl_machine.specs.Ran.{Ran}
 use Rattle.snl_machine.specs.Views.{program_of, world_of}
-use Rattle.snl_machine.specs.World.{World}
 use Rattle.snl_machine.proofs.Starting.{instant-starts}
 use Rattle.snl_machine.proofs.Steps.{does-then, stopped-then}
 use Rattle.snl_machine.proofs.instants.instant.Goals as goal

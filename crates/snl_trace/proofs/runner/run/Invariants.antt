@@ -1,9 +1,17 @@
-use Rattle.std.proofs.Common.{◌≡◌, ◌+◌, ◌*◌, ◌≤◌}
+use Rattle.std.proofs.Common.{◌≡◌, ◌+◌, ◌*◌, ◌≤◌, [], length}
+use Rattle.snl_trace.specs.Run.{rules_of}
+use Rattle.snl_trace.specs.Took.{standing}
+use Rattle.snl_trace.proofs.SourceLaws.{IsUnderWay}
 use Rattle.snl_trace.proofs.runner.run.Given as goal
 
--- no more lines have ended than bytes were read
+-- the bytes that were read were taken in, and no more lines have ended than that
 abbrev pub invariant-loop-reads : goal.invariant-loop-reads
 invariant-loop-reads g l = record {
+  way : IsUnderWay (rules_of l.initial.machine) (g.R.Source.rest l.initial.source) (g.R.Source.rest l.source) l._reads
+      (standing [] 1 l.initial.machine (g.S.Sink.told l.initial.sink))
+      (standing l.line.items l.number l.machine (g.S.Sink.told l.sink));
+  rules : rules_of l.machine ≡ rules_of l.initial.machine;
+  room : length l.room ≡ 65536;
   lines : l.number ≤ 1 + l._reads * 65536;
   source_works : g.R.Source.failures l.source ≡ g.R.Source.failures l.initial.source;
   sink_works : g.S.Sink.failures l.sink ≡ g.S.Sink.failures l.initial.sink;

@@ -1,4 +1,4 @@
-use Rattle.std.proofs.Common.{◌≡◌, rules, ap, ◌∙◌, false, pos, length, replicate, vec_len}
+use Rattle.std.proofs.Common.{◌≡◌, rules, ap, ◌∙◌, false, pos, length, replicate}
 use Rattle.snl_machine.proofs.Opening.{opening}
 use Rattle.snl_machine.proofs.stores.Store.new.Goals as goal
 

@@ -1,18 +1,16 @@
-use Rattle.std.proofs.Common.{rules, arith, ◌≡◌, ◌≤◌, ◌-◌, ℕ, ◌∷◌, ◌++◌, [], length, Bool, true, false, nat_eq, List, Ok, Err, vec_len, Vec, Global, sym, ap, ◌∙◌, subst}
+use Rattle.std.proofs.Common.{arith, ◌≡◌, ◌≤◌, ◌-◌, ℕ, true, List, Ok, sym, ap, subst}
 use Rattle.std.proofs.lemmas.Result.{err_from_is_err_and}
 use Rattle.snl_text.specs.declared.tokens.Token.{Token}
 use Rattle.snl_text.specs.declared.kinds.Kind.TheVariants.{Comma}
 use Rattle.snl_tree.specs.declared.whole.place.Stop.{Stop}
-use Rattle.snl_tree.specs.declared.whole.place.Stop.TheVariants as Stop
 use Rattle.snl_tree.specs.declared.whole.expr.Argument.{Argument}
 use Rattle.snl_tree.specs.declared.whole.expr.Term.{Term}
 use Rattle.snl_tree.specs.Kinds.{is}
 use Rattle.snl_tree.specs.Readers as reading
 use Rattle.snl_tree.specs.Readers.{starts, one, sign}
-use Rattle.snl_tree.specs.Reading as specs
-use Rattle.snl_tree.specs.Reading.{inside, readers, level_at, terms_at, term_at, argument_at, more_after, is_operator, is_unary, opened, conditional_at, assignment_at}
-use Rattle.snl_tree.specs.Results.{Gives, Fails}
-use Rattle.snl_tree.specs.View.{view, pair_of, pairs, argument_of, arguments_of, list_before}
+use Rattle.snl_tree.specs.Reading.{inside, readers, level_at, terms_at, term_at, argument_at, more_after, is_operator}
+use Rattle.snl_tree.specs.Results.{Fails}
+use Rattle.snl_tree.specs.View.{view, list_before}
 use Rattle.snl_tree.proofs.Rows.{assignment_made, level_alone, level_chained}
 use Rattle.snl_tree.proofs.Loops.{Found, found_more, found_all, found_fail, after_fail}
 use Rattle.snl_tree.proofs.whole.expressions.+reading.Goals as goal

@@ -1,4 +1,4 @@
-use Rattle.std.proofs.Common.{◌≡◌, ℕ, ◌+◌, ◌*◌, ◌-◌, ◌≤◌, ◌++◌, Ok, map, length}
+use Rattle.std.proofs.Common.{◌≡◌, ◌+◌, ◌*◌, ◌-◌, ◌++◌, Ok, map, length}
 use Rattle.snl_tree.specs.Readers.{◌>>=◌}
 use Rattle.snl_tree.specs.Reading.{inside, readers, level_at, terms_at, more_after}
 use Rattle.snl_tree.specs.View.{pair_of, list_before}

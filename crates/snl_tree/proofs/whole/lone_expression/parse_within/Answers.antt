@@ -1,4 +1,4 @@
-use Rattle.std.proofs.Common.{◌≡◌, ℕ, ◌-◌, List, length, subst, sym, Err}
+use Rattle.std.proofs.Common.{◌≡◌, ℕ, ◌-◌, length, subst, sym}
 use Rattle.snl_tree.specs.Begins.{IsUnexpected, IsTooDeep}
 use Rattle.snl_tree.specs.Parsing.{expressions}
 use Rattle.snl_tree.specs.View.{view}

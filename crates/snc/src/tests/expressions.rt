@@ -1,7 +1,9 @@
-use super::*;
-use crate::whole::{Argument, Term};
-use snl_text::lex;
-use std::test::*;
+//! Expressions of the whole language, from their bytes to their trees or their faults.
+
+use snl_text::{Token, lex};
+use snl_tree::whole::{Argument, Expr, NESTING_LIMIT, ParseFault, Term, parse_expression};
+use std::alloc::Global;
+use std::test::Fail;
 
 fn text<'a>(token: &Token<'a>) -> Result<&'a str, Fail> {
     Ok(std::str::from_utf8(token.text)?)

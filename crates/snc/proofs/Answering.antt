@@ -1,0 +1,199 @@
+-- What the steps answer is what the source means.
+use Rattle.std.proofs.Common.{◌≡◌, ◌<◌, ◌≤◌, ◌↔◌, inl, inr, ℕ, List, [], ◌∷◌, Option, None, Some, IsSome, IfSome, is_some, if◌then◌else◌, Contains, Result, Ok, Err, length, take, slice_get, refl, sym, ap, subst, ◌∙◌, arith}
+use Rattle.std.specs.Option.{option_map}
+use Rattle.std.proofs.lemmas.Bool.{false≢true}
+use Rattle.std.proofs.lemmas.List.Elements.{Contains-push}
+use Rattle.snl_text.specs.declared.faults.LexFault.{LexFault}
+use Rattle.snl_text.specs.declared.tokens.Lexed.{Lexed}
+use Rattle.snl_text.specs.declared.tokens.Pos.{Pos}
+use Rattle.snl_text.specs.declared.tokens.Token.{Token}
+use Rattle.snl_text.specs.declared.faults.LexFault.TheVariants.{SourceTooLong}
+use Rattle.snl_text.specs.declared.pieces.Piece.{Piece}
+use Rattle.snl_text.specs.Cut.{Cuts, Reading, nothing_read, start}
+use Rattle.snl_text.specs.Faults.{fault_pos, fault_text}
+use Rattle.snl_text.specs.Lexing.{FaultHolds, GivesOnly, IsLexed}
+use Rattle.snl_check.specs.declared.messages.Severity.TheVariants.{Error}
+use Rattle.snl_tree.specs.declared.trees.Program.{Program}
+use Rattle.snl_check.specs.declared.checked.Checked.{Checked}
+use Rattle.snl_check.specs.Messages.{Said, IsInOrder}
+use Rattle.snl_check.specs.Rules.{IsSaid, IsAccepted}
+use Rattle.snl_machine.specs.declared.machine.Machine.{Machine}
+use Rattle.snl_machine.specs.First.{first_world}
+use Rattle.snl_machine.specs.Held.{IsMachineOf, program_held, world_held}
+use Rattle.snl_machine.specs.Numbering.{numbered}
+use Rattle.snl_machine.specs.Program.{Program as Numbered}
+use Rattle.snl_machine.specs.World.{World}
+use Rattle.snl_trace.specs.Run.{rules_by, rules_of}
+use Rattle.snl_trace.specs.Took.{RunsOver, standing}
+use Rattle.snl_trace.specs.declared.runner.End.{End}
+use Rattle.snc.specs.declared.jobs.Status.TheVariants.{Well, SourceErrors}
+use Rattle.snc.specs.Judging.{AreNamesOf, HasFault, HasTokens, IsJudged, NoErrors, error_at, names_of, syntax_error}
+use Rattle.snc.specs.Outcomes.{IsReport, IsRunOf, IsSession, at_first, status_of}
+use Rattle.snc.specs.Texts.{text_of}
+use Rattle.snc.specs.Told.{AreTokensTold, IsFaultTold, IsProgramTold}
+
+-- an error alone
+lone_error : (messages : List Said) (pos : Pos) (number : ℕ) (text : List ℕ) → messages ≡ error_at pos number text ∷ [] → NoErrors messages → ⊥
+lone_error messages pos number text is none =
+    none (error_at pos number text) (subst (λ l. Contains l (error_at pos number text)) (sym is) (Contains-push [] (error_at pos number text))) refl
+
+abbrev pub tree_of : Option Checked → Option Program
+tree_of checked = option_map (λ c. c.program) checked
+
+same_err : (a b : LexFault) → ◌≡◌ {A = Result Lexed LexFault} (Err a) (Err b) → a ≡ b
+same_err a b e = cc
+
+ok_err : (a : Lexed) (b : LexFault) → ◌≡◌ {A = Result Lexed LexFault} (Ok a) (Err b) → ⊥
+ok_err a b e = cc
+
+-- what `lex` answers
+pub has_fault : (source : List ℕ) (fault : LexFault) → FaultHolds source fault → (1048576 < length source → ◌≡◌ {A = Result Lexed LexFault} (Err fault) (Err (SourceTooLong start))) → HasFault source fault
+has_fault source fault holds long = record { holds = holds; long = λ h. same_err fault (SourceTooLong start) (long h) }
+
+pub has_tokens : (source : List ℕ) (lexed : Lexed) → IsLexed source lexed → (1048576 < length source → ◌≡◌ {A = Result Lexed LexFault} (Ok lexed) (Err (SourceTooLong start))) → HasTokens source lexed
+has_tokens source lexed is long =
+    let within : 1048576 < length source → ⊥ = λ h. ok_err lexed (SourceTooLong start) (long h) in
+    record { within = omega (arith, within); is = is }
+
+-- the names in a text that was cut
+pub names_cut : (text : List ℕ) (lexed : Lexed) → IsLexed text lexed → ((pieces : List Piece) (end : Reading) → length text ≤ 1048576 → Cuts nothing_read text pieces end [] → GivesOnly end (Ok lexed)) → AreNamesOf text (names_of lexed)
+names_cut text lexed w whole = record {
+  cut = λ end within is. (whole is.pieces end within is.cut).files;
+  none = λ never. absurd (never w.end w.cut);
+}
+
+-- the text of the message about a fault
+pub fault_told : (word source text front words told : List ℕ) (fault : LexFault) (pos : Pos) (names listed : List (List ℕ)) → fault_pos fault ≡ Some pos → fault_text fault ≡ Some words
+    → front ≡ take pos.offset source → AreNamesOf front names → listed ≡ names → told ≡ words → text ≡ text_of word listed (error_at pos 3 told ∷ []) → IsFaultTold word source fault text
+fault_told word source text front words told fault pos names listed at says is given same_names same_words text_is = record {
+  names = names;
+  messages = error_at pos 3 words ∷ [];
+  said = record { pos = pos; words = words; at = at; says = says; given = subst (λ l. AreNamesOf l names) is given; messages_are = refl };
+  text_is = text_is ∙ (λ i. text_of word (same_names i) (error_at pos 3 (same_words i) ∷ []));
+}
+
+-- a source without tokens
+pub judged_fault : (word source text : List ℕ) (fault : LexFault) (checked : Option Checked) → HasFault source fault → IsFaultTold word source fault text → checked ≡ None → IsJudged word source text (tree_of checked)
+judged_fault word source text fault checked has w none = subst (λ o. IsJudged word source text (tree_of o)) (sym none) record {
+  names = w.names;
+  messages = w.messages;
+  tree = None;
+  finds = inl record { fault = fault; has = has; said = w.said; tree_is = refl };
+  text_is = w.text_is;
+  accepted = (λ h. absurd (false≢true h), λ h. absurd (lone_error w.messages w.said.pos 3 w.said.words w.said.messages_are h));
+  same = tt;
+}
+
+-- a source with tokens
+pub judged_tokens : (word source text : List ℕ) (lexed : Lexed) (checked : Option Program) → HasTokens source lexed → AreTokensTold word lexed text checked → IsJudged word source text checked
+judged_tokens word source text lexed checked has w = record {
+  names = names_of lexed;
+  messages = w.messages;
+  tree = w.tree;
+  finds = inr record { lexed = lexed; has = has; names_are = refl; said = w.said };
+  text_is = w.text_is;
+  accepted = w.accepted;
+  same = w.same;
+}
+
+is_error : (lexed : Lexed) (o : Option Token) → (syntax_error lexed o).severity ≡ Error
+is_error lexed None = refl
+is_error lexed (Some t) = refl
+
+lone_syntax_error : (messages : List Said) (lexed : Lexed) (o : Option Token) → messages ≡ syntax_error lexed o ∷ [] → NoErrors messages → ⊥
+lone_syntax_error messages lexed o is none =
+    none (syntax_error lexed o) (subst (λ l. Contains l (syntax_error lexed o)) (sym is) (Contains-push [] (syntax_error lexed o))) (is_error lexed o)
+
+-- tokens that are no program
+pub told_stuck : (word text : List ℕ) (names : List (List ℕ)) (lexed : Lexed) (k : ℕ) (checked : Option Checked) → names ≡ names_of lexed
+    → text ≡ text_of word names (syntax_error lexed (slice_get lexed.tokens.items k) ∷ []) → checked ≡ None → AreTokensTold word lexed text (tree_of checked)
+told_stuck word text names lexed k checked named is none = subst (λ o. AreTokensTold word lexed text (tree_of o)) (sym none) record {
+  messages = syntax_error lexed (slice_get lexed.tokens.items k) ∷ [];
+  tree = None;
+  said = record { k = k; read = tt; messages_are = refl };
+  text_is = is ∙ ap (λ n. text_of word n (syntax_error lexed (slice_get lexed.tokens.items k) ∷ [])) named;
+  accepted = (λ h. absurd (false≢true h), λ h. absurd (lone_syntax_error _ lexed (slice_get lexed.tokens.items k) refl h));
+  same = tt;
+}
+
+some_tree : (o : Option Program) (p : Program) → IfSome o (λ q. q ≡ p) → IfSome o (λ q. Some p ≡ Some q)
+some_tree None p h = tt
+some_tree (Some q) p h = ap Some (sym h)
+
+-- tokens that are a program
+pub told_program : (word text : List ℕ) (names : List (List ℕ)) (lexed : Lexed) (p : Program) (embedded : List Pos) (checked : Option Program) → names ≡ names_of lexed → embedded ≡ lexed.embedded.items
+    → IsProgramTold word names p embedded text checked → AreTokensTold word lexed text checked
+told_program word text names lexed p embedded checked named pieces w = record {
+  messages = w.messages;
+  tree = Some p;
+  said = record { read = tt; exactly = subst (λ e. (m : Said) → Contains w.messages m ↔ IsSaid p e m) pieces w.exactly; in_order = w.in_order };
+  text_is = w.text_is ∙ ap (λ n. text_of word n w.messages) named;
+  accepted = w.accepted;
+  same = some_tree checked p w.same;
+}
+
+is_some_tree : (o : Option Checked) → IsSome (tree_of o) ↔ IsSome o
+is_some_tree None = (λ h. h, λ h. h)
+is_some_tree (Some c) = (λ h. h, λ h. h)
+
+if_some_tree : (o : Option Checked) (p : Program) → IfSome o (λ c. c.program ≡ p) → IfSome (tree_of o) (λ q. q ≡ p)
+if_some_tree None p h = tt
+if_some_tree (Some c) p h = h
+
+-- what is said of a program, by the messages of its check
+pub told_checked : (word text : List ℕ) (names : List (List ℕ)) (p : Program) (embedded : List Pos) (messages : List Said) (checked : Option Checked)
+    → ((m : Said) → Contains messages m ↔ IsSaid p embedded m) → IsInOrder messages → (IsSome checked ↔ IsAccepted p embedded) → IfSome checked (λ c. c.program ≡ p)
+    → text ≡ text_of word names messages → IsProgramTold word names p embedded text (tree_of checked)
+told_checked word text names p embedded messages checked exactly in_order accepted same is =
+    let some = is_some_tree checked in
+    record {
+      messages = messages;
+      exactly = exactly;
+      in_order = in_order;
+      text_is = is;
+      accepted = (λ h m k. accepted.0 (some.0 h) m ((exactly m).0 k), λ none. some.1 (accepted.1 (λ m said. none m ((exactly m).1 said))));
+      same = if_some_tree checked p same;
+    }
+
+-- what `report` answers
+pub reported : (word source text : List ℕ) (checked : Option Checked) → IsJudged word source text (tree_of checked) → IsReport word source text (if is_some checked then Well else SourceErrors)
+reported word source text None w = record { names = w.names; messages = w.messages; tree = w.tree; finds = w.finds; text_is = w.text_is; status_is = λ none. false≢true (w.accepted.1 none) }
+reported word source text (Some c) w = record { names = w.names; messages = w.messages; tree = w.tree; finds = w.finds; text_is = w.text_is; status_is = w.accepted.0 refl }
+
+-- a machine that was loaded runs as its program does, from the first world on
+pub ran_by : (m : Machine) (p : Program) (budget : ℕ) (end : End) (bytes : List ℕ) (left told told' : Option (List ℕ)) (w : World) → IsMachineOf p budget m → world_held m ≡ first_world (program_held m)
+    → RunsOver (rules_of m) end bytes left (standing [] 1 m told) w told' → RunsOver (rules_by (numbered p) budget) end bytes left (at_first (first_world (numbered p)) told) w told'
+ran_by m p budget end bytes left told told' w made first ran =
+    let begins : world_held m ≡ first_world (numbered p) = first ∙ ap first_world made.program in
+    let there = subst (λ (v : World). RunsOver (rules_by (program_held m) m.budget) end bytes left (at_first v told) w told') begins ran in
+    let named = subst (λ (q : Numbered). RunsOver (rules_by q m.budget) end bytes left (at_first (first_world (numbered p)) told) w told') made.program there in
+    subst (λ (b : ℕ). RunsOver (rules_by (numbered p) b) end bytes left (at_first (first_world (numbered p)) told) w told') made.budget_is named
+
+module _ {R S : Type 0} (source_rest : R → Option (List ℕ)) (source_failures : R → ℕ) (sink_told : S → Option (List ℕ)) (sink_failures : S → ℕ)
+    (word source text : List ℕ) (budget : ℕ) (trace trace' : R) (sink sink' : S) where
+  -- a session on a source with an error
+  pub session_refused : (checked : Option Checked) → checked ≡ None → IsJudged word source text (tree_of checked) → trace' ≡ trace → sink' ≡ sink
+      → IsSession source_rest source_failures sink_told sink_failures word source budget trace trace' sink sink' text None SourceErrors
+  session_refused checked none w unread unwritten = record {
+    names = w.names;
+    messages = w.messages;
+    tree = w.tree;
+    finds = w.finds;
+    text_is = w.text_is;
+    goes_on = (λ h. false≢true (subst (λ o. IsSome (tree_of o)) none (w.accepted.1 h)), refl, unread, unwritten);
+  }
+
+  -- a session that ran the program
+  pub session_ran : (checked : Option Checked) (c : Checked) (end : End) → checked ≡ Some c → IsJudged word source text (tree_of checked)
+      → IsRunOf source_rest source_failures sink_told sink_failures c.program budget trace trace' sink sink' end
+      → IsSession source_rest source_failures sink_told sink_failures word source budget trace trace' sink sink' text (Some end) (status_of end)
+  session_ran checked c end some w run =
+      let v = subst (λ o. IsJudged word source text (tree_of o)) some w in
+      record {
+        names = v.names;
+        messages = v.messages;
+        tree = v.tree;
+        finds = v.finds;
+        text_is = v.text_is;
+        goes_on = (v.accepted.0 refl, refl, record { program = c.program; tree_is = v.same; run = run });
+      }

@@ -1,0 +1,15 @@
+use Rattle.std.proofs.Common.{◌≡◌, ◌∙◌, ◌++◌, map}
+use Rattle.snl_check.specs.Messages.{said}
+use Rattle.snc.specs.Texts.{text_of}
+use Rattle.snc.proofs.Answering.{told_checked}
+use Rattle.snc.proofs.messages.program_judged.Goals as goal
+
+pub returns : goal.returns
+returns c =
+    let word = c.args.names.read.now in
+    let names = map (λ name. name.now) c.args.names.marked.now in
+    let found = c.in_ok-said.field-0 in
+    let is : c.push_lines.new.out.items ≡ text_of word names (map said found.messages.items) =
+    c.in_ok-push_lines.ensures ∙ (λ i. c.new-messages.ensures.items i ++ text_of word names (map said (c.as_slice.ensures.value i))) in
+    told_checked word c.push_lines.new.out.items names c.args.program c.args.embedded.now (map said found.messages.items) found.checked
+    c.in_ok-said.ensures.exactly c.in_ok-said.ensures.in_order c.in_ok-said.ensures.accepted c.in_ok-said.ensures.same is

@@ -1,0 +1,108 @@
+-- What the rules say of a source: its messages, and its tree, if its tokens spell one.
+use Rattle.std.specs.Prelude.{◌≡◌, ◌⊎◌, ◌↔◌, ℕ, ◌<◌, ◌≤◌, List, [], ◌∷◌, ◌++◌, length, map, take, Option, None, Some, IsSome, IfSome, Result, Ok, Err, slice_get, Contains, codes}
+use Rattle.snl_text.specs.Cut.{Reading, start}
+use Rattle.snl_text.specs.Faults.{fault_text, fault_pos}
+use Rattle.snl_text.specs.Lexing.{FaultHolds, IsCut, IsLexed}
+use Rattle.snl_text.specs.declared.faults.LexFault.{LexFault}
+use Rattle.snl_text.specs.declared.faults.LexFault.TheVariants.{SourceTooLong}
+use Rattle.snl_text.specs.declared.tokens.Lexed.{Lexed}
+use Rattle.snl_text.specs.declared.tokens.Pos.{Pos}
+use Rattle.snl_text.specs.declared.tokens.Token.{Token}
+use Rattle.snl_tree.specs.declared.faults.ParseFault.{ParseFault}
+use Rattle.snl_tree.specs.declared.faults.ParseFault.TheVariants.{Unexpected}
+use Rattle.snl_tree.specs.declared.trees.Program.{Program}
+use Rattle.snl_check.specs.declared.messages.Severity.TheVariants.{Error}
+use Rattle.snl_check.specs.Messages.{Said, IsInOrder}
+use Rattle.snl_check.specs.Rules.{IsSaid}
+use Rattle.snc.specs.Texts.{text_of}
+
+-- an error at a place
+abbrev pub error_at : Pos → ℕ → List ℕ → Said
+error_at pos number text = record { pos = pos; severity = Error; number = number; text = text }
+
+-- none of them is an error
+abbrev pub NoErrors : List Said → Type 0
+NoErrors messages = (m : Said) → Contains messages m → m.severity ≡ Error → ⊥
+
+-- the names that the markers of a text give to files: those of its cut, if it has one
+pub record AreNamesOf (text : List ℕ) (names : List (List ℕ)) : Type 0 where
+  pub cut : (end : Reading) → length text ≤ 1048576 → IsCut text end → names ≡ end.files
+  pub none : ((end : Reading) → IsCut text end → ⊥) → names ≡ []
+
+-- E03, alone: what is said of a fault, with the names that the text in front of it gives
+pub record IsFaultSaid (source : List ℕ) (fault : LexFault) (names : List (List ℕ)) (messages : List Said) : Type 0 where
+  pub pos : Pos
+  pub words : List ℕ
+  pub at : fault_pos fault ≡ Some pos
+  pub says : fault_text fault ≡ Some words
+  pub given : AreNamesOf (take pos.offset source) names
+  pub messages_are : messages ≡ error_at pos 3 words ∷ []
+
+-- the source is no row of tokens, by a fault
+pub record HasFault (source : List ℕ) (fault : LexFault) : Type 0 where
+  pub holds : FaultHolds source fault
+  pub long : 1048576 < length source → fault ≡ SourceTooLong start
+
+-- the source is the row of these tokens
+pub record HasTokens (source : List ℕ) (lexed : Lexed) : Type 0 where
+  pub within : length source ≤ 1048576
+  pub is : IsLexed source lexed
+
+-- What it means that tokens are read so: as this tree, or up to this fault. Nothing is known of it yet; the contract of
+-- the parser is to stand here.
+abbrev pub AreReadAs : Lexed → Result Program ParseFault → Type 0
+AreReadAs lexed answer = Unit {0}
+
+-- E01, at a token or at the end of the file
+abbrev pub syntax_error : Lexed → Option Token → Said
+syntax_error lexed None = error_at lexed.eof 1 (codes "syntax error at end of file")
+syntax_error lexed (Some t) = error_at t.pos 1 (codes "syntax error at '" ++ (t.text.now ++ codes "'"))
+
+-- E01, alone: the tokens are no program from one of them on
+pub record IsNoProgram (lexed : Lexed) (messages : List Said) : Type 0 where
+  pub k : ℕ
+  pub read : AreReadAs lexed (Err (Unexpected k))
+  pub messages_are : messages ≡ syntax_error lexed (slice_get lexed.tokens.items k) ∷ []
+
+-- all that is said of a program
+pub record IsProgramSaid (lexed : Lexed) (p : Program) (messages : List Said) : Type 0 where
+  pub read : AreReadAs lexed (Ok p)
+  pub exactly : (m : Said) → Contains messages m ↔ IsSaid p lexed.embedded.items m
+  pub in_order : IsInOrder messages
+
+-- what is said of tokens, by the tree that they are read as, if any
+abbrev pub IsSaidOf : Lexed → List Said → Option Program → Type 0
+IsSaidOf lexed messages None = IsNoProgram lexed messages
+IsSaidOf lexed messages (Some p) = IsProgramSaid lexed p messages
+
+abbrev pub names_of : Lexed → List (List ℕ)
+names_of lexed = map (λ name. name.now) lexed.files.items
+
+-- a source without tokens
+pub record OfFault (source : List ℕ) (names : List (List ℕ)) (messages : List Said) (tree : Option Program) : Type 0 where
+  pub fault : LexFault
+  pub has : HasFault source fault
+  pub said : IsFaultSaid source fault names messages
+  pub tree_is : tree ≡ None
+
+-- a source with tokens
+pub record OfTokens (source : List ℕ) (names : List (List ℕ)) (messages : List Said) (tree : Option Program) : Type 0 where
+  pub lexed : Lexed
+  pub has : HasTokens source lexed
+  pub names_are : names ≡ names_of lexed
+  pub said : IsSaidOf lexed messages tree
+
+-- The messages about a source, the names of its files, and its tree, if it has one.
+abbrev pub Finds : List ℕ → List (List ℕ) → List Said → Option Program → Type 0
+Finds source names messages tree = OfFault source names messages tree ⊎ OfTokens source names messages tree
+
+-- What is answered of a source whose file is called by a word: the text of its messages, and its tree, if none is an
+-- error.
+pub record IsJudged (word source text : List ℕ) (checked : Option Program) : Type 0 where
+  pub names : List (List ℕ)
+  pub messages : List Said
+  pub tree : Option Program
+  pub finds : Finds source names messages tree
+  pub text_is : text ≡ text_of word names messages
+  pub accepted : IsSome checked ↔ NoErrors messages
+  pub same : IfSome checked (λ p. tree ≡ Some p)

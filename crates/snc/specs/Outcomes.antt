@@ -1,0 +1,92 @@
+-- What `report` and `session` answer.
+use Rattle.std.specs.Prelude.{◌≡◌, ℕ, List, [], Option, None, Some}
+use Rattle.snl_tree.specs.declared.trees.Program.{Program}
+use Rattle.snl_check.specs.Messages.{Said}
+use Rattle.snl_machine.specs.Devices.{counted}
+use Rattle.snl_machine.specs.First.{first_world}
+use Rattle.snl_machine.specs.Numbering.{numbered}
+use Rattle.snl_machine.specs.World.{World}
+use Rattle.snl_trace.specs.Ends.{source_failed, sink_failed}
+use Rattle.snl_trace.specs.Run.{rules_by}
+use Rattle.snl_trace.specs.Took.{Place, RunsOver}
+use Rattle.snl_trace.specs.declared.runner.End.{End}
+use Rattle.snl_trace.specs.declared.runner.End.TheVariants as end
+use Rattle.snc.specs.Judging.{Finds, NoErrors}
+use Rattle.snc.specs.Texts.{text_of}
+use Rattle.snc.specs.declared.jobs.Status.{Status}
+use Rattle.snc.specs.declared.jobs.Status.TheVariants.{Well, SourceErrors, Usage, InputOutput, Memory, ProgramFault, TraceFault}
+
+-- the number that the shell sees
+abbrev pub code_of : Status → ℕ
+code_of Well = 0
+code_of SourceErrors = 1
+code_of Usage = 2
+code_of InputOutput = 3
+code_of Memory = 4
+code_of ProgramFault = 5
+code_of TraceFault = 6
+
+-- the status of messages: whether one is an error
+abbrev pub IsStatusOf : List Said → Status → Type 0
+IsStatusOf messages Well = NoErrors messages
+IsStatusOf messages SourceErrors = NoErrors messages → ⊥
+IsStatusOf messages _ = ⊥
+
+-- the status of a run that ended so
+abbrev pub status_of : End → Status
+status_of end.TraceEnded = Well
+status_of end.ProgramEnded = Well
+status_of (end.Fault fault line) = ProgramFault
+status_of (end.TraceFault line fault) = TraceFault
+status_of end.SourceFailed = InputOutput
+status_of end.SinkFailed = InputOutput
+
+-- What `report` answers of a source whose file is called by a word: the text of all messages, and the status.
+pub record IsReport (word source text : List ℕ) (status : Status) : Type 0 where
+  pub names : List (List ℕ)
+  pub messages : List Said
+  pub tree : Option Program
+  pub finds : Finds source names messages tree
+  pub text_is : text ≡ text_of word names messages
+  pub status_is : IsStatusOf messages status
+
+-- the run begins with the first line, in the first world of a program
+abbrev pub at_first : World → Option (List ℕ) → Place
+at_first w told = record { begun = []; number = 1; world = w; told = told }
+
+-- A program with a budget was run over a source into a sink, and the run ended so. Where the source tells its bytes,
+-- the lines that went out, the ending and the bytes left are those that the numbered program gives over them, in the
+-- world that it begins in; where a device failed, the lines that stand before that. And each device's count of
+-- failures rose by one exactly where the run ended by that device.
+pub record IsRunOf {R S : Type 0} (source_rest : R → Option (List ℕ)) (source_failures : R → ℕ) (sink_told : S → Option (List ℕ)) (sink_failures : S → ℕ)
+    (program : Program) (budget : ℕ) (trace trace' : R) (sink sink' : S) (end : End) : Type 0 where
+  pub world : World
+  pub ran : (bytes : List ℕ) → source_rest trace ≡ Some bytes →
+      RunsOver (rules_by (numbered program) budget) end bytes (source_rest trace') (at_first (first_world (numbered program)) (sink_told sink)) world (sink_told sink')
+  pub source_counted : source_failures trace' ≡ counted (source_failed end) (source_failures trace)
+  pub sink_counted : sink_failures sink' ≡ counted (sink_failed end) (sink_failures sink)
+
+-- the accepted program was run
+pub record IsRun {R S : Type 0} (source_rest : R → Option (List ℕ)) (source_failures : R → ℕ) (sink_told : S → Option (List ℕ)) (sink_failures : S → ℕ)
+    (tree : Option Program) (budget : ℕ) (trace trace' : R) (sink sink' : S) (end : End) : Type 0 where
+  pub program : Program
+  pub tree_is : tree ≡ Some program
+  pub run : IsRunOf source_rest source_failures sink_told sink_failures program budget trace trace' sink sink' end
+
+-- how a session goes on behind the messages: with an error among them neither device is touched
+abbrev pub GoesOn : {R S : Type 0} → (R → Option (List ℕ)) → (R → ℕ) → (S → Option (List ℕ)) → (S → ℕ) → List Said → Option Program → ℕ → R → R → S → S → Option End → Status → Type 0
+GoesOn source_rest source_failures sink_told sink_failures messages tree budget trace trace' sink sink' None status =
+    (NoErrors messages → ⊥) × (status ≡ SourceErrors) × (trace' ≡ trace) × (sink' ≡ sink)
+GoesOn source_rest source_failures sink_told sink_failures messages tree budget trace trace' sink sink' (Some end) status =
+    NoErrors messages × (status ≡ status_of end) × IsRun source_rest source_failures sink_told sink_failures tree budget trace trace' sink sink' end
+
+-- What `session` answers: the text of all messages, how the run ended, if there was one, and the status; and what became
+-- of the two devices.
+pub record IsSession {R S : Type 0} (source_rest : R → Option (List ℕ)) (source_failures : R → ℕ) (sink_told : S → Option (List ℕ)) (sink_failures : S → ℕ)
+    (word source : List ℕ) (budget : ℕ) (trace trace' : R) (sink sink' : S) (text : List ℕ) (end : Option End) (status : Status) : Type 0 where
+  pub names : List (List ℕ)
+  pub messages : List Said
+  pub tree : Option Program
+  pub finds : Finds source names messages tree
+  pub text_is : text ≡ text_of word names messages
+  pub goes_on : GoesOn source_rest source_failures sink_told sink_failures messages tree budget trace trace' sink sink' end status

@@ -1,0 +1,92 @@
+-- What a run did with the bytes of a trace, by the definition of the run.
+use Rattle.std.specs.Prelude.{◌≡◌, ℕ, ◌+◌, List, [], ◌∷◌, ◌++◌, Option, None, Some, length}
+use Rattle.snl_machine.specs.declared.machine.Machine.{Machine}
+use Rattle.snl_machine.specs.Held.{world_held}
+use Rattle.snl_machine.specs.Devices.{told_more, IsCutShort}
+use Rattle.snl_machine.specs.Does.{Gave, Faulted}
+use Rattle.snl_machine.specs.Ran.{Ran, Gives, text_of}
+use Rattle.snl_machine.specs.World.{World}
+use Rattle.snl_trace.specs.declared.runner.End.{End}
+use Rattle.snl_trace.specs.declared.runner.End.TheVariants as end
+use Rattle.snl_trace.specs.Lines.{lines_to, lines_from, whole_lines}
+use Rattle.snl_trace.specs.Run.{Rules, run_from, line_done}
+
+-- what is done of a line, by the answer how the run ends there; where the sink failed, it was told a beginning
+abbrev pub LineDoes : Option End → World → Option (List ℕ) → Option (List ℕ) → Ran (Option End) → Type 0
+LineDoes None w old new ran = Gave None w old new ran
+LineDoes (Some end.ProgramEnded) w old new ran = Gave (Some end.ProgramEnded) w old new ran
+LineDoes (Some (end.TraceFault number fault)) w old new ran = Gave (Some (end.TraceFault number fault)) w old new ran
+LineDoes (Some (end.Fault fault line)) w old new ran = Faulted fault line w old new ran
+LineDoes (Some end.SinkFailed) w old new ran = IsCutShort (text_of ran) old new
+LineDoes (Some end.TraceEnded) w old new ran = ⊥
+LineDoes (Some end.SourceFailed) w old new ran = ⊥
+
+-- where a run stands between two bytes of its trace
+pub record Place : Type 0 where
+  -- the bytes behind the last newline, and the number of the line that they begin
+  pub begun : List ℕ
+  pub number : ℕ
+  pub world : World
+  -- what the sink tells
+  pub told : Option (List ℕ)
+
+-- where a run of a machine stands
+abbrev pub standing : List ℕ → ℕ → Machine → Option (List ℕ) → Place
+standing begun number machine told = record { begun = begun; number = number; world = world_held machine; told = told }
+
+-- bytes were taken in: they end some lines, which gave a text that was told, and begin another
+pub record Reaches (rules : Rules) (bytes : List ℕ) (from to : Place) : Type 0 where
+  pub done : List (List ℕ)
+  pub text : List ℕ
+  pub lines : (last : List ℕ → List (List ℕ)) → lines_to last from.begun bytes ≡ done ++ last to.begun
+  pub number : to.number ≡ from.number + length done
+  pub ran : run_from rules from.number done from.world ≡ Gives end.TraceEnded to.world text
+  pub told : to.told ≡ told_more from.told text
+
+-- the sink failed at one of some lines: it was told the text of all lines before, and of what that line
+-- gives a beginning
+pub record IsCutIn (rules : Rules) (lines : List (List ℕ)) (from : Place) (told : Option (List ℕ)) : Type 0 where
+  pub before : List (List ℕ)
+  pub line : List ℕ
+  pub behind : List (List ℕ)
+  pub are : lines ≡ before ++ line ∷ behind
+  pub world : World
+  pub text : List ℕ
+  pub ran : run_from rules from.number before from.world ≡ Gives end.TraceEnded world text
+  pub cut : IsCutShort (text_of (line_done rules (from.number + length before) line world)) (told_more from.told text) told
+
+-- over some lines a run ended so, in a world, and the sink tells this
+abbrev pub EndsIn : Rules → End → List (List ℕ) → Place → World → Option (List ℕ) → Type 0
+EndsIn rules (end.Fault fault line) lines from w told = Faulted fault line w from.told told (run_from rules from.number lines from.world)
+EndsIn rules end.SinkFailed lines from w told = IsCutIn rules lines from told
+EndsIn rules end.SourceFailed lines from w told = ⊥
+EndsIn rules end.TraceEnded lines from w told = Gave end.TraceEnded w from.told told (run_from rules from.number lines from.world)
+EndsIn rules end.ProgramEnded lines from w told = Gave end.ProgramEnded w from.told told (run_from rules from.number lines from.world)
+EndsIn rules (end.TraceFault number fault) lines from w told = Gave (end.TraceFault number fault) w from.told told (run_from rules from.number lines from.world)
+
+-- bytes were taken in; or the run ended in them, whatever follows
+abbrev pub Takes : Rules → Option End → List ℕ → Place → Place → Type 0
+Takes rules None bytes from to = Reaches rules bytes from to
+Takes rules (Some end) bytes from to = (more : List ℕ) → EndsIn rules end (lines_from from.begun (bytes ++ more)) from to.world to.told
+
+-- the source failed: all was told that the lines give that came whole
+pub record IsBroken (rules : Rules) (bytes : List ℕ) (left : Option (List ℕ)) (from : Place) (w : World) (told : Option (List ℕ)) : Type 0 where
+  pub came : List ℕ
+  pub rest : List ℕ
+  pub are : bytes ≡ came ++ rest
+  pub left_is : left ≡ Some rest
+  pub gave : Gave end.TraceEnded w from.told told (run_from rules from.number (whole_lines came) from.world)
+
+-- a run over the bytes of a source, of which these are left
+abbrev pub RunsOver : Rules → End → List ℕ → Option (List ℕ) → Place → World → Option (List ℕ) → Type 0
+RunsOver rules end.SourceFailed bytes left from w told = IsBroken rules bytes left from w told
+RunsOver rules end.TraceEnded bytes left from w told = EndsIn rules end.TraceEnded (lines_from [] bytes) from w told
+RunsOver rules end.ProgramEnded bytes left from w told = EndsIn rules end.ProgramEnded (lines_from [] bytes) from w told
+RunsOver rules (end.Fault fault line) bytes left from w told = EndsIn rules (end.Fault fault line) (lines_from [] bytes) from w told
+RunsOver rules (end.TraceFault number fault) bytes left from w told = EndsIn rules (end.TraceFault number fault) (lines_from [] bytes) from w told
+RunsOver rules end.SinkFailed bytes left from w told = EndsIn rules end.SinkFailed (lines_from [] bytes) from w told
+
+-- the text over the first of some lines is a beginning of the text over all
+abbrev pub TextBegins : Type 0
+TextBegins = (rules : Rules) (number : ℕ) (first rest : List (List ℕ)) (w : World) →
+    (more : List ℕ) × (text_of (run_from rules number (first ++ rest) w) ≡ text_of (run_from rules number first w) ++ more)

@@ -1,0 +1,8 @@
+//! Laws of the definitions that the contract of `run` speaks of. Each function is its contract.
+
+ghost use Rattle.snl_trace.specs.Took.{TextBegins};
+
+/// The text over the first lines of a trace is a beginning of the text over all of them.
+pub fn text_begins()
+    ensures { TextBegins }
+{}
