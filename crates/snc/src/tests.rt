@@ -10,6 +10,7 @@ use std::process::Abort;
 mod calls;
 mod expressions;
 mod hostile;
+mod programs;
 mod sources;
 mod traces;
 

@@ -14,7 +14,7 @@ use crate::telling::entries_of;
 use crate::uses::uses_of;
 use indexmap::IndexMap;
 use snl_text::Pos;
-use snl_tree::Program;
+use snl_tree::thin::Program;
 use std::alloc::{AllocError, Global};
 
 /// A program of which no error holds.

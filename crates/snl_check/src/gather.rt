@@ -9,7 +9,7 @@ use crate::scopes::{Scope, scope_of};
 use crate::sites::{Named, Site};
 use crate::walk::{note_definition, note_state};
 use snl_text::Token;
-use snl_tree::{Def, Program, State};
+use snl_tree::thin::{Def, Program, State};
 use std::alloc::{AllocError, Global};
 
 fn push_declared<'a>(definition: &Def<'a>, names: &mut Vec<Token<'a>>) -> Result<(), AllocError>

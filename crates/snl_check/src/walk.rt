@@ -8,7 +8,7 @@ ghost use Rattle.snl_check.specs.Facts.{noted, noted_use};
 use crate::scopes::Scope;
 use crate::sites::{Purpose, Site};
 use snl_text::Token;
-use snl_tree::{Clause, Def, Expr, State, Stmt};
+use snl_tree::thin::{Clause, Def, Expr, State, Stmt};
 use std::alloc::AllocError;
 
 fn note_use<'a>(

@@ -62,6 +62,40 @@ counting added = record {
   } ∷ [];
 }
 
+-- two states and three clauses: a valve opens above 3, shuts below 2, and above 9 sounds, forgets the value and shuts
+abbrev pub valve : Program
+valve = record {
+  name = codes "v";
+  variables = 2;
+  links = record { variable = 0; channel = 0; is_monitored = true } ∷ record { variable = 1; channel = 1; is_monitored = false } ∷ [];
+  channels = codes "a" ∷ codes "b" ∷ [];
+  sets = record {
+    name = codes "s";
+    states = record {
+      name = codes "shut";
+      clauses = record {
+        condition = Chain (Variable 0) (more Greater 8 (Whole (pos 3)) end);
+        block = Assign 1 8 (Whole (pos 1)) ∷ Put 1 ∷ [];
+        target = 1;
+        line = 8;
+      } ∷ [];
+    } ∷ record {
+      name = codes "open";
+      clauses = record {
+        condition = Chain (Variable 0) (more Greater 11 (Whole (pos 9)) end);
+        block = Assign 1 11 (Whole (pos 2)) ∷ Put 1 ∷ Assign 0 11 (Whole (pos 0)) ∷ [];
+        target = 0;
+        line = 11;
+      } ∷ record {
+        condition = Chain (Variable 0) (more Less 12 (Whole (pos 2)) end);
+        block = [];
+        target = 0;
+        line = 12;
+      } ∷ [];
+    } ∷ [];
+  } ∷ [];
+}
+
 abbrev pub valued : ℤ → Event
 valued z = Val 0 record { items = z ∷ [] }
 
@@ -75,3 +109,5 @@ pub record Examples : Type 0 where
       ≡ codes "1 start c\n1 go s w w\n1 go s w w\n1 fault s 6 value does not fit\n"
   pub spends : text_of_events (counting (Whole (pos 0))) 3 ((7, Tick) ∷ []) (first_world (counting (Whole (pos 0))))
       ≡ codes "7 start c\n7 go s w w\n7 go s w w\n7 go s w w\n7 fault s 5 step budget spent\n"
+  pub opens : text_of_events valve 10 ((0, Up 0) ∷ (0, Up 1) ∷ (0, valued (pos 1)) ∷ (5, valued (pos 5)) ∷ (7, valued (pos 0)) ∷ (9, valued (pos 12)) ∷ []) (first_world valve)
+      ≡ codes "0 start v\n5 put b 1\n5 go s shut open\n7 go s open shut\n9 put b 1\n9 go s shut open\n9 put b 2\n9 go s open shut\n"

@@ -10,7 +10,7 @@ ghost use Rattle.snl_machine.specs.Views.{expression_of, statement_of, clause_of
 use crate::programs::{Clause, Expr, Link, Numbered, Operator, State, Stmt, Term};
 use indexmap::IndexSet;
 use snl_text::{Kind, Token, whole_value};
-use snl_tree as tree;
+use snl_tree::thin as tree;
 use std::alloc::{AllocError, Global};
 
 /// The names of a program, by sort and each once, in the order in which they come. A name's place is its

@@ -1,5 +1,5 @@
 -- The forms in which the code reads.
-use Rattle.std.proofs.Common.{◌≡◌, ℕ, zero, suc, ◌-◌, ◌<◌, ◌≤◌, Bool, true, false, List, [], ◌∷◌, Ok, Err, Result, Option, ◌⊎◌, inl, inr, ◌&&◌, refl, sym, ap, ◌∙◌, subst, arith, lit≤, eq-or-lt_of_le}
+use Rattle.std.proofs.Common.{◌≡◌, ℕ, zero, suc, ◌-◌, ◌<◌, ◌≤◌, Bool, true, false, List, [], ◌∷◌, Ok, Err, Result, Option, Some, None, ◌⊎◌, inl, inr, ◌&&◌, refl, sym, ap, ◌∙◌, subst, arith, lit≤, eq-or-lt_of_le}
 use Rattle.snl_text.specs.declared.tokens.Token.{Token}
 use Rattle.snl_text.specs.declared.kinds.Kind.{Kind}
 use Rattle.snl_text.specs.declared.kinds.Kind.TheVariants.{Name, OpenParenthesis, CloseParenthesis, OpenBracket, CloseBracket, Text, Colon, Question}
@@ -9,30 +9,35 @@ use Rattle.snl_tree.specs.Expressions.{ExprTree, ArgumentList, constant, parenth
 use Rattle.snl_tree.specs.Reading.{Inside, readers, inside, opened, parenthesized_at, expression_at, level_at, named_tree, named_at, arguments_at, argument_at, argument_list, with_argument, all_arguments, is_no_close, more_arguments_at, prefixed_at, unary_at, postfix_at, postfix_tree, primary_at, is_step, conditional_tree, conditional_at, binary_at, is_unary, is_assignment, is_operator, assignment_tree, assignment_at, chain_tree, terms_at, chain_at, named_rest, stepped, conditional_rest, assigned_rest}
 use Rattle.snl_tree.proofs.Operators.{level_low}
 
-bind_assoc : {A B C : Type 0} (m : Result A Fault) (f : A → Result B Fault) (g : B → Result C Fault) → ((m >>= f) >>= g) ≡ (m >>= λ x. f x >>= g)
+pub bind_assoc : {A B C : Type 0} (m : Result A Fault) (f : A → Result B Fault) (g : B → Result C Fault) → ((m >>= f) >>= g) ≡ (m >>= λ x. f x >>= g)
 bind_assoc (Ok x) f g = refl
 bind_assoc (Err e) f g = refl
 
--- what is nested, behind the sign that opens it
-pub under_opened : {A B : Type 0} (n : ℕ) (test : Kind → Bool) (opener : Reader A) (inner : Inside → Reader B) (ts : List Token) → under test (inside n) opener inner ts ≡ (opened n test opener ts >>= λ x. inner (readers (inside (n - 1))) x.1 >>= λ y. Ok ((x.0, y.0), y.1))
-under_opened {A} {B} zero test opener inner ts = none (starts test ts)
+-- What is nested, behind the sign that opens it: readers are there from one depth on.
+pub under_given : {R A B : Type 0} (given : ℕ → Option R) (reader : ℕ → R) → given zero ≡ None → ((n : ℕ) → given (suc n) ≡ Some (reader n))
+    → (n : ℕ) (test : Kind → Bool) (opener : Reader A) (inner : R → Reader B) (ts : List Token) → under test (given n) opener inner ts ≡ (opened n test opener ts >>= λ x. inner (reader (n - 1)) x.1 >>= λ y. Ok ((x.0, y.0), y.1))
+under_given {R} {A} {B} given reader missing there zero test opener inner ts = ap (λ (i : Option R). under test i opener inner ts) missing ∙ none (starts test ts)
   where
-    none : (b : Bool) → ◌≡◌ {A = Read (A × B)} (elim b [ true ↦ Err (Deep ts) | false ↦ Err (Stuck ts) ]) (let r : Read A = elim b [ true ↦ Err (Deep ts) | false ↦ Err (Stuck ts) ] in r >>= λ x. inner (readers (inside (0 - 1))) x.1 >>= λ y. Ok ((x.0, y.0), y.1))
+    none : (b : Bool) → ◌≡◌ {A = Read (A × B)} (elim b [ true ↦ Err (Deep ts) | false ↦ Err (Stuck ts) ]) (let r : Read A = elim b [ true ↦ Err (Deep ts) | false ↦ Err (Stuck ts) ] in r >>= λ x. inner (reader (0 - 1)) x.1 >>= λ y. Ok ((x.0, y.0), y.1))
     none true = refl
     none false = refl
-under_opened (suc n) test opener inner ts =
+under_given {R} {A} {B} given reader missing there (suc n) test opener inner ts =
     let e : suc n - 1 ≡ n = omega arith in
-    subst (λ m. both opener (λ _. inner (readers (inside n))) ts ≡ (opener ts >>= λ x. inner (readers (inside m)) x.1 >>= λ y. Ok ((x.0, y.0), y.1))) (sym e) refl
+    ap (λ (i : Option R). under test i opener inner ts) (there n)
+    ∙ subst (λ m. both opener (λ _. inner (reader n)) ts ≡ (opener ts >>= λ x. inner (reader m) x.1 >>= λ y. Ok ((x.0, y.0), y.1))) (sym e) refl
 
-bind_same : {A B : Type 0} (m : Result A Fault) (f g : A → Result B Fault) → ((x : A) → f x ≡ g x) → (m >>= f) ≡ (m >>= g)
+pub under_opened : {A B : Type 0} (n : ℕ) (test : Kind → Bool) (opener : Reader A) (inner : Inside → Reader B) (ts : List Token) → under test (inside n) opener inner ts ≡ (opened n test opener ts >>= λ x. inner (readers (inside (n - 1))) x.1 >>= λ y. Ok ((x.0, y.0), y.1))
+under_opened = under_given inside (λ n. readers (inside n)) refl (λ _. refl)
+
+pub bind_same : {A B : Type 0} (m : Result A Fault) (f g : A → Result B Fault) → ((x : A) → f x ≡ g x) → (m >>= f) ≡ (m >>= g)
 bind_same (Ok x) f g h = h x
 bind_same (Err e) f g h = refl
 
-elim_same : {A : Type 0} (b : Bool) (x x' y y' : A) → x ≡ x' → y ≡ y' → ◌≡◌ {A = A} (elim b [ true ↦ x | false ↦ y ]) (elim b [ true ↦ x' | false ↦ y' ])
+pub elim_same : {A : Type 0} (b : Bool) (x x' y y' : A) → x ≡ x' → y ≡ y' → ◌≡◌ {A = A} (elim b [ true ↦ x | false ↦ y ]) (elim b [ true ↦ x' | false ↦ y' ])
 elim_same true x x' y y' h k = h
 elim_same false x x' y y' h k = k
 
-either_form : {A B C : Type 0} (test : Kind → Bool) (u : Reader A) (v : Reader B) (ts : List Token) (g : (A ⊎ B) × List Token → Result C Fault) → (either test u v ts >>= g) ≡ elim (starts test ts) [ true ↦ (u ts >>= λ x. g (inl x.0, x.1)) | false ↦ (v ts >>= λ y. g (inr y.0, y.1)) ]
+pub either_form : {A B C : Type 0} (test : Kind → Bool) (u : Reader A) (v : Reader B) (ts : List Token) (g : (A ⊎ B) × List Token → Result C Fault) → (either test u v ts >>= g) ≡ elim (starts test ts) [ true ↦ (u ts >>= λ x. g (inl x.0, x.1)) | false ↦ (v ts >>= λ y. g (inr y.0, y.1)) ]
 either_form {A} {B} {C} test u v ts g = go (starts test ts)
   where
     go : (b : Bool) → ◌≡◌ {A = Result C Fault} (let r : Read (A ⊎ B) = elim b [ true ↦ (u ts >>= λ x. Ok (inl x.0, x.1)) | false ↦ (v ts >>= λ y. Ok (inr y.0, y.1)) ] in r >>= g) (elim b [ true ↦ (u ts >>= λ x. g (inl x.0, x.1)) | false ↦ (v ts >>= λ y. g (inr y.0, y.1)) ])

@@ -25,12 +25,15 @@ pub record InsideLaws (m : ℕ) (d : Inside) : Type 0 where
   pub assignment : Reads (expr_shape m 14) d.assignment
   pub expression : Reads (expr_shape m 15) d.expression
 
--- the readers of what is nested are those for one depth less
+-- What reads the nested parts keeps its laws for one depth less; with no depth left it is missing.
+abbrev pub Given : {R : Type 0} → (ℕ → R → Type 0) → ℕ → Option R → Type 0
+Given Laws zero None = Unit {0}
+Given Laws zero (Some d) = ⊥
+Given Laws (suc m) None = ⊥
+Given Laws (suc m) (Some d) = Laws m d
+
 abbrev pub Deeper : ℕ → Option Inside → Type 0
-Deeper zero None = Unit {0}
-Deeper zero (Some d) = ⊥
-Deeper (suc m) None = ⊥
-Deeper (suc m) (Some d) = InsideLaws m d
+Deeper = Given InsideLaws
 
 pub under_map : (P Q : ℕ → Type 0) (n : ℕ) → ((m : ℕ) → P m → Q m) → Under n P → Under n Q
 under_map P Q zero f h = h
@@ -47,22 +50,29 @@ nest_shape S slots_in good_in follow_in n = record {
   follow = λ x. follow_in x.1;
 }
 
-module _ {A B : Type 0} (test : Kind → Bool) (S : Shape A) (opener : Reader A) (one : Reads S opener) (free : (a : A) (k : Kind) → S.follow a k)
-    (slots_in : B → List Slot) (good_in : ℕ → B → Type 0) (follow_in : B → Kind → Type 0) (inner : Inside → Reader B)
-    (two : (m : ℕ) (d : Inside) → InsideLaws m d → Reads (record { slots = slots_in; good = good_in m; follow = follow_in }) (inner d))
+module _ {R : Type 0} (Laws : ℕ → R → Type 0) {A B : Type 0} (test : Kind → Bool) (S : Shape A) (opener : Reader A) (one : Reads S opener) (free : (a : A) (k : Kind) → S.follow a k)
+    (slots_in : B → List Slot) (good_in : ℕ → B → Type 0) (follow_in : B → Kind → Type 0) (inner : R → Reader B)
+    (two : (m : ℕ) (d : R) → Laws m d → Reads (record { slots = slots_in; good = good_in m; follow = follow_in }) (inner d))
     (some : (m : ℕ) → (b : B) × good_in m b) where
   sound_none : (ts : List Token) (b : Bool) → Sound (nest_shape S slots_in good_in follow_in zero) ts (elim b [ true ↦ Err (Deep ts) | false ↦ Err (Stuck ts) ])
   sound_none ts true = inl refl
   sound_none ts false = inl refl
 
-  pub reads_under : (n : ℕ) (i : Option Inside) → Deeper n i → Reads (nest_shape S slots_in good_in follow_in n) (under test i opener inner)
-  reads_under zero None h = record {
+  pub reads_given : (n : ℕ) (i : Option R) → Given Laws n i → Reads (nest_shape S slots_in good_in follow_in n) (under test i opener inner)
+  reads_given zero None h = record {
     sound = λ ts. sound_none ts (starts test ts);
     again = λ x g. absurd g.1;
     past = λ x g. absurd g.1;
   }
-  reads_under zero (Some d) h = absurd h
-  reads_under (suc m) None h = absurd h
-  reads_under (suc m) (Some d) h =
+  reads_given zero (Some d) h = absurd h
+  reads_given (suc m) None h = absurd h
+  reads_given (suc m) (Some d) h =
       reads_both S (λ _. record { slots = slots_in; good = good_in m; follow = follow_in }) opener (λ _. inner d) one (λ _ _. two m d h)
       (λ a b _ _. links_any (S.follow a) (follow_in b) (slots_in b) (free a)) (λ _ _. some m)
+
+pub reads_under : {A B : Type 0} (test : Kind → Bool) (S : Shape A) (opener : Reader A) → Reads S opener → ((a : A) (k : Kind) → S.follow a k)
+    → (slots_in : B → List Slot) (good_in : ℕ → B → Type 0) (follow_in : B → Kind → Type 0) (inner : Inside → Reader B)
+    → ((m : ℕ) (d : Inside) → InsideLaws m d → Reads (record { slots = slots_in; good = good_in m; follow = follow_in }) (inner d))
+    → ((m : ℕ) → (b : B) × good_in m b)
+    → (n : ℕ) (i : Option Inside) → Deeper n i → Reads (nest_shape S slots_in good_in follow_in n) (under test i opener inner)
+reads_under test S opener one free slots_in good_in follow_in inner two some n i h = reads_given InsideLaws test S opener one free slots_in good_in follow_in inner two some n i h

@@ -154,3 +154,6 @@ higher (suc n) k = subst (λ z. Higher (Some (readers (inside n))) (inside z)) (
 -- with more depth the same is read, but it goes on past what was too deep
 pub grows_with_depth : (n k : ℕ) → Grows (expression_at (inside n)) (expression_at (inside (suc n + k)))
 grows_with_depth n k = grows_expression (inside n) (inside (suc n + k)) (higher n k)
+
+pub assignment_grows : (n k : ℕ) → Grows (assignment_at (inside n)) (assignment_at (inside (suc n + k)))
+assignment_grows n k = grows_assignment (inside n) (inside (suc n + k)) (higher n k)

@@ -71,7 +71,7 @@ both_less {A} {B} test opener second o e ts rest x h = go (starts test ts) refl
         let a : both opener (λ _. second) ts ≡ Err _ = ap (λ r. r >>= λ x. second x.1 >>= λ y. Ok ((x.0, y.0), y.1)) (o.off ts k) in
         absurd cc
 
-map_snoc : {X Y : Type 0} (f : X → Y) (xs : List X) (x : X) (ys : List Y) → map f xs ++ (f x ∷ ys) ≡ map f (xs ++ x ∷ []) ++ ys
+pub map_snoc : {X Y : Type 0} (f : X → Y) (xs : List X) (x : X) (ys : List Y) → map f xs ++ (f x ∷ ys) ≡ map f (xs ++ x ∷ []) ++ ys
 map_snoc f [] x ys = refl
 map_snoc f (a ∷ xs) x ys = ap (λ z. f a ∷ z) (map_snoc f xs x ys)
 

@@ -1,8 +1,9 @@
-//! The trees of programs in the State Notation Language, and the parser that makes them.
+//! The trees of programs in the State Notation Language, and the parsers that make them.
 //!
-//! Today this is the first language of `docs/LANGUAGE.md`: one state set, `int` variables, channels,
-//! and clauses that compare, assign and put. The expressions of the whole language stand in [`whole`],
-//! and no program is read with them yet.
+//! [`whole`] has the whole language: its trees, and `whole::parse`, which reads the tokens of a source. What
+//! today's checks and machine take are programs of a small first language; their trees stand in [`thin`], with
+//! the step from a tree of the whole language to one of those. A parser of its own, [`parse`], still reads
+//! them, until that step takes its place.
 #![tactic(auto)]
 
 mod definitions;
@@ -11,6 +12,7 @@ mod faults;
 mod programs;
 mod rest;
 mod statements;
+pub mod thin;
 mod trees;
 pub mod whole;
 

@@ -1,0 +1,7 @@
+use Rattle.snl_tree.specs.DefinitionView.{definition_view}
+use Rattle.snl_tree.specs.Thin.{is_thin_definition, StandsForDefinition}
+use Rattle.snl_tree.proofs.Narrowing.{EachSoFar}
+use Rattle.snl_tree.proofs.thin.definitions.definitions.Given as goal
+
+abbrev pub invariant-loop-next : goal.invariant-loop-next
+invariant-loop-next l = EachSoFar is_thin_definition StandsForDefinition definition_view l.all l.next-index l.found.items

@@ -1,0 +1,7 @@
+use Rattle.snl_tree.specs.DeclarationView.{declarator_view}
+use Rattle.snl_tree.specs.Thin.{is_bare, StandsForName}
+use Rattle.snl_tree.proofs.Narrowing.{EachSoFar}
+use Rattle.snl_tree.proofs.thin.definitions.variables.Given as goal
+
+abbrev pub invariant-loop-declared : goal.invariant-loop-declared
+invariant-loop-declared l = EachSoFar is_bare StandsForName declarator_view l.declared-items l.declared-index l.names.items

@@ -1,0 +1,11 @@
+use Rattle.std.proofs.Common.{◌≡◌}
+use Rattle.snl_tree.specs.View.{pair_of}
+use Rattle.snl_tree.proofs.Narrowing.{EachSoFar, is_joined, StandsForTerm}
+use Rattle.snl_tree.proofs.thin.expressions.+sum.Given as goal
+
+abbrev pub decreases-sum : goal.decreases-sum
+decreases-sum l = goal.size-sum l
+
+abbrev pub invariant-loop-term : goal.invariant-loop-term
+invariant-loop-term l =
+    (l.first ≡ l.initial.first) × EachSoFar is_joined StandsForTerm pair_of l.term-items l.term-index l.found.items

@@ -1,0 +1,7 @@
+use Rattle.snl_tree.specs.StatementView.{statement_view}
+use Rattle.snl_tree.specs.Thin.{is_thin_statement, StandsForStatement}
+use Rattle.snl_tree.proofs.Narrowing.{EachSoFar}
+use Rattle.snl_tree.proofs.thin.statements.block.Given as goal
+
+abbrev pub invariant-loop-next : goal.invariant-loop-next
+invariant-loop-next l = EachSoFar is_thin_statement StandsForStatement statement_view l.next-items l.next-index l.found.items

@@ -1,0 +1,10 @@
+use Rattle.std.proofs.Common.{sym, subst}
+use Rattle.snl_tree.specs.Expressions.{ExprTree}
+use Rattle.snl_tree.specs.Statements.{expression}
+use Rattle.snl_tree.specs.Thin.{Finds, is_thin_statement, StandsForStatement}
+use Rattle.snl_tree.proofs.Rows.{view_call}
+use Rattle.snl_tree.proofs.thin.statements.evaluated.Goals as goal
+
+pub returns-in-Call : goal.returns-in-Call
+returns-in-Call c =
+    rw c.in-Call.is (subst (λ (e : ExprTree). Finds (is_thin_statement (expression e)) (StandsForStatement (expression e)) c.put.result) (sym (view_call c.in-Call.name c.in-Call.arguments)) c.put.ensures)

@@ -1,0 +1,39 @@
+-- The plain tree of a declared program.
+use Rattle.std.specs.Prelude.{List, map, Vec}
+use Rattle.std.proofs.Common.{Global}
+use Rattle.snl_tree.specs.declared.whole.program.Program.{Program}
+use Rattle.snl_tree.specs.declared.whole.program.StateSet.{StateSet}
+use Rattle.snl_tree.specs.declared.whole.program.State.{State}
+use Rattle.snl_tree.specs.declared.whole.program.Clause.{Clause}
+use Rattle.snl_tree.specs.declared.whole.program.Target.{Target}
+use Rattle.snl_tree.specs.declared.whole.program.Target.TheVariants as Declared
+use Rattle.snl_tree.specs.Sequences.{shown}
+use Rattle.snl_tree.specs.View.{view}
+use Rattle.snl_tree.specs.StatementView.{block_view}
+use Rattle.snl_tree.specs.DefinitionView.{definition_views}
+use Rattle.snl_tree.specs.Programs.{TargetTree, to_state, to_exit, ClauseTree, StateTree, StateSetTree, ProgramTree}
+
+abbrev pub target_view : Target → TargetTree
+target_view (Declared.State x) = to_state x
+target_view Declared.Exit = to_exit
+
+abbrev pub clause_view : Clause → ClauseTree
+clause_view c = record { word = c.word; condition = shown view c.condition; body = block_view c.body; target = target_view c.target }
+
+abbrev pub clause_views : Vec Clause Global → List ClauseTree
+clause_views v = map clause_view v.items
+
+abbrev pub state_view : State → StateTree
+state_view s = record { word = s.word; name = s.name; parts = definition_views s.definitions; entry = shown block_view s.entry; clauses = clause_views s.clauses; exit = shown block_view s.exit }
+
+abbrev pub state_views : Vec State Global → List StateTree
+state_views v = map state_view v.items
+
+abbrev pub state_set_view : StateSet → StateSetTree
+state_set_view s = record { word = s.word; name = s.name; definitions = definition_views s.definitions; states = state_views s.states }
+
+abbrev pub state_set_views : Vec StateSet Global → List StateSetTree
+state_set_views v = map state_set_view v.items
+
+abbrev pub program_view : Program → ProgramTree
+program_view p = record { word = p.word; name = p.name; macros = p.macros; parts = definition_views p.definitions; entry = shown block_view p.entry; state_sets = state_set_views p.state_sets; exit = shown block_view p.exit }

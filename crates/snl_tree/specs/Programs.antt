@@ -1,0 +1,93 @@
+-- The trees of programs: their spelling, and when they are well formed.
+use Rattle.std.specs.Prelude.{◌≡◌, ℕ, List, [], ◌∷◌, ◌++◌, Option}
+use Rattle.snl_text.specs.declared.tokens.Token.{Token}
+use Rattle.snl_text.specs.declared.kinds.Kind.TheVariants.{Name, Text, Program, Entry, Exit, StateSet, State, When, OpenBrace, CloseBrace, OpenParenthesis, CloseParenthesis}
+use Rattle.snl_tree.specs.Slots.{Slot, The, Sign}
+use Rattle.snl_tree.specs.Sequences.{between_slots, maybe_slots, IfThere, row_slots, Each, EachOfSome}
+use Rattle.snl_tree.specs.Expressions.{ExprTree, slots, IsExpr}
+use Rattle.snl_tree.specs.Definitions.{DefinitionTree, token_slots, definition_slots, IsDefinition, IsPart}
+use Rattle.snl_tree.specs.Statements.{BlockTree, block_slots, IsBlock}
+use Rattle.snl_tree.specs.Begins.{Sort}
+
+-- Where a clause leads: to a state, or out of the program.
+pub data TargetTree : Type 0 where
+  to_state : Token → TargetTree
+  to_exit : TargetTree
+
+pub record ClauseTree : Type 0 where
+  pub word : Token
+  pub condition : Option ExprTree
+  pub body : BlockTree
+  pub target : TargetTree
+
+pub record StateTree : Type 0 where
+  pub word : Token
+  pub name : Token
+  pub parts : List DefinitionTree
+  pub entry : Option BlockTree
+  pub clauses : List ClauseTree
+  pub exit : Option BlockTree
+
+pub record StateSetTree : Type 0 where
+  pub word : Token
+  pub name : Token
+  pub definitions : List DefinitionTree
+  pub states : List StateTree
+
+pub record ProgramTree : Type 0 where
+  pub word : Token
+  pub name : Token
+  pub macros : Option Token
+  pub parts : List DefinitionTree
+  pub entry : Option BlockTree
+  pub state_sets : List StateSetTree
+  pub exit : Option BlockTree
+
+-- The spelling.
+abbrev pub target_slots : TargetTree → List Slot
+target_slots (to_state x) = Sign State ∷ The x ∷ []
+target_slots to_exit = Sign Exit ∷ []
+
+abbrev pub clause_slots : ClauseTree → List Slot
+clause_slots c = The c.word ∷ (between_slots OpenParenthesis (maybe_slots slots c.condition) CloseParenthesis ++ (block_slots c.body ++ target_slots c.target))
+
+abbrev pub entry_slots : BlockTree → List Slot
+entry_slots b = Sign Entry ∷ block_slots b
+
+abbrev pub exit_slots : BlockTree → List Slot
+exit_slots b = Sign Exit ∷ block_slots b
+
+abbrev pub state_slots : StateTree → List Slot
+state_slots s = The s.word ∷ The s.name ∷ between_slots OpenBrace
+    (row_slots definition_slots s.parts ++ (maybe_slots entry_slots s.entry ++ (row_slots clause_slots s.clauses ++ maybe_slots exit_slots s.exit))) CloseBrace
+
+abbrev pub state_set_slots : StateSetTree → List Slot
+state_set_slots s = The s.word ∷ The s.name ∷ between_slots OpenBrace (row_slots definition_slots s.definitions ++ row_slots state_slots s.states) CloseBrace
+
+abbrev pub macros_slots : Token → List Slot
+macros_slots t = between_slots OpenParenthesis (token_slots t) CloseParenthesis
+
+abbrev pub program_slots : ProgramTree → List Slot
+program_slots p = The p.word ∷ The p.name ∷ (maybe_slots macros_slots p.macros ++ (row_slots definition_slots p.parts ++
+    (maybe_slots entry_slots p.entry ++ (row_slots state_set_slots p.state_sets ++ maybe_slots exit_slots p.exit))))
+
+-- Well formed, with expressions, and statements, that are nested at most n deep.
+abbrev pub IsTarget : TargetTree → Type 0
+IsTarget (to_state x) = x.kind ≡ Name
+IsTarget to_exit = Unit {0}
+
+abbrev pub IsClause : ℕ → ClauseTree → Type 0
+IsClause n c = (c.word.kind ≡ When) × IfThere (IsExpr n) c.condition × IsBlock n c.body × IsTarget c.target
+
+abbrev pub IsState : ℕ → StateTree → Type 0
+IsState n s = (s.word.kind ≡ State) × (s.name.kind ≡ Name) × Each (IsPart n) s.parts × IfThere (IsBlock n) s.entry × Each (IsClause n) s.clauses × IfThere (IsBlock n) s.exit
+
+-- Options stand in programs and states alone.
+abbrev pub IsStateSet : ℕ → StateSetTree → Type 0
+IsStateSet n s = (s.word.kind ≡ StateSet) × (s.name.kind ≡ Name) × Each (IsDefinition n) s.definitions × EachOfSome (IsState n) s.states
+
+abbrev pub IsProgram : ℕ → ProgramTree → Type 0
+IsProgram n p = (p.word.kind ≡ Program) × (p.name.kind ≡ Name) × IfThere (λ t. t.kind ≡ Text) p.macros × Each (IsPart n) p.parts × IfThere (IsBlock n) p.entry × EachOfSome (IsStateSet n) p.state_sets × IfThere (IsBlock n) p.exit
+
+abbrev pub programs : Sort ProgramTree
+programs = record { slots = program_slots; within = IsProgram }

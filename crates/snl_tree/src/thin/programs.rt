@@ -1,0 +1,132 @@
+ghost use Rattle.std.specs.Prelude.{◌≡◌, map};
+ghost use Rattle.std.specs.List.{list_all};
+ghost use Rattle.snl_tree.specs.Thin as specs;
+ghost use Rattle.snl_tree.specs.Thin.{Narrows, StandEach, StandsForClause, StandsForState, StandsForStateSet, StandsForOne, StandsFor};
+ghost use Rattle.snl_tree.specs.ProgramView.{clause_view, state_view, state_set_view, program_view};
+
+use crate::thin::definitions::parts;
+use crate::thin::expressions::{Narrowed, value};
+use crate::thin::statements::block;
+use crate::trees::{Clause, Program, State, StateSet};
+use crate::whole;
+use std::alloc::{AllocError, Global};
+
+/// `when (VALUE) { STATEMENTS } state NAME`
+fn clause<'a>(alloc: Global, clause: &whole::Clause<'a>) -> Narrowed<Clause<'a>>
+    ensures { let c = clause_view clause.now in Narrows (specs.is_thin_clause c) (StandsForClause c) result }
+{
+    let whole::Target::State(target) = clause.target else {
+        return Ok(None);
+    };
+    let Some(condition) = &clause.condition else {
+        return Ok(None);
+    };
+    let Some(condition) = value(alloc, condition)? else {
+        return Ok(None);
+    };
+    let Some(block) = block(alloc, &clause.body)? else {
+        return Ok(None);
+    };
+    Ok(Some(Clause {
+        when: clause.word,
+        condition,
+        block,
+        target,
+    }))
+}
+
+fn clauses<'a>(alloc: Global, all: &[whole::Clause<'a>]) -> Narrowed<Vec<Clause<'a>>>
+    ensures { let cs = map clause_view all.now in Narrows (list_all specs.is_thin_clause cs) (λ v. StandEach StandsForClause cs v.items) result }
+{
+    let mut found = Vec::new(alloc);
+    for next in all {
+        match clause(alloc, next)? {
+            Some(clause) => found.push(clause)?,
+            None => return Ok(None),
+        }
+    }
+    Ok(Some(found))
+}
+
+/// `state NAME { CLAUSE CLAUSE .. }`
+fn state<'a>(alloc: Global, state: &whole::State<'a>) -> Narrowed<State<'a>>
+    ensures { let s = state_view state.now in Narrows (specs.is_thin_state s) (StandsForState s) result }
+{
+    if !state.definitions.is_empty() || state.entry.is_some() || state.exit.is_some() {
+        return Ok(None);
+    }
+    match clauses(alloc, &state.clauses)? {
+        Some(clauses) => Ok(Some(State {
+            name: state.name,
+            clauses,
+        })),
+        None => Ok(None),
+    }
+}
+
+fn states<'a>(alloc: Global, all: &[whole::State<'a>]) -> Narrowed<Vec<State<'a>>>
+    ensures { let ss = map state_view all.now in Narrows (list_all specs.is_thin_state ss) (λ v. StandEach StandsForState ss v.items) result }
+{
+    let mut found = Vec::new(alloc);
+    for next in all {
+        match state(alloc, next)? {
+            Some(state) => found.push(state)?,
+            None => return Ok(None),
+        }
+    }
+    Ok(Some(found))
+}
+
+/// `ss NAME { STATE STATE .. }`
+fn state_set<'a>(alloc: Global, set: &whole::StateSet<'a>) -> Narrowed<StateSet<'a>>
+    ensures { let s = state_set_view set.now in Narrows (specs.is_thin_state_set s) (StandsForStateSet s) result }
+{
+    if !set.definitions.is_empty() {
+        return Ok(None);
+    }
+    match states(alloc, &set.states)? {
+        Some(states) => Ok(Some(StateSet {
+            name: set.name,
+            states,
+        })),
+        None => Ok(None),
+    }
+}
+
+/// One state set, and no other.
+fn one_set<'a>(alloc: Global, sets: &[whole::StateSet<'a>]) -> Narrowed<StateSet<'a>>
+    ensures { let ss = map state_set_view sets.now in Narrows (specs.is_one_set ss) (StandsForOne ss) result }
+{
+    if sets.len() != 1 {
+        return Ok(None);
+    }
+    state_set(alloc, &sets[0])
+}
+
+/// The tree of the first language that stands for a program, where the program is thin: the names, strings,
+/// operators and numbers of the whole tree, without the words between them.
+///
+/// `None` comes exactly where the program uses a form beyond the first language, and `Err` only where the
+/// new tree found no room in memory.
+pub fn narrow<'a>(
+    alloc: Global,
+    program: &whole::Program<'a>,
+) -> Result<Option<Program<'a>>, AllocError>
+    ensures { let p = program_view program.now in Narrows (specs.is_thin p) (StandsFor p) result }
+{
+    if program.macros.is_some() || program.entry.is_some() || program.exit.is_some() {
+        return Ok(None);
+    }
+    let Some(definitions) = parts(alloc, &program.definitions)? else {
+        return Ok(None);
+    };
+    match one_set(alloc, &program.state_sets)? {
+        Some(state_set) => Ok(Some(Program {
+            keyword: program.word,
+            name: program.name,
+            definitions,
+            state_set,
+        })),
+        None => Ok(None),
+    }
+}

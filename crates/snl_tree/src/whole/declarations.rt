@@ -1,0 +1,43 @@
+use crate::whole::expr::Expr;
+use snl_text::Token;
+
+/// `type dname ( ',' dname )* ';'`
+#[derive(Debug, Drop)]
+pub struct Declaration<'a> {
+    pub type_name: TypeName<'a>,
+    /// At least one.
+    pub names: Vec<Declarator<'a>>,
+}
+
+/// The words of a type: `char`, `short`, `int`, `long`, a sized name, `float`, `double`, `string`, or
+/// `unsigned` alone or before one of the first four.
+#[derive(Clone, Copy, Debug)]
+pub struct TypeName<'a> {
+    pub word: Token<'a>,
+    /// Behind `unsigned` alone.
+    pub second: Option<Token<'a>>,
+}
+
+/// `dname : NAME ( '[' expr ']' )* [ '=' init ]`
+#[derive(Debug, Drop)]
+pub struct Declarator<'a> {
+    pub name: Token<'a>,
+    /// One for each dimension.
+    pub sizes: Vec<Expr<'a>>,
+    pub initial: Option<Initialiser<'a>>,
+}
+
+/// `init : asg | '{' [ asg ( ',' asg )* [','] ] '}'`
+#[derive(Debug, Drop)]
+pub enum Initialiser<'a> {
+    Single(Expr<'a>),
+    List(Values<'a>),
+}
+
+/// The values of a list in braces.
+#[derive(Debug, Drop)]
+pub struct Values<'a> {
+    pub each: Vec<Expr<'a>>,
+    /// Whether a comma stands behind the last one; it says nothing where there is none.
+    pub comma: bool,
+}

@@ -1,0 +1,62 @@
+use crate::whole::definitions::Def;
+use crate::whole::expr::Expr;
+use crate::whole::stmt::Block;
+use snl_text::Token;
+
+/// `program : 'program' NAME [ '(' STRING ')' ] pdef* [entry] ss+ [exit]`
+#[derive(Drop)]
+pub struct Program<'a> {
+    /// `program`
+    pub word: Token<'a>,
+    pub name: Token<'a>,
+    /// The definitions of macros.
+    pub macros: Option<Token<'a>>,
+    pub definitions: Vec<Def<'a>>,
+    pub entry: Option<Block<'a>>,
+    /// At least one.
+    pub state_sets: Vec<StateSet<'a>>,
+    pub exit: Option<Block<'a>>,
+}
+
+/// `ss : 'ss' NAME '{' def* state+ '}'`
+#[derive(Drop)]
+pub struct StateSet<'a> {
+    /// `ss`
+    pub word: Token<'a>,
+    pub name: Token<'a>,
+    /// No options.
+    pub definitions: Vec<Def<'a>>,
+    /// At least one; the first is the initial one.
+    pub states: Vec<State<'a>>,
+}
+
+/// `state : 'state' NAME '{' tdef* [entry] when* [exit] '}'`
+#[derive(Debug, Drop)]
+pub struct State<'a> {
+    /// `state`
+    pub word: Token<'a>,
+    pub name: Token<'a>,
+    pub definitions: Vec<Def<'a>>,
+    pub entry: Option<Block<'a>>,
+    pub clauses: Vec<Clause<'a>>,
+    pub exit: Option<Block<'a>>,
+}
+
+/// `when : 'when' '(' [expr] ')' block ( 'state' NAME | 'exit' )`
+#[derive(Debug, Drop)]
+pub struct Clause<'a> {
+    /// `when`
+    pub word: Token<'a>,
+    pub condition: Option<Expr<'a>>,
+    pub body: Block<'a>,
+    pub target: Target<'a>,
+}
+
+/// Where a [`Clause`] leads.
+#[derive(Clone, Copy, Debug)]
+pub enum Target<'a> {
+    /// To the state of that name.
+    State(Token<'a>),
+    /// Out of the program.
+    Exit,
+}
