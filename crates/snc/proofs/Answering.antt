@@ -1,5 +1,5 @@
 -- What the steps answer is what the source means.
-use Rattle.std.proofs.Common.{◌≡◌, ◌<◌, ◌≤◌, ◌↔◌, inl, inr, ℕ, List, [], ◌∷◌, Option, None, Some, IsSome, IfSome, is_some, if◌then◌else◌, Contains, Result, Ok, Err, length, take, slice_get, refl, sym, ap, subst, ◌∙◌, arith}
+use Rattle.std.proofs.Common.{◌≡◌, ◌<◌, ◌≤◌, ◌↔◌, inl, inr, ℕ, List, [], ◌∷◌, Option, None, Some, IsSome, IfSome, is_some, if◌then◌else◌, Contains, Result, Ok, Err, length, take, slice_get, codes, true, false, refl, sym, ap, subst, ◌∙◌, arith}
 use Rattle.std.specs.Option.{option_map}
 use Rattle.std.proofs.lemmas.Bool.{false≢true}
 use Rattle.std.proofs.lemmas.List.Elements.{Contains-push}
@@ -14,6 +14,9 @@ use Rattle.snl_text.specs.Faults.{fault_pos, fault_text}
 use Rattle.snl_text.specs.Lexing.{FaultHolds, GivesOnly, IsLexed}
 use Rattle.snl_check.specs.declared.messages.Severity.TheVariants.{Error}
 use Rattle.snl_tree.specs.declared.trees.Program.{Program}
+use Rattle.snl_tree.specs.Begins.{Spells, IsUnexpected, IsTooDeep}
+use Rattle.snl_tree.specs.Programs.{ProgramTree, IsProgram, programs}
+use Rattle.snl_tree.specs.Thin.{is_thin, StandsFor}
 use Rattle.snl_check.specs.declared.checked.Checked.{Checked}
 use Rattle.snl_check.specs.Messages.{Said, IsInOrder}
 use Rattle.snl_check.specs.Rules.{IsSaid, IsAccepted}
@@ -27,10 +30,10 @@ use Rattle.snl_trace.specs.Run.{rules_by, rules_of}
 use Rattle.snl_trace.specs.Took.{RunsOver, standing}
 use Rattle.snl_trace.specs.declared.runner.End.{End}
 use Rattle.snc.specs.declared.jobs.Status.TheVariants.{Well, SourceErrors}
-use Rattle.snc.specs.Judging.{AreNamesOf, HasFault, HasTokens, IsJudged, NoErrors, error_at, names_of, syntax_error}
+use Rattle.snc.specs.Judging.{AreNamesOf, HasFault, HasTokens, IsJudged, IsSaidOf, IsTreeSaid, NoErrors, error_at, fault_at, names_of, nesting_error, not_yet, syntax_error}
 use Rattle.snc.specs.Outcomes.{IsReport, IsRunOf, IsSession, at_first, status_of}
 use Rattle.snc.specs.Texts.{text_of}
-use Rattle.snc.specs.Told.{AreTokensTold, IsFaultTold, IsProgramTold}
+use Rattle.snc.specs.Told.{AreTokensTold, IsFaultTold, IsProgramTold, IsTreeTold}
 
 -- an error alone
 lone_error : (messages : List Said) (pos : Pos) (number : ℕ) (text : List ℕ) → messages ≡ error_at pos number text ∷ [] → NoErrors messages → ⊥
@@ -96,40 +99,84 @@ judged_tokens word source text lexed checked has w = record {
   same = w.same;
 }
 
-is_error : (lexed : Lexed) (o : Option Token) → (syntax_error lexed o).severity ≡ Error
-is_error lexed None = refl
-is_error lexed (Some t) = refl
+is_error : (lexed : Lexed) (number : ℕ) (words at_end : List ℕ) (o : Option Token) → (fault_at lexed number words at_end o).severity ≡ Error
+is_error lexed number words at_end None = refl
+is_error lexed number words at_end (Some t) = refl
 
-lone_syntax_error : (messages : List Said) (lexed : Lexed) (o : Option Token) → messages ≡ syntax_error lexed o ∷ [] → NoErrors messages → ⊥
-lone_syntax_error messages lexed o is none =
-    none (syntax_error lexed o) (subst (λ l. Contains l (syntax_error lexed o)) (sym is) (Contains-push [] (syntax_error lexed o))) (is_error lexed o)
+-- an error alone
+error_alone : (message : Said) → message.severity ≡ Error → NoErrors (message ∷ []) → ⊥
+error_alone message is none = none message (Contains-push [] message) is
 
--- tokens that are no program
-pub told_stuck : (word text : List ℕ) (names : List (List ℕ)) (lexed : Lexed) (k : ℕ) (checked : Option Checked) → names ≡ names_of lexed
-    → text ≡ text_of word names (syntax_error lexed (slice_get lexed.tokens.items k) ∷ []) → checked ≡ None → AreTokensTold word lexed text (tree_of checked)
-told_stuck word text names lexed k checked named is none = subst (λ o. AreTokensTold word lexed text (tree_of o)) (sym none) record {
-  messages = syntax_error lexed (slice_get lexed.tokens.items k) ∷ [];
+-- tokens with one message, which is an error
+told_alone : (word text : List ℕ) (names : List (List ℕ)) (lexed : Lexed) (message : Said) (checked : Option Checked) → names ≡ names_of lexed
+    → message.severity ≡ Error → IsSaidOf lexed (message ∷ []) None → text ≡ text_of word names (message ∷ []) → checked ≡ None → AreTokensTold word lexed text (tree_of checked)
+told_alone word text names lexed message checked named error said is none = subst (λ o. AreTokensTold word lexed text (tree_of o)) (sym none) record {
+  messages = message ∷ [];
   tree = None;
-  said = record { k = k; read = tt; messages_are = refl };
-  text_is = is ∙ ap (λ n. text_of word n (syntax_error lexed (slice_get lexed.tokens.items k) ∷ [])) named;
-  accepted = (λ h. absurd (false≢true h), λ h. absurd (lone_syntax_error _ lexed (slice_get lexed.tokens.items k) refl h));
+  said = said;
+  text_is = is ∙ ap (λ n. text_of word n (message ∷ [])) named;
+  accepted = (λ h. absurd (false≢true h), λ h. absurd (error_alone message error h));
   same = tt;
 }
+
+-- tokens that are no program
+pub told_stuck : (word text : List ℕ) (names : List (List ℕ)) (lexed : Lexed) (tokens : List Token) (k : ℕ) (checked : Option Checked) → names ≡ names_of lexed → tokens ≡ lexed.tokens.items
+    → IsUnexpected programs 64 tokens k → text ≡ text_of word names (syntax_error lexed (slice_get lexed.tokens.items k) ∷ []) → checked ≡ None → AreTokensTold word lexed text (tree_of checked)
+told_stuck word text names lexed tokens k checked named are read is none =
+    told_alone word text names lexed (syntax_error lexed (slice_get lexed.tokens.items k)) checked named (is_error lexed 1 (codes "syntax error at '") (codes "syntax error at end of file") (slice_get lexed.tokens.items k))
+    (inr (inl record { k = k; read = subst (λ (ts : List Token). IsUnexpected programs 64 ts k) are read; messages_are = refl; tree_is = refl })) is none
+
+-- tokens that are nested too deep
+pub told_deep : (word text : List ℕ) (names : List (List ℕ)) (lexed : Lexed) (tokens : List Token) (k : ℕ) (checked : Option Checked) → names ≡ names_of lexed → tokens ≡ lexed.tokens.items
+    → IsTooDeep programs 64 tokens k → text ≡ text_of word names (nesting_error lexed (slice_get lexed.tokens.items k) ∷ []) → checked ≡ None → AreTokensTold word lexed text (tree_of checked)
+told_deep word text names lexed tokens k checked named are read is none =
+    told_alone word text names lexed (nesting_error lexed (slice_get lexed.tokens.items k)) checked named (is_error lexed 2 (codes "nesting deeper than 64 at '") (codes "nesting deeper than 64 at end of file") (slice_get lexed.tokens.items k))
+    (inr (inr record { k = k; read = subst (λ (ts : List Token). IsTooDeep programs 64 ts k) are read; messages_are = refl; tree_is = refl })) is none
 
 some_tree : (o : Option Program) (p : Program) → IfSome o (λ q. q ≡ p) → IfSome o (λ q. Some p ≡ Some q)
 some_tree None p h = tt
 some_tree (Some q) p h = ap Some (sym h)
 
--- tokens that are a program
-pub told_program : (word text : List ℕ) (names : List (List ℕ)) (lexed : Lexed) (p : Program) (embedded : List Pos) (checked : Option Program) → names ≡ names_of lexed → embedded ≡ lexed.embedded.items
-    → IsProgramTold word names p embedded text checked → AreTokensTold word lexed text checked
-told_program word text names lexed p embedded checked named pieces w = record {
+-- a tree of the whole language that is one of the first
+pub told_thin : (word text : List ℕ) (names : List (List ℕ)) (whole : ProgramTree) (p : Program) (embedded : List Pos) (checked : Option Program) → is_thin whole ≡ true → StandsFor whole p
+    → IsProgramTold word names p embedded text checked → IsTreeTold word names whole embedded text checked
+told_thin word text names whole p embedded checked thin stands w = record {
   messages = w.messages;
   tree = Some p;
-  said = record { read = tt; exactly = subst (λ e. (m : Said) → Contains w.messages m ↔ IsSaid p e m) pieces w.exactly; in_order = w.in_order };
-  text_is = w.text_is ∙ ap (λ n. text_of word n w.messages) named;
+  said = record { thin = thin; stands = stands; exactly = w.exactly; in_order = w.in_order };
+  text_is = w.text_is;
   accepted = w.accepted;
   same = some_tree checked p w.same;
+}
+
+-- and one that is not
+pub told_not_yet : (word text : List ℕ) (names : List (List ℕ)) (whole : ProgramTree) (embedded : List Pos) (checked : Option Checked) → is_thin whole ≡ false
+    → text ≡ text_of word names (not_yet whole ∷ []) → checked ≡ None → IsTreeTold word names whole embedded text (tree_of checked)
+told_not_yet word text names whole embedded checked thin is none = subst (λ o. IsTreeTold word names whole embedded text (tree_of o)) (sym none) record {
+  messages = not_yet whole ∷ [];
+  tree = None;
+  said = (thin, refl);
+  text_is = is;
+  accepted = (λ h. absurd (false≢true h), λ h. absurd (error_alone (not_yet whole) refl h));
+  same = tt;
+}
+
+-- tokens that are a program
+pub told_program : (word text : List ℕ) (names : List (List ℕ)) (lexed : Lexed) (tokens : List Token) (whole : ProgramTree) (embedded : List Pos) (checked : Option Program) → names ≡ names_of lexed
+    → tokens ≡ lexed.tokens.items → embedded ≡ lexed.embedded.items → IsProgram 64 whole → Spells programs whole tokens → IsTreeTold word names whole embedded text checked
+    → AreTokensTold word lexed text checked
+told_program word text names lexed tokens whole embedded checked named are pieces is spelled w = record {
+  messages = w.messages;
+  tree = w.tree;
+  said = inl record {
+    whole = whole;
+    is = is;
+    spelled = subst (λ (ts : List Token). Spells programs whole ts) are spelled;
+    said = subst (λ (e : List Pos). IsTreeSaid whole e w.messages w.tree) pieces w.said;
+  };
+  text_is = w.text_is ∙ ap (λ n. text_of word n w.messages) named;
+  accepted = w.accepted;
+  same = w.same;
 }
 
 is_some_tree : (o : Option Checked) → IsSome (tree_of o) ↔ IsSome o

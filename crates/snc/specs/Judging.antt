@@ -1,5 +1,5 @@
 -- What the rules say of a source: its messages, and its tree, if its tokens spell one.
-use Rattle.std.specs.Prelude.{◌≡◌, ◌⊎◌, ◌↔◌, ℕ, ◌<◌, ◌≤◌, List, [], ◌∷◌, ◌++◌, length, map, take, Option, None, Some, IsSome, IfSome, Result, Ok, Err, slice_get, Contains, codes}
+use Rattle.std.specs.Prelude.{◌≡◌, ◌⊎◌, ◌↔◌, ℕ, true, false, ◌<◌, ◌≤◌, List, [], ◌∷◌, ◌++◌, length, map, take, Option, None, Some, IsSome, IfSome, slice_get, Contains, codes}
 use Rattle.snl_text.specs.Cut.{Reading, start}
 use Rattle.snl_text.specs.Faults.{fault_text, fault_pos}
 use Rattle.snl_text.specs.Lexing.{FaultHolds, IsCut, IsLexed}
@@ -8,9 +8,10 @@ use Rattle.snl_text.specs.declared.faults.LexFault.TheVariants.{SourceTooLong}
 use Rattle.snl_text.specs.declared.tokens.Lexed.{Lexed}
 use Rattle.snl_text.specs.declared.tokens.Pos.{Pos}
 use Rattle.snl_text.specs.declared.tokens.Token.{Token}
-use Rattle.snl_tree.specs.declared.faults.ParseFault.{ParseFault}
-use Rattle.snl_tree.specs.declared.faults.ParseFault.TheVariants.{Unexpected}
 use Rattle.snl_tree.specs.declared.trees.Program.{Program}
+use Rattle.snl_tree.specs.Begins.{Spells, IsUnexpected, IsTooDeep}
+use Rattle.snl_tree.specs.Programs.{ProgramTree, IsProgram, programs}
+use Rattle.snl_tree.specs.Thin.{is_thin, StandsFor}
 use Rattle.snl_check.specs.declared.messages.Severity.TheVariants.{Error}
 use Rattle.snl_check.specs.Messages.{Said, IsInOrder}
 use Rattle.snl_check.specs.Rules.{IsSaid}
@@ -48,32 +49,59 @@ pub record HasTokens (source : List ℕ) (lexed : Lexed) : Type 0 where
   pub within : length source ≤ 1048576
   pub is : IsLexed source lexed
 
--- What it means that tokens are read so: as this tree, or up to this fault. Nothing is known of it yet; the contract of
--- the parser is to stand here.
-abbrev pub AreReadAs : Lexed → Result Program ParseFault → Type 0
-AreReadAs lexed answer = Unit {0}
+-- what is said at a token, or at the end of the file
+abbrev pub fault_at : Lexed → ℕ → List ℕ → List ℕ → Option Token → Said
+fault_at lexed number words at_end None = error_at lexed.eof number at_end
+fault_at lexed number words at_end (Some t) = error_at t.pos number (words ++ (t.text.now ++ codes "'"))
 
 -- E01, at a token or at the end of the file
 abbrev pub syntax_error : Lexed → Option Token → Said
-syntax_error lexed None = error_at lexed.eof 1 (codes "syntax error at end of file")
-syntax_error lexed (Some t) = error_at t.pos 1 (codes "syntax error at '" ++ (t.text.now ++ codes "'"))
+syntax_error lexed o = fault_at lexed 1 (codes "syntax error at '") (codes "syntax error at end of file") o
 
--- E01, alone: the tokens are no program from one of them on
-pub record IsNoProgram (lexed : Lexed) (messages : List Said) : Type 0 where
+-- E02, at a token (what is nested too deep is never the end of the file)
+abbrev pub nesting_error : Lexed → Option Token → Said
+nesting_error lexed o = fault_at lexed 2 (codes "nesting deeper than 64 at '") (codes "nesting deeper than 64 at end of file") o
+
+-- E05, at the word `program`
+abbrev pub not_yet : ProgramTree → Said
+not_yet whole = error_at whole.word.pos 5 (codes "not run yet")
+
+-- E01, alone: no program goes on with one of the tokens, or they end too early
+pub record IsStuck (lexed : Lexed) (messages : List Said) (tree : Option Program) : Type 0 where
   pub k : ℕ
-  pub read : AreReadAs lexed (Err (Unexpected k))
+  pub read : IsUnexpected programs 64 lexed.tokens.items k
   pub messages_are : messages ≡ syntax_error lexed (slice_get lexed.tokens.items k) ∷ []
+  pub tree_is : tree ≡ None
 
--- all that is said of a program
-pub record IsProgramSaid (lexed : Lexed) (p : Program) (messages : List Said) : Type 0 where
-  pub read : AreReadAs lexed (Ok p)
-  pub exactly : (m : Said) → Contains messages m ↔ IsSaid p lexed.embedded.items m
+-- E02, alone: with one of the tokens go on only programs that are nested deeper than 64
+pub record IsNestedDeeper (lexed : Lexed) (messages : List Said) (tree : Option Program) : Type 0 where
+  pub k : ℕ
+  pub read : IsTooDeep programs 64 lexed.tokens.items k
+  pub messages_are : messages ≡ nesting_error lexed (slice_get lexed.tokens.items k) ∷ []
+  pub tree_is : tree ≡ None
+
+-- all that is said of a program of the first language, which is the tree of the checks
+pub record IsThinSaid (whole : ProgramTree) (embedded : List Pos) (messages : List Said) (p : Program) : Type 0 where
+  pub thin : is_thin whole ≡ true
+  pub stands : StandsFor whole p
+  pub exactly : (m : Said) → Contains messages m ↔ IsSaid p embedded m
   pub in_order : IsInOrder messages
 
--- what is said of tokens, by the tree that they are read as, if any
+-- what is said of a program of the whole language: E05, alone, where it is none of the first language
+abbrev pub IsTreeSaid : ProgramTree → List Pos → List Said → Option Program → Type 0
+IsTreeSaid whole embedded messages None = (is_thin whole ≡ false) × (messages ≡ not_yet whole ∷ [])
+IsTreeSaid whole embedded messages (Some p) = IsThinSaid whole embedded messages p
+
+-- the tokens spell a program
+pub record IsProgramSaid (lexed : Lexed) (messages : List Said) (tree : Option Program) : Type 0 where
+  pub whole : ProgramTree
+  pub is : IsProgram 64 whole
+  pub spelled : Spells programs whole lexed.tokens.items
+  pub said : IsTreeSaid whole lexed.embedded.items messages tree
+
+-- what is said of tokens, and the tree of the checks, if they spell a program of the first language
 abbrev pub IsSaidOf : Lexed → List Said → Option Program → Type 0
-IsSaidOf lexed messages None = IsNoProgram lexed messages
-IsSaidOf lexed messages (Some p) = IsProgramSaid lexed p messages
+IsSaidOf lexed messages tree = IsProgramSaid lexed messages tree ⊎ (IsStuck lexed messages tree ⊎ IsNestedDeeper lexed messages tree)
 
 abbrev pub names_of : Lexed → List (List ℕ)
 names_of lexed = map (λ name. name.now) lexed.files.items

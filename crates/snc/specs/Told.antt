@@ -4,9 +4,10 @@ use Rattle.snl_text.specs.declared.faults.LexFault.{LexFault}
 use Rattle.snl_text.specs.declared.tokens.Lexed.{Lexed}
 use Rattle.snl_text.specs.declared.tokens.Pos.{Pos}
 use Rattle.snl_tree.specs.declared.trees.Program.{Program}
+use Rattle.snl_tree.specs.Programs.{ProgramTree}
 use Rattle.snl_check.specs.Messages.{Said, IsInOrder}
 use Rattle.snl_check.specs.Rules.{IsSaid}
-use Rattle.snc.specs.Judging.{IsFaultSaid, IsSaidOf, NoErrors, names_of}
+use Rattle.snc.specs.Judging.{IsFaultSaid, IsSaidOf, IsTreeSaid, NoErrors, names_of}
 use Rattle.snc.specs.Texts.{text_of}
 
 -- the text of the message about a fault
@@ -25,7 +26,16 @@ pub record AreTokensTold (word : List ℕ) (lexed : Lexed) (text : List ℕ) (ch
   pub accepted : IsSome checked ↔ NoErrors messages
   pub same : IfSome checked (λ p. tree ≡ Some p)
 
--- the text of the messages about a program, and its tree, if none is an error
+-- the text of the messages about a program of the whole language, and the tree of the checks, if none is an error
+pub record IsTreeTold (word : List ℕ) (names : List (List ℕ)) (whole : ProgramTree) (embedded : List Pos) (text : List ℕ) (checked : Option Program) : Type 0 where
+  pub messages : List Said
+  pub tree : Option Program
+  pub said : IsTreeSaid whole embedded messages tree
+  pub text_is : text ≡ text_of word names messages
+  pub accepted : IsSome checked ↔ NoErrors messages
+  pub same : IfSome checked (λ p. tree ≡ Some p)
+
+-- the text of the messages about a program of the first language, and its tree, if none is an error
 pub record IsProgramTold (word : List ℕ) (names : List (List ℕ)) (program : Program) (embedded : List Pos) (text : List ℕ) (checked : Option Program) : Type 0 where
   pub messages : List Said
   pub exactly : (m : Said) → Contains messages m ↔ IsSaid program embedded m

@@ -2,14 +2,16 @@
 
 ghost use Rattle.std.specs.Prelude.{◌≡◌, [], ◌∷◌, ◌++◌, map, take, codes, IfOk, slice_get};
 ghost use Rattle.std.specs.Option.{option_map};
-ghost use Rattle.snc.specs.Judging.{AreNamesOf, IsJudged, error_at, syntax_error};
+ghost use Rattle.snc.specs.Judging.{AreNamesOf, IsJudged, error_at, fault_at, nesting_error, syntax_error};
 ghost use Rattle.snc.specs.Texts.{text_of};
-ghost use Rattle.snc.specs.Told.{AreTokensTold, IsFaultTold, IsProgramTold};
+ghost use Rattle.snc.specs.Told.{AreTokensTold, IsFaultTold, IsProgramTold, IsTreeTold};
+ghost use Rattle.snl_tree.specs.ProgramView.{program_view};
 
 use crate::lines::{Names, push_line, push_lines};
 use snl_check::{Checked, Outcome, Severity, check};
 use snl_text::{LexFault, Lexed, Pos, Token, lex};
-use snl_tree::{ParseFault, Program, parse};
+use snl_tree::thin::{Program, narrow};
+use snl_tree::{ParseFault, parse, whole};
 use std::alloc::{AllocError, Global};
 
 /// What the rules say of a source: its messages as text, and the program if none is an error.
@@ -91,14 +93,42 @@ fn tokens_judged<'a>(
         read: file,
         marked: lexed.files.as_slice(),
     };
-    match parse(alloc, lexed) {
+    match parse(alloc, lexed.tokens.as_slice()) {
         Ok(program) => {
-            let found = program_judged(alloc, program, lexed.embedded.as_slice(), names)?;
+            let found = tree_judged(alloc, program, lexed.embedded.as_slice(), names)?;
             Ok(found)
         }
         Err(ParseFault::Memory) => Err(AllocError),
         Err(ParseFault::Unexpected(k)) => {
             let found = syntax_fault(alloc, lexed, k, names)?;
+            Ok(found)
+        }
+        Err(ParseFault::TooDeep(k)) => {
+            let found = nesting_fault(alloc, lexed, k, names)?;
+            Ok(found)
+        }
+    }
+}
+
+/// All messages of a program of the whole language: where it is none of the first language, the one that it
+/// isn't run yet.
+fn tree_judged<'a>(
+    alloc: Global,
+    program: whole::Program<'a>,
+    embedded: &[Pos],
+    names: Names,
+) -> Result<Findings<'a>, AllocError>
+    ensures { IfOk result (λ f. IsTreeTold names.entry.read.now (map (λ name. name.now) names.entry.marked.now) (program_view program.entry) embedded.now
+        f.messages.items (option_map (λ c. c.program) f.checked)) }
+{
+    let word = program.word;
+    match narrow(alloc, program)? {
+        Some(thin) => {
+            let found = program_judged(alloc, thin, embedded, names)?;
+            Ok(found)
+        }
+        None => {
+            let found = refused(alloc, names, word.pos, 5, b"not run yet")?;
             Ok(found)
         }
     }
@@ -134,14 +164,66 @@ fn syntax_fault<'a>(
         (syntax_error lexed.now (slice_get lexed.now.tokens.items k) ∷ [])) }
     ensures none { IfOk result (λ f. f.checked ≡ None) }
 {
+    let words = b"syntax error at '";
+    let found = token_fault(
+        alloc,
+        lexed,
+        k,
+        names,
+        1,
+        words,
+        b"syntax error at end of file",
+    )?;
+    Ok(found)
+}
+
+/// The one message of tokens with which only programs go on that are nested too deep.
+fn nesting_fault<'a>(
+    alloc: Global,
+    lexed: &Lexed,
+    k: usize,
+    names: Names,
+) -> Result<Findings<'a>, AllocError>
+    ensures text { IfOk result (λ f. f.messages.items ≡ text_of names.entry.read.now (map (λ name. name.now) names.entry.marked.now)
+        (nesting_error lexed.now (slice_get lexed.now.tokens.items k) ∷ [])) }
+    ensures none { IfOk result (λ f. f.checked ≡ None) }
+{
+    let words = b"nesting deeper than 64 at '";
+    let found = token_fault(
+        alloc,
+        lexed,
+        k,
+        names,
+        2,
+        words,
+        b"nesting deeper than 64 at end of file",
+    )?;
+    Ok(found)
+}
+
+/// An error at a token, whose text stands behind some words and a quote behind that; or at the end of the
+/// file.
+fn token_fault<'a>(
+    alloc: Global,
+    lexed: &Lexed,
+    k: usize,
+    names: Names,
+    number: u8,
+    words: &[u8],
+    at_end: &[u8],
+) -> Result<Findings<'a>, AllocError>
+    ensures text { IfOk result (λ f. f.messages.items ≡ text_of names.entry.read.now (map (λ name. name.now) names.entry.marked.now)
+        (fault_at lexed.now number words.now at_end.now (slice_get lexed.now.tokens.items k) ∷ [])) }
+    ensures none { IfOk result (λ f. f.checked ≡ None) }
+{
     match token_at(lexed, k) {
-        None => {
-            let found = refused(alloc, names, lexed.eof, 1, b"syntax error at end of file")?;
+        Some(token) => {
+            let text = words_at(alloc, words, token.text)?;
+            let found = refused(alloc, names, token.pos, number, text.as_slice())?;
             Ok(found)
         }
-        Some(token) => {
-            let text = stuck_at(alloc, token.text)?;
-            let found = refused(alloc, names, token.pos, 1, text.as_slice())?;
+        None => {
+            let found = refused(alloc, names, lexed.eof, number, at_end)?;
             Ok(found)
         }
     }
@@ -154,11 +236,11 @@ fn token_at<'a>(lexed: &Lexed<'a>, k: usize) -> Option<Token<'a>>
     lexed.tokens.get(k).copied()
 }
 
-/// `syntax error at 'TOKEN'`
-fn stuck_at(alloc: Global, token: &[u8]) -> Result<Vec<u8>, AllocError>
-    ensures { IfOk result (λ text. text.items ≡ codes "syntax error at '" ++ (token.now ++ codes "'")) }
+/// Words, with a token and a quote behind them.
+fn words_at(alloc: Global, words: &[u8], token: &[u8]) -> Result<Vec<u8>, AllocError>
+    ensures { IfOk result (λ text. text.items ≡ words.now ++ (token.now ++ codes "'")) }
 {
-    let mut text = Vec::from_slice(alloc, b"syntax error at '")?;
+    let mut text = Vec::from_slice(alloc, words)?;
     text.extend_from_slice(token)?;
     text.push(b'\'')?;
     Ok(text)

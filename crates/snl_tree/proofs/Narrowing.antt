@@ -17,16 +17,20 @@ use Rattle.snl_tree.specs.declared.trees.Stmt.TheVariants as stmt
 use Rattle.snl_tree.specs.declared.trees.StateSet.{StateSet}
 use Rattle.snl_tree.specs.StatementReading.{statement_list}
 use Rattle.snl_tree.specs.View.{view, pair_of, list_before}
-use Rattle.snl_tree.specs.Thin.{joins, compares, is_sum, are_joined, is_comparison, statements_of, is_one_name, is_none_of, is_spelled, is_thin_statement, StandsForStatement, is_one_set, is_thin_state_set, StandsForOne, StandsForStateSet, Narrows, wide, wide_terms, StandEach, Finds}
+use Rattle.snl_tree.specs.Thin.{joins, compares, is_sum, are_joined, is_comparison, statements_of, is_one_name, is_none_of, is_spelled, is_thin_statement, StandsForStatement, is_one_set, is_thin_state_set, StandsForOne, StandsForStateSet, Narrows, wide, wide_terms, StandEach, Finds, lone}
 use Rattle.snl_tree.proofs.Rows.{view_chain}
 
--- The smaller trees found so far stand for the first i of a list.
-pub record EachSoFar {A B C : Type 0} (thin : A → Bool) (Stands : A → B → Type 0) (show : C → A) (xs : List C) (i : ℕ) (found : List B) : Type 0 where
-  pub same : list_all thin (map show xs) ≡ list_all thin (map show (drop i xs))
-  pub stand : (bs : List B) → StandEach Stands (map show (drop i xs)) bs → StandEach Stands (map show xs) (found ++ bs)
+-- The smaller trees found so far stand for all of a list but the rest.
+pub record AllBut {A B C : Type 0} (thin : A → Bool) (Stands : A → B → Type 0) (show : C → A) (xs rest : List C) (found : List B) : Type 0 where
+  pub same : list_all thin (map show xs) ≡ list_all thin (map show rest)
+  pub stand : (bs : List B) → StandEach Stands (map show rest) bs → StandEach Stands (map show xs) (found ++ bs)
+
+-- They stand for the first i of it.
+abbrev pub EachSoFar : {A B C : Type 0} → (A → Bool) → (A → B → Type 0) → (C → A) → List C → ℕ → List B → Type 0
+EachSoFar thin Stands show xs i found = AllBut thin Stands show xs (drop i xs) found
 
 module _ {A B C : Type 0} (thin : A → Bool) (Stands : A → B → Type 0) (show : C → A) (xs : List C) where
-  pub none_so_far : EachSoFar thin Stands show xs 0 []
+  pub none_so_far : AllBut thin Stands show xs xs []
   none_so_far = record { same = refl; stand = λ bs h. h }
 
   next : (i : ℕ) (x : C) → i < length xs → x ≡ get_or xs i x → drop i xs ≡ x ∷ drop (i + 1) xs
@@ -40,22 +44,31 @@ module _ {A B C : Type 0} (thin : A → Bool) (Stands : A → B → Type 0) (sho
   and_false true b e = cc
   and_false false b e = refl
 
-  pub one_more : (i : ℕ) (found : List B) (x : C) (y : B) → EachSoFar thin Stands show xs i found → i < length xs → x ≡ get_or xs i x → thin (show x) ≡ true → Stands (show x) y → EachSoFar thin Stands show xs (i + 1) (found ++ y ∷ [])
-  one_more i found x y h l e t s = record {
-    same = h.same ∙ ap (λ z. list_all thin (map show z)) (next i x l e) ∙ and_true (thin (show x)) (list_all thin (map show (drop (i + 1) xs))) t;
+  pub one_left_less : (all rest : List C) (found : List B) (x : C) (y : B) → AllBut thin Stands show xs all found → all ≡ x ∷ rest → thin (show x) ≡ true → Stands (show x) y → AllBut thin Stands show xs rest (found ++ y ∷ [])
+  one_left_less all rest found x y h e t s = record {
+    same = h.same ∙ ap (λ z. list_all thin (map show z)) e ∙ and_true (thin (show x)) (list_all thin (map show rest)) t;
     stand = λ bs k. subst (λ (z : List B). StandEach Stands (map show xs) z) (sym (append_assoc found (y ∷ []) bs))
-        (h.stand (y ∷ bs) (subst (λ (z : List C). StandEach Stands (map show z) (y ∷ bs)) (sym (next i x l e)) (s, k)));
+        (h.stand (y ∷ bs) (subst (λ (z : List C). StandEach Stands (map show z) (y ∷ bs)) (sym e) (s, k)));
   }
 
+  pub one_left_not : (all rest : List C) (found : List B) (x : C) → AllBut thin Stands show xs all found → all ≡ x ∷ rest → thin (show x) ≡ false → list_all thin (map show xs) ≡ false
+  one_left_not all rest found x h e t = h.same ∙ ap (λ z. list_all thin (map show z)) e ∙ and_false (thin (show x)) (list_all thin (map show rest)) t
+
+  pub none_left : (rest : List C) (found : List B) → AllBut thin Stands show xs rest found → rest ≡ [] → (list_all thin (map show xs) ≡ true) × StandEach Stands (map show xs) found
+  none_left rest found h e = (
+    h.same ∙ ap (λ z. list_all thin (map show z)) e,
+    subst (λ (z : List B). StandEach Stands (map show xs) z) (append-nil found)
+        (h.stand [] (subst (λ (z : List C). StandEach Stands (map show z) []) (sym e) tt)),
+  )
+
+  pub one_more : (i : ℕ) (found : List B) (x : C) (y : B) → EachSoFar thin Stands show xs i found → i < length xs → x ≡ get_or xs i x → thin (show x) ≡ true → Stands (show x) y → EachSoFar thin Stands show xs (i + 1) (found ++ y ∷ [])
+  one_more i found x y h l e = one_left_less (drop i xs) (drop (i + 1) xs) found x y h (next i x l e)
+
   pub one_not : (i : ℕ) (found : List B) (x : C) → EachSoFar thin Stands show xs i found → i < length xs → x ≡ get_or xs i x → thin (show x) ≡ false → list_all thin (map show xs) ≡ false
-  one_not i found x h l e t = h.same ∙ ap (λ z. list_all thin (map show z)) (next i x l e) ∙ and_false (thin (show x)) (list_all thin (map show (drop (i + 1) xs))) t
+  one_not i found x h l e = one_left_not (drop i xs) (drop (i + 1) xs) found x h (next i x l e)
 
   pub all_so_far : (i : ℕ) (found : List B) → EachSoFar thin Stands show xs i found → length xs ≤ i → (list_all thin (map show xs) ≡ true) × StandEach Stands (map show xs) found
-  all_so_far i found h l = (
-    h.same ∙ ap (λ z. list_all thin (map show z)) (drop_all i xs l),
-    subst (λ (z : List B). StandEach Stands (map show xs) z) (append-nil found)
-        (h.stand [] (subst (λ (z : List C). StandEach Stands (map show z) []) (sym (drop_all i xs l)) tt)),
-  )
+  all_so_far i found h l = none_left (drop i xs) found h (drop_all i xs l)
 
 -- operators with their operands
 
@@ -146,7 +159,11 @@ comparison_found b v t c w u e f o k s r g h = (
   same_chain b v c w g (rw (e, f) (cc, tt)),
 )
 
--- a slice of one
+-- a list of none, and one of one
+
+pub empty : {A : Type 0} (xs : List A) → length xs ≡ 0 → xs ≡ []
+empty [] e = refl
+empty (x ∷ xs) e = absurd (omega arith)
 
 pub single : {A : Type 0} (xs : List A) (x : A) → 1 ≤ length xs → length xs < 2 → x ≡ get_or xs 0 x → xs ≡ x ∷ []
 single [] x a b e = absurd (omega arith)
@@ -169,15 +186,7 @@ not_one_argument (Text t ∷ b ∷ all) h = refl
 pub put_found : (f x : Token) (all : ArgumentList) → is_spelled (codes "pvPut") f ≡ true → is_one_name all ≡ true → all ≡ value (named x) no_arguments → (is_thin_statement (expression (call f all)) ≡ true) × StandsForStatement (expression (call f all)) (stmt.Put x)
 put_found f x all s o e = (and_both _ _ s o, subst (λ (z : ArgumentList). StandsForStatement (expression (call f z)) (stmt.Put x)) (sym e) refl)
 
--- definitions and state sets
-
-pub not_one_set : (ss : List StateSetTree) → (length ss ≡ 1 → ⊥) → is_one_set ss ≡ false
-not_one_set [] h = refl
-not_one_set (s ∷ []) h = absurd (h refl)
-not_one_set (s ∷ t ∷ ss) h = refl
-
-pub one_set_found : {A E : Type 0} (show : A → StateSetTree) (ss : List A) (s : A) (r : Result (Option StateSet) E) → ss ≡ s ∷ [] → Narrows (is_thin_state_set (show s)) (StandsForStateSet (show s)) r → Narrows (is_one_set (map show ss)) (StandsForOne (map show ss)) r
-one_set_found {A = A} show ss s r e h = subst (λ (z : List A). Narrows (is_one_set (map show z)) (StandsForOne (map show z)) r) (sym e) h
+-- what is missing, and lists of statements
 
 there : (n : ℕ) (b : Bool) → 0 < n → nat_eq n 0 ≡ b → false ≡ b
 there n true l h = let k = eqb-true n 0 h in absurd (omega arith)

@@ -164,6 +164,11 @@ abbrev pub are_thin_parts : List DefinitionTree → Bool
 are_thin_parts (option o ∷ all) = is_safe_mode o && list_all is_thin_definition all
 are_thin_parts _ = false
 
+-- The one element of a list that has just one.
+abbrev pub lone : {A : Type 0} → List A → Option A
+lone (a ∷ []) = Some a
+lone _ = None
+
 -- One state set, and no other.
 abbrev pub is_one_set : List StateSetTree → Bool
 is_one_set (s ∷ []) = is_thin_state_set s

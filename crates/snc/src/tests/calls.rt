@@ -4,10 +4,19 @@ use crate::tests::PROGRAM;
 use arrayvec::ArrayVec;
 use snl_check::{Severity, check};
 use snl_machine::{Event, Live, Machine};
-use snl_text::{Kind, lex};
+use snl_text::{Kind, Lexed, lex};
 use snl_trace::{Sheet, TraceFault, read_line};
+use snl_tree::thin::{Program, narrow};
 use snl_tree::{ParseFault, parse};
+use std::alloc::Global;
 use std::test::Fail;
+
+/// The program of the first language that tokens spell.
+fn program<'a>(alloc: Global, lexed: &Lexed<'a>) -> Result<Program<'a>, Fail> {
+    let whole = parse(alloc, lexed.tokens.as_slice())?;
+    let thin = narrow(alloc, whole)?;
+    Ok(thin.ok_or("not of the first language")?)
+}
 
 #[test]
 fn lead_from_bytes_to_a_run(rt: HostRuntime) -> Result<(), Fail> {
@@ -19,7 +28,7 @@ fn lead_from_bytes_to_a_run(rt: HostRuntime) -> Result<(), Fail> {
     assert!(rt; second.pos.offset == 8 && second.pos.file == 0 && second.pos.line == 1);
     let outcome = check(
         rt.alloc(),
-        parse(rt.alloc(), &lexed)?,
+        program(rt.alloc(), &lexed)?,
         lexed.embedded.as_slice(),
     )?;
     assert_eq!(rt; outcome.messages.len(), 1);
@@ -57,7 +66,7 @@ fn lead_from_bytes_to_a_run(rt: HostRuntime) -> Result<(), Fail> {
 #[test]
 fn refuse_the_first_impossible_token(rt: HostRuntime) -> Result<(), Fail> {
     let lexed = lex(rt.alloc(), b"program p option +s; int int;")?;
-    let refused = parse(rt.alloc(), &lexed).err();
+    let refused = parse(rt.alloc(), lexed.tokens.as_slice()).err();
     assert_eq!(rt; refused, Some(ParseFault::Unexpected(7)));
     Ok(())
 }
@@ -98,7 +107,7 @@ fn read_each_line_or_name_its_fault(rt: HostRuntime) -> Result<(), Fail> {
     let lexed = lex(rt.alloc(), PROGRAM)?;
     let checked = check(
         rt.alloc(),
-        parse(rt.alloc(), &lexed)?,
+        program(rt.alloc(), &lexed)?,
         lexed.embedded.as_slice(),
     )?
     .checked
@@ -131,7 +140,7 @@ fn read_lines_up_to_their_limit(rt: HostRuntime) -> Result<(), Fail> {
     let lexed = lex(rt.alloc(), PROGRAM)?;
     let checked = check(
         rt.alloc(),
-        parse(rt.alloc(), &lexed)?,
+        program(rt.alloc(), &lexed)?,
         lexed.embedded.as_slice(),
     )?
     .checked

@@ -1,7 +1,7 @@
 //! Programs of the whole language, from their bytes to the first token with which none goes on.
 
 use snl_text::lex;
-use snl_tree::whole::{ParseFault, parse};
+use snl_tree::{ParseFault, parse};
 use std::alloc::Global;
 use std::test::Fail;
 

@@ -4,7 +4,7 @@ use snl_trace::{Feed, Sheet};
 use std::test::Fail;
 
 /// Sources with what is to be said of them.
-const REFUSED: [(&[u8], &[u8]); 20] = [
+const REFUSED: [(&[u8], &[u8]); 26] = [
     (b"", b"p.st:1: error: E01 syntax error at end of file\n"),
     (
         b"\r\n\n",
@@ -40,7 +40,11 @@ const REFUSED: [(&[u8], &[u8]); 20] = [
     ),
     (
         b"program p option -s;",
-        b"p.st:1: error: E01 syntax error at '-'\n",
+        b"p.st:1: error: E01 syntax error at end of file\n",
+    ),
+    (
+        b"\nprogram p option -s; ss s { state w { when (x) {} state w } }",
+        b"p.st:2: error: E05 not run yet\n",
     ),
     (
         b"program state option",
@@ -51,12 +55,32 @@ const REFUSED: [(&[u8], &[u8]); 20] = [
         b"p.st:1: error: E01 syntax error at '}'\n",
     ),
     (
-        b"program p option +s; int x; assign x to \"a b\";",
-        b"p.st:1: error: E01 syntax error at '\"a b\"'\n",
+        b"program p option +s; int x; assign x to \"a b\"; ss s { state w { } }",
+        b"p.st:1: error: E05 not run yet\n",
+    ),
+    (
+        b"program p option +s; int x; assign x to \"a b\" \"c\";",
+        b"p.st:1: error: E01 syntax error at '\"c\"'\n",
     ),
     (
         b"program p option +s; ss s { state w { when (1 < 2 < 3) {} state w } }",
-        b"p.st:1: error: E01 syntax error at '<'\n",
+        b"p.st:1: error: E05 not run yet\n",
+    ),
+    (
+        b"program\np ss s { state w { entry { double y = 1.5; } exit { } } }\nss t { state v { } }",
+        b"p.st:1: error: E05 not run yet\n",
+    ),
+    (
+        b"program p ss s { state w { when (\n((((((((((((((((((((((((((((((((((((((((((((((((((((((((((((((((\n(1",
+        b"p.st:3: error: E02 nesting deeper than 64 at '('\n",
+    ),
+    (
+        b"program p option +s; ss s { state w { when (1) { if (x) } state w } }",
+        b"p.st:1: error: E01 syntax error at '}'\n",
+    ),
+    (
+        b"program p option +s; ss s { state w { when (1) { state = 1; } state w } }",
+        b"p.st:1: error: E01 syntax error at '='\n",
     ),
     (
         b"program p option +s; ss s { state w { when (1) {} state w } } }",

@@ -49,8 +49,8 @@ fn clauses<'a>(alloc: Global, all: &[whole::Clause<'a>]) -> Narrowed<Vec<Clause<
 }
 
 /// `state NAME { CLAUSE CLAUSE .. }`
-fn state<'a>(alloc: Global, state: &whole::State<'a>) -> Narrowed<State<'a>>
-    ensures { let s = state_view state.now in Narrows (specs.is_thin_state s) (StandsForState s) result }
+fn state<'a>(alloc: Global, state: whole::State<'a>) -> Narrowed<State<'a>>
+    ensures { let s = state_view state.entry in Narrows (specs.is_thin_state s) (StandsForState s) result }
 {
     if !state.definitions.is_empty() || state.entry.is_some() || state.exit.is_some() {
         return Ok(None);
@@ -64,8 +64,8 @@ fn state<'a>(alloc: Global, state: &whole::State<'a>) -> Narrowed<State<'a>>
     }
 }
 
-fn states<'a>(alloc: Global, all: &[whole::State<'a>]) -> Narrowed<Vec<State<'a>>>
-    ensures { let ss = map state_view all.now in Narrows (list_all specs.is_thin_state ss) (λ v. StandEach StandsForState ss v.items) result }
+fn states<'a>(alloc: Global, all: Vec<whole::State<'a>>) -> Narrowed<Vec<State<'a>>>
+    ensures { let ss = map state_view all.entry.items in Narrows (list_all specs.is_thin_state ss) (λ v. StandEach StandsForState ss v.items) result }
 {
     let mut found = Vec::new(alloc);
     for next in all {
@@ -78,13 +78,13 @@ fn states<'a>(alloc: Global, all: &[whole::State<'a>]) -> Narrowed<Vec<State<'a>
 }
 
 /// `ss NAME { STATE STATE .. }`
-fn state_set<'a>(alloc: Global, set: &whole::StateSet<'a>) -> Narrowed<StateSet<'a>>
-    ensures { let s = state_set_view set.now in Narrows (specs.is_thin_state_set s) (StandsForStateSet s) result }
+fn state_set<'a>(alloc: Global, set: whole::StateSet<'a>) -> Narrowed<StateSet<'a>>
+    ensures { let s = state_set_view set.entry in Narrows (specs.is_thin_state_set s) (StandsForStateSet s) result }
 {
     if !set.definitions.is_empty() {
         return Ok(None);
     }
-    match states(alloc, &set.states)? {
+    match states(alloc, set.states)? {
         Some(states) => Ok(Some(StateSet {
             name: set.name,
             states,
@@ -93,26 +93,36 @@ fn state_set<'a>(alloc: Global, set: &whole::StateSet<'a>) -> Narrowed<StateSet<
     }
 }
 
-/// One state set, and no other.
-fn one_set<'a>(alloc: Global, sets: &[whole::StateSet<'a>]) -> Narrowed<StateSet<'a>>
-    ensures { let ss = map state_set_view sets.now in Narrows (specs.is_one_set ss) (StandsForOne ss) result }
+/// The one element of a list that has just one.
+fn lone<T: Drop>(mut all: Vec<T>) -> Option<T>
+    ensures { result ≡ specs.lone all.items }
 {
-    if sets.len() != 1 {
-        return Ok(None);
+    if all.len() != 1 {
+        return None;
     }
-    state_set(alloc, &sets[0])
+    all.pop()
 }
 
-/// The tree of the first language that stands for a program, where the program is thin: the names, strings,
-/// operators and numbers of the whole tree, without the words between them.
+/// One state set, and no other.
+fn one_set<'a>(alloc: Global, sets: Vec<whole::StateSet<'a>>) -> Narrowed<StateSet<'a>>
+    ensures { let ss = map state_set_view sets.entry.items in Narrows (specs.is_one_set ss) (StandsForOne ss) result }
+{
+    match lone(sets) {
+        Some(set) => state_set(alloc, set),
+        None => Ok(None),
+    }
+}
+
+/// Takes a program apart into the tree of the first language that stands for it, where the program is thin: the
+/// names, strings, operators and numbers of the whole tree, without the words between them.
 ///
 /// `None` comes exactly where the program uses a form beyond the first language, and `Err` only where the
 /// new tree found no room in memory.
 pub fn narrow<'a>(
     alloc: Global,
-    program: &whole::Program<'a>,
+    program: whole::Program<'a>,
 ) -> Result<Option<Program<'a>>, AllocError>
-    ensures { let p = program_view program.now in Narrows (specs.is_thin p) (StandsFor p) result }
+    ensures { let p = program_view program.entry in Narrows (specs.is_thin p) (StandsFor p) result }
 {
     if program.macros.is_some() || program.entry.is_some() || program.exit.is_some() {
         return Ok(None);
@@ -120,7 +130,7 @@ pub fn narrow<'a>(
     let Some(definitions) = parts(alloc, &program.definitions)? else {
         return Ok(None);
     };
-    match one_set(alloc, &program.state_sets)? {
+    match one_set(alloc, program.state_sets)? {
         Some(state_set) => Ok(Some(Program {
             keyword: program.word,
             name: program.name,
