@@ -120,30 +120,30 @@ told_alone word text names lexed message checked named error said is none = subs
 }
 
 -- tokens that are no program
-pub told_stuck : (word text : List ℕ) (names : List (List ℕ)) (lexed : Lexed) (tokens : List Token) (k : ℕ) (checked : Option Checked) → names ≡ names_of lexed → tokens ≡ lexed.tokens.items
-    → IsUnexpected programs 64 tokens k → text ≡ text_of word names (syntax_error lexed (slice_get lexed.tokens.items k) ∷ []) → checked ≡ None → AreTokensTold word lexed text (tree_of checked)
-told_stuck word text names lexed tokens k checked named are read is none =
+pub told_stuck : (word text : List ℕ) (names : List (List ℕ)) (lexed : Lexed) (k : ℕ) (checked : Option Checked) → names ≡ names_of lexed
+    → IsUnexpected programs 64 lexed.tokens.items k → text ≡ text_of word names (syntax_error lexed (slice_get lexed.tokens.items k) ∷ []) → checked ≡ None → AreTokensTold word lexed text (tree_of checked)
+told_stuck word text names lexed k checked named read is none =
     told_alone word text names lexed (syntax_error lexed (slice_get lexed.tokens.items k)) checked named (is_error lexed 1 (codes "syntax error at '") (codes "syntax error at end of file") (slice_get lexed.tokens.items k))
-    (inr (inl record { k = k; read = subst (λ (ts : List Token). IsUnexpected programs 64 ts k) are read; messages_are = refl; tree_is = refl })) is none
+    (inr (inl record { k = k; read = read; messages_are = refl; tree_is = refl })) is none
 
 -- tokens that are nested too deep
-pub told_deep : (word text : List ℕ) (names : List (List ℕ)) (lexed : Lexed) (tokens : List Token) (k : ℕ) (checked : Option Checked) → names ≡ names_of lexed → tokens ≡ lexed.tokens.items
-    → IsTooDeep programs 64 tokens k → text ≡ text_of word names (nesting_error lexed (slice_get lexed.tokens.items k) ∷ []) → checked ≡ None → AreTokensTold word lexed text (tree_of checked)
-told_deep word text names lexed tokens k checked named are read is none =
+pub told_deep : (word text : List ℕ) (names : List (List ℕ)) (lexed : Lexed) (k : ℕ) (checked : Option Checked) → names ≡ names_of lexed
+    → IsTooDeep programs 64 lexed.tokens.items k → text ≡ text_of word names (nesting_error lexed (slice_get lexed.tokens.items k) ∷ []) → checked ≡ None → AreTokensTold word lexed text (tree_of checked)
+told_deep word text names lexed k checked named read is none =
     told_alone word text names lexed (nesting_error lexed (slice_get lexed.tokens.items k)) checked named (is_error lexed 2 (codes "nesting deeper than 64 at '") (codes "nesting deeper than 64 at end of file") (slice_get lexed.tokens.items k))
-    (inr (inr record { k = k; read = subst (λ (ts : List Token). IsTooDeep programs 64 ts k) are read; messages_are = refl; tree_is = refl })) is none
+    (inr (inr record { k = k; read = read; messages_are = refl; tree_is = refl })) is none
 
 some_tree : (o : Option Program) (p : Program) → IfSome o (λ q. q ≡ p) → IfSome o (λ q. Some p ≡ Some q)
 some_tree None p h = tt
 some_tree (Some q) p h = ap Some (sym h)
 
 -- a tree of the whole language that is one of the first
-pub told_thin : (word text : List ℕ) (names : List (List ℕ)) (whole : ProgramTree) (p : Program) (embedded : List Pos) (checked : Option Program) → is_thin whole ≡ true → StandsFor whole p
-    → IsProgramTold word names p embedded text checked → IsTreeTold word names whole embedded text checked
-told_thin word text names whole p embedded checked thin stands w = record {
+pub told_thin : (word text : List ℕ) (names : List (List ℕ)) (whole : ProgramTree) (p : Program) (embedded : List Pos) (checked : Option Program) → is_thin whole ≡ true → StandsFor whole p → p.embedded.items ≡ embedded
+    → IsProgramTold word names p text checked → IsTreeTold word names whole embedded text checked
+told_thin word text names whole p embedded checked thin stands pieces w = record {
   messages = w.messages;
   tree = Some p;
-  said = record { thin = thin; stands = stands; exactly = w.exactly; in_order = w.in_order };
+  said = record { thin = thin; stands = stands; pieces = pieces; exactly = w.exactly; in_order = w.in_order };
   text_is = w.text_is;
   accepted = w.accepted;
   same = some_tree checked p w.same;
@@ -162,16 +162,16 @@ told_not_yet word text names whole embedded checked thin is none = subst (λ o. 
 }
 
 -- tokens that are a program
-pub told_program : (word text : List ℕ) (names : List (List ℕ)) (lexed : Lexed) (tokens : List Token) (whole : ProgramTree) (embedded : List Pos) (checked : Option Program) → names ≡ names_of lexed
-    → tokens ≡ lexed.tokens.items → embedded ≡ lexed.embedded.items → IsProgram 64 whole → Spells programs whole tokens → IsTreeTold word names whole embedded text checked
+pub told_program : (word text : List ℕ) (names : List (List ℕ)) (lexed : Lexed) (whole : ProgramTree) (embedded : List Pos) (checked : Option Program) → names ≡ names_of lexed
+    → embedded ≡ lexed.embedded.items → IsProgram 64 whole → Spells programs whole lexed.tokens.items → IsTreeTold word names whole embedded text checked
     → AreTokensTold word lexed text checked
-told_program word text names lexed tokens whole embedded checked named are pieces is spelled w = record {
+told_program word text names lexed whole embedded checked named pieces is spelled w = record {
   messages = w.messages;
   tree = w.tree;
   said = inl record {
     whole = whole;
     is = is;
-    spelled = subst (λ (ts : List Token). Spells programs whole ts) are spelled;
+    spelled = spelled;
     said = subst (λ (e : List Pos). IsTreeSaid whole e w.messages w.tree) pieces w.said;
   };
   text_is = w.text_is ∙ ap (λ n. text_of word n w.messages) named;
@@ -188,10 +188,10 @@ if_some_tree None p h = tt
 if_some_tree (Some c) p h = h
 
 -- what is said of a program, by the messages of its check
-pub told_checked : (word text : List ℕ) (names : List (List ℕ)) (p : Program) (embedded : List Pos) (messages : List Said) (checked : Option Checked)
-    → ((m : Said) → Contains messages m ↔ IsSaid p embedded m) → IsInOrder messages → (IsSome checked ↔ IsAccepted p embedded) → IfSome checked (λ c. c.program ≡ p)
-    → text ≡ text_of word names messages → IsProgramTold word names p embedded text (tree_of checked)
-told_checked word text names p embedded messages checked exactly in_order accepted same is =
+pub told_checked : (word text : List ℕ) (names : List (List ℕ)) (p : Program) (messages : List Said) (checked : Option Checked)
+    → ((m : Said) → Contains messages m ↔ IsSaid p m) → IsInOrder messages → (IsSome checked ↔ IsAccepted p) → IfSome checked (λ c. c.program ≡ p)
+    → text ≡ text_of word names messages → IsProgramTold word names p text (tree_of checked)
+told_checked word text names p messages checked exactly in_order accepted same is =
     let some = is_some_tree checked in
     record {
       messages = messages;

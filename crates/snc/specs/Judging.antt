@@ -84,7 +84,8 @@ pub record IsNestedDeeper (lexed : Lexed) (messages : List Said) (tree : Option 
 pub record IsThinSaid (whole : ProgramTree) (embedded : List Pos) (messages : List Said) (p : Program) : Type 0 where
   pub thin : is_thin whole ≡ true
   pub stands : StandsFor whole p
-  pub exactly : (m : Said) → Contains messages m ↔ IsSaid p embedded m
+  pub pieces : p.embedded.items ≡ embedded
+  pub exactly : (m : Said) → Contains messages m ↔ IsSaid p m
   pub in_order : IsInOrder messages
 
 -- what is said of a program of the whole language: E05, alone, where it is none of the first language

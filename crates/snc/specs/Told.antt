@@ -36,9 +36,9 @@ pub record IsTreeTold (word : List ℕ) (names : List (List ℕ)) (whole : Progr
   pub same : IfSome checked (λ p. tree ≡ Some p)
 
 -- the text of the messages about a program of the first language, and its tree, if none is an error
-pub record IsProgramTold (word : List ℕ) (names : List (List ℕ)) (program : Program) (embedded : List Pos) (text : List ℕ) (checked : Option Program) : Type 0 where
+pub record IsProgramTold (word : List ℕ) (names : List (List ℕ)) (program : Program) (text : List ℕ) (checked : Option Program) : Type 0 where
   pub messages : List Said
-  pub exactly : (m : Said) → Contains messages m ↔ IsSaid program embedded m
+  pub exactly : (m : Said) → Contains messages m ↔ IsSaid program m
   pub in_order : IsInOrder messages
   pub text_is : text ≡ text_of word names messages
   pub accepted : IsSome checked ↔ NoErrors messages

@@ -93,9 +93,9 @@ fn tokens_judged<'a>(
         read: file,
         marked: lexed.files.as_slice(),
     };
-    match parse(alloc, lexed.tokens.as_slice()) {
+    match parse(alloc, lexed) {
         Ok(program) => {
-            let found = tree_judged(alloc, program, lexed.embedded.as_slice(), names)?;
+            let found = tree_judged(alloc, program, names)?;
             Ok(found)
         }
         Err(ParseFault::Memory) => Err(AllocError),
@@ -115,16 +115,15 @@ fn tokens_judged<'a>(
 fn tree_judged<'a>(
     alloc: Global,
     program: whole::Program<'a>,
-    embedded: &[Pos],
     names: Names,
 ) -> Result<Findings<'a>, AllocError>
-    ensures { IfOk result (λ f. IsTreeTold names.entry.read.now (map (λ name. name.now) names.entry.marked.now) (program_view program.entry) embedded.now
+    ensures { IfOk result (λ f. IsTreeTold names.entry.read.now (map (λ name. name.now) names.entry.marked.now) (program_view program.entry) program.entry.embedded.items
         f.messages.items (option_map (λ c. c.program) f.checked)) }
 {
     let word = program.word;
     match narrow(alloc, program)? {
         Some(thin) => {
-            let found = program_judged(alloc, thin, embedded, names)?;
+            let found = program_judged(alloc, thin, names)?;
             Ok(found)
         }
         None => {
@@ -134,20 +133,19 @@ fn tree_judged<'a>(
     }
 }
 
-/// All messages of a program, between whose tokens pieces of embedded C stand at these places.
+/// All messages of a program.
 fn program_judged<'a>(
     alloc: Global,
     program: Program<'a>,
-    embedded: &[Pos],
     names: Names,
 ) -> Result<Findings<'a>, AllocError>
-    ensures { IfOk result (λ f. IsProgramTold names.entry.read.now (map (λ name. name.now) names.entry.marked.now) program.entry embedded.now
+    ensures { IfOk result (λ f. IsProgramTold names.entry.read.now (map (λ name. name.now) names.entry.marked.now) program.entry
         f.messages.items (option_map (λ c. c.program) f.checked)) }
 {
     let Outcome {
         messages: said,
         checked,
-    } = check(alloc, program, embedded)?;
+    } = check(alloc, program)?;
     let mut messages = Vec::new(alloc);
     push_lines(&mut messages, names, said.as_slice())?;
     Ok(Findings { messages, checked })

@@ -238,8 +238,9 @@ exactly_said p m = (
 )
 
 -- and with those of the pieces of embedded C behind them, those that are said of both
-pub exactly_all : (p : Program) (embedded : List Pos) (m : Said) → Contains (messages_at (map noted (sites p)) [] (map noted (sites p)) ++ map embedded_message embedded) m ↔ IsSaid p embedded m
-exactly_all p embedded m =
+pub exactly_all : (p : Program) (m : Said) → Contains (messages_at (map noted (sites p)) [] (map noted (sites p)) ++ map embedded_message p.embedded.items) m ↔ IsSaid p m
+exactly_all p m =
+    let embedded = p.embedded.items in
     let told = messages_at (map noted (sites p)) [] (map noted (sites p)) in (
       λ h. elim (Contains-append_cases told (map embedded_message embedded) m h) [
         | inl k ↦ inl ((exactly_said p m).0 k)

@@ -102,10 +102,10 @@ HasNoError p = (m : Said) → Says p m → m.severity ≡ Error → ⊥
 abbrev pub embedded_message : Pos → Said
 embedded_message pos = record { pos = pos; severity = Error; number = 10; text = codes "embedded C is not supported" }
 
--- a message is said of a program between whose tokens these pieces of embedded C stand: of its tree, or of one of them
-abbrev pub IsSaid : Program → List Pos → Said → Type 0
-IsSaid p embedded m = Says p m ⊎ ((pos : Pos) × Contains embedded pos × (m ≡ embedded_message pos))
+-- a message is said of a program: of its tree, or of a piece of embedded C between its tokens
+abbrev pub IsSaid : Program → Said → Type 0
+IsSaid p m = Says p m ⊎ ((pos : Pos) × Contains p.embedded.items pos × (m ≡ embedded_message pos))
 
 -- no error is said of it
-abbrev pub IsAccepted : Program → List Pos → Type 0
-IsAccepted p embedded = (m : Said) → IsSaid p embedded m → m.severity ≡ Error → ⊥
+abbrev pub IsAccepted : Program → Type 0
+IsAccepted p = (m : Said) → IsSaid p m → m.severity ≡ Error → ⊥

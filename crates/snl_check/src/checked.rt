@@ -64,14 +64,14 @@ struct Findings {
 }
 
 /// Finds the messages of a program, and what its names mean.
-fn examine(alloc: Global, program: &Program, embedded: &[Pos]) -> Result<Findings, AllocError>
-    ensures exactly { IfOk result (λ f. (m : Said) → Contains (map said f.messages.items) m ↔ IsSaid program.now embedded.now m) }
+fn examine(alloc: Global, program: &Program) -> Result<Findings, AllocError>
+    ensures exactly { IfOk result (λ f. (m : Said) → Contains (map said f.messages.items) m ↔ IsSaid program.now m) }
     ensures in_order { IfOk result (λ f. IsInOrder (map said f.messages.items)) }
     ensures uses { IfOk result (λ f. IsTableOf f.uses program.now) }
 {
     let sites = sites_of(alloc, program)?;
     let mut entries = entries_of(alloc, sites.as_slice())?;
-    push_embedded(alloc, embedded, &mut entries)?;
+    push_embedded(alloc, program.embedded.as_slice(), &mut entries)?;
     let messages = in_order(alloc, entries)?;
     let uses = uses_of(alloc, sites.as_slice())?;
     Ok(Findings { messages, uses })
@@ -89,21 +89,17 @@ fn is_accepted(messages: &[Message]) -> bool
     true
 }
 
-/// Gives all messages that hold of a program, between whose tokens pieces of embedded C stand at these places.
+/// Gives all messages that hold of a program (SNL Reference, on declarations, assignments and states).
 ///
 /// Fails only where the messages, or the tables that find them, found no room in memory; the program
 /// is dropped then.
-pub fn check<'a>(
-    alloc: Global,
-    program: Program<'a>,
-    embedded: &[Pos],
-) -> Result<Outcome<'a>, AllocError>
-    ensures exactly { IfOk result (λ o. (m : Said) → Contains (map said o.messages.items) m ↔ IsSaid program.entry embedded.now m) }
+pub fn check<'a>(alloc: Global, program: Program<'a>) -> Result<Outcome<'a>, AllocError>
+    ensures exactly { IfOk result (λ o. (m : Said) → Contains (map said o.messages.items) m ↔ IsSaid program.entry m) }
     ensures in_order { IfOk result (λ o. IsInOrder (map said o.messages.items)) }
-    ensures accepted { IfOk result (λ o. IsSome o.checked ↔ IsAccepted program.entry embedded.now) }
+    ensures accepted { IfOk result (λ o. IsSome o.checked ↔ IsAccepted program.entry) }
     ensures same { IfOk result (λ o. IfSome o.checked (λ c. c.program ≡ program.entry)) }
 {
-    let Findings { messages, uses } = examine(alloc, &program, embedded)?;
+    let Findings { messages, uses } = examine(alloc, &program)?;
     let checked = if is_accepted(messages.as_slice()) {
         Some(Checked { program, uses })
     } else {

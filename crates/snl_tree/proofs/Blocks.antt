@@ -1,23 +1,22 @@
 -- The parts of statements and blocks that hold no statements are read rightly.
-use Rattle.std.proofs.Common.{◌≡◌, ℕ, zero, suc, ◌+◌, ◌<◌, lit<, lit≤, Bool, true, false, true≢false, List, [], ◌∷◌, ◌++◌, Ok, length, Option, Some, None, refl, sym, ap, subst}
+use Rattle.std.proofs.Common.{◌≡◌, ℕ, ◌<◌, lit<, true, false, true≢false, List, Ok, length, Option, Some, None, refl, sym, subst}
 use Rattle.snl_text.specs.declared.tokens.Token.{Token}
 use Rattle.snl_text.specs.declared.kinds.Kind.{Kind}
-use Rattle.snl_text.specs.declared.kinds.Kind.TheVariants.{Name, OpenBrace, CloseBrace, OpenParenthesis, CloseParenthesis, Semicolon, Break, Continue, State}
-use Rattle.snl_tree.specs.Kinds.{is, looseness}
+use Rattle.snl_text.specs.declared.kinds.Kind.TheVariants.{OpenParenthesis, CloseParenthesis, Semicolon}
+use Rattle.snl_tree.specs.Kinds.{looseness}
 use Rattle.snl_tree.specs.Slots.{Slot}
-use Rattle.snl_tree.specs.Readers.{Reader, one, sign, both, made, many}
-use Rattle.snl_tree.specs.Sequences.{maybe, behind, before, between, maybe_slots, IfThere, row_slots, Each}
-use Rattle.snl_tree.specs.Expressions.{ExprTree, slots, IsExpr}
+use Rattle.snl_tree.specs.Readers.{both}
+use Rattle.snl_tree.specs.Sequences.{maybe, behind, IfThere}
+use Rattle.snl_tree.specs.Expressions.{ExprTree, IsExpr}
 use Rattle.snl_tree.specs.Reading.{inside, level_at}
-use Rattle.snl_tree.specs.Declarations.{DeclarationTree, starts_declaration, declaration_slots, IsDeclaration}
+use Rattle.snl_tree.specs.Declarations.{DeclarationTree, starts_declaration}
 use Rattle.snl_tree.specs.DeclarationReading.{declaration_at}
 use Rattle.snl_tree.specs.Statements.{Header, condition_slots, ended_slots, header_slots, IsHeader}
-use Rattle.snl_tree.specs.StatementReading.{opens_statement, condition_at, is_other, ended_at, header_at, declarations_at}
-use Rattle.snl_tree.proofs.Laws.{Shape, Reads, Links}
-use Rattle.snl_tree.proofs.Choices.{Heads}
+use Rattle.snl_tree.specs.StatementReading.{condition_at, is_other, ended_at, header_at, declarations_at}
+use Rattle.snl_tree.proofs.Laws.{Links}
 use Rattle.snl_tree.proofs.Shapes.{can_open, heads_opens}
 use Rattle.snl_tree.proofs.Inside.{links_any}
-use Rattle.snl_tree.proofs.Rights.{Form, at_depth, Right, right_made, both_form, right_both, maybe_form, right_maybe, behind_form, right_behind, before_form, right_before, between_form, right_between, many_form, right_many, right_less}
+use Rattle.snl_tree.proofs.Rights.{Form, Right, right_made, both_form, right_both, maybe_form, right_maybe, behind_form, right_behind, right_before, right_between, many_form, right_many, right_less}
 use Rattle.snl_tree.proofs.Values.{expression_form, right_expression}
 use Rattle.snl_tree.proofs.DeclarationLaws.{declaration_form, right_declaration, declaration_heads}
 

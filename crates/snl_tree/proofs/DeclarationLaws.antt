@@ -1,18 +1,17 @@
 -- The readers of declarations are right.
-use Rattle.std.proofs.Common.{◌≡◌, ℕ, ◌<◌, lit<, length, Ok, Bool, true, false, true≢false, List, [], ◌∷◌, ◌++◌, Option, Some, None, ◌⊎◌, inl, inr, ◌&&◌, refl, sym, ap, ◌∙◌, subst}
+use Rattle.std.proofs.Common.{◌≡◌, ℕ, ◌<◌, lit<, length, Ok, true, false, true≢false, List, [], ◌∷◌, Option, Some, None, ◌⊎◌, inl, inr, ◌&&◌, refl, sym, ap, subst}
 use Rattle.snl_text.specs.declared.tokens.Token.{Token}
 use Rattle.snl_text.specs.declared.kinds.Kind.{Kind}
 use Rattle.snl_text.specs.declared.kinds.Kind.TheVariants.{Name, Int, Unsigned, OpenBrace, CloseBrace, OpenBracket, CloseBracket, Semicolon, Comma, Equal}
 use Rattle.snl_tree.specs.Kinds.{is, looseness}
-use Rattle.snl_tree.specs.Slots.{Slot}
-use Rattle.snl_tree.specs.Readers.{Reader, one, both, either, many}
-use Rattle.snl_tree.specs.Sequences.{maybe, behind, before, between, parted, row_slots, Each, parted_slots, EachOfSome}
+use Rattle.snl_tree.specs.Readers.{one, both, either}
+use Rattle.snl_tree.specs.Sequences.{maybe, behind, before, between, EachOfSome}
 use Rattle.snl_tree.specs.Expressions.{ExprTree, slots}
 use Rattle.snl_tree.specs.Reading.{inside, level_at}
-use Rattle.snl_tree.specs.Declarations.{starts_declaration, may_be_unsigned, is_second, TypeTree, ValueList, InitialiserTree, single, listed, DeclaratorTree, DeclarationTree, type_slots, bracket_slots, initialiser_slots, declarator_slots, declaration_slots, IsType, IsInitialiser, IsDeclarator, IsDeclaration}
+use Rattle.snl_tree.specs.Declarations.{starts_declaration, may_be_unsigned, is_second, TypeTree, ValueList, InitialiserTree, single, listed, DeclaratorTree, DeclarationTree, type_slots, initialiser_slots, declarator_slots, declaration_slots, IsType, IsInitialiser, IsDeclarator, IsDeclaration}
 use Rattle.snl_tree.specs.DeclarationReading.{type_at, bracket_at, sizes_at, values_at, initialiser, initialiser_at, declarator_at, declarators_at, declaration_at}
 use Rattle.snl_tree.proofs.Laws.{Links}
-use Rattle.snl_tree.proofs.Choices.{Heads, Avoids, is_true, true_is}
+use Rattle.snl_tree.proofs.Choices.{Heads, is_true, true_is}
 use Rattle.snl_tree.proofs.Shapes.{can_open, heads_opens, avoids_heads}
 use Rattle.snl_tree.proofs.Inside.{links_any}
 use Rattle.snl_tree.proofs.Rights.{Form, Right, token_of, one_form, right_one, right_kind, both_form, right_both, right_made, either_form, right_either, maybe_form, right_maybe, right_maybe_one, behind_form, right_behind, before_form, right_before, between_form, right_between, many_form, right_many, parted_form, right_parted, right_less}

@@ -1,5 +1,5 @@
 -- The forms in which the code reads definitions.
-use Rattle.std.proofs.Common.{◌≡◌, ℕ, Bool, true, false, List, Ok, Err, ◌⊎◌, inl, inr, refl, ◌∙◌}
+use Rattle.std.proofs.Common.{◌≡◌, ℕ, true, false, List, Ok, Err, ◌⊎◌, inr, refl, ◌∙◌}
 use Rattle.snl_text.specs.declared.tokens.Token.{Token}
 use Rattle.snl_text.specs.declared.kinds.Kind.TheVariants.{Assign, Monitor, OptionWord, Sync, SyncQueue}
 use Rattle.snl_tree.specs.Kinds.{is}

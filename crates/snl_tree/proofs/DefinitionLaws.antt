@@ -1,22 +1,22 @@
 -- The readers of definitions and options are right.
-use Rattle.std.proofs.Common.{◌≡◌, ℕ, ◌<◌, lit<, length, Ok, Bool, true, false, true≢false, List, [], ◌∷◌, ◌++◌, Option, Some, None, ◌⊎◌, inl, inr, refl, sym, ap, ◌∙◌, subst, append-nil}
+use Rattle.std.proofs.Common.{◌≡◌, ℕ, ◌<◌, length, Ok, Bool, true, false, true≢false, List, [], ◌∷◌, ◌++◌, Option, Some, None, ◌⊎◌, inl, inr, refl, sym, ap, subst, append-nil}
 use Rattle.snl_text.specs.declared.tokens.Token.{Token}
 use Rattle.snl_text.specs.declared.kinds.Kind.{Kind}
 use Rattle.snl_text.specs.declared.kinds.Kind.TheVariants.{Name, Whole, Text, Assign, EventFlag, Monitor, OptionWord, Sync, SyncQueue, To, Plus, OpenBrace, CloseBrace, OpenBracket, Semicolon, Comma}
 use Rattle.snl_tree.specs.Kinds.{is}
 use Rattle.snl_tree.specs.Slots.{Slot, The}
-use Rattle.snl_tree.specs.Readers.{Reader, one, both, either, many}
+use Rattle.snl_tree.specs.Readers.{one, both, either}
 use Rattle.snl_tree.specs.Sequences.{maybe, whether, behind, before, between, parted, EachOfSome, Each, IfThere, sign_slots}
 use Rattle.snl_tree.specs.Expressions.{ExprTree}
-use Rattle.snl_tree.specs.Declarations.{starts_declaration, DeclarationTree}
+use Rattle.snl_tree.specs.Declarations.{starts_declaration}
 use Rattle.snl_tree.specs.DeclarationReading.{bracket_at, declaration_at}
 use Rattle.snl_tree.specs.Definitions.{PlaceTree, NamesTree, one_name, name_list, ChannelsTree, AssignTree, FlagTree, SyncTree, QueueTree, OptionTree, DefinitionTree, declaration, assign, monitor, sync, sync_queue, event_flags, option, starts_definition, starts_part, is_sign, place_slots, names_slots, channels_slots, assign_slots, flag_slots, sync_slots, queue_slots, option_slots, definition_slots, IsPlace, AreNames, IsAssign, IsSync, IsQueue, IsOption, IsDefinition, IsPart}
 use Rattle.snl_tree.specs.DefinitionReading.{place_at, strings_at, channel_names, names_at, channels_at, starts_channels, assign_at, monitor_at, flag_at, starts_flag, sync_at, queue_at, flags_at, event_flags_at, option_at, FormOfDefinition, definition, definition_at, part, part_at, definitions_at, parts_at}
 use Rattle.snl_tree.proofs.Laws.{Links}
-use Rattle.snl_tree.proofs.Choices.{Heads, Avoids, is_true, true_is}
+use Rattle.snl_tree.proofs.Choices.{Heads, is_true, true_is}
 use Rattle.snl_tree.proofs.Shapes.{avoids_heads}
 use Rattle.snl_tree.proofs.Inside.{links_any}
-use Rattle.snl_tree.proofs.Rights.{Form, Right, token_of, one_form, right_one, right_kind, both_form, right_both, right_made, either_form, right_either, maybe_form, maybe_follow, right_maybe, whether_form, right_whether, behind_form, right_behind, before_form, right_before, between_form, right_between, many_form, right_many, parted_form, right_parted, right_less}
+use Rattle.snl_tree.proofs.Rights.{Form, Right, token_of, one_form, right_one, right_kind, both_form, right_both, right_made, either_form, right_either, maybe_form, right_maybe, whether_form, right_whether, behind_form, right_behind, before_form, right_before, between_form, right_between, many_form, right_many, parted_form, right_parted, right_less}
 use Rattle.snl_tree.proofs.DeclarationLaws.{bracket_form, right_bracket, declaration_form, right_declaration, declaration_heads}
 
 -- places

@@ -49,9 +49,9 @@ unfolding parenthesized_at level_at
 parenthesized_form n ts =
     ap (λ r. r >>= λ x. Ok (parenthesized x.0.1.0, x.1)) (under_opened n (is OpenParenthesis) (sign OpenParenthesis) (λ d. both d.expression (λ _. sign CloseParenthesis)) ts) ∙ simp bind_assoc
 
-subscript_form : (n : ℕ) (ts : List Token) (t : Token) → made (λ x. element t x.1.0) (under (is OpenBracket) (inside n) (sign OpenBracket) (λ d. both d.expression (λ _. sign CloseBracket))) ts ≡ (opened n (is OpenBracket) (sign OpenBracket) ts >>= λ x. level_at (inside (n - 1)) 15 x.1 >>= λ y. sign CloseBracket y.1 >>= λ z. Ok (element t y.0, z.1))
+subscript_form : (n : ℕ) (ts : List Token) (t : Token) → made (λ x. element t x.0 x.1.0) (under (is OpenBracket) (inside n) (one (is OpenBracket)) (λ d. both d.expression (λ _. sign CloseBracket))) ts ≡ (opened n (is OpenBracket) (one (is OpenBracket)) ts >>= λ x. level_at (inside (n - 1)) 15 x.1 >>= λ y. sign CloseBracket y.1 >>= λ z. Ok (element t x.0 y.0, z.1))
 unfolding level_at
-subscript_form n ts t = ap (λ r. r >>= λ x. Ok (element t x.0.1.0, x.1)) (under_opened n (is OpenBracket) (sign OpenBracket) (λ d. both d.expression (λ _. sign CloseBracket)) ts) ∙ simp bind_assoc
+subscript_form n ts t = ap (λ r. r >>= λ x. Ok (element t x.0.0 x.0.1.0, x.1)) (under_opened n (is OpenBracket) (one (is OpenBracket)) (λ d. both d.expression (λ _. sign CloseBracket)) ts) ∙ simp bind_assoc
 
 call_form : (n : ℕ) (ts : List Token) (t : Token) → made (λ x. call t x.1.0) (under (is OpenParenthesis) (inside n) (sign OpenParenthesis) (λ d. both (arguments_at d) (λ _. sign CloseParenthesis))) ts ≡ (opened n (is OpenParenthesis) (sign OpenParenthesis) ts >>= λ x. arguments_at (readers (inside (n - 1))) x.1 >>= λ y. sign CloseParenthesis y.1 >>= λ z. Ok (call t y.0, z.1))
 call_form n ts t = ap (λ r. r >>= λ x. Ok (call t x.0.1.0, x.1)) (under_opened n (is OpenParenthesis) (sign OpenParenthesis) (λ d. both (arguments_at d) (λ _. sign CloseParenthesis)) ts) ∙ simp bind_assoc
@@ -59,8 +59,8 @@ call_form n ts t = ap (λ r. r >>= λ x. Ok (call t x.0.1.0, x.1)) (under_opened
 abbrev calls : ℕ → Reader ((Unit {0} × (ArgumentList × Unit {0})) ⊎ Unit {0})
 calls n = either (is OpenParenthesis) (under (is OpenParenthesis) (inside n) (sign OpenParenthesis) (λ d. both (arguments_at d) (λ _. sign CloseParenthesis))) nothing
 
-abbrev tail : ℕ → Reader ((Unit {0} × (ExprTree × Unit {0})) ⊎ ((Unit {0} × (ArgumentList × Unit {0})) ⊎ Unit {0}))
-tail n = either (is OpenBracket) (under (is OpenBracket) (inside n) (sign OpenBracket) (λ d. both d.expression (λ _. sign CloseBracket))) (calls n)
+abbrev tail : ℕ → Reader ((Token × (ExprTree × Unit {0})) ⊎ ((Unit {0} × (ArgumentList × Unit {0})) ⊎ Unit {0}))
+tail n = either (is OpenBracket) (under (is OpenBracket) (inside n) (one (is OpenBracket)) (λ d. both d.expression (λ _. sign CloseBracket))) (calls n)
 
 pub named_form : (n : ℕ) (ts : List Token) → named_at (inside n) ts ≡ (one (is Name) ts >>= λ x. named_rest n x.0 x.1)
 unfolding named_at named_rest
@@ -68,7 +68,7 @@ named_form n ts =
     bind_assoc (one (is Name) ts) (λ x. tail n x.1 >>= λ y. Ok ((x.0, y.0), y.1)) (λ x. Ok (named_tree x.0.0 x.0.1, x.1))
     ∙ bind_same (one (is Name) ts) (λ x. (tail n x.1 >>= λ y. Ok ((x.0, y.0), y.1)) >>= λ x. Ok (named_tree x.0.0 x.0.1, x.1)) (λ x. named_rest n x.0 x.1) (λ x.
     bind_assoc (tail n x.1) (λ y. Ok ((x.0, y.0), y.1)) (λ x. Ok (named_tree x.0.0 x.0.1, x.1))
-    ∙ either_form (is OpenBracket) (under (is OpenBracket) (inside n) (sign OpenBracket) (λ d. both d.expression (λ _. sign CloseBracket))) (calls n) x.1 (λ y. Ok (named_tree x.0 y.0, y.1))
+    ∙ either_form (is OpenBracket) (under (is OpenBracket) (inside n) (one (is OpenBracket)) (λ d. both d.expression (λ _. sign CloseBracket))) (calls n) x.1 (λ y. Ok (named_tree x.0 y.0, y.1))
     ∙ elim_same (starts (is OpenBracket) x.1) _ _ _ _ (subscript_form n x.1 x.0)
     (either_form (is OpenParenthesis) (under (is OpenParenthesis) (inside n) (sign OpenParenthesis) (λ d. both (arguments_at d) (λ _. sign CloseParenthesis))) nothing x.1 (λ y. Ok (named_tree x.0 (inr y.0), y.1))
     ∙ elim_same (starts (is OpenParenthesis) x.1) _ _ _ _ (call_form n x.1 x.0) refl))

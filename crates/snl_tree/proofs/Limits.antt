@@ -62,11 +62,11 @@ grows_arguments l h g = grows_made all_arguments (either is_no_close (both (argu
 listed_grows : (l h : Inside) → InsideGrows l h → Grows (both (arguments_at l) (λ _. sign CloseParenthesis)) (both (arguments_at h) (λ _. sign CloseParenthesis))
 listed_grows l h g = grows_both (arguments_at l) (arguments_at h) (λ _. sign CloseParenthesis) (λ _. sign CloseParenthesis) (grows_arguments l h g) (λ _. grows_sign CloseParenthesis)
 
-abbrev subscript : Option Inside → Reader (Unit {0} × (ExprTree × Unit {0}))
-subscript i = under (is OpenBracket) i (sign OpenBracket) (λ d. both d.expression (λ _. sign CloseBracket))
+abbrev subscript : Option Inside → Reader (Token × (ExprTree × Unit {0}))
+subscript i = under (is OpenBracket) i (one (is OpenBracket)) (λ d. both d.expression (λ _. sign CloseBracket))
 
 grows_subscript : (i j : Option Inside) → Higher i j → Grows (subscript i) (subscript j)
-grows_subscript i j k = grows_under i j k (is OpenBracket) (sign OpenBracket) (opens_sign OpenBracket) (grows_sign OpenBracket) (λ d. both d.expression (λ _. sign CloseBracket))
+grows_subscript i j k = grows_under i j k (is OpenBracket) (one (is OpenBracket)) (opens_one (is OpenBracket)) (grows_one (is OpenBracket)) (λ d. both d.expression (λ _. sign CloseBracket))
     (λ m d laws. ends (closed_shape CloseBracket m) (both d.expression (λ _. sign CloseBracket)) (reads_closed CloseBracket (lit≤ tt) m d laws)) (closed_grows CloseBracket)
 
 grows_named : (i j : Option Inside) → Higher i j → Grows (named_at i) (named_at j)

@@ -1,5 +1,5 @@
 -- Loops that take a whole list to the smaller trees that stand for it, and expressions of the two languages.
-use Rattle.std.proofs.Common.{◌≡◌, ℕ, ◌+◌, ◌<◌, ◌≤◌, Bool, true, false, ◌&&◌, List, [], ◌∷◌, ◌++◌, length, map, drop, get_or, nat_eq, vec_len, Option, Some, None, Result, codes, eqb-true, Vec, Box, Global, refl, sym, ap, subst, ◌∙◌, append_assoc, append-nil, arith}
+use Rattle.std.proofs.Common.{◌≡◌, ℕ, ◌+◌, ◌<◌, ◌≤◌, Bool, true, false, ◌&&◌, List, [], ◌∷◌, ◌++◌, length, map, drop, get_or, nat_eq, vec_len, Option, Some, None, codes, eqb-true, Vec, Box, Global, refl, sym, ap, subst, ◌∙◌, append_assoc, append-nil, arith}
 use Rattle.std.specs.List.{list_all}
 use Rattle.std.proofs.lemmas.List.{drop_more, drop_all}
 use mathlib.Core.Former.{Count}
@@ -12,12 +12,10 @@ use Rattle.snl_tree.specs.declared.whole.expr.Argument.{Argument, Value, Text}
 use Rattle.snl_tree.specs.Expressions.{ExprTree, ArgumentList, named, call, chain, term, no_arguments, value}
 use Rattle.snl_tree.specs.Reading.{term_list}
 use Rattle.snl_tree.specs.Statements.{StatementTree, expression}
-use Rattle.snl_tree.specs.Programs.{StateSetTree}
 use Rattle.snl_tree.specs.declared.trees.Stmt.TheVariants as stmt
-use Rattle.snl_tree.specs.declared.trees.StateSet.{StateSet}
 use Rattle.snl_tree.specs.StatementReading.{statement_list}
 use Rattle.snl_tree.specs.View.{view, pair_of, list_before}
-use Rattle.snl_tree.specs.Thin.{joins, compares, is_sum, are_joined, is_comparison, statements_of, is_one_name, is_none_of, is_spelled, is_thin_statement, StandsForStatement, is_one_set, is_thin_state_set, StandsForOne, StandsForStateSet, Narrows, wide, wide_terms, StandEach, Finds, lone}
+use Rattle.snl_tree.specs.Thin.{joins, compares, is_sum, are_joined, is_comparison, statements_of, is_one_name, is_none_of, is_spelled, is_thin_statement, StandsForStatement, wide, wide_terms, StandEach, Finds}
 use Rattle.snl_tree.proofs.Rows.{view_chain}
 
 -- The smaller trees found so far stand for all of a list but the rest.

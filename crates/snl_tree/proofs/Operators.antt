@@ -53,7 +53,7 @@ postfix_of : (n : ℕ) (e : ExprTree) → (rank e ≤ 1) × IsWell e n → (x : 
 postfix_of n (constant t) g = ((constant t, inr tt), ((le_refl _, g.1), tt), refl)
 postfix_of n (parenthesized e) g = ((parenthesized e, inr tt), ((le_refl _, g.1), tt), refl)
 postfix_of n (named x) g = ((named x, inr tt), ((le_refl _, g.1), tt), refl)
-postfix_of n (element x e) g = ((element x e, inr tt), ((le_refl _, g.1), tt), refl)
+postfix_of n (element x b e) g = ((element x b e, inr tt), ((le_refl _, g.1), tt), refl)
 postfix_of n (call f all) g = ((call f all, inr tt), ((le_refl _, g.1), tt), refl)
 postfix_of n (postfix e op) g = ((e, inl op), ((g.1.0, g.1.1), rank_same 1 (looseness op.kind) g.1.2), refl)
 postfix_of n (prefix op e) g = let h = g.0 in absurd (omega arith)
@@ -102,7 +102,7 @@ unary_cover : (n : ℕ) (e : ExprTree) → (rank e ≤ 2) × IsWell e n → (IsP
 unary_cover n (constant t) g = inr (omega arith, g.1)
 unary_cover n (parenthesized e) g = inr (omega arith, g.1)
 unary_cover n (named x) g = inr (omega arith, g.1)
-unary_cover n (element x e) g = inr (omega arith, g.1)
+unary_cover n (element x b e) g = inr (omega arith, g.1)
 unary_cover n (call f all) g = inr (omega arith, g.1)
 unary_cover n (postfix e op) g = inr (omega arith, g.1)
 unary_cover n (prefix op e) g = inl (tt, g.1)
@@ -184,7 +184,7 @@ chain_loose : (n q : ℕ) → IsLevel (suc q) → (e : ExprTree) → rank e ≡ 
 chain_loose n q l (constant t) r g = absurd (no_level 0 q l r (inl (lit≤ tt)))
 chain_loose n q l (parenthesized e) r g = absurd (no_level 0 q l r (inl (lit≤ tt)))
 chain_loose n q l (named x) r g = absurd (no_level 0 q l r (inl (lit≤ tt)))
-chain_loose n q l (element x e) r g = absurd (no_level 0 q l r (inl (lit≤ tt)))
+chain_loose n q l (element x b e) r g = absurd (no_level 0 q l r (inl (lit≤ tt)))
 chain_loose n q l (call f all) r g = absurd (no_level 0 q l r (inl (lit≤ tt)))
 chain_loose n q l (postfix e op) r g = absurd (no_level 1 q l r (inl (lit≤ tt)))
 chain_loose n q l (prefix op e) r g = absurd (no_level 2 q l r (inl (lit≤ tt)))
@@ -274,7 +274,7 @@ conditional_of : (n : ℕ) (e : ExprTree) → (rank e ≤ 13) × IsWell e n → 
 conditional_of n (constant t) g = conditional_low n (constant t) (lit≤ tt, g.1)
 conditional_of n (parenthesized e) g = conditional_low n (parenthesized e) (lit≤ tt, g.1)
 conditional_of n (named x) g = conditional_low n (named x) (lit≤ tt, g.1)
-conditional_of n (element x e) g = conditional_low n (element x e) (lit≤ tt, g.1)
+conditional_of n (element x b e) g = conditional_low n (element x b e) (lit≤ tt, g.1)
 conditional_of n (call f all) g = conditional_low n (call f all) (lit≤ tt, g.1)
 conditional_of n (postfix e op) g = conditional_low n (postfix e op) (lit≤ tt, g.1)
 conditional_of n (prefix op e) g = conditional_low n (prefix op e) (lit≤ tt, g.1)
@@ -299,7 +299,7 @@ unary_rank : (e : ExprTree) → is_unary e ≡ true → rank e ≤ 2
 unary_rank (constant t) h = lit≤ tt
 unary_rank (parenthesized e) h = lit≤ tt
 unary_rank (named x) h = lit≤ tt
-unary_rank (element x e) h = lit≤ tt
+unary_rank (element x b e) h = lit≤ tt
 unary_rank (call f all) h = lit≤ tt
 unary_rank (postfix e op) h = lit≤ tt
 unary_rank (prefix op e) h = lit≤ tt
@@ -361,7 +361,7 @@ assignment_of : (n : ℕ) (e : ExprTree) → (rank e ≤ 14) × IsWell e n → (
 assignment_of n (constant t) g = assignment_low n (constant t) (lit≤ tt, g.1)
 assignment_of n (parenthesized e) g = assignment_low n (parenthesized e) (lit≤ tt, g.1)
 assignment_of n (named x) g = assignment_low n (named x) (lit≤ tt, g.1)
-assignment_of n (element x e) g = assignment_low n (element x e) (lit≤ tt, g.1)
+assignment_of n (element x b e) g = assignment_low n (element x b e) (lit≤ tt, g.1)
 assignment_of n (call f all) g = assignment_low n (call f all) (lit≤ tt, g.1)
 assignment_of n (postfix e op) g = assignment_low n (postfix e op) (lit≤ tt, g.1)
 assignment_of n (prefix op e) g = assignment_low n (prefix op e) (lit≤ tt, g.1)

@@ -178,8 +178,8 @@ pub reads_listed : (m : ℕ) (d : Inside) → InsideLaws m d → Reads (listed_s
 reads_listed m d laws = reads_both (arguments_shape m) (λ _. sign_shape CloseParenthesis) (arguments_at d) (λ _. sign CloseParenthesis) (reads_arguments m d laws) (λ _ _. reads_sign CloseParenthesis)
     (λ _ _ _ _. refl) (λ _ _. (tt, tt))
 
-abbrev subscript_shape : ℕ → Shape (Unit {0} × (ExprTree × Unit {0}))
-subscript_shape n = nest_shape (sign_shape OpenBracket) (closed_shape CloseBracket 0).slots (λ m. (closed_shape CloseBracket m).good) (closed_shape CloseBracket 0).follow n
+abbrev subscript_shape : ℕ → Shape (Token × (ExprTree × Unit {0}))
+subscript_shape n = nest_shape (one_shape (is OpenBracket)) (closed_shape CloseBracket 0).slots (λ m. (closed_shape CloseBracket m).good) (closed_shape CloseBracket 0).follow n
 
 abbrev call_shape : ℕ → Shape (Unit {0} × (ArgumentList × Unit {0}))
 call_shape n = nest_shape (sign_shape OpenParenthesis) (listed_shape 0).slots (λ m. (listed_shape m).good) (listed_shape 0).follow n
@@ -189,7 +189,7 @@ abbrev FollowsName : Kind → Type 0
 FollowsName k = 0 < looseness k
 
 abbrev Tail : Type 0
-Tail = (Unit {0} × (ExprTree × Unit {0})) ⊎ ((Unit {0} × (ArgumentList × Unit {0})) ⊎ Unit {0})
+Tail = (Token × (ExprTree × Unit {0})) ⊎ ((Unit {0} × (ArgumentList × Unit {0})) ⊎ Unit {0})
 
 abbrev tail_shape : ℕ → Shape Tail
 tail_shape n = either_shape (subscript_shape n) (either_shape (call_shape n) (nothing_shape FollowsName))
@@ -198,7 +198,7 @@ follows_no : (K k : Kind) → looseness K ≡ 0 → FollowsName k → is K k ≡
 follows_no K k z f = not_is K k (λ e. let a : looseness k ≡ 0 = ap looseness e ∙ z in absurd (omega arith))
 
 abbrev tail_at : Option Inside → Reader Tail
-tail_at i = either (is OpenBracket) (under (is OpenBracket) i (sign OpenBracket) (λ d. both d.expression (λ _. sign CloseBracket)))
+tail_at i = either (is OpenBracket) (under (is OpenBracket) i (one (is OpenBracket)) (λ d. both d.expression (λ _. sign CloseBracket)))
     (either (is OpenParenthesis) (under (is OpenParenthesis) i (sign OpenParenthesis) (λ d. both (arguments_at d) (λ _. sign CloseParenthesis)))
     nothing)
 
@@ -213,15 +213,15 @@ call_tail_avoids n (inl x) = refl
 call_tail_avoids n (inr u) = λ k f. follows_no OpenBracket k refl f
 
 reads_tail : (n : ℕ) (i : Option Inside) → Deeper n i → Reads (tail_shape n) (tail_at i)
-reads_tail n i h = reads_either (is OpenBracket) (subscript_shape n) (either_shape (call_shape n) (nothing_shape FollowsName)) (under (is OpenBracket) i (sign OpenBracket) (λ d. both d.expression (λ _. sign CloseBracket)))
+reads_tail n i h = reads_either (is OpenBracket) (subscript_shape n) (either_shape (call_shape n) (nothing_shape FollowsName)) (under (is OpenBracket) i (one (is OpenBracket)) (λ d. both d.expression (λ _. sign CloseBracket)))
     (either (is OpenParenthesis) (under (is OpenParenthesis) i (sign OpenParenthesis) (λ d. both (arguments_at d) (λ _. sign CloseParenthesis))) nothing)
-    (reads_under (is OpenBracket) (sign_shape OpenBracket) (sign OpenBracket) (reads_sign OpenBracket) (λ _ _. tt) (closed_shape CloseBracket 0).slots (λ m. (closed_shape CloseBracket m).good) (closed_shape CloseBracket 0).follow
+    (reads_under (is OpenBracket) (one_shape (is OpenBracket)) (one (is OpenBracket)) (reads_one (is OpenBracket)) (λ _ _. tt) (closed_shape CloseBracket 0).slots (λ m. (closed_shape CloseBracket m).good) (closed_shape CloseBracket 0).follow
     (λ d. both d.expression (λ _. sign CloseBracket)) (reads_closed CloseBracket (lit< tt)) (some_closed CloseBracket) n i h)
-    (reads_call_tail n i h) (λ x g. refl) (λ x g. call_tail_avoids n x)
+    (reads_call_tail n i h) (λ x g. g.0) (λ x g. call_tail_avoids n x)
 
 abbrev IsNamed : ExprTree → Type 0
 IsNamed (named x) = Unit {0}
-IsNamed (element x e) = Unit {0}
+IsNamed (element x b e) = Unit {0}
 IsNamed (call f all) = Unit {0}
 IsNamed _ = ⊥
 
@@ -232,13 +232,13 @@ abbrev name_parts_shape : ℕ → Shape (Token × Tail)
 name_parts_shape n = both_shape (one_shape (is Name)) (λ _. tail_shape n)
 
 named_into : (n : ℕ) (x : Token) (t : Tail) → (name_parts_shape n).good (x, t) → (IsNamed (named_tree x t) × IsWell (named_tree x t) n) × (slots (named_tree x t) ≡ (name_parts_shape n).slots (x, t))
-named_into n x (inl e) g = ((tt, (is_true Name x.kind g.0, under_map (λ m. ((rank e.1.0 ≤ 15) × IsWell e.1.0 m) × Unit {0}) (λ m. (rank e.1.0 ≤ 15) × IsWell e.1.0 m) n (λ m h. h.0) g.1.1)), refl)
+named_into n x (inl e) g = ((tt, (is_true Name x.kind g.0, is_true OpenBracket e.0.kind g.1.0, under_map (λ m. ((rank e.1.0 ≤ 15) × IsWell e.1.0 m) × Unit {0}) (λ m. (rank e.1.0 ≤ 15) × IsWell e.1.0 m) n (λ m h. h.0) g.1.1)), refl)
 named_into n x (inr (inl all)) g = ((tt, (is_true Name x.kind g.0, under_map (λ m. AreWell all.1.0 m × Unit {0}) (λ m. AreWell all.1.0 m) n (λ m h. h.0) g.1.1)), refl)
 named_into n x (inr (inr u)) g = ((tt, is_true Name x.kind g.0), refl)
 
 named_of : (n : ℕ) (e : ExprTree) → IsNamed e × IsWell e n → (x : Token × Tail) × (name_parts_shape n).good x × (named_tree x.0 x.1 ≡ e)
 named_of n (named x) g = ((x, inr (inr tt)), (true_is Name x.kind g.1, tt), refl)
-named_of n (element x e) g = ((x, inl (tt, (e, tt))), (true_is Name x.kind g.1.0, (tt, under_map (λ m. (rank e ≤ 15) × IsWell e m) (λ m. ((rank e ≤ 15) × IsWell e m) × Unit {0}) n (λ m h. (h, tt)) g.1.1)), refl)
+named_of n (element x b e) g = ((x, inl (b, (e, tt))), (true_is Name x.kind g.1.0, (true_is OpenBracket b.kind g.1.1, under_map (λ m. (rank e ≤ 15) × IsWell e m) (λ m. ((rank e ≤ 15) × IsWell e m) × Unit {0}) n (λ m h. (h, tt)) g.1.2)), refl)
 named_of n (call f all) g = ((f, inr (inl (tt, (all, tt)))), (true_is Name f.kind g.1.0, (tt, under_map (λ m. AreWell all m) (λ m. AreWell all m × Unit {0}) n (λ m h. (h, tt)) g.1.1)), refl)
 named_of n _ g = absurd g.0
 
@@ -269,7 +269,7 @@ parenthesized_heads n _ g = absurd g.0
 -- a name begins what has one
 named_heads : (P : Kind → Type 0) → P Name → (n : ℕ) (e : ExprTree) → IsNamed e × IsWell e n → Heads P (slots e)
 named_heads P p n (named x) g = subst P (sym g.1) p
-named_heads P p n (element x e) g = subst P (sym g.1.0) p
+named_heads P p n (element x b e) g = subst P (sym g.1.0) p
 named_heads P p n (call f all) g = subst P (sym g.1.0) p
 named_heads P p n _ g = absurd g.0
 
@@ -285,7 +285,7 @@ primary_cover : (n : ℕ) (e : ExprTree) → (rank e ≤ 0) × IsWell e n → (I
 primary_cover n (constant t) g = inl (tt, g.1)
 primary_cover n (parenthesized e) g = inr (inl tt, g.1)
 primary_cover n (named x) g = inr (inr tt, g.1)
-primary_cover n (element x e) g = inr (inr tt, g.1)
+primary_cover n (element x b e) g = inr (inr tt, g.1)
 primary_cover n (call f all) g = inr (inr tt, g.1)
 primary_cover n (postfix e op) g = let h = g.0 in absurd (omega arith)
 primary_cover n (prefix op e) g = let h = g.0 in absurd (omega arith)
@@ -300,7 +300,7 @@ constant_into n _ g = absurd g.0
 open_into : (n : ℕ) (e : ExprTree) → (IsParenthesized e ⊎ IsNamed e) × IsWell e n → (rank e ≤ 0) × IsWell e n
 open_into n (parenthesized e) g = (le_refl _, g.1)
 open_into n (named x) g = (le_refl _, g.1)
-open_into n (element x e) g = (le_refl _, g.1)
+open_into n (element x b e) g = (le_refl _, g.1)
 open_into n (call f all) g = (le_refl _, g.1)
 open_into n _ g = absurd (elim g.0 [ inl p ↦ p | inr p ↦ p ])
 
@@ -311,7 +311,7 @@ constant_heads n _ g = absurd g.0
 open_heads : (n : ℕ) (e : ExprTree) → (IsParenthesized e ⊎ IsNamed e) × IsWell e n → Heads (λ k. is_constant k ≡ false) (slots e)
 open_heads n (parenthesized e) g = refl
 open_heads n (named x) g = named_heads (λ k. is_constant k ≡ false) refl n (named x) (tt, g.1)
-open_heads n (element x e) g = named_heads (λ k. is_constant k ≡ false) refl n (element x e) (tt, g.1)
+open_heads n (element x b e) g = named_heads (λ k. is_constant k ≡ false) refl n (element x b e) (tt, g.1)
 open_heads n (call f all) g = named_heads (λ k. is_constant k ≡ false) refl n (call f all) (tt, g.1)
 open_heads n _ g = absurd (elim g.0 [ inl p ↦ p | inr p ↦ p ])
 

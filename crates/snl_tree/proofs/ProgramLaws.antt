@@ -1,23 +1,23 @@
 -- The readers of clauses, states, state sets and programs are right. A block nests, so they are so from
 -- limit 1 on.
-use Rattle.std.proofs.Common.{◌≡◌, ℕ, zero, suc, ◌<◌, lit<, length, Ok, Bool, true, false, List, [], ◌∷◌, ◌++◌, Option, Some, None, ◌⊎◌, inl, inr, refl, sym, ap, ◌∙◌, subst}
+use Rattle.std.proofs.Common.{◌≡◌, ℕ, suc, lit<, true, false, List, [], ◌∷◌, ◌++◌, Option, Some, None, ◌⊎◌, inl, inr, refl, sym, subst}
 use Rattle.snl_text.specs.declared.tokens.Token.{Token}
 use Rattle.snl_text.specs.declared.kinds.Kind.{Kind}
 use Rattle.snl_text.specs.declared.kinds.Kind.TheVariants.{Name, Text, Program, Entry, Exit, StateSet, State, When, OpenBrace, CloseBrace, OpenParenthesis, CloseParenthesis}
-use Rattle.snl_tree.specs.Kinds.{is, looseness}
+use Rattle.snl_tree.specs.Kinds.{is}
 use Rattle.snl_tree.specs.Slots.{Slot}
-use Rattle.snl_tree.specs.Readers.{Reader, one, sign, both, either, many}
-use Rattle.snl_tree.specs.Sequences.{maybe, behind, between, some_of, IfThere, Each, EachOfSome, row_slots}
-use Rattle.snl_tree.specs.Expressions.{ExprTree, IsExpr}
+use Rattle.snl_tree.specs.Readers.{one, sign, both, either}
+use Rattle.snl_tree.specs.Sequences.{maybe, behind, between, IfThere, EachOfSome, row_slots}
+use Rattle.snl_tree.specs.Expressions.{ExprTree}
 use Rattle.snl_tree.specs.Reading.{inside, level_at, is_no_close}
-use Rattle.snl_tree.specs.Definitions.{DefinitionTree, starts_definition, starts_part, IsDefinition, IsPart, definition_slots}
+use Rattle.snl_tree.specs.Definitions.{DefinitionTree, starts_definition, starts_part, definition_slots}
 use Rattle.snl_tree.specs.DefinitionReading.{definitions_at, parts_at}
 use Rattle.snl_tree.specs.Statements.{BlockTree}
 use Rattle.snl_tree.specs.StatementReading.{block_at}
 use Rattle.snl_tree.specs.Programs.{TargetTree, to_state, to_exit, ClauseTree, StateTree, StateSetTree, ProgramTree, target_slots, clause_slots, state_slots, state_set_slots, program_slots, IsTarget, IsClause, IsState, IsStateSet, IsProgram}
 use Rattle.snl_tree.specs.ProgramReading.{target, target_at, condition_at, clause_at, entry_at, exit_at, clauses_at, state_at, states_at, state_set_at, state_sets_at, macros_at, program_at}
 use Rattle.snl_tree.proofs.Laws.{Links}
-use Rattle.snl_tree.proofs.Choices.{Heads, is_true, true_is}
+use Rattle.snl_tree.proofs.Choices.{is_true, true_is}
 use Rattle.snl_tree.proofs.Lists.{heads_append}
 use Rattle.snl_tree.proofs.Shapes.{heads_opens, open_no_close}
 use Rattle.snl_tree.proofs.Inside.{links_any}

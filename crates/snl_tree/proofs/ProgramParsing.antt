@@ -1,19 +1,18 @@
 -- What the tokens are, as a program, by what was read of them.
-use Rattle.std.proofs.Common.{◌≡◌, ℕ, zero, suc, ◌+◌, ◌-◌, ◌<◌, ◌≤◌, List, [], ◌∷◌, Option, Some, None, Ok, Err, inl, inr, length, refl, sym, ap, ◌∙◌, subst, arith}
+use Rattle.std.proofs.Common.{◌≡◌, ℕ, zero, suc, ◌+◌, ◌-◌, ◌<◌, ◌≤◌, List, [], ◌∷◌, Option, Some, None, Ok, Err, inl, inr, length, refl, ap, subst, arith}
 use Rattle.snl_text.specs.declared.tokens.Token.{Token}
 use Rattle.snl_text.specs.declared.kinds.Kind.{Kind}
-use Rattle.snl_text.specs.declared.kinds.Kind.TheVariants.{State}
 use Rattle.snl_tree.specs.Readers.{Stuck, Deep, Read, left}
 use Rattle.snl_tree.specs.Sequences.{IfThere, Each, EachOfSome}
 use Rattle.snl_tree.specs.Begins.{Sort, Spells, Begins, IsUnexpected, IsTooDeep}
-use Rattle.snl_tree.specs.Definitions.{DefinitionTree, IsDefinition, IsPart}
+use Rattle.snl_tree.specs.Definitions.{IsDefinition, IsPart}
 use Rattle.snl_tree.specs.Statements.{BlockTree, block, IsBlock}
-use Rattle.snl_tree.specs.Programs.{ClauseTree, StateTree, StateSetTree, ProgramTree, program_slots, IsClause, IsState, IsStateSet, IsProgram, programs}
+use Rattle.snl_tree.specs.Programs.{StateTree, StateSetTree, ProgramTree, program_slots, IsClause, IsState, IsStateSet, IsProgram, programs}
 use Rattle.snl_tree.specs.ProgramReading.{program_at}
 use Rattle.snl_tree.specs.ProgramAnswers.{HasProgram}
 use Rattle.snl_tree.proofs.Laws.{Sound, ends}
 use Rattle.snl_tree.proofs.DefinitionLaws.{right_definition, right_part}
-use Rattle.snl_tree.proofs.ProgramLaws.{program_form, right_program}
+use Rattle.snl_tree.proofs.ProgramLaws.{right_program}
 use Rattle.snl_tree.proofs.Theorem.{shape_of, unexpected, too_deep, one_tree, unambiguous}
 
 -- what is well formed stays so where more depth is left; without any, no block is

@@ -1,18 +1,18 @@
 -- Readers that are right at every depth, in one record of laws, and the ways of joining them.
-use Rattle.std.proofs.Common.{◌≡◌, ℕ, zero, suc, ◌+◌, Bool, true, false, List, [], ◌∷◌, ◌++◌, Option, Some, None, Ok, Err, ◌⊎◌, inl, inr, refl, sym, ap, ◌∙◌, subst, arith, append-nil, ◌<◌, ◌≤◌, length}
+use Rattle.std.proofs.Common.{◌≡◌, ℕ, suc, ◌+◌, Bool, true, false, List, [], ◌∷◌, ◌++◌, Option, Some, None, Ok, Err, ◌⊎◌, inl, inr, refl, sym, subst, arith, ◌<◌, ◌≤◌, length}
 use Rattle.snl_text.specs.declared.tokens.Token.{Token}
 use Rattle.snl_text.specs.declared.kinds.Kind.{Kind}
 use Rattle.snl_tree.specs.Kinds.{is}
 use Rattle.snl_tree.specs.Slots.{Slot, The, Sign, Spelled}
-use Rattle.snl_tree.specs.Readers.{Read, Reader, starts, one, sign, both, either, choice, nothing, many, made, ◌>>=◌}
+use Rattle.snl_tree.specs.Readers.{Read, Reader, starts, one, sign, both, either, nothing, many, made, ◌>>=◌}
 use Rattle.snl_tree.specs.Sequences.{maybe_slots, IfThere, sign_slots, row_slots, Each, EachOfSome, parted_slots, maybe, whether, behind, before, between, some_of, parted}
 use Rattle.snl_tree.proofs.Spelling.{spelled_length}
 use Rattle.snl_tree.proofs.Laws.{Shape, Sound, Reads, Links}
-use Rattle.snl_tree.proofs.Both.{both_shape, reads_both}
-use Rattle.snl_tree.proofs.Choices.{Heads, Avoids, is_true, true_is, one_shape, reads_one, sign_shape, reads_sign, nothing_shape, reads_nothing, either_shape, reads_either, reads_choice, reads_made}
-use Rattle.snl_tree.proofs.Lists.{many_shape, reads_many}
+use Rattle.snl_tree.proofs.Both.{reads_both}
+use Rattle.snl_tree.proofs.Choices.{Heads, Avoids, is_true, true_is, reads_one, reads_sign, reads_nothing, either_shape, reads_either, reads_made}
+use Rattle.snl_tree.proofs.Lists.{reads_many}
 use Rattle.snl_tree.proofs.Inside.{links_any}
-use Rattle.snl_tree.proofs.Growth.{Grows, grows_one, grows_sign, grows_nothing, grows_made, grows_both, grows_either, grows_choice, grows_many}
+use Rattle.snl_tree.proofs.Growth.{Grows, grows_one, grows_sign, grows_nothing, grows_made, grows_both, grows_either, grows_many}
 
 -- What is read at each depth: a spelling, when it is well formed at a depth, and what may follow.
 pub record Form (A : Type 0) : Type 1 where

@@ -74,7 +74,7 @@ abbrev first_kind : ExprTree → Kind
 first_kind (constant t) = t.kind
 first_kind (parenthesized e) = OpenParenthesis
 first_kind (named x) = x.kind
-first_kind (element x e) = x.kind
+first_kind (element x b e) = x.kind
 first_kind (call f all) = f.kind
 first_kind (postfix e op) = first_kind e
 first_kind (prefix op e) = op.kind
@@ -86,7 +86,7 @@ first_heads : (e : ExprTree) → Heads (λ k. k ≡ first_kind e) (slots e)
 first_heads (constant t) = refl
 first_heads (parenthesized e) = refl
 first_heads (named x) = refl
-first_heads (element x e) = refl
+first_heads (element x b e) = refl
 first_heads (call f all) = refl
 first_heads (postfix e op) = heads_append (λ k. k ≡ first_kind e) (slots e) _ (first_heads e)
 first_heads (prefix op e) = refl
@@ -101,7 +101,7 @@ first_opens : (e : ExprTree) (n : ℕ) → IsWell e n → can_open (first_kind e
 first_opens (constant t) n g = constant_opens t.kind g
 first_opens (parenthesized e) n g = refl
 first_opens (named x) n g = name_opens x.kind g
-first_opens (element x e) n g = name_opens x.kind g.0
+first_opens (element x b e) n g = name_opens x.kind g.0
 first_opens (call f all) n g = name_opens f.kind g.0
 first_opens (postfix e op) n g = first_opens e n g.1
 first_opens (prefix op e) n g = prefix_opens op.kind g.0
@@ -117,7 +117,7 @@ first_no_prefix : (e : ExprTree) (n : ℕ) → rank e ≤ 1 → IsWell e n → i
 first_no_prefix (constant t) n r g = constant_no_prefix t.kind g
 first_no_prefix (parenthesized e) n r g = refl
 first_no_prefix (named x) n r g = ap is_prefix g
-first_no_prefix (element x e) n r g = ap is_prefix g.0
+first_no_prefix (element x b e) n r g = ap is_prefix g.0
 first_no_prefix (call f all) n r g = ap is_prefix g.0
 first_no_prefix (postfix e op) n r g = first_no_prefix e n (let h = g.0 in omega arith) g.1
 first_no_prefix (prefix op e) n r g = absurd (omega arith)
@@ -139,7 +139,7 @@ mutual
   well_more (constant t) n g = g
   well_more (parenthesized e) n g = under_more (λ m. (rank e ≤ 15) × IsWell e m) n (λ m h. (h.0, well_more e m h.1)) g
   well_more (named x) n g = g
-  well_more (element x e) n g = (g.0, under_more (λ m. (rank e ≤ 15) × IsWell e m) n (λ m h. (h.0, well_more e m h.1)) g.1)
+  well_more (element x b e) n g = (g.0, g.1, under_more (λ m. (rank e ≤ 15) × IsWell e m) n (λ m h. (h.0, well_more e m h.1)) g.2)
   well_more (call f all) n g = (g.0, under_more (λ m. AreWell all m) n (λ m h. all_more all m h) g.1)
   well_more (postfix e op) n g = (g.0, well_more e n g.1, g.2)
   well_more (prefix op e) n g = (g.0, under_more (λ m. (rank e ≤ 2) × IsWell e m) n (λ m h. (h.0, well_more e m h.1)) g.1)

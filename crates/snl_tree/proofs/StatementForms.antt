@@ -1,15 +1,15 @@
 -- The forms in which the code reads statements.
-use Rattle.std.proofs.Common.{◌≡◌, ℕ, zero, suc, ◌-◌, ◌<◌, length, Bool, true, false, true≢false, List, [], ◌∷◌, Ok, Err, Result, Option, Some, None, ◌⊎◌, inl, inr, refl, sym, ap, ◌∙◌, subst}
+use Rattle.std.proofs.Common.{◌≡◌, ℕ, zero, suc, ◌-◌, ◌<◌, length, Bool, true, false, true≢false, List, [], ◌∷◌, Ok, Err, Some, None, ◌⊎◌, inl, inr, refl, sym, ap, ◌∙◌, subst}
 use Rattle.snl_text.specs.declared.tokens.Token.{Token}
 use Rattle.snl_text.specs.declared.kinds.Kind.{Kind}
-use Rattle.snl_text.specs.declared.kinds.Kind.TheVariants.{Name, OpenBrace, CloseBrace, OpenParenthesis, CloseParenthesis, Semicolon, If, Else, While, For, Break, Continue, State}
+use Rattle.snl_text.specs.declared.kinds.Kind.TheVariants.{Name, OpenBrace, CloseBrace, Semicolon, If, Else, While, For, Break, Continue, State}
 use Rattle.snl_tree.specs.Kinds.{is}
-use Rattle.snl_tree.specs.Readers.{Fault, Stuck, Deep, Read, Reader, starts, one, sign, both, either, choice, nothing, under, made, ◌>>=◌}
-use Rattle.snl_tree.specs.Sequences.{maybe, behind, before, between}
+use Rattle.snl_tree.specs.Readers.{Stuck, Deep, Read, Reader, starts, one, sign, both, nothing, under, ◌>>=◌}
+use Rattle.snl_tree.specs.Sequences.{before}
 use Rattle.snl_tree.specs.Expressions.{ExprTree}
 use Rattle.snl_tree.specs.Reading.{inside, level_at, opened}
-use Rattle.snl_tree.specs.Statements.{Header, StatementTree, BlockTree, nested, empty, expression, break_loop, continue_loop, change_state, if_then, if_else, while_loop, for_loop, block, statement_slots, is_closed}
-use Rattle.snl_tree.specs.StatementReading.{opens_statement, condition_at, is_other, ended_at, header_at, statement_list, Inner, declarations_at, statements_at, block_of, empty_at, expression_statement_at, break_at, continue_at, change_state_at, else_at, if_tree, if_at, while_at, for_at, word_statement_at, statement_of, statements_inside, statement_at, block_at}
+use Rattle.snl_tree.specs.Statements.{Header, StatementTree, nested, empty, expression, break_loop, continue_loop, change_state, if_then, if_else, while_loop, for_loop, block, statement_slots, is_closed}
+use Rattle.snl_tree.specs.StatementReading.{condition_at, header_at, statement_list, Inner, declarations_at, statements_at, block_of, empty_at, expression_statement_at, break_at, continue_at, change_state_at, else_at, if_tree, if_at, while_at, for_at, word_statement_at, statement_of, statements_inside, statement_at, block_at}
 use Rattle.snl_tree.specs.StatementSteps.{ended_word_at, statement_row_at, if_rest}
 use Rattle.snl_tree.proofs.Laws.{Ends, Sound}
 use Rattle.snl_tree.proofs.Choices.{true_is}

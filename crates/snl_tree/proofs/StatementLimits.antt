@@ -1,18 +1,18 @@
 -- What is read of statements and blocks where more depth is left.
-use Rattle.std.proofs.Common.{◌≡◌, ℕ, zero, suc, ◌≤◌, ◌+◌, Bool, true, false, List, [], Option, Some, None, inr, length, subst, arith}
+use Rattle.std.proofs.Common.{◌≡◌, ℕ, zero, suc, ◌≤◌, ◌+◌, Bool, true, false, List, [], Some, None, inr, length, subst, arith}
 use Rattle.snl_text.specs.declared.tokens.Token.{Token}
 use Rattle.snl_text.specs.declared.kinds.Kind.{Kind}
 use Rattle.snl_text.specs.declared.kinds.Kind.TheVariants.{Name, OpenBrace, CloseBrace, Semicolon, If, Else, While, For, Break, Continue, State}
 use Rattle.snl_tree.specs.Kinds.{is}
-use Rattle.snl_tree.specs.Readers.{Reader, left, one, sign, both, either, choice, nothing, many, under, made}
+use Rattle.snl_tree.specs.Readers.{Reader, left, one, sign, both, nothing, many, under, made}
 use Rattle.snl_tree.specs.Sequences.{before}
 use Rattle.snl_tree.specs.Reading.{inside, level_at}
 use Rattle.snl_tree.specs.Statements.{StatementTree, BlockTree, nested, empty, expression, break_loop, continue_loop, change_state, while_loop, for_loop, no_statements, block, block_slots, is_closed, IsBlock}
-use Rattle.snl_tree.specs.StatementReading.{opens_statement, condition_at, header_at, statement_list, Inner, declarations_at, statements_at, block_of, empty_at, expression_statement_at, break_at, continue_at, change_state_at, else_at, if_tree, if_at, while_at, for_at, word_statement_at, statement_of, statements_inside, statement_at, block_at}
+use Rattle.snl_tree.specs.StatementReading.{opens_statement, condition_at, header_at, statement_list, Inner, declarations_at, statements_at, block_of, empty_at, expression_statement_at, break_at, continue_at, change_state_at, else_at, if_tree, if_at, while_at, for_at, word_statement_at, statement_of, statements_inside, block_at}
 use Rattle.snl_tree.proofs.Laws.{ends}
 use Rattle.snl_tree.proofs.Growth.{Grows, Opens, grows_one, grows_sign, grows_nothing, grows_made, grows_both, grows_either, grows_choice, grows_many, opens_one, opens_sign, grows_under_none}
-use Rattle.snl_tree.proofs.Rights.{Form, Right, before_form, right_before}
-use Rattle.snl_tree.proofs.Values.{expression_form, right_expression}
+use Rattle.snl_tree.proofs.Rights.{Form, Right}
+use Rattle.snl_tree.proofs.Values.{right_expression}
 use Rattle.snl_tree.proofs.Blocks.{right_condition, right_header, right_declarations}
 use Rattle.snl_tree.proofs.StatementShapes.{block_more}
 use Rattle.snl_tree.proofs.StatementReads.{StatementLaws, content_shape, reads_content, looped_shape, reads_looped, counted_shape, reads_counted, chosen_shape, reads_chosen, reads_inside, reads_block_at}

@@ -6,20 +6,20 @@ use Rattle.snl_text.specs.declared.kinds.Kind.{Kind}
 use Rattle.snl_text.specs.declared.kinds.Kind.TheVariants.{Name, Char, Short, Int, Long, Unsigned, Int8, Int16, Int32, Int64, Uint8, Uint16, Uint32, Uint64, Float, Double, StringType, OpenBrace, CloseBrace, Semicolon, If, Else, While, For, Break, Continue, State}
 use Rattle.snl_tree.specs.Kinds.{is}
 use Rattle.snl_tree.specs.Slots.{Slot, Sign}
-use Rattle.snl_tree.specs.Readers.{Read, Reader, one, sign, both, either, choice, nothing, many, under, made}
-use Rattle.snl_tree.specs.Sequences.{maybe, behind, before}
-use Rattle.snl_tree.specs.Expressions.{ExprTree, Under, IsExpr}
+use Rattle.snl_tree.specs.Readers.{Read, Reader, one, sign, both, choice, nothing, many, under, made}
+use Rattle.snl_tree.specs.Sequences.{before}
+use Rattle.snl_tree.specs.Expressions.{ExprTree, IsExpr}
 use Rattle.snl_tree.specs.Reading.{inside, level_at}
 use Rattle.snl_tree.specs.Declarations.{DeclarationTree, starts_declaration}
 use Rattle.snl_tree.specs.Statements.{Header, StatementTree, StatementList, BlockTree, nested, empty, expression, break_loop, continue_loop, change_state, if_then, if_else, while_loop, for_loop, no_statements, statement, block, statement_slots, statement_list_slots, block_slots, condition_slots, is_closed, IsWellStatement, AreWellStatements, IsWellBlock}
 use Rattle.snl_tree.specs.StatementReading.{opens_statement, condition_at, header_at, statement_list, Inner, declarations_at, statements_at, block_of, empty_at, expression_statement_at, break_at, continue_at, change_state_at, else_at, if_tree, if_at, while_at, for_at, word_statement_at, statement_of, statements_inside, statement_at, block_at}
 use Rattle.snl_tree.proofs.Laws.{Shape, Sound, Reads, Links}
 use Rattle.snl_tree.proofs.Both.{both_shape, reads_both}
-use Rattle.snl_tree.proofs.Choices.{Heads, Avoids, is_true, true_is, one_shape, reads_one, sign_shape, reads_sign, nothing_shape, reads_nothing, either_shape, reads_either, reads_choice, reads_made}
+use Rattle.snl_tree.proofs.Choices.{Heads, is_true, true_is, one_shape, reads_one, sign_shape, reads_sign, nothing_shape, reads_nothing, either_shape, reads_either, reads_choice, reads_made}
 use Rattle.snl_tree.proofs.Lists.{many_shape, slots_all, Good_all, reads_many}
 use Rattle.snl_tree.proofs.Shapes.{not_is, avoids_heads}
-use Rattle.snl_tree.proofs.Inside.{some_token, under_map, links_any, nest_shape, Given, reads_given}
-use Rattle.snl_tree.proofs.Rights.{Form, at_depth, Right, one_form, right_kind, before_form, right_before, right_made, both_form, right_both}
+use Rattle.snl_tree.proofs.Inside.{under_map, nest_shape, Given, reads_given}
+use Rattle.snl_tree.proofs.Rights.{Form, at_depth, Right, one_form, right_kind, before_form, right_before, both_form, right_both}
 use Rattle.snl_tree.proofs.Values.{expression_form, right_expression}
 use Rattle.snl_tree.proofs.Blocks.{condition_form, right_condition, header_form, right_header, declarations_form, right_declarations, free_links}
 use Rattle.snl_tree.proofs.StatementShapes.{kind_form, form, form_most, brace_form, semicolon_form, if_form, while_form, for_form, break_form, continue_form, state_form, statement_heads, heads_open}

@@ -1,14 +1,12 @@
 -- Facts of the trees of statements.
-use Rattle.std.proofs.Common.{◌≡◌, ℕ, zero, suc, ◌≤◌, ◌<◌, Bool, true, false, true≢false, List, [], ◌∷◌, refl, sym, ap, ◌∙◌, subst, arith, nat_eq}
-use Rattle.std.proofs.lemmas.Bool.Decides.{nat_tests}
-use Rattle.snl_text.specs.declared.tokens.Token.{Token}
+use Rattle.std.proofs.Common.{◌≡◌, ℕ, zero, suc, ◌≤◌, true, true≢false, refl, sym, ap, arith, nat_eq}
 use Rattle.snl_text.specs.declared.kinds.Kind.{Kind}
-use Rattle.snl_text.specs.declared.kinds.Kind.TheVariants.{Name, Whole, Decimal, Character, OpenBrace, OpenParenthesis, CloseParenthesis, Semicolon, If, Else, While, For, Break, Continue, State, Plus, Minus, Bang, Tilde, PlusPlus, MinusMinus}
+use Rattle.snl_text.specs.declared.kinds.Kind.TheVariants.{Name, Whole, Decimal, Character, OpenBrace, OpenParenthesis, Semicolon, If, While, For, Break, Continue, State, Plus, Minus, Bang, Tilde, PlusPlus, MinusMinus}
 use Rattle.snl_tree.specs.Kinds.{is}
-use Rattle.snl_tree.specs.Expressions.{ExprTree, slots, Under, IsWell, IsExpr}
+use Rattle.snl_tree.specs.Expressions.{slots, Under, IsExpr}
 use Rattle.snl_tree.specs.Sequences.{Each}
 use Rattle.snl_tree.specs.Declarations.{IsDeclaration}
-use Rattle.snl_tree.specs.Statements.{Header, StatementTree, StatementList, BlockTree, nested, empty, expression, break_loop, continue_loop, change_state, if_then, if_else, while_loop, for_loop, no_statements, statement, block, statement_slots, is_closed, IsHeader, IsWellStatement, AreWellStatements, IsWellBlock, IsStatement, IsBlock}
+use Rattle.snl_tree.specs.Statements.{StatementTree, StatementList, BlockTree, nested, empty, expression, break_loop, continue_loop, change_state, if_then, if_else, while_loop, for_loop, no_statements, statement, block, statement_slots, is_closed, IsHeader, IsWellStatement, AreWellStatements, IsWellBlock}
 use Rattle.snl_tree.specs.StatementReading.{opens_statement}
 use Rattle.snl_tree.proofs.Choices.{Heads}
 use Rattle.snl_tree.proofs.Lists.{heads_append}

@@ -3,7 +3,6 @@ use Rattle.std.proofs.Common.{◌≡◌, ◌<◌, Bool, true, false, List, [], �
 use Rattle.snl_text.specs.declared.tokens.Token.{Token}
 use Rattle.snl_text.specs.declared.kinds.Kind.{Kind}
 use Rattle.snl_tree.specs.declared.whole.place.Stop.{Stop}
-use Rattle.snl_tree.specs.declared.whole.place.Stop.TheVariants as Stop
 use Rattle.snl_tree.specs.Kinds.{is}
 use Rattle.snl_tree.specs.Readers as reading
 use Rattle.snl_tree.specs.Readers.{Fault, Read, Reader, starts, many, ◌>>=◌}

@@ -1,13 +1,11 @@
 -- The turns of the loop of the code that reads the values of a list.
-use Rattle.std.proofs.Common.{◌≡◌, ℕ, ◌<◌, ◌≤◌, Bool, true, false, List, [], ◌∷◌, ◌++◌, map, Ok, Err, Option, Some, None, length, refl, sym, ap, ◌∙◌, subst, arith, append-nil}
+use Rattle.std.proofs.Common.{◌≡◌, ℕ, ◌<◌, Bool, true, false, List, [], ◌∷◌, ◌++◌, map, Ok, Err, Option, Some, None, length, refl, sym, ap, ◌∙◌, subst, arith, append-nil}
 use Rattle.snl_text.specs.declared.tokens.Token.{Token}
 use Rattle.snl_text.specs.declared.kinds.Kind.{Kind}
 use Rattle.snl_text.specs.declared.kinds.Kind.TheVariants.{Comma}
 use Rattle.snl_tree.specs.declared.whole.place.Stop.{Stop}
-use Rattle.snl_tree.specs.declared.whole.place.Stop.TheVariants as Stop
 use Rattle.snl_tree.specs.declared.whole.expr.Expr.{Expr}
 use Rattle.snl_tree.specs.Kinds.{is}
-use Rattle.snl_tree.specs.Readers as reading
 use Rattle.snl_tree.specs.Readers.{Fault, Read, Reader, starts, sign, both, ◌>>=◌}
 use Rattle.snl_tree.specs.Sequences.{maybe, behind}
 use Rattle.snl_tree.specs.Results.{Fails}

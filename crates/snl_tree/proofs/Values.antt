@@ -1,25 +1,23 @@
 -- The readers of expressions that stand in no other, and of the values of a list, are right.
-use Rattle.std.proofs.Common.{◌≡◌, ℕ, zero, suc, ◌+◌, ◌≤◌, ◌<◌, lit<, lit≤, le_refl, Bool, true, false, true≢false, List, [], ◌∷◌, ◌++◌, Option, Some, None, Ok, Err, Result, ◌⊎◌, inl, inr, length, refl, sym, ap, ◌∙◌, subst, arith, append-nil}
+use Rattle.std.proofs.Common.{◌≡◌, ℕ, zero, suc, ◌+◌, ◌≤◌, ◌<◌, lit<, lit≤, le_refl, Bool, true, false, true≢false, List, [], ◌∷◌, Option, Some, None, Ok, Err, Result, inl, inr, length, refl, sym, ap, ◌∙◌, subst, arith, append-nil}
 use Rattle.snl_text.specs.declared.tokens.Token.{Token}
 use Rattle.snl_text.specs.declared.kinds.Kind.{Kind}
 use Rattle.snl_text.specs.declared.kinds.Kind.TheVariants.{CloseBrace, Comma}
 use Rattle.snl_tree.specs.Kinds.{is, looseness}
-use Rattle.snl_tree.specs.Slots.{Slot, Sign, Spelled}
-use Rattle.snl_tree.specs.Readers.{Fault, Read, Reader, left, starts, one, sign, both, nothing, made, ◌>>=◌}
+use Rattle.snl_tree.specs.Readers.{Fault, Read, Reader, left, starts, sign, both, nothing, made, ◌>>=◌}
 use Rattle.snl_tree.specs.Sequences.{maybe, behind}
-use Rattle.snl_tree.specs.Expressions.{ExprTree, rank, slots, IsWell, IsExpr}
+use Rattle.snl_tree.specs.Expressions.{ExprTree, slots, IsExpr}
 use Rattle.snl_tree.specs.Reading.{inside, level_at}
 use Rattle.snl_tree.specs.Declarations.{ValueList, no_values, last_value, value_before, value_slots, IsValue, AreValues}
 use Rattle.snl_tree.specs.DeclarationReading.{is_no_brace, value_list, values_of, values_at}
-use Rattle.snl_tree.proofs.Laws.{Shape, Sound, Reads, Ends, Links, ends}
-use Rattle.snl_tree.proofs.Choices.{Heads, true_is, reads_sign, sign_shape}
+use Rattle.snl_tree.proofs.Laws.{Sound, Reads, Links}
 use Rattle.snl_tree.proofs.Lists.{heads_append}
-use Rattle.snl_tree.proofs.Growth.{Grown, Grows}
+use Rattle.snl_tree.proofs.Growth.{Grows}
 use Rattle.snl_tree.proofs.Shapes.{can_open, heads_opens, well_more}
 use Rattle.snl_tree.proofs.Primaries.{some_expr}
 use Rattle.snl_tree.proofs.Operators.{reads_level}
 use Rattle.snl_tree.proofs.Limits.{grows_with_depth, assignment_grows}
-use Rattle.snl_tree.proofs.Rights.{Form, Right, at_depth, nothing_form, right_nothing, both_form, right_both, right_made, maybe_form, maybe_follow, right_maybe, behind_form, right_behind, right_sign, sign_form, right_less, right_at_most}
+use Rattle.snl_tree.proofs.Rights.{Form, Right, at_depth, nothing_form, right_nothing, both_form, right_both, right_made, maybe_form, right_maybe, behind_form, right_behind, right_sign, sign_form, right_less, right_at_most}
 
 -- expressions
 

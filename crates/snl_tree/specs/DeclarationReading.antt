@@ -1,7 +1,6 @@
 -- How declarations are read, with the depth that is left for what is nested in their expressions.
 use Rattle.std.specs.Prelude.{ℕ, Bool, List, ◌⊎◌, Option, Some, None, not, length}
 use Rattle.std.proofs.Common.{inl, inr, zero, suc}
-use Rattle.snl_text.specs.declared.tokens.Token.{Token}
 use Rattle.snl_text.specs.declared.kinds.Kind.{Kind}
 use Rattle.snl_text.specs.declared.kinds.Kind.TheVariants.{Name, OpenBrace, CloseBrace, OpenBracket, CloseBracket, Semicolon, Comma, Equal}
 use Rattle.snl_tree.specs.Kinds.{is}

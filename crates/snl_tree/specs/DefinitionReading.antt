@@ -1,5 +1,5 @@
 -- How definitions and options are read, with the depth that is left for what is nested in expressions.
-use Rattle.std.specs.Prelude.{ℕ, Bool, true, false, List, ◌⊎◌, Option}
+use Rattle.std.specs.Prelude.{ℕ, Bool, true, false, List, ◌⊎◌}
 use Rattle.std.proofs.Common.{inl, inr}
 use Rattle.snl_text.specs.declared.tokens.Token.{Token}
 use Rattle.snl_text.specs.declared.kinds.Kind.{Kind}

@@ -4,7 +4,7 @@ use Rattle.snl_text.specs.declared.tokens.Token.{Token}
 use Rattle.snl_text.specs.declared.kinds.Kind.{Kind}
 use Rattle.snl_text.specs.declared.kinds.Kind.TheVariants.{Name, Whole, Text, Assign, EventFlag, Monitor, OptionWord, Sync, SyncQueue, To, OpenBrace, CloseBrace, Semicolon, Comma, Plus, Minus}
 use Rattle.snl_tree.specs.Slots.{Slot, The, Sign}
-use Rattle.snl_tree.specs.Sequences.{between_slots, maybe_slots, IfThere, sign_slots, row_slots, Each, parted_slots, EachOfSome}
+use Rattle.snl_tree.specs.Sequences.{between_slots, maybe_slots, IfThere, sign_slots, parted_slots, EachOfSome}
 use Rattle.snl_tree.specs.Expressions.{ExprTree, IsExpr}
 use Rattle.snl_tree.specs.Declarations.{starts_declaration, DeclarationTree, bracket_slots, declaration_slots, IsDeclaration}
 

@@ -13,7 +13,7 @@ mutual
     constant : Token → ExprTree
     parenthesized : ExprTree → ExprTree
     named : Token → ExprTree
-    element : Token → ExprTree → ExprTree
+    element : Token → Token → ExprTree → ExprTree
     call : Token → ArgumentList → ExprTree
     postfix : ExprTree → Token → ExprTree
     prefix : Token → ExprTree → ExprTree
@@ -37,7 +37,7 @@ abbrev mutual
   slots (constant t) = The t ∷ []
   slots (parenthesized e) = Sign OpenParenthesis ∷ (slots e ++ Sign CloseParenthesis ∷ [])
   slots (named x) = The x ∷ []
-  slots (element x e) = The x ∷ Sign OpenBracket ∷ (slots e ++ Sign CloseBracket ∷ [])
+  slots (element x b e) = The x ∷ The b ∷ (slots e ++ Sign CloseBracket ∷ [])
   slots (call f all) = The f ∷ Sign OpenParenthesis ∷ (argument_slots all ++ Sign CloseParenthesis ∷ [])
   slots (postfix e op) = slots e ++ The op ∷ []
   slots (prefix op e) = The op ∷ slots e
@@ -72,7 +72,7 @@ abbrev pub rank : ExprTree → ℕ
 rank (constant t) = 0
 rank (parenthesized e) = 0
 rank (named x) = 0
-rank (element x e) = 0
+rank (element x b e) = 0
 rank (call f all) = 0
 rank (postfix e op) = 1
 rank (prefix op e) = 2
@@ -97,7 +97,7 @@ abbrev mutual
   IsWell (constant t) n = is_constant t.kind ≡ true
   IsWell (parenthesized e) n = Under n (λ m. (rank e ≤ 15) × IsWell e m)
   IsWell (named x) n = x.kind ≡ Name
-  IsWell (element x e) n = (x.kind ≡ Name) × Under n (λ m. (rank e ≤ 15) × IsWell e m)
+  IsWell (element x b e) n = (x.kind ≡ Name) × (b.kind ≡ OpenBracket) × Under n (λ m. (rank e ≤ 15) × IsWell e m)
   IsWell (call f all) n = (f.kind ≡ Name) × Under n (λ m. AreWell all m)
   IsWell (postfix e op) n = (rank e ≤ 0) × IsWell e n × (looseness op.kind ≡ 1)
   IsWell (prefix op e) n = (is_prefix op.kind ≡ true) × Under n (λ m. (rank e ≤ 2) × IsWell e m)

@@ -1,6 +1,7 @@
 -- The plain tree of a declared program.
-use Rattle.std.specs.Prelude.{List, map, Vec}
+use Rattle.std.specs.Prelude.{◌≡◌, List, length, map, Vec}
 use Rattle.std.proofs.Common.{Global}
+use Rattle.snl_text.specs.declared.tokens.Lexed.{Lexed}
 use Rattle.snl_tree.specs.declared.whole.program.Program.{Program}
 use Rattle.snl_tree.specs.declared.whole.program.StateSet.{StateSet}
 use Rattle.snl_tree.specs.declared.whole.program.State.{State}
@@ -37,3 +38,9 @@ state_set_views v = map state_set_view v.items
 
 abbrev pub program_view : Program → ProgramTree
 program_view p = record { word = p.word; name = p.name; macros = p.macros; parts = definition_views p.definitions; entry = shown block_view p.entry; state_sets = state_set_views p.state_sets; exit = shown block_view p.exit }
+
+-- what a program takes along of its source: the pieces of embedded C, the files and the count of tokens
+pub record Carries (p : Program) (lexed : Lexed) : Type 0 where
+  pub embedded : p.embedded.items ≡ lexed.embedded.items
+  pub files : p.files.items ≡ lexed.files.items
+  pub token_count : p.token_count ≡ length lexed.tokens.items

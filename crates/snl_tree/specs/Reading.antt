@@ -50,15 +50,15 @@ more_arguments_at d = many (is Comma) (both (sign Comma) (λ _. argument_at d))
 unfoldable pub arguments_at : Inside → Reader ArgumentList
 arguments_at d = made all_arguments (either is_no_close (both (argument_at d) (λ _. more_arguments_at d)) nothing)
 
-abbrev pub named_tree : Token → (Unit {0} × (ExprTree × Unit {0})) ⊎ ((Unit {0} × (ArgumentList × Unit {0})) ⊎ Unit {0}) → ExprTree
-named_tree x (inl e) = element x e.1.0
+abbrev pub named_tree : Token → (Token × (ExprTree × Unit {0})) ⊎ ((Unit {0} × (ArgumentList × Unit {0})) ⊎ Unit {0}) → ExprTree
+named_tree x (inl e) = element x e.0 e.1.0
 named_tree x (inr (inl all)) = call x all.1.0
 named_tree x (inr (inr _)) = named x
 
 -- NAME [ '[' expr ']' ] | NAME '(' arguments ')'
 unfoldable pub named_at : Option Inside → Reader ExprTree
 named_at i = made (λ x. named_tree x.0 x.1) (both (one (is Name)) (λ _.
-    either (is OpenBracket) (under (is OpenBracket) i (sign OpenBracket) (λ d. both d.expression (λ _. sign CloseBracket)))
+    either (is OpenBracket) (under (is OpenBracket) i (one (is OpenBracket)) (λ d. both d.expression (λ _. sign CloseBracket)))
     (either (is OpenParenthesis) (under (is OpenParenthesis) i (sign OpenParenthesis) (λ d. both (arguments_at d) (λ _. sign CloseParenthesis)))
     nothing)))
 
@@ -163,7 +163,7 @@ opened (suc n) test opener ts = opener ts
 -- what stands behind a name
 unfoldable pub named_rest : ℕ → Token → List Token → Read ExprTree
 named_rest n t ts = elim (starts (is OpenBracket) ts) [
-  | true ↦ (opened n (is OpenBracket) (sign OpenBracket) ts >>= λ x. level_at (inside (n - 1)) 15 x.1 >>= λ y. sign CloseBracket y.1 >>= λ z. Ok (element t y.0, z.1))
+  | true ↦ (opened n (is OpenBracket) (one (is OpenBracket)) ts >>= λ x. level_at (inside (n - 1)) 15 x.1 >>= λ y. sign CloseBracket y.1 >>= λ z. Ok (element t x.0 y.0, z.1))
   | false ↦ elim (starts (is OpenParenthesis) ts) [
     | true ↦ (opened n (is OpenParenthesis) (sign OpenParenthesis) ts >>= λ x. arguments_at (readers (inside (n - 1))) x.1 >>= λ y. sign CloseParenthesis y.1 >>= λ z. Ok (call t y.0, z.1))
     | false ↦ Ok (named t, ts)

@@ -2,7 +2,6 @@
 -- reads the statements nested in it; with no depth left, that is missing.
 use Rattle.std.specs.Prelude.{ℕ, Bool, true, false, not, List, [], ◌∷◌, Option, Some, None, ◌⊎◌}
 use Rattle.std.proofs.Common.{inl, inr, zero, suc}
-use Rattle.snl_text.specs.declared.tokens.Token.{Token}
 use Rattle.snl_text.specs.declared.kinds.Kind.{Kind}
 use Rattle.snl_text.specs.declared.kinds.Kind.TheVariants.{Name, Whole, Decimal, Character, OpenBrace, CloseBrace, OpenParenthesis, CloseParenthesis, Semicolon, If, Else, While, For, Break, Continue, State, Plus, Minus, Bang, Tilde, PlusPlus, MinusMinus}
 use Rattle.snl_tree.specs.Kinds.{is}

@@ -1,5 +1,5 @@
 -- The plain tree of a declared statement.
-use Rattle.std.specs.Prelude.{List, map, Vec, Option}
+use Rattle.std.specs.Prelude.{List, map, Vec}
 use Rattle.std.proofs.Common.{Global}
 use Rattle.snl_tree.specs.declared.whole.declarations.Declaration.{Declaration}
 use Rattle.snl_tree.specs.declared.whole.stmt.Header.{Header}

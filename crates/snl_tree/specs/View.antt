@@ -13,7 +13,7 @@ abbrev mutual
   view (Constant t) = constant t
   view (Parenthesized' p e) = parenthesized (view e)
   view (Named t) = named t
-  view (Element' t p e) = element t (view e)
+  view (Element' t b p e) = element t b (view e)
   view (Call' t shape all) = call t (view_arguments all)
   view (Postfix' p e t) = postfix (view e) t
   view (Prefix' t p e) = prefix t (view e)

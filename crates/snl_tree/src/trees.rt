@@ -1,4 +1,4 @@
-use snl_text::Token;
+use snl_text::{Pos, Token};
 
 /// `program NAME option +s; DEFINITIONS STATE-SET`
 #[derive(Debug, Drop)]
@@ -8,6 +8,8 @@ pub struct Program<'a> {
     pub name: Token<'a>,
     pub definitions: Vec<Def<'a>>,
     pub state_set: StateSet<'a>,
+    /// Where each piece of embedded C begins, in the order of the source.
+    pub embedded: Vec<Pos>,
 }
 
 /// What stands in front of the state set.

@@ -13,7 +13,7 @@ use std::test::Fail;
 
 /// The program of the first language that tokens spell.
 fn program<'a>(alloc: Global, lexed: &Lexed<'a>) -> Result<Program<'a>, Fail> {
-    let whole = parse(alloc, lexed.tokens.as_slice())?;
+    let whole = parse(alloc, lexed)?;
     let thin = narrow(alloc, whole)?;
     Ok(thin.ok_or("not of the first language")?)
 }
@@ -26,11 +26,7 @@ fn lead_from_bytes_to_a_run(rt: HostRuntime) -> Result<(), Fail> {
     let second = lexed.tokens.get(1).ok_or("no second token")?;
     assert!(rt; second.kind == Kind::Name && second.text == b"p".as_slice());
     assert!(rt; second.pos.offset == 8 && second.pos.file == 0 && second.pos.line == 1);
-    let outcome = check(
-        rt.alloc(),
-        program(rt.alloc(), &lexed)?,
-        lexed.embedded.as_slice(),
-    )?;
+    let outcome = check(rt.alloc(), program(rt.alloc(), &lexed)?)?;
     assert_eq!(rt; outcome.messages.len(), 1);
     let message = outcome.messages.get(0).ok_or("no message")?;
     assert!(rt; message.severity == Severity::Warning && message.number == 7);
@@ -66,7 +62,7 @@ fn lead_from_bytes_to_a_run(rt: HostRuntime) -> Result<(), Fail> {
 #[test]
 fn refuse_the_first_impossible_token(rt: HostRuntime) -> Result<(), Fail> {
     let lexed = lex(rt.alloc(), b"program p option +s; int int;")?;
-    let refused = parse(rt.alloc(), lexed.tokens.as_slice()).err();
+    let refused = parse(rt.alloc(), &lexed).err();
     assert_eq!(rt; refused, Some(ParseFault::Unexpected(7)));
     Ok(())
 }
@@ -105,13 +101,9 @@ const BAD_LINES: [(&[u8], TraceFault); 24] = [
 #[test]
 fn read_each_line_or_name_its_fault(rt: HostRuntime) -> Result<(), Fail> {
     let lexed = lex(rt.alloc(), PROGRAM)?;
-    let checked = check(
-        rt.alloc(),
-        program(rt.alloc(), &lexed)?,
-        lexed.embedded.as_slice(),
-    )?
-    .checked
-    .ok_or("not accepted")?;
+    let checked = check(rt.alloc(), program(rt.alloc(), &lexed)?)?
+        .checked
+        .ok_or("not accepted")?;
     let machine = Machine::load(rt.alloc(), checked, 10)?;
     for (line, fault) in &BAD_LINES {
         assert_eq!(rt; read_line(line, &machine, 5).err(), Some(*fault));
@@ -138,13 +130,9 @@ fn read_each_line_or_name_its_fault(rt: HostRuntime) -> Result<(), Fail> {
 #[test]
 fn read_lines_up_to_their_limit(rt: HostRuntime) -> Result<(), Fail> {
     let lexed = lex(rt.alloc(), PROGRAM)?;
-    let checked = check(
-        rt.alloc(),
-        program(rt.alloc(), &lexed)?,
-        lexed.embedded.as_slice(),
-    )?
-    .checked
-    .ok_or("not accepted")?;
+    let checked = check(rt.alloc(), program(rt.alloc(), &lexed)?)?
+        .checked
+        .ok_or("not accepted")?;
     let machine = Machine::load(rt.alloc(), checked, 10)?;
     let mut line = vec![in rt.alloc(); b' '; 32_768]?;
     assert!(rt; matches!(read_line(line.as_slice(), &machine, 5), Ok(None)));

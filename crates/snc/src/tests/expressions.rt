@@ -16,7 +16,7 @@ fn show(alloc: Global, expr: &Expr) -> Result<String, Fail> {
     let shown = match expr {
         Expr::Constant(token) | Expr::Named(token) => String::from_str(alloc, text(token)?)?,
         Expr::Parenthesized(inner) => format!(in alloc; "({})", show(alloc, inner)?)?,
-        Expr::Element(name, index) => {
+        Expr::Element(name, _, index) => {
             format!(in alloc; "{}[{}]", text(name)?, show(alloc, index)?)?
         }
         Expr::Call(name, all) => {

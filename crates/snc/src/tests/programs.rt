@@ -8,7 +8,7 @@ use std::test::Fail;
 /// The fault of a source, if it is no program.
 fn fault(alloc: Global, source: &[u8]) -> Result<Option<ParseFault>, Fail> {
     let lexed = lex(alloc, source)?;
-    Ok(parse(alloc, lexed.tokens.as_slice()).err())
+    Ok(parse(alloc, &lexed).err())
 }
 
 const PROGRAMS: [&[u8]; 6] = [

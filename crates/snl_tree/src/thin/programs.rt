@@ -1,4 +1,4 @@
-ghost use Rattle.std.specs.Prelude.{◌≡◌, map};
+ghost use Rattle.std.specs.Prelude.{◌≡◌, map, IfOk, IfSome};
 ghost use Rattle.std.specs.List.{list_all};
 ghost use Rattle.snl_tree.specs.Thin as specs;
 ghost use Rattle.snl_tree.specs.Thin.{Narrows, StandEach, StandsForClause, StandsForState, StandsForStateSet, StandsForOne, StandsFor};
@@ -122,7 +122,8 @@ pub fn narrow<'a>(
     alloc: Global,
     program: whole::Program<'a>,
 ) -> Result<Option<Program<'a>>, AllocError>
-    ensures { let p = program_view program.entry in Narrows (specs.is_thin p) (StandsFor p) result }
+    ensures tree { let p = program_view program.entry in Narrows (specs.is_thin p) (StandsFor p) result }
+    ensures carried { IfOk result (λ o. IfSome o (λ p. p.embedded.items ≡ program.entry.embedded.items)) }
 {
     if program.macros.is_some() || program.entry.is_some() || program.exit.is_some() {
         return Ok(None);
@@ -136,6 +137,7 @@ pub fn narrow<'a>(
             name: program.name,
             definitions,
             state_set,
+            embedded: program.embedded,
         })),
         None => Ok(None),
     }

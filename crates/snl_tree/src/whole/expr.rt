@@ -10,8 +10,8 @@ pub enum Expr<'a> {
     Parenthesized(Box<Expr<'a>>),
     /// A name alone.
     Named(Token<'a>),
-    /// `name [ expression ]`
-    Element(Token<'a>, Box<Expr<'a>>),
+    /// `name [ expression ]`, with the name and the `[`.
+    Element(Token<'a>, Token<'a>, Box<Expr<'a>>),
     /// `name ( argument , .. )`, with any number of arguments.
     Call(Token<'a>, Vec<Argument<'a>>),
     /// `x ++` or `x --`, with the operator.

@@ -7,7 +7,7 @@ use crate::whole::expr::{Argument, Expr, Term};
 use crate::whole::kinds::{ASSIGNMENT, BINARY, COMMA, CONDITIONAL, STEP, UNARY};
 use crate::whole::place::{
     Rest, Stop, at, at_constant, at_operator, at_prefix, before_close, constant, open_operator,
-    open_prefix, open_sign, operator, sign, token,
+    open_prefix, open_sign, open_token, operator, sign, token,
 };
 use snl_text::Kind;
 use std::alloc::Global;
@@ -24,7 +24,7 @@ fn is_unary(expr: &Expr) -> bool
         Expr::Constant(_)
         | Expr::Parenthesized(_)
         | Expr::Named(_)
-        | Expr::Element(_, _)
+        | Expr::Element(_, _, _)
         | Expr::Call(_, _)
         | Expr::Postfix(_, _)
         | Expr::Prefix(_, _) => true,
@@ -207,11 +207,11 @@ fn named<'t, 'a>(alloc: Global, rest: Rest<'t, 'a>, depth: usize) -> Read<'t, 'a
 {
     let (name, rest) = token(rest, Kind::Name)?;
     if at(rest, Kind::OpenBracket) {
-        let rest = open_sign(rest, Kind::OpenBracket, depth)?;
+        let (bracket, rest) = open_token(rest, Kind::OpenBracket, depth)?;
         let (index, rest) = level(alloc, rest, depth - 1, COMMA)?;
         let rest = sign(rest, Kind::CloseBracket)?;
         let index = Box::new(alloc, index)?;
-        return Ok((Expr::Element(name, index), rest));
+        return Ok((Expr::Element(name, bracket, index), rest));
     }
     if at(rest, Kind::OpenParenthesis) {
         let rest = open_sign(rest, Kind::OpenParenthesis, depth)?;

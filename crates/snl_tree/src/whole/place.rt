@@ -7,7 +7,7 @@ ghost use Rattle.snl_tree.specs.declared.whole.place.Stop.TheVariants.{Memory};
 
 use crate::whole::kinds::{is_constant, is_prefix, looseness};
 use snl_text::{Kind, Token};
-use std::alloc::AllocFailed;
+use std::alloc::{AllocError, AllocFailed};
 
 /// A place in the tokens: those from there on.
 #[derive(Clone, Copy)]
@@ -30,6 +30,14 @@ impl<'t, 'a, T: Drop> From<AllocFailed<T>> for Stop<'t, 'a> {
     ghost from_gives = { λ _ stop. stop ≡ Memory };
 
     fn from(_failed: AllocFailed<T>) -> Stop<'t, 'a> {
+        Stop::Memory
+    }
+}
+
+impl<'t, 'a> From<AllocError> for Stop<'t, 'a> {
+    ghost from_gives = { λ _ stop. stop ≡ Memory };
+
+    fn from(_failed: AllocError) -> Stop<'t, 'a> {
         Stop::Memory
     }
 }
@@ -84,6 +92,26 @@ pub fn token<'t, 'a>(
     match rest.left {
         [first, behind @ ..] if first.kind == kind => Ok((*first, Rest { left: behind })),
         _ => Err(Stop::Stuck(rest)),
+    }
+}
+
+/// Reads a sign that opens a nested part and is kept. With no depth left it is nested too deep.
+#[tactic(auto, using(crate::proofs::Opened::opened_some, crate::proofs::Opened::opened_none))]
+pub fn open_token<'t, 'a>(
+    rest: Rest<'t, 'a>,
+    kind: Kind,
+    depth: usize,
+) -> Result<(Token<'a>, Rest<'t, 'a>), Stop<'t, 'a>>
+    ensures gives { GivesToken result
+        (opened depth (specs.is kind) (readers.one (specs.is kind)) rest.entry.left.now) }
+    ensures room { OnOk result (0 < depth) }
+{
+    if depth > 0 {
+        token(rest, kind)
+    } else if at(rest, kind) {
+        Err(Stop::Deep(rest))
+    } else {
+        Err(Stop::Stuck(rest))
     }
 }
 

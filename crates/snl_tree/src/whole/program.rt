@@ -1,9 +1,11 @@
 use crate::whole::definitions::Def;
 use crate::whole::expr::Expr;
 use crate::whole::stmt::Block;
-use snl_text::Token;
+use snl_text::{Pos, Token};
 
 /// `program : 'program' NAME [ '(' STRING ')' ] pdef* [entry] ss+ [exit]`
+///
+/// Beside its parts it has what the source held between and behind its tokens.
 #[derive(Drop)]
 pub struct Program<'a> {
     /// `program`
@@ -16,6 +18,12 @@ pub struct Program<'a> {
     /// At least one.
     pub state_sets: Vec<StateSet<'a>>,
     pub exit: Option<Block<'a>>,
+    /// Where each piece of embedded C begins, in the order of the source.
+    pub embedded: Vec<Pos>,
+    /// The names of files that markers gave, as spelled between their quotes. The first has number 1.
+    pub files: Vec<&'a [u8]>,
+    /// How many tokens the program has.
+    pub token_count: usize,
 }
 
 /// `ss : 'ss' NAME '{' def* state+ '}'`

@@ -1,4 +1,4 @@
-ghost use Rattle.std.specs.Prelude.{◌≡◌, ◌<◌};
+ghost use Rattle.std.specs.Prelude.{◌≡◌, ◌<◌, IfOk};
 ghost use Rattle.snl_tree.specs.Sequences as sequences;
 ghost use Rattle.snl_tree.specs.Sequences.{shown};
 ghost use Rattle.snl_tree.specs.Kinds.{is};
@@ -8,7 +8,7 @@ ghost use Rattle.snl_tree.specs.ProgramReading as specs;
 ghost use Rattle.snl_tree.specs.Results.{Gives, GivesToken};
 ghost use Rattle.snl_tree.specs.View.{view};
 ghost use Rattle.snl_tree.specs.StatementView.{block_view};
-ghost use Rattle.snl_tree.specs.ProgramView.{target_view, clause_view, clause_views, state_view, state_views, state_set_view, state_set_views, program_view};
+ghost use Rattle.snl_tree.specs.ProgramView.{Carries, target_view, clause_view, clause_views, state_view, state_views, state_set_view, state_set_views, program_view};
 
 use crate::whole::defining::{definitions, parts};
 use crate::whole::expr::Expr;
@@ -18,7 +18,7 @@ use crate::whole::place::{Rest, Stop, at, before_close, sign, token};
 use crate::whole::program::{Clause, Program, State, StateSet, Target};
 use crate::whole::statements::block;
 use crate::whole::stmt::Block;
-use snl_text::{Kind, Token};
+use snl_text::{Kind, Lexed, Token};
 use std::alloc::Global;
 
 /// A tree and the place behind it.
@@ -231,11 +231,17 @@ fn macros<'t, 'a>(rest: Rest<'t, 'a>) -> Read<'t, 'a, Option<Token<'a>>>
     Ok((Some(text), rest))
 }
 
-/// Reads a program.
+/// Reads a program, of a source with these embedded pieces and files.
 #[tactic(auto, unfolding(crate::specs::ProgramReading::program_at))]
-pub fn program<'t, 'a>(alloc: Global, rest: Rest<'t, 'a>, depth: usize) -> Read<'t, 'a, Program<'a>>
+pub fn program<'t, 'a>(
+    alloc: Global,
+    rest: Rest<'t, 'a>,
+    depth: usize,
+    lexed: &Lexed<'a>,
+) -> Read<'t, 'a, Program<'a>>
     requires { 0 < depth }
-    ensures { Gives program_view result (specs.program_at depth rest.entry.left.now) }
+    ensures tree { Gives program_view result (specs.program_at depth rest.entry.left.now) }
+    ensures carried { IfOk result (λ r. Carries r.0 lexed.now) }
 {
     let (word, rest) = token(rest, Kind::Program)?;
     let (name, rest) = token(rest, Kind::Name)?;
@@ -253,6 +259,9 @@ pub fn program<'t, 'a>(alloc: Global, rest: Rest<'t, 'a>, depth: usize) -> Read<
             entry,
             state_sets,
             exit,
+            embedded: Vec::from_slice(alloc, lexed.embedded.as_slice())?,
+            files: Vec::from_slice(alloc, lexed.files.as_slice())?,
+            token_count: lexed.tokens.len(),
         },
         rest,
     ))

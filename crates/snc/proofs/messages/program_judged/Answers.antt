@@ -11,5 +11,5 @@ returns c =
     let found = c.in_ok-said.field-0 in
     let is : c.push_lines.new.out.items ≡ text_of word names (map said found.messages.items) =
     c.in_ok-push_lines.ensures ∙ (λ i. c.new-messages.ensures.items i ++ text_of word names (map said (c.as_slice.ensures.value i))) in
-    told_checked word c.push_lines.new.out.items names c.args.program c.args.embedded.now (map said found.messages.items) found.checked
+    told_checked word c.push_lines.new.out.items names c.args.program (map said found.messages.items) found.checked
     c.in_ok-said.ensures.exactly c.in_ok-said.ensures.in_order c.in_ok-said.ensures.accepted c.in_ok-said.ensures.same is

@@ -6,17 +6,18 @@ use Rattle.snc.proofs.messages.tokens_judged.Goals as goal
 pub returns-in_ok-found-in-Ok : goal.returns-in_ok-found-in-Ok
 returns-in_ok-found-in-Ok c =
     let found = c.in_ok-found-in-Ok.found in
-    told_program c.args.file.now found.messages.items (map (λ name. name.now) c.as_slice.result.now) c.args.lexed.now c.as_slice-2.result.now (program_view c.in-Ok.program) c.as_slice-in-Ok.result.now (tree_of found.checked)
-    (ap (map (λ name. name.now)) c.as_slice.ensures.value) c.as_slice-2.ensures.value c.as_slice-in-Ok.ensures.value c.in-Ok.ensures.found.0 c.in-Ok.ensures.found.1 c.in_ok-found-in-Ok.ensures
+    let program = c.in-Ok.program in
+    told_program c.args.file.now found.messages.items (map (λ name. name.now) c.as_slice.result.now) c.args.lexed.now (program_view program) program.embedded.items (tree_of found.checked)
+    (ap (map (λ name. name.now)) c.as_slice.ensures.value) c.in-Ok.ensures.carried.embedded c.in-Ok.ensures.found.0 c.in-Ok.ensures.found.1 c.in_ok-found-in-Ok.ensures
 
 pub returns-in_ok-found-in-Err-Unexpected : goal.returns-in_ok-found-in-Err-Unexpected
 returns-in_ok-found-in-Err-Unexpected c =
     let found = c.in_ok-found-in-Err-Unexpected.found in
-    told_stuck c.args.file.now found.messages.items (map (λ name. name.now) c.as_slice.result.now) c.args.lexed.now c.as_slice-2.result.now c.in-Err-Unexpected.k found.checked
-    (ap (map (λ name. name.now)) c.as_slice.ensures.value) c.as_slice-2.ensures.value (c.parse.ensures.unexpected c.in-Err-Unexpected.k cc) c.in_ok-found-in-Err-Unexpected.ensures.text c.in_ok-found-in-Err-Unexpected.ensures.none
+    told_stuck c.args.file.now found.messages.items (map (λ name. name.now) c.as_slice.result.now) c.args.lexed.now c.in-Err-Unexpected.k found.checked
+    (ap (map (λ name. name.now)) c.as_slice.ensures.value) (c.parse.ensures.unexpected c.in-Err-Unexpected.k cc) c.in_ok-found-in-Err-Unexpected.ensures.text c.in_ok-found-in-Err-Unexpected.ensures.none
 
 pub returns-in_ok-found-in-Err-TooDeep : goal.returns-in_ok-found-in-Err-TooDeep
 returns-in_ok-found-in-Err-TooDeep c =
     let found = c.in_ok-found-in-Err-TooDeep.found in
-    told_deep c.args.file.now found.messages.items (map (λ name. name.now) c.as_slice.result.now) c.args.lexed.now c.as_slice-2.result.now c.in-Err-TooDeep.k found.checked
-    (ap (map (λ name. name.now)) c.as_slice.ensures.value) c.as_slice-2.ensures.value (c.parse.ensures.too_deep c.in-Err-TooDeep.k cc) c.in_ok-found-in-Err-TooDeep.ensures.text c.in_ok-found-in-Err-TooDeep.ensures.none
+    told_deep c.args.file.now found.messages.items (map (λ name. name.now) c.as_slice.result.now) c.args.lexed.now c.in-Err-TooDeep.k found.checked
+    (ap (map (λ name. name.now)) c.as_slice.ensures.value) (c.parse.ensures.too_deep c.in-Err-TooDeep.k cc) c.in_ok-found-in-Err-TooDeep.ensures.text c.in_ok-found-in-Err-TooDeep.ensures.none

@@ -1,4 +1,4 @@
-use Rattle.std.proofs.Common.{◌≡◌, sym}
+use Rattle.std.proofs.Common.{sym}
 use Rattle.std.proofs.lemmas.Result.{err_from_is_err_and}
 use Rattle.snl_text.specs.declared.kinds.Kind.TheVariants.{StateSet}
 use Rattle.snl_tree.specs.Kinds.{is}

@@ -1,4 +1,4 @@
-use Rattle.std.proofs.Common.{◌≡◌, sym}
+use Rattle.std.proofs.Common.{sym}
 use Rattle.std.proofs.lemmas.Result.{err_from_is_err_and}
 use Rattle.snl_tree.specs.StatementReading.{opens_statement, statement_at}
 use Rattle.snl_tree.specs.StatementSteps.{statement_row_at}
