@@ -9,6 +9,7 @@ use std::process::Abort;
 
 mod calls;
 mod expressions;
+mod grammar;
 mod hostile;
 mod programs;
 mod sources;
