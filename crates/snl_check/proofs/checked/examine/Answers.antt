@@ -11,8 +11,8 @@ returns-clause-exactly c m =
     let embedded = c.args.program.now.embedded.items in
     let all = c.as_slice.ensures.value ∙ c.in_ok-sites.ensures in
     let told = c.in_ok-push_embedded.ensures
-        ∙ ap (λ l. l ++ map embedded_message c.as_slice-2.result.now) (c.in_ok-entries.ensures ∙ ap (λ s. messages_at s [] s) all)
-        ∙ ap (λ e. messages_at (map noted (sites c.args.program.now)) [] (map noted (sites c.args.program.now)) ++ map embedded_message e) c.as_slice-2.ensures.value in
+    ∙ ap (λ l. l ++ map embedded_message c.as_slice-2.result.now) (c.in_ok-entries.ensures ∙ ap (λ s. messages_at s [] s) all)
+    ∙ ap (λ e. messages_at (map noted (sites c.args.program.now)) [] (map noted (sites c.args.program.now)) ++ map embedded_message e) c.as_slice-2.ensures.value in
     let same = c.in_ok-messages.ensures.same m in
     let law = exactly_all c.args.program.now m in
     (λ h. law.0 (subst (λ x. Contains x m) told (same.0 h)), λ w. same.1 (subst (λ x. Contains x m) (sym told) (law.1 w)))
