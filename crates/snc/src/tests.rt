@@ -13,6 +13,7 @@ mod grammar;
 mod hostile;
 mod programs;
 mod sources;
+mod tokens;
 mod traces;
 
 /// Twice a value that passes 3 is put to another channel.

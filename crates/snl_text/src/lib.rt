@@ -16,8 +16,6 @@ mod pieces;
 mod quotes;
 mod scanner;
 mod signs;
-#[cfg(test)]
-mod tests;
 mod tokens;
 mod words;
 

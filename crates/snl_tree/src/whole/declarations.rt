@@ -2,7 +2,7 @@ use crate::whole::expr::Expr;
 use snl_text::Token;
 
 /// `type dname ( ',' dname )* ';'`
-#[derive(Debug, Drop)]
+#[derive(Drop)]
 pub struct Declaration<'a> {
     pub type_name: TypeName<'a>,
     /// At least one.
@@ -11,7 +11,7 @@ pub struct Declaration<'a> {
 
 /// The words of a type: `char`, `short`, `int`, `long`, a sized name, `float`, `double`, `string`, or
 /// `unsigned` alone or before one of the first four.
-#[derive(Clone, Copy, Debug)]
+#[derive(Clone, Copy)]
 pub struct TypeName<'a> {
     pub word: Token<'a>,
     /// Behind `unsigned` alone.
@@ -19,7 +19,7 @@ pub struct TypeName<'a> {
 }
 
 /// `dname : NAME ( '[' expr ']' )* [ '=' init ]`
-#[derive(Debug, Drop)]
+#[derive(Drop)]
 pub struct Declarator<'a> {
     pub name: Token<'a>,
     /// One for each dimension.
@@ -28,14 +28,14 @@ pub struct Declarator<'a> {
 }
 
 /// `init : asg | '{' [ asg ( ',' asg )* [','] ] '}'`
-#[derive(Debug, Drop)]
+#[derive(Drop)]
 pub enum Initialiser<'a> {
     Single(Expr<'a>),
     List(Values<'a>),
 }
 
 /// The values of a list in braces.
-#[derive(Debug, Drop)]
+#[derive(Drop)]
 pub struct Values<'a> {
     pub each: Vec<Expr<'a>>,
     /// Whether a comma stands behind the last one; it says nothing where there is none.

@@ -3,7 +3,7 @@ use crate::whole::expr::Expr;
 use snl_text::Token;
 
 /// `decl | assign | monitor | sync | syncq | evflag`, and, in a program and in a state, `option`.
-#[derive(Debug, Drop)]
+#[derive(Drop)]
 pub enum Def<'a> {
     Declaration(Declaration<'a>),
     Assign(Assign<'a>),
@@ -17,14 +17,14 @@ pub enum Def<'a> {
 }
 
 /// `place : NAME [ '[' expr ']' ]`
-#[derive(Debug, Drop)]
+#[derive(Drop)]
 pub struct Place<'a> {
     pub name: Token<'a>,
     pub subscript: Option<Expr<'a>>,
 }
 
 /// `assign : 'assign' place [ ['to'] ( STRING | '{' STRING ( ',' STRING )* '}' ) ] ';'`
-#[derive(Debug, Drop)]
+#[derive(Drop)]
 pub struct Assign<'a> {
     /// `assign`
     pub word: Token<'a>,
@@ -33,7 +33,7 @@ pub struct Assign<'a> {
 }
 
 /// What stands behind the place of an [`Assign`].
-#[derive(Debug, Drop)]
+#[derive(Drop)]
 pub struct Channels<'a> {
     /// Whether `to` is written.
     pub to: bool,
@@ -41,7 +41,7 @@ pub struct Channels<'a> {
 }
 
 /// The names of an [`Assign`].
-#[derive(Debug, Drop)]
+#[derive(Drop)]
 pub enum ChannelNames<'a> {
     One(Token<'a>),
     /// In braces; at least one.
@@ -49,7 +49,7 @@ pub enum ChannelNames<'a> {
 }
 
 /// `['to'] NAME`, the event flag of a [`Sync`] or a [`SyncQueue`].
-#[derive(Clone, Copy, Debug)]
+#[derive(Clone, Copy)]
 pub struct Flag<'a> {
     /// Whether `to` is written.
     pub to: bool,
@@ -57,14 +57,14 @@ pub struct Flag<'a> {
 }
 
 /// `sync : 'sync' place ['to'] NAME ';'`
-#[derive(Debug, Drop)]
+#[derive(Drop)]
 pub struct Sync<'a> {
     pub place: Place<'a>,
     pub flag: Flag<'a>,
 }
 
 /// `syncq : ( 'syncq' | 'syncQ' ) place [ ['to'] NAME ] [ WHOLE ] ';'`
-#[derive(Debug, Drop)]
+#[derive(Drop)]
 pub struct SyncQueue<'a> {
     /// `syncq` or `syncQ`
     pub word: Token<'a>,
@@ -74,7 +74,7 @@ pub struct SyncQueue<'a> {
 }
 
 /// `option : 'option' ( '+' | '-' ) NAME ';'`
-#[derive(Clone, Copy, Debug)]
+#[derive(Clone, Copy)]
 pub struct Setting<'a> {
     /// `+` or `-`
     pub sign: Token<'a>,

@@ -1,7 +1,7 @@
 use snl_text::Token;
 
 /// An expression. Each name, operator and constant keeps its token.
-#[derive(Debug, Drop)]
+#[derive(Drop)]
 #[cycle(expr)]
 pub enum Expr<'a> {
     /// A number or a character constant.
@@ -28,7 +28,7 @@ pub enum Expr<'a> {
 }
 
 /// An operator of a [`Chain`](Expr::Chain) and the operand behind it.
-#[derive(Debug, Drop)]
+#[derive(Drop)]
 #[cycle(expr)]
 pub struct Term<'a> {
     pub operator: Token<'a>,
@@ -36,7 +36,7 @@ pub struct Term<'a> {
 }
 
 /// An argument of a call.
-#[derive(Debug, Drop)]
+#[derive(Drop)]
 #[cycle(expr)]
 pub enum Argument<'a> {
     /// An expression without a comma outside of parentheses.

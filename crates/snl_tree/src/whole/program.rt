@@ -39,7 +39,7 @@ pub struct StateSet<'a> {
 }
 
 /// `state : 'state' NAME '{' tdef* [entry] when* [exit] '}'`
-#[derive(Debug, Drop)]
+#[derive(Drop)]
 pub struct State<'a> {
     /// `state`
     pub word: Token<'a>,
@@ -51,7 +51,7 @@ pub struct State<'a> {
 }
 
 /// `when : 'when' '(' [expr] ')' block ( 'state' NAME | 'exit' )`
-#[derive(Debug, Drop)]
+#[derive(Drop)]
 pub struct Clause<'a> {
     /// `when`
     pub word: Token<'a>,
@@ -61,7 +61,7 @@ pub struct Clause<'a> {
 }
 
 /// Where a [`Clause`] leads.
-#[derive(Clone, Copy, Debug)]
+#[derive(Clone, Copy)]
 pub enum Target<'a> {
     /// To the state of that name.
     State(Token<'a>),

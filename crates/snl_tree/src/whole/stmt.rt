@@ -3,7 +3,7 @@ use crate::whole::expr::Expr;
 use snl_text::Token;
 
 /// A statement. It keeps the tokens whose places messages and faults name.
-#[derive(Debug, Drop)]
+#[derive(Drop)]
 #[cycle(stmt)]
 pub enum Stmt<'a> {
     /// `{ .. }`
@@ -29,7 +29,7 @@ pub enum Stmt<'a> {
 }
 
 /// Declarations and statements in braces.
-#[derive(Debug, Drop)]
+#[derive(Drop)]
 #[cycle(stmt)]
 pub struct Block<'a> {
     pub declarations: Vec<Declaration<'a>>,
@@ -37,7 +37,7 @@ pub struct Block<'a> {
 }
 
 /// What stands between the parentheses of a `for`.
-#[derive(Debug, Drop)]
+#[derive(Drop)]
 pub struct Header<'a> {
     pub start: Option<Expr<'a>>,
     pub condition: Option<Expr<'a>>,

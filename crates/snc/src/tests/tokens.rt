@@ -1,6 +1,11 @@
-use super::*;
+//! Tokens, their places and their values, from the bytes of a source.
+
+use snl_text::{
+    LexFault, Pos, SOURCE_LIMIT, at_most_one_cut, at_most_one_fault, character_value,
+    decimal_value, examples_of_texts, lex, no_cut_passes, no_longer_piece, whole_value,
+};
 use std::alloc::Global;
-use std::test::*;
+use std::test::Fail;
 
 /// The kinds of the tokens in a row, or the fault with its offset, file and line.
 fn kinds(alloc: Global, source: &[u8]) -> Result<String, Fail> {
