@@ -3,7 +3,7 @@ use Rattle.std.proofs.Common.{◌≡◌, ℕ, ◌<◌, lit<, true, false, true�
 use Rattle.snl_text.specs.declared.tokens.Token.{Token}
 use Rattle.snl_text.specs.declared.kinds.Kind.{Kind}
 use Rattle.snl_text.specs.declared.kinds.Kind.TheVariants.{OpenParenthesis, CloseParenthesis, Semicolon}
-use Rattle.snl_tree.specs.Kinds.{looseness}
+use Rattle.snl_tree.specs.Kinds.{is_other, looseness}
 use Rattle.snl_tree.specs.Slots.{Slot}
 use Rattle.snl_tree.specs.Readers.{both}
 use Rattle.snl_tree.specs.Sequences.{maybe, behind, IfThere}
@@ -12,7 +12,7 @@ use Rattle.snl_tree.specs.Reading.{inside, level_at}
 use Rattle.snl_tree.specs.Declarations.{DeclarationTree, starts_declaration}
 use Rattle.snl_tree.specs.DeclarationReading.{declaration_at}
 use Rattle.snl_tree.specs.Statements.{Header, condition_slots, ended_slots, header_slots, IsHeader}
-use Rattle.snl_tree.specs.StatementReading.{condition_at, is_other, ended_at, header_at, declarations_at}
+use Rattle.snl_tree.specs.StatementReading.{condition_at, ended_at, header_at, declarations_at}
 use Rattle.snl_tree.proofs.Laws.{Links}
 use Rattle.snl_tree.proofs.Shapes.{can_open, heads_opens}
 use Rattle.snl_tree.proofs.Inside.{links_any}

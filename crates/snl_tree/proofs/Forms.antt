@@ -187,6 +187,11 @@ pub level_conditional : (n r : ℕ) → r ≡ 13 → level_at (inside n) r ≡ c
 unfolding level_at
 level_conditional n r e = ap (λ z. level_at (inside n) z) e
 
+pub expression_form : (n : ℕ) (ts : List Token) → level_at (inside n) 15 ts ≡ (assignment_at (inside n) ts >>= λ x. terms_at 15 (level_at (inside n) (15 - 1)) x.1 >>= λ y. Ok (chain_tree x.0 y.0, y.1))
+expression_form n ts =
+    level_form n 15 ts (omega arith) (omega arith) (λ e. omega arith) (λ e. omega arith)
+    ∙ ap (λ r. r ts >>= λ x. terms_at 15 (level_at (inside n) (15 - 1)) x.1 >>= λ y. Ok (chain_tree x.0 y.0, y.1)) (level_assignment n 14 refl)
+
 pub level_unary : (n r : ℕ) → r ≡ 2 → level_at (inside n) r ≡ unary_at (inside n)
 unfolding level_at binary_at
 level_unary n r e = ap (λ z. level_at (inside n) z) e

@@ -2,6 +2,7 @@ pub mod Spelling
 pub mod Laws
 pub mod Both
 pub mod Choices
+pub mod Climbing
 pub mod Lists
 pub mod Growth
 pub mod Shapes

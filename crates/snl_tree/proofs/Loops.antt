@@ -82,11 +82,11 @@ unfolding term_at
 term_less n r ts rest x low high h = both_less (is_operator r) (one (is_operator r)) (level_at (inside n) (r - 1)) (opens_one (is_operator r))
     (ends (expr_shape n (r - 1)) (level_at (inside n) (r - 1)) (reads_level n (r - 1) (omega arith) (omega arith))) ts rest x h
 
-terms_turn : (n r : ℕ) (ts : List Token) → 3 ≤ r → r ≤ 15 → starts (is_operator r) ts ≡ true → terms_at r (level_at (inside n) (r - 1)) ts ≡ (term_at n r ts >>= λ x. terms_at r (level_at (inside n) (r - 1)) x.1 >>= λ y. Ok (x.0 ∷ y.0, y.1))
+pub terms_turn : (n r : ℕ) (ts : List Token) → 3 ≤ r → r ≤ 15 → starts (is_operator r) ts ≡ true → terms_at r (level_at (inside n) (r - 1)) ts ≡ (term_at n r ts >>= λ x. terms_at r (level_at (inside n) (r - 1)) x.1 >>= λ y. Ok (x.0 ∷ y.0, y.1))
 unfolding terms_at term_at
 terms_turn n r ts low high e = many_turn (is_operator r) (both (one (is_operator r)) (λ _. level_at (inside n) (r - 1))) (λ ts rest x h. term_less n r ts rest x low high h) ts e
 
-terms_stop : (n r : ℕ) (ts : List Token) → starts (is_operator r) ts ≡ false → terms_at r (level_at (inside n) (r - 1)) ts ≡ Ok ([], ts)
+pub terms_stop : (n r : ℕ) (ts : List Token) → starts (is_operator r) ts ≡ false → terms_at r (level_at (inside n) (r - 1)) ts ≡ Ok ([], ts)
 unfolding terms_at
 terms_stop n r ts e = many_stop (is_operator r) (both (one (is_operator r)) (λ _. level_at (inside n) (r - 1))) ts e
 

@@ -8,13 +8,13 @@ use Rattle.snl_tree.specs.declared.whole.expr.Expr as whole
 use Rattle.snl_tree.specs.declared.whole.expr.Term as whole_term
 use Rattle.snl_tree.specs.declared.trees.Expr.{Expr, Chain, Chain', Row_of-Term, end_of-Term, more_of-Term, items-the_row-Term, items_hidden-the_row-Term-0}
 use Rattle.snl_tree.specs.declared.trees.Term.{Term}
-use Rattle.snl_tree.specs.declared.whole.expr.Argument.{Argument, Value, Text}
+use Rattle.snl_tree.specs.declared.whole.expr.Argument.{Argument, Value', Text}
 use Rattle.snl_tree.specs.Expressions.{ExprTree, ArgumentList, named, call, chain, term, no_arguments, value}
 use Rattle.snl_tree.specs.Reading.{term_list}
 use Rattle.snl_tree.specs.Statements.{StatementTree, expression}
 use Rattle.snl_tree.specs.declared.trees.Stmt.TheVariants as stmt
 use Rattle.snl_tree.specs.StatementReading.{statement_list}
-use Rattle.snl_tree.specs.View.{view, pair_of, list_before}
+use Rattle.snl_tree.specs.View.{view, boxed, pair_of, list_before}
 use Rattle.snl_tree.specs.Thin.{joins, compares, is_sum, are_joined, is_comparison, statements_of, is_one_name, is_none_of, is_spelled, is_thin_statement, StandsForStatement, wide, wide_terms, StandEach, Finds}
 use Rattle.snl_tree.proofs.Rows.{view_chain}
 
@@ -139,7 +139,7 @@ sum_found b v c w e f s = (sum_test b v ∙ and_both (is_sum (view b.value)) _ e
 comparison_test : (e : ExprTree) (ps : List (Token × ExprTree)) (p : Token × ExprTree) → ps ≡ p ∷ [] → is_comparison (chain e (term_list ps)) ≡ ((compares p.0.kind && is_sum e) && is_sum p.1)
 comparison_test e ps p h = ap (λ z. is_comparison (chain e (term_list z))) h
 
-pub compared : (b : Box whole.Expr Global) (v : WholeTerms) (t : whole_term.Term) → v.items ≡ t ∷ [] → is_comparison (view (whole.Chain b v)) ≡ ((compares t.operator.kind && is_sum (view b.value)) && is_sum (view t.operand))
+pub compared : (b : Box whole.Expr Global) (v : WholeTerms) (t : whole_term.Term) → v.items ≡ t ∷ [] → is_comparison (view (whole.Chain b v)) ≡ ((compares t.operator.kind && is_sum (view b.value)) && is_sum (boxed t.operand))
 compared b v t e = ap is_comparison (view_chain b v) ∙ comparison_test (view b.value) (map pair_of v.items) (pair_of t) (ap (map pair_of) e)
 
 not_one : (e : ExprTree) (ts : List whole_term.Term) → (length ts ≡ 1 → ⊥) → is_comparison (chain e (term_list (map pair_of ts))) ≡ false
@@ -150,7 +150,7 @@ not_one e (t ∷ u ∷ ts) h = refl
 pub not_compared : (b : Box whole.Expr Global) (v : WholeTerms) → (length v.items ≡ 1 → ⊥) → is_comparison (view (whole.Chain b v)) ≡ false
 not_compared b v h = ap is_comparison (view_chain b v) ∙ not_one (view b.value) v.items h
 
-pub comparison_found : (b : Box whole.Expr Global) (v : WholeTerms) (t : whole_term.Term) (c : Box Expr Global) (w : Vec Term Global) (u : Term) → v.items ≡ t ∷ [] → w.items ≡ u ∷ [] → u.operator ≡ t.operator → compares t.operator.kind ≡ true → is_sum (view b.value) ≡ true → is_sum (view t.operand) ≡ true → wide c.value ≡ view b.value → wide u.operand ≡ view t.operand
+pub comparison_found : (b : Box whole.Expr Global) (v : WholeTerms) (t : whole_term.Term) (c : Box Expr Global) (w : Vec Term Global) (u : Term) → v.items ≡ t ∷ [] → w.items ≡ u ∷ [] → u.operator ≡ t.operator → compares t.operator.kind ≡ true → is_sum (view b.value) ≡ true → is_sum (boxed t.operand) ≡ true → wide c.value ≡ view b.value → wide u.operand ≡ boxed t.operand
     → (is_comparison (view (whole.Chain b v)) ≡ true) × (wide (Chain c w) ≡ view (whole.Chain b v))
 comparison_found b v t c w u e f o k s r g h = (
   compared b v t e ∙ and_both (compares t.operator.kind && is_sum (view b.value)) _ (and_both (compares t.operator.kind) _ k s) r,
@@ -177,8 +177,8 @@ found_none thin Stands (Some a) h absent = absurd (absent a refl)
 pub not_one_argument : (all : List Argument) → (length all ≡ 1 → ⊥) → is_one_name (list_before all no_arguments) ≡ false
 not_one_argument [] h = refl
 not_one_argument (a ∷ []) h = absurd (h refl)
-not_one_argument (Value e ∷ Value f ∷ all) h = refl
-not_one_argument (Value e ∷ Text t ∷ all) h = refl
+not_one_argument (Value' p e ∷ Value' q f ∷ all) h = refl
+not_one_argument (Value' p e ∷ Text t ∷ all) h = refl
 not_one_argument (Text t ∷ b ∷ all) h = refl
 
 pub put_found : (f x : Token) (all : ArgumentList) → is_spelled (codes "pvPut") f ≡ true → is_one_name all ≡ true → all ≡ value (named x) no_arguments → (is_thin_statement (expression (call f all)) ≡ true) × StandsForStatement (expression (call f all)) (stmt.Put x)

@@ -2,7 +2,7 @@
 use Rattle.std.proofs.Common.{◌≡◌, ℕ, ◌-◌, ◌≤◌, nat_eq, true, false, Ok, length, vec_len, List, [], ◌∷◌, map, Vec, Box, Global, refl, sym, ap, ◌∙◌, eqb-true, false-eqb, arith}
 use mathlib.Core.Former.{Count}
 use Rattle.snl_tree.specs.declared.whole.expr.Expr.{Expr, Chain', Call', Row_of-Term, end_of-Term, more_of-Term, items-the_row-Term, items_hidden-the_row-Term-1, Row_of-Argument, end_of-Argument, more_of-Argument, items-the_row-Argument, items_hidden-the_row-Argument-0, Chain, Call}
-use Rattle.snl_tree.specs.declared.whole.expr.Argument.{Value, Text}
+use Rattle.snl_tree.specs.declared.whole.expr.Argument.{Value', Text}
 use Rattle.snl_tree.specs.declared.whole.expr.Term.{Term}
 use Rattle.snl_tree.specs.declared.whole.expr.Argument.{Argument}
 use Rattle.snl_text.specs.declared.tokens.Token.{Token}
@@ -11,16 +11,16 @@ use Rattle.snl_tree.specs.Kinds.{is}
 use Rattle.snl_tree.specs.Readers.{starts, one, sign, ◌>>=◌}
 use Rattle.snl_tree.specs.Expressions.{ExprTree, assignment, chain, call, term, value, text, no_arguments}
 use Rattle.snl_tree.specs.Reading.{term_list, chain_tree, inside, readers, level_at, terms_at, opened, arguments_at, named_at, named_rest, is_unary, is_operator, conditional_at, assignment_at, assigned_rest}
-use Rattle.snl_tree.specs.View.{view, view_terms, view_arguments, pair_of, pairs, list_before, arguments_of}
+use Rattle.snl_tree.specs.View.{view, boxed, view_terms, view_arguments, pair_of, pairs, list_before, arguments_of}
 use Rattle.snl_tree.proofs.Forms.{level_form, named_form, assignment_form}
 
 view_term_row : (n : _) (row : Row_of-Term n) → view_terms row ≡ term_list (map pair_of (items-the_row-Term n row))
 view_term_row n end_of-Term = refl
-view_term_row n (more_of-Term op e rest) = ap (λ z. term op (view e) z) (view_term_row _ rest)
+view_term_row n (more_of-Term op p e rest) = ap (λ z. term op (view e) z) (view_term_row _ rest)
 
 view_argument_row : (n : _) (row : Row_of-Argument n) → view_arguments row ≡ list_before (items-the_row-Argument n row) no_arguments
 view_argument_row n end_of-Argument = refl
-view_argument_row n (more_of-Argument (Value e) rest) = ap (λ z. value (view e) z) (view_argument_row _ rest)
+view_argument_row n (more_of-Argument (Value' p e) rest) = ap (λ z. value (view e) z) (view_argument_row _ rest)
 view_argument_row n (more_of-Argument (Text t) rest) = ap (λ z. text t z) (view_argument_row _ rest)
 
 abbrev term_row : Expr → (n : Count) × Row_of-Term n
@@ -59,10 +59,10 @@ level_alone n r ts mid rest e v low high a b h k z =
     none [] z = refl
     none (x ∷ l) z = absurd (omega arith)
 
-pub level_chained : (n r : ℕ) (ts mid rest : List Token) (e : ExprTree) (b : Box Expr Global) (v : Vec Term Global) → 3 ≤ r → r ≤ 15 → (r ≡ 13 → ⊥) → (r ≡ 14 → ⊥) → level_at (inside n) (r - 1) ts ≡ Ok (e, mid) → terms_at r (level_at (inside n) (r - 1)) mid ≡ Ok (pairs v, rest) → nat_eq (vec_len v) 0 ≡ false → view b.value ≡ e → level_at (inside n) r ts ≡ Ok (view (Chain b v), rest)
-level_chained n r ts mid rest e b v low high a c h k z same =
-    level_form n r ts low high a c ∙ ap (λ m. m >>= λ x. terms_at r (level_at (inside n) (r - 1)) x.1 >>= λ y. Ok (chain_tree x.0 y.0, y.1)) h ∙ ap (λ m. m >>= λ y. Ok (chain_tree e y.0, y.1)) k
-    ∙ ap (λ x. Ok (x, rest)) (ap (λ z. chain_tree z (map pair_of v.items)) (sym same) ∙ chain_view b v (λ w. let e : length v.items ≡ 0 = ap length w in false-eqb (vec_len v) 0 (sym z) (omega (arith, v.ok.0))))
+pub level_chained : (n r : ℕ) (ts mid rest : List Token) (b : Box Expr Global) (v : Vec Term Global) → 3 ≤ r → r ≤ 15 → (r ≡ 13 → ⊥) → (r ≡ 14 → ⊥) → level_at (inside n) (r - 1) ts ≡ Ok (boxed b, mid) → terms_at r (level_at (inside n) (r - 1)) mid ≡ Ok (pairs v, rest) → nat_eq (vec_len v) 0 ≡ false → level_at (inside n) r ts ≡ Ok (view (Chain b v), rest)
+level_chained n r ts mid rest b v low high a c h k z =
+    level_form n r ts low high a c ∙ ap (λ m. m >>= λ x. terms_at r (level_at (inside n) (r - 1)) x.1 >>= λ y. Ok (chain_tree x.0 y.0, y.1)) h ∙ ap (λ m. m >>= λ y. Ok (chain_tree (boxed b) y.0, y.1)) k
+    ∙ ap (λ x. Ok (x, rest)) (chain_view b v (λ w. let e : length v.items ≡ 0 = ap length w in false-eqb (vec_len v) 0 (sym z) (omega (arith, v.ok.0))))
 
 pub named_called : (n : ℕ) (ts mid opened_at behind rest : List Token) (t : Token) (v : Vec Argument Global) → one (is Name) ts ≡ Ok (t, mid) → starts (is OpenBracket) mid ≡ false → starts (is OpenParenthesis) mid ≡ true → opened n (is OpenParenthesis) (sign OpenParenthesis) mid ≡ Ok (tt, opened_at)
     → arguments_at (readers (inside (n - 1))) opened_at ≡ Ok (arguments_of v, behind) → sign CloseParenthesis behind ≡ Ok (tt, rest) → named_at (inside n) ts ≡ Ok (view (Call t v), rest)

@@ -1,5 +1,5 @@
 -- The turns of the loop of the code that reads the values of a list.
-use Rattle.std.proofs.Common.{◌≡◌, ℕ, ◌<◌, Bool, true, false, List, [], ◌∷◌, ◌++◌, map, Ok, Err, Option, Some, None, length, refl, sym, ap, ◌∙◌, subst, arith, append-nil}
+use Rattle.std.proofs.Common.{◌≡◌, ℕ, ◌<◌, Bool, true, false, Box, Global, List, [], ◌∷◌, ◌++◌, map, Ok, Err, Option, Some, None, length, refl, sym, ap, ◌∙◌, subst, arith, append-nil}
 use Rattle.snl_text.specs.declared.tokens.Token.{Token}
 use Rattle.snl_text.specs.declared.kinds.Kind.{Kind}
 use Rattle.snl_text.specs.declared.kinds.Kind.TheVariants.{Comma}
@@ -11,7 +11,7 @@ use Rattle.snl_tree.specs.Sequences.{maybe, behind}
 use Rattle.snl_tree.specs.Results.{Fails}
 use Rattle.snl_tree.specs.Expressions.{ExprTree}
 use Rattle.snl_tree.specs.Reading.{inside, level_at}
-use Rattle.snl_tree.specs.View.{view}
+use Rattle.snl_tree.specs.View.{boxed}
 use Rattle.snl_tree.specs.Declarations.{ValueList, no_values, last_value, value_before}
 use Rattle.snl_tree.specs.DeclarationReading as specs
 use Rattle.snl_tree.specs.DeclarationReading.{is_no_brace, values_at}
@@ -85,8 +85,8 @@ values_fault n ts f s h = values_on n ts s ∙ ap (λ (r : Read ExprTree). let m
 
 -- a found value more
 
-map_one : (items : List Expr) (next : Expr) → map view (items ++ next ∷ []) ≡ map view items ++ view next ∷ []
-map_one items next = sym (map_snoc view items next [] ∙ append-nil _)
+map_one : (items : List (Box Expr Global)) (next : Box Expr Global) → map boxed (items ++ next ∷ []) ≡ map boxed items ++ boxed next ∷ []
+map_one items next = sym (map_snoc boxed items next [] ∙ append-nil _)
 
 before_snoc : (found : List ExprTree) (e : ExprTree) (rest : ValueList) → values_before found (value_before e rest) ≡ values_before (found ++ e ∷ []) rest
 before_snoc [] e rest = refl
@@ -104,14 +104,14 @@ list_last (a ∷ b ∷ found) e = ap (λ z. value_before a z) (list_last (b ∷ 
 
 -- what the loop keeps and gives
 
-pub before_more : (n : ℕ) (all : Read ValueList) (found : List Expr) (next : Expr) (items : List Expr) (ts mid rest : List Token) → items ≡ found ++ next ∷ [] → Before n all (map view found) ts
-    → starts is_no_brace ts ≡ true → level_at (inside n) 14 ts ≡ Ok (view next, mid) → starts (is Comma) mid ≡ true → sign Comma mid ≡ Ok (tt, rest) → Before n all (map view items) rest
+pub before_more : (n : ℕ) (all : Read ValueList) (found : List (Box Expr Global)) (next : Box Expr Global) (items : List (Box Expr Global)) (ts mid rest : List Token) → items ≡ found ++ next ∷ [] → Before n all (map boxed found) ts
+    → starts is_no_brace ts ≡ true → level_at (inside n) 14 ts ≡ Ok (boxed next, mid) → starts (is Comma) mid ≡ true → sign Comma mid ≡ Ok (tt, rest) → Before n all (map boxed items) rest
 before_more n all found next items ts mid rest w b s h c k =
-    subst (λ z. Before n all z rest) (sym (map_one found next) ∙ ap (λ z. map view z) (sym w))
-    (b ∙ ap (λ m. m >>= λ x. Ok (values_before (map view found) x.0, x.1)) (values_next n ts mid rest (view next) s h c k) ∙ go (values_at n rest))
+    subst (λ z. Before n all z rest) (sym (map_one found next) ∙ ap (λ z. map boxed z) (sym w))
+    (b ∙ ap (λ m. m >>= λ x. Ok (values_before (map boxed found) x.0, x.1)) (values_next n ts mid rest (boxed next) s h c k) ∙ go (values_at n rest))
   where
-    go : (r : Read ValueList) → ◌≡◌ {A = Read ValueList} (let r1 : Read ValueList = (r >>= λ x. Ok (value_before (view next) x.0, x.1)) in r1 >>= λ x. Ok (values_before (map view found) x.0, x.1)) (r >>= λ x. Ok (values_before (map view found ++ view next ∷ []) x.0, x.1))
-    go (Ok x) = ap (λ z. Ok (z, x.1)) (before_snoc (map view found) (view next) x.0)
+    go : (r : Read ValueList) → ◌≡◌ {A = Read ValueList} (let r1 : Read ValueList = (r >>= λ x. Ok (value_before (boxed next) x.0, x.1)) in r1 >>= λ x. Ok (values_before (map boxed found) x.0, x.1)) (r >>= λ x. Ok (values_before (map boxed found ++ boxed next ∷ []) x.0, x.1))
+    go (Ok x) = ap (λ z. Ok (z, x.1)) (before_snoc (map boxed found) (boxed next) x.0)
     go (Err f) = refl
 
 pub before_less : (n : ℕ) (ts mid rest : List Token) (e : ExprTree) → level_at (inside n) 14 ts ≡ Ok (e, mid) → sign Comma mid ≡ Ok (tt, rest) → length rest < length ts
@@ -120,20 +120,20 @@ before_less n ts mid rest e h k =
     let b = right_less (sign_form Comma) (λ _. sign Comma) (right_sign Comma) (λ _ _ _. tt) n mid rest tt k in
     omega arith
 
-pub before_all : (n : ℕ) (all : Read ValueList) (found : List Expr) (ts : List Token) → Before n all (map view found) ts → starts is_no_brace ts ≡ false → all ≡ Ok (value_list (map view found) true, ts)
+pub before_all : (n : ℕ) (all : Read ValueList) (found : List (Box Expr Global)) (ts : List Token) → Before n all (map boxed found) ts → starts is_no_brace ts ≡ false → all ≡ Ok (value_list (map boxed found) true, ts)
 before_all n all found ts b s =
-    b ∙ ap (λ m. m >>= λ x. Ok (values_before (map view found) x.0, x.1)) (values_stop n ts s) ∙ ap (λ z. Ok (z, ts)) (list_comma (map view found))
+    b ∙ ap (λ m. m >>= λ x. Ok (values_before (map boxed found) x.0, x.1)) (values_stop n ts s) ∙ ap (λ z. Ok (z, ts)) (list_comma (map boxed found))
 
-pub before_last : (n : ℕ) (all : Read ValueList) (found : List Expr) (next : Expr) (items : List Expr) (ts rest : List Token) → items ≡ found ++ next ∷ [] → Before n all (map view found) ts
-    → starts is_no_brace ts ≡ true → level_at (inside n) 14 ts ≡ Ok (view next, rest) → starts (is Comma) rest ≡ false → all ≡ Ok (value_list (map view items) false, rest)
+pub before_last : (n : ℕ) (all : Read ValueList) (found : List (Box Expr Global)) (next : Box Expr Global) (items : List (Box Expr Global)) (ts rest : List Token) → items ≡ found ++ next ∷ [] → Before n all (map boxed found) ts
+    → starts is_no_brace ts ≡ true → level_at (inside n) 14 ts ≡ Ok (boxed next, rest) → starts (is Comma) rest ≡ false → all ≡ Ok (value_list (map boxed items) false, rest)
 before_last n all found next items ts rest w b s h c =
-    b ∙ ap (λ m. m >>= λ x. Ok (values_before (map view found) x.0, x.1)) (values_last n ts rest (view next) s h c)
-    ∙ ap (λ z. Ok (z, rest)) (list_last (map view found) (view next) ∙ ap (λ z. value_list z false) (sym (map_one found next) ∙ ap (λ z. map view z) (sym w)))
+    b ∙ ap (λ m. m >>= λ x. Ok (values_before (map boxed found) x.0, x.1)) (values_last n ts rest (boxed next) s h c)
+    ∙ ap (λ z. Ok (z, rest)) (list_last (map boxed found) (boxed next) ∙ ap (λ z. value_list z false) (sym (map_one found next) ∙ ap (λ z. map boxed z) (sym w)))
 
-before_fault : (n : ℕ) (all : Read ValueList) (found : List Expr) (ts : List Token) (f : Fault) → Before n all (map view found) ts → values_at n ts ≡ Err f → all ≡ Err f
-before_fault n all found ts f b h = b ∙ ap (λ m. m >>= λ x. Ok (values_before (map view found) x.0, x.1)) h
+before_fault : (n : ℕ) (all : Read ValueList) (found : List (Box Expr Global)) (ts : List Token) (f : Fault) → Before n all (map boxed found) ts → values_at n ts ≡ Err f → all ≡ Err f
+before_fault n all found ts f b h = b ∙ ap (λ m. m >>= λ x. Ok (values_before (map boxed found) x.0, x.1)) h
 
-pub before_fails : (n : ℕ) (all : Read ValueList) (found : List Expr) (ts : List Token) (stop : Stop) → Before n all (map view found) ts → starts is_no_brace ts ≡ true → Fails stop (level_at (inside n) 14 ts) → Fails stop all
+pub before_fails : (n : ℕ) (all : Read ValueList) (found : List (Box Expr Global)) (ts : List Token) (stop : Stop) → Before n all (map boxed found) ts → starts is_no_brace ts ≡ true → Fails stop (level_at (inside n) 14 ts) → Fails stop all
 before_fails n all found ts (Stop.Stuck rest) b s h = before_fault n all found ts _ b (values_fault n ts _ s h)
 before_fails n all found ts (Stop.Deep rest) b s h = before_fault n all found ts _ b (values_fault n ts _ s h)
 before_fails n all found ts Stop.Memory b s h = tt

@@ -1,5 +1,5 @@
 -- The plain tree of a declared declaration.
-use Rattle.std.specs.Prelude.{Bool, true, false, List, [], ◌∷◌, map, Vec}
+use Rattle.std.specs.Prelude.{Bool, true, false, List, [], ◌∷◌, map, Box, Vec}
 use Rattle.std.proofs.Common.{Global}
 use Rattle.snl_tree.specs.declared.whole.expr.Expr.{Expr}
 use Rattle.snl_tree.specs.declared.whole.declarations.Declaration.{Declaration}
@@ -10,14 +10,14 @@ use Rattle.snl_tree.specs.declared.whole.declarations.Initialiser.TheVariants as
 use Rattle.snl_tree.specs.declared.whole.declarations.Values.{Values}
 use Rattle.snl_tree.specs.Sequences.{shown}
 use Rattle.snl_tree.specs.Expressions.{ExprTree}
-use Rattle.snl_tree.specs.View.{view}
+use Rattle.snl_tree.specs.View.{boxed}
 use Rattle.snl_tree.specs.Declarations.{TypeTree, ValueList, no_values, last_value, value_before, InitialiserTree, single, listed, DeclaratorTree, DeclarationTree}
 
 abbrev pub type_view : TypeName → TypeTree
 type_view t = record { word = t.word; second = t.second }
 
-abbrev pub views : Vec Expr Global → List ExprTree
-views v = map view v.items
+abbrev pub views : Vec (Box Expr Global) Global → List ExprTree
+views v = map boxed v.items
 
 -- values with a comma behind each, before others
 abbrev pub values_before : List ExprTree → ValueList → ValueList
@@ -35,7 +35,7 @@ abbrev pub values_view : Values → ValueList
 values_view v = value_list (views v.each) v.comma
 
 abbrev pub initialiser_view : Initialiser → InitialiserTree
-initialiser_view (Declared.Single e) = single (view e)
+initialiser_view (Declared.Single e) = single (boxed e)
 initialiser_view (Declared.List v) = listed (values_view v)
 
 abbrev pub declarator_view : Declarator → DeclaratorTree

@@ -14,12 +14,12 @@ use Rattle.snl_tree.specs.declared.whole.definitions.Sync.{Sync}
 use Rattle.snl_tree.specs.declared.whole.definitions.SyncQueue.{SyncQueue}
 use Rattle.snl_tree.specs.declared.whole.definitions.Setting.{Setting}
 use Rattle.snl_tree.specs.Sequences.{shown}
-use Rattle.snl_tree.specs.View.{view}
+use Rattle.snl_tree.specs.View.{boxed}
 use Rattle.snl_tree.specs.DeclarationView.{declaration_view}
 use Rattle.snl_tree.specs.Definitions.{PlaceTree, NamesTree, one_name, name_list, ChannelsTree, AssignTree, FlagTree, SyncTree, QueueTree, OptionTree, DefinitionTree, declaration, assign, monitor, sync, sync_queue, event_flags, option}
 
 abbrev pub place_view : Place → PlaceTree
-place_view p = record { name = p.name; subscript = shown view p.subscript }
+place_view p = record { name = p.name; subscript = shown boxed p.subscript }
 
 abbrev pub token_list : Vec Token Global → List Token
 token_list v = v.items

@@ -1,5 +1,5 @@
 -- What a kind of token may do in an expression.
-use Rattle.std.specs.Prelude.{ℕ, Bool, true, false}
+use Rattle.std.specs.Prelude.{ℕ, Bool, true, false, not}
 use denote.Enum.Bare.{sameb}
 use Rattle.snl_text.specs.contracts.kinds.Kind.{the_type}
 use Rattle.snl_text.specs.declared.kinds.Kind.{Kind}
@@ -8,6 +8,10 @@ use Rattle.snl_text.specs.declared.kinds.Kind.TheVariants.{Whole, Decimal, Chara
 -- A token's kind is the given one.
 abbrev pub is : Kind → Kind → Bool
 is kind other = sameb the_type other kind
+
+-- It is another one.
+abbrev pub is_other : Kind → Kind → Bool
+is_other kind other = not (is kind other)
 
 -- A number or a character constant.
 abbrev pub is_constant : Kind → Bool

@@ -9,7 +9,7 @@ use Rattle.snl_tree.specs.declared.whole.program.Clause.{Clause}
 use Rattle.snl_tree.specs.declared.whole.program.Target.{Target}
 use Rattle.snl_tree.specs.declared.whole.program.Target.TheVariants as Declared
 use Rattle.snl_tree.specs.Sequences.{shown}
-use Rattle.snl_tree.specs.View.{view}
+use Rattle.snl_tree.specs.View.{boxed}
 use Rattle.snl_tree.specs.StatementView.{block_view}
 use Rattle.snl_tree.specs.DefinitionView.{definition_views}
 use Rattle.snl_tree.specs.Programs.{TargetTree, to_state, to_exit, ClauseTree, StateTree, StateSetTree, ProgramTree}
@@ -19,7 +19,7 @@ target_view (Declared.State x) = to_state x
 target_view Declared.Exit = to_exit
 
 abbrev pub clause_view : Clause → ClauseTree
-clause_view c = record { word = c.word; condition = shown view c.condition; body = block_view c.body; target = target_view c.target }
+clause_view c = record { word = c.word; condition = shown boxed c.condition; body = block_view c.body; target = target_view c.target }
 
 abbrev pub clause_views : Vec Clause Global → List ClauseTree
 clause_views v = map clause_view v.items

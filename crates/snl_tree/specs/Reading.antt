@@ -1,6 +1,6 @@
 -- How expressions are read, one definition for each function of the code. The depth that is left decides
 -- what may be nested: with none, the readers of nested parts are missing.
-use Rattle.std.specs.Prelude.{ℕ, ◌-◌, if◌then◌else◌, Bool, true, false, Ok, Err, not, ◌&&◌, ◌==◌, List, [], ◌∷◌, Option, Some, None, ◌⊎◌}
+use Rattle.std.specs.Prelude.{ℕ, ◌+◌, ◌-◌, if◌then◌else◌, Bool, true, false, Ok, Err, not, ◌&&◌, ◌==◌, List, [], ◌∷◌, Option, Some, None, ◌⊎◌}
 use Rattle.std.proofs.Common.{inl, inr, zero, suc}
 use Rattle.snl_text.specs.declared.tokens.Token.{Token}
 use Rattle.snl_text.specs.declared.kinds.Kind.{Kind}
@@ -159,6 +159,20 @@ level_at i r = if r == 13 then conditional_at i else (if r == 14 then assignment
 abbrev pub opened : {A : Type 0} → ℕ → (Kind → Bool) → Reader A → Reader A
 opened zero test opener ts = elim (starts test ts) [ true ↦ Err (Deep ts) | false ↦ Err (Stuck ts) ]
 opened (suc n) test opener ts = opener ts
+
+-- How loosely the first token holds what stands before it; at the end as one that can't go on.
+abbrev pub here : List Token → ℕ
+here [] = 16
+here (t ∷ ts) = looseness t.kind
+
+-- the operators of a level behind a tree, and their operands
+unfoldable pub chained : ℕ → ℕ → ExprTree → List Token → Read ExprTree
+chained n r e ts = terms_at r (level_at (inside n) (r - 1)) ts >>= λ x. Ok (chain_tree e x.0, x.1)
+
+-- the same for so many levels, each looser than the one before
+unfoldable pub climbed : ℕ → ℕ → ℕ → ExprTree → List Token → Read ExprTree
+climbed n tightness zero e ts = Ok (e, ts)
+climbed n tightness (suc k) e ts = climbed n tightness k e ts >>= λ x. chained n (suc (tightness + k)) x.0 x.1
 
 -- what stands behind a name
 unfoldable pub named_rest : ℕ → Token → List Token → Read ExprTree

@@ -1,10 +1,10 @@
 -- How statements and blocks are read. Each reader has the limit on the nesting of expressions, and what
 -- reads the statements nested in it; with no depth left, that is missing.
-use Rattle.std.specs.Prelude.{ℕ, Bool, true, false, not, List, [], ◌∷◌, Option, Some, None, ◌⊎◌}
+use Rattle.std.specs.Prelude.{ℕ, Bool, true, false, List, [], ◌∷◌, Option, Some, None, ◌⊎◌}
 use Rattle.std.proofs.Common.{inl, inr, zero, suc}
 use Rattle.snl_text.specs.declared.kinds.Kind.{Kind}
 use Rattle.snl_text.specs.declared.kinds.Kind.TheVariants.{Name, Whole, Decimal, Character, OpenBrace, CloseBrace, OpenParenthesis, CloseParenthesis, Semicolon, If, Else, While, For, Break, Continue, State, Plus, Minus, Bang, Tilde, PlusPlus, MinusMinus}
-use Rattle.snl_tree.specs.Kinds.{is}
+use Rattle.snl_tree.specs.Kinds.{is, is_other}
 use Rattle.snl_tree.specs.Readers.{Reader, one, sign, both, either, choice, nothing, many, under, made}
 use Rattle.snl_tree.specs.Sequences.{maybe, behind, before, between}
 use Rattle.snl_tree.specs.Expressions.{ExprTree}
@@ -40,9 +40,6 @@ opens_statement _ = false
 -- '(' expr ')'
 unfoldable pub condition_at : ℕ → Reader ExprTree
 condition_at l = between OpenParenthesis (level_at (inside l) 15) CloseParenthesis
-
-abbrev pub is_other : Kind → Kind → Bool
-is_other kind other = not (is kind other)
 
 -- [ expr ] and the sign behind it
 unfoldable pub ended_at : ℕ → Kind → Reader (Option ExprTree)

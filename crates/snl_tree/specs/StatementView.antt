@@ -6,7 +6,7 @@ use Rattle.snl_tree.specs.declared.whole.stmt.Header.{Header}
 use Rattle.snl_tree.specs.declared.whole.stmt.Block.{Block}
 use Rattle.snl_tree.specs.declared.whole.stmt.Stmt.{Stmt, Block', Empty, Expression, Break, Continue, State, If', IfElse', While', For', Row_of-Stmt, end_of-Stmt, more_of-Stmt}
 use Rattle.snl_tree.specs.Sequences.{shown}
-use Rattle.snl_tree.specs.View.{view}
+use Rattle.snl_tree.specs.View.{boxed}
 use Rattle.snl_tree.specs.Declarations.{DeclarationTree}
 use Rattle.snl_tree.specs.DeclarationView.{declaration_view}
 use Rattle.snl_tree.specs.Statements as trees
@@ -14,7 +14,7 @@ use Rattle.snl_tree.specs.Statements.{StatementTree, StatementList, BlockTree, n
 use Rattle.snl_tree.specs.StatementReading.{statement_list}
 
 abbrev pub header_view : Header → trees.Header
-header_view h = record { start = shown view h.start; condition = shown view h.condition; step = shown view h.step }
+header_view h = record { start = shown boxed h.start; condition = shown boxed h.condition; step = shown boxed h.step }
 
 abbrev pub declaration_views : Vec Declaration Global → List DeclarationTree
 declaration_views v = map declaration_view v.items
@@ -23,13 +23,13 @@ abbrev mutual
   pub statement_view : Stmt → StatementTree
   statement_view (Block' declared shape all) = nested (block (declaration_views declared) (row_view all))
   statement_view Empty = empty
-  statement_view (Expression e) = expression (view e)
+  statement_view (Expression e) = expression (boxed e)
   statement_view (Break t) = break_loop t
   statement_view (Continue t) = continue_loop t
   statement_view (State t x) = change_state t x
-  statement_view (If' c p s) = if_then (view c) (statement_view s)
-  statement_view (IfElse' c p s q e) = if_else (view c) (statement_view s) (statement_view e)
-  statement_view (While' t c p s) = while_loop t (view c) (statement_view s)
+  statement_view (If' c p s) = if_then (boxed c) (statement_view s)
+  statement_view (IfElse' c p s q e) = if_else (boxed c) (statement_view s) (statement_view e)
+  statement_view (While' t c p s) = while_loop t (boxed c) (statement_view s)
   statement_view (For' t h p s) = for_loop t (header_view h) (statement_view s)
 
   pub row_view : {m : _} → Row_of-Stmt m → StatementList

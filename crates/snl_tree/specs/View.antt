@@ -1,10 +1,10 @@
 -- The plain tree of a declared one.
-use Rattle.std.specs.Prelude.{List, [], ◌∷◌, map, Vec, ◌⊎◌}
+use Rattle.std.specs.Prelude.{List, [], ◌∷◌, map, Box, Vec, ◌⊎◌}
 use Rattle.std.proofs.Common.{inl, inr, Global}
 use Rattle.snl_text.specs.declared.tokens.Token.{Token}
 use Rattle.snl_tree.specs.declared.whole.expr.Term.{Term}
 use Rattle.snl_tree.specs.declared.whole.expr.Expr.{Expr, Constant, Parenthesized', Named, Element', Call', Postfix', Prefix', Chain', Conditional', Assignment', Row_of-Term, end_of-Term, more_of-Term, Row_of-Argument, end_of-Argument, more_of-Argument}
-use Rattle.snl_tree.specs.declared.whole.expr.Argument.{Argument, Value, Text}
+use Rattle.snl_tree.specs.declared.whole.expr.Argument.{Argument, Value', Text}
 use Rattle.snl_tree.specs.Reading.{with_argument}
 use Rattle.snl_tree.specs.Expressions.{ExprTree, TermList, ArgumentList, constant, parenthesized, named, element, call, postfix, prefix, chain, conditional, assignment, no_terms, term, no_arguments, value, text}
 
@@ -23,22 +23,26 @@ abbrev mutual
 
   pub view_terms : {m : _} → Row_of-Term m → TermList
   view_terms end_of-Term = no_terms
-  view_terms (more_of-Term op e rest) = term op (view e) (view_terms rest)
+  view_terms (more_of-Term op p e rest) = term op (view e) (view_terms rest)
 
   pub view_arguments : {m : _} → Row_of-Argument m → ArgumentList
   view_arguments end_of-Argument = no_arguments
-  view_arguments (more_of-Argument (Value e) rest) = value (view e) (view_arguments rest)
+  view_arguments (more_of-Argument (Value' p e) rest) = value (view e) (view_arguments rest)
   view_arguments (more_of-Argument (Text t) rest) = text t (view_arguments rest)
+
+-- the tree that a box holds
+abbrev pub boxed : Box Expr Global → ExprTree
+boxed b = view b.value
 
 -- operators with their operands, in the place of a row of the declared ones
 abbrev pub pair_of : Term → Token × ExprTree
-pair_of t = (t.operator, view t.operand)
+pair_of t = (t.operator, view t.operand.value)
 
 abbrev pub pairs : Vec Term Global → List (Token × ExprTree)
 pairs v = map pair_of v.items
 
 abbrev pub argument_of : Argument → Token ⊎ ExprTree
-argument_of (Value e) = inr (view e)
+argument_of (Value' p e) = inr (view e)
 argument_of (Text t) = inl t
 
 -- arguments before others

@@ -23,21 +23,21 @@ pub struct TypeName<'a> {
 pub struct Declarator<'a> {
     pub name: Token<'a>,
     /// One for each dimension.
-    pub sizes: Vec<Expr<'a>>,
+    pub sizes: Vec<Box<Expr<'a>>>,
     pub initial: Option<Initialiser<'a>>,
 }
 
 /// `init : asg | '{' [ asg ( ',' asg )* [','] ] '}'`
 #[derive(Drop)]
 pub enum Initialiser<'a> {
-    Single(Expr<'a>),
+    Single(Box<Expr<'a>>),
     List(Values<'a>),
 }
 
 /// The values of a list in braces.
 #[derive(Drop)]
 pub struct Values<'a> {
-    pub each: Vec<Expr<'a>>,
+    pub each: Vec<Box<Expr<'a>>>,
     /// Whether a comma stands behind the last one; it says nothing where there is none.
     pub comma: bool,
 }

@@ -6,19 +6,16 @@ ghost use Rattle.snl_tree.specs.DeclarationReading as specs;
 ghost use Rattle.snl_tree.specs.Readers as readers;
 ghost use Rattle.snl_tree.specs.Kinds.{is};
 ghost use Rattle.snl_tree.specs.Results.{Gives, GivesToken};
-ghost use Rattle.snl_tree.specs.View.{view};
+ghost use Rattle.snl_tree.specs.View.{boxed};
 ghost use Rattle.snl_tree.specs.DeclarationView.{type_view, views, values_view, initialiser_view, declarator_view, declarator_views, declaration_view};
 
 use crate::whole::declarations::{Declaration, Declarator, Initialiser, TypeName, Values};
 use crate::whole::expr::Expr;
 use crate::whole::expressions::level;
 use crate::whole::kinds::{ASSIGNMENT, COMMA};
-use crate::whole::place::{Rest, Stop, at, sign, token};
+use crate::whole::place::{Read, Rest, Stop, at, before, sign, token};
 use snl_text::{Kind, Token};
 use std::alloc::Global;
-
-/// A tree and the place behind it.
-type Read<'t, 'a, T> = Result<(T, Rest<'t, 'a>), Stop<'t, 'a>>;
 
 /// Whether a token of this kind is a word that begins a declaration.
 pub fn is_type(kind: Kind) -> bool
@@ -96,8 +93,12 @@ fn type_name<'t, 'a>(rest: Rest<'t, 'a>) -> Read<'t, 'a, TypeName<'a>>
 
 /// Reads an expression in brackets.
 #[tactic(auto, unfolding(crate::specs::DeclarationReading::bracket_at))]
-pub fn bracket<'t, 'a>(alloc: Global, rest: Rest<'t, 'a>, depth: usize) -> Read<'t, 'a, Expr<'a>>
-    ensures { Gives view result (specs.bracket_at depth rest.entry.left.now) }
+pub fn bracket<'t, 'a>(
+    alloc: Global,
+    rest: Rest<'t, 'a>,
+    depth: usize,
+) -> Read<'t, 'a, Box<Expr<'a>>>
+    ensures { Gives boxed result (specs.bracket_at depth rest.entry.left.now) }
 {
     let rest = sign(rest, Kind::OpenBracket)?;
     let (expr, rest) = level(alloc, rest, depth, COMMA)?;
@@ -106,7 +107,11 @@ pub fn bracket<'t, 'a>(alloc: Global, rest: Rest<'t, 'a>, depth: usize) -> Read<
 }
 
 /// Reads the sizes behind a declared name.
-fn sizes<'t, 'a>(alloc: Global, rest: Rest<'t, 'a>, depth: usize) -> Read<'t, 'a, Vec<Expr<'a>>>
+fn sizes<'t, 'a>(
+    alloc: Global,
+    rest: Rest<'t, 'a>,
+    depth: usize,
+) -> Read<'t, 'a, Vec<Box<Expr<'a>>>>
     ensures { Gives views result (specs.sizes_at depth rest.entry.left.now) }
 {
     let mut found = Vec::new(alloc);
@@ -117,16 +122,6 @@ fn sizes<'t, 'a>(alloc: Global, rest: Rest<'t, 'a>, depth: usize) -> Read<'t, 'a
         left = behind;
     }
     Ok((found, left))
-}
-
-/// Whether something other than a closing brace is here.
-fn before_brace(rest: Rest) -> bool
-    ensures { result ≡ readers.starts specs.is_no_brace rest.entry.left.now }
-{
-    match rest.left {
-        [first, ..] => first.kind != Kind::CloseBrace,
-        [] => false,
-    }
 }
 
 /// Reads what a declared name begins with: a value, or a list of values in braces.
@@ -225,7 +220,7 @@ fn values<'t, 'a>(alloc: Global, rest: Rest<'t, 'a>, depth: usize) -> Read<'t, '
 {
     let mut each = Vec::new(alloc);
     let mut left = rest;
-    while before_brace(left) {
+    while before(left, Kind::CloseBrace) {
         let (next, behind) = level(alloc, left, depth, ASSIGNMENT)?;
         each.push(next)?;
         if !at(behind, Kind::Comma) {

@@ -7,7 +7,7 @@ ghost use Rattle.snl_tree.specs.DefinitionReading as specs;
 ghost use Rattle.snl_tree.specs.Readers as readers;
 ghost use Rattle.snl_tree.specs.Kinds.{is};
 ghost use Rattle.snl_tree.specs.Results.{Gives, GivesToken};
-ghost use Rattle.snl_tree.specs.View.{view};
+ghost use Rattle.snl_tree.specs.View.{boxed};
 ghost use Rattle.snl_tree.specs.DefinitionView.{place_view, token_list, names_view, channels_view, assign_view, flag_view, sync_view, queue_view, setting_view, definition_view, definition_views};
 
 use crate::whole::declaring::{at_declaration, bracket, declaration, is_type};
@@ -15,20 +15,17 @@ use crate::whole::definitions::{
     Assign, ChannelNames, Channels, Def, Flag, Place, Setting, Sync, SyncQueue,
 };
 use crate::whole::expr::Expr;
-use crate::whole::place::{Rest, Stop, at, sign, token};
+use crate::whole::place::{Read, Rest, Stop, at, sign, token};
 use snl_text::{Kind, Token};
 use std::alloc::Global;
-
-/// A tree and the place behind it.
-type Read<'t, 'a, T> = Result<(T, Rest<'t, 'a>), Stop<'t, 'a>>;
 
 /// Reads a subscript, where it is here.
 fn subscript<'t, 'a>(
     alloc: Global,
     rest: Rest<'t, 'a>,
     depth: usize,
-) -> Read<'t, 'a, Option<Expr<'a>>>
-    ensures { Gives (shown view) result (sequences.maybe (is Kind.OpenBracket) (bracket_at depth) rest.entry.left.now) }
+) -> Read<'t, 'a, Option<Box<Expr<'a>>>>
+    ensures { Gives (shown boxed) result (sequences.maybe (is Kind.OpenBracket) (bracket_at depth) rest.entry.left.now) }
 {
     if !at(rest, Kind::OpenBracket) {
         return Ok((None, rest));

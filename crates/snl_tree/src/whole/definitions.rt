@@ -20,7 +20,7 @@ pub enum Def<'a> {
 #[derive(Drop)]
 pub struct Place<'a> {
     pub name: Token<'a>,
-    pub subscript: Option<Expr<'a>>,
+    pub subscript: Option<Box<Expr<'a>>>,
 }
 
 /// `assign : 'assign' place [ ['to'] ( STRING | '{' STRING ( ',' STRING )* '}' ) ] ';'`

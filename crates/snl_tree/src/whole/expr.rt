@@ -32,7 +32,7 @@ pub enum Expr<'a> {
 #[cycle(expr)]
 pub struct Term<'a> {
     pub operator: Token<'a>,
-    pub operand: Expr<'a>,
+    pub operand: Box<Expr<'a>>,
 }
 
 /// An argument of a call.
@@ -40,7 +40,7 @@ pub struct Term<'a> {
 #[cycle(expr)]
 pub enum Argument<'a> {
     /// An expression without a comma outside of parentheses.
-    Value(Expr<'a>),
+    Value(Box<Expr<'a>>),
     /// A string.
     Text(Token<'a>),
 }

@@ -2,7 +2,7 @@ ghost use Rattle.std.specs.Prelude.{◌≡◌, ℕ, IfOk, List, Err};
 ghost use Rattle.snl_tree.specs.Expressions.{ExprTree, IsExpr};
 ghost use Rattle.snl_tree.specs.Begins.{Spells, IsUnexpected, IsTooDeep};
 ghost use Rattle.snl_tree.specs.Parsing.{expressions, IsOnly};
-ghost use Rattle.snl_tree.specs.View.{view};
+ghost use Rattle.snl_tree.specs.View.{boxed};
 
 use crate::whole::expr::Expr;
 use crate::whole::expressions::level;
@@ -23,9 +23,12 @@ pub const NESTING_LIMIT: usize = 64;
 /// that begins with those before it, or gives the count of the tokens where all of them begin an expression
 /// and are none. `TooDeep` names the first with which expressions go on, but none that is nested at most
 /// [`NESTING_LIMIT`] deep. `Memory` comes only where a part of the tree found no room.
-pub fn parse_expression<'a>(alloc: Global, tokens: &[Token<'a>]) -> Result<Expr<'a>, ParseFault>
-    ensures found { IfOk result (λ e. IsExpr 64 (view e) × Spells expressions (view e) tokens.now) }
-    ensures only { (e : ExprTree) → IsExpr 64 e → Spells expressions e tokens.now → IsOnly view result e }
+pub fn parse_expression<'a>(
+    alloc: Global,
+    tokens: &[Token<'a>],
+) -> Result<Box<Expr<'a>>, ParseFault>
+    ensures found { IfOk result (λ e. IsExpr 64 (boxed e) × Spells expressions (boxed e) tokens.now) }
+    ensures only { (e : ExprTree) → IsExpr 64 e → Spells expressions e tokens.now → IsOnly boxed result e }
     ensures unexpected { (k : ℕ) → result ≡ Err (ParseFault.Unexpected k) → IsUnexpected expressions 64 tokens.now k }
     ensures too_deep { (k : ℕ) → result ≡ Err (ParseFault.TooDeep k) → IsTooDeep expressions 64 tokens.now k }
 {
@@ -38,9 +41,9 @@ fn parse_within<'a>(
     alloc: Global,
     tokens: &[Token<'a>],
     limit: usize,
-) -> Result<Expr<'a>, ParseFault>
-    ensures found { IfOk result (λ e. IsExpr limit (view e) × Spells expressions (view e) tokens.now) }
-    ensures only { (e : ExprTree) → IsExpr limit e → Spells expressions e tokens.now → IsOnly view result e }
+) -> Result<Box<Expr<'a>>, ParseFault>
+    ensures found { IfOk result (λ e. IsExpr limit (boxed e) × Spells expressions (boxed e) tokens.now) }
+    ensures only { (e : ExprTree) → IsExpr limit e → Spells expressions e tokens.now → IsOnly boxed result e }
     ensures unexpected { (k : ℕ) → result ≡ Err (ParseFault.Unexpected k) → IsUnexpected expressions limit tokens.now k }
     ensures too_deep { (k : ℕ) → result ≡ Err (ParseFault.TooDeep k) → IsTooDeep expressions limit tokens.now k }
 {

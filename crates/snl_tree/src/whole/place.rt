@@ -1,7 +1,7 @@
 ghost use Rattle.std.specs.Prelude.{◌≡◌, ◌<◌, OnOk};
 ghost use Rattle.snl_tree.specs.Kinds as specs;
 ghost use Rattle.snl_tree.specs.Readers as readers;
-ghost use Rattle.snl_tree.specs.Reading.{opened, is_operator, is_no_close};
+ghost use Rattle.snl_tree.specs.Reading.{opened, here, is_operator};
 ghost use Rattle.snl_tree.specs.Results.{GivesSign, GivesToken};
 ghost use Rattle.snl_tree.specs.declared.whole.place.Stop.TheVariants.{Memory};
 
@@ -25,6 +25,9 @@ pub enum Stop<'t, 'a> {
     /// A tree found no room in memory.
     Memory,
 }
+
+/// What is read, and the place behind it.
+pub type Read<'t, 'a, T> = Result<(T, Rest<'t, 'a>), Stop<'t, 'a>>;
 
 impl<'t, 'a, T: Drop> From<AllocFailed<T>> for Stop<'t, 'a> {
     ghost from_gives = { λ _ stop. stop ≡ Memory };
@@ -83,10 +86,7 @@ pub fn open_sign<'t, 'a>(
 }
 
 /// Reads a token of a kind, which is kept.
-pub fn token<'t, 'a>(
-    rest: Rest<'t, 'a>,
-    kind: Kind,
-) -> Result<(Token<'a>, Rest<'t, 'a>), Stop<'t, 'a>>
+pub fn token<'t, 'a>(rest: Rest<'t, 'a>, kind: Kind) -> Read<'t, 'a, Token<'a>>
     ensures { GivesToken result (readers.one (specs.is kind) rest.entry.left.now) }
 {
     match rest.left {
@@ -97,11 +97,7 @@ pub fn token<'t, 'a>(
 
 /// Reads a sign that opens a nested part and is kept. With no depth left it is nested too deep.
 #[tactic(auto, using(crate::proofs::Opened::opened_some, crate::proofs::Opened::opened_none))]
-pub fn open_token<'t, 'a>(
-    rest: Rest<'t, 'a>,
-    kind: Kind,
-    depth: usize,
-) -> Result<(Token<'a>, Rest<'t, 'a>), Stop<'t, 'a>>
+pub fn open_token<'t, 'a>(rest: Rest<'t, 'a>, kind: Kind, depth: usize) -> Read<'t, 'a, Token<'a>>
     ensures gives { GivesToken result
         (opened depth (specs.is kind) (readers.one (specs.is kind)) rest.entry.left.now) }
     ensures room { OnOk result (0 < depth) }
@@ -126,7 +122,7 @@ pub fn at_constant(rest: Rest) -> bool
 }
 
 /// Reads a number or a character constant.
-pub fn constant<'t, 'a>(rest: Rest<'t, 'a>) -> Result<(Token<'a>, Rest<'t, 'a>), Stop<'t, 'a>>
+pub fn constant<'t, 'a>(rest: Rest<'t, 'a>) -> Read<'t, 'a, Token<'a>>
     ensures { GivesToken result (readers.one specs.is_constant rest.entry.left.now) }
 {
     match rest.left {
@@ -145,11 +141,18 @@ pub fn at_operator(rest: Rest, level: u8) -> bool
     }
 }
 
+/// How loosely the token here holds what stands before it, as [`looseness`] says; 16 at the end.
+pub fn looseness_here(rest: Rest) -> u8
+    ensures { result ≡ here rest.entry.left.now }
+{
+    match rest.left {
+        [first, ..] => looseness(first.kind),
+        [] => 16,
+    }
+}
+
 /// Reads an operator that binds so loosely.
-pub fn operator<'t, 'a>(
-    rest: Rest<'t, 'a>,
-    level: u8,
-) -> Result<(Token<'a>, Rest<'t, 'a>), Stop<'t, 'a>>
+pub fn operator<'t, 'a>(rest: Rest<'t, 'a>, level: u8) -> Read<'t, 'a, Token<'a>>
     ensures { GivesToken result (readers.one (is_operator level) rest.entry.left.now) }
 {
     match rest.left {
@@ -162,11 +165,7 @@ pub fn operator<'t, 'a>(
 
 /// Reads an operator whose operand is nested.
 #[tactic(auto, using(crate::proofs::Opened::opened_some, crate::proofs::Opened::opened_none))]
-pub fn open_operator<'t, 'a>(
-    rest: Rest<'t, 'a>,
-    level: u8,
-    depth: usize,
-) -> Result<(Token<'a>, Rest<'t, 'a>), Stop<'t, 'a>>
+pub fn open_operator<'t, 'a>(rest: Rest<'t, 'a>, level: u8, depth: usize) -> Read<'t, 'a, Token<'a>>
     ensures gives { GivesToken result
         (opened depth (is_operator level) (readers.one (is_operator level)) rest.entry.left.now) }
     ensures room { OnOk result (0 < depth) }
@@ -191,7 +190,7 @@ pub fn at_prefix(rest: Rest) -> bool
 }
 
 /// Reads a prefix operator.
-fn prefix<'t, 'a>(rest: Rest<'t, 'a>) -> Result<(Token<'a>, Rest<'t, 'a>), Stop<'t, 'a>>
+fn prefix<'t, 'a>(rest: Rest<'t, 'a>) -> Read<'t, 'a, Token<'a>>
     ensures { GivesToken result (readers.one specs.is_prefix rest.entry.left.now) }
 {
     match rest.left {
@@ -202,10 +201,7 @@ fn prefix<'t, 'a>(rest: Rest<'t, 'a>) -> Result<(Token<'a>, Rest<'t, 'a>), Stop<
 
 /// Reads a prefix operator, whose operand is nested.
 #[tactic(auto, using(crate::proofs::Opened::opened_some, crate::proofs::Opened::opened_none))]
-pub fn open_prefix<'t, 'a>(
-    rest: Rest<'t, 'a>,
-    depth: usize,
-) -> Result<(Token<'a>, Rest<'t, 'a>), Stop<'t, 'a>>
+pub fn open_prefix<'t, 'a>(rest: Rest<'t, 'a>, depth: usize) -> Read<'t, 'a, Token<'a>>
     ensures gives { GivesToken result
         (opened depth specs.is_prefix (readers.one specs.is_prefix) rest.entry.left.now) }
     ensures room { OnOk result (0 < depth) }
@@ -219,12 +215,12 @@ pub fn open_prefix<'t, 'a>(
     }
 }
 
-/// Whether something other than a closing parenthesis is here.
-pub fn before_close(rest: Rest) -> bool
-    ensures { result ≡ readers.starts is_no_close rest.entry.left.now }
+/// Whether something other than a token of this kind is here.
+pub fn before(rest: Rest, kind: Kind) -> bool
+    ensures { result ≡ readers.starts (specs.is_other kind) rest.entry.left.now }
 {
     match rest.left {
-        [first, ..] => first.kind != Kind::CloseParenthesis,
+        [first, ..] => first.kind != kind,
         [] => false,
     }
 }

@@ -55,7 +55,7 @@ pub struct State<'a> {
 pub struct Clause<'a> {
     /// `when`
     pub word: Token<'a>,
-    pub condition: Option<Expr<'a>>,
+    pub condition: Option<Box<Expr<'a>>>,
     pub body: Block<'a>,
     pub target: Target<'a>,
 }

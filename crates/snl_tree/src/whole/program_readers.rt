@@ -6,7 +6,7 @@ ghost use Rattle.snl_tree.specs.Readers as readers;
 ghost use Rattle.snl_tree.specs.Reading.{inside, level_at, is_no_close};
 ghost use Rattle.snl_tree.specs.ProgramReading as specs;
 ghost use Rattle.snl_tree.specs.Results.{Gives, GivesToken};
-ghost use Rattle.snl_tree.specs.View.{view};
+ghost use Rattle.snl_tree.specs.View.{boxed};
 ghost use Rattle.snl_tree.specs.StatementView.{block_view};
 ghost use Rattle.snl_tree.specs.ProgramView.{Carries, target_view, clause_view, clause_views, state_view, state_views, state_set_view, state_set_views, program_view};
 
@@ -14,15 +14,12 @@ use crate::whole::defining::{definitions, parts};
 use crate::whole::expr::Expr;
 use crate::whole::expressions::level;
 use crate::whole::kinds::COMMA;
-use crate::whole::place::{Rest, Stop, at, before_close, sign, token};
+use crate::whole::place::{Read, Rest, at, before, sign, token};
 use crate::whole::program::{Clause, Program, State, StateSet, Target};
 use crate::whole::statements::block;
 use crate::whole::stmt::Block;
 use snl_text::{Kind, Lexed, Token};
 use std::alloc::Global;
-
-/// A tree and the place behind it.
-type Read<'t, 'a, T> = Result<(T, Rest<'t, 'a>), Stop<'t, 'a>>;
 
 /// Reads where a clause leads.
 #[tactic(auto, unfolding(crate::specs::ProgramReading::target_at))]
@@ -43,10 +40,10 @@ fn maybe_expression<'t, 'a>(
     alloc: Global,
     rest: Rest<'t, 'a>,
     depth: usize,
-) -> Read<'t, 'a, Option<Expr<'a>>>
-    ensures { Gives (shown view) result (sequences.maybe is_no_close (level_at (inside depth) 15) rest.entry.left.now) }
+) -> Read<'t, 'a, Option<Box<Expr<'a>>>>
+    ensures { Gives (shown boxed) result (sequences.maybe is_no_close (level_at (inside depth) 15) rest.entry.left.now) }
 {
-    if !before_close(rest) {
+    if !before(rest, Kind::CloseParenthesis) {
         return Ok((None, rest));
     }
     let (expr, rest) = level(alloc, rest, depth, COMMA)?;
@@ -59,8 +56,8 @@ fn condition<'t, 'a>(
     alloc: Global,
     rest: Rest<'t, 'a>,
     depth: usize,
-) -> Read<'t, 'a, Option<Expr<'a>>>
-    ensures { Gives (shown view) result (specs.condition_at depth rest.entry.left.now) }
+) -> Read<'t, 'a, Option<Box<Expr<'a>>>>
+    ensures { Gives (shown boxed) result (specs.condition_at depth rest.entry.left.now) }
 {
     let rest = sign(rest, Kind::OpenParenthesis)?;
     let (condition, rest) = maybe_expression(alloc, rest, depth)?;

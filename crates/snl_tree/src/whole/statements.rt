@@ -1,26 +1,21 @@
-ghost use Rattle.std.specs.Prelude.{◌≡◌, ◌<◌, ◌-◌, OnOk};
-ghost use Rattle.snl_tree.specs.Kinds.{is};
+ghost use Rattle.std.specs.Prelude.{◌≡◌};
 ghost use Rattle.snl_tree.specs.Readers as readers;
-ghost use Rattle.snl_tree.specs.Reading.{opened};
 ghost use Rattle.snl_tree.specs.Results.{Gives, GivesToken};
 ghost use Rattle.snl_tree.specs.Sequences.{shown};
 ghost use Rattle.snl_tree.specs.StatementReading as specs;
 ghost use Rattle.snl_tree.specs.StatementSteps as steps;
 ghost use Rattle.snl_tree.specs.StatementView.{header_view, declaration_views, statement_view, statement_views, block_view};
-ghost use Rattle.snl_tree.specs.View.{view};
+ghost use Rattle.snl_tree.specs.View.{boxed};
 
 use crate::whole::declarations::Declaration;
 use crate::whole::declaring::{at_declaration, declaration};
 use crate::whole::expr::Expr;
 use crate::whole::expressions::level;
 use crate::whole::kinds::COMMA;
-use crate::whole::place::{Rest, Stop, at, open_sign, sign, token};
+use crate::whole::place::{Read, Rest, at, before, open_sign, open_token, sign, token};
 use crate::whole::stmt::{Block, Header, Stmt};
 use snl_text::{Kind, Token};
 use std::alloc::Global;
-
-/// A tree and the place behind it.
-type Read<'t, 'a, T> = Result<(T, Rest<'t, 'a>), Stop<'t, 'a>>;
 
 /// Whether a statement may begin with a token of this kind.
 fn opens_statement(kind: Kind) -> bool
@@ -60,32 +55,6 @@ fn at_statement(rest: Rest) -> bool
     }
 }
 
-/// Whether something other than a token of this kind is here.
-fn before(rest: Rest, kind: Kind) -> bool
-    ensures { result ≡ readers.starts (specs.is_other kind) rest.entry.left.now }
-{
-    match rest.left {
-        [first, ..] => first.kind != kind,
-        [] => false,
-    }
-}
-
-/// Reads the word of a loop, whose body is nested.
-#[tactic(auto, using(crate::proofs::Opened::opened_some, crate::proofs::Opened::opened_none))]
-fn open_word<'t, 'a>(rest: Rest<'t, 'a>, kind: Kind, depth: usize) -> Read<'t, 'a, Token<'a>>
-    ensures gives { GivesToken result
-        (opened depth (is kind) (readers.one (is kind)) rest.entry.left.now) }
-    ensures room { OnOk result (0 < depth) }
-{
-    if depth > 0 {
-        token(rest, kind)
-    } else if at(rest, kind) {
-        Err(Stop::Deep(rest))
-    } else {
-        Err(Stop::Stuck(rest))
-    }
-}
-
 /// Reads a word or a name, and the semicolon behind it.
 #[tactic(auto, unfolding(crate::specs::StatementSteps::ended_word_at))]
 fn ended_word<'t, 'a>(rest: Rest<'t, 'a>, kind: Kind) -> Read<'t, 'a, Token<'a>>
@@ -98,8 +67,8 @@ fn ended_word<'t, 'a>(rest: Rest<'t, 'a>, kind: Kind) -> Read<'t, 'a, Token<'a>>
 
 /// Reads an expression in the parentheses of a statement, which don't count as nesting.
 #[tactic(auto, unfolding(crate::specs::StatementReading::condition_at))]
-fn condition<'t, 'a>(alloc: Global, rest: Rest<'t, 'a>, limit: usize) -> Read<'t, 'a, Expr<'a>>
-    ensures { Gives view result (specs.condition_at limit rest.entry.left.now) }
+fn condition<'t, 'a>(alloc: Global, rest: Rest<'t, 'a>, limit: usize) -> Read<'t, 'a, Box<Expr<'a>>>
+    ensures { Gives boxed result (specs.condition_at limit rest.entry.left.now) }
 {
     let rest = sign(rest, Kind::OpenParenthesis)?;
     let (condition, rest) = level(alloc, rest, limit, COMMA)?;
@@ -114,8 +83,8 @@ fn ended<'t, 'a>(
     rest: Rest<'t, 'a>,
     limit: usize,
     kind: Kind,
-) -> Read<'t, 'a, Option<Expr<'a>>>
-    ensures { Gives (shown view) result (specs.ended_at limit kind rest.entry.left.now) }
+) -> Read<'t, 'a, Option<Box<Expr<'a>>>>
+    ensures { Gives (shown boxed) result (specs.ended_at limit kind rest.entry.left.now) }
 {
     if !before(rest, kind) {
         let rest = sign(rest, kind)?;
@@ -287,14 +256,14 @@ fn if_statement<'t, 'a>(
 #[tactic(auto, unfolding(crate::specs::StatementSteps::if_rest))]
 fn otherwise<'t, 'a>(
     alloc: Global,
-    condition: Expr<'a>,
+    condition: Box<Expr<'a>>,
     first: Stmt<'a>,
     rest: Rest<'t, 'a>,
     limit: usize,
     depth: usize,
 ) -> Read<'t, 'a, Stmt<'a>>
     ensures { Gives statement_view result
-        (steps.if_rest limit depth (view condition.entry) (statement_view first.entry) rest.entry.left.now) }
+        (steps.if_rest limit depth (boxed condition.entry) (statement_view first.entry) rest.entry.left.now) }
 {
     let first = Box::new(alloc, first)?;
     if !at(rest, Kind::Else) {
@@ -318,7 +287,7 @@ fn while_loop<'t, 'a>(
     ensures { Gives statement_view result
         (specs.while_at limit (specs.statements_inside limit depth) rest.entry.left.now) }
 {
-    let (word, rest) = open_word(rest, Kind::While, depth)?;
+    let (word, rest) = open_token(rest, Kind::While, depth)?;
     let (condition, rest) = condition(alloc, rest, limit)?;
     let (body, rest) = statement(alloc, rest, limit, depth - 1)?;
     let body = Box::new(alloc, body)?;
@@ -337,7 +306,7 @@ fn for_loop<'t, 'a>(
     ensures { Gives statement_view result
         (specs.for_at limit (specs.statements_inside limit depth) rest.entry.left.now) }
 {
-    let (word, rest) = open_word(rest, Kind::For, depth)?;
+    let (word, rest) = open_token(rest, Kind::For, depth)?;
     let (header, rest) = header(alloc, rest, limit)?;
     let (body, rest) = statement(alloc, rest, limit, depth - 1)?;
     let body = Box::new(alloc, body)?;

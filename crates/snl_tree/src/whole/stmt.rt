@@ -11,7 +11,7 @@ pub enum Stmt<'a> {
     /// `;`
     Empty,
     /// `expression ;`
-    Expression(Expr<'a>),
+    Expression(Box<Expr<'a>>),
     /// `break ;`, with the word.
     Break(Token<'a>),
     /// `continue ;`, with the word.
@@ -19,11 +19,11 @@ pub enum Stmt<'a> {
     /// `state NAME ;`, with the word and the name.
     State(Token<'a>, Token<'a>),
     /// `if ( condition ) statement` without `else`.
-    If(Expr<'a>, Box<Stmt<'a>>),
+    If(Box<Expr<'a>>, Box<Stmt<'a>>),
     /// `if ( condition ) statement else statement`
-    IfElse(Expr<'a>, Box<Stmt<'a>>, Box<Stmt<'a>>),
+    IfElse(Box<Expr<'a>>, Box<Stmt<'a>>, Box<Stmt<'a>>),
     /// `while ( condition ) statement`, with the word.
-    While(Token<'a>, Expr<'a>, Box<Stmt<'a>>),
+    While(Token<'a>, Box<Expr<'a>>, Box<Stmt<'a>>),
     /// `for ( .. ) statement`, with the word.
     For(Token<'a>, Header<'a>, Box<Stmt<'a>>),
 }
@@ -39,7 +39,7 @@ pub struct Block<'a> {
 /// What stands between the parentheses of a `for`.
 #[derive(Drop)]
 pub struct Header<'a> {
-    pub start: Option<Expr<'a>>,
-    pub condition: Option<Expr<'a>>,
-    pub step: Option<Expr<'a>>,
+    pub start: Option<Box<Expr<'a>>>,
+    pub condition: Option<Box<Expr<'a>>>,
+    pub step: Option<Box<Expr<'a>>>,
 }

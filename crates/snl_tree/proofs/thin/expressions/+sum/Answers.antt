@@ -12,7 +12,8 @@ returns-then-not-joins t c =
 
 pub returns-in_default-3 : goal.returns-in_default-3
 returns-in_default-3 t c =
-    let o = found_none _ _ c.in_ok-operand-in-Chain.field-0 c.in_ok-operand-in-Chain.ensures c.in_default-3.not-Some in
+    let d : c.deref-in-loop-term.result.now ≡ c.term-item.result.operand.value = search rules in
+    let o = ap (λ (z : Expr). is_sum (view z)) (sym d) ∙ found_none _ _ c.in_ok-operand-in-Chain.field-0 c.in_ok-operand-in-Chain.ensures c.in_default-3.not-Some in
     let n = one_not is_joined StandsForTerm pair_of c.deref-term-items.result.now c.loop-term.term-index c.loop-term.found.items c.term-item.result c.loop-term.invariant.1 (omega arith) c.term-item.is (and_second _ _ o) in
     rw c.in-Chain.is (terms_are_none c.in-Chain.first c.in-Chain.terms (rw c.deref-term-items.ensures.value at n))
 

@@ -19,7 +19,8 @@ returns-then-not-compares c =
 pub returns-in_default-3 : goal.returns-in_default-3
 returns-in_default-3 c =
     let one = single c.as_slice-all.result.now c.index-all-0.result (omega arith) (omega arith) c.index-all-0.is in
-    let o = found_none _ _ c.in_ok-operand.field-0 c.in_ok-operand.ensures c.in_default-3.not-Some in
+    let d : c.deref-2.result.now ≡ c.index-all-0.result.operand.value = search rules in
+    let o = ap (λ (z : Expr). is_sum (view z)) (sym d) ∙ found_none _ _ c.in_ok-operand.field-0 c.in_ok-operand.ensures c.in_default-3.not-Some in
     rw c.in-Chain.is (compared c.in-Chain.first c.in-Chain.terms c.index-all-0.result (sym c.as_slice-all.ensures.value ∙ one) ∙ and_second _ _ o)
 
 pub returns : goal.returns
@@ -28,7 +29,8 @@ returns c =
     let f = rw c.in-Some.is at c.in_ok-first.ensures in
     let o = rw c.in-Some-2.is at c.in_ok-operand.ensures in
     let d : c.deref.result.now ≡ c.in-Chain.first.value = search rules in
+    let x : c.deref-2.result.now ≡ c.index-all-0.result.operand.value = search rules in
     let w : wide c.in_ok-new.field-0.value ≡ wide c.in-Some.first = ap wide c.in_ok-new.ensures.ok in
     let u : Term = record { operator = c.index-all-0.result.operator; operand = c.in-Some-2.operand } in
     rw c.in-Chain.is (comparison_found c.in-Chain.first c.in-Chain.terms c.index-all-0.result c.in_ok-new.field-0 c.push.new.self u
-    (sym c.as_slice-all.ensures.value ∙ one) (c.in_ok-push.ensures.items ∙ ap (λ z. z ++ u ∷ []) c.new-terms.ensures.items) refl (sym c.if-not-compares.ensures) (ap (λ (z : Expr). is_sum (view z)) (sym d) ∙ f.0) o.0 (w ∙ f.1 ∙ ap view d) o.1)
+    (sym c.as_slice-all.ensures.value ∙ one) (c.in_ok-push.ensures.items ∙ ap (λ z. z ++ u ∷ []) c.new-terms.ensures.items) refl (sym c.if-not-compares.ensures) (ap (λ (z : Expr). is_sum (view z)) (sym d) ∙ f.0) (ap (λ (z : Expr). is_sum (view z)) (sym x) ∙ o.0) (w ∙ f.1 ∙ ap view d) (o.1 ∙ ap view x))

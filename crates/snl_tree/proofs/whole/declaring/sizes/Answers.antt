@@ -2,7 +2,7 @@ use Rattle.std.proofs.Common.{sym}
 use Rattle.std.proofs.lemmas.Result.{err_from_is_err_and}
 use Rattle.snl_text.specs.declared.kinds.Kind.TheVariants.{OpenBracket}
 use Rattle.snl_tree.specs.Kinds.{is}
-use Rattle.snl_tree.specs.View.{view}
+use Rattle.snl_tree.specs.View.{boxed}
 use Rattle.snl_tree.specs.DeclarationReading.{bracket_at, sizes_at}
 use Rattle.snl_tree.proofs.Turns.{found_none, found_more, found_all, found_fails}
 use Rattle.snl_tree.proofs.DeclarationLaws.{bracket_less}
@@ -10,21 +10,21 @@ use Rattle.snl_tree.proofs.whole.declaring.sizes.Goals as goal
 
 pub loop-alloc-preserved : goal.loop-alloc-preserved
 loop-alloc-preserved c =
-    found_more (is OpenBracket) (bracket_at c.args.depth) (bracket_less c.args.depth) view (sizes_at c.args.depth c.args.rest.left.now) c.loop-alloc.found.items c.loop-alloc.left.left.now c.in_ok-next.next c.in_ok-next.behind.left.now _
+    found_more (is OpenBracket) (bracket_at c.args.depth) (bracket_less c.args.depth) boxed (sizes_at c.args.depth c.args.rest.left.now) c.loop-alloc.found.items c.loop-alloc.left.left.now c.in_ok-next.next c.in_ok-next.behind.left.now _
     c.in_ok-push.ensures.items c.loop-alloc.invariant (sym c.loop-alloc-test.ensures) c.in_ok-next.ensures
 
 pub loop-alloc-smaller : goal.loop-alloc-smaller
-loop-alloc-smaller c = bracket_less c.args.depth c.loop-alloc.left.left.now c.in_ok-next.behind.left.now (view c.in_ok-next.next) c.in_ok-next.ensures
+loop-alloc-smaller c = bracket_less c.args.depth c.loop-alloc.left.left.now c.in_ok-next.behind.left.now (boxed c.in_ok-next.next) c.in_ok-next.ensures
 
 pub returns : goal.returns
-returns c = found_all (is OpenBracket) (bracket_at c.args.depth) view (sizes_at c.args.depth c.args.rest.left.now) c.loop-alloc.found.items c.loop-alloc.left.left.now c.loop-alloc.invariant (sym c.loop-alloc-test.ensures)
+returns c = found_all (is OpenBracket) (bracket_at c.args.depth) boxed (sizes_at c.args.depth c.args.rest.left.now) c.loop-alloc.found.items c.loop-alloc.left.left.now c.loop-alloc.invariant (sym c.loop-alloc-test.ensures)
 
 pub returns-in_err-next : goal.returns-in_err-next
 returns-in_err-next c =
     let p = err_from_is_err_and c.from_residual.result c.from_residual.ensures.1 in
-    rw (p.1, p.2) (found_fails (is OpenBracket) (bracket_at c.args.depth) (bracket_less c.args.depth) view (sizes_at c.args.depth c.args.rest.left.now) c.loop-alloc.found.items c.loop-alloc.left.left.now c.in_err-next.field-0.0
+    rw (p.1, p.2) (found_fails (is OpenBracket) (bracket_at c.args.depth) (bracket_less c.args.depth) boxed (sizes_at c.args.depth c.args.rest.left.now) c.loop-alloc.found.items c.loop-alloc.left.left.now c.in_err-next.field-0.0
     c.loop-alloc.invariant (sym c.loop-alloc-test.ensures) c.in_err-next.ensures)
 
 pub loop-alloc-init : goal.loop-alloc-init
 unfolding sizes_at
-loop-alloc-init c = found_none (is OpenBracket) (bracket_at c.args.depth) view c.args.rest.left.now c.new-found.result.items c.new-found.ensures.items
+loop-alloc-init c = found_none (is OpenBracket) (bracket_at c.args.depth) boxed c.args.rest.left.now c.new-found.result.items c.new-found.ensures.items

@@ -1,13 +1,13 @@
 use Rattle.std.proofs.Common.{length}
 use Rattle.snl_text.specs.declared.kinds.Kind.TheVariants.{OpenBracket}
 use Rattle.snl_tree.specs.Kinds.{is}
-use Rattle.snl_tree.specs.View.{view}
+use Rattle.snl_tree.specs.View.{boxed}
 use Rattle.snl_tree.specs.DeclarationReading.{bracket_at, sizes_at}
 use Rattle.snl_tree.proofs.Turns.{Found}
 use Rattle.snl_tree.proofs.whole.declaring.sizes.Given as goal
 
 abbrev pub invariant-loop-alloc : goal.invariant-loop-alloc
-invariant-loop-alloc l = Found (is OpenBracket) (bracket_at l.depth) view (sizes_at l.fn.depth l.fn.rest.left.now) l.found.items l.left.left.now
+invariant-loop-alloc l = Found (is OpenBracket) (bracket_at l.depth) boxed (sizes_at l.fn.depth l.fn.rest.left.now) l.found.items l.left.left.now
 
 abbrev pub decreases-loop-alloc : goal.decreases-loop-alloc
 decreases-loop-alloc l = length l.left.left.now

@@ -1,6 +1,6 @@
 use Rattle.std.proofs.Common.{sym}
 use Rattle.std.proofs.lemmas.Result.{err_from_is_err_and}
-use Rattle.snl_tree.specs.View.{view}
+use Rattle.snl_tree.specs.View.{boxed}
 use Rattle.snl_tree.specs.DeclarationReading.{values_at}
 use Rattle.snl_tree.proofs.ValueTurns.{before_more, before_less, before_all, before_last, before_fails}
 use Rattle.snl_tree.proofs.whole.declaring.values.Goals as goal
@@ -16,7 +16,7 @@ returns-then-not-at c =
     c.in_ok-push.ensures.items c.loop-alloc.invariant (sym c.loop-alloc-test.ensures) c.in_ok-next.ensures (sym c.if-not-at.ensures)
 
 pub loop-alloc-smaller : goal.loop-alloc-smaller
-loop-alloc-smaller c = before_less c.args.depth c.loop-alloc.left.left.now c.in_ok-next.behind.left.now c.in_ok-left.left.left.now (view c.in_ok-next.next) c.in_ok-next.ensures c.in_ok-left.ensures
+loop-alloc-smaller c = before_less c.args.depth c.loop-alloc.left.left.now c.in_ok-next.behind.left.now c.in_ok-left.left.left.now (boxed c.in_ok-next.next) c.in_ok-next.ensures c.in_ok-left.ensures
 
 pub loop-alloc-preserved : goal.loop-alloc-preserved
 loop-alloc-preserved c =

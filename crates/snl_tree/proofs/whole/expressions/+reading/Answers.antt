@@ -1,17 +1,19 @@
-use Rattle.std.proofs.Common.{arith, ◌≡◌, ◌≤◌, ◌-◌, ℕ, true, List, Ok, sym, ap, subst}
+use Rattle.std.proofs.Common.{inl, inr, rules, arith, ◌∙◌, ◌≡◌, ◌≤◌, ◌-◌, ℕ, true, List, Ok, sym, ap, subst}
 use Rattle.std.proofs.lemmas.Result.{err_from_is_err_and}
 use Rattle.snl_text.specs.declared.tokens.Token.{Token}
 use Rattle.snl_text.specs.declared.kinds.Kind.TheVariants.{Comma}
 use Rattle.snl_tree.specs.declared.whole.place.Stop.{Stop}
 use Rattle.snl_tree.specs.declared.whole.expr.Argument.{Argument}
+use Rattle.snl_tree.specs.declared.whole.expr.Expr.{Expr}
 use Rattle.snl_tree.specs.declared.whole.expr.Term.{Term}
 use Rattle.snl_tree.specs.Kinds.{is}
 use Rattle.snl_tree.specs.Readers as reading
 use Rattle.snl_tree.specs.Readers.{starts, one, sign}
-use Rattle.snl_tree.specs.Reading.{inside, readers, level_at, terms_at, term_at, argument_at, more_after, is_operator}
+use Rattle.snl_tree.specs.Reading.{inside, is_unary, readers, level_at, terms_at, term_at, argument_at, more_after, is_operator}
 use Rattle.snl_tree.specs.Results.{Fails}
-use Rattle.snl_tree.specs.View.{view, list_before}
+use Rattle.snl_tree.specs.View.{view, boxed, list_before}
 use Rattle.snl_tree.proofs.Rows.{assignment_made, level_alone, level_chained}
+use Rattle.snl_tree.proofs.Climbing.{passed, climbed_chain, climbed_fails}
 use Rattle.snl_tree.proofs.Loops.{Found, found_more, found_all, found_fail, after_fail}
 use Rattle.snl_tree.proofs.whole.expressions.+reading.Goals as goal
 
@@ -29,19 +31,36 @@ fails_found n r start found ts Stop.Memory low high h s e = tt
 
 pub assignment-returns : goal.assignment-returns
 assignment-returns t c =
-    let made = assignment_made c.args.depth c.args.rest.left.now c.in_ok-target.rest.left.now c.in_ok-operator.rest.left.now c.in_ok-value.rest.left.now (view c.in_ok-target.target) (view c.in_ok-value.value) c.in_ok-operator.operator c.in_ok-target.ensures (sym c.if-not-is_unary.ensures) (sym c.if-not-at_operator.ensures) c.in_ok-operator.ensures.gives c.in_ok-value.ensures in
-    let target : view c.in_ok-target-2.target.value ≡ view c.in_ok-target.target = ap view c.in_ok-target-2.ensures.ok in
-    let value : view c.in_ok-value-2.value.value ≡ view c.in_ok-value.value = ap view c.in_ok-value-2.ensures.ok in
-    rw (target, value) made
+    let d : c.deref.result.now ≡ c.in_ok-target.target.value = search rules in
+    let made = assignment_made c.args.depth c.args.rest.left.now c.in_ok-target.rest.left.now c.in_ok-operator.rest.left.now c.in_ok-value.rest.left.now (boxed c.in_ok-target.target) (boxed c.in_ok-value.value) c.in_ok-operator.operator c.in_ok-target.ensures (ap (λ (z : Expr). is_unary (view z)) (sym d) ∙ sym c.if-not-is_unary.ensures) (sym c.if-not-at_operator.ensures) c.in_ok-operator.ensures.gives c.in_ok-value.ensures in
+    rw c.in_ok-assigned.ensures.ok made
 
-pub level-returns-then-is_empty : goal.level-returns-then-is_empty
-level-returns-then-is_empty t c =
-    level_alone c.args.depth c.args.looseness c.args.rest.left.now c.in_ok-first.rest.left.now c.in_ok-terms.rest.left.now (view c.in_ok-first.first) c.in_ok-terms.terms (omega arith) c.requires.high c.if-looseness-eq-CONDITIONAL.false c.if-looseness-eq-ASSIGNMENT.false c.in_ok-first.ensures c.in_ok-terms.ensures (sym c.if-is_empty.ensures)
+pub expression-returns-then-is_empty : goal.expression-returns-then-is_empty
+unfolding level_at
+expression-returns-then-is_empty t c =
+    level_alone c.args.depth 15 c.args.rest.left.now c.in_ok-first.rest.left.now c.in_ok-terms.rest.left.now (boxed c.in_ok-first.first) c.in_ok-terms.terms (omega arith) (omega arith) (λ e. omega arith) (λ e. omega arith) c.in_ok-first.ensures c.in_ok-terms.ensures (sym c.if-is_empty.ensures)
 
-pub level-returns : goal.level-returns
-level-returns t c =
-    let same : view c.in_ok-first-2.first.value ≡ view c.in_ok-first.first = ap view c.in_ok-first-2.ensures.ok in
-    level_chained c.args.depth c.args.looseness c.args.rest.left.now c.in_ok-first.rest.left.now c.in_ok-terms.rest.left.now (view c.in_ok-first.first) c.in_ok-first-2.first c.in_ok-terms.terms (omega arith) c.requires.high c.if-looseness-eq-CONDITIONAL.false c.if-looseness-eq-ASSIGNMENT.false c.in_ok-first.ensures c.in_ok-terms.ensures (sym c.if-is_empty.ensures) same
+pub expression-returns : goal.expression-returns
+unfolding level_at
+expression-returns t c =
+    rw c.in_ok-chain.ensures.ok (level_chained c.args.depth 15 c.args.rest.left.now c.in_ok-first.rest.left.now c.in_ok-terms.rest.left.now c.in_ok-first.first c.in_ok-terms.terms (omega arith) (omega arith) (λ e. omega arith) (λ e. omega arith) c.in_ok-first.ensures c.in_ok-terms.ensures (sym c.if-is_empty.ensures))
+
+pub climb-returns-then-here-tightness : goal.climb-returns-then-here-tightness
+climb-returns-then-here-tightness t c =
+    passed c.args.depth c.args.tightness (c.args.looseness - c.args.tightness) (boxed c.args.first) c.args.rest.left.now (omega arith) (λ r low high h. elim c.then-here-tightness.either [
+      | inl w ↦ omega (arith, h, w)
+      | inr w ↦ omega (arith, h, w)
+    ])
+
+pub climb-returns-in_err-terms : goal.climb-returns-in_err-terms
+climb-returns-in_err-terms t c =
+    let p = err_from_is_err_and c.from_residual.result c.from_residual.ensures.1 in
+    rw (p.1, p.2) (climbed_fails c.args.depth c.args.tightness c.looseness_here-here.result c.args.looseness c.args.rest.left.now (boxed c.args.first) c.in_err-terms.field-0.0 (omega arith) (omega arith) c.requires.high (sym c.looseness_here-here.ensures) c.in_err-terms.ensures)
+
+pub climb-returns : goal.climb-returns
+climb-returns t c =
+    let chain = climbed_chain c.args.depth c.args.tightness c.looseness_here-here.result c.args.looseness c.args.rest.left.now c.in_ok-terms.rest.left.now c.args.first c.in_ok-chain.chain c.in_ok-terms.terms c.requires.low (omega arith) (omega arith) c.requires.high (sym c.looseness_here-here.ensures) c.in_ok-terms.ensures c.in_ok-chain.ensures.ok in
+    rw chain c.climb.ensures
 
 pub more_arguments-returns-in_err-next : goal.more_arguments-returns-in_err-next
 more_arguments-returns-in_err-next t c =

@@ -4,42 +4,48 @@ use Rattle.snl_tree.specs.Reading.{inside, readers, level_at, terms_at, more_aft
 use Rattle.snl_tree.specs.View.{pair_of, list_before}
 use Rattle.snl_tree.proofs.whole.expressions.+reading.Given as goal
 
--- a nested part costs a hundred, a level five
+-- a nested part costs a thousand, a level twenty
 abbrev pub decreases-level : goal.decreases-level
-decreases-level l = 100 * l.depth + 5 * l.looseness + 3
+decreases-level l = 1000 * l.depth + 20 * l.looseness + 19
+
+abbrev pub decreases-expression : goal.decreases-expression
+decreases-expression l = 1000 * l.depth + 318
+
+abbrev pub decreases-climb : goal.decreases-climb
+decreases-climb l = 1000 * l.depth + 20 * l.looseness + 2 + (l.looseness - l.tightness)
 
 abbrev pub decreases-terms : goal.decreases-terms
-decreases-terms l = 100 * l.depth + 5 * l.looseness + 2
+decreases-terms l = 1000 * l.depth + 20 * l.looseness + 1
 
 abbrev pub decreases-term : goal.decreases-term
-decreases-term l = 100 * l.depth + 5 * l.looseness + 1
+decreases-term l = 1000 * l.depth + 20 * l.looseness
 
 abbrev pub decreases-assignment : goal.decreases-assignment
-decreases-assignment l = 100 * l.depth + 72
+decreases-assignment l = 1000 * l.depth + 280
 
 abbrev pub decreases-conditional : goal.decreases-conditional
-decreases-conditional l = 100 * l.depth + 67
+decreases-conditional l = 1000 * l.depth + 270
 
 abbrev pub decreases-unary : goal.decreases-unary
-decreases-unary l = 100 * l.depth + 12
+decreases-unary l = 1000 * l.depth + 12
 
 abbrev pub decreases-primary : goal.decreases-primary
-decreases-primary l = 100 * l.depth + 11
+decreases-primary l = 1000 * l.depth + 11
 
 abbrev pub decreases-parenthesized : goal.decreases-parenthesized
-decreases-parenthesized l = 100 * l.depth + 10
+decreases-parenthesized l = 1000 * l.depth + 10
 
 abbrev pub decreases-named : goal.decreases-named
-decreases-named l = 100 * l.depth + 10
+decreases-named l = 1000 * l.depth + 10
 
 abbrev pub decreases-arguments : goal.decreases-arguments
-decreases-arguments l = 100 * l.depth + 98
+decreases-arguments l = 1000 * l.depth + 400
 
 abbrev pub decreases-more_arguments : goal.decreases-more_arguments
-decreases-more_arguments l = 100 * l.depth + 97
+decreases-more_arguments l = 1000 * l.depth + 399
 
 abbrev pub decreases-argument : goal.decreases-argument
-decreases-argument l = 100 * l.depth + 96
+decreases-argument l = 1000 * l.depth + 398
 
 -- what was found, and what is left to read
 abbrev pub invariant-terms-loop-alloc : goal.invariant-terms-loop-alloc
