@@ -13,7 +13,7 @@ use Rattle.snl_text.specs.Cut.{Cuts, Reading, nothing_read, start}
 use Rattle.snl_text.specs.Faults.{fault_pos, fault_text}
 use Rattle.snl_text.specs.Lexing.{FaultHolds, GivesOnly, IsLexed}
 use Rattle.snl_check.specs.declared.messages.Severity.TheVariants.{Error}
-use Rattle.snl_tree.specs.declared.trees.Program.{Program}
+use Rattle.snl_tree.specs.declared.thin.trees.Program.{Program}
 use Rattle.snl_tree.specs.Begins.{Spells, IsUnexpected, IsTooDeep}
 use Rattle.snl_tree.specs.Programs.{ProgramTree, IsProgram, programs}
 use Rattle.snl_tree.specs.Thin.{is_thin, StandsFor}

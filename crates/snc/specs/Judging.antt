@@ -8,7 +8,7 @@ use Rattle.snl_text.specs.declared.faults.LexFault.TheVariants.{SourceTooLong}
 use Rattle.snl_text.specs.declared.tokens.Lexed.{Lexed}
 use Rattle.snl_text.specs.declared.tokens.Pos.{Pos}
 use Rattle.snl_text.specs.declared.tokens.Token.{Token}
-use Rattle.snl_tree.specs.declared.trees.Program.{Program}
+use Rattle.snl_tree.specs.declared.thin.trees.Program.{Program}
 use Rattle.snl_tree.specs.Begins.{Spells, IsUnexpected, IsTooDeep}
 use Rattle.snl_tree.specs.Programs.{ProgramTree, IsProgram, programs}
 use Rattle.snl_tree.specs.Thin.{is_thin, StandsFor}

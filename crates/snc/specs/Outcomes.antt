@@ -1,6 +1,6 @@
 -- What `report` and `session` answer.
 use Rattle.std.specs.Prelude.{◌≡◌, ℕ, List, [], Option, None, Some}
-use Rattle.snl_tree.specs.declared.trees.Program.{Program}
+use Rattle.snl_tree.specs.declared.thin.trees.Program.{Program}
 use Rattle.snl_check.specs.Messages.{Said}
 use Rattle.snl_machine.specs.Devices.{counted}
 use Rattle.snl_machine.specs.First.{first_world}

@@ -3,7 +3,7 @@ use Rattle.std.specs.Prelude.{◌≡◌, ◌↔◌, ℕ, List, Option, Some, IsS
 use Rattle.snl_text.specs.declared.faults.LexFault.{LexFault}
 use Rattle.snl_text.specs.declared.tokens.Lexed.{Lexed}
 use Rattle.snl_text.specs.declared.tokens.Pos.{Pos}
-use Rattle.snl_tree.specs.declared.trees.Program.{Program}
+use Rattle.snl_tree.specs.declared.thin.trees.Program.{Program}
 use Rattle.snl_tree.specs.Programs.{ProgramTree}
 use Rattle.snl_check.specs.Messages.{Said, IsInOrder}
 use Rattle.snl_check.specs.Rules.{IsSaid}

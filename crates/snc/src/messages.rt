@@ -5,7 +5,7 @@ ghost use Rattle.std.specs.Option.{option_map};
 ghost use Rattle.snc.specs.Judging.{AreNamesOf, IsJudged, error_at, fault_at, nesting_error, syntax_error};
 ghost use Rattle.snc.specs.Texts.{text_of};
 ghost use Rattle.snc.specs.Told.{AreTokensTold, IsFaultTold, IsProgramTold, IsTreeTold};
-ghost use Rattle.snl_tree.specs.ProgramView.{program_view};
+ghost use Rattle.snl_tree.specs.view.Programs.{program_view};
 
 use crate::lines::{Names, push_line, push_lines};
 use snl_check::{Checked, Outcome, Severity, check};

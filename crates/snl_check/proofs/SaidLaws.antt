@@ -6,7 +6,7 @@ use Rattle.std.proofs.lemmas.List.{map-append, append-nil}
 use Rattle.std.proofs.lemmas.List.Elements.{Contains-append_left, Contains-append_right, Contains-append_cases, Contains-push, Contains-push_cases}
 use Rattle.snl_text.specs.declared.tokens.Pos.{Pos}
 use Rattle.snl_text.specs.declared.tokens.Token.{Token}
-use Rattle.snl_tree.specs.declared.trees.Program.{Program}
+use Rattle.snl_tree.specs.declared.thin.trees.Program.{Program}
 use Rattle.snl_check.specs.declared.messages.Rule.{Rule}
 use Rattle.snl_check.specs.declared.messages.Rule.TheVariants.{Undeclared, DeclaredTwice, AssignedTwice, Unassigned, StateTwice, NoState, NoClauses}
 use Rattle.snl_check.specs.declared.sites.Named.TheVariants.{Variable, StateName}

@@ -2,9 +2,9 @@
 use Rattle.std.proofs.Common.{◌≡◌, List, [], ◌∷◌, ◌++◌, map, sym, ap, ◌∙◌}
 use Rattle.std.specs.List.{flat_map}
 use Rattle.std.proofs.lemmas.List.{map-append}
-use Rattle.snl_tree.specs.declared.trees.Program.{Program}
-use Rattle.snl_tree.specs.declared.trees.Def.{Def}
-use Rattle.snl_tree.specs.declared.trees.State.{State}
+use Rattle.snl_tree.specs.declared.thin.trees.Program.{Program}
+use Rattle.snl_tree.specs.declared.thin.trees.Def.{Def}
+use Rattle.snl_tree.specs.declared.thin.trees.State.{State}
 use Rattle.snl_check.specs.declared.sites.Named.TheVariants.{Variable, StateName}
 use Rattle.snl_check.specs.declared.sites.Site.{Site as Noted}
 use Rattle.snl_check.specs.Facts.{noted}

@@ -4,7 +4,7 @@ use Rattle.std.specs.List.{AllByRecursion}
 use Rattle.std.proofs.lemmas.Bool.{false≢true, eqb-true}
 use Rattle.snl_text.specs.declared.tokens.Pos.{Pos}
 use Rattle.snl_text.specs.declared.tokens.Token.{Token}
-use Rattle.snl_tree.specs.declared.trees.Program.{Program}
+use Rattle.snl_tree.specs.declared.thin.trees.Program.{Program}
 use Rattle.snl_check.specs.declared.messages.Rule.TheVariants.{Undeclared}
 use Rattle.snl_check.specs.declared.sites.Purpose.{Purpose}
 use Rattle.snl_check.specs.declared.sites.Site.TheVariants.{Use}

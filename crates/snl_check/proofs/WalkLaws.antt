@@ -7,8 +7,8 @@ use Rattle.std.proofs.Math.Seq.{drop-cons}
 use Rattle.std.proofs.lemmas.List.{map-append, append-nil, take_more}
 use Rattle.std.proofs.lemmas.List.Folds.{list_any-append}
 use Rattle.snl_text.specs.declared.tokens.Token.{Token}
-use Rattle.snl_tree.specs.declared.trees.Term.{Term}
-use Rattle.snl_tree.specs.declared.trees.Expr.{Expr, Chain, Chain', Row_of-Term, end_of-Term, more_of-Term, items-the_row-Term, items_hidden-the_row-Term-0}
+use Rattle.snl_tree.specs.declared.thin.trees.Term.{Term}
+use Rattle.snl_tree.specs.declared.thin.trees.Expr.{Expr, Chain, Chain', Row_of-Term, end_of-Term, more_of-Term, items-the_row-Term, items_hidden-the_row-Term-0}
 use Rattle.snl_check.specs.declared.sites.Named.{Named}
 use Rattle.snl_check.specs.declared.sites.Site.{Site as Noted}
 use Rattle.snl_check.specs.declared.sites.Site.TheVariants.{Declaration}

@@ -2,7 +2,7 @@
 use Rattle.std.specs.Prelude.{◌≡◌, ℕ, ◌⊎◌, List, [], ◌∷◌, ◌++◌, None, Some, Contains, codes}
 use Rattle.snl_text.specs.declared.tokens.Pos.{Pos}
 use Rattle.snl_text.specs.declared.tokens.Token.{Token}
-use Rattle.snl_tree.specs.declared.trees.Program.{Program}
+use Rattle.snl_tree.specs.declared.thin.trees.Program.{Program}
 use Rattle.snl_check.specs.declared.messages.Rule.{Rule}
 use Rattle.snl_check.specs.declared.messages.Rule.TheVariants.{Undeclared, DeclaredTwice, AssignedTwice, Unassigned, StateTwice, NoState, NoClauses}
 use Rattle.snl_check.specs.declared.messages.Severity.TheVariants.{Error}

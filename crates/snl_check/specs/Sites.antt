@@ -2,14 +2,14 @@
 use Rattle.std.specs.Prelude.{List, [], ◌∷◌, ◌++◌, map}
 use Rattle.std.specs.List.{flat_map}
 use Rattle.snl_text.specs.declared.tokens.Token.{Token}
-use Rattle.snl_tree.specs.declared.trees.Program.{Program}
-use Rattle.snl_tree.specs.declared.trees.State.{State}
-use Rattle.snl_tree.specs.declared.trees.Clause.{Clause}
-use Rattle.snl_tree.specs.declared.trees.Def.{Def}
-use Rattle.snl_tree.specs.declared.trees.Def.TheVariants as def
-use Rattle.snl_tree.specs.declared.trees.Stmt.{Stmt}
-use Rattle.snl_tree.specs.declared.trees.Stmt.TheVariants as stmt
-use Rattle.snl_tree.specs.declared.trees.Expr.{Expr, Whole, Name, Chain', Row_of-Term, end_of-Term, more_of-Term}
+use Rattle.snl_tree.specs.declared.thin.trees.Program.{Program}
+use Rattle.snl_tree.specs.declared.thin.trees.State.{State}
+use Rattle.snl_tree.specs.declared.thin.trees.Clause.{Clause}
+use Rattle.snl_tree.specs.declared.thin.trees.Def.{Def}
+use Rattle.snl_tree.specs.declared.thin.trees.Def.TheVariants as def
+use Rattle.snl_tree.specs.declared.thin.trees.Stmt.{Stmt}
+use Rattle.snl_tree.specs.declared.thin.trees.Stmt.TheVariants as stmt
+use Rattle.snl_tree.specs.declared.thin.trees.Expr.{Expr, Whole, Name, Chain', Row_of-Term, end_of-Term, more_of-Term}
 use Rattle.snl_check.specs.declared.sites.Named.{Named}
 use Rattle.snl_check.specs.declared.sites.Named.TheVariants.{Variable, StateName}
 use Rattle.snl_check.specs.declared.sites.Purpose.{Purpose}

@@ -5,7 +5,7 @@ use Rattle.std.specs.Cmp.Lexicographic.{pointwise}
 use Rattle.std.specs.HashMap.{HashMap, get, get_by}
 use Rattle.snl_text.specs.declared.tokens.Pos.{Pos}
 use Rattle.snl_text.specs.declared.tokens.Token.{Token}
-use Rattle.snl_tree.specs.declared.trees.Program.{Program}
+use Rattle.snl_tree.specs.declared.thin.trees.Program.{Program}
 use Rattle.snl_check.specs.declared.sites.Site.{Site as Noted}
 use Rattle.snl_check.specs.declared.sites.Site.TheVariants.{Use}
 use Rattle.snl_check.specs.Facts.{noted}

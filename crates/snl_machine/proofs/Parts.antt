@@ -6,9 +6,9 @@ use Rattle.std.specs.declared.boxed.Box.{Box}
 use Rattle.std.specs.declared.vec.Vec.{Vec}
 use Rattle.std.proofs.Math.ListN.{drop_of_length-le}
 use Rattle.std.proofs.lemmas.List.{map-append}
-use Rattle.snl_tree.specs.declared.trees.Expr as source
-use Rattle.snl_tree.specs.declared.trees.Expr.TheBlock.{hidden-the_row-Term-0 as source_row}
-use Rattle.snl_tree.specs.declared.trees.Term.{Term as SourceTerm}
+use Rattle.snl_tree.specs.declared.thin.trees.Expr as source
+use Rattle.snl_tree.specs.declared.thin.trees.Expr.TheBlock.{hidden-the_row-Term-0 as source_row}
+use Rattle.snl_tree.specs.declared.thin.trees.Term.{Term as SourceTerm}
 use Rattle.snl_machine.specs.declared.programs.Expr as tree
 use Rattle.snl_machine.specs.declared.programs.Expr.TheBlock.{hidden-the_row-Term-0}
 use Rattle.snl_machine.specs.declared.programs.Link.{Link}

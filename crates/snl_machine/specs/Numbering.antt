@@ -7,14 +7,14 @@ use Rattle.snl_text.specs.declared.kinds.Kind.{Kind}
 use Rattle.snl_text.specs.declared.kinds.Kind.TheVariants as kind
 use Rattle.snl_text.specs.declared.tokens.Token.{Token}
 use Rattle.snl_text.specs.Numbers.{whole_value}
-use Rattle.snl_tree.specs.declared.trees.Clause.{Clause as TreeClause}
-use Rattle.snl_tree.specs.declared.trees.Def.{Def}
-use Rattle.snl_tree.specs.declared.trees.Def.TheVariants as def
-use Rattle.snl_tree.specs.declared.trees.Expr as tree
-use Rattle.snl_tree.specs.declared.trees.Program.{Program as TreeProgram}
-use Rattle.snl_tree.specs.declared.trees.State.{State as TreeState}
-use Rattle.snl_tree.specs.declared.trees.Stmt.{Stmt}
-use Rattle.snl_tree.specs.declared.trees.Stmt.TheVariants as stmt
+use Rattle.snl_tree.specs.declared.thin.trees.Clause.{Clause as TreeClause}
+use Rattle.snl_tree.specs.declared.thin.trees.Def.{Def}
+use Rattle.snl_tree.specs.declared.thin.trees.Def.TheVariants as def
+use Rattle.snl_tree.specs.declared.thin.trees.Expr as tree
+use Rattle.snl_tree.specs.declared.thin.trees.Program.{Program as TreeProgram}
+use Rattle.snl_tree.specs.declared.thin.trees.State.{State as TreeState}
+use Rattle.snl_tree.specs.declared.thin.trees.Stmt.{Stmt}
+use Rattle.snl_tree.specs.declared.thin.trees.Stmt.TheVariants as stmt
 use Rattle.snl_check.specs.Sites.{variables_of, states_of}
 use Rattle.snl_machine.specs.declared.programs.Link.{Link}
 use Rattle.snl_machine.specs.declared.programs.Operator.{Operator}

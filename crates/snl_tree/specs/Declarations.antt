@@ -63,7 +63,7 @@ pub record DeclaratorTree : Type 0 where
   pub initial : Option InitialiserTree
 
 pub record DeclarationTree : Type 0 where
-  pub base : TypeTree
+  pub type_name : TypeTree
   pub names : List DeclaratorTree
 
 -- The spelling.
@@ -87,7 +87,7 @@ abbrev pub declarator_slots : DeclaratorTree → List Slot
 declarator_slots d = The d.name ∷ (row_slots bracket_slots d.sizes ++ maybe_slots (λ i. Sign Equal ∷ initialiser_slots i) d.initial)
 
 abbrev pub declaration_slots : DeclarationTree → List Slot
-declaration_slots d = type_slots d.base ++ (parted_slots Comma declarator_slots d.names ++ Sign Semicolon ∷ [])
+declaration_slots d = type_slots d.type_name ++ (parted_slots Comma declarator_slots d.names ++ Sign Semicolon ∷ [])
 
 -- Well formed, with expressions that are nested at most n deep. The brackets of sizes and the braces of
 -- lists stand in no expression and do not count.
@@ -111,4 +111,4 @@ abbrev pub IsDeclarator : ℕ → DeclaratorTree → Type 0
 IsDeclarator n d = (d.name.kind ≡ Name) × Each (IsExpr n) d.sizes × IfThere (IsInitialiser n) d.initial
 
 abbrev pub IsDeclaration : ℕ → DeclarationTree → Type 0
-IsDeclaration n d = IsType d.base × EachOfSome (IsDeclarator n) d.names
+IsDeclaration n d = IsType d.type_name × EachOfSome (IsDeclarator n) d.names

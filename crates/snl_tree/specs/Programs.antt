@@ -17,13 +17,13 @@ pub data TargetTree : Type 0 where
 pub record ClauseTree : Type 0 where
   pub word : Token
   pub condition : Option ExprTree
-  pub body : BlockTree
+  pub block : BlockTree
   pub target : TargetTree
 
 pub record StateTree : Type 0 where
   pub word : Token
   pub name : Token
-  pub parts : List DefinitionTree
+  pub definitions : List DefinitionTree
   pub entry : Option BlockTree
   pub clauses : List ClauseTree
   pub exit : Option BlockTree
@@ -38,7 +38,7 @@ pub record ProgramTree : Type 0 where
   pub word : Token
   pub name : Token
   pub macros : Option Token
-  pub parts : List DefinitionTree
+  pub definitions : List DefinitionTree
   pub entry : Option BlockTree
   pub state_sets : List StateSetTree
   pub exit : Option BlockTree
@@ -49,7 +49,7 @@ target_slots (to_state x) = Sign State ∷ The x ∷ []
 target_slots to_exit = Sign Exit ∷ []
 
 abbrev pub clause_slots : ClauseTree → List Slot
-clause_slots c = The c.word ∷ (between_slots OpenParenthesis (maybe_slots slots c.condition) CloseParenthesis ++ (block_slots c.body ++ target_slots c.target))
+clause_slots c = The c.word ∷ (between_slots OpenParenthesis (maybe_slots slots c.condition) CloseParenthesis ++ (block_slots c.block ++ target_slots c.target))
 
 abbrev pub entry_slots : BlockTree → List Slot
 entry_slots b = Sign Entry ∷ block_slots b
@@ -59,7 +59,7 @@ exit_slots b = Sign Exit ∷ block_slots b
 
 abbrev pub state_slots : StateTree → List Slot
 state_slots s = The s.word ∷ The s.name ∷ between_slots OpenBrace
-    (row_slots definition_slots s.parts ++ (maybe_slots entry_slots s.entry ++ (row_slots clause_slots s.clauses ++ maybe_slots exit_slots s.exit))) CloseBrace
+    (row_slots definition_slots s.definitions ++ (maybe_slots entry_slots s.entry ++ (row_slots clause_slots s.clauses ++ maybe_slots exit_slots s.exit))) CloseBrace
 
 abbrev pub state_set_slots : StateSetTree → List Slot
 state_set_slots s = The s.word ∷ The s.name ∷ between_slots OpenBrace (row_slots definition_slots s.definitions ++ row_slots state_slots s.states) CloseBrace
@@ -68,7 +68,7 @@ abbrev pub macros_slots : Token → List Slot
 macros_slots t = between_slots OpenParenthesis (token_slots t) CloseParenthesis
 
 abbrev pub program_slots : ProgramTree → List Slot
-program_slots p = The p.word ∷ The p.name ∷ (maybe_slots macros_slots p.macros ++ (row_slots definition_slots p.parts ++
+program_slots p = The p.word ∷ The p.name ∷ (maybe_slots macros_slots p.macros ++ (row_slots definition_slots p.definitions ++
     (maybe_slots entry_slots p.entry ++ (row_slots state_set_slots p.state_sets ++ maybe_slots exit_slots p.exit))))
 
 -- Well formed, with expressions, and statements, that are nested at most n deep.
@@ -77,17 +77,17 @@ IsTarget (to_state x) = x.kind ≡ Name
 IsTarget to_exit = Unit {0}
 
 abbrev pub IsClause : ℕ → ClauseTree → Type 0
-IsClause n c = (c.word.kind ≡ When) × IfThere (IsExpr n) c.condition × IsBlock n c.body × IsTarget c.target
+IsClause n c = (c.word.kind ≡ When) × IfThere (IsExpr n) c.condition × IsBlock n c.block × IsTarget c.target
 
 abbrev pub IsState : ℕ → StateTree → Type 0
-IsState n s = (s.word.kind ≡ State) × (s.name.kind ≡ Name) × Each (IsPart n) s.parts × IfThere (IsBlock n) s.entry × Each (IsClause n) s.clauses × IfThere (IsBlock n) s.exit
+IsState n s = (s.word.kind ≡ State) × (s.name.kind ≡ Name) × Each (IsPart n) s.definitions × IfThere (IsBlock n) s.entry × Each (IsClause n) s.clauses × IfThere (IsBlock n) s.exit
 
 -- Options stand in programs and states alone.
 abbrev pub IsStateSet : ℕ → StateSetTree → Type 0
 IsStateSet n s = (s.word.kind ≡ StateSet) × (s.name.kind ≡ Name) × Each (IsDefinition n) s.definitions × EachOfSome (IsState n) s.states
 
 abbrev pub IsProgram : ℕ → ProgramTree → Type 0
-IsProgram n p = (p.word.kind ≡ Program) × (p.name.kind ≡ Name) × IfThere (λ t. t.kind ≡ Text) p.macros × Each (IsPart n) p.parts × IfThere (IsBlock n) p.entry × EachOfSome (IsStateSet n) p.state_sets × IfThere (IsBlock n) p.exit
+IsProgram n p = (p.word.kind ≡ Program) × (p.name.kind ≡ Name) × IfThere (λ t. t.kind ≡ Text) p.macros × Each (IsPart n) p.definitions × IfThere (IsBlock n) p.entry × EachOfSome (IsStateSet n) p.state_sets × IfThere (IsBlock n) p.exit
 
 abbrev pub programs : Sort ProgramTree
 programs = record { slots = program_slots; within = IsProgram }

@@ -7,17 +7,17 @@ use Rattle.snl_text.specs.declared.tokens.Token.{Token}
 use Rattle.snl_text.specs.declared.kinds.Kind.{Kind}
 use Rattle.snl_text.specs.declared.kinds.Kind.TheVariants as kind
 use Rattle.snl_tree.specs.Kinds.{is}
-use Rattle.snl_tree.specs.declared.trees.Program.{Program}
-use Rattle.snl_tree.specs.declared.trees.StateSet.{StateSet}
-use Rattle.snl_tree.specs.declared.trees.State.{State}
-use Rattle.snl_tree.specs.declared.trees.Clause.{Clause}
-use Rattle.snl_tree.specs.declared.trees.Def.{Def}
-use Rattle.snl_tree.specs.declared.trees.Def.TheVariants as def
-use Rattle.snl_tree.specs.declared.trees.Stmt.{Stmt}
-use Rattle.snl_tree.specs.declared.trees.Stmt.TheVariants as stmt
-use Rattle.snl_tree.specs.declared.trees.Expr.{Expr, Whole, Name, Chain', Row_of-Term, end_of-Term, more_of-Term}
+use Rattle.snl_tree.specs.declared.thin.trees.Program.{Program}
+use Rattle.snl_tree.specs.declared.thin.trees.StateSet.{StateSet}
+use Rattle.snl_tree.specs.declared.thin.trees.State.{State}
+use Rattle.snl_tree.specs.declared.thin.trees.Clause.{Clause}
+use Rattle.snl_tree.specs.declared.thin.trees.Def.{Def}
+use Rattle.snl_tree.specs.declared.thin.trees.Def.TheVariants as def
+use Rattle.snl_tree.specs.declared.thin.trees.Stmt.{Stmt}
+use Rattle.snl_tree.specs.declared.thin.trees.Stmt.TheVariants as stmt
+use Rattle.snl_tree.specs.declared.thin.trees.Expr.{Expr, Whole, Name, Chain', Row_of-Term, end_of-Term, more_of-Term}
 use Rattle.snl_tree.specs.Expressions.{ExprTree, TermList, ArgumentList, constant, named, call, chain, assignment, no_terms, term, no_arguments, value}
-use Rattle.snl_tree.specs.Sequences.{shown}
+use Rattle.snl_tree.specs.view.Shown.{shown}
 use Rattle.snl_tree.specs.Statements.{StatementTree, StatementList, BlockTree, no_statements, statement, block, expression}
 use Rattle.snl_tree.specs.Declarations.{TypeTree, DeclaratorTree, DeclarationTree}
 use Rattle.snl_tree.specs.Definitions.{NamesTree, one_name, ChannelsTree, OptionTree, DefinitionTree, declaration, assign, monitor, option}
@@ -108,11 +108,11 @@ is_state_target _ = false
 
 -- `when (VALUE) BLOCK state NAME`
 abbrev pub is_thin_clause : ClauseTree → Bool
-is_thin_clause c = (is_some_value c.condition && is_thin_block c.body) && is_state_target c.target
+is_thin_clause c = (is_some_value c.condition && is_thin_block c.block) && is_state_target c.target
 
 -- `state NAME { CLAUSE CLAUSE .. }`
 abbrev pub is_thin_state : StateTree → Bool
-is_thin_state s = ((is_none_of s.parts && is_missing s.entry) && is_missing s.exit) && list_all is_thin_clause s.clauses
+is_thin_state s = ((is_none_of s.definitions && is_missing s.entry) && is_missing s.exit) && list_all is_thin_clause s.clauses
 
 -- `ss NAME { STATE STATE .. }`
 abbrev pub is_thin_state_set : StateSetTree → Bool
@@ -128,7 +128,7 @@ is_int t = is kind.Int t.word.kind && is_missing t.second
 
 -- `int NAME, NAME, ..;`
 abbrev pub is_thin_declaration : DeclarationTree → Bool
-is_thin_declaration d = is_int d.base && list_all is_bare d.names
+is_thin_declaration d = is_int d.type_name && list_all is_bare d.names
 
 -- A letter, a digit, or one of `_ : . -`.
 abbrev pub is_channel_byte : ℕ → Bool
@@ -164,11 +164,6 @@ abbrev pub are_thin_parts : List DefinitionTree → Bool
 are_thin_parts (option o ∷ all) = is_safe_mode o && list_all is_thin_definition all
 are_thin_parts _ = false
 
--- The one element of a list that has just one.
-abbrev pub lone : {A : Type 0} → List A → Option A
-lone (a ∷ []) = Some a
-lone _ = None
-
 -- One state set, and no other.
 abbrev pub is_one_set : List StateSetTree → Bool
 is_one_set (s ∷ []) = is_thin_state_set s
@@ -176,7 +171,7 @@ is_one_set _ = false
 
 -- `program NAME option +s; DEFINITIONS STATE-SET`
 abbrev pub is_thin : ProgramTree → Bool
-is_thin p = (((is_missing p.macros && are_thin_parts p.parts) && is_missing p.entry) && is_one_set p.state_sets) && is_missing p.exit
+is_thin p = (((is_missing p.macros && are_thin_parts p.definitions) && is_missing p.entry) && is_one_set p.state_sets) && is_missing p.exit
 
 -- An expression of the smaller tree, as one of the whole language.
 abbrev mutual
@@ -206,7 +201,7 @@ abbrev pub StandsForBlock : BlockTree → List Stmt → Type 0
 StandsForBlock (block declared all) ss = StandEach StandsForStatement (statements_of all) ss
 
 abbrev pub StandsForClause : ClauseTree → Clause → Type 0
-StandsForClause w c = (c.when ≡ w.word) × (w.condition ≡ Some (wide c.condition)) × StandsForBlock w.body c.block.items × (w.target ≡ to_state c.target)
+StandsForClause w c = (c.when ≡ w.word) × (w.condition ≡ Some (wide c.condition)) × StandsForBlock w.block c.block.items × (w.target ≡ to_state c.target)
 
 abbrev pub StandsForState : StateTree → State → Type 0
 StandsForState w s = (s.name ≡ w.name) × StandEach StandsForClause w.clauses s.clauses.items
@@ -233,7 +228,7 @@ StandsForOne (w ∷ []) s = StandsForStateSet w s
 StandsForOne _ s = ⊥
 
 abbrev pub StandsFor : ProgramTree → Program → Type 0
-StandsFor w p = (p.keyword ≡ w.word) × (p.name ≡ w.name) × StandForParts w.parts p.definitions.items × StandsForOne w.state_sets p.state_set
+StandsFor w p = (p.keyword ≡ w.word) × (p.name ≡ w.name) × StandForParts w.definitions p.definitions.items × StandsForOne w.state_sets p.state_set
 
 -- What a step to the smaller tree finds: one that stands for the whole one where that is thin, and nothing
 -- where it is not.

@@ -7,6 +7,7 @@ mod definitions;
 mod expressions;
 mod programs;
 mod statements;
+mod trees;
 
-pub use crate::trees::{Clause, Def, Expr, Program, State, StateSet, Stmt, Term};
 pub use programs::narrow;
+pub use trees::{Clause, Def, Expr, Program, State, StateSet, Stmt, Term};

@@ -2,13 +2,13 @@ ghost use Rattle.std.specs.Prelude.{◌≡◌, map, IfOk, IfSome};
 ghost use Rattle.std.specs.List.{list_all};
 ghost use Rattle.snl_tree.specs.Thin as specs;
 ghost use Rattle.snl_tree.specs.Thin.{Narrows, StandEach, StandsForClause, StandsForState, StandsForStateSet, StandsForOne, StandsFor};
-ghost use Rattle.snl_tree.specs.ProgramView.{clause_view, state_view, state_set_view, program_view};
+ghost use Rattle.snl_tree.specs.view.Programs.{clause_view, state_view, state_set_view, program_view};
 
 use crate::thin::definitions::parts;
 use crate::thin::expressions::{Narrowed, value};
 use crate::thin::statements::block;
-use crate::trees::{Clause, Program, State, StateSet};
-use crate::whole;
+use crate::thin::trees::{Clause, Program, State, StateSet};
+use crate::trees as whole;
 use std::alloc::{AllocError, Global};
 
 /// `when (VALUE) { STATEMENTS } state NAME`
@@ -24,7 +24,7 @@ fn clause<'a>(alloc: Global, clause: &whole::Clause<'a>) -> Narrowed<Clause<'a>>
     let Some(condition) = value(alloc, condition)? else {
         return Ok(None);
     };
-    let Some(block) = block(alloc, &clause.body)? else {
+    let Some(block) = block(alloc, &clause.block)? else {
         return Ok(None);
     };
     Ok(Some(Clause {
@@ -49,8 +49,8 @@ fn clauses<'a>(alloc: Global, all: &[whole::Clause<'a>]) -> Narrowed<Vec<Clause<
 }
 
 /// `state NAME { CLAUSE CLAUSE .. }`
-fn state<'a>(alloc: Global, state: whole::State<'a>) -> Narrowed<State<'a>>
-    ensures { let s = state_view state.entry in Narrows (specs.is_thin_state s) (StandsForState s) result }
+fn state<'a>(alloc: Global, state: &whole::State<'a>) -> Narrowed<State<'a>>
+    ensures { let s = state_view state.now in Narrows (specs.is_thin_state s) (StandsForState s) result }
 {
     if !state.definitions.is_empty() || state.entry.is_some() || state.exit.is_some() {
         return Ok(None);
@@ -64,8 +64,8 @@ fn state<'a>(alloc: Global, state: whole::State<'a>) -> Narrowed<State<'a>>
     }
 }
 
-fn states<'a>(alloc: Global, all: Vec<whole::State<'a>>) -> Narrowed<Vec<State<'a>>>
-    ensures { let ss = map state_view all.entry.items in Narrows (list_all specs.is_thin_state ss) (λ v. StandEach StandsForState ss v.items) result }
+fn states<'a>(alloc: Global, all: &[whole::State<'a>]) -> Narrowed<Vec<State<'a>>>
+    ensures { let ss = map state_view all.now in Narrows (list_all specs.is_thin_state ss) (λ v. StandEach StandsForState ss v.items) result }
 {
     let mut found = Vec::new(alloc);
     for next in all {
@@ -78,13 +78,13 @@ fn states<'a>(alloc: Global, all: Vec<whole::State<'a>>) -> Narrowed<Vec<State<'
 }
 
 /// `ss NAME { STATE STATE .. }`
-fn state_set<'a>(alloc: Global, set: whole::StateSet<'a>) -> Narrowed<StateSet<'a>>
-    ensures { let s = state_set_view set.entry in Narrows (specs.is_thin_state_set s) (StandsForStateSet s) result }
+fn state_set<'a>(alloc: Global, set: &whole::StateSet<'a>) -> Narrowed<StateSet<'a>>
+    ensures { let s = state_set_view set.now in Narrows (specs.is_thin_state_set s) (StandsForStateSet s) result }
 {
     if !set.definitions.is_empty() {
         return Ok(None);
     }
-    match states(alloc, set.states)? {
+    match states(alloc, &set.states)? {
         Some(states) => Ok(Some(StateSet {
             name: set.name,
             states,
@@ -93,37 +93,27 @@ fn state_set<'a>(alloc: Global, set: whole::StateSet<'a>) -> Narrowed<StateSet<'
     }
 }
 
-/// The one element of a list that has just one.
-fn lone<T: Drop>(mut all: Vec<T>) -> Option<T>
-    ensures { result ≡ specs.lone all.items }
-{
-    if all.len() != 1 {
-        return None;
-    }
-    all.pop()
-}
-
 /// One state set, and no other.
-fn one_set<'a>(alloc: Global, sets: Vec<whole::StateSet<'a>>) -> Narrowed<StateSet<'a>>
-    ensures { let ss = map state_set_view sets.entry.items in Narrows (specs.is_one_set ss) (StandsForOne ss) result }
+fn one_set<'a>(alloc: Global, sets: &[whole::StateSet<'a>]) -> Narrowed<StateSet<'a>>
+    ensures { let ss = map state_set_view sets.now in Narrows (specs.is_one_set ss) (StandsForOne ss) result }
 {
-    match lone(sets) {
-        Some(set) => state_set(alloc, set),
-        None => Ok(None),
+    match sets {
+        [set] => state_set(alloc, set),
+        _ => Ok(None),
     }
 }
 
-/// Takes a program apart into the tree of the first language that stands for it, where the program is thin: the
-/// names, strings, operators and numbers of the whole tree, without the words between them.
+/// Makes the tree of the first language that stands for a program, where the program is thin: the names,
+/// strings, operators and numbers of the whole tree, without the words between them.
 ///
 /// `None` comes exactly where the program uses a form beyond the first language, and `Err` only where the
 /// new tree found no room in memory.
 pub fn narrow<'a>(
     alloc: Global,
-    program: whole::Program<'a>,
+    program: &whole::Program<'a>,
 ) -> Result<Option<Program<'a>>, AllocError>
-    ensures tree { let p = program_view program.entry in Narrows (specs.is_thin p) (StandsFor p) result }
-    ensures carried { IfOk result (λ o. IfSome o (λ p. p.embedded.items ≡ program.entry.embedded.items)) }
+    ensures tree { let p = program_view program.now in Narrows (specs.is_thin p) (StandsFor p) result }
+    ensures carried { IfOk result (λ o. IfSome o (λ p. p.embedded.items ≡ program.now.embedded.items)) }
 {
     if program.macros.is_some() || program.entry.is_some() || program.exit.is_some() {
         return Ok(None);
@@ -131,14 +121,15 @@ pub fn narrow<'a>(
     let Some(definitions) = parts(alloc, &program.definitions)? else {
         return Ok(None);
     };
-    match one_set(alloc, program.state_sets)? {
-        Some(state_set) => Ok(Some(Program {
-            keyword: program.word,
-            name: program.name,
-            definitions,
-            state_set,
-            embedded: program.embedded,
-        })),
-        None => Ok(None),
-    }
+    let Some(state_set) = one_set(alloc, &program.state_sets)? else {
+        return Ok(None);
+    };
+    let embedded = Vec::from_slice(alloc, program.embedded.as_slice())?;
+    Ok(Some(Program {
+        keyword: program.word,
+        name: program.name,
+        definitions,
+        state_set,
+        embedded,
+    }))
 }

@@ -3,12 +3,12 @@ ghost use Rattle.snl_tree.specs.Expressions.{named, assignment, call, value, no_
 ghost use Rattle.snl_tree.specs.Statements.{expression};
 ghost use Rattle.snl_tree.specs.Thin as specs;
 ghost use Rattle.snl_tree.specs.Thin.{Narrows, Finds, StandsForStatement, StandsForBlock};
-ghost use Rattle.snl_tree.specs.View.{view, arguments_of};
-ghost use Rattle.snl_tree.specs.StatementView.{statement_view, block_view};
+ghost use Rattle.snl_tree.specs.view.Expressions.{view, arguments_of};
+ghost use Rattle.snl_tree.specs.view.Statements.{statement_view, block_view};
 
 use crate::thin::expressions::{Narrowed, value};
-use crate::trees::Stmt;
-use crate::whole::{Argument, Block, Expr, Stmt as WholeStmt};
+use crate::thin::trees::Stmt;
+use crate::trees::{Argument, Block, Expr, Stmt as WholeStmt};
 use snl_text::{Kind, Token};
 use std::alloc::Global;
 
@@ -78,7 +78,11 @@ fn evaluated<'a>(alloc: Global, expr: &Expr<'a>) -> Narrowed<Stmt<'a>>
     ensures { let s = expression (view expr.now) in Narrows (specs.is_thin_statement s) (StandsForStatement s) result }
 {
     match expr {
-        Expr::Assignment(target, operator, right) => assign(alloc, target, *operator, right),
+        Expr::Assignment {
+            target,
+            operator,
+            value,
+        } => assign(alloc, target, *operator, value),
         Expr::Call(name, arguments) => Ok(put(*name, arguments)),
         _ => Ok(None),
     }

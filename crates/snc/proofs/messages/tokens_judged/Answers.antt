@@ -1,5 +1,5 @@
 use Rattle.std.proofs.Common.{ap, map}
-use Rattle.snl_tree.specs.ProgramView.{program_view}
+use Rattle.snl_tree.specs.view.Programs.{program_view}
 use Rattle.snc.proofs.Answering.{told_deep, told_program, told_stuck, tree_of}
 use Rattle.snc.proofs.messages.tokens_judged.Goals as goal
 

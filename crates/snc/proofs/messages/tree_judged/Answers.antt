@@ -1,5 +1,5 @@
 use Rattle.std.proofs.Common.{map, subst}
-use Rattle.snl_tree.specs.ProgramView.{program_view}
+use Rattle.snl_tree.specs.view.Programs.{program_view}
 use Rattle.snl_tree.specs.Thin.{Finds, StandsFor, is_thin}
 use Rattle.snc.proofs.Answering.{told_not_yet}
 use Rattle.snc.proofs.messages.tree_judged.Goals as goal

@@ -1,7 +1,7 @@
 use Rattle.std.proofs.Common.{arith}
-use Rattle.snl_tree.specs.DefinitionView.{definition_view}
+use Rattle.snl_tree.specs.view.Definitions.{definition_view}
 use Rattle.snl_tree.specs.Thin.{is_thin_definition, StandsForDefinition}
-use Rattle.snl_tree.proofs.Narrowing.{all_so_far}
+use Rattle.snl_tree.proofs.code.Narrowing.{all_so_far}
 use Rattle.snl_tree.proofs.thin.definitions.definitions.Goals as goal
 
 pub returns : goal.returns

@@ -1,6 +1,6 @@
-use Rattle.snl_tree.specs.DefinitionView.{definition_view}
+use Rattle.snl_tree.specs.view.Definitions.{definition_view}
 use Rattle.snl_tree.specs.Thin.{is_thin_definition, StandsForDefinition}
-use Rattle.snl_tree.proofs.Narrowing.{EachSoFar}
+use Rattle.snl_tree.proofs.code.Narrowing.{EachSoFar}
 use Rattle.snl_tree.proofs.thin.definitions.definitions.Given as goal
 
 abbrev pub invariant-loop-next : goal.invariant-loop-next

@@ -1,7 +1,7 @@
 use Rattle.std.proofs.Common.{arith, sym}
-use Rattle.snl_tree.specs.DeclarationView.{declarator_view}
+use Rattle.snl_tree.specs.view.Declarations.{declarator_view}
 use Rattle.snl_tree.specs.Thin.{is_bare, StandsForName}
-use Rattle.snl_tree.proofs.Narrowing.{one_not, all_so_far, and_both, and_second}
+use Rattle.snl_tree.proofs.code.Narrowing.{one_not, all_so_far, and_both, and_second}
 use Rattle.snl_tree.proofs.thin.definitions.variables.Goals as goal
 
 pub returns-then-not-is_bare : goal.returns-then-not-is_bare

@@ -1,6 +1,6 @@
-use Rattle.snl_tree.specs.DeclarationView.{declarator_view}
+use Rattle.snl_tree.specs.view.Declarations.{declarator_view}
 use Rattle.snl_tree.specs.Thin.{is_bare, StandsForName}
-use Rattle.snl_tree.proofs.Narrowing.{EachSoFar}
+use Rattle.snl_tree.proofs.code.Narrowing.{EachSoFar}
 use Rattle.snl_tree.proofs.thin.definitions.variables.Given as goal
 
 abbrev pub invariant-loop-declared : goal.invariant-loop-declared

@@ -1,8 +1,8 @@
 use Rattle.std.proofs.Common.{rules, arith, ◌≡◌, sym, ap, ◌∙◌}
-use Rattle.snl_tree.specs.declared.whole.expr.Expr.{Expr}
+use Rattle.snl_tree.specs.declared.trees.expressions.Expr.{Expr}
 use Rattle.snl_tree.specs.Thin.{is_sum, wide}
-use Rattle.snl_tree.specs.View.{view, pair_of}
-use Rattle.snl_tree.proofs.Narrowing.{is_joined, StandsForTerm, one_not, all_so_far, and_first, and_second, terms_are_none, sum_found, found_none}
+use Rattle.snl_tree.specs.view.Expressions.{view, pair_of}
+use Rattle.snl_tree.proofs.code.Narrowing.{is_joined, StandsForTerm, one_not, all_so_far, and_first, and_second, terms_are_none, sum_found, found_none}
 use Rattle.snl_tree.proofs.thin.expressions.+sum.Goals as goal
 
 pub returns-then-not-joins : goal.returns-then-not-joins

@@ -1,6 +1,6 @@
 use Rattle.std.proofs.Common.{◌≡◌}
-use Rattle.snl_tree.specs.View.{pair_of}
-use Rattle.snl_tree.proofs.Narrowing.{EachSoFar, is_joined, StandsForTerm}
+use Rattle.snl_tree.specs.view.Expressions.{pair_of}
+use Rattle.snl_tree.proofs.code.Narrowing.{EachSoFar, is_joined, StandsForTerm}
 use Rattle.snl_tree.proofs.thin.expressions.+sum.Given as goal
 
 abbrev pub decreases-sum : goal.decreases-sum

@@ -1,7 +1,7 @@
 use Rattle.std.proofs.Common.{arith}
-use Rattle.snl_tree.specs.ProgramView.{clause_view}
+use Rattle.snl_tree.specs.view.Programs.{clause_view}
 use Rattle.snl_tree.specs.Thin.{is_thin_clause, StandsForClause}
-use Rattle.snl_tree.proofs.Narrowing.{all_so_far}
+use Rattle.snl_tree.proofs.code.Narrowing.{all_so_far}
 use Rattle.snl_tree.proofs.thin.programs.clauses.Goals as goal
 
 pub returns : goal.returns

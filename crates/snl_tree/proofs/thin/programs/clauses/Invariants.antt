@@ -1,6 +1,6 @@
-use Rattle.snl_tree.specs.ProgramView.{clause_view}
+use Rattle.snl_tree.specs.view.Programs.{clause_view}
 use Rattle.snl_tree.specs.Thin.{is_thin_clause, StandsForClause}
-use Rattle.snl_tree.proofs.Narrowing.{EachSoFar}
+use Rattle.snl_tree.proofs.code.Narrowing.{EachSoFar}
 use Rattle.snl_tree.proofs.thin.programs.clauses.Given as goal
 
 abbrev pub invariant-loop-next : goal.invariant-loop-next

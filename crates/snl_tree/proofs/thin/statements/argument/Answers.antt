@@ -1,5 +1,5 @@
 use Rattle.std.proofs.Common.{arith, ap, length}
-use Rattle.snl_tree.proofs.Narrowing.{not_one_argument}
+use Rattle.snl_tree.proofs.code.Narrowing.{not_one_argument}
 use Rattle.snl_tree.proofs.thin.statements.argument.Goals as goal
 
 pub returns-then-all-ne1 : goal.returns-then-all-ne1

@@ -1,6 +1,6 @@
-use Rattle.snl_tree.specs.StatementView.{statement_view}
+use Rattle.snl_tree.specs.view.Statements.{statement_view}
 use Rattle.snl_tree.specs.Thin.{is_thin_statement, StandsForStatement}
-use Rattle.snl_tree.proofs.Narrowing.{EachSoFar}
+use Rattle.snl_tree.proofs.code.Narrowing.{EachSoFar}
 use Rattle.snl_tree.proofs.thin.statements.block.Given as goal
 
 abbrev pub invariant-loop-next : goal.invariant-loop-next

@@ -2,7 +2,7 @@ use Rattle.std.proofs.Common.{sym, subst}
 use Rattle.snl_tree.specs.Expressions.{ExprTree}
 use Rattle.snl_tree.specs.Statements.{expression}
 use Rattle.snl_tree.specs.Thin.{Finds, is_thin_statement, StandsForStatement}
-use Rattle.snl_tree.proofs.Rows.{view_call}
+use Rattle.snl_tree.proofs.code.Rows.{view_call}
 use Rattle.snl_tree.proofs.thin.statements.evaluated.Goals as goal
 
 pub returns-in-Call : goal.returns-in-Call

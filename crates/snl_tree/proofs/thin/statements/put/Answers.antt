@@ -1,6 +1,6 @@
 use Rattle.std.proofs.Common.{rules}
-use Rattle.snl_tree.specs.View.{arguments_of}
-use Rattle.snl_tree.proofs.Narrowing.{put_found}
+use Rattle.snl_tree.specs.view.Expressions.{arguments_of}
+use Rattle.snl_tree.proofs.code.Narrowing.{put_found}
 use Rattle.snl_tree.proofs.thin.statements.put.Goals as goal
 
 pub returns-in-Some : goal.returns-in-Some

@@ -1,0 +1,13 @@
+pub mod Opened
+pub mod Loops
+pub mod Forms
+pub mod Rows
+pub mod Turns
+pub mod ValueTurns
+pub mod Climbing
+pub mod DefinitionForms
+pub mod StatementForms
+pub mod StatementRows
+pub mod ProgramLess
+pub mod ProgramWithin
+pub mod Narrowing

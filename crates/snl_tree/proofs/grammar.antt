@@ -1,0 +1,16 @@
+pub mod Shapes
+pub mod Inside
+pub mod Primaries
+pub mod Operators
+pub mod Limits
+pub mod Theorem
+pub mod Values
+pub mod DeclarationLaws
+pub mod DefinitionLaws
+pub mod Blocks
+pub mod StatementShapes
+pub mod StatementReads
+pub mod StatementLimits
+pub mod ProgramLaws
+pub mod ProgramParsing
+pub mod OneAnswer

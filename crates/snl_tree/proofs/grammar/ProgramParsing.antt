@@ -1,0 +1,123 @@
+-- What the tokens are, as a program, by what was read of them.
+use Rattle.std.proofs.Common.{◌≡◌, ℕ, zero, suc, ◌+◌, ◌-◌, ◌<◌, ◌≤◌, List, [], ◌∷◌, Option, Some, None, Ok, Err, inl, inr, length, refl, ap, subst, arith}
+use Rattle.snl_text.specs.declared.tokens.Token.{Token}
+use Rattle.snl_text.specs.declared.kinds.Kind.{Kind}
+use Rattle.snl_tree.specs.reading.Readers.{Stuck, Deep, Read, left}
+use Rattle.snl_tree.specs.Sequences.{IfThere, Each, EachOfSome}
+use Rattle.snl_tree.specs.Begins.{Sort, Spells, Begins, IsUnexpected, IsTooDeep}
+use Rattle.snl_tree.specs.Definitions.{IsDefinition, IsPart}
+use Rattle.snl_tree.specs.Statements.{BlockTree, block, IsBlock}
+use Rattle.snl_tree.specs.Programs.{StateTree, StateSetTree, ProgramTree, program_slots, IsClause, IsState, IsStateSet, IsProgram, programs}
+use Rattle.snl_tree.specs.reading.Programs.{program_at}
+use Rattle.snl_tree.specs.Answers.{HasProgram}
+use Rattle.snl_tree.proofs.spelling.Laws.{Sound, ends}
+use Rattle.snl_tree.proofs.grammar.DefinitionLaws.{right_definition, right_part}
+use Rattle.snl_tree.proofs.grammar.ProgramLaws.{right_program}
+use Rattle.snl_tree.proofs.grammar.Theorem.{shape_of, unexpected, too_deep, one_tree, unambiguous}
+
+-- what is well formed stays so where more depth is left; without any, no block is
+
+no_block : (b : BlockTree) → IsBlock 0 b → ⊥
+no_block (block declarations all) g = g
+
+each_more : {A : Type 0} (P Q : A → Type 0) → ((a : A) → P a → Q a) → (xs : List A) → Each P xs → Each Q xs
+each_more P Q f [] g = tt
+each_more P Q f (x ∷ xs) g = (f x g.0, each_more P Q f xs g.1)
+
+some_more : {A : Type 0} (P Q : A → Type 0) → ((a : A) → P a → Q a) → (xs : List A) → EachOfSome P xs → EachOfSome Q xs
+some_more P Q f [] g = g
+some_more P Q f (x ∷ xs) g = (f x g.0, each_more P Q f xs g.1)
+
+block_first : (o : Option BlockTree) → IfThere (IsBlock 0) o → IfThere (IsBlock 1) o
+block_first None g = g
+block_first (Some b) g = absurd (no_block b g)
+
+state_first : (s : StateTree) → IsState 0 s → IsState 1 s
+state_first s g = (g.0, g.1, each_more (IsPart 0) (IsPart 1) (right_part.raise 0) s.definitions g.2, block_first s.entry g.3, each_more (IsClause 0) (IsClause 1) (λ c h. absurd (no_block c.block h.2)) s.clauses g.4, block_first s.exit g.5)
+
+set_first : (s : StateSetTree) → IsStateSet 0 s → IsStateSet 1 s
+set_first s g = (g.0, g.1, each_more (IsDefinition 0) (IsDefinition 1) (right_definition.raise 0) s.definitions g.2, some_more (IsState 0) (IsState 1) state_first s.states g.3)
+
+program_more : (n : ℕ) (p : ProgramTree) → IsProgram n p → IsProgram (suc n) p
+program_more zero p g = (g.0, g.1, g.2, each_more (IsPart 0) (IsPart 1) (right_part.raise 0) p.definitions g.3, block_first p.entry g.4, some_more (IsStateSet 0) (IsStateSet 1) set_first p.state_sets g.5, block_first p.exit g.6)
+program_more (suc n) p g = right_program.raise n p g
+
+-- programs, by the number of nested parts beyond the first
+
+abbrev later : Sort ProgramTree
+later = record { slots = program_slots; within = λ n. IsProgram (suc n) }
+
+abbrev none : ProgramTree → Kind → Type 0
+none p k = ⊥
+
+raise : (n k : ℕ) (p : ProgramTree) → IsProgram (suc n) p → IsProgram (suc (k + n)) p
+raise n zero p g = subst (λ z. IsProgram (suc z) p) (let h : n ≡ 0 + n = omega arith in h) g
+raise n (suc k) p g = subst (λ z. IsProgram (suc z) p) (let h : suc (k + n) ≡ suc k + n = omega arith in h) (right_program.raise (k + n) p (raise n k p g))
+
+begins_later : (n : ℕ) (ts : List Token) → Begins programs n ts → Begins later n ts
+begins_later n ts b = record { whole = b.whole; is = program_more n b.whole b.is; front = b.front; back = b.back; halves = b.halves; fits = b.fits }
+
+later_begins : (n : ℕ) (ts : List Token) → Begins later n ts → Begins programs (suc n) ts
+later_begins n ts b = record { whole = b.whole; is = b.is; front = b.front; back = b.back; halves = b.halves; fits = b.fits }
+
+begins_now : (n : ℕ) (ts : List Token) → Begins programs (suc n) ts → Begins later n ts
+begins_now n ts b = record { whole = b.whole; is = b.is; front = b.front; back = b.back; halves = b.halves; fits = b.fits }
+
+unexpected_later : (n : ℕ) (ts : List Token) (k : ℕ) → IsUnexpected later n ts k → IsUnexpected programs (suc n) ts k
+unexpected_later n ts k u = record {
+  within = u.within;
+  before = later_begins n _ u.before;
+  at = λ m h b. u.at m h (begins_later m _ b);
+  whole = λ m h p g s. u.whole m h p (program_more m p g) s;
+}
+
+too_deep_later : (n : ℕ) (ts : List Token) (k : ℕ) → IsTooDeep later n ts k → IsTooDeep programs (suc n) ts k
+too_deep_later n ts k d = record {
+  within = d.within;
+  before = later_begins n _ d.before;
+  at = λ b. d.at (begins_now n _ b);
+  beyond = (suc d.beyond.0, later_begins d.beyond.0 _ d.beyond.1);
+}
+
+-- what is left is no more than there was
+pub program_ends : (n : ℕ) (ts : List Token) → length (left (program_at (suc n) ts)) ≤ length ts
+program_ends n ts = ends (shape_of later none n) (program_at (suc n)) (right_program.reads n) ts
+
+-- what was read of them
+
+pub found_program : (n : ℕ) (ts : List Token) (p : ProgramTree) → program_at (suc n) ts ≡ Ok (p, []) → IsProgram (suc n) p × Spells programs p ts
+found_program n ts p h = subst (λ (r : Read ProgramTree). Sound (shape_of later none n) ts r) h ((right_program.reads n).sound ts)
+
+pub only_program : (n : ℕ) (ts : List Token) (p : ProgramTree) → IsProgram (suc n) p → Spells programs p ts → program_at (suc n) ts ≡ Ok (p, [])
+only_program n ts p g h = one_tree later none (λ n. program_at (suc n)) right_program.reads right_program.grows right_program.some raise n ts p g h
+
+pub program_stuck : (n : ℕ) (ts rest : List Token) → program_at (suc n) ts ≡ Err (Stuck rest) → IsUnexpected programs (suc n) ts (length ts - length rest)
+program_stuck n ts rest h = unexpected_later n ts (length ts - length rest) (unexpected later none (λ n. program_at (suc n)) right_program.reads right_program.grows right_program.some raise n ts (Err (Stuck rest)) h (λ r e. cc) (λ a e. cc))
+
+pub program_left : (n : ℕ) (ts rest : List Token) (p : ProgramTree) → program_at (suc n) ts ≡ Ok (p, rest) → (rest ≡ [] → ⊥) → IsUnexpected programs (suc n) ts (length ts - length rest)
+program_left n ts rest p h more = unexpected_later n ts (length ts - length rest) (unexpected later none (λ n. program_at (suc n)) right_program.reads right_program.grows right_program.some raise n ts (Ok (p, rest)) h (λ r k. cc)
+    (λ a k. let both : ◌≡◌ {A = ProgramTree × List Token} (p, rest) (a, []) = cc in more (ap (λ x. x.1) both)))
+
+pub program_deep : (n : ℕ) (ts rest : List Token) → program_at (suc n) ts ≡ Err (Deep rest) → IsTooDeep programs (suc n) ts (length ts - length rest)
+program_deep n ts rest h = too_deep_later n ts (length ts - length rest) (too_deep later none (λ n. program_at (suc n)) right_program.reads right_program.grows right_program.some raise n ts rest h)
+
+-- every list of tokens is a program, or has a first token that goes on with none
+pub read_program : (n : ℕ) (ts : List Token) → HasProgram (suc n) ts
+read_program n ts = go (program_at (suc n) ts) refl
+  where
+    left_over : (p : ProgramTree) (rest : List Token) → program_at (suc n) ts ≡ Ok (p, rest) → HasProgram (suc n) ts
+    left_over p [] h = inl (p, (found_program n ts p h).0, (found_program n ts p h).1)
+    left_over p (t ∷ rest) h = inr (inl (length ts - length (t ∷ rest), program_left n ts (t ∷ rest) p h (λ k. cc)))
+
+    go : (r : Read ProgramTree) → program_at (suc n) ts ≡ r → HasProgram (suc n) ts
+    go (Ok x) h = left_over x.0 x.1 h
+    go (Err (Stuck rest)) h = inr (inl (length ts - length rest, program_stuck n ts rest h))
+    go (Err (Deep rest)) h = inr (inr (length ts - length rest, program_deep n ts rest h))
+
+-- no two programs have one spelling
+pub one_program : (n : ℕ) (ts : List Token) (a b : ProgramTree) → IsProgram n a → IsProgram n b → Spells programs a ts → Spells programs b ts → a ≡ b
+one_program n ts a b g h k l = unambiguous later none (λ n. program_at (suc n)) right_program.reads right_program.grows right_program.some raise n ts a b (program_more n a g) (program_more n b h) k l
+
+pub read_within : (limit : ℕ) (ts : List Token) → 0 < limit → HasProgram limit ts
+read_within zero ts h = absurd (omega arith)
+read_within (suc n) ts h = read_program n ts

@@ -1,0 +1,32 @@
+use Rattle.std.proofs.Common.{sym}
+use Rattle.std.proofs.lemmas.Result.{err_from_is_err_and}
+use Rattle.snl_text.specs.declared.kinds.Kind.TheVariants.{Comma}
+use Rattle.snl_tree.specs.Kinds.{is}
+use Rattle.snl_tree.specs.reading.Sequences.{behind}
+use Rattle.snl_tree.specs.reading.Declarations.{declarator_at, declarators_at}
+use Rattle.snl_tree.specs.view.Declarations.{declarator_view}
+use Rattle.snl_tree.proofs.code.Turns.{found_part, part_fails, found_more, found_all}
+use Rattle.snl_tree.proofs.grammar.DeclarationLaws.{next_declarator_less}
+use Rattle.snl_tree.proofs.readers.declarations.declarators.Goals as goal
+
+pub loop-alloc-smaller : goal.loop-alloc-smaller
+loop-alloc-smaller c = next_declarator_less c.args.depth c.loop-alloc.cursor.left.now c.next_declarator.new.cursor.left.now (declarator_view c.in_ok-next.next.value) c.in_ok-next.ensures
+
+pub returns : goal.returns
+returns c = found_all (is Comma) (behind Comma (declarator_at c.args.depth)) declarator_view (declarators_at c.args.depth c.args.cursor.now.left.now) c.loop-alloc.found.items c.loop-alloc.cursor.left.now c.loop-alloc.invariant (sym c.loop-alloc-test.ensures)
+
+pub returns-in_err-first : goal.returns-in_err-first
+unfolding declarators_at
+returns-in_err-first c =
+    let p = err_from_is_err_and c.from_residual.result c.from_residual.ensures.1 in
+    rw (p.1, p.2) (part_fails Comma (declarator_at c.args.depth) c.args.cursor.now.left.now c.in_err-first.field-0.0 c.FIRST.new.cursor.left.now c.in_err-first.ensures)
+
+pub loop-alloc-init : goal.loop-alloc-init
+unfolding declarators_at
+loop-alloc-init c =
+    found_part Comma (declarator_at c.args.depth) declarator_view c.args.cursor.now.left.now c.FIRST.new.cursor.left.now c.in_ok-first.first.value c.added.new.row.items c.new-found.result.items c.new-found.ensures.items c.in_ok-added.ensures.items c.in_ok-first.ensures
+
+pub loop-alloc-preserved : goal.loop-alloc-preserved
+loop-alloc-preserved c =
+    found_more (is Comma) (behind Comma (declarator_at c.args.depth)) (next_declarator_less c.args.depth) declarator_view (declarators_at c.args.depth c.args.cursor.now.left.now) c.loop-alloc.found.items c.loop-alloc.cursor.left.now c.in_ok-next.next.value c.next_declarator.new.cursor.left.now _
+    c.in_ok-added-2.ensures.items c.loop-alloc.invariant (sym c.loop-alloc-test.ensures) c.in_ok-next.ensures

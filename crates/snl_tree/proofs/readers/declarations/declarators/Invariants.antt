@@ -1,0 +1,14 @@
+use Rattle.std.proofs.Common.{length}
+use Rattle.snl_text.specs.declared.kinds.Kind.TheVariants.{Comma}
+use Rattle.snl_tree.specs.Kinds.{is}
+use Rattle.snl_tree.specs.reading.Sequences.{behind}
+use Rattle.snl_tree.specs.view.Declarations.{declarator_view}
+use Rattle.snl_tree.specs.reading.Declarations.{declarator_at, declarators_at}
+use Rattle.snl_tree.proofs.code.Turns.{Found}
+use Rattle.snl_tree.proofs.readers.declarations.declarators.Given as goal
+
+abbrev pub invariant-loop-alloc : goal.invariant-loop-alloc
+invariant-loop-alloc l = Found (is Comma) (behind Comma (declarator_at l.depth)) declarator_view (declarators_at l.fn.depth l.fn.cursor.left.now) l.found.items l.cursor.left.now
+
+abbrev pub decreases-loop-alloc : goal.decreases-loop-alloc
+decreases-loop-alloc l = length l.cursor.left.now

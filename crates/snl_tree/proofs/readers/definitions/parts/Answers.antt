@@ -1,0 +1,29 @@
+use Rattle.std.proofs.Common.{sym}
+use Rattle.std.proofs.lemmas.Result.{err_from_is_err_and}
+use Rattle.snl_tree.specs.Definitions.{starts_part}
+use Rattle.snl_tree.specs.reading.Definitions.{part_at, parts_at}
+use Rattle.snl_tree.specs.view.Definitions.{definition_view}
+use Rattle.snl_tree.proofs.code.Turns.{found_none, found_more, found_all, found_fails}
+use Rattle.snl_tree.proofs.grammar.DefinitionLaws.{part_less}
+use Rattle.snl_tree.proofs.readers.definitions.definitions.Goals as goal
+
+pub loop-alloc-init : goal.loop-alloc-init
+unfolding parts_at
+loop-alloc-init c = found_none starts_part (part_at c.args.depth) definition_view c.args.cursor.now.left.now c.new-found.result.items c.new-found.ensures.items
+
+pub loop-alloc-preserved : goal.loop-alloc-preserved
+loop-alloc-preserved c =
+    found_more starts_part (part_at c.args.depth) (part_less c.args.depth) definition_view (parts_at c.args.depth c.args.cursor.now.left.now) c.loop-alloc.found.items c.loop-alloc.cursor.left.now c.in_ok-next.next.value c.part.new.cursor.left.now _
+    c.in_ok-added.ensures.items c.loop-alloc.invariant (sym c.loop-alloc-test.ensures) c.in_ok-next.ensures
+
+pub loop-alloc-smaller : goal.loop-alloc-smaller
+loop-alloc-smaller c = part_less c.args.depth c.loop-alloc.cursor.left.now c.part.new.cursor.left.now (definition_view c.in_ok-next.next.value) c.in_ok-next.ensures
+
+pub returns : goal.returns
+returns c = found_all starts_part (part_at c.args.depth) definition_view (parts_at c.args.depth c.args.cursor.now.left.now) c.loop-alloc.found.items c.loop-alloc.cursor.left.now c.loop-alloc.invariant (sym c.loop-alloc-test.ensures)
+
+pub returns-in_err-next : goal.returns-in_err-next
+returns-in_err-next c =
+    let p = err_from_is_err_and c.from_residual.result c.from_residual.ensures.1 in
+    rw (p.1, p.2) (found_fails starts_part (part_at c.args.depth) (part_less c.args.depth) definition_view (parts_at c.args.depth c.args.cursor.now.left.now) c.loop-alloc.found.items c.loop-alloc.cursor.left.now c.in_err-next.field-0.0 c.part.new.cursor.left.now
+    c.loop-alloc.invariant (sym c.loop-alloc-test.ensures) c.in_err-next.ensures)

@@ -1,0 +1,13 @@
+use Rattle.std.proofs.Common.{length}
+use Rattle.snl_text.specs.declared.kinds.Kind.TheVariants.{State}
+use Rattle.snl_tree.specs.Kinds.{is}
+use Rattle.snl_tree.specs.reading.Programs.{state_at, states_at}
+use Rattle.snl_tree.specs.view.Programs.{state_view}
+use Rattle.snl_tree.proofs.code.Turns.{Found}
+use Rattle.snl_tree.proofs.readers.programs.states.Given as goal
+
+abbrev pub invariant-loop-alloc : goal.invariant-loop-alloc
+invariant-loop-alloc l = Found (is State) (state_at l.depth) state_view (states_at l.fn.depth l.fn.cursor.left.now) l.found.items l.cursor.left.now
+
+abbrev pub decreases-loop-alloc : goal.decreases-loop-alloc
+decreases-loop-alloc l = length l.cursor.left.now

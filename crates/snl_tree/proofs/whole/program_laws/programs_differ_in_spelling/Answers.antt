@@ -1,5 +1,0 @@
-use Rattle.snl_tree.proofs.ProgramParsing.{one_program}
-use Rattle.snl_tree.proofs.whole.program_laws.programs_differ_in_spelling.Goals as goal
-
-pub returns : goal.returns
-returns c = λ n ts a b g h k l. one_program n ts a b g h k l

@@ -1,5 +1,0 @@
-use Rattle.snl_tree.proofs.ProgramParsing.{read_within}
-use Rattle.snl_tree.proofs.whole.program_laws.tokens_have_a_program_or_a_fault.Goals as goal
-
-pub returns : goal.returns
-returns c = λ limit ts h. read_within limit ts h

@@ -1,0 +1,9 @@
+pub mod Readers
+pub mod Sequences
+pub mod Expressions
+pub mod Declarations
+pub mod Definitions
+pub mod Statements
+pub mod StatementSteps
+pub mod Programs
+pub mod Moves

@@ -1,0 +1,11 @@
+//! The readers of tokens, one for each form of the grammar. Each moves a cursor on, and says exactly what it
+//! reads by a reader of the definitions.
+
+pub mod cursor;
+pub mod declarations;
+pub mod definitions;
+pub mod expressions;
+pub mod kinds;
+pub mod programs;
+pub mod room;
+pub mod statements;

@@ -1,0 +1,392 @@
+//! The readers of definitions and options.
+
+ghost use Rattle.std.specs.Prelude.{◌≡◌, Ok};
+ghost use Rattle.snl_tree.specs.reading.Sequences as sequences;
+ghost use Rattle.snl_tree.specs.view.Shown.{shown, held};
+ghost use Rattle.snl_tree.specs.Definitions as kinds;
+ghost use Rattle.snl_tree.specs.reading.Declarations.{bracket_at};
+ghost use Rattle.snl_tree.specs.reading.Definitions as specs;
+ghost use Rattle.snl_tree.specs.reading.Readers as readers;
+ghost use Rattle.snl_tree.specs.reading.Readers.{made};
+ghost use Rattle.snl_tree.specs.Kinds.{is};
+ghost use Rattle.snl_tree.specs.reading.Moves.{Moves, MovesToken};
+ghost use Rattle.snl_tree.specs.view.Expressions.{boxed};
+ghost use Rattle.snl_tree.specs.view.Definitions.{place_view, token_list, names_view, channels_view, flag_view, definition_view, definition_views};
+
+use crate::readers::cursor::{Cursor, Halt, at, sign, token};
+use crate::readers::declarations::{at_declaration, bracket, declaration, is_type};
+use crate::readers::room::{added, in_box, pushed};
+use crate::trees::{
+    Assign, ChannelNames, Channels, Def, Expr, Flag, Place, Setting, Sync, SyncQueue,
+};
+use snl_text::{Kind, Token};
+use std::alloc::Global;
+
+/// Reads a subscript, where it is here.
+fn subscript<'t, 'a>(
+    alloc: Global,
+    cursor: &mut Cursor<'t, 'a>,
+    depth: usize,
+) -> Result<Option<Box<Expr<'a>>>, Halt>
+    ensures { Moves (shown boxed) result cursor.new.left.now (sequences.maybe (is Kind.OpenBracket) (bracket_at depth) cursor.old.left.now) }
+{
+    if !at(cursor, Kind::OpenBracket) {
+        return Ok(None);
+    }
+    let index = bracket(alloc, cursor, depth)?;
+    Ok(Some(index))
+}
+
+/// Reads the place of a definition.
+#[tactic(auto, unfolding(crate::specs::reading::Definitions::place_at))]
+fn place<'t, 'a>(alloc: Global, cursor: &mut Cursor<'t, 'a>, depth: usize) -> Result<Place<'a>, Halt>
+    ensures { Moves place_view result cursor.new.left.now (specs.place_at depth cursor.old.left.now) }
+{
+    let name = token(cursor, Kind::Name)?;
+    let subscript = subscript(alloc, cursor, depth)?;
+    Ok(Place { name, subscript })
+}
+
+/// Reads a comma and the token of a kind after it.
+fn next_token<'t, 'a>(cursor: &mut Cursor<'t, 'a>, kind: Kind) -> Result<Token<'a>, Halt>
+    ensures { MovesToken result cursor.new.left.now (sequences.behind Kind.Comma (readers.one (is kind)) cursor.old.left.now) }
+{
+    sign(cursor, Kind::Comma)?;
+    let next = token(cursor, kind)?;
+    Ok(next)
+}
+
+/// Reads tokens of a kind with commas between them.
+fn tokens<'t, 'a>(alloc: Global, cursor: &mut Cursor<'t, 'a>, kind: Kind) -> Result<Vec<Token<'a>>, Halt>
+    ensures { Moves token_list result cursor.new.left.now (sequences.parted Kind.Comma (readers.one (is kind)) cursor.old.left.now) }
+{
+    let mut found = Vec::new(alloc);
+    let first = token(cursor, kind)?;
+    pushed(&mut found, first)?;
+    while at(cursor, Kind::Comma) {
+        let next = next_token(cursor, kind)?;
+        pushed(&mut found, next)?;
+    }
+    Ok(found)
+}
+
+/// Reads the names of an assign.
+#[tactic(auto, unfolding(crate::specs::reading::Definitions::names_at, crate::specs::reading::Definitions::strings_at))]
+fn names<'t, 'a>(alloc: Global, cursor: &mut Cursor<'t, 'a>) -> Result<ChannelNames<'a>, Halt>
+    ensures { Moves names_view result cursor.new.left.now (specs.names_at cursor.old.left.now) }
+{
+    if at(cursor, Kind::Text) {
+        let name = token(cursor, Kind::Text)?;
+        return Ok(ChannelNames::One(name));
+    }
+    sign(cursor, Kind::OpenBrace)?;
+    let all = tokens(alloc, cursor, Kind::Text)?;
+    sign(cursor, Kind::CloseBrace)?;
+    Ok(ChannelNames::List(all))
+}
+
+/// Reads `to`, where it is here.
+fn has_to<'t, 'a>(cursor: &mut Cursor<'t, 'a>) -> Result<bool, Halt>
+    ensures { MovesToken result cursor.new.left.now (sequences.whether Kind.To cursor.old.left.now) }
+{
+    if !at(cursor, Kind::To) {
+        return Ok(false);
+    }
+    sign(cursor, Kind::To)?;
+    Ok(true)
+}
+
+/// Whether the names of an assign are here.
+fn at_channels(cursor: &Cursor) -> bool
+    ensures { result ≡ readers.starts specs.starts_channels cursor.now.left.now }
+{
+    match cursor.left {
+        [first, ..] => matches!(first.kind, Kind::To | Kind::Text | Kind::OpenBrace),
+        [] => false,
+    }
+}
+
+/// Reads what stands after the place of an assign.
+#[tactic(auto, unfolding(crate::specs::reading::Definitions::channels_at))]
+fn channels<'t, 'a>(alloc: Global, cursor: &mut Cursor<'t, 'a>) -> Result<Channels<'a>, Halt>
+    ensures { Moves channels_view result cursor.new.left.now (specs.channels_at cursor.old.left.now) }
+{
+    let to = has_to(cursor)?;
+    let names = names(alloc, cursor)?;
+    Ok(Channels { to, names })
+}
+
+/// Reads what stands after the place of an assign, where it is here.
+fn maybe_channels<'t, 'a>(alloc: Global, cursor: &mut Cursor<'t, 'a>) -> Result<Option<Channels<'a>>, Halt>
+    ensures { Moves (shown channels_view) result cursor.new.left.now (sequences.maybe specs.starts_channels specs.channels_at cursor.old.left.now) }
+{
+    if !at_channels(cursor) {
+        return Ok(None);
+    }
+    let channels = channels(alloc, cursor)?;
+    Ok(Some(channels))
+}
+
+/// Reads an assign.
+#[tactic(auto, unfolding(crate::specs::reading::Definitions::assign_at))]
+fn assign<'t, 'a>(alloc: Global, cursor: &mut Cursor<'t, 'a>, depth: usize) -> Result<Box<Def<'a>>, Halt>
+    ensures { Moves (held definition_view) result cursor.new.left.now
+        (made kinds.assign (specs.assign_at depth) cursor.old.left.now) }
+{
+    let word = token(cursor, Kind::Assign)?;
+    let place = place(alloc, cursor, depth)?;
+    let channels = maybe_channels(alloc, cursor)?;
+    sign(cursor, Kind::Semicolon)?;
+    let assign = Assign {
+        word,
+        place,
+        channels,
+    };
+    let found = in_box(alloc, Def::Assign(assign))?;
+    Ok(found)
+}
+
+/// Reads a monitor.
+#[tactic(auto, unfolding(crate::specs::reading::Definitions::monitor_at))]
+fn monitor<'t, 'a>(alloc: Global, cursor: &mut Cursor<'t, 'a>, depth: usize) -> Result<Box<Def<'a>>, Halt>
+    ensures { Moves (held definition_view) result cursor.new.left.now
+        (made kinds.monitor (specs.monitor_at depth) cursor.old.left.now) }
+{
+    sign(cursor, Kind::Monitor)?;
+    let place = place(alloc, cursor, depth)?;
+    sign(cursor, Kind::Semicolon)?;
+    let found = in_box(alloc, Def::Monitor(place))?;
+    Ok(found)
+}
+
+/// Reads the event flag of a sync.
+#[tactic(auto, unfolding(crate::specs::reading::Definitions::flag_at))]
+fn flag<'t, 'a>(cursor: &mut Cursor<'t, 'a>) -> Result<Flag<'a>, Halt>
+    ensures { Moves flag_view result cursor.new.left.now (specs.flag_at cursor.old.left.now) }
+{
+    let to = has_to(cursor)?;
+    let name = token(cursor, Kind::Name)?;
+    Ok(Flag { to, name })
+}
+
+/// Reads a sync.
+#[tactic(auto, unfolding(crate::specs::reading::Definitions::sync_at))]
+fn sync<'t, 'a>(alloc: Global, cursor: &mut Cursor<'t, 'a>, depth: usize) -> Result<Box<Def<'a>>, Halt>
+    ensures { Moves (held definition_view) result cursor.new.left.now
+        (made kinds.sync (specs.sync_at depth) cursor.old.left.now) }
+{
+    sign(cursor, Kind::Sync)?;
+    let place = place(alloc, cursor, depth)?;
+    let flag = flag(cursor)?;
+    sign(cursor, Kind::Semicolon)?;
+    let found = in_box(alloc, Def::Sync(Sync { place, flag }))?;
+    Ok(found)
+}
+
+/// Whether the event flag of a queue is here.
+fn at_flag(cursor: &Cursor) -> bool
+    ensures { result ≡ readers.starts specs.starts_flag cursor.now.left.now }
+{
+    match cursor.left {
+        [first, ..] => matches!(first.kind, Kind::To | Kind::Name),
+        [] => false,
+    }
+}
+
+/// Reads the event flag of a queue, where it is here.
+fn maybe_flag<'t, 'a>(cursor: &mut Cursor<'t, 'a>) -> Result<Option<Flag<'a>>, Halt>
+    ensures { Moves (shown flag_view) result cursor.new.left.now (sequences.maybe specs.starts_flag specs.flag_at cursor.old.left.now) }
+{
+    if !at_flag(cursor) {
+        return Ok(None);
+    }
+    let flag = flag(cursor)?;
+    Ok(Some(flag))
+}
+
+/// Reads the size of a queue, where it is here.
+fn maybe_size<'t, 'a>(cursor: &mut Cursor<'t, 'a>) -> Option<Token<'a>>
+    ensures { sequences.maybe (is Kind.Whole) (readers.one (is Kind.Whole))
+        cursor.old.left.now ≡ Ok (result, cursor.new.left.now) }
+{
+    match cursor.left {
+        [size, after @ ..] if size.kind == Kind::Whole => {
+            cursor.left = after;
+            Some(*size)
+        }
+        _ => None,
+    }
+}
+
+/// Reads a queue.
+#[tactic(auto, unfolding(crate::specs::reading::Definitions::queue_at))]
+fn sync_queue<'t, 'a>(
+    alloc: Global,
+    cursor: &mut Cursor<'t, 'a>,
+    depth: usize,
+) -> Result<Box<Def<'a>>, Halt>
+    ensures { Moves (held definition_view) result cursor.new.left.now
+        (made kinds.sync_queue (specs.queue_at depth) cursor.old.left.now) }
+{
+    let word = token(cursor, Kind::SyncQueue)?;
+    let place = place(alloc, cursor, depth)?;
+    let flag = maybe_flag(cursor)?;
+    let size = maybe_size(cursor);
+    sign(cursor, Kind::Semicolon)?;
+    let queue = SyncQueue {
+        word,
+        place,
+        flag,
+        size,
+    };
+    let found = in_box(alloc, Def::SyncQueue(queue))?;
+    Ok(found)
+}
+
+/// Reads the declaration of event flags.
+#[tactic(auto, unfolding(crate::specs::reading::Definitions::event_flags_at, crate::specs::reading::Definitions::flags_at))]
+fn event_flags<'t, 'a>(alloc: Global, cursor: &mut Cursor<'t, 'a>) -> Result<Box<Def<'a>>, Halt>
+    ensures { Moves (held definition_view) result cursor.new.left.now
+        (made kinds.event_flags specs.event_flags_at cursor.old.left.now) }
+{
+    sign(cursor, Kind::EventFlag)?;
+    let names = tokens(alloc, cursor, Kind::Name)?;
+    sign(cursor, Kind::Semicolon)?;
+    let found = in_box(alloc, Def::EventFlags(names))?;
+    Ok(found)
+}
+
+/// Reads the sign of an option.
+fn option_sign<'t, 'a>(cursor: &mut Cursor<'t, 'a>) -> Result<Token<'a>, Halt>
+    ensures { MovesToken result cursor.new.left.now (readers.one kinds.is_sign cursor.old.left.now) }
+{
+    match cursor.left {
+        [first, after @ ..] if matches!(first.kind, Kind::Plus | Kind::Minus) => {
+            cursor.left = after;
+            Ok(*first)
+        }
+        _ => Err(Halt::Stuck),
+    }
+}
+
+/// Reads an option.
+#[tactic(auto, unfolding(crate::specs::reading::Definitions::option_at))]
+fn setting<'t, 'a>(alloc: Global, cursor: &mut Cursor<'t, 'a>) -> Result<Box<Def<'a>>, Halt>
+    ensures { Moves (held definition_view) result cursor.new.left.now
+        (made kinds.option specs.option_at cursor.old.left.now) }
+{
+    sign(cursor, Kind::OptionWord)?;
+    let sign_token = option_sign(cursor)?;
+    let name = token(cursor, Kind::Name)?;
+    sign(cursor, Kind::Semicolon)?;
+    let setting = Setting {
+        sign: sign_token,
+        name,
+    };
+    let found = in_box(alloc, Def::Setting(setting))?;
+    Ok(found)
+}
+
+/// Whether a definition is here.
+fn at_definition(cursor: &Cursor) -> bool
+    ensures { result ≡ readers.starts kinds.starts_definition cursor.now.left.now }
+{
+    match cursor.left {
+        [first, ..] => starts_definition(first.kind),
+        [] => false,
+    }
+}
+
+/// Whether a token of this kind begins a definition.
+fn starts_definition(kind: Kind) -> bool
+    ensures { result ≡ kinds.starts_definition kind }
+{
+    match kind {
+        Kind::Assign | Kind::Monitor | Kind::Sync | Kind::SyncQueue | Kind::EventFlag => true,
+        _ => is_type(kind),
+    }
+}
+
+/// Whether a definition or an option is here.
+fn at_part(cursor: &Cursor) -> bool
+    ensures { result ≡ readers.starts kinds.starts_part cursor.now.left.now }
+{
+    match cursor.left {
+        [first, ..] => starts_part(first.kind),
+        [] => false,
+    }
+}
+
+/// Whether a token of this kind begins a definition or an option.
+fn starts_part(kind: Kind) -> bool
+    ensures { result ≡ kinds.starts_part kind }
+{
+    match kind {
+        Kind::OptionWord => true,
+        _ => starts_definition(kind),
+    }
+}
+
+/// Reads a definition.
+#[tactic(auto, using(crate::proofs::code::DefinitionForms::definition_cases))]
+fn definition<'t, 'a>(alloc: Global, cursor: &mut Cursor<'t, 'a>, depth: usize) -> Result<Box<Def<'a>>, Halt>
+    ensures { Moves (held definition_view) result cursor.new.left.now (specs.definition_at depth cursor.old.left.now) }
+{
+    if at_declaration(cursor) {
+        let declaration = declaration(alloc, cursor, depth)?;
+        let found = in_box(alloc, Def::Declaration(declaration))?;
+        return Ok(found);
+    }
+    if at(cursor, Kind::Assign) {
+        return assign(alloc, cursor, depth);
+    }
+    if at(cursor, Kind::Monitor) {
+        return monitor(alloc, cursor, depth);
+    }
+    if at(cursor, Kind::Sync) {
+        return sync(alloc, cursor, depth);
+    }
+    if at(cursor, Kind::SyncQueue) {
+        return sync_queue(alloc, cursor, depth);
+    }
+    event_flags(alloc, cursor)
+}
+
+/// Reads a definition or an option.
+#[tactic(auto, using(crate::proofs::code::DefinitionForms::part_cases))]
+fn part<'t, 'a>(alloc: Global, cursor: &mut Cursor<'t, 'a>, depth: usize) -> Result<Box<Def<'a>>, Halt>
+    ensures { Moves (held definition_view) result cursor.new.left.now (specs.part_at depth cursor.old.left.now) }
+{
+    if at(cursor, Kind::OptionWord) {
+        return setting(alloc, cursor);
+    }
+    definition(alloc, cursor, depth)
+}
+
+/// Reads the definitions of a state set.
+pub fn definitions<'t, 'a>(
+    alloc: Global,
+    cursor: &mut Cursor<'t, 'a>,
+    depth: usize,
+) -> Result<Vec<Def<'a>>, Halt>
+    ensures { Moves definition_views result cursor.new.left.now (specs.definitions_at depth cursor.old.left.now) }
+{
+    let mut found = Vec::new(alloc);
+    while at_definition(cursor) {
+        let next = definition(alloc, cursor, depth)?;
+        added(&mut found, next)?;
+    }
+    Ok(found)
+}
+
+/// Reads the definitions and options of a program or a state.
+pub fn parts<'t, 'a>(alloc: Global, cursor: &mut Cursor<'t, 'a>, depth: usize) -> Result<Vec<Def<'a>>, Halt>
+    ensures { Moves definition_views result cursor.new.left.now (specs.parts_at depth cursor.old.left.now) }
+{
+    let mut found = Vec::new(alloc);
+    while at_part(cursor) {
+        let next = part(alloc, cursor, depth)?;
+        added(&mut found, next)?;
+    }
+    Ok(found)
+}

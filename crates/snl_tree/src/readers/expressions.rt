@@ -1,0 +1,328 @@
+//! The readers of expressions.
+
+ghost use Rattle.std.specs.Prelude.{◌≡◌, ◌≤◌, ◌-◌};
+ghost use Rattle.snl_tree.specs.reading.Expressions as specs;
+ghost use Rattle.snl_tree.specs.reading.Moves.{Moves};
+ghost use Rattle.snl_tree.specs.view.Expressions.{view, boxed, pair_of, pairs, argument_of, arguments_of, list_before};
+
+use crate::readers::cursor::{
+    Cursor, Halt, at, at_constant, at_operator, at_prefix, before, constant, looseness_here,
+    open_operator, open_prefix, open_sign, open_token, operator, sign, token,
+};
+use crate::readers::kinds::{ASSIGNMENT, BINARY, COMMA, CONDITIONAL, STEP, UNARY};
+use crate::readers::room::{in_box, pushed};
+use crate::trees::{Argument, Expr, Term};
+use snl_text::Kind;
+use std::alloc::Global;
+
+/// Whether an assignment operator may stand after this.
+fn is_unary(expr: &Expr) -> bool
+    ensures { result ≡ specs.is_unary (view expr.now) }
+{
+    match expr {
+        Expr::Chain(_, _) | Expr::Conditional { .. } | Expr::Assignment { .. } => false,
+        Expr::Constant(_)
+        | Expr::Parenthesized(_)
+        | Expr::Named(_)
+        | Expr::Element { .. }
+        | Expr::Call(_, _)
+        | Expr::Postfix(_, _)
+        | Expr::Prefix(_, _) => true,
+    }
+}
+
+/// Reads what may stand after a primary, `++` or `--`.
+#[tactic(auto, unfolding(crate::specs::reading::Expressions::stepped))]
+fn stepped<'t, 'a>(
+    alloc: Global,
+    primary: Box<Expr<'a>>,
+    cursor: &mut Cursor<'t, 'a>,
+) -> Result<Box<Expr<'a>>, Halt>
+    ensures { Moves boxed result cursor.new.left.now (specs.stepped (boxed primary.entry) cursor.old.left.now) }
+{
+    if !at_operator(cursor, STEP) {
+        return Ok(primary);
+    }
+    let step = operator(cursor, STEP)?;
+    let stepped = in_box(alloc, Expr::Postfix(primary, step))?;
+    Ok(stepped)
+}
+
+/// Reads what holds together so tightly, from [`UNARY`] to [`COMMA`]: a whole expression is the last.
+#[cycle(reading)]
+#[tactic(auto, using(crate::proofs::code::Forms::level_assignment, crate::proofs::code::Forms::level_conditional, crate::proofs::code::Climbing::level_binary))]
+pub fn level<'t, 'a>(
+    alloc: Global,
+    cursor: &mut Cursor<'t, 'a>,
+    depth: usize,
+    looseness: u8,
+) -> Result<Box<Expr<'a>>, Halt>
+    requires low { 2 ≤ looseness }
+    requires high { looseness ≤ 15 }
+    ensures { Moves boxed result cursor.new.left.now (specs.level_at (specs.inside depth) looseness cursor.old.left.now) }
+{
+    if looseness == COMMA {
+        return expression(alloc, cursor, depth);
+    }
+    if looseness == ASSIGNMENT {
+        return assignment(alloc, cursor, depth);
+    }
+    if looseness == CONDITIONAL {
+        return conditional(alloc, cursor, depth);
+    }
+    let first = unary(alloc, cursor, depth)?;
+    climb(alloc, first, cursor, depth, UNARY, looseness)
+}
+
+/// Reads assignments with commas between them.
+#[cycle(reading)]
+#[tactic(auto, using(crate::proofs::code::Forms::expression_form))]
+fn expression<'t, 'a>(
+    alloc: Global,
+    cursor: &mut Cursor<'t, 'a>,
+    depth: usize,
+) -> Result<Box<Expr<'a>>, Halt>
+    ensures { Moves boxed result cursor.new.left.now (specs.level_at (specs.inside depth) 15 cursor.old.left.now) }
+{
+    let first = assignment(alloc, cursor, depth)?;
+    let terms = terms(alloc, cursor, depth, COMMA)?;
+    if terms.is_empty() {
+        return Ok(first);
+    }
+    let chain = in_box(alloc, Expr::Chain(first, terms))?;
+    Ok(chain)
+}
+
+/// Reads the binary operators after a tree with their operands: those that are looser than what the tree
+/// holds together, up to a looseness. It goes from one operator to the next, and not through every level.
+#[cycle(reading)]
+fn climb<'t, 'a>(
+    alloc: Global,
+    first: Box<Expr<'a>>,
+    cursor: &mut Cursor<'t, 'a>,
+    depth: usize,
+    tightness: u8,
+    looseness: u8,
+) -> Result<Box<Expr<'a>>, Halt>
+    requires low { 2 ≤ tightness }
+    requires order { tightness ≤ looseness }
+    requires high { looseness ≤ 12 }
+    ensures { Moves boxed result cursor.new.left.now (specs.climbed depth tightness (looseness - tightness) (boxed first.entry) cursor.old.left.now) }
+{
+    let here = looseness_here(cursor);
+    if here <= tightness || looseness < here {
+        return Ok(first);
+    }
+    let terms = terms(alloc, cursor, depth, here)?;
+    let chain = in_box(alloc, Expr::Chain(first, terms))?;
+    climb(alloc, chain, cursor, depth, here, looseness)
+}
+
+/// Reads the operators of one level, each with the operand after it.
+#[cycle(reading)]
+#[tactic(auto, using(crate::proofs::code::Loops::found_first, crate::proofs::code::Loops::term_less))]
+fn terms<'t, 'a>(
+    alloc: Global,
+    cursor: &mut Cursor<'t, 'a>,
+    depth: usize,
+    looseness: u8,
+) -> Result<Vec<Term<'a>>, Halt>
+    requires low { 3 ≤ looseness }
+    requires high { looseness ≤ 15 }
+    ensures { Moves pairs result cursor.new.left.now (specs.terms_at looseness (specs.level_at (specs.inside depth) (looseness - 1)) cursor.old.left.now) }
+{
+    let mut found = Vec::new(alloc);
+    while at_operator(cursor, looseness) {
+        let next = term(alloc, cursor, depth, looseness)?;
+        pushed(&mut found, next)?;
+    }
+    Ok(found)
+}
+
+/// Reads an operator of a level and its operand.
+#[cycle(reading)]
+#[tactic(auto, unfolding(crate::specs::reading::Expressions::term_at))]
+fn term<'t, 'a>(
+    alloc: Global,
+    cursor: &mut Cursor<'t, 'a>,
+    depth: usize,
+    looseness: u8,
+) -> Result<Term<'a>, Halt>
+    requires low { 3 ≤ looseness }
+    requires high { looseness ≤ 15 }
+    ensures { Moves pair_of result cursor.new.left.now (specs.term_at depth looseness cursor.old.left.now) }
+{
+    let operator = operator(cursor, looseness)?;
+    let operand = level(alloc, cursor, depth, looseness - 1)?;
+    Ok(Term { operator, operand })
+}
+
+/// Reads an assignment, or what may stand in its place.
+#[cycle(reading)]
+#[tactic(auto, using(crate::proofs::code::Forms::assignment_form), unfolding(crate::specs::reading::Expressions::assigned_rest))]
+fn assignment<'t, 'a>(
+    alloc: Global,
+    cursor: &mut Cursor<'t, 'a>,
+    depth: usize,
+) -> Result<Box<Expr<'a>>, Halt>
+    ensures { Moves boxed result cursor.new.left.now (specs.assignment_at (specs.inside depth) cursor.old.left.now) }
+{
+    let target = conditional(alloc, cursor, depth)?;
+    if !is_unary(&target) || !at_operator(cursor, ASSIGNMENT) {
+        return Ok(target);
+    }
+    let operator = open_operator(cursor, ASSIGNMENT, depth)?;
+    let value = assignment(alloc, cursor, depth - 1)?;
+    let assigned = in_box(alloc, Expr::Assignment { target, operator, value })?;
+    Ok(assigned)
+}
+
+/// Reads a conditional, or what may stand in its place.
+#[cycle(reading)]
+#[tactic(auto, using(crate::proofs::code::Forms::conditional_form), unfolding(crate::specs::reading::Expressions::conditional_rest))]
+fn conditional<'t, 'a>(
+    alloc: Global,
+    cursor: &mut Cursor<'t, 'a>,
+    depth: usize,
+) -> Result<Box<Expr<'a>>, Halt>
+    ensures { Moves boxed result cursor.new.left.now (specs.conditional_at (specs.inside depth) cursor.old.left.now) }
+{
+    let condition = level(alloc, cursor, depth, BINARY)?;
+    if !at(cursor, Kind::Question) {
+        return Ok(condition);
+    }
+    open_sign(cursor, Kind::Question, depth)?;
+    let yes = level(alloc, cursor, depth - 1, COMMA)?;
+    sign(cursor, Kind::Colon)?;
+    let no = conditional(alloc, cursor, depth - 1)?;
+    let chosen = in_box(alloc, Expr::Conditional { condition, yes, no })?;
+    Ok(chosen)
+}
+
+/// Reads prefix operators and what they stand before.
+#[cycle(reading)]
+#[tactic(auto, using(crate::proofs::code::Forms::unary_form))]
+fn unary<'t, 'a>(alloc: Global, cursor: &mut Cursor<'t, 'a>, depth: usize) -> Result<Box<Expr<'a>>, Halt>
+    ensures { Moves boxed result cursor.new.left.now (specs.unary_at (specs.inside depth) cursor.old.left.now) }
+{
+    if !at_prefix(cursor) {
+        let primary = primary(alloc, cursor, depth)?;
+        return stepped(alloc, primary, cursor);
+    }
+    let operator = open_prefix(cursor, depth)?;
+    let operand = unary(alloc, cursor, depth - 1)?;
+    let prefixed = in_box(alloc, Expr::Prefix(operator, operand))?;
+    Ok(prefixed)
+}
+
+/// Reads a constant, an expression in parentheses, or what begins with a name.
+#[cycle(reading)]
+#[tactic(auto, using(crate::proofs::code::Forms::primary_form))]
+fn primary<'t, 'a>(alloc: Global, cursor: &mut Cursor<'t, 'a>, depth: usize) -> Result<Box<Expr<'a>>, Halt>
+    ensures { Moves boxed result cursor.new.left.now (specs.primary_at (specs.inside depth) cursor.old.left.now) }
+{
+    if at_constant(cursor) {
+        let token = constant(cursor)?;
+        let constant = in_box(alloc, Expr::Constant(token))?;
+        return Ok(constant);
+    }
+    if at(cursor, Kind::OpenParenthesis) {
+        return parenthesized(alloc, cursor, depth);
+    }
+    named(alloc, cursor, depth)
+}
+
+/// Reads an expression in parentheses.
+#[cycle(reading)]
+#[tactic(auto, using(crate::proofs::code::Forms::parenthesized_form))]
+fn parenthesized<'t, 'a>(
+    alloc: Global,
+    cursor: &mut Cursor<'t, 'a>,
+    depth: usize,
+) -> Result<Box<Expr<'a>>, Halt>
+    ensures { Moves boxed result cursor.new.left.now (specs.parenthesized_at (specs.inside depth) cursor.old.left.now) }
+{
+    open_sign(cursor, Kind::OpenParenthesis, depth)?;
+    let inner = level(alloc, cursor, depth - 1, COMMA)?;
+    sign(cursor, Kind::CloseParenthesis)?;
+    let parenthesized = in_box(alloc, Expr::Parenthesized(inner))?;
+    Ok(parenthesized)
+}
+
+/// Reads a name, with a subscript or a call's arguments after it.
+#[cycle(reading)]
+#[tactic(auto, using(crate::proofs::code::Rows::named_called, crate::proofs::code::Forms::named_form), unfolding(crate::specs::reading::Expressions::named_rest))]
+fn named<'t, 'a>(alloc: Global, cursor: &mut Cursor<'t, 'a>, depth: usize) -> Result<Box<Expr<'a>>, Halt>
+    ensures { Moves boxed result cursor.new.left.now (specs.named_at (specs.inside depth) cursor.old.left.now) }
+{
+    let name = token(cursor, Kind::Name)?;
+    if at(cursor, Kind::OpenBracket) {
+        let bracket = open_token(cursor, Kind::OpenBracket, depth)?;
+        let index = level(alloc, cursor, depth - 1, COMMA)?;
+        sign(cursor, Kind::CloseBracket)?;
+        let element = in_box(alloc, Expr::Element { name, bracket, index })?;
+        return Ok(element);
+    }
+    if at(cursor, Kind::OpenParenthesis) {
+        open_sign(cursor, Kind::OpenParenthesis, depth)?;
+        let all = arguments(alloc, cursor, depth - 1)?;
+        sign(cursor, Kind::CloseParenthesis)?;
+        let call = in_box(alloc, Expr::Call(name, all))?;
+        return Ok(call);
+    }
+    let named = in_box(alloc, Expr::Named(name))?;
+    Ok(named)
+}
+
+/// Reads the arguments of a call, with so much depth left inside of its parentheses.
+#[cycle(reading)]
+#[tactic(auto, using(crate::proofs::code::Forms::arguments_form), unfolding(crate::specs::reading::Expressions::more_after))]
+fn arguments<'t, 'a>(
+    alloc: Global,
+    cursor: &mut Cursor<'t, 'a>,
+    depth: usize,
+) -> Result<Vec<Argument<'a>>, Halt>
+    ensures { Moves arguments_of result cursor.new.left.now (specs.arguments_at (specs.readers (specs.inside depth)) cursor.old.left.now) }
+{
+    let mut found = Vec::new(alloc);
+    if !before(cursor, Kind::CloseParenthesis) {
+        return Ok(found);
+    }
+    let first = argument(alloc, cursor, depth)?;
+    pushed(&mut found, first)?;
+    more_arguments(alloc, found, cursor, depth)
+}
+
+/// Reads commas and the arguments after them.
+#[cycle(reading)]
+#[tactic(auto, using(crate::proofs::code::Loops::after_more, crate::proofs::code::Loops::after_all, crate::proofs::code::Loops::after_stuck, crate::proofs::code::Loops::argument_less))]
+fn more_arguments<'t, 'a>(
+    alloc: Global,
+    before: Vec<Argument<'a>>,
+    cursor: &mut Cursor<'t, 'a>,
+    depth: usize,
+) -> Result<Vec<Argument<'a>>, Halt>
+    ensures { Moves arguments_of result cursor.new.left.now (specs.more_after (specs.readers (specs.inside depth)) (list_before before.entry.items) cursor.old.left.now) }
+{
+    let mut found = before;
+    while at(cursor, Kind::Comma) {
+        sign(cursor, Kind::Comma)?;
+        let next = argument(alloc, cursor, depth)?;
+        pushed(&mut found, next)?;
+    }
+    Ok(found)
+}
+
+/// Reads an argument: a string, or an assignment.
+#[cycle(reading)]
+#[tactic(auto, using(crate::proofs::code::Forms::argument_form))]
+fn argument<'t, 'a>(alloc: Global, cursor: &mut Cursor<'t, 'a>, depth: usize) -> Result<Argument<'a>, Halt>
+    ensures { Moves argument_of result cursor.new.left.now (specs.argument_at (specs.readers (specs.inside depth)) cursor.old.left.now) }
+{
+    if at(cursor, Kind::Text) {
+        let text = token(cursor, Kind::Text)?;
+        return Ok(Argument::Text(text));
+    }
+    let value = assignment(alloc, cursor, depth)?;
+    Ok(Argument::Value(value))
+}

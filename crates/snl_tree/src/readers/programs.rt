@@ -1,0 +1,278 @@
+//! The readers of clauses, states, state sets and programs.
+
+ghost use Rattle.std.specs.Prelude.{◌≡◌, ◌<◌, IfOk, drop};
+ghost use Rattle.snl_tree.specs.reading.Sequences as sequences;
+ghost use Rattle.snl_tree.specs.view.Shown.{shown, held};
+ghost use Rattle.snl_tree.specs.Kinds.{is};
+ghost use Rattle.snl_tree.specs.reading.Readers as readers;
+ghost use Rattle.snl_tree.specs.reading.Expressions.{inside, level_at, is_no_close};
+ghost use Rattle.snl_tree.specs.reading.Programs as specs;
+ghost use Rattle.snl_tree.specs.reading.Moves.{Moves, MovesToken};
+ghost use Rattle.snl_tree.specs.view.Expressions.{boxed};
+ghost use Rattle.snl_tree.specs.view.Statements.{block_view};
+ghost use Rattle.snl_tree.specs.view.Programs.{Carries, first_place, target_view, clause_view, clause_views, state_view, state_views, state_set_view, state_set_views, program_view};
+
+use crate::parsing::TOKEN_LIMIT;
+use crate::readers::cursor::{Cursor, Halt, at, before, sign, token};
+use crate::readers::definitions::{definitions, parts};
+use crate::readers::expressions::level;
+use crate::readers::kinds::COMMA;
+use crate::readers::room::{added, in_box};
+use crate::readers::statements::block;
+use crate::trees::{Block, Clause, Expr, Program, State, StateSet, Target};
+use snl_text::{Kind, Lexed, Pos, Token};
+use std::alloc::Global;
+
+/// Reads where a clause leads.
+#[tactic(auto, unfolding(crate::specs::reading::Programs::target_at))]
+fn target<'t, 'a>(cursor: &mut Cursor<'t, 'a>) -> Result<Target<'a>, Halt>
+    ensures { Moves target_view result cursor.new.left.now (specs.target_at cursor.old.left.now) }
+{
+    if at(cursor, Kind::State) {
+        sign(cursor, Kind::State)?;
+        let name = token(cursor, Kind::Name)?;
+        return Ok(Target::State(name));
+    }
+    sign(cursor, Kind::Exit)?;
+    Ok(Target::Exit)
+}
+
+/// Reads an expression, where something other than a closing parenthesis is here.
+fn maybe_expression<'t, 'a>(
+    alloc: Global,
+    cursor: &mut Cursor<'t, 'a>,
+    depth: usize,
+) -> Result<Option<Box<Expr<'a>>>, Halt>
+    ensures { Moves (shown boxed) result cursor.new.left.now (sequences.maybe is_no_close (level_at (inside depth) 15) cursor.old.left.now) }
+{
+    if !before(cursor, Kind::CloseParenthesis) {
+        return Ok(None);
+    }
+    let expr = level(alloc, cursor, depth, COMMA)?;
+    Ok(Some(expr))
+}
+
+/// Reads the parentheses of a clause.
+#[tactic(auto, unfolding(crate::specs::reading::Programs::condition_at))]
+fn condition<'t, 'a>(
+    alloc: Global,
+    cursor: &mut Cursor<'t, 'a>,
+    depth: usize,
+) -> Result<Option<Box<Expr<'a>>>, Halt>
+    ensures { Moves (shown boxed) result cursor.new.left.now (specs.condition_at depth cursor.old.left.now) }
+{
+    sign(cursor, Kind::OpenParenthesis)?;
+    let condition = maybe_expression(alloc, cursor, depth)?;
+    sign(cursor, Kind::CloseParenthesis)?;
+    Ok(condition)
+}
+
+/// Reads a clause.
+#[tactic(auto, unfolding(crate::specs::reading::Programs::clause_at))]
+fn clause<'t, 'a>(alloc: Global, cursor: &mut Cursor<'t, 'a>, depth: usize) -> Result<Box<Clause<'a>>, Halt>
+    ensures { Moves (held clause_view) result cursor.new.left.now (specs.clause_at depth cursor.old.left.now) }
+{
+    let word = token(cursor, Kind::When)?;
+    let condition = condition(alloc, cursor, depth)?;
+    let block = block(alloc, cursor, depth, depth)?;
+    let target = target(cursor)?;
+    let clause = in_box(
+        alloc,
+        Clause {
+            word,
+            condition,
+            block,
+            target,
+        },
+    )?;
+    Ok(clause)
+}
+
+/// Reads the clauses of a state.
+fn clauses<'t, 'a>(alloc: Global, cursor: &mut Cursor<'t, 'a>, depth: usize) -> Result<Vec<Clause<'a>>, Halt>
+    requires { 0 < depth }
+    ensures { Moves clause_views result cursor.new.left.now (specs.clauses_at depth cursor.old.left.now) }
+{
+    let mut found = Vec::new(alloc);
+    while at(cursor, Kind::When) {
+        let next = clause(alloc, cursor, depth)?;
+        added(&mut found, next)?;
+    }
+    Ok(found)
+}
+
+/// Reads an entry block, where it is here.
+#[tactic(auto, unfolding(crate::specs::reading::Programs::entry_at))]
+fn entry<'t, 'a>(alloc: Global, cursor: &mut Cursor<'t, 'a>, depth: usize) -> Result<Option<Box<Block<'a>>>, Halt>
+    ensures { Moves (shown (held block_view)) result cursor.new.left.now (specs.entry_at depth cursor.old.left.now) }
+{
+    if !at(cursor, Kind::Entry) {
+        return Ok(None);
+    }
+    sign(cursor, Kind::Entry)?;
+    let body = block(alloc, cursor, depth, depth)?;
+    Ok(Some(body))
+}
+
+/// Reads an exit block, where it is here.
+#[tactic(auto, unfolding(crate::specs::reading::Programs::exit_at))]
+fn exit<'t, 'a>(alloc: Global, cursor: &mut Cursor<'t, 'a>, depth: usize) -> Result<Option<Box<Block<'a>>>, Halt>
+    ensures { Moves (shown (held block_view)) result cursor.new.left.now (specs.exit_at depth cursor.old.left.now) }
+{
+    if !at(cursor, Kind::Exit) {
+        return Ok(None);
+    }
+    sign(cursor, Kind::Exit)?;
+    let body = block(alloc, cursor, depth, depth)?;
+    Ok(Some(body))
+}
+
+/// Reads a state.
+#[tactic(auto, unfolding(crate::specs::reading::Programs::state_at))]
+fn state<'t, 'a>(alloc: Global, cursor: &mut Cursor<'t, 'a>, depth: usize) -> Result<Box<State<'a>>, Halt>
+    requires { 0 < depth }
+    ensures { Moves (held state_view) result cursor.new.left.now (specs.state_at depth cursor.old.left.now) }
+{
+    let word = token(cursor, Kind::State)?;
+    let name = token(cursor, Kind::Name)?;
+    sign(cursor, Kind::OpenBrace)?;
+    let definitions = parts(alloc, cursor, depth)?;
+    let entry = entry(alloc, cursor, depth)?;
+    let clauses = clauses(alloc, cursor, depth)?;
+    let exit = exit(alloc, cursor, depth)?;
+    sign(cursor, Kind::CloseBrace)?;
+    let state = in_box(
+        alloc,
+        State {
+            word,
+            name,
+            definitions,
+            entry,
+            clauses,
+            exit,
+        },
+    )?;
+    Ok(state)
+}
+
+/// Reads the states of a state set.
+fn states<'t, 'a>(alloc: Global, cursor: &mut Cursor<'t, 'a>, depth: usize) -> Result<Vec<State<'a>>, Halt>
+    requires { 0 < depth }
+    ensures { Moves state_views result cursor.new.left.now (specs.states_at depth cursor.old.left.now) }
+{
+    let mut found = Vec::new(alloc);
+    let first = state(alloc, cursor, depth)?;
+    added(&mut found, first)?;
+    while at(cursor, Kind::State) {
+        let next = state(alloc, cursor, depth)?;
+        added(&mut found, next)?;
+    }
+    Ok(found)
+}
+
+/// Reads a state set.
+#[tactic(auto, unfolding(crate::specs::reading::Programs::state_set_at))]
+fn state_set<'t, 'a>(alloc: Global, cursor: &mut Cursor<'t, 'a>, depth: usize) -> Result<Box<StateSet<'a>>, Halt>
+    requires { 0 < depth }
+    ensures { Moves (held state_set_view) result cursor.new.left.now (specs.state_set_at depth cursor.old.left.now) }
+{
+    let word = token(cursor, Kind::StateSet)?;
+    let name = token(cursor, Kind::Name)?;
+    sign(cursor, Kind::OpenBrace)?;
+    let definitions = definitions(alloc, cursor, depth)?;
+    let states = states(alloc, cursor, depth)?;
+    sign(cursor, Kind::CloseBrace)?;
+    let state_set = in_box(
+        alloc,
+        StateSet {
+            word,
+            name,
+            definitions,
+            states,
+        },
+    )?;
+    Ok(state_set)
+}
+
+/// Reads the state sets of a program.
+fn state_sets<'t, 'a>(
+    alloc: Global,
+    cursor: &mut Cursor<'t, 'a>,
+    depth: usize,
+) -> Result<Vec<StateSet<'a>>, Halt>
+    requires { 0 < depth }
+    ensures { Moves state_set_views result cursor.new.left.now (specs.state_sets_at depth cursor.old.left.now) }
+{
+    let mut found = Vec::new(alloc);
+    let first = state_set(alloc, cursor, depth)?;
+    added(&mut found, first)?;
+    while at(cursor, Kind::StateSet) {
+        let next = state_set(alloc, cursor, depth)?;
+        added(&mut found, next)?;
+    }
+    Ok(found)
+}
+
+/// Reads the macros of a program, where they are here.
+#[tactic(auto, unfolding(crate::specs::reading::Programs::macros_at))]
+fn macros<'t, 'a>(cursor: &mut Cursor<'t, 'a>) -> Result<Option<Token<'a>>, Halt>
+    ensures { MovesToken result cursor.new.left.now (specs.macros_at cursor.old.left.now) }
+{
+    if !at(cursor, Kind::OpenParenthesis) {
+        return Ok(None);
+    }
+    sign(cursor, Kind::OpenParenthesis)?;
+    let text = token(cursor, Kind::Text)?;
+    sign(cursor, Kind::CloseParenthesis)?;
+    Ok(Some(text))
+}
+
+/// The place of the first token after the first [`TOKEN_LIMIT`].
+fn beyond(tokens: &[Token]) -> Option<Pos>
+    ensures { result ≡ first_place (drop 65536 tokens.now) }
+{
+    if tokens.len() <= TOKEN_LIMIT {
+        return None;
+    }
+    Some(tokens[TOKEN_LIMIT].pos)
+}
+
+/// Reads a program, of a source with these embedded pieces and files.
+#[tactic(auto, unfolding(crate::specs::reading::Programs::program_at))]
+pub fn program<'t, 'a>(
+    alloc: Global,
+    cursor: &mut Cursor<'t, 'a>,
+    depth: usize,
+    lexed: &Lexed<'a>,
+) -> Result<Box<Program<'a>>, Halt>
+    requires { 0 < depth }
+    ensures tree { Moves (held program_view) result cursor.new.left.now (specs.program_at depth cursor.old.left.now) }
+    ensures carried { IfOk result (λ b. Carries b.value lexed.now) }
+{
+    let word = token(cursor, Kind::Program)?;
+    let name = token(cursor, Kind::Name)?;
+    let macros = macros(cursor)?;
+    let definitions = parts(alloc, cursor, depth)?;
+    let entry = entry(alloc, cursor, depth)?;
+    let state_sets = state_sets(alloc, cursor, depth)?;
+    let exit = exit(alloc, cursor, depth)?;
+    let embedded = Vec::from_slice(alloc, lexed.embedded.as_slice())?;
+    let files = Vec::from_slice(alloc, lexed.files.as_slice())?;
+    let program = in_box(
+        alloc,
+        Program {
+            word,
+            name,
+            macros,
+            definitions,
+            entry,
+            state_sets,
+            exit,
+            embedded,
+            files,
+            token_count: lexed.tokens.len(),
+            beyond: beyond(lexed.tokens.as_slice()),
+        },
+    )?;
+    Ok(program)
+}

@@ -1,0 +1,329 @@
+//! The readers of statements and blocks.
+
+ghost use Rattle.std.specs.Prelude.{◌≡◌};
+ghost use Rattle.snl_tree.specs.reading.Readers as readers;
+ghost use Rattle.snl_tree.specs.reading.Moves.{Moves, MovesToken};
+ghost use Rattle.snl_tree.specs.view.Shown.{shown, held};
+ghost use Rattle.snl_tree.specs.reading.Statements as specs;
+ghost use Rattle.snl_tree.specs.reading.StatementSteps as steps;
+ghost use Rattle.snl_tree.specs.view.Statements.{header_view, declaration_views, statement_view, statement_views, block_view};
+ghost use Rattle.snl_tree.specs.view.Expressions.{boxed};
+
+use crate::readers::cursor::{Cursor, Halt, at, before, open_sign, open_token, sign, token};
+use crate::readers::declarations::{at_declaration, declaration};
+use crate::readers::expressions::level;
+use crate::readers::kinds::COMMA;
+use crate::readers::room::{added, in_box, pushed};
+use crate::trees::{Block, Declaration, Expr, Header, Stmt};
+use snl_text::{Kind, Token};
+use std::alloc::Global;
+
+/// Whether a statement may begin with a token of this kind.
+fn opens_statement(kind: Kind) -> bool
+    ensures { result ≡ specs.opens_statement kind }
+{
+    matches!(
+        kind,
+        Kind::OpenBrace
+            | Kind::Semicolon
+            | Kind::If
+            | Kind::While
+            | Kind::For
+            | Kind::Break
+            | Kind::Continue
+            | Kind::State
+            | Kind::Whole
+            | Kind::Decimal
+            | Kind::Character
+            | Kind::Name
+            | Kind::OpenParenthesis
+            | Kind::Plus
+            | Kind::Minus
+            | Kind::Bang
+            | Kind::Tilde
+            | Kind::PlusPlus
+            | Kind::MinusMinus
+    )
+}
+
+/// Whether a statement may begin here.
+fn at_statement(cursor: &Cursor) -> bool
+    ensures { result ≡ readers.starts specs.opens_statement cursor.now.left.now }
+{
+    match cursor.left {
+        [first, ..] => opens_statement(first.kind),
+        [] => false,
+    }
+}
+
+/// Reads a word or a name, and the semicolon after it.
+#[tactic(auto, unfolding(crate::specs::reading::StatementSteps::ended_word_at))]
+fn ended_word<'t, 'a>(cursor: &mut Cursor<'t, 'a>, kind: Kind) -> Result<Token<'a>, Halt>
+    ensures { MovesToken result cursor.new.left.now (steps.ended_word_at kind cursor.old.left.now) }
+{
+    let word = token(cursor, kind)?;
+    sign(cursor, Kind::Semicolon)?;
+    Ok(word)
+}
+
+/// Reads an expression in the parentheses of a statement, which don't count as nesting.
+#[tactic(auto, unfolding(crate::specs::reading::Statements::condition_at))]
+fn condition<'t, 'a>(alloc: Global, cursor: &mut Cursor<'t, 'a>, limit: usize) -> Result<Box<Expr<'a>>, Halt>
+    ensures { Moves boxed result cursor.new.left.now (specs.condition_at limit cursor.old.left.now) }
+{
+    sign(cursor, Kind::OpenParenthesis)?;
+    let condition = level(alloc, cursor, limit, COMMA)?;
+    sign(cursor, Kind::CloseParenthesis)?;
+    Ok(condition)
+}
+
+/// Reads an expression that may be missing, and the sign that ends it.
+#[tactic(auto, unfolding(crate::specs::reading::Statements::ended_at))]
+fn ended<'t, 'a>(
+    alloc: Global,
+    cursor: &mut Cursor<'t, 'a>,
+    limit: usize,
+    kind: Kind,
+) -> Result<Option<Box<Expr<'a>>>, Halt>
+    ensures { Moves (shown boxed) result cursor.new.left.now (specs.ended_at limit kind cursor.old.left.now) }
+{
+    if !before(cursor, kind) {
+        sign(cursor, kind)?;
+        return Ok(None);
+    }
+    let found = level(alloc, cursor, limit, COMMA)?;
+    sign(cursor, kind)?;
+    Ok(Some(found))
+}
+
+/// Reads what stands between the parentheses of a `for`, and those.
+#[tactic(auto, unfolding(crate::specs::reading::Statements::header_at))]
+fn header<'t, 'a>(alloc: Global, cursor: &mut Cursor<'t, 'a>, limit: usize) -> Result<Box<Header<'a>>, Halt>
+    ensures { Moves (held header_view) result cursor.new.left.now (specs.header_at limit cursor.old.left.now) }
+{
+    sign(cursor, Kind::OpenParenthesis)?;
+    let start = ended(alloc, cursor, limit, Kind::Semicolon)?;
+    let condition = ended(alloc, cursor, limit, Kind::Semicolon)?;
+    let step = ended(alloc, cursor, limit, Kind::CloseParenthesis)?;
+    let header = in_box(
+        alloc,
+        Header {
+            start,
+            condition,
+            step,
+        },
+    )?;
+    Ok(header)
+}
+
+/// Reads the declarations at the front of a block.
+fn declarations<'t, 'a>(
+    alloc: Global,
+    cursor: &mut Cursor<'t, 'a>,
+    limit: usize,
+) -> Result<Vec<Declaration<'a>>, Halt>
+    ensures { Moves declaration_views result cursor.new.left.now (specs.declarations_at limit cursor.old.left.now) }
+{
+    let mut found = Vec::new(alloc);
+    while at_declaration(cursor) {
+        let next = declaration(alloc, cursor, limit)?;
+        pushed(&mut found, next)?;
+    }
+    Ok(found)
+}
+
+/// Reads a statement that nests no other: `break`, `continue`, a state statement or an expression.
+#[tactic(auto, using(crate::proofs::code::StatementForms::word_statement_form))]
+fn word_statement<'t, 'a>(alloc: Global, cursor: &mut Cursor<'t, 'a>, limit: usize) -> Result<Box<Stmt<'a>>, Halt>
+    ensures { Moves (held statement_view) result cursor.new.left.now (specs.word_statement_at limit cursor.old.left.now) }
+{
+    if at(cursor, Kind::Break) {
+        let word = ended_word(cursor, Kind::Break)?;
+        let found = in_box(alloc, Stmt::Break(word))?;
+        return Ok(found);
+    }
+    if at(cursor, Kind::Continue) {
+        let word = ended_word(cursor, Kind::Continue)?;
+        let found = in_box(alloc, Stmt::Continue(word))?;
+        return Ok(found);
+    }
+    if at(cursor, Kind::State) {
+        let word = token(cursor, Kind::State)?;
+        let name = ended_word(cursor, Kind::Name)?;
+        let found = in_box(alloc, Stmt::State { word, name })?;
+        return Ok(found);
+    }
+    let value = level(alloc, cursor, limit, COMMA)?;
+    sign(cursor, Kind::Semicolon)?;
+    let found = in_box(alloc, Stmt::Expression(value))?;
+    Ok(found)
+}
+
+/// Reads a statement. Its expressions may be nested as deep as the limit, and `depth` is left for blocks,
+/// `if`, `else` and loops.
+#[cycle(nesting)]
+#[tactic(auto, using(crate::proofs::code::StatementForms::statement_form, crate::proofs::code::StatementRows::view_block))]
+fn statement<'t, 'a>(
+    alloc: Global,
+    cursor: &mut Cursor<'t, 'a>,
+    limit: usize,
+    depth: usize,
+) -> Result<Box<Stmt<'a>>, Halt>
+    ensures { Moves (held statement_view) result cursor.new.left.now (specs.statement_at limit depth cursor.old.left.now) }
+{
+    if at(cursor, Kind::OpenBrace) {
+        let block = block(alloc, cursor, limit, depth)?;
+        let found = in_box(alloc, Stmt::Block(Box::into_inner(block)))?;
+        return Ok(found);
+    }
+    if at(cursor, Kind::Semicolon) {
+        sign(cursor, Kind::Semicolon)?;
+        let found = in_box(alloc, Stmt::Empty)?;
+        return Ok(found);
+    }
+    if at(cursor, Kind::If) {
+        return if_statement(alloc, cursor, limit, depth);
+    }
+    if at(cursor, Kind::While) {
+        return while_loop(alloc, cursor, limit, depth);
+    }
+    if at(cursor, Kind::For) {
+        return for_loop(alloc, cursor, limit, depth);
+    }
+    word_statement(alloc, cursor, limit)
+}
+
+/// Reads a block. Its expressions may be nested as deep as the limit, and `depth` is left for its brace
+/// and what is nested in it.
+#[cycle(nesting)]
+#[tactic(auto, using(crate::proofs::code::StatementForms::block_form))]
+pub fn block<'t, 'a>(
+    alloc: Global,
+    cursor: &mut Cursor<'t, 'a>,
+    limit: usize,
+    depth: usize,
+) -> Result<Box<Block<'a>>, Halt>
+    ensures { Moves (held block_view) result cursor.new.left.now (specs.block_at limit depth cursor.old.left.now) }
+{
+    open_sign(cursor, Kind::OpenBrace, depth)?;
+    let declarations = declarations(alloc, cursor, limit)?;
+    let statements = statements(alloc, cursor, limit, depth - 1)?;
+    sign(cursor, Kind::CloseBrace)?;
+    let block = in_box(
+        alloc,
+        Block {
+            declarations,
+            statements,
+        },
+    )?;
+    Ok(block)
+}
+
+/// Reads statements, one after another.
+#[cycle(nesting)]
+fn statements<'t, 'a>(
+    alloc: Global,
+    cursor: &mut Cursor<'t, 'a>,
+    limit: usize,
+    depth: usize,
+) -> Result<Vec<Stmt<'a>>, Halt>
+    ensures { Moves statement_views result cursor.new.left.now (steps.statement_row_at limit depth cursor.old.left.now) }
+{
+    let mut found = Vec::new(alloc);
+    while at_statement(cursor) {
+        let next = statement(alloc, cursor, limit, depth)?;
+        added(&mut found, next)?;
+    }
+    Ok(found)
+}
+
+/// Reads an `if`, with the `else` that belongs to it.
+#[cycle(nesting)]
+#[tactic(auto, using(crate::proofs::code::StatementForms::if_form))]
+fn if_statement<'t, 'a>(
+    alloc: Global,
+    cursor: &mut Cursor<'t, 'a>,
+    limit: usize,
+    depth: usize,
+) -> Result<Box<Stmt<'a>>, Halt>
+    ensures { Moves (held statement_view) result cursor.new.left.now (specs.if_at limit (specs.statements_inside limit depth) cursor.old.left.now) }
+{
+    open_sign(cursor, Kind::If, depth)?;
+    let condition = condition(alloc, cursor, limit)?;
+    let first = statement(alloc, cursor, limit, depth - 1)?;
+    otherwise(alloc, condition, first, cursor, limit, depth - 1)
+}
+
+/// Reads the `else` of an `if`, where one stands after its first statement. That statement has taken
+/// each `else` that it can, so one that is left belongs to this `if`.
+#[cycle(nesting)]
+#[tactic(auto, unfolding(crate::specs::reading::StatementSteps::if_rest))]
+fn otherwise<'t, 'a>(
+    alloc: Global,
+    condition: Box<Expr<'a>>,
+    first: Box<Stmt<'a>>,
+    cursor: &mut Cursor<'t, 'a>,
+    limit: usize,
+    depth: usize,
+) -> Result<Box<Stmt<'a>>, Halt>
+    ensures { Moves (held statement_view) result cursor.new.left.now (steps.if_rest limit depth (boxed condition.entry) (statement_view first.entry.value) cursor.old.left.now) }
+{
+    if !at(cursor, Kind::Else) {
+        let found = in_box(alloc, Stmt::If { condition, first })?;
+        return Ok(found);
+    }
+    sign(cursor, Kind::Else)?;
+    let second = statement(alloc, cursor, limit, depth)?;
+    let found = in_box(
+        alloc,
+        Stmt::IfElse {
+            condition,
+            first,
+            second,
+        },
+    )?;
+    Ok(found)
+}
+
+/// Reads a `while`.
+#[cycle(nesting)]
+#[tactic(auto, using(crate::proofs::code::StatementForms::while_form))]
+fn while_loop<'t, 'a>(
+    alloc: Global,
+    cursor: &mut Cursor<'t, 'a>,
+    limit: usize,
+    depth: usize,
+) -> Result<Box<Stmt<'a>>, Halt>
+    ensures { Moves (held statement_view) result cursor.new.left.now (specs.while_at limit (specs.statements_inside limit depth) cursor.old.left.now) }
+{
+    let word = open_token(cursor, Kind::While, depth)?;
+    let condition = condition(alloc, cursor, limit)?;
+    let body = statement(alloc, cursor, limit, depth - 1)?;
+    let found = in_box(
+        alloc,
+        Stmt::While {
+            word,
+            condition,
+            body,
+        },
+    )?;
+    Ok(found)
+}
+
+/// Reads a `for`.
+#[cycle(nesting)]
+#[tactic(auto, using(crate::proofs::code::StatementForms::for_form))]
+fn for_loop<'t, 'a>(
+    alloc: Global,
+    cursor: &mut Cursor<'t, 'a>,
+    limit: usize,
+    depth: usize,
+) -> Result<Box<Stmt<'a>>, Halt>
+    ensures { Moves (held statement_view) result cursor.new.left.now (specs.for_at limit (specs.statements_inside limit depth) cursor.old.left.now) }
+{
+    let word = open_token(cursor, Kind::For, depth)?;
+    let header = header(alloc, cursor, limit)?;
+    let body = statement(alloc, cursor, limit, depth - 1)?;
+    let found = in_box(alloc, Stmt::For { word, header, body })?;
+    Ok(found)
+}
