@@ -11,3 +11,5 @@ pub mod StatementRows
 pub mod ProgramLess
 pub mod ProgramWithin
 pub mod Narrowing
+pub mod OnlyFaults
+pub mod Places

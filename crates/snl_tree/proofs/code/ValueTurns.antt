@@ -1,5 +1,5 @@
 -- The turns of the loop of the code that reads the values of a list.
-use Rattle.std.proofs.Common.{◌≡◌, ℕ, ◌<◌, Bool, true, false, Box, Global, List, [], ◌∷◌, ◌++◌, map, Ok, Err, Option, Some, None, length, refl, sym, ap, ◌∙◌, subst, arith, append-nil}
+use Rattle.std.proofs.Common.{◌≡◌, ℕ, ◌<◌, Bool, true, false, Box, Vec, vec_len, nat_eq, not, eqb-true, Global, List, [], ◌∷◌, ◌++◌, map, Ok, Err, Option, Some, None, length, refl, sym, ap, ◌∙◌, subst, arith, append-nil}
 use Rattle.snl_text.specs.declared.tokens.Token.{Token}
 use Rattle.snl_text.specs.declared.kinds.Kind.{Kind}
 use Rattle.snl_text.specs.declared.kinds.Kind.TheVariants.{Comma}
@@ -127,7 +127,16 @@ before_all n all found ts b s comma none =
   where
     same : (comma : Bool) (found : List (Box Expr Global)) → (comma ≡ false → found ≡ []) → value_list (map boxed found) true ≡ value_list (map boxed found) comma
     same true found h = refl
-    same false found h = rw h refl refl
+    same false found h = ap (λ z. value_list (map boxed z) true) (h refl) ∙ sym (ap (λ z. value_list (map boxed z) false) (h refl))
+
+-- a row of length 0 has nothing
+pub none_there : (v : Vec (Box Expr Global) Global) (b : Bool) → b ≡ nat_eq (vec_len v) 0 → not b ≡ false → v.items ≡ []
+none_there v true e h = go v.items (let k = eqb-true (vec_len v) 0 (sym e) in omega (arith, v.ok.0))
+  where
+    go : (l : List (Box Expr Global)) → length l ≡ 0 → l ≡ []
+    go [] z = refl
+    go (x ∷ l) z = absurd (omega arith)
+none_there v false e h = absurd cc
 
 pub before_last : (n : ℕ) (all : Read ValueList) (found : List (Box Expr Global)) (next : Box Expr Global) (items : List (Box Expr Global)) (ts rest : List Token) → items ≡ found ++ next ∷ [] → Before n all (map boxed found) ts
     → starts is_no_brace ts ≡ true → level_at (inside n) 14 ts ≡ Ok (boxed next, rest) → starts (is Comma) rest ≡ false → all ≡ Ok (value_list (map boxed items) false, rest)

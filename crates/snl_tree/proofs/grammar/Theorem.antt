@@ -28,7 +28,7 @@ spelled_drop (s ∷ front) (suc k) [] b h = absurd (omega arith)
 spelled_drop (s ∷ front) (suc k) (t ∷ ts) b h = (h.0, spelled_drop front k ts (omega arith) h.1)
 
 -- a shorter front
-spelled_cut : (front : List Slot) (k : ℕ) (ts rest : List Token) → k + length rest ≤ length ts → Spelled front ts rest → Spelled (take k front) (take k ts) []
+pub spelled_cut : (front : List Slot) (k : ℕ) (ts rest : List Token) → k + length rest ≤ length ts → Spelled front ts rest → Spelled (take k front) (take k ts) []
 spelled_cut front zero ts rest b h = refl
 spelled_cut [] (suc k) ts rest b h = absurd (let l = ap length h in omega arith)
 spelled_cut (s ∷ front) (suc k) [] rest b h = absurd h

@@ -19,12 +19,12 @@ pub returns-in_err-first : goal.returns-in_err-first
 unfolding declarators_at
 returns-in_err-first c =
     let p = err_from_is_err_and c.from_residual.result c.from_residual.ensures.1 in
-    rw (p.1, p.2) (part_fails Comma (declarator_at c.args.depth) c.args.cursor.now.left.now c.in_err-first.field-0.0 c.FIRST.new.cursor.left.now c.in_err-first.ensures)
+    rw (p.1, p.2) (part_fails Comma (declarator_at c.args.depth) c.args.cursor.now.left.now c.in_err-first.field-0.0 c.declarator.new.cursor.left.now c.in_err-first.ensures)
 
 pub loop-alloc-init : goal.loop-alloc-init
 unfolding declarators_at
 loop-alloc-init c =
-    found_part Comma (declarator_at c.args.depth) declarator_view c.args.cursor.now.left.now c.FIRST.new.cursor.left.now c.in_ok-first.first.value c.added.new.row.items c.new-found.result.items c.new-found.ensures.items c.in_ok-added.ensures.items c.in_ok-first.ensures
+    found_part Comma (declarator_at c.args.depth) declarator_view c.args.cursor.now.left.now c.declarator.new.cursor.left.now c.in_ok-first.first.value c.added.new.row.items c.new-found.result.items c.new-found.ensures.items c.in_ok-added.ensures.items c.in_ok-first.ensures
 
 pub loop-alloc-preserved : goal.loop-alloc-preserved
 loop-alloc-preserved c =

@@ -1,8 +1,8 @@
-use Rattle.std.proofs.Common.{sym}
+use Rattle.std.proofs.Common.{sym, not}
 use Rattle.std.proofs.lemmas.Result.{err_from_is_err_and}
 use Rattle.snl_tree.specs.view.Expressions.{boxed}
 use Rattle.snl_tree.specs.reading.Declarations.{values_at}
-use Rattle.snl_tree.proofs.code.ValueTurns.{before_more, before_less, before_all, before_last, before_fails}
+use Rattle.snl_tree.proofs.code.ValueTurns.{before_more, before_less, before_all, before_last, before_fails, none_there}
 use Rattle.snl_tree.proofs.readers.declarations.values.Goals as goal
 
 pub returns-in_err-next : goal.returns-in_err-next
@@ -24,4 +24,6 @@ loop-alloc-preserved c =
     c.in_ok-pushed.ensures.items c.loop-alloc.invariant (sym c.loop-alloc-test.ensures) c.in_ok-next.ensures (sym c.if-not-at.ensures) c.in_ok-sign.ensures
 
 pub returns : goal.returns
-returns c = before_all c.args.depth (values_at c.args.depth c.args.cursor.now.left.now) c.loop-alloc.each.items c.loop-alloc.cursor.left.now c.loop-alloc.invariant (sym c.loop-alloc-test.ensures)
+returns c =
+    before_all c.args.depth (values_at c.args.depth c.args.cursor.now.left.now) c.loop-alloc.each.items c.loop-alloc.cursor.left.now c.loop-alloc.invariant (sym c.loop-alloc-test.ensures)
+    (not c.is_empty-comma.result) (none_there c.loop-alloc.each c.is_empty-comma.result c.is_empty-comma.ensures)

@@ -5,7 +5,7 @@ use Rattle.snl_tree.specs.reading.Definitions.{part_at, parts_at}
 use Rattle.snl_tree.specs.view.Definitions.{definition_view}
 use Rattle.snl_tree.proofs.code.Turns.{found_none, found_more, found_all, found_fails}
 use Rattle.snl_tree.proofs.grammar.DefinitionLaws.{part_less}
-use Rattle.snl_tree.proofs.readers.definitions.definitions.Goals as goal
+use Rattle.snl_tree.proofs.readers.definitions.parts.Goals as goal
 
 pub loop-alloc-init : goal.loop-alloc-init
 unfolding parts_at

@@ -3,7 +3,7 @@ use Rattle.snl_tree.specs.Definitions.{starts_part}
 use Rattle.snl_tree.specs.reading.Definitions.{part_at, parts_at}
 use Rattle.snl_tree.specs.view.Definitions.{definition_view}
 use Rattle.snl_tree.proofs.code.Turns.{Found}
-use Rattle.snl_tree.proofs.readers.definitions.definitions.Given as goal
+use Rattle.snl_tree.proofs.readers.definitions.parts.Given as goal
 
 abbrev pub invariant-loop-alloc : goal.invariant-loop-alloc
 invariant-loop-alloc l = Found starts_part (part_at l.depth) definition_view (parts_at l.fn.depth l.fn.cursor.left.now) l.found.items l.cursor.left.now

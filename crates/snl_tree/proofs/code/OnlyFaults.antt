@@ -1,0 +1,29 @@
+-- From what a parse says of its answer to what it says of the tokens: a fault that they have is the one given.
+use Rattle.std.proofs.Common.{◌≡◌, ℕ, List, Result, Ok, Err, IfOk, refl, ap}
+use Rattle.snl_text.specs.declared.tokens.Token.{Token}
+use Rattle.snl_tree.specs.declared.faults.ParseFault.{ParseFault}
+use Rattle.snl_tree.specs.declared.faults.ParseFault.TheVariants.{Unexpected, TooDeep, Memory}
+use Rattle.snl_tree.specs.Begins.{Spells, IsUnexpected, IsTooDeep}
+use Rattle.snl_tree.specs.Programs.{ProgramTree, IsProgram, programs}
+use Rattle.snl_tree.specs.Answers.{IsOnlyFault}
+use Rattle.snl_tree.proofs.grammar.OneAnswer.{spelled_not_unexpected, spelled_not_too_deep, one_unexpected, one_too_deep, unexpected_not_too_deep}
+
+-- what each answer says of the tokens
+pub record Says {A : Type 0} (view : A → ProgramTree) (limit : ℕ) (ts : List Token) (r : Result A ParseFault) : Type 0 where
+  pub found : IfOk r (λ a. IsProgram limit (view a) × Spells programs (view a) ts)
+  pub unexpected : (k : ℕ) → r ≡ Err (Unexpected k) → IsUnexpected programs limit ts k
+  pub too_deep : (k : ℕ) → r ≡ Err (TooDeep k) → IsTooDeep programs limit ts k
+
+-- a token that is unexpected is the one given
+pub only_unexpected : {A : Type 0} (view : A → ProgramTree) (limit : ℕ) (ts : List Token) (r : Result A ParseFault) → Says view limit ts r → (k : ℕ) → IsUnexpected programs limit ts k → IsOnlyFault r (Unexpected k)
+only_unexpected view limit ts (Ok a) s k u = spelled_not_unexpected programs limit ts k (view a) s.found.0 s.found.1 u
+only_unexpected view limit ts (Err (Unexpected j)) s k u = ap (λ z. Unexpected z) (one_unexpected programs limit ts j k (s.unexpected j refl) u)
+only_unexpected view limit ts (Err (TooDeep j)) s k u = absurd (unexpected_not_too_deep programs limit ts k j u (s.too_deep j refl))
+only_unexpected view limit ts (Err Memory) s k u = tt
+
+-- a token that is too deep is the one given
+pub only_too_deep : {A : Type 0} (view : A → ProgramTree) (limit : ℕ) (ts : List Token) (r : Result A ParseFault) → Says view limit ts r → (k : ℕ) → IsTooDeep programs limit ts k → IsOnlyFault r (TooDeep k)
+only_too_deep view limit ts (Ok a) s k d = spelled_not_too_deep programs limit ts k (view a) s.found.0 s.found.1 d
+only_too_deep view limit ts (Err (Unexpected j)) s k d = absurd (unexpected_not_too_deep programs limit ts j k (s.unexpected j refl) d)
+only_too_deep view limit ts (Err (TooDeep j)) s k d = ap (λ z. TooDeep z) (one_too_deep programs limit ts j k (s.too_deep j refl) d)
+only_too_deep view limit ts (Err Memory) s k d = tt
