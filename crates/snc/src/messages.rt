@@ -10,8 +10,8 @@ ghost use Rattle.snl_tree.specs.view.Programs.{program_view};
 use crate::lines::{Names, push_line, push_lines};
 use snl_check::{Checked, Outcome, Severity, check};
 use snl_text::{LexFault, Lexed, Pos, Token, lex};
-use snl_tree::thin::{Program, narrow};
-use snl_tree::{ParseFault, parse, whole};
+use snl_tree::thin::{self, narrow};
+use snl_tree::{ParseFault, Program, parse};
 use std::alloc::{AllocError, Global};
 
 /// What the rules say of a source: its messages as text, and the program if none is an error.
@@ -114,14 +114,14 @@ fn tokens_judged<'a>(
 /// isn't run yet.
 fn tree_judged<'a>(
     alloc: Global,
-    program: whole::Program<'a>,
+    program: Program<'a>,
     names: Names,
 ) -> Result<Findings<'a>, AllocError>
     ensures { IfOk result (λ f. IsTreeTold names.entry.read.now (map (λ name. name.now) names.entry.marked.now) (program_view program.entry) program.entry.embedded.items
         f.messages.items (option_map (λ c. c.program) f.checked)) }
 {
     let word = program.word;
-    match narrow(alloc, program)? {
+    match narrow(alloc, &program)? {
         Some(thin) => {
             let found = program_judged(alloc, thin, names)?;
             Ok(found)
@@ -136,7 +136,7 @@ fn tree_judged<'a>(
 /// All messages of a program.
 fn program_judged<'a>(
     alloc: Global,
-    program: Program<'a>,
+    program: thin::Program<'a>,
     names: Names,
 ) -> Result<Findings<'a>, AllocError>
     ensures { IfOk result (λ f. IsProgramTold names.entry.read.now (map (λ name. name.now) names.entry.marked.now) program.entry

@@ -18,7 +18,7 @@ use snl_tree::thin::Program;
 use std::alloc::{AllocError, Global};
 
 /// A program of which no error holds.
-#[derive(Debug, Drop)]
+#[derive(Drop)]
 pub struct Checked<'a> {
     program: Program<'a>,
     /// The places of the declarations that uses mean, by the offsets of the uses.
@@ -47,7 +47,7 @@ impl<'a> Checked<'a> {
 }
 
 /// What a check found.
-#[derive(Debug, Drop)]
+#[derive(Drop)]
 pub struct Outcome<'a> {
     /// By place in the source, at one place errors before warnings, then by number.
     pub messages: Vec<Message>,

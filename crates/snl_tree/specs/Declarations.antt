@@ -5,7 +5,7 @@ use Rattle.snl_text.specs.declared.kinds.Kind.{Kind}
 use Rattle.snl_text.specs.declared.kinds.Kind.TheVariants.{Name, Char, Short, Int, Long, Unsigned, Int8, Int16, Int32, Int64, Uint8, Uint16, Uint32, Uint64, Float, Double, StringType, OpenBrace, CloseBrace, OpenBracket, CloseBracket, Semicolon, Comma, Equal}
 use Rattle.snl_tree.specs.Kinds.{is}
 use Rattle.snl_tree.specs.Slots.{Slot, The, Sign}
-use Rattle.snl_tree.specs.Expressions.{ExprTree, rank, slots, IsWell, IsExpr}
+use Rattle.snl_tree.specs.Expressions.{ExprTree, assigned, slots, Fits, IsExpr}
 use Rattle.snl_tree.specs.Sequences.{between_slots, maybe_slots, IfThere, row_slots, Each, parted_slots, EachOfSome}
 
 -- A word that names a type, and so begins a declaration.
@@ -67,6 +67,7 @@ pub record DeclarationTree : Type 0 where
   pub names : List DeclaratorTree
 
 -- The spelling.
+-- type : a word of a type, and a second after 'unsigned'
 abbrev pub type_slots : TypeTree → List Slot
 type_slots t = The t.word ∷ maybe_slots (λ w. The w ∷ []) t.second
 
@@ -74,18 +75,22 @@ type_slots t = The t.word ∷ maybe_slots (λ w. The w ∷ []) t.second
 abbrev pub bracket_slots : ExprTree → List Slot
 bracket_slots e = between_slots OpenBracket (slots e) CloseBracket
 
+-- asg ( ',' asg )* [ ',' ]
 abbrev pub value_slots : ValueList → List Slot
 value_slots no_values = []
 value_slots (last_value e) = slots e
 value_slots (value_before e rest) = slots e ++ Sign Comma ∷ value_slots rest
 
+-- init : asg | '{' [ values ] '}'
 abbrev pub initialiser_slots : InitialiserTree → List Slot
 initialiser_slots (single e) = slots e
 initialiser_slots (listed values) = between_slots OpenBrace (value_slots values) CloseBrace
 
+-- dname : NAME ( '[' expr ']' )* [ '=' init ]
 abbrev pub declarator_slots : DeclaratorTree → List Slot
 declarator_slots d = The d.name ∷ (row_slots bracket_slots d.sizes ++ maybe_slots (λ i. Sign Equal ∷ initialiser_slots i) d.initial)
 
+-- decl : type dname ( ',' dname )* ';'
 abbrev pub declaration_slots : DeclarationTree → List Slot
 declaration_slots d = type_slots d.type_name ++ (parted_slots Comma declarator_slots d.names ++ Sign Semicolon ∷ [])
 
@@ -96,7 +101,7 @@ IsType t = (starts_declaration t.word.kind ≡ true) × IfThere (λ w. is_second
 
 -- An expression without a comma outside of parentheses.
 abbrev pub IsValue : ℕ → ExprTree → Type 0
-IsValue n e = (rank e ≤ 14) × IsWell e n
+IsValue n e = Fits assigned e n
 
 abbrev pub AreValues : ℕ → ValueList → Type 0
 AreValues n no_values = Unit {0}

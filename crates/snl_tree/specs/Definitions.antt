@@ -44,7 +44,7 @@ pub record QueueTree : Type 0 where
   pub flag : Option FlagTree
   pub size : Option Token
 
-pub record OptionTree : Type 0 where
+pub record SettingTree : Type 0 where
   pub sign : Token
   pub name : Token
 
@@ -56,7 +56,7 @@ pub data DefinitionTree : Type 0 where
   sync : SyncTree → DefinitionTree
   sync_queue : QueueTree → DefinitionTree
   event_flags : List Token → DefinitionTree
-  option : OptionTree → DefinitionTree
+  setting : SettingTree → DefinitionTree
 
 -- A kind of token that begins a definition.
 abbrev pub starts_definition : Kind → Bool
@@ -82,31 +82,40 @@ is_sign _ = false
 abbrev pub token_slots : Token → List Slot
 token_slots t = The t ∷ []
 
+-- place : NAME [ '[' expr ']' ]
 abbrev pub place_slots : PlaceTree → List Slot
 place_slots p = The p.name ∷ maybe_slots bracket_slots p.subscript
 
+-- STRING | '{' STRING ( ',' STRING )* '}'
 abbrev pub names_slots : NamesTree → List Slot
 names_slots (one_name t) = The t ∷ []
 names_slots (name_list ts) = between_slots OpenBrace (parted_slots Comma token_slots ts) CloseBrace
 
+-- [ 'to' ] names
 abbrev pub channels_slots : ChannelsTree → List Slot
 channels_slots c = sign_slots To c.to ++ names_slots c.names
 
+-- assign : 'assign' place [ channels ] ';'
 abbrev pub assign_slots : AssignTree → List Slot
 assign_slots a = The a.word ∷ (place_slots a.place ++ (maybe_slots channels_slots a.channels ++ Sign Semicolon ∷ []))
 
+-- [ 'to' ] NAME
 abbrev pub flag_slots : FlagTree → List Slot
 flag_slots f = sign_slots To f.to ++ The f.name ∷ []
 
+-- sync : 'sync' place flag ';'
 abbrev pub sync_slots : SyncTree → List Slot
 sync_slots s = between_slots Sync (place_slots s.place ++ flag_slots s.flag) Semicolon
 
+-- syncq : ( 'syncq' | 'syncQ' ) place [ flag ] [ WHOLE ] ';'
 abbrev pub queue_slots : QueueTree → List Slot
 queue_slots q = The q.word ∷ (place_slots q.place ++ (maybe_slots flag_slots q.flag ++ (maybe_slots token_slots q.size ++ Sign Semicolon ∷ [])))
 
-abbrev pub option_slots : OptionTree → List Slot
-option_slots o = Sign OptionWord ∷ The o.sign ∷ The o.name ∷ Sign Semicolon ∷ []
+-- option : 'option' ( '+' | '-' ) NAME ';'
+abbrev pub setting_slots : SettingTree → List Slot
+setting_slots o = Sign OptionWord ∷ The o.sign ∷ The o.name ∷ Sign Semicolon ∷ []
 
+-- def : decl | assign | 'monitor' place ';' | sync | syncq | 'evflag' NAME ( ',' NAME )* ';' | option
 abbrev pub definition_slots : DefinitionTree → List Slot
 definition_slots (declaration d) = declaration_slots d
 definition_slots (assign a) = assign_slots a
@@ -114,7 +123,7 @@ definition_slots (monitor p) = between_slots Monitor (place_slots p) Semicolon
 definition_slots (sync s) = sync_slots s
 definition_slots (sync_queue q) = queue_slots q
 definition_slots (event_flags names) = between_slots EventFlag (parted_slots Comma token_slots names) Semicolon
-definition_slots (option o) = option_slots o
+definition_slots (setting o) = setting_slots o
 
 -- Well formed, with expressions that are nested at most n deep; the brackets of a place do not count.
 abbrev pub IsPlace : ℕ → PlaceTree → Type 0
@@ -133,8 +142,8 @@ IsSync n s = IsPlace n s.place × (s.flag.name.kind ≡ Name)
 abbrev pub IsQueue : ℕ → QueueTree → Type 0
 IsQueue n q = (q.word.kind ≡ SyncQueue) × IsPlace n q.place × IfThere (λ f. f.name.kind ≡ Name) q.flag × IfThere (λ t. t.kind ≡ Whole) q.size
 
-abbrev pub IsOption : OptionTree → Type 0
-IsOption o = (is_sign o.sign.kind ≡ true) × (o.name.kind ≡ Name)
+abbrev pub IsSetting : SettingTree → Type 0
+IsSetting o = (is_sign o.sign.kind ≡ true) × (o.name.kind ≡ Name)
 
 -- a definition that is no option
 abbrev pub IsDefinition : ℕ → DefinitionTree → Type 0
@@ -144,9 +153,9 @@ IsDefinition n (monitor p) = IsPlace n p
 IsDefinition n (sync s) = IsSync n s
 IsDefinition n (sync_queue q) = IsQueue n q
 IsDefinition n (event_flags names) = EachOfSome (λ t. t.kind ≡ Name) names
-IsDefinition n (option o) = ⊥
+IsDefinition n (setting o) = ⊥
 
 -- a definition or an option
 abbrev pub IsPart : ℕ → DefinitionTree → Type 0
-IsPart n (option o) = IsOption o
+IsPart n (setting o) = IsSetting o
 IsPart n d = IsDefinition n d

@@ -21,7 +21,7 @@ mutual
     conditional : ExprTree → ExprTree → ExprTree → ExprTree
     assignment : ExprTree → Token → ExprTree → ExprTree
 
-  -- operators, each with the operand behind it
+  -- operators, each with the operand after it
   pub data TermList : Type 0 where
     no_terms : TermList
     term : Token → ExprTree → TermList → TermList
@@ -31,7 +31,15 @@ mutual
     value : ExprTree → ArgumentList → ArgumentList
     text : Token → ArgumentList → ArgumentList
 
--- The spelling, one line a form.
+-- The spelling, one line a form:
+--   expr    : asg ( ',' asg )*
+--   asg     : cond | unary asgop asg
+--   cond    : binary [ '?' expr ':' cond ]
+--   binary  : operands with the operators of one level between them
+--   unary   : ( '+' | '-' | '!' | '~' | '++' | '--' ) unary | postfix
+--   postfix : prim [ '++' | '--' ]
+--   prim    : WHOLE | DECIMAL | CHARACTER | '(' expr ')' | NAME [ '[' expr ']' ] | NAME '(' [ arg ( ',' arg )* ] ')'
+--   arg     : asg | STRING
 abbrev mutual
   pub slots : ExprTree → List Slot
   slots (constant t) = The t ∷ []
@@ -54,7 +62,7 @@ abbrev mutual
   argument_slots (value e rest) = slots e ++ more_slots rest
   argument_slots (text t rest) = The t ∷ more_slots rest
 
-  -- arguments behind another one
+  -- arguments after another one
   pub more_slots : ArgumentList → List Slot
   more_slots no_arguments = []
   more_slots (value e rest) = Sign Comma ∷ (slots e ++ more_slots rest)
@@ -65,20 +73,45 @@ abbrev pub terms_rank : TermList → ℕ
 terms_rank no_terms = 16
 terms_rank (term op e rest) = looseness op.kind
 
--- How loosely an expression holds together: names, constants, calls and all in parentheses (0), `++` and
--- `--` behind (1), prefix operators (2), the levels of binary operators (3 to 12), the conditional (13),
--- assignments (14), the comma (15).
+-- The levels of expressions, by how loosely they hold together; the binary operators are 3 to 12.
+abbrev pub primary : ℕ
+primary = 0
+
+abbrev pub stepped : ℕ
+stepped = 1
+
+abbrev pub unary : ℕ
+unary = 2
+
+abbrev pub binary : ℕ
+binary = 12
+
+abbrev pub condition : ℕ
+condition = 13
+
+abbrev pub assigned : ℕ
+assigned = 14
+
+abbrev pub any : ℕ
+any = 15
+
+-- How loosely an expression holds together: names, constants, calls and all in parentheses most tightly, then
+-- `++` and `--` after, prefix operators, the binary ones, the conditional, assignments, and the comma.
 abbrev pub rank : ExprTree → ℕ
-rank (constant t) = 0
-rank (parenthesized e) = 0
-rank (named x) = 0
-rank (element x b e) = 0
-rank (call f all) = 0
-rank (postfix e op) = 1
-rank (prefix op e) = 2
+rank (constant t) = primary
+rank (parenthesized e) = primary
+rank (named x) = primary
+rank (element x b e) = primary
+rank (call f all) = primary
+rank (postfix e op) = stepped
+rank (prefix op e) = unary
 rank (chain e rest) = terms_rank rest
-rank (conditional c a b) = 13
-rank (assignment e op f) = 14
+rank (conditional c a b) = condition
+rank (assignment e op f) = assigned
+
+-- It holds together at least as tightly as a level.
+abbrev pub Holds : ℕ → ExprTree → Type 0
+Holds level e = rank e ≤ level
 
 -- The operators of a chain: a level of the binary ones, or the comma.
 abbrev pub IsLevel : ℕ → Type 0
@@ -95,15 +128,15 @@ Under (suc n) P = P n
 abbrev mutual
   pub IsWell : ExprTree → ℕ → Type 0
   IsWell (constant t) n = is_constant t.kind ≡ true
-  IsWell (parenthesized e) n = Under n (λ m. (rank e ≤ 15) × IsWell e m)
+  IsWell (parenthesized e) n = Under n (λ m. Holds any e × IsWell e m)
   IsWell (named x) n = x.kind ≡ Name
-  IsWell (element x b e) n = (x.kind ≡ Name) × (b.kind ≡ OpenBracket) × Under n (λ m. (rank e ≤ 15) × IsWell e m)
+  IsWell (element x b e) n = (x.kind ≡ Name) × (b.kind ≡ OpenBracket) × Under n (λ m. Holds any e × IsWell e m)
   IsWell (call f all) n = (f.kind ≡ Name) × Under n (λ m. AreWell all m)
-  IsWell (postfix e op) n = (rank e ≤ 0) × IsWell e n × (looseness op.kind ≡ 1)
-  IsWell (prefix op e) n = (is_prefix op.kind ≡ true) × Under n (λ m. (rank e ≤ 2) × IsWell e m)
+  IsWell (postfix e op) n = Holds primary e × IsWell e n × (looseness op.kind ≡ stepped)
+  IsWell (prefix op e) n = (is_prefix op.kind ≡ true) × Under n (λ m. Holds unary e × IsWell e m)
   IsWell (chain e rest) n = IsLevel (terms_rank rest) × (rank e < terms_rank rest) × IsWell e n × HasTerms rest (terms_rank rest) n
-  IsWell (conditional c a b) n = (rank c ≤ 12) × IsWell c n × Under n (λ m. (rank a ≤ 15) × IsWell a m × (rank b ≤ 13) × IsWell b m)
-  IsWell (assignment e op f) n = (rank e ≤ 2) × IsWell e n × (looseness op.kind ≡ 14) × Under n (λ m. (rank f ≤ 14) × IsWell f m)
+  IsWell (conditional c a b) n = Holds binary c × IsWell c n × Under n (λ m. Holds any a × IsWell a m × Holds condition b × IsWell b m)
+  IsWell (assignment e op f) n = Holds unary e × IsWell e n × (looseness op.kind ≡ assigned) × Under n (λ m. Holds assigned f × IsWell f m)
 
   -- operators of one level, each with an operand that is tighter
   pub HasTerms : TermList → ℕ → ℕ → Type 0
@@ -113,9 +146,13 @@ abbrev mutual
   -- assignments and strings
   pub AreWell : ArgumentList → ℕ → Type 0
   AreWell no_arguments n = Unit {0}
-  AreWell (value e rest) n = (rank e ≤ 14) × IsWell e n × AreWell rest n
+  AreWell (value e rest) n = Holds assigned e × IsWell e n × AreWell rest n
   AreWell (text t rest) n = (t.kind ≡ Text) × AreWell rest n
+
+-- An expression that may stand where a level is asked for, nested at most n deep.
+abbrev pub Fits : ℕ → ExprTree → ℕ → Type 0
+Fits level e n = Holds level e × IsWell e n
 
 -- An expression, nested at most n deep.
 abbrev pub IsExpr : ℕ → ExprTree → Type 0
-IsExpr n e = (rank e ≤ 15) × IsWell e n
+IsExpr n e = Fits any e n

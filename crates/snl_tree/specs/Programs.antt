@@ -44,29 +44,37 @@ pub record ProgramTree : Type 0 where
   pub exit : Option BlockTree
 
 -- The spelling.
+-- 'state' NAME | 'exit'
 abbrev pub target_slots : TargetTree → List Slot
 target_slots (to_state x) = Sign State ∷ The x ∷ []
 target_slots to_exit = Sign Exit ∷ []
 
+-- when : 'when' '(' [ expr ] ')' block target
 abbrev pub clause_slots : ClauseTree → List Slot
 clause_slots c = The c.word ∷ (between_slots OpenParenthesis (maybe_slots slots c.condition) CloseParenthesis ++ (block_slots c.block ++ target_slots c.target))
 
+-- entry : 'entry' block
 abbrev pub entry_slots : BlockTree → List Slot
 entry_slots b = Sign Entry ∷ block_slots b
 
+-- exit : 'exit' block
 abbrev pub exit_slots : BlockTree → List Slot
 exit_slots b = Sign Exit ∷ block_slots b
 
+-- state : 'state' NAME '{' ( def | option )* [ entry ] when* [ exit ] '}'
 abbrev pub state_slots : StateTree → List Slot
 state_slots s = The s.word ∷ The s.name ∷ between_slots OpenBrace
     (row_slots definition_slots s.definitions ++ (maybe_slots entry_slots s.entry ++ (row_slots clause_slots s.clauses ++ maybe_slots exit_slots s.exit))) CloseBrace
 
+-- ss : 'ss' NAME '{' def* state+ '}'
 abbrev pub state_set_slots : StateSetTree → List Slot
 state_set_slots s = The s.word ∷ The s.name ∷ between_slots OpenBrace (row_slots definition_slots s.definitions ++ row_slots state_slots s.states) CloseBrace
 
+-- '(' STRING ')'
 abbrev pub macros_slots : Token → List Slot
 macros_slots t = between_slots OpenParenthesis (token_slots t) CloseParenthesis
 
+-- program : 'program' NAME [ macros ] ( def | option )* [ entry ] ss+ [ exit ]
 abbrev pub program_slots : ProgramTree → List Slot
 program_slots p = The p.word ∷ The p.name ∷ (maybe_slots macros_slots p.macros ++ (row_slots definition_slots p.definitions ++
     (maybe_slots entry_slots p.entry ++ (row_slots state_set_slots p.state_sets ++ maybe_slots exit_slots p.exit))))

@@ -44,10 +44,14 @@ condition_slots e = Sign OpenParenthesis ∷ (slots e ++ Sign CloseParenthesis �
 abbrev pub ended_slots : Option ExprTree → Kind → List Slot
 ended_slots e kind = maybe_slots slots e ++ Sign kind ∷ []
 
+-- '(' [ expr ] ';' [ expr ] ';' [ expr ] ')'
 abbrev pub header_slots : Header → List Slot
 header_slots h = Sign OpenParenthesis ∷ (ended_slots h.start Semicolon ++ (ended_slots h.condition Semicolon ++ ended_slots h.step CloseParenthesis))
 
--- The spelling, one line a form.
+-- The spelling, one line a form:
+--   stmt  : block | ';' | expr ';' | 'break' ';' | 'continue' ';' | 'state' NAME ';'
+--         | 'if' '(' expr ')' stmt [ 'else' stmt ] | 'while' '(' expr ')' stmt | 'for' header stmt
+--   block : '{' decl* stmt* '}'
 abbrev mutual
   pub statement_slots : StatementTree → List Slot
   statement_slots (nested b) = block_slots b

@@ -20,7 +20,7 @@ use Rattle.snl_tree.specs.Expressions.{ExprTree, TermList, ArgumentList, constan
 use Rattle.snl_tree.specs.view.Shown.{shown}
 use Rattle.snl_tree.specs.Statements.{StatementTree, StatementList, BlockTree, no_statements, statement, block, expression}
 use Rattle.snl_tree.specs.Declarations.{TypeTree, DeclaratorTree, DeclarationTree}
-use Rattle.snl_tree.specs.Definitions.{NamesTree, one_name, ChannelsTree, OptionTree, DefinitionTree, declaration, assign, monitor, option}
+use Rattle.snl_tree.specs.Definitions.{NamesTree, one_name, ChannelsTree, SettingTree, DefinitionTree, declaration, assign, monitor, setting}
 use Rattle.snl_tree.specs.Programs.{TargetTree, to_state, ClauseTree, StateTree, StateSetTree, ProgramTree}
 
 -- What stands between the parts of a sum and of a product.
@@ -156,12 +156,12 @@ is_thin_definition (monitor p) = is_missing p.subscript
 is_thin_definition _ = false
 
 -- `+s`
-abbrev pub is_safe_mode : OptionTree → Bool
+abbrev pub is_safe_mode : SettingTree → Bool
 is_safe_mode o = is kind.Plus o.sign.kind && is_spelled (codes "s") o.name
 
 -- `option +s;`, and then definitions alone
 abbrev pub are_thin_parts : List DefinitionTree → Bool
-are_thin_parts (option o ∷ all) = is_safe_mode o && list_all is_thin_definition all
+are_thin_parts (setting o ∷ all) = is_safe_mode o && list_all is_thin_definition all
 are_thin_parts _ = false
 
 -- One state set, and no other.
@@ -220,7 +220,7 @@ StandsForDefinition _ _ = ⊥
 
 -- all but the option
 abbrev pub StandForParts : List DefinitionTree → List Def → Type 0
-StandForParts (option o ∷ all) ds = StandEach StandsForDefinition all ds
+StandForParts (setting o ∷ all) ds = StandEach StandsForDefinition all ds
 StandForParts _ ds = ⊥
 
 abbrev pub StandsForOne : List StateSetTree → StateSet → Type 0

@@ -29,12 +29,18 @@ pub const TOKEN_LIMIT: usize = 65_536;
 /// none. `TooDeep` names the first with which programs go on, but none that is nested at most
 /// [`NESTING_LIMIT`] deep. `Memory` comes only where a part of the tree found no room.
 pub fn parse<'a>(alloc: Global, lexed: &Lexed<'a>) -> Result<Program<'a>, ParseFault>
-    ensures found { IfOk result (λ p. IsProgram 64 (program_view p) × Spells programs (program_view p) lexed.now.tokens.items) }
-    ensures only { (p : ProgramTree) → IsProgram 64 p → Spells programs p lexed.now.tokens.items → IsOnly program_view result p }
-    ensures unexpected { (k : ℕ) → result ≡ Err (ParseFault.Unexpected k) → IsUnexpected programs 64 lexed.now.tokens.items k }
-    ensures too_deep { (k : ℕ) → result ≡ Err (ParseFault.TooDeep k) → IsTooDeep programs 64 lexed.now.tokens.items k }
-    ensures only_unexpected { (k : ℕ) → IsUnexpected programs 64 lexed.now.tokens.items k → IsOnlyFault result (ParseFault.Unexpected k) }
-    ensures only_too_deep { (k : ℕ) → IsTooDeep programs 64 lexed.now.tokens.items k → IsOnlyFault result (ParseFault.TooDeep k) }
+    ensures found { IfOk result (λ p. IsProgram 64 (program_view p)
+        × Spells programs (program_view p) lexed.now.tokens.items) }
+    ensures only { (p : ProgramTree) → IsProgram 64 p
+        → Spells programs p lexed.now.tokens.items → IsOnly program_view result p }
+    ensures unexpected { (k : ℕ) → result ≡ Err (ParseFault.Unexpected k)
+        → IsUnexpected programs 64 lexed.now.tokens.items k }
+    ensures too_deep { (k : ℕ) → result ≡ Err (ParseFault.TooDeep k)
+        → IsTooDeep programs 64 lexed.now.tokens.items k }
+    ensures only_unexpected { (k : ℕ) → IsUnexpected programs 64 lexed.now.tokens.items k
+        → IsOnlyFault result (ParseFault.Unexpected k) }
+    ensures only_too_deep { (k : ℕ) → IsTooDeep programs 64 lexed.now.tokens.items k
+        → IsOnlyFault result (ParseFault.TooDeep k) }
     ensures carried { IfOk result (λ p. Carries p lexed.now) }
 {
     parse_within(alloc, lexed, NESTING_LIMIT)
@@ -47,10 +53,14 @@ fn parse_within<'a>(
     limit: usize,
 ) -> Result<Program<'a>, ParseFault>
     requires { 0 < limit }
-    ensures found { IfOk result (λ p. IsProgram limit (program_view p) × Spells programs (program_view p) lexed.now.tokens.items) }
-    ensures only { (p : ProgramTree) → IsProgram limit p → Spells programs p lexed.now.tokens.items → IsOnly program_view result p }
-    ensures unexpected { (k : ℕ) → result ≡ Err (ParseFault.Unexpected k) → IsUnexpected programs limit lexed.now.tokens.items k }
-    ensures too_deep { (k : ℕ) → result ≡ Err (ParseFault.TooDeep k) → IsTooDeep programs limit lexed.now.tokens.items k }
+    ensures found { IfOk result (λ p. IsProgram limit (program_view p)
+        × Spells programs (program_view p) lexed.now.tokens.items) }
+    ensures only { (p : ProgramTree) → IsProgram limit p
+        → Spells programs p lexed.now.tokens.items → IsOnly program_view result p }
+    ensures unexpected { (k : ℕ) → result ≡ Err (ParseFault.Unexpected k)
+        → IsUnexpected programs limit lexed.now.tokens.items k }
+    ensures too_deep { (k : ℕ) → result ≡ Err (ParseFault.TooDeep k)
+        → IsTooDeep programs limit lexed.now.tokens.items k }
     ensures carried { IfOk result (λ p. Carries p lexed.now) }
 {
     let tokens = lexed.tokens.as_slice();

@@ -6,8 +6,8 @@ use Rattle.snl_tree.specs.Kinds.{is}
 use Rattle.snl_tree.specs.reading.Readers.{Read, Reader, starts, either, ◌>>=◌}
 use Rattle.snl_tree.specs.Declarations.{starts_declaration}
 use Rattle.snl_tree.specs.reading.Declarations.{declaration_at}
-use Rattle.snl_tree.specs.Definitions.{PlaceTree, AssignTree, SyncTree, QueueTree, DefinitionTree, declaration, assign, monitor, sync, sync_queue, event_flags, option}
-use Rattle.snl_tree.specs.reading.Definitions.{assign_at, monitor_at, sync_at, queue_at, event_flags_at, option_at, definition, definition_at, part, part_at}
+use Rattle.snl_tree.specs.Definitions.{PlaceTree, AssignTree, SyncTree, QueueTree, DefinitionTree, declaration, assign, monitor, sync, sync_queue, event_flags, setting}
+use Rattle.snl_tree.specs.reading.Definitions.{assign_at, monitor_at, sync_at, queue_at, event_flags_at, setting_at, definition, definition_at, part, part_at}
 use Rattle.snl_tree.proofs.code.Forms.{either_form, elim_same}
 
 -- the readers that are left behind each test
@@ -45,9 +45,9 @@ definition_cases n ts =
     (either_form (is Sync) (sync_at n) (from_queue n) ts (λ x. Ok (definition (inr (inr (inr x.0))), x.1)) ∙ elim_same (starts (is Sync) ts) _ _ _ _ refl
     (either_form (is SyncQueue) (queue_at n) event_flags_at ts (λ x. Ok (definition (inr (inr (inr (inr x.0)))), x.1))))))
 
-pub part_cases : (n : ℕ) (ts : List Token) → part_at n ts ≡ elim (starts (is OptionWord) ts) [ true ↦ (option_at ts >>= λ x. Ok (option x.0, x.1)) | false ↦ definition_at n ts ]
+pub part_cases : (n : ℕ) (ts : List Token) → part_at n ts ≡ elim (starts (is OptionWord) ts) [ true ↦ (setting_at ts >>= λ x. Ok (setting x.0, x.1)) | false ↦ definition_at n ts ]
 unfolding part_at
-part_cases n ts = either_form (is OptionWord) option_at (definition_at n) ts (λ x. Ok (part x.0, x.1)) ∙ elim_same (starts (is OptionWord) ts) _ _ _ _ refl (same (definition_at n ts))
+part_cases n ts = either_form (is OptionWord) setting_at (definition_at n) ts (λ x. Ok (part x.0, x.1)) ∙ elim_same (starts (is OptionWord) ts) _ _ _ _ refl (same (definition_at n ts))
   where
     same : (r : Read DefinitionTree) → (r >>= λ x. Ok (x.0, x.1)) ≡ r
     same (Ok x) = refl

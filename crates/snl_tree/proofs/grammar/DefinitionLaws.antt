@@ -11,8 +11,8 @@ use Rattle.snl_tree.specs.reading.Sequences.{maybe, whether, behind, before, bet
 use Rattle.snl_tree.specs.Expressions.{ExprTree}
 use Rattle.snl_tree.specs.Declarations.{starts_declaration}
 use Rattle.snl_tree.specs.reading.Declarations.{bracket_at, declaration_at}
-use Rattle.snl_tree.specs.Definitions.{PlaceTree, NamesTree, one_name, name_list, ChannelsTree, AssignTree, FlagTree, SyncTree, QueueTree, OptionTree, DefinitionTree, declaration, assign, monitor, sync, sync_queue, event_flags, option, starts_definition, starts_part, is_sign, place_slots, names_slots, channels_slots, assign_slots, flag_slots, sync_slots, queue_slots, option_slots, definition_slots, IsPlace, AreNames, IsAssign, IsSync, IsQueue, IsOption, IsDefinition, IsPart}
-use Rattle.snl_tree.specs.reading.Definitions.{place_at, strings_at, channel_names, names_at, channels_at, starts_channels, assign_at, monitor_at, flag_at, starts_flag, sync_at, queue_at, flags_at, event_flags_at, option_at, FormOfDefinition, definition, definition_at, part, part_at, definitions_at, parts_at}
+use Rattle.snl_tree.specs.Definitions.{PlaceTree, NamesTree, one_name, name_list, ChannelsTree, AssignTree, FlagTree, SyncTree, QueueTree, SettingTree, DefinitionTree, declaration, assign, monitor, sync, sync_queue, event_flags, setting, starts_definition, starts_part, is_sign, place_slots, names_slots, channels_slots, assign_slots, flag_slots, sync_slots, queue_slots, setting_slots, definition_slots, IsPlace, AreNames, IsAssign, IsSync, IsQueue, IsSetting, IsDefinition, IsPart}
+use Rattle.snl_tree.specs.reading.Definitions.{place_at, strings_at, channel_names, names_at, channels_at, starts_channels, assign_at, monitor_at, flag_at, starts_flag, sync_at, queue_at, flags_at, event_flags_at, setting_at, FormOfDefinition, definition, definition_at, part, part_at, definitions_at, parts_at}
 use Rattle.snl_tree.proofs.spelling.Laws.{Links}
 use Rattle.snl_tree.proofs.spelling.Choices.{Heads, is_true, true_is}
 use Rattle.snl_tree.proofs.grammar.Shapes.{avoids_heads}
@@ -300,15 +300,15 @@ right_event_flags = right_between EventFlag (tokens_form Name) (λ _. flags_at) 
 
 -- options
 
-abbrev pub option_form : Form OptionTree
-option_form = record { slots = option_slots; good = λ _. IsOption; follow = λ _ _. Unit {0} }
+abbrev pub setting_form : Form SettingTree
+setting_form = record { slots = setting_slots; good = λ _. IsSetting; follow = λ _ _. Unit {0} }
 
 abbrev signed_form : Form (Token × Token)
 signed_form = both_form (one_form is_sign) (λ _. before_form (one_form (is Name)) Semicolon)
 
-pub right_option : Right option_form (λ _. option_at)
-unfolding option_at
-right_option = right_made (behind_form OptionWord signed_form) option_form (λ x. record { sign = x.0; name = x.1 }) (λ _. behind OptionWord (both (one is_sign) (λ _. before (one (is Name)) Semicolon)))
+pub right_setting : Right setting_form (λ _. setting_at)
+unfolding setting_at
+right_setting = right_made (behind_form OptionWord signed_form) setting_form (λ x. record { sign = x.0; name = x.1 }) (λ _. behind OptionWord (both (one is_sign) (λ _. before (one (is Name)) Semicolon)))
     (right_behind OptionWord signed_form (λ _. both (one is_sign) (λ _. before (one (is Name)) Semicolon))
     (right_both (one_form is_sign) (λ _. before_form (one_form (is Name)) Semicolon) (λ _. one is_sign) (λ _ _. before (one (is Name)) Semicolon) (right_one is_sign (token_of Plus) refl)
     (λ _. right_before (one_form (is Name)) (λ _. one (is Name)) Semicolon (right_kind Name) (λ _ _ _. tt)) (λ _ _ _ _ _. tt)))
@@ -394,7 +394,7 @@ right_definition = right_made any_form definition_form definition (λ n. either 
     onto n (sync s) g = (inr (inr (inr (inl s))), g, refl)
     onto n (sync_queue q) g = (inr (inr (inr (inr (inl q)))), g, refl)
     onto n (event_flags names) g = (inr (inr (inr (inr (inr names)))), is_some Name names g, refl)
-    onto n (option o) g = absurd g
+    onto n (setting o) g = absurd g
 
 declaration_starts : (k : Kind) → starts_declaration k ≡ true → starts_definition k ≡ true
 declaration_starts Assign e = refl
@@ -419,7 +419,7 @@ definition_heads n (monitor p) g = refl
 definition_heads n (sync s) g = refl
 definition_heads n (sync_queue q) g = ap starts_definition g.0
 definition_heads n (event_flags names) g = refl
-definition_heads n (option o) g = absurd g
+definition_heads n (setting o) g = absurd g
 
 -- with options among them
 
@@ -432,14 +432,14 @@ heads_more P Q (s ∷ ss) f h = f _ h
 
 pub right_part : Right part_form part_at
 unfolding part_at
-right_part = right_made (either_form option_form definition_form) part_form part (λ n. either (is OptionWord) option_at (definition_at n))
-    (right_either (is OptionWord) option_form definition_form (λ _. option_at) definition_at right_option right_definition (λ _ _ _. refl)
+right_part = right_made (either_form setting_form definition_form) part_form part (λ n. either (is OptionWord) setting_at (definition_at n))
+    (right_either (is OptionWord) setting_form definition_form (λ _. setting_at) definition_at right_setting right_definition (λ _ _ _. refl)
     (λ n d g. avoids_heads (is OptionWord) (λ _. Unit {0}) (definition_slots d) (heads_more (λ k. starts_definition k ≡ true) (λ k. is OptionWord k ≡ false) (definition_slots d) no_option (definition_heads n d g))))
     into onto follows
   where
-    into : (n : ℕ) (x : OptionTree ⊎ DefinitionTree) → (either_form option_form definition_form).good n x → IsPart n (part x) × (definition_slots (part x) ≡ (either_form option_form definition_form).slots x)
+    into : (n : ℕ) (x : SettingTree ⊎ DefinitionTree) → (either_form setting_form definition_form).good n x → IsPart n (part x) × (definition_slots (part x) ≡ (either_form setting_form definition_form).slots x)
     into n (inl o) g = (g, refl)
-    into n (inr (option o)) g = absurd g
+    into n (inr (setting o)) g = absurd g
     into n (inr (declaration d)) g = (g, refl)
     into n (inr (assign a)) g = (g, refl)
     into n (inr (monitor p)) g = (g, refl)
@@ -447,8 +447,8 @@ right_part = right_made (either_form option_form definition_form) part_form part
     into n (inr (sync_queue q)) g = (g, refl)
     into n (inr (event_flags names)) g = (g, refl)
 
-    onto : (n : ℕ) (d : DefinitionTree) → IsPart n d → (x : OptionTree ⊎ DefinitionTree) × (either_form option_form definition_form).good n x × (part x ≡ d)
-    onto n (option o) g = (inl o, g, refl)
+    onto : (n : ℕ) (d : DefinitionTree) → IsPart n d → (x : SettingTree ⊎ DefinitionTree) × (either_form setting_form definition_form).good n x × (part x ≡ d)
+    onto n (setting o) g = (inl o, g, refl)
     onto n (declaration d) g = (inr (declaration d), g, refl)
     onto n (assign a) g = (inr (assign a), g, refl)
     onto n (monitor p) g = (inr (monitor p), g, refl)
@@ -456,12 +456,12 @@ right_part = right_made (either_form option_form definition_form) part_form part
     onto n (sync_queue q) g = (inr (sync_queue q), g, refl)
     onto n (event_flags names) g = (inr (event_flags names), g, refl)
 
-    follows : (n : ℕ) (x : OptionTree ⊎ DefinitionTree) → (either_form option_form definition_form).good n x → (k : Kind) → Unit {0} → (either_form option_form definition_form).follow x k
+    follows : (n : ℕ) (x : SettingTree ⊎ DefinitionTree) → (either_form setting_form definition_form).good n x → (k : Kind) → Unit {0} → (either_form setting_form definition_form).follow x k
     follows n (inl o) g k f = tt
     follows n (inr d) g k f = tt
 
 pub part_heads : (n : ℕ) (d : DefinitionTree) → IsPart n d → Heads (λ k. starts_part k ≡ true) (definition_slots d)
-part_heads n (option o) g = refl
+part_heads n (setting o) g = refl
 part_heads n (declaration d) g = definition_starts d.type_name.word.kind (definition_heads n (declaration d) g)
 part_heads n (assign a) g = ap starts_part g.0
 part_heads n (monitor p) g = refl

@@ -140,18 +140,18 @@ maybe_follow F P (Some a) k = F.follow a k
 abbrev pub maybe_form : {A : Type 0} → Form A → (Kind → Type 0) → Form (Option A)
 maybe_form F P = record { slots = maybe_slots F.slots; good = λ n. IfThere (F.good n); follow = maybe_follow F P }
 
-abbrev option_of : {A : Type 0} → A ⊎ Unit {0} → Option A
-option_of (inl a) = Some a
-option_of (inr u) = None
+abbrev setting_of : {A : Type 0} → A ⊎ Unit {0} → Option A
+setting_of (inl a) = Some a
+setting_of (inr u) = None
 
-maybe_same : {A : Type 0} (test : Kind → Bool) (item : Reader A) (ts : List Token) → made option_of (either test item nothing) ts ≡ maybe test item ts
+maybe_same : {A : Type 0} (test : Kind → Bool) (item : Reader A) (ts : List Token) → made setting_of (either test item nothing) ts ≡ maybe test item ts
 maybe_same {A} test item ts = go (starts test ts)
   where
-    some : (r : Read A) → ◌≡◌ {A = Read (Option A)} (let s : Read (A ⊎ Unit {0}) = (r >>= λ x. Ok (inl x.0, x.1)) in s >>= λ x. Ok (option_of x.0, x.1)) (r >>= λ x. Ok (Some x.0, x.1))
+    some : (r : Read A) → ◌≡◌ {A = Read (Option A)} (let s : Read (A ⊎ Unit {0}) = (r >>= λ x. Ok (inl x.0, x.1)) in s >>= λ x. Ok (setting_of x.0, x.1)) (r >>= λ x. Ok (Some x.0, x.1))
     some (Ok x) = refl
     some (Err f) = refl
 
-    go : (b : Bool) → ◌≡◌ {A = Read (Option A)} (let s : Read (A ⊎ Unit {0}) = elim b [ true ↦ (item ts >>= λ x. Ok (inl x.0, x.1)) | false ↦ (nothing ts >>= λ y. Ok (inr y.0, y.1)) ] in s >>= λ x. Ok (option_of x.0, x.1)) (elim b [ true ↦ (item ts >>= λ x. Ok (Some x.0, x.1)) | false ↦ Ok (None, ts) ])
+    go : (b : Bool) → ◌≡◌ {A = Read (Option A)} (let s : Read (A ⊎ Unit {0}) = elim b [ true ↦ (item ts >>= λ x. Ok (inl x.0, x.1)) | false ↦ (nothing ts >>= λ y. Ok (inr y.0, y.1)) ] in s >>= λ x. Ok (setting_of x.0, x.1)) (elim b [ true ↦ (item ts >>= λ x. Ok (Some x.0, x.1)) | false ↦ Ok (None, ts) ])
     go true = some (item ts)
     go false = refl
 
@@ -160,19 +160,19 @@ maybe_laws : {A : Type 0} (test : Kind → Bool) (F : Form A) (P : Kind → Type
     → ((n : ℕ) (a : A) → F.good n a → Heads (λ k. test k ≡ true) (F.slots a))
     → ((k : Kind) → P k → test k ≡ false)
     → Right (maybe_form F P) (λ n. maybe test (item n))
-maybe_laws {A} test F P item reads grows raise heads stop = right_same (maybe_form F P) (λ n. made option_of (either test (item n) nothing)) (λ n. maybe test (item n)) (λ n ts. maybe_same test (item n) ts)
-    (right_made (either_form F (nothing_form P)) (maybe_form F P) option_of (λ n. either test (item n) nothing)
+maybe_laws {A} test F P item reads grows raise heads stop = right_same (maybe_form F P) (λ n. made setting_of (either test (item n) nothing)) (λ n. maybe test (item n)) (λ n ts. maybe_same test (item n) ts)
+    (right_made (either_form F (nothing_form P)) (maybe_form F P) setting_of (λ n. either test (item n) nothing)
     (either_laws test F (nothing_form P) item (λ _. nothing) reads grows raise (right_nothing P) heads (λ _ _ _. stop)) into onto follows)
   where
-    into : (n : ℕ) (x : A ⊎ Unit {0}) → (either_form F (nothing_form P)).good n x → IfThere (F.good n) (option_of x) × (maybe_slots F.slots (option_of x) ≡ (either_form F (nothing_form P)).slots x)
+    into : (n : ℕ) (x : A ⊎ Unit {0}) → (either_form F (nothing_form P)).good n x → IfThere (F.good n) (setting_of x) × (maybe_slots F.slots (setting_of x) ≡ (either_form F (nothing_form P)).slots x)
     into n (inl a) g = (g, refl)
     into n (inr u) g = (tt, refl)
 
-    onto : (n : ℕ) (o : Option A) → IfThere (F.good n) o → (x : A ⊎ Unit {0}) × (either_form F (nothing_form P)).good n x × (option_of x ≡ o)
+    onto : (n : ℕ) (o : Option A) → IfThere (F.good n) o → (x : A ⊎ Unit {0}) × (either_form F (nothing_form P)).good n x × (setting_of x ≡ o)
     onto n None g = (inr tt, tt, refl)
     onto n (Some a) g = (inl a, g, refl)
 
-    follows : (n : ℕ) (x : A ⊎ Unit {0}) → (either_form F (nothing_form P)).good n x → (k : Kind) → maybe_follow F P (option_of x) k → (either_form F (nothing_form P)).follow x k
+    follows : (n : ℕ) (x : A ⊎ Unit {0}) → (either_form F (nothing_form P)).good n x → (k : Kind) → maybe_follow F P (setting_of x) k → (either_form F (nothing_form P)).follow x k
     follows n (inl a) g k f = f
     follows n (inr u) g k f = f
 

@@ -9,7 +9,7 @@ use Rattle.snl_tree.specs.reading.Readers.{Reader, one, both, either, many, made
 use Rattle.snl_tree.specs.reading.Sequences.{maybe, whether, behind, before, between, parted}
 use Rattle.snl_tree.specs.Declarations.{starts_declaration, DeclarationTree}
 use Rattle.snl_tree.specs.reading.Declarations.{bracket_at, declaration_at}
-use Rattle.snl_tree.specs.Definitions.{PlaceTree, NamesTree, one_name, name_list, ChannelsTree, AssignTree, FlagTree, SyncTree, QueueTree, OptionTree, DefinitionTree, declaration, assign, monitor, sync, sync_queue, event_flags, option, starts_definition, starts_part, is_sign}
+use Rattle.snl_tree.specs.Definitions.{PlaceTree, NamesTree, one_name, name_list, ChannelsTree, AssignTree, FlagTree, SyncTree, QueueTree, SettingTree, DefinitionTree, declaration, assign, monitor, sync, sync_queue, event_flags, setting, starts_definition, starts_part, is_sign}
 
 -- NAME [ '[' expr ']' ]
 unfoldable pub place_at : ℕ → Reader PlaceTree
@@ -72,8 +72,8 @@ unfoldable pub event_flags_at : Reader (List Token)
 event_flags_at = between EventFlag flags_at Semicolon
 
 -- 'option' ( '+' | '-' ) NAME ';'
-unfoldable pub option_at : Reader OptionTree
-option_at = made (λ x. record { sign = x.0; name = x.1 }) (behind OptionWord (both (one is_sign) (λ _. before (one (is Name)) Semicolon)))
+unfoldable pub setting_at : Reader SettingTree
+setting_at = made (λ x. record { sign = x.0; name = x.1 }) (behind OptionWord (both (one is_sign) (λ _. before (one (is Name)) Semicolon)))
 
 -- the forms of a definition, told apart by their first words
 abbrev pub FormOfDefinition : Type 0
@@ -91,13 +91,13 @@ definition (inr (inr (inr (inr (inr names))))) = event_flags names
 unfoldable pub definition_at : ℕ → Reader DefinitionTree
 definition_at n = made definition (either starts_declaration (declaration_at n) (either (is Assign) (assign_at n) (either (is Monitor) (monitor_at n) (either (is Sync) (sync_at n) (either (is SyncQueue) (queue_at n) event_flags_at)))))
 
-abbrev pub part : OptionTree ⊎ DefinitionTree → DefinitionTree
-part (inl o) = option o
+abbrev pub part : SettingTree ⊎ DefinitionTree → DefinitionTree
+part (inl o) = setting o
 part (inr d) = d
 
 -- def | option
 unfoldable pub part_at : ℕ → Reader DefinitionTree
-part_at n = made part (either (is OptionWord) option_at (definition_at n))
+part_at n = made part (either (is OptionWord) setting_at (definition_at n))
 
 -- def*
 unfoldable pub definitions_at : ℕ → Reader (List DefinitionTree)

@@ -16,7 +16,7 @@ use Rattle.snl_tree.specs.declared.trees.definitions.Setting.{Setting}
 use Rattle.snl_tree.specs.view.Shown.{shown}
 use Rattle.snl_tree.specs.view.Expressions.{boxed}
 use Rattle.snl_tree.specs.view.Declarations.{declaration_view}
-use Rattle.snl_tree.specs.Definitions.{PlaceTree, NamesTree, one_name, name_list, ChannelsTree, AssignTree, FlagTree, SyncTree, QueueTree, OptionTree, DefinitionTree, declaration, assign, monitor, sync, sync_queue, event_flags, option}
+use Rattle.snl_tree.specs.Definitions.{PlaceTree, NamesTree, one_name, name_list, ChannelsTree, AssignTree, FlagTree, SyncTree, QueueTree, SettingTree, DefinitionTree, declaration, assign, monitor, sync, sync_queue, event_flags, setting}
 
 abbrev pub place_view : Place → PlaceTree
 place_view p = record { name = p.name; subscript = shown boxed p.subscript }
@@ -43,7 +43,7 @@ sync_view s = record { place = place_view s.place; flag = flag_view s.flag }
 abbrev pub queue_view : SyncQueue → QueueTree
 queue_view q = record { word = q.word; place = place_view q.place; flag = shown flag_view q.flag; size = q.size }
 
-abbrev pub setting_view : Setting → OptionTree
+abbrev pub setting_view : Setting → SettingTree
 setting_view s = record { sign = s.sign; name = s.name }
 
 abbrev pub definition_view : Def → DefinitionTree
@@ -53,7 +53,7 @@ definition_view (Declared.Monitor p) = monitor (place_view p)
 definition_view (Declared.Sync s) = sync (sync_view s)
 definition_view (Declared.SyncQueue q) = sync_queue (queue_view q)
 definition_view (Declared.EventFlags v) = event_flags (token_list v)
-definition_view (Declared.Setting s) = option (setting_view s)
+definition_view (Declared.Setting s) = setting (setting_view s)
 
 abbrev pub definition_views : Vec Def Global → List DefinitionTree
 definition_views v = map definition_view v.items

@@ -56,7 +56,8 @@ pub fn at_declaration(cursor: &Cursor) -> bool
 
 /// Reads the first word of a type.
 fn type_word<'t, 'a>(cursor: &mut Cursor<'t, 'a>) -> Result<Token<'a>, Halt>
-    ensures { MovesToken result cursor.new.left.now (readers.one kinds.starts_declaration cursor.old.left.now) }
+    ensures { MovesToken result cursor.new.left.now
+        (readers.one kinds.starts_declaration cursor.old.left.now) }
 {
     match cursor.left {
         [first, after @ ..] if is_type(first.kind) => {
@@ -136,7 +137,8 @@ fn initialiser<'t, 'a>(
     cursor: &mut Cursor<'t, 'a>,
     depth: usize,
 ) -> Result<Initialiser<'a>, Halt>
-    ensures { Moves initialiser_view result cursor.new.left.now (specs.initialiser_at depth cursor.old.left.now) }
+    ensures { Moves initialiser_view result cursor.new.left.now
+        (specs.initialiser_at depth cursor.old.left.now) }
 {
     if !at(cursor, Kind::OpenBrace) {
         let value = level(alloc, cursor, depth, ASSIGNMENT)?;
@@ -154,7 +156,9 @@ fn initial<'t, 'a>(
     cursor: &mut Cursor<'t, 'a>,
     depth: usize,
 ) -> Result<Option<Initialiser<'a>>, Halt>
-    ensures { Moves (shown initialiser_view) result cursor.new.left.now (sequences.maybe (is Kind.Equal) (sequences.behind Kind.Equal (specs.initialiser_at depth)) cursor.old.left.now) }
+    ensures { Moves (shown initialiser_view) result cursor.new.left.now
+        (sequences.maybe (is Kind.Equal) (sequences.behind Kind.Equal (specs.initialiser_at depth))
+        cursor.old.left.now) }
 {
     if !at(cursor, Kind::Equal) {
         return Ok(None);
@@ -171,7 +175,8 @@ fn declarator<'t, 'a>(
     cursor: &mut Cursor<'t, 'a>,
     depth: usize,
 ) -> Result<Box<Declarator<'a>>, Halt>
-    ensures { Moves (held declarator_view) result cursor.new.left.now (specs.declarator_at depth cursor.old.left.now) }
+    ensures { Moves (held declarator_view) result cursor.new.left.now
+        (specs.declarator_at depth cursor.old.left.now) }
 {
     let name = token(cursor, Kind::Name)?;
     let sizes = sizes(alloc, cursor, depth)?;
@@ -193,7 +198,8 @@ fn next_declarator<'t, 'a>(
     cursor: &mut Cursor<'t, 'a>,
     depth: usize,
 ) -> Result<Box<Declarator<'a>>, Halt>
-    ensures { Moves (held declarator_view) result cursor.new.left.now (sequences.behind Kind.Comma (specs.declarator_at depth) cursor.old.left.now) }
+    ensures { Moves (held declarator_view) result cursor.new.left.now
+        (sequences.behind Kind.Comma (specs.declarator_at depth) cursor.old.left.now) }
 {
     sign(cursor, Kind::Comma)?;
     let next = declarator(alloc, cursor, depth)?;
@@ -206,7 +212,8 @@ fn declarators<'t, 'a>(
     cursor: &mut Cursor<'t, 'a>,
     depth: usize,
 ) -> Result<Vec<Declarator<'a>>, Halt>
-    ensures { Moves declarator_views result cursor.new.left.now (specs.declarators_at depth cursor.old.left.now) }
+    ensures { Moves declarator_views result cursor.new.left.now
+        (specs.declarators_at depth cursor.old.left.now) }
 {
     let mut found = Vec::new(alloc);
     let first = declarator(alloc, cursor, depth)?;
@@ -219,8 +226,13 @@ fn declarators<'t, 'a>(
 }
 
 /// Reads the values of a list, up to its closing brace.
-fn values<'t, 'a>(alloc: Global, cursor: &mut Cursor<'t, 'a>, depth: usize) -> Result<Values<'a>, Halt>
-    ensures { Moves values_view result cursor.new.left.now (specs.values_at depth cursor.old.left.now) }
+fn values<'t, 'a>(
+    alloc: Global,
+    cursor: &mut Cursor<'t, 'a>,
+    depth: usize,
+) -> Result<Values<'a>, Halt>
+    ensures { Moves values_view result cursor.new.left.now
+        (specs.values_at depth cursor.old.left.now) }
 {
     let mut each = Vec::new(alloc);
     while before(cursor, Kind::CloseBrace) {
@@ -242,7 +254,8 @@ pub fn declaration<'t, 'a>(
     cursor: &mut Cursor<'t, 'a>,
     depth: usize,
 ) -> Result<Declaration<'a>, Halt>
-    ensures { Moves declaration_view result cursor.new.left.now (specs.declaration_at depth cursor.old.left.now) }
+    ensures { Moves declaration_view result cursor.new.left.now
+        (specs.declaration_at depth cursor.old.left.now) }
 {
     let type_name = type_name(cursor)?;
     let names = declarators(alloc, cursor, depth)?;

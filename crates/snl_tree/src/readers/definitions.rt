@@ -28,7 +28,8 @@ fn subscript<'t, 'a>(
     cursor: &mut Cursor<'t, 'a>,
     depth: usize,
 ) -> Result<Option<Box<Expr<'a>>>, Halt>
-    ensures { Moves (shown boxed) result cursor.new.left.now (sequences.maybe (is Kind.OpenBracket) (bracket_at depth) cursor.old.left.now) }
+    ensures { Moves (shown boxed) result cursor.new.left.now
+        (sequences.maybe (is Kind.OpenBracket) (bracket_at depth) cursor.old.left.now) }
 {
     if !at(cursor, Kind::OpenBracket) {
         return Ok(None);
@@ -39,8 +40,13 @@ fn subscript<'t, 'a>(
 
 /// Reads the place of a definition.
 #[tactic(auto, unfolding(crate::specs::reading::Definitions::place_at))]
-fn place<'t, 'a>(alloc: Global, cursor: &mut Cursor<'t, 'a>, depth: usize) -> Result<Place<'a>, Halt>
-    ensures { Moves place_view result cursor.new.left.now (specs.place_at depth cursor.old.left.now) }
+fn place<'t, 'a>(
+    alloc: Global,
+    cursor: &mut Cursor<'t, 'a>,
+    depth: usize,
+) -> Result<Place<'a>, Halt>
+    ensures { Moves place_view result cursor.new.left.now
+        (specs.place_at depth cursor.old.left.now) }
 {
     let name = token(cursor, Kind::Name)?;
     let subscript = subscript(alloc, cursor, depth)?;
@@ -49,7 +55,8 @@ fn place<'t, 'a>(alloc: Global, cursor: &mut Cursor<'t, 'a>, depth: usize) -> Re
 
 /// Reads a comma and the token of a kind after it.
 fn next_token<'t, 'a>(cursor: &mut Cursor<'t, 'a>, kind: Kind) -> Result<Token<'a>, Halt>
-    ensures { MovesToken result cursor.new.left.now (sequences.behind Kind.Comma (readers.one (is kind)) cursor.old.left.now) }
+    ensures { MovesToken result cursor.new.left.now
+        (sequences.behind Kind.Comma (readers.one (is kind)) cursor.old.left.now) }
 {
     sign(cursor, Kind::Comma)?;
     let next = token(cursor, kind)?;
@@ -57,8 +64,13 @@ fn next_token<'t, 'a>(cursor: &mut Cursor<'t, 'a>, kind: Kind) -> Result<Token<'
 }
 
 /// Reads tokens of a kind with commas between them.
-fn tokens<'t, 'a>(alloc: Global, cursor: &mut Cursor<'t, 'a>, kind: Kind) -> Result<Vec<Token<'a>>, Halt>
-    ensures { Moves token_list result cursor.new.left.now (sequences.parted Kind.Comma (readers.one (is kind)) cursor.old.left.now) }
+fn tokens<'t, 'a>(
+    alloc: Global,
+    cursor: &mut Cursor<'t, 'a>,
+    kind: Kind,
+) -> Result<Vec<Token<'a>>, Halt>
+    ensures { Moves token_list result cursor.new.left.now
+        (sequences.parted Kind.Comma (readers.one (is kind)) cursor.old.left.now) }
 {
     let mut found = Vec::new(alloc);
     let first = token(cursor, kind)?;
@@ -87,7 +99,8 @@ fn names<'t, 'a>(alloc: Global, cursor: &mut Cursor<'t, 'a>) -> Result<ChannelNa
 
 /// Reads `to`, where it is here.
 fn has_to<'t, 'a>(cursor: &mut Cursor<'t, 'a>) -> Result<bool, Halt>
-    ensures { MovesToken result cursor.new.left.now (sequences.whether Kind.To cursor.old.left.now) }
+    ensures { MovesToken result cursor.new.left.now
+        (sequences.whether Kind.To cursor.old.left.now) }
 {
     if !at(cursor, Kind::To) {
         return Ok(false);
@@ -109,7 +122,8 @@ fn at_channels(cursor: &Cursor) -> bool
 /// Reads what stands after the place of an assign.
 #[tactic(auto, unfolding(crate::specs::reading::Definitions::channels_at))]
 fn channels<'t, 'a>(alloc: Global, cursor: &mut Cursor<'t, 'a>) -> Result<Channels<'a>, Halt>
-    ensures { Moves channels_view result cursor.new.left.now (specs.channels_at cursor.old.left.now) }
+    ensures { Moves channels_view result cursor.new.left.now
+        (specs.channels_at cursor.old.left.now) }
 {
     let to = has_to(cursor)?;
     let names = names(alloc, cursor)?;
@@ -117,8 +131,12 @@ fn channels<'t, 'a>(alloc: Global, cursor: &mut Cursor<'t, 'a>) -> Result<Channe
 }
 
 /// Reads what stands after the place of an assign, where it is here.
-fn maybe_channels<'t, 'a>(alloc: Global, cursor: &mut Cursor<'t, 'a>) -> Result<Option<Channels<'a>>, Halt>
-    ensures { Moves (shown channels_view) result cursor.new.left.now (sequences.maybe specs.starts_channels specs.channels_at cursor.old.left.now) }
+fn maybe_channels<'t, 'a>(
+    alloc: Global,
+    cursor: &mut Cursor<'t, 'a>,
+) -> Result<Option<Channels<'a>>, Halt>
+    ensures { Moves (shown channels_view) result cursor.new.left.now
+        (sequences.maybe specs.starts_channels specs.channels_at cursor.old.left.now) }
 {
     if !at_channels(cursor) {
         return Ok(None);
@@ -129,7 +147,11 @@ fn maybe_channels<'t, 'a>(alloc: Global, cursor: &mut Cursor<'t, 'a>) -> Result<
 
 /// Reads an assign.
 #[tactic(auto, unfolding(crate::specs::reading::Definitions::assign_at))]
-fn assign<'t, 'a>(alloc: Global, cursor: &mut Cursor<'t, 'a>, depth: usize) -> Result<Box<Def<'a>>, Halt>
+fn assign<'t, 'a>(
+    alloc: Global,
+    cursor: &mut Cursor<'t, 'a>,
+    depth: usize,
+) -> Result<Box<Def<'a>>, Halt>
     ensures { Moves (held definition_view) result cursor.new.left.now
         (made kinds.assign (specs.assign_at depth) cursor.old.left.now) }
 {
@@ -148,7 +170,11 @@ fn assign<'t, 'a>(alloc: Global, cursor: &mut Cursor<'t, 'a>, depth: usize) -> R
 
 /// Reads a monitor.
 #[tactic(auto, unfolding(crate::specs::reading::Definitions::monitor_at))]
-fn monitor<'t, 'a>(alloc: Global, cursor: &mut Cursor<'t, 'a>, depth: usize) -> Result<Box<Def<'a>>, Halt>
+fn monitor<'t, 'a>(
+    alloc: Global,
+    cursor: &mut Cursor<'t, 'a>,
+    depth: usize,
+) -> Result<Box<Def<'a>>, Halt>
     ensures { Moves (held definition_view) result cursor.new.left.now
         (made kinds.monitor (specs.monitor_at depth) cursor.old.left.now) }
 {
@@ -171,7 +197,11 @@ fn flag<'t, 'a>(cursor: &mut Cursor<'t, 'a>) -> Result<Flag<'a>, Halt>
 
 /// Reads a sync.
 #[tactic(auto, unfolding(crate::specs::reading::Definitions::sync_at))]
-fn sync<'t, 'a>(alloc: Global, cursor: &mut Cursor<'t, 'a>, depth: usize) -> Result<Box<Def<'a>>, Halt>
+fn sync<'t, 'a>(
+    alloc: Global,
+    cursor: &mut Cursor<'t, 'a>,
+    depth: usize,
+) -> Result<Box<Def<'a>>, Halt>
     ensures { Moves (held definition_view) result cursor.new.left.now
         (made kinds.sync (specs.sync_at depth) cursor.old.left.now) }
 {
@@ -195,7 +225,8 @@ fn at_flag(cursor: &Cursor) -> bool
 
 /// Reads the event flag of a queue, where it is here.
 fn maybe_flag<'t, 'a>(cursor: &mut Cursor<'t, 'a>) -> Result<Option<Flag<'a>>, Halt>
-    ensures { Moves (shown flag_view) result cursor.new.left.now (sequences.maybe specs.starts_flag specs.flag_at cursor.old.left.now) }
+    ensures { Moves (shown flag_view) result cursor.new.left.now
+        (sequences.maybe specs.starts_flag specs.flag_at cursor.old.left.now) }
 {
     if !at_flag(cursor) {
         return Ok(None);
@@ -258,7 +289,8 @@ fn event_flags<'t, 'a>(alloc: Global, cursor: &mut Cursor<'t, 'a>) -> Result<Box
 
 /// Reads the sign of an option.
 fn option_sign<'t, 'a>(cursor: &mut Cursor<'t, 'a>) -> Result<Token<'a>, Halt>
-    ensures { MovesToken result cursor.new.left.now (readers.one kinds.is_sign cursor.old.left.now) }
+    ensures { MovesToken result cursor.new.left.now
+        (readers.one kinds.is_sign cursor.old.left.now) }
 {
     match cursor.left {
         [first, after @ ..] if matches!(first.kind, Kind::Plus | Kind::Minus) => {
@@ -270,10 +302,10 @@ fn option_sign<'t, 'a>(cursor: &mut Cursor<'t, 'a>) -> Result<Token<'a>, Halt>
 }
 
 /// Reads an option.
-#[tactic(auto, unfolding(crate::specs::reading::Definitions::option_at))]
+#[tactic(auto, unfolding(crate::specs::reading::Definitions::setting_at))]
 fn setting<'t, 'a>(alloc: Global, cursor: &mut Cursor<'t, 'a>) -> Result<Box<Def<'a>>, Halt>
     ensures { Moves (held definition_view) result cursor.new.left.now
-        (made kinds.option specs.option_at cursor.old.left.now) }
+        (made kinds.setting specs.setting_at cursor.old.left.now) }
 {
     sign(cursor, Kind::OptionWord)?;
     let sign_token = option_sign(cursor)?;
@@ -329,8 +361,13 @@ fn starts_part(kind: Kind) -> bool
 
 /// Reads a definition.
 #[tactic(auto, using(crate::proofs::code::DefinitionForms::definition_cases))]
-fn definition<'t, 'a>(alloc: Global, cursor: &mut Cursor<'t, 'a>, depth: usize) -> Result<Box<Def<'a>>, Halt>
-    ensures { Moves (held definition_view) result cursor.new.left.now (specs.definition_at depth cursor.old.left.now) }
+fn definition<'t, 'a>(
+    alloc: Global,
+    cursor: &mut Cursor<'t, 'a>,
+    depth: usize,
+) -> Result<Box<Def<'a>>, Halt>
+    ensures { Moves (held definition_view) result cursor.new.left.now
+        (specs.definition_at depth cursor.old.left.now) }
 {
     if at_declaration(cursor) {
         let declaration = declaration(alloc, cursor, depth)?;
@@ -354,8 +391,13 @@ fn definition<'t, 'a>(alloc: Global, cursor: &mut Cursor<'t, 'a>, depth: usize) 
 
 /// Reads a definition or an option.
 #[tactic(auto, using(crate::proofs::code::DefinitionForms::part_cases))]
-fn part<'t, 'a>(alloc: Global, cursor: &mut Cursor<'t, 'a>, depth: usize) -> Result<Box<Def<'a>>, Halt>
-    ensures { Moves (held definition_view) result cursor.new.left.now (specs.part_at depth cursor.old.left.now) }
+fn part<'t, 'a>(
+    alloc: Global,
+    cursor: &mut Cursor<'t, 'a>,
+    depth: usize,
+) -> Result<Box<Def<'a>>, Halt>
+    ensures { Moves (held definition_view) result cursor.new.left.now
+        (specs.part_at depth cursor.old.left.now) }
 {
     if at(cursor, Kind::OptionWord) {
         return setting(alloc, cursor);
@@ -369,7 +411,8 @@ pub fn definitions<'t, 'a>(
     cursor: &mut Cursor<'t, 'a>,
     depth: usize,
 ) -> Result<Vec<Def<'a>>, Halt>
-    ensures { Moves definition_views result cursor.new.left.now (specs.definitions_at depth cursor.old.left.now) }
+    ensures { Moves definition_views result cursor.new.left.now
+        (specs.definitions_at depth cursor.old.left.now) }
 {
     let mut found = Vec::new(alloc);
     while at_definition(cursor) {
@@ -380,8 +423,13 @@ pub fn definitions<'t, 'a>(
 }
 
 /// Reads the definitions and options of a program or a state.
-pub fn parts<'t, 'a>(alloc: Global, cursor: &mut Cursor<'t, 'a>, depth: usize) -> Result<Vec<Def<'a>>, Halt>
-    ensures { Moves definition_views result cursor.new.left.now (specs.parts_at depth cursor.old.left.now) }
+pub fn parts<'t, 'a>(
+    alloc: Global,
+    cursor: &mut Cursor<'t, 'a>,
+    depth: usize,
+) -> Result<Vec<Def<'a>>, Halt>
+    ensures { Moves definition_views result cursor.new.left.now
+        (specs.parts_at depth cursor.old.left.now) }
 {
     let mut found = Vec::new(alloc);
     while at_part(cursor) {

@@ -38,7 +38,8 @@ fn stepped<'t, 'a>(
     primary: Box<Expr<'a>>,
     cursor: &mut Cursor<'t, 'a>,
 ) -> Result<Box<Expr<'a>>, Halt>
-    ensures { Moves boxed result cursor.new.left.now (specs.stepped (boxed primary.entry) cursor.old.left.now) }
+    ensures { Moves boxed result cursor.new.left.now
+        (specs.stepped (boxed primary.entry) cursor.old.left.now) }
 {
     if !at_operator(cursor, STEP) {
         return Ok(primary);
@@ -59,7 +60,8 @@ pub fn level<'t, 'a>(
 ) -> Result<Box<Expr<'a>>, Halt>
     requires low { 2 ≤ looseness }
     requires high { looseness ≤ 15 }
-    ensures { Moves boxed result cursor.new.left.now (specs.level_at (specs.inside depth) looseness cursor.old.left.now) }
+    ensures { Moves boxed result cursor.new.left.now
+        (specs.level_at (specs.inside depth) looseness cursor.old.left.now) }
 {
     if looseness == COMMA {
         return expression(alloc, cursor, depth);
@@ -82,7 +84,8 @@ fn expression<'t, 'a>(
     cursor: &mut Cursor<'t, 'a>,
     depth: usize,
 ) -> Result<Box<Expr<'a>>, Halt>
-    ensures { Moves boxed result cursor.new.left.now (specs.level_at (specs.inside depth) 15 cursor.old.left.now) }
+    ensures { Moves boxed result cursor.new.left.now
+        (specs.level_at (specs.inside depth) 15 cursor.old.left.now) }
 {
     let first = assignment(alloc, cursor, depth)?;
     let terms = terms(alloc, cursor, depth, COMMA)?;
@@ -107,7 +110,9 @@ fn climb<'t, 'a>(
     requires low { 2 ≤ tightness }
     requires order { tightness ≤ looseness }
     requires high { looseness ≤ 12 }
-    ensures { Moves boxed result cursor.new.left.now (specs.climbed depth tightness (looseness - tightness) (boxed first.entry) cursor.old.left.now) }
+    ensures { Moves boxed result cursor.new.left.now
+        (specs.climbed depth tightness (looseness - tightness) (boxed first.entry)
+        cursor.old.left.now) }
 {
     let here = looseness_here(cursor);
     if here <= tightness || looseness < here {
@@ -129,7 +134,9 @@ fn terms<'t, 'a>(
 ) -> Result<Vec<Term<'a>>, Halt>
     requires low { 3 ≤ looseness }
     requires high { looseness ≤ 15 }
-    ensures { Moves pairs result cursor.new.left.now (specs.terms_at looseness (specs.level_at (specs.inside depth) (looseness - 1)) cursor.old.left.now) }
+    ensures { Moves pairs result cursor.new.left.now
+        (specs.terms_at looseness (specs.level_at (specs.inside depth) (looseness - 1))
+        cursor.old.left.now) }
 {
     let mut found = Vec::new(alloc);
     while at_operator(cursor, looseness) {
@@ -150,7 +157,8 @@ fn term<'t, 'a>(
 ) -> Result<Term<'a>, Halt>
     requires low { 3 ≤ looseness }
     requires high { looseness ≤ 15 }
-    ensures { Moves pair_of result cursor.new.left.now (specs.term_at depth looseness cursor.old.left.now) }
+    ensures { Moves pair_of result cursor.new.left.now
+        (specs.term_at depth looseness cursor.old.left.now) }
 {
     let operator = operator(cursor, looseness)?;
     let operand = level(alloc, cursor, depth, looseness - 1)?;
@@ -165,7 +173,8 @@ fn assignment<'t, 'a>(
     cursor: &mut Cursor<'t, 'a>,
     depth: usize,
 ) -> Result<Box<Expr<'a>>, Halt>
-    ensures { Moves boxed result cursor.new.left.now (specs.assignment_at (specs.inside depth) cursor.old.left.now) }
+    ensures { Moves boxed result cursor.new.left.now
+        (specs.assignment_at (specs.inside depth) cursor.old.left.now) }
 {
     let target = conditional(alloc, cursor, depth)?;
     if !is_unary(&target) || !at_operator(cursor, ASSIGNMENT) {
@@ -173,7 +182,14 @@ fn assignment<'t, 'a>(
     }
     let operator = open_operator(cursor, ASSIGNMENT, depth)?;
     let value = assignment(alloc, cursor, depth - 1)?;
-    let assigned = in_box(alloc, Expr::Assignment { target, operator, value })?;
+    let assigned = in_box(
+        alloc,
+        Expr::Assignment {
+            target,
+            operator,
+            value,
+        },
+    )?;
     Ok(assigned)
 }
 
@@ -185,7 +201,8 @@ fn conditional<'t, 'a>(
     cursor: &mut Cursor<'t, 'a>,
     depth: usize,
 ) -> Result<Box<Expr<'a>>, Halt>
-    ensures { Moves boxed result cursor.new.left.now (specs.conditional_at (specs.inside depth) cursor.old.left.now) }
+    ensures { Moves boxed result cursor.new.left.now
+        (specs.conditional_at (specs.inside depth) cursor.old.left.now) }
 {
     let condition = level(alloc, cursor, depth, BINARY)?;
     if !at(cursor, Kind::Question) {
@@ -202,8 +219,13 @@ fn conditional<'t, 'a>(
 /// Reads prefix operators and what they stand before.
 #[cycle(reading)]
 #[tactic(auto, using(crate::proofs::code::Forms::unary_form))]
-fn unary<'t, 'a>(alloc: Global, cursor: &mut Cursor<'t, 'a>, depth: usize) -> Result<Box<Expr<'a>>, Halt>
-    ensures { Moves boxed result cursor.new.left.now (specs.unary_at (specs.inside depth) cursor.old.left.now) }
+fn unary<'t, 'a>(
+    alloc: Global,
+    cursor: &mut Cursor<'t, 'a>,
+    depth: usize,
+) -> Result<Box<Expr<'a>>, Halt>
+    ensures { Moves boxed result cursor.new.left.now
+        (specs.unary_at (specs.inside depth) cursor.old.left.now) }
 {
     if !at_prefix(cursor) {
         let primary = primary(alloc, cursor, depth)?;
@@ -218,8 +240,13 @@ fn unary<'t, 'a>(alloc: Global, cursor: &mut Cursor<'t, 'a>, depth: usize) -> Re
 /// Reads a constant, an expression in parentheses, or what begins with a name.
 #[cycle(reading)]
 #[tactic(auto, using(crate::proofs::code::Forms::primary_form))]
-fn primary<'t, 'a>(alloc: Global, cursor: &mut Cursor<'t, 'a>, depth: usize) -> Result<Box<Expr<'a>>, Halt>
-    ensures { Moves boxed result cursor.new.left.now (specs.primary_at (specs.inside depth) cursor.old.left.now) }
+fn primary<'t, 'a>(
+    alloc: Global,
+    cursor: &mut Cursor<'t, 'a>,
+    depth: usize,
+) -> Result<Box<Expr<'a>>, Halt>
+    ensures { Moves boxed result cursor.new.left.now
+        (specs.primary_at (specs.inside depth) cursor.old.left.now) }
 {
     if at_constant(cursor) {
         let token = constant(cursor)?;
@@ -240,7 +267,8 @@ fn parenthesized<'t, 'a>(
     cursor: &mut Cursor<'t, 'a>,
     depth: usize,
 ) -> Result<Box<Expr<'a>>, Halt>
-    ensures { Moves boxed result cursor.new.left.now (specs.parenthesized_at (specs.inside depth) cursor.old.left.now) }
+    ensures { Moves boxed result cursor.new.left.now
+        (specs.parenthesized_at (specs.inside depth) cursor.old.left.now) }
 {
     open_sign(cursor, Kind::OpenParenthesis, depth)?;
     let inner = level(alloc, cursor, depth - 1, COMMA)?;
@@ -252,15 +280,27 @@ fn parenthesized<'t, 'a>(
 /// Reads a name, with a subscript or a call's arguments after it.
 #[cycle(reading)]
 #[tactic(auto, using(crate::proofs::code::Rows::named_called, crate::proofs::code::Forms::named_form), unfolding(crate::specs::reading::Expressions::named_rest))]
-fn named<'t, 'a>(alloc: Global, cursor: &mut Cursor<'t, 'a>, depth: usize) -> Result<Box<Expr<'a>>, Halt>
-    ensures { Moves boxed result cursor.new.left.now (specs.named_at (specs.inside depth) cursor.old.left.now) }
+fn named<'t, 'a>(
+    alloc: Global,
+    cursor: &mut Cursor<'t, 'a>,
+    depth: usize,
+) -> Result<Box<Expr<'a>>, Halt>
+    ensures { Moves boxed result cursor.new.left.now
+        (specs.named_at (specs.inside depth) cursor.old.left.now) }
 {
     let name = token(cursor, Kind::Name)?;
     if at(cursor, Kind::OpenBracket) {
         let bracket = open_token(cursor, Kind::OpenBracket, depth)?;
         let index = level(alloc, cursor, depth - 1, COMMA)?;
         sign(cursor, Kind::CloseBracket)?;
-        let element = in_box(alloc, Expr::Element { name, bracket, index })?;
+        let element = in_box(
+            alloc,
+            Expr::Element {
+                name,
+                bracket,
+                index,
+            },
+        )?;
         return Ok(element);
     }
     if at(cursor, Kind::OpenParenthesis) {
@@ -282,7 +322,8 @@ fn arguments<'t, 'a>(
     cursor: &mut Cursor<'t, 'a>,
     depth: usize,
 ) -> Result<Vec<Argument<'a>>, Halt>
-    ensures { Moves arguments_of result cursor.new.left.now (specs.arguments_at (specs.readers (specs.inside depth)) cursor.old.left.now) }
+    ensures { Moves arguments_of result cursor.new.left.now
+        (specs.arguments_at (specs.readers (specs.inside depth)) cursor.old.left.now) }
 {
     let mut found = Vec::new(alloc);
     if !before(cursor, Kind::CloseParenthesis) {
@@ -302,7 +343,9 @@ fn more_arguments<'t, 'a>(
     cursor: &mut Cursor<'t, 'a>,
     depth: usize,
 ) -> Result<Vec<Argument<'a>>, Halt>
-    ensures { Moves arguments_of result cursor.new.left.now (specs.more_after (specs.readers (specs.inside depth)) (list_before before.entry.items) cursor.old.left.now) }
+    ensures { Moves arguments_of result cursor.new.left.now
+        (specs.more_after (specs.readers (specs.inside depth)) (list_before before.entry.items)
+        cursor.old.left.now) }
 {
     let mut found = before;
     while at(cursor, Kind::Comma) {
@@ -316,8 +359,13 @@ fn more_arguments<'t, 'a>(
 /// Reads an argument: a string, or an assignment.
 #[cycle(reading)]
 #[tactic(auto, using(crate::proofs::code::Forms::argument_form))]
-fn argument<'t, 'a>(alloc: Global, cursor: &mut Cursor<'t, 'a>, depth: usize) -> Result<Argument<'a>, Halt>
-    ensures { Moves argument_of result cursor.new.left.now (specs.argument_at (specs.readers (specs.inside depth)) cursor.old.left.now) }
+fn argument<'t, 'a>(
+    alloc: Global,
+    cursor: &mut Cursor<'t, 'a>,
+    depth: usize,
+) -> Result<Argument<'a>, Halt>
+    ensures { Moves argument_of result cursor.new.left.now
+        (specs.argument_at (specs.readers (specs.inside depth)) cursor.old.left.now) }
 {
     if at(cursor, Kind::Text) {
         let text = token(cursor, Kind::Text)?;

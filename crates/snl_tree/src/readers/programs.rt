@@ -43,7 +43,8 @@ fn maybe_expression<'t, 'a>(
     cursor: &mut Cursor<'t, 'a>,
     depth: usize,
 ) -> Result<Option<Box<Expr<'a>>>, Halt>
-    ensures { Moves (shown boxed) result cursor.new.left.now (sequences.maybe is_no_close (level_at (inside depth) 15) cursor.old.left.now) }
+    ensures { Moves (shown boxed) result cursor.new.left.now
+        (sequences.maybe is_no_close (level_at (inside depth) 15) cursor.old.left.now) }
 {
     if !before(cursor, Kind::CloseParenthesis) {
         return Ok(None);
@@ -59,7 +60,8 @@ fn condition<'t, 'a>(
     cursor: &mut Cursor<'t, 'a>,
     depth: usize,
 ) -> Result<Option<Box<Expr<'a>>>, Halt>
-    ensures { Moves (shown boxed) result cursor.new.left.now (specs.condition_at depth cursor.old.left.now) }
+    ensures { Moves (shown boxed) result cursor.new.left.now
+        (specs.condition_at depth cursor.old.left.now) }
 {
     sign(cursor, Kind::OpenParenthesis)?;
     let condition = maybe_expression(alloc, cursor, depth)?;
@@ -69,8 +71,13 @@ fn condition<'t, 'a>(
 
 /// Reads a clause.
 #[tactic(auto, unfolding(crate::specs::reading::Programs::clause_at))]
-fn clause<'t, 'a>(alloc: Global, cursor: &mut Cursor<'t, 'a>, depth: usize) -> Result<Box<Clause<'a>>, Halt>
-    ensures { Moves (held clause_view) result cursor.new.left.now (specs.clause_at depth cursor.old.left.now) }
+fn clause<'t, 'a>(
+    alloc: Global,
+    cursor: &mut Cursor<'t, 'a>,
+    depth: usize,
+) -> Result<Box<Clause<'a>>, Halt>
+    ensures { Moves (held clause_view) result cursor.new.left.now
+        (specs.clause_at depth cursor.old.left.now) }
 {
     let word = token(cursor, Kind::When)?;
     let condition = condition(alloc, cursor, depth)?;
@@ -89,9 +96,14 @@ fn clause<'t, 'a>(alloc: Global, cursor: &mut Cursor<'t, 'a>, depth: usize) -> R
 }
 
 /// Reads the clauses of a state.
-fn clauses<'t, 'a>(alloc: Global, cursor: &mut Cursor<'t, 'a>, depth: usize) -> Result<Vec<Clause<'a>>, Halt>
+fn clauses<'t, 'a>(
+    alloc: Global,
+    cursor: &mut Cursor<'t, 'a>,
+    depth: usize,
+) -> Result<Vec<Clause<'a>>, Halt>
     requires { 0 < depth }
-    ensures { Moves clause_views result cursor.new.left.now (specs.clauses_at depth cursor.old.left.now) }
+    ensures { Moves clause_views result cursor.new.left.now
+        (specs.clauses_at depth cursor.old.left.now) }
 {
     let mut found = Vec::new(alloc);
     while at(cursor, Kind::When) {
@@ -103,8 +115,13 @@ fn clauses<'t, 'a>(alloc: Global, cursor: &mut Cursor<'t, 'a>, depth: usize) -> 
 
 /// Reads an entry block, where it is here.
 #[tactic(auto, unfolding(crate::specs::reading::Programs::entry_at))]
-fn entry<'t, 'a>(alloc: Global, cursor: &mut Cursor<'t, 'a>, depth: usize) -> Result<Option<Box<Block<'a>>>, Halt>
-    ensures { Moves (shown (held block_view)) result cursor.new.left.now (specs.entry_at depth cursor.old.left.now) }
+fn entry<'t, 'a>(
+    alloc: Global,
+    cursor: &mut Cursor<'t, 'a>,
+    depth: usize,
+) -> Result<Option<Box<Block<'a>>>, Halt>
+    ensures { Moves (shown (held block_view)) result cursor.new.left.now
+        (specs.entry_at depth cursor.old.left.now) }
 {
     if !at(cursor, Kind::Entry) {
         return Ok(None);
@@ -116,8 +133,13 @@ fn entry<'t, 'a>(alloc: Global, cursor: &mut Cursor<'t, 'a>, depth: usize) -> Re
 
 /// Reads an exit block, where it is here.
 #[tactic(auto, unfolding(crate::specs::reading::Programs::exit_at))]
-fn exit<'t, 'a>(alloc: Global, cursor: &mut Cursor<'t, 'a>, depth: usize) -> Result<Option<Box<Block<'a>>>, Halt>
-    ensures { Moves (shown (held block_view)) result cursor.new.left.now (specs.exit_at depth cursor.old.left.now) }
+fn exit<'t, 'a>(
+    alloc: Global,
+    cursor: &mut Cursor<'t, 'a>,
+    depth: usize,
+) -> Result<Option<Box<Block<'a>>>, Halt>
+    ensures { Moves (shown (held block_view)) result cursor.new.left.now
+        (specs.exit_at depth cursor.old.left.now) }
 {
     if !at(cursor, Kind::Exit) {
         return Ok(None);
@@ -129,9 +151,14 @@ fn exit<'t, 'a>(alloc: Global, cursor: &mut Cursor<'t, 'a>, depth: usize) -> Res
 
 /// Reads a state.
 #[tactic(auto, unfolding(crate::specs::reading::Programs::state_at))]
-fn state<'t, 'a>(alloc: Global, cursor: &mut Cursor<'t, 'a>, depth: usize) -> Result<Box<State<'a>>, Halt>
+fn state<'t, 'a>(
+    alloc: Global,
+    cursor: &mut Cursor<'t, 'a>,
+    depth: usize,
+) -> Result<Box<State<'a>>, Halt>
     requires { 0 < depth }
-    ensures { Moves (held state_view) result cursor.new.left.now (specs.state_at depth cursor.old.left.now) }
+    ensures { Moves (held state_view) result cursor.new.left.now
+        (specs.state_at depth cursor.old.left.now) }
 {
     let word = token(cursor, Kind::State)?;
     let name = token(cursor, Kind::Name)?;
@@ -156,9 +183,14 @@ fn state<'t, 'a>(alloc: Global, cursor: &mut Cursor<'t, 'a>, depth: usize) -> Re
 }
 
 /// Reads the states of a state set.
-fn states<'t, 'a>(alloc: Global, cursor: &mut Cursor<'t, 'a>, depth: usize) -> Result<Vec<State<'a>>, Halt>
+fn states<'t, 'a>(
+    alloc: Global,
+    cursor: &mut Cursor<'t, 'a>,
+    depth: usize,
+) -> Result<Vec<State<'a>>, Halt>
     requires { 0 < depth }
-    ensures { Moves state_views result cursor.new.left.now (specs.states_at depth cursor.old.left.now) }
+    ensures { Moves state_views result cursor.new.left.now
+        (specs.states_at depth cursor.old.left.now) }
 {
     let mut found = Vec::new(alloc);
     let first = state(alloc, cursor, depth)?;
@@ -172,9 +204,14 @@ fn states<'t, 'a>(alloc: Global, cursor: &mut Cursor<'t, 'a>, depth: usize) -> R
 
 /// Reads a state set.
 #[tactic(auto, unfolding(crate::specs::reading::Programs::state_set_at))]
-fn state_set<'t, 'a>(alloc: Global, cursor: &mut Cursor<'t, 'a>, depth: usize) -> Result<Box<StateSet<'a>>, Halt>
+fn state_set<'t, 'a>(
+    alloc: Global,
+    cursor: &mut Cursor<'t, 'a>,
+    depth: usize,
+) -> Result<Box<StateSet<'a>>, Halt>
     requires { 0 < depth }
-    ensures { Moves (held state_set_view) result cursor.new.left.now (specs.state_set_at depth cursor.old.left.now) }
+    ensures { Moves (held state_set_view) result cursor.new.left.now
+        (specs.state_set_at depth cursor.old.left.now) }
 {
     let word = token(cursor, Kind::StateSet)?;
     let name = token(cursor, Kind::Name)?;
@@ -201,7 +238,8 @@ fn state_sets<'t, 'a>(
     depth: usize,
 ) -> Result<Vec<StateSet<'a>>, Halt>
     requires { 0 < depth }
-    ensures { Moves state_set_views result cursor.new.left.now (specs.state_sets_at depth cursor.old.left.now) }
+    ensures { Moves state_set_views result cursor.new.left.now
+        (specs.state_sets_at depth cursor.old.left.now) }
 {
     let mut found = Vec::new(alloc);
     let first = state_set(alloc, cursor, depth)?;
@@ -246,7 +284,8 @@ pub fn program<'t, 'a>(
     lexed: &Lexed<'a>,
 ) -> Result<Box<Program<'a>>, Halt>
     requires { 0 < depth }
-    ensures tree { Moves (held program_view) result cursor.new.left.now (specs.program_at depth cursor.old.left.now) }
+    ensures tree { Moves (held program_view) result cursor.new.left.now
+        (specs.program_at depth cursor.old.left.now) }
     ensures carried { IfOk result (λ b. Carries b.value lexed.now) }
 {
     let word = token(cursor, Kind::Program)?;

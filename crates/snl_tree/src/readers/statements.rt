@@ -68,8 +68,13 @@ fn ended_word<'t, 'a>(cursor: &mut Cursor<'t, 'a>, kind: Kind) -> Result<Token<'
 
 /// Reads an expression in the parentheses of a statement, which don't count as nesting.
 #[tactic(auto, unfolding(crate::specs::reading::Statements::condition_at))]
-fn condition<'t, 'a>(alloc: Global, cursor: &mut Cursor<'t, 'a>, limit: usize) -> Result<Box<Expr<'a>>, Halt>
-    ensures { Moves boxed result cursor.new.left.now (specs.condition_at limit cursor.old.left.now) }
+fn condition<'t, 'a>(
+    alloc: Global,
+    cursor: &mut Cursor<'t, 'a>,
+    limit: usize,
+) -> Result<Box<Expr<'a>>, Halt>
+    ensures { Moves boxed result cursor.new.left.now
+        (specs.condition_at limit cursor.old.left.now) }
 {
     sign(cursor, Kind::OpenParenthesis)?;
     let condition = level(alloc, cursor, limit, COMMA)?;
@@ -85,7 +90,8 @@ fn ended<'t, 'a>(
     limit: usize,
     kind: Kind,
 ) -> Result<Option<Box<Expr<'a>>>, Halt>
-    ensures { Moves (shown boxed) result cursor.new.left.now (specs.ended_at limit kind cursor.old.left.now) }
+    ensures { Moves (shown boxed) result cursor.new.left.now
+        (specs.ended_at limit kind cursor.old.left.now) }
 {
     if !before(cursor, kind) {
         sign(cursor, kind)?;
@@ -98,8 +104,13 @@ fn ended<'t, 'a>(
 
 /// Reads what stands between the parentheses of a `for`, and those.
 #[tactic(auto, unfolding(crate::specs::reading::Statements::header_at))]
-fn header<'t, 'a>(alloc: Global, cursor: &mut Cursor<'t, 'a>, limit: usize) -> Result<Box<Header<'a>>, Halt>
-    ensures { Moves (held header_view) result cursor.new.left.now (specs.header_at limit cursor.old.left.now) }
+fn header<'t, 'a>(
+    alloc: Global,
+    cursor: &mut Cursor<'t, 'a>,
+    limit: usize,
+) -> Result<Box<Header<'a>>, Halt>
+    ensures { Moves (held header_view) result cursor.new.left.now
+        (specs.header_at limit cursor.old.left.now) }
 {
     sign(cursor, Kind::OpenParenthesis)?;
     let start = ended(alloc, cursor, limit, Kind::Semicolon)?;
@@ -122,7 +133,8 @@ fn declarations<'t, 'a>(
     cursor: &mut Cursor<'t, 'a>,
     limit: usize,
 ) -> Result<Vec<Declaration<'a>>, Halt>
-    ensures { Moves declaration_views result cursor.new.left.now (specs.declarations_at limit cursor.old.left.now) }
+    ensures { Moves declaration_views result cursor.new.left.now
+        (specs.declarations_at limit cursor.old.left.now) }
 {
     let mut found = Vec::new(alloc);
     while at_declaration(cursor) {
@@ -134,8 +146,13 @@ fn declarations<'t, 'a>(
 
 /// Reads a statement that nests no other: `break`, `continue`, a state statement or an expression.
 #[tactic(auto, using(crate::proofs::code::StatementForms::word_statement_form))]
-fn word_statement<'t, 'a>(alloc: Global, cursor: &mut Cursor<'t, 'a>, limit: usize) -> Result<Box<Stmt<'a>>, Halt>
-    ensures { Moves (held statement_view) result cursor.new.left.now (specs.word_statement_at limit cursor.old.left.now) }
+fn word_statement<'t, 'a>(
+    alloc: Global,
+    cursor: &mut Cursor<'t, 'a>,
+    limit: usize,
+) -> Result<Box<Stmt<'a>>, Halt>
+    ensures { Moves (held statement_view) result cursor.new.left.now
+        (specs.word_statement_at limit cursor.old.left.now) }
 {
     if at(cursor, Kind::Break) {
         let word = ended_word(cursor, Kind::Break)?;
@@ -169,7 +186,8 @@ fn statement<'t, 'a>(
     limit: usize,
     depth: usize,
 ) -> Result<Box<Stmt<'a>>, Halt>
-    ensures { Moves (held statement_view) result cursor.new.left.now (specs.statement_at limit depth cursor.old.left.now) }
+    ensures { Moves (held statement_view) result cursor.new.left.now
+        (specs.statement_at limit depth cursor.old.left.now) }
 {
     if at(cursor, Kind::OpenBrace) {
         let block = block(alloc, cursor, limit, depth)?;
@@ -203,7 +221,8 @@ pub fn block<'t, 'a>(
     limit: usize,
     depth: usize,
 ) -> Result<Box<Block<'a>>, Halt>
-    ensures { Moves (held block_view) result cursor.new.left.now (specs.block_at limit depth cursor.old.left.now) }
+    ensures { Moves (held block_view) result cursor.new.left.now
+        (specs.block_at limit depth cursor.old.left.now) }
 {
     open_sign(cursor, Kind::OpenBrace, depth)?;
     let declarations = declarations(alloc, cursor, limit)?;
@@ -227,7 +246,8 @@ fn statements<'t, 'a>(
     limit: usize,
     depth: usize,
 ) -> Result<Vec<Stmt<'a>>, Halt>
-    ensures { Moves statement_views result cursor.new.left.now (steps.statement_row_at limit depth cursor.old.left.now) }
+    ensures { Moves statement_views result cursor.new.left.now
+        (steps.statement_row_at limit depth cursor.old.left.now) }
 {
     let mut found = Vec::new(alloc);
     while at_statement(cursor) {
@@ -246,7 +266,8 @@ fn if_statement<'t, 'a>(
     limit: usize,
     depth: usize,
 ) -> Result<Box<Stmt<'a>>, Halt>
-    ensures { Moves (held statement_view) result cursor.new.left.now (specs.if_at limit (specs.statements_inside limit depth) cursor.old.left.now) }
+    ensures { Moves (held statement_view) result cursor.new.left.now
+        (specs.if_at limit (specs.statements_inside limit depth) cursor.old.left.now) }
 {
     open_sign(cursor, Kind::If, depth)?;
     let condition = condition(alloc, cursor, limit)?;
@@ -266,7 +287,9 @@ fn otherwise<'t, 'a>(
     limit: usize,
     depth: usize,
 ) -> Result<Box<Stmt<'a>>, Halt>
-    ensures { Moves (held statement_view) result cursor.new.left.now (steps.if_rest limit depth (boxed condition.entry) (statement_view first.entry.value) cursor.old.left.now) }
+    ensures { Moves (held statement_view) result cursor.new.left.now
+        (steps.if_rest limit depth (boxed condition.entry) (statement_view first.entry.value)
+        cursor.old.left.now) }
 {
     if !at(cursor, Kind::Else) {
         let found = in_box(alloc, Stmt::If { condition, first })?;
@@ -294,7 +317,8 @@ fn while_loop<'t, 'a>(
     limit: usize,
     depth: usize,
 ) -> Result<Box<Stmt<'a>>, Halt>
-    ensures { Moves (held statement_view) result cursor.new.left.now (specs.while_at limit (specs.statements_inside limit depth) cursor.old.left.now) }
+    ensures { Moves (held statement_view) result cursor.new.left.now
+        (specs.while_at limit (specs.statements_inside limit depth) cursor.old.left.now) }
 {
     let word = open_token(cursor, Kind::While, depth)?;
     let condition = condition(alloc, cursor, limit)?;
@@ -319,7 +343,8 @@ fn for_loop<'t, 'a>(
     limit: usize,
     depth: usize,
 ) -> Result<Box<Stmt<'a>>, Halt>
-    ensures { Moves (held statement_view) result cursor.new.left.now (specs.for_at limit (specs.statements_inside limit depth) cursor.old.left.now) }
+    ensures { Moves (held statement_view) result cursor.new.left.now
+        (specs.for_at limit (specs.statements_inside limit depth) cursor.old.left.now) }
 {
     let word = open_token(cursor, Kind::For, depth)?;
     let header = header(alloc, cursor, limit)?;

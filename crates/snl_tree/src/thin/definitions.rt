@@ -32,7 +32,8 @@ fn is_int(name: TypeName) -> bool
 
 /// `int NAME, NAME, ..;`
 fn variables<'a>(alloc: Global, declaration: &Declaration<'a>) -> Narrowed<Def<'a>>
-    ensures { let d = tree.declaration (declaration_view declaration.now) in Narrows (specs.is_thin_definition d) (StandsForDefinition d) result }
+    ensures { let d = tree.declaration (declaration_view declaration.now) in
+        Narrows (specs.is_thin_definition d) (StandsForDefinition d) result }
 {
     if !is_int(declaration.type_name) {
         return Ok(None);
@@ -68,7 +69,8 @@ fn is_channel_name(text: &[u8]) -> bool
 
 /// `assign NAME to STRING;`
 fn channel<'a>(assign: &Assign<'a>) -> Option<Def<'a>>
-    ensures { let d = tree.assign (assign_view assign.now) in Finds (specs.is_thin_definition d) (StandsForDefinition d) result }
+    ensures { let d = tree.assign (assign_view assign.now) in
+        Finds (specs.is_thin_definition d) (StandsForDefinition d) result }
 {
     if assign.place.subscript.is_some() {
         return None;
@@ -89,7 +91,8 @@ fn channel<'a>(assign: &Assign<'a>) -> Option<Def<'a>>
 
 /// `monitor NAME;`
 fn monitor<'a>(place: &Place<'a>) -> Option<Def<'a>>
-    ensures { let d = tree.monitor (place_view place.now) in Finds (specs.is_thin_definition d) (StandsForDefinition d) result }
+    ensures { let d = tree.monitor (place_view place.now) in
+        Finds (specs.is_thin_definition d) (StandsForDefinition d) result }
 {
     if place.subscript.is_some() {
         return None;
@@ -100,7 +103,8 @@ fn monitor<'a>(place: &Place<'a>) -> Option<Def<'a>>
 }
 
 fn definition<'a>(alloc: Global, definition: &WholeDef<'a>) -> Narrowed<Def<'a>>
-    ensures { let d = definition_view definition.now in Narrows (specs.is_thin_definition d) (StandsForDefinition d) result }
+    ensures { let d = definition_view definition.now in
+        Narrows (specs.is_thin_definition d) (StandsForDefinition d) result }
 {
     match definition {
         WholeDef::Declaration(declaration) => variables(alloc, declaration),
@@ -112,7 +116,8 @@ fn definition<'a>(alloc: Global, definition: &WholeDef<'a>) -> Narrowed<Def<'a>>
 
 /// Definitions alone.
 fn definitions<'a>(alloc: Global, all: &[WholeDef<'a>]) -> Narrowed<Vec<Def<'a>>>
-    ensures { let ds = map definition_view all.now in Narrows (list_all specs.is_thin_definition ds) (λ v. StandEach StandsForDefinition ds v.items) result }
+    ensures { let ds = map definition_view all.now in
+        Narrows (list_all specs.is_thin_definition ds) (λ v. StandEach StandsForDefinition ds v.items) result }
 {
     let mut found = Vec::new(alloc);
     for next in all {
@@ -133,7 +138,8 @@ fn is_safe_mode(setting: &Setting) -> bool
 
 /// `option +s;`, and then definitions alone.
 pub fn parts<'a>(alloc: Global, parts: &[WholeDef<'a>]) -> Narrowed<Vec<Def<'a>>>
-    ensures { let ds = map definition_view parts.now in Narrows (specs.are_thin_parts ds) (λ v. StandForParts ds v.items) result }
+    ensures { let ds = map definition_view parts.now in
+        Narrows (specs.are_thin_parts ds) (λ v. StandForParts ds v.items) result }
 {
     let [first, all @ ..] = parts else {
         return Ok(None);

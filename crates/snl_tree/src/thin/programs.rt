@@ -13,7 +13,8 @@ use std::alloc::{AllocError, Global};
 
 /// `when (VALUE) { STATEMENTS } state NAME`
 fn clause<'a>(alloc: Global, clause: &whole::Clause<'a>) -> Narrowed<Clause<'a>>
-    ensures { let c = clause_view clause.now in Narrows (specs.is_thin_clause c) (StandsForClause c) result }
+    ensures { let c = clause_view clause.now in
+        Narrows (specs.is_thin_clause c) (StandsForClause c) result }
 {
     let whole::Target::State(target) = clause.target else {
         return Ok(None);
@@ -36,7 +37,8 @@ fn clause<'a>(alloc: Global, clause: &whole::Clause<'a>) -> Narrowed<Clause<'a>>
 }
 
 fn clauses<'a>(alloc: Global, all: &[whole::Clause<'a>]) -> Narrowed<Vec<Clause<'a>>>
-    ensures { let cs = map clause_view all.now in Narrows (list_all specs.is_thin_clause cs) (λ v. StandEach StandsForClause cs v.items) result }
+    ensures { let cs = map clause_view all.now in
+        Narrows (list_all specs.is_thin_clause cs) (λ v. StandEach StandsForClause cs v.items) result }
 {
     let mut found = Vec::new(alloc);
     for next in all {
@@ -50,7 +52,8 @@ fn clauses<'a>(alloc: Global, all: &[whole::Clause<'a>]) -> Narrowed<Vec<Clause<
 
 /// `state NAME { CLAUSE CLAUSE .. }`
 fn state<'a>(alloc: Global, state: &whole::State<'a>) -> Narrowed<State<'a>>
-    ensures { let s = state_view state.now in Narrows (specs.is_thin_state s) (StandsForState s) result }
+    ensures { let s = state_view state.now in
+        Narrows (specs.is_thin_state s) (StandsForState s) result }
 {
     if !state.definitions.is_empty() || state.entry.is_some() || state.exit.is_some() {
         return Ok(None);
@@ -65,7 +68,8 @@ fn state<'a>(alloc: Global, state: &whole::State<'a>) -> Narrowed<State<'a>>
 }
 
 fn states<'a>(alloc: Global, all: &[whole::State<'a>]) -> Narrowed<Vec<State<'a>>>
-    ensures { let ss = map state_view all.now in Narrows (list_all specs.is_thin_state ss) (λ v. StandEach StandsForState ss v.items) result }
+    ensures { let ss = map state_view all.now in
+        Narrows (list_all specs.is_thin_state ss) (λ v. StandEach StandsForState ss v.items) result }
 {
     let mut found = Vec::new(alloc);
     for next in all {
@@ -79,7 +83,8 @@ fn states<'a>(alloc: Global, all: &[whole::State<'a>]) -> Narrowed<Vec<State<'a>
 
 /// `ss NAME { STATE STATE .. }`
 fn state_set<'a>(alloc: Global, set: &whole::StateSet<'a>) -> Narrowed<StateSet<'a>>
-    ensures { let s = state_set_view set.now in Narrows (specs.is_thin_state_set s) (StandsForStateSet s) result }
+    ensures { let s = state_set_view set.now in
+        Narrows (specs.is_thin_state_set s) (StandsForStateSet s) result }
 {
     if !set.definitions.is_empty() {
         return Ok(None);
@@ -95,7 +100,8 @@ fn state_set<'a>(alloc: Global, set: &whole::StateSet<'a>) -> Narrowed<StateSet<
 
 /// One state set, and no other.
 fn one_set<'a>(alloc: Global, sets: &[whole::StateSet<'a>]) -> Narrowed<StateSet<'a>>
-    ensures { let ss = map state_set_view sets.now in Narrows (specs.is_one_set ss) (StandsForOne ss) result }
+    ensures { let ss = map state_set_view sets.now in
+        Narrows (specs.is_one_set ss) (StandsForOne ss) result }
 {
     match sets {
         [set] => state_set(alloc, set),

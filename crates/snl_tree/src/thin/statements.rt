@@ -19,7 +19,8 @@ fn assign<'a>(
     operator: Token<'a>,
     right: &Expr<'a>,
 ) -> Narrowed<Stmt<'a>>
-    ensures { let e = expression (assignment (view target.now) operator.entry (view right.now)) in Narrows (specs.is_thin_statement e) (StandsForStatement e) result }
+    ensures { let e = expression (assignment (view target.now) operator.entry (view right.now)) in
+        Narrows (specs.is_thin_statement e) (StandsForStatement e) result }
 {
     let Expr::Named(target) = target else {
         return Ok(None);
@@ -48,7 +49,8 @@ fn name<'a>(expr: &Expr<'a>) -> Option<Token<'a>>
 
 /// The one argument of a call, where it is a name.
 fn argument<'a>(arguments: &Vec<Argument<'a>>) -> Option<Token<'a>>
-    ensures { let all = arguments_of arguments.now in Finds (specs.is_one_name all) (λ x. all ≡ value (named x) no_arguments) result }
+    ensures { let all = arguments_of arguments.now in
+        Finds (specs.is_one_name all) (λ x. all ≡ value (named x) no_arguments) result }
 {
     let all = arguments.as_slice();
     if all.len() != 1 {
@@ -62,7 +64,8 @@ fn argument<'a>(arguments: &Vec<Argument<'a>>) -> Option<Token<'a>>
 
 /// `pvPut(NAME)`, from the parts of a call.
 fn put<'a>(name: Token<'a>, arguments: &Vec<Argument<'a>>) -> Option<Stmt<'a>>
-    ensures { let e = expression (call name.entry (arguments_of arguments.now)) in Finds (specs.is_thin_statement e) (StandsForStatement e) result }
+    ensures { let e = expression (call name.entry (arguments_of arguments.now)) in
+        Finds (specs.is_thin_statement e) (StandsForStatement e) result }
 {
     if name.text != b"pvPut".as_slice() {
         return None;
@@ -75,7 +78,8 @@ fn put<'a>(name: Token<'a>, arguments: &Vec<Argument<'a>>) -> Option<Stmt<'a>>
 
 /// `NAME = VALUE` or `pvPut(NAME)`
 fn evaluated<'a>(alloc: Global, expr: &Expr<'a>) -> Narrowed<Stmt<'a>>
-    ensures { let s = expression (view expr.now) in Narrows (specs.is_thin_statement s) (StandsForStatement s) result }
+    ensures { let s = expression (view expr.now) in
+        Narrows (specs.is_thin_statement s) (StandsForStatement s) result }
 {
     match expr {
         Expr::Assignment {
@@ -90,7 +94,8 @@ fn evaluated<'a>(alloc: Global, expr: &Expr<'a>) -> Narrowed<Stmt<'a>>
 
 /// `NAME = VALUE;` or `pvPut(NAME);`
 fn statement<'a>(alloc: Global, statement: &WholeStmt<'a>) -> Narrowed<Stmt<'a>>
-    ensures { let s = statement_view statement.now in Narrows (specs.is_thin_statement s) (StandsForStatement s) result }
+    ensures { let s = statement_view statement.now in
+        Narrows (specs.is_thin_statement s) (StandsForStatement s) result }
 {
     match statement {
         WholeStmt::Expression(expr) => evaluated(alloc, expr),
@@ -100,7 +105,8 @@ fn statement<'a>(alloc: Global, statement: &WholeStmt<'a>) -> Narrowed<Stmt<'a>>
 
 /// `{ STATEMENT STATEMENT .. }`
 pub fn block<'a>(alloc: Global, block: &Block<'a>) -> Narrowed<Vec<Stmt<'a>>>
-    ensures { let b = block_view block.now in Narrows (specs.is_thin_block b) (λ v. StandsForBlock b v.items) result }
+    ensures { let b = block_view block.now in
+        Narrows (specs.is_thin_block b) (λ v. StandsForBlock b v.items) result }
 {
     if !block.declarations.is_empty() {
         return Ok(None);

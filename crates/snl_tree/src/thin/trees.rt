@@ -3,7 +3,7 @@
 use snl_text::{Pos, Token};
 
 /// `program NAME option +s; DEFINITIONS STATE-SET`
-#[derive(Debug, Drop)]
+#[derive(Drop)]
 pub struct Program<'a> {
     /// The word `program`.
     pub keyword: Token<'a>,
@@ -15,7 +15,7 @@ pub struct Program<'a> {
 }
 
 /// What stands before the state set.
-#[derive(Debug, Drop)]
+#[derive(Drop)]
 pub enum Def<'a> {
     /// `int NAME, NAME;`
     Variables(Vec<Token<'a>>),
@@ -31,21 +31,21 @@ pub enum Def<'a> {
 }
 
 /// `ss NAME { STATE STATE .. }`; the state written first is the initial one.
-#[derive(Debug, Drop)]
+#[derive(Drop)]
 pub struct StateSet<'a> {
     pub name: Token<'a>,
     pub states: Vec<State<'a>>,
 }
 
 /// `state NAME { CLAUSE CLAUSE .. }`
-#[derive(Debug, Drop)]
+#[derive(Drop)]
 pub struct State<'a> {
     pub name: Token<'a>,
     pub clauses: Vec<Clause<'a>>,
 }
 
 /// `when (CONDITION) { STATEMENTS } state NAME`
-#[derive(Debug, Drop)]
+#[derive(Drop)]
 pub struct Clause<'a> {
     /// The word `when`, whose line a spent budget names.
     pub when: Token<'a>,
@@ -55,7 +55,7 @@ pub struct Clause<'a> {
 }
 
 /// A statement of a clause's block.
-#[derive(Debug, Drop)]
+#[derive(Drop)]
 pub enum Stmt<'a> {
     /// `NAME = EXPRESSION;`
     Assign { target: Token<'a>, value: Expr<'a> },
@@ -65,7 +65,7 @@ pub enum Stmt<'a> {
 
 /// An expression. The operators of one level stand in one list, from left to right, so that the depth
 /// of a tree is bounded by the levels and not by the length of a sum.
-#[derive(Debug, Drop)]
+#[derive(Drop)]
 #[cycle(expression)]
 pub enum Expr<'a> {
     Whole(Token<'a>),
@@ -75,7 +75,7 @@ pub enum Expr<'a> {
 }
 
 /// An operator with its right operand.
-#[derive(Debug, Drop)]
+#[derive(Drop)]
 #[cycle(expression)]
 pub struct Term<'a> {
     pub operator: Token<'a>,

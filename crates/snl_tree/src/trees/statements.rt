@@ -18,7 +18,10 @@ pub enum Stmt<'a> {
     /// `continue ;`, with the word.
     Continue(Token<'a>),
     /// `state NAME ;`
-    State { word: Token<'a>, name: Token<'a> },
+    State {
+        word: Token<'a>,
+        name: Token<'a>,
+    },
     /// `if ( condition ) first` without `else`.
     If {
         condition: Box<Expr<'a>>,
