@@ -1,0 +1,117 @@
+//! Trees of programs: how expressions and statements are grouped, and which parts a program has.
+
+use crate::tests::printing::print;
+use snl_text::lex;
+use snl_tree::parse;
+use snl_tree::whole::{ChannelNames, Def};
+use std::test::Fail;
+
+/// A condition, the statements of its block, and how they are grouped.
+const CLAUSES: [(&str, &str, &str); 36] = [
+    ("a * b / c % d", "", "(a * b / c % d) {}"),
+    ("a - b + c - d", "", "(a - b + c - d) {}"),
+    ("a << b >> c << d", "", "(a << b >> c << d) {}"),
+    ("a < b <= c > d >= e", "", "(a < b <= c > d >= e) {}"),
+    ("a == b != c == d", "", "(a == b != c == d) {}"),
+    ("a & b & c", "", "(a & b & c) {}"),
+    ("a ^ b ^ c", "", "(a ^ b ^ c) {}"),
+    ("a | b | c", "", "(a | b | c) {}"),
+    ("a && b && c", "", "(a && b && c) {}"),
+    ("a || b || c", "", "(a || b || c) {}"),
+    ("a, b, c", "", "(a , b , c) {}"),
+    (
+        "a || b && c | d ^ e & f == g < h << i + j * k",
+        "",
+        "(a || (b && (c | (d ^ (e & (f == (g < (h << (i + (j * k)))))))))) {}",
+    ),
+    (
+        "a * b + c << d < e == f & g ^ h | i && j || k",
+        "",
+        "((((((((((a * b) + c) << d) < e) == f) & g) ^ h) | i) && j) || k) {}",
+    ),
+    ("1", "", "1 {}"),
+    ("1.5", "", "1.5 {}"),
+    ("'a'", "", "'a' {}"),
+    ("(a, b)", "", "[(a , b)] {}"),
+    ("f()", "", "f() {}"),
+    ("f(a, \"t\", b)", "", "f(a;\"t\"b;) {}"),
+    ("f(a = 1, (b, c))", "", "f((a=1);[(b , c)];) {}"),
+    ("a[i, j]++", "", "(a[(i , j)]++) {}"),
+    ("-!x--", "", "(-(!(x--))) {}"),
+    ("- a * ~b", "", "((-a) * (~b)) {}"),
+    ("a+++b", "", "((a++) + b) {}"),
+    ("a---b", "", "((a--) - b) {}"),
+    ("x = y += 1, z", "", "((x=(y+=1)) , z) {}"),
+    ("-x = 1", "", "((-x)=1) {}"),
+    ("a ? b, c : d ? e : f", "", "(a ? (b , c) : (d ? e : f)) {}"),
+    ("x = y ? 1 : z", "", "(x=(y ? 1 : z)) {}"),
+    ("", "if (a) if (b) ; else ;", "{{if a {if b ; else ;}}}"),
+    (
+        "",
+        "if (a) if (b) ; else ; else ;",
+        "{{if a {if b ; else ;} else ;}}",
+    ),
+    (
+        "",
+        "if (a) ; else if (b) ; else ;",
+        "{{if a ; else {if b ; else ;}}}",
+    ),
+    (
+        "",
+        "if (a) while (b) if (c) ; else x;",
+        "{{if a {while b {if c ; else x;}}}}",
+    ),
+    (
+        "",
+        "for (i = 0, j = 1; i < 3; i++) { break; continue; }",
+        "{{for ((i=0) , (j=1)) ; (i < 3) ; (i++) {breakcontinue}}}",
+    ),
+    ("", "for (;;) state a;", "{{for ; ; a}}"),
+    ("x", "int y; { ; } x;", "x {{;}x;}"),
+];
+
+#[test]
+fn clauses_are_grouped(rt: HostRuntime) -> Result<(), Fail> {
+    for (condition, statements, wanted) in CLAUSES {
+        let source = format!(in rt.alloc();
+            "program p ss s {{ state a {{ when ({condition}) {{ {statements} }} exit }} }}"
+        )?;
+        let lexed = lex(rt.alloc(), source.as_bytes())?;
+        let mut shown = Vec::new(rt.alloc());
+        print(&mut shown, &parse(rt.alloc(), &lexed)?)?;
+        let shown = std::str::from_utf8(shown.as_slice())?;
+        assert_eq!(rt; shown.trim_end_matches('\n'), wanted);
+    }
+    Ok(())
+}
+
+/// Each part of a program is where it was written.
+#[test]
+fn parts_of_a_program(rt: HostRuntime) -> Result<(), Fail> {
+    let lexed = lex(
+        rt.alloc(),
+        b"# 3 \"q.stt\"
+program p(\"P=x\") option +s; int x[2] = {1, 2,}; assign x to {\"a\", \"b\"}; %% C
+entry { } ss s { evflag f; state a { option -t; entry { } when () { } exit exit { } } state b { } }
+ss t { state c { } } exit { ; }",
+    )?;
+    let program = parse(rt.alloc(), &lexed)?;
+    assert_eq!(rt; program.token_count, lexed.tokens.len());
+    assert!(rt; program.embedded.len() == 1 && program.files.len() == 1);
+    assert!(rt; program.macros.is_some() && program.entry.is_some() && program.exit.is_some());
+    assert_eq!(rt; program.definitions.len(), 3);
+    let Some(Def::Assign(assign)) = program.definitions.get(2) else {
+        return Err("no assign".into());
+    };
+    let channels = assign.channels.as_ref().ok_or("no channels")?;
+    assert!(rt;
+        channels.to && matches!(&channels.names, ChannelNames::List(names) if names.len() == 2)
+    );
+    assert_eq!(rt; program.state_sets.len(), 2);
+    let set = program.state_sets.get(0).ok_or("no state set")?;
+    assert!(rt; set.definitions.len() == 1 && set.states.len() == 2);
+    let state = set.states.get(0).ok_or("no state")?;
+    assert!(rt; state.entry.is_some() && state.exit.is_some());
+    assert!(rt; state.clauses.len() == 1 && state.definitions.len() == 1);
+    Ok(())
+}
