@@ -1,24 +1,37 @@
-//! The condition of a program's first clause as text that shows how its parts are grouped.
+//! The conditions of a program's clauses as text that shows how their parts are grouped.
 //!
 //! Round brackets stand round each part that has an operator, and those of the source stand as square ones. No function
 //! fails, so that there is little to prove: what finds no room in the text is left out, and the text is then not the
 //! one that is wanted.
 
 use arrayvec::ArrayVec;
-use snl_tree::whole::{Argument, Expr, Program, Term};
+use snl_tree::whole::{Argument, Clause, Expr, Program, State, StateSet, Term};
 
 pub type Text = ArrayVec<u8, 256>;
 
-/// Adds the condition of the first clause of the first state, if there is one.
+/// Adds the conditions of all clauses.
 pub fn print(out: &mut Text, program: &Program) {
-    if let Some(condition) = first_condition(program) {
-        expression(out, condition);
+    for state_set in &program.state_sets {
+        states(out, state_set);
     }
 }
 
-fn first_condition<'p, 'a>(program: &'p Program<'a>) -> Option<&'p Expr<'a>> {
-    let state = program.state_sets.first()?.states.first()?;
-    state.clauses.first()?.condition.as_deref()
+fn states(out: &mut Text, state_set: &StateSet) {
+    for state in &state_set.states {
+        clauses(out, state);
+    }
+}
+
+fn clauses(out: &mut Text, state: &State) {
+    for clause in &state.clauses {
+        condition(out, clause);
+    }
+}
+
+fn condition(out: &mut Text, clause: &Clause) {
+    if let Some(condition) = &clause.condition {
+        expression(out, condition);
+    }
 }
 
 fn add(out: &mut Text, text: &[u8]) {
