@@ -41,8 +41,8 @@ def cases_of_sections(name, source, sections):
     out, stdout = sections.get("stdout", ("", b""))
     made = {
         "source": plain(source),
-        "trace": Path(path.removeprefix("from ")) if path else plain(trace),
-        "stdout": Path(out.removeprefix("to ")) if out else plain(stdout),
+        "trace": Path(path[len("from ") :]) if path else plain(trace),
+        "stdout": Path(out[len("to ") :]) if out else plain(stdout),
         "stderr": plain(sections.get("stderr", ("", b""))[1]),
         "statuses": (int(sections.get("status", ("0", b""))[0]),),
     }
@@ -69,11 +69,11 @@ def forms(file):
     """Small sources, a line each: a form, which takes the place of `@` in each line in front that begins with `in:`."""
     for title, body in parted(file.read_bytes(), b"=="):
         rows = [it for it in body.splitlines() if it]
-        places = [it.removeprefix(b"in: ") for it in rows if it.startswith(b"in: ")] or [b"@"]
+        places = [it[len(b"in: ") :] for it in rows if it.startswith(b"in: ")] or [b"@"]
         for row in (it for it in rows if not it.startswith(b"in: ")):
             source, answer = form(row)
-            name = f"{file.name}: {title}: {row.decode()[:100]}"
             for place in places:
+                name = f"{file.name}: {title}: {row.decode()[:100]}, in {place.decode()}"
                 whole = plain(place.replace(b"@", source))
                 yield Case(name, whole, b"0 bad line", stderr=plain(answer), statuses=(1,))
 

