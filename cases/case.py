@@ -30,6 +30,8 @@ class Case:
         except subprocess.TimeoutExpired:
             return f"FAILED {self.name}\n  no end within {SECONDS} seconds"
         said = [] if status in self.statuses else [f"status {status}, not {' or '.join(map(str, self.statuses))}"]
+        if status == 1 and not stderr:
+            said.append("status 1, and no message")
         said += differences("stdout", self.stdout, stdout) + differences("stderr", self.stderr, stderr)
         return "\n  ".join([f"FAILED {self.name}", *said]) if said else None
 

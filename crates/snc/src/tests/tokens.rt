@@ -114,7 +114,10 @@ fn places_of_tokens(rt: HostRuntime) -> Result<(), Fail> {
         b"# 1 \"f.h\"\n# 2 \"\"\n# 3 \"a\\\"b\" x\n# 4 \"f.h\"\n",
     )?;
     let wanted: [&[u8]; 3] = [b"f.h", b"", b"a\\\"b"];
-    assert_eq!(rt; lexed.files.as_slice(), wanted.as_slice());
+    assert_eq!(rt; lexed.files.len(), 3);
+    for (name, text) in lexed.files.iter().zip(wanted) {
+        assert_eq!(rt; *name, text);
+    }
     assert!(rt; LexFault::Memory.text().is_none() && LexFault::Memory.pos().is_none());
     Ok(())
 }
