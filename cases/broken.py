@@ -12,11 +12,12 @@ def cases(root):
     """All made of the stored run of snlrun."""
     crate = root / "crates/snlrun"
     source, trace = (crate / "data/p.st").read_bytes(), (crate / "stdin").read_bytes()
-    for count in range(len(source)):
+    for count in range(len(source.rstrip())):
         yield of_source(f"the first {count} bytes of a source", source[:count])
         for byte in (0x00, 0x80, ord("(")):
             spoilt = source[:count] + bytes([byte]) + source[count + 1 :]
-            yield of_source(f"a source whose byte {count} is {byte}", spoilt)
+            if spoilt != source:
+                yield of_source(f"a source whose byte {count} is {byte}", spoilt)
     for count in range(len(trace)):
         yield of_trace(f"the first {count} bytes of a trace", source, trace[:count])
     for seed in range(100):
@@ -32,7 +33,8 @@ def some_bytes(numbers, text):
 
 
 def of_source(name, source):
-    return Case(f"broken: {name}", source, stderr=MESSAGE, statuses=(0, 1))
+    """None of these is a program: where its last brace is missing, where a parenthesis is one too many, and so on."""
+    return Case(f"broken: {name}", source, stderr=MESSAGE, statuses=(1,))
 
 
 def of_trace(name, source, trace):
