@@ -3,23 +3,28 @@
 use crate::tests::PROGRAM;
 use arrayvec::ArrayVec;
 use snl_check::{Severity, check};
-use snl_machine::{Event, Live, Machine};
+use snl_machine::{
+    Event, Live, Machine, ended_stays, examples, numbers_lead_to_declarations, rounds_end,
+    time_is_the_events, time_never_falls,
+};
 use snl_text::{Kind, Lexed, lex};
-use snl_trace::{Sheet, TraceFault, read_line};
+use snl_trace::{End, Feed, Sheet, TraceFault, read_line, run, text_begins};
 use snl_tree::thin::{Program, narrow};
+use snl_tree::whole::{programs_differ_in_spelling, tokens_have_a_program_or_a_fault};
 use snl_tree::{ParseFault, parse};
 use std::alloc::Global;
 use std::test::Fail;
 
 /// The program of the first language that tokens spell.
 fn program<'a>(alloc: Global, lexed: &Lexed<'a>) -> Result<Program<'a>, Fail> {
-    let whole = parse(alloc, lexed)?;
-    let thin = narrow(alloc, whole)?;
+    let thin = narrow(alloc, parse(alloc, lexed)?)?;
     Ok(thin.ok_or("not of the first language")?)
 }
 
 #[test]
 fn lead_from_bytes_to_a_run(rt: HostRuntime) -> Result<(), Fail> {
+    let refused = parse(rt.alloc(), &lex(rt.alloc(), b"program p int int;")?).err();
+    assert_eq!(rt; refused, Some(ParseFault::Unexpected(3)));
     let lexed = lex(rt.alloc(), PROGRAM)?;
     assert_eq!(rt; lexed.tokens.len(), 58);
     assert_eq!(rt; lexed.eof.line, 15);
@@ -52,19 +57,29 @@ fn lead_from_bytes_to_a_run(rt: HostRuntime) -> Result<(), Fail> {
     assert!(rt; machine.fits(&event) && !machine.fits(&Event::Up(2)));
     assert_eq!(rt; machine.event(5, &event, &mut sheet)?, Live::Running);
     assert_eq!(rt; machine.time(), 5);
+    let mut trace = Feed::new(b"6 tick\n5 tick\n", 4);
+    let end = run(&mut machine, &mut trace, &mut sheet);
+    assert_eq!(rt; end, End::TraceFault(2, TraceFault::BackInTime));
+    assert_eq!(rt; machine.time(), 6);
     assert_eq!(rt;
         sheet.text(),
         b"5 start p\n5 put b 8\n5 go s lo hi\n".as_slice()
     );
+    laws();
     Ok(())
 }
 
-#[test]
-fn refuse_the_first_impossible_token(rt: HostRuntime) -> Result<(), Fail> {
-    let lexed = lex(rt.alloc(), b"program p option +s; int int;")?;
-    let refused = parse(rt.alloc(), &lexed).err();
-    assert_eq!(rt; refused, Some(ParseFault::Unexpected(7)));
-    Ok(())
+/// Each law has no code.
+fn laws() {
+    programs_differ_in_spelling();
+    tokens_have_a_program_or_a_fault();
+    examples();
+    rounds_end();
+    ended_stays();
+    time_is_the_events();
+    time_never_falls();
+    numbers_lead_to_declarations();
+    text_begins();
 }
 
 /// Lines with what is wrong with them, after an event at 5.
@@ -124,22 +139,10 @@ fn read_each_line_or_name_its_fault(rt: HostRuntime) -> Result<(), Fail> {
         return Err("not a value".into());
     };
     assert_eq!(rt; values.as_slice(), [1i64, 2_147_483_648].as_slice());
-    Ok(())
-}
-
-#[test]
-fn read_lines_up_to_their_limit(rt: HostRuntime) -> Result<(), Fail> {
-    let lexed = lex(rt.alloc(), PROGRAM)?;
-    let checked = check(rt.alloc(), program(rt.alloc(), &lexed)?)?
-        .checked
-        .ok_or("not accepted")?;
-    let machine = Machine::load(rt.alloc(), checked, 10)?;
-    let mut line = vec![in rt.alloc(); b' '; 32_768]?;
-    assert!(rt; matches!(read_line(line.as_slice(), &machine, 5), Ok(None)));
-    line.push(b' ')?;
-    assert_eq!(rt;
-        read_line(line.as_slice(), &machine, 5).err(),
-        Some(TraceFault::LineTooLong)
-    );
+    let mut longest = vec![in rt.alloc(); b' '; 32_768]?;
+    assert!(rt; matches!(read_line(longest.as_slice(), &machine, 5), Ok(None)));
+    longest.push(b' ')?;
+    let fault = read_line(longest.as_slice(), &machine, 5).err();
+    assert_eq!(rt; fault, Some(TraceFault::LineTooLong));
     Ok(())
 }

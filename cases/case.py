@@ -1,0 +1,62 @@
+"""A case: what snlrun is called with, and what it has to answer."""
+import contextlib
+import difflib
+import os
+import re
+import subprocess
+import tempfile
+from dataclasses import dataclass, field
+from pathlib import Path
+
+SECONDS = 60
+
+
+@dataclass
+class Case:
+    name: str
+    source: bytes = b""
+    # What stands on standard input, or the path of what standard input is.
+    trace: "bytes | Path" = b""
+    words: list = field(default_factory=lambda: [b"p.st"])
+    # All bytes of a stream, a pattern for each of its lines, or the path of what standard output is.
+    stdout: "bytes | re.Pattern | Path" = b""
+    stderr: "bytes | re.Pattern" = b""
+    statuses: tuple = (0,)
+
+    def failure(self, program):
+        """Runs the case; None where all is as it has to be, else what is not."""
+        try:
+            status, stdout, stderr = self.run(program)
+        except subprocess.TimeoutExpired:
+            return f"FAILED {self.name}\n  no end within {SECONDS} seconds"
+        said = [] if status in self.statuses else [f"status {status}, not {' or '.join(map(str, self.statuses))}"]
+        if status == 1 and not stderr:
+            said.append("status 1, and no message")
+        said += differences("stdout", self.stdout, stdout) + differences("stderr", self.stderr, stderr)
+        return "\n  ".join([f"FAILED {self.name}", *said]) if said else None
+
+    def run(self, program):
+        with tempfile.TemporaryDirectory(prefix="snlrun-") as folder, contextlib.ExitStack() as opened:
+            Path(folder, "p.st").write_bytes(self.source)
+            how = {"stdout": subprocess.PIPE, "stderr": subprocess.PIPE, "cwd": folder, "timeout": SECONDS}
+            if isinstance(self.trace, Path):
+                how["stdin"] = os.open(self.trace, os.O_RDONLY)
+                opened.callback(os.close, how["stdin"])
+            else:
+                how["input"] = self.trace
+            if isinstance(self.stdout, Path):
+                how["stdout"] = opened.enter_context(open(self.stdout, "wb"))
+            ran = subprocess.run([os.fsencode(program), *self.words], **how)
+        return ran.returncode, ran.stdout, ran.stderr
+
+
+def differences(name, wanted, found):
+    """Lines that tell where a stream is not as it has to be."""
+    if isinstance(wanted, Path) or found == wanted:
+        return []
+    if isinstance(wanted, re.Pattern):
+        bad = [it for it in found.splitlines(keepends=True) if not wanted.fullmatch(it)]
+        return [f"{name} has the line {it!r}" for it in bad[:5]]
+    lines = [[repr(it)[2:-1] for it in text.splitlines(keepends=True)] for text in (wanted, found)]
+    told = list(difflib.unified_diff(*lines, f"{name}, as it has to be", f"{name}, as it is", lineterm="", n=1))
+    return [it[:200] for it in told[:20]] + ["..."] * (len(told) > 20)

@@ -1,0 +1,106 @@
+"""Reads cases from their files. README.md has the form of these."""
+import re
+from pathlib import Path
+
+from case import Case
+
+REPEATED = re.compile(rb"`\[(\d+) (.*?)`\]", re.DOTALL)
+ESCAPE = re.compile(rb"`(\n|[0-9A-F]{2})")
+NOT_YET = b"p.st:1: error: E05 not run yet\n"
+
+
+def plain(text):
+    """The bytes that a text of a file stands for."""
+    text = REPEATED.sub(lambda it: it[2] * int(it[1]), text)
+    return ESCAPE.sub(lambda it: b"" if it[1] == b"\n" else bytes.fromhex(it[1].decode()), text)
+
+
+def parted(text, mark):
+    """The parts of a text that begin with a line of the mark and words, each with those words."""
+    found = re.split(rb"^" + mark + rb" (.+)\n", text, flags=re.MULTILINE)
+    return [(found[at].decode(), found[at + 1]) for at in range(1, len(found), 2)]
+
+
+def cases(file):
+    """Whole runs: each has sections. One without a source has that of the case before."""
+    source = b""
+    for title, body in parted(file.read_bytes(), b"=="):
+        sections = {}
+        for words, text in parted(body, b"--"):
+            name, _, more = words.partition(" ")
+            sections[name] = (more, text.rstrip(b"\n") + b"\n" if text.strip() else b"")
+        unknown = set(sections) - {"p.st", "trace", "stdout", "stderr", "status", "args", "rows"}
+        if unknown:
+            raise SystemExit(f"{file.name}: {title}: no section is called {', '.join(sorted(unknown))}")
+        source = sections.get("p.st", ("", source))[1]
+        yield from cases_of_sections(f"{file.name}: {title}", source, sections)
+
+
+def cases_of_sections(name, source, sections):
+    path, trace = sections.get("trace", ("", b""))
+    out, stdout = sections.get("stdout", ("", b""))
+    made = {
+        "source": plain(source),
+        "trace": Path(path[len("from ") :]) if path else plain(trace),
+        "stdout": Path(out[len("to ") :]) if out else plain(stdout),
+        "stderr": plain(sections.get("stderr", ("", b""))[1]),
+        "statuses": (int(sections.get("status", ("0", b""))[0]),),
+    }
+    if "args" in sections:
+        made["words"] = plain(sections["args"][1]).splitlines()
+    if "rows" not in sections:
+        yield Case(name, **made)
+        return
+    for row in sections["rows"][1].splitlines():
+        yield of_row(name, made, trace, row)
+
+
+def of_row(name, made, trace, row):
+    """A case for a line of a trace, which takes the place of `@` in it."""
+    line, arrow, fault = row.partition(b" => ")
+    number = trace[: trace.index(b"@")].count(b"\n") + 1
+    made = {**made, "trace": plain(trace.replace(b"@", line))}
+    if arrow:
+        made.update(stderr=b"trace:%d: %s\n" % (number, fault), statuses=(6,))
+    return Case(f"{name}: {line.decode()}", **made)
+
+
+def forms(file):
+    """Small sources, a line each: a form, which takes the place of `@` in each line in front that begins with `in:`."""
+    for title, body in parted(file.read_bytes(), b"=="):
+        rows = [it for it in body.splitlines() if it]
+        places = [it[len(b"in: ") :] for it in rows if it.startswith(b"in: ")] or [b"@"]
+        for row in (it for it in rows if not it.startswith(b"in: ")):
+            source, answer = form(row)
+            for place in places:
+                name = f"{file.name}: {title}: {row.decode()[:100]}, in {place.decode()}"
+                whole = plain(place.replace(b"@", source))
+                yield Case(name, whole, b"0 bad line", stderr=plain(answer), statuses=(1,))
+
+
+def form(row):
+    """The source of a form, and what is to be said of it."""
+    source, arrow, answer = row.partition(b" => ")
+    if arrow:
+        file, line, text = re.fullmatch(rb"(?:([^ :]*):)?(\d+): (.*)", answer).groups(b"p.st")
+        return source, b"%s:%s: error: %s\n" % (file, line, text)
+    front, *refused = source.split(b"$")
+    if not refused:
+        return source, NOT_YET
+    token, behind = refused
+    return b"%s\n%s\n%s" % (front, token, behind), b"p.st:2: error: E01 syntax error at '%s'\n" % token
+
+
+def examples(root):
+    for file in sorted(root.glob("examples/*.st")):
+        trace, lines = (file.with_suffix(it).read_bytes() for it in (".trace", ".out"))
+        yield Case(f"examples/{file.name}", file.read_bytes(), trace, stdout=lines)
+
+
+def not_in_readme(root):
+    """An example that the README calls, and whose output does not stand there in a block of its own."""
+    readme = (root / "README.md").read_text()
+    called = re.findall(r"^bin/snlrun examples/(\w+)\.st < examples/\1\.trace$", readme, re.MULTILINE)
+    outputs = {it: (root / f"examples/{it}.out").read_text() for it in called}
+    missing = [it for it, lines in outputs.items() if f"```\n{lines}```\n" not in readme]
+    return [f"FAILED README.md: it has not what examples/{it}.out has" for it in missing]
