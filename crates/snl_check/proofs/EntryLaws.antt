@@ -87,49 +87,17 @@ same_said old new kept from m = (
       subst (Contains (map said_entry new)) (sym (exact_entry w.0 a.1 a.4) ∙ w.2) (contains_map said_entry new a.1 (a.0, a.2, a.3))),
 )
 
--- what comes first by all fields isn't behind by the first three
-prefix : (a b c r : Ordering) → ordering_then a (ordering_then b (ordering_then c r)) ≡ Less → ordering_then a (ordering_then b c) ≡ Greater → ⊥
-prefix Less b c r e h = let k : ◌≡◌ {A = Ordering} Less Greater = h in cc
-prefix Greater b c r e h = let k : ◌≡◌ {A = Ordering} Greater Less = e in cc
-prefix Equal Less c r e h = let k : ◌≡◌ {A = Ordering} Less Greater = h in cc
-prefix Equal Greater c r e h = let k : ◌≡◌ {A = Ordering} Greater Less = e in cc
-prefix Equal Equal Less r e h = let k : ◌≡◌ {A = Ordering} Less Greater = h in cc
-prefix Equal Equal Greater r e h = let k : ◌≡◌ {A = Ordering} Greater Less = e in cc
-prefix Equal Equal Equal r e h = let k : ◌≡◌ {A = Ordering} Equal Greater = h in cc
-
+-- errors stand before warnings
 severity_order : (a b : Bool) → severity_cmp (if a then Warning else Error) (if b then Warning else Error) ≡ bool_cmp a b
 severity_order false false = refl
 severity_order false true = refl
 severity_order true false = refl
 severity_order true true = refl
 
--- messages that are one come of entries that compare equal
-same_severity : (a b : Bool) → ◌≡◌ {A = Severity} (if a then Warning else Error) (if b then Warning else Error) → bool_cmp a b ≡ Equal
-same_severity false false e = refl
-same_severity false true e = let k : ◌≡◌ {A = Severity} Error Warning = e in cc
-same_severity true false e = let k : ◌≡◌ {A = Severity} Warning Error = e in cc
-same_severity true true e = refl
-
-same_nat : (m n : ℕ) → m ≡ n → nat_cmp m n ≡ Equal
-same_nat m n e = subst (λ k. nat_cmp m k ≡ Equal) e (tied_itself nat_cmp_total m)
-
-same_text : (xs ys : List ℕ) → xs ≡ ys → slice_cmp nat_cmp xs ys ≡ Equal
-same_text xs ys e = subst (λ k. slice_cmp nat_cmp xs k ≡ Equal) e (tied_itself nat_list_cmp_total xs)
-
-all_equal : (a b c d f g : Ordering) → a ≡ Equal → b ≡ Equal → c ≡ Equal → d ≡ Equal → f ≡ Equal → g ≡ Equal → ordering_then a (ordering_then b (ordering_then c (ordering_then d (ordering_then f g)))) ≡ Equal
-all_equal a b c d f g ea eb ec ed ef eg = λ j. ordering_then (ea j) (ordering_then (eb j) (ordering_then (ec j) (ordering_then (ed j) (ordering_then (ef j) (eg j)))))
-
-one_message : (x y : Entry) → said_entry x ≡ said_entry y → entry_cmp x y ≡ Equal
-one_message x y e = all_equal _ _ _ _ _ _
-    (same_nat x.offset y.offset (ap (λ m. m.pos.offset) e)) (same_severity x.is_warning y.is_warning (ap (λ m. m.severity) e)) (same_nat x.number y.number (ap (λ m. m.number) e))
-    (same_nat x.file y.file (ap (λ m. m.pos.file) e)) (same_nat x.line y.line (ap (λ m. m.pos.line) e)) (same_text x.text.items y.text.items (ap (λ m. m.text) e))
-
+-- entries in order are messages in order
 before : (x y : Entry) → entry_cmp x y ≡ Less → IsBefore (said_entry x) (said_entry y)
-before x y e = record {
-  ordered = λ h. prefix (nat_cmp x.offset y.offset) (bool_cmp x.is_warning y.is_warning) (nat_cmp x.number y.number) _ e
-      (ap (λ o. ordering_then (nat_cmp x.offset y.offset) (ordering_then o (nat_cmp x.number y.number))) (sym (severity_order x.is_warning y.is_warning)) ∙ h);
-  other = λ h. let k : ◌≡◌ {A = Ordering} Less Equal = sym e ∙ one_message x y h in cc;
-}
+before x y e = ap (λ o. ordering_then (nat_cmp x.offset y.offset) (ordering_then o (ordering_then (nat_cmp x.number y.number)
+    (ordering_then (nat_cmp x.file y.file) (ordering_then (nat_cmp x.line y.line) (slice_cmp nat_cmp x.text.items y.text.items)))))) (severity_order x.is_warning y.is_warning) ∙ e
 
 all_before : (x : Entry) (ys : List Entry) → AllByRecursion (λ y. entry_cmp x y ≡ Less) ys → AllByRecursion (IsBefore (said_entry x)) (map said_entry ys)
 all_before x [] h = h

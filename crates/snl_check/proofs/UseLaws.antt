@@ -10,7 +10,7 @@ use Rattle.snl_check.specs.declared.sites.Purpose.{Purpose}
 use Rattle.snl_check.specs.declared.sites.Site.TheVariants.{Use}
 use Rattle.snl_check.specs.Facts.{noted}
 use Rattle.snl_check.specs.Messages.{message_of}
-use Rattle.snl_check.specs.Rules.{Among, HasNoError}
+use Rattle.snl_check.specs.Rules.{Among, IsAccepted}
 use Rattle.snl_check.specs.Scopes.{Scope, bound, or_in}
 use Rattle.snl_check.specs.Sites.{Site, Declares, Uses, Goes, Stands, sites}
 use Rattle.snl_check.specs.Tables.{declared_at, declared_in}
@@ -107,11 +107,11 @@ the_place : (o : Option Pos) → IsSome o → (place : Pos) × (o ≡ Some place
 the_place None h = absurd (false≢true h)
 the_place (Some place) h = (place, refl)
 
-module _ (p : Program) (accepted : HasNoError p) (offset : ℕ) where
+module _ (p : Program) (accepted : IsAccepted p) (offset : ℕ) where
   use_means : (purpose : Purpose) (scopes : List Scope) (t : Token) (o : Option Token) → bound scopes t.text.now ≡ o → Among (sites p) (Uses purpose scopes t) → t.pos.offset ≡ offset → (place : Pos) × MeansAt offset place (Uses purpose scopes t)
   use_means purpose scopes t None b a e =
       let w = at_of (sites p) (Uses purpose scopes t) a in
-      absurd (accepted (message_of Undeclared t) record { before = w.before; site = Uses purpose scopes t; after = w.after; stands = w.stands; rule = Undeclared; holds = b; says = refl } refl)
+      absurd (accepted (message_of Undeclared t) (inl record { before = w.before; site = Uses purpose scopes t; after = w.after; stands = w.stands; rule = Undeclared; holds = b; says = refl }) refl)
   use_means purpose scopes t (Some d) b a e = (d.pos, (e, (d, (binding scopes t.text.now d).1 b, refl)))
 
   means_some : (s : Site) → Among (sites p) s → StandsAt offset s → (place : Pos) × MeansAt offset place s

@@ -1,5 +1,6 @@
 -- Messages: what each rule says, and the order in which messages stand.
-use Rattle.std.specs.Prelude.{◌≡◌, ℕ, List, [], ◌∷◌, ◌++◌}
+use Rattle.std.specs.Prelude.{◌≡◌, ℕ, List, [], ◌∷◌, ◌++◌, codes}
+use Rattle.std.specs.Cmp.Lexicographic.{slice_cmp}
 use Rattle.std.specs.List.{AllByRecursion}
 use Rattle.std.specs.Ordering.{nat_cmp, ordering_then}
 use Rattle.std.specs.declared.cmp.Ordering.{Ordering}
@@ -36,17 +37,17 @@ number_of StateTwice = 24
 number_of NoState = 25
 number_of NoClauses = 7
 
--- '
+-- the quote before and after a name
 abbrev pub quote : List ℕ
-quote = 39 ∷ []
+quote = codes "'"
 
--- state '
+-- what stands before the name of a state
 abbrev pub state_quote : List ℕ
-state_quote = 115 ∷ 116 ∷ 97 ∷ 116 ∷ 101 ∷ 32 ∷ 39 ∷ []
+state_quote = codes "state '"
 
--- no state '
+-- what stands before the name of a state that is not there
 abbrev pub no_state_quote : List ℕ
-no_state_quote = 110 ∷ 111 ∷ 32 ∷ 115 ∷ 116 ∷ 97 ∷ 116 ∷ 101 ∷ 32 ∷ 39 ∷ []
+no_state_quote = codes "no state '"
 
 -- the text before the quoted name
 abbrev pub before_name : Rule → List ℕ
@@ -57,27 +58,13 @@ before_name _ = quote
 
 -- the text behind it
 abbrev pub behind_name : Rule → List ℕ
--- ' is not declared
-behind_name Undeclared =
-    39 ∷ 32 ∷ 105 ∷ 115 ∷ 32 ∷ 110 ∷ 111 ∷ 116 ∷ 32 ∷ 100 ∷ 101 ∷ 99 ∷ 108 ∷ 97 ∷ 114 ∷ 101 ∷ 100 ∷ []
--- ' is declared twice
-behind_name DeclaredTwice =
-    39 ∷ 32 ∷ 105 ∷ 115 ∷ 32 ∷ 100 ∷ 101 ∷ 99 ∷ 108 ∷ 97 ∷ 114 ∷ 101 ∷ 100 ∷ 32 ∷ 116 ∷ 119 ∷ 105 ∷ 99 ∷ 101 ∷ []
--- ' is assigned twice
-behind_name AssignedTwice =
-    39 ∷ 32 ∷ 105 ∷ 115 ∷ 32 ∷ 97 ∷ 115 ∷ 115 ∷ 105 ∷ 103 ∷ 110 ∷ 101 ∷ 100 ∷ 32 ∷ 116 ∷ 119 ∷ 105 ∷ 99 ∷ 101 ∷ []
--- ' is not assigned
-behind_name Unassigned =
-    39 ∷ 32 ∷ 105 ∷ 115 ∷ 32 ∷ 110 ∷ 111 ∷ 116 ∷ 32 ∷ 97 ∷ 115 ∷ 115 ∷ 105 ∷ 103 ∷ 110 ∷ 101 ∷ 100 ∷ []
--- ' is defined twice
-behind_name StateTwice =
-    39 ∷ 32 ∷ 105 ∷ 115 ∷ 32 ∷ 100 ∷ 101 ∷ 102 ∷ 105 ∷ 110 ∷ 101 ∷ 100 ∷ 32 ∷ 116 ∷ 119 ∷ 105 ∷ 99 ∷ 101 ∷ []
--- ' in this state set
-behind_name NoState =
-    39 ∷ 32 ∷ 105 ∷ 110 ∷ 32 ∷ 116 ∷ 104 ∷ 105 ∷ 115 ∷ 32 ∷ 115 ∷ 116 ∷ 97 ∷ 116 ∷ 101 ∷ 32 ∷ 115 ∷ 101 ∷ 116 ∷ []
--- ' has no clauses
-behind_name NoClauses =
-    39 ∷ 32 ∷ 104 ∷ 97 ∷ 115 ∷ 32 ∷ 110 ∷ 111 ∷ 32 ∷ 99 ∷ 108 ∷ 97 ∷ 117 ∷ 115 ∷ 101 ∷ 115 ∷ []
+behind_name Undeclared = codes "' is not declared"
+behind_name DeclaredTwice = codes "' is declared twice"
+behind_name AssignedTwice = codes "' is assigned twice"
+behind_name Unassigned = codes "' is not assigned"
+behind_name StateTwice = codes "' is defined twice"
+behind_name NoState = codes "' in this state set"
+behind_name NoClauses = codes "' has no clauses"
 
 abbrev pub text_of : Rule → List ℕ → List ℕ
 text_of rule name = before_name rule ++ name ++ behind_name rule
@@ -94,15 +81,15 @@ severity_cmp Error Warning = Less
 severity_cmp Warning Error = Greater
 severity_cmp Warning Warning = Equal
 
--- by place; at one place errors before warnings, then by number
+-- By place; at one place errors before warnings, then by number; and then by all else that tells messages apart.
 abbrev pub message_cmp : Said → Said → Ordering
-message_cmp m n = ordering_then (nat_cmp m.pos.offset n.pos.offset)
-    (ordering_then (severity_cmp m.severity n.severity) (nat_cmp m.number n.number))
+message_cmp m n = ordering_then (nat_cmp m.pos.offset n.pos.offset) (ordering_then (severity_cmp m.severity n.severity)
+    (ordering_then (nat_cmp m.number n.number) (ordering_then (nat_cmp m.pos.file n.pos.file) (ordering_then (nat_cmp m.pos.line n.pos.line)
+    (slice_cmp nat_cmp m.text n.text)))))
 
--- m may stand before n: the order doesn't put it behind, and it is another message
-pub record IsBefore (m n : Said) : Type 0 where
-  pub ordered : message_cmp m n ≡ Greater → ⊥
-  pub other : m ≡ n → ⊥
+-- m stands before n
+abbrev pub IsBefore : Said → Said → Type 0
+IsBefore m n = message_cmp m n ≡ Less
 
 -- each message once, in order
 abbrev pub IsInOrder : List Said → Type 0

@@ -94,10 +94,6 @@ pub record Says (p : Program) (m : Said) : Type 0 where
   pub holds : Holds rule before (sites p) site
   pub says : m ≡ message_of rule (name_of site)
 
--- no error is said of its tree
-abbrev pub HasNoError : Program → Type 0
-HasNoError p = (m : Said) → Says p m → m.severity ≡ Error → ⊥
-
 -- E10: embedded C has no meaning here; at each piece of it
 abbrev pub embedded_message : Pos → Said
 embedded_message pos = record { pos = pos; severity = Error; number = 10; text = codes "embedded C is not supported" }

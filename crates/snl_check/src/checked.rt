@@ -1,8 +1,10 @@
+//! The check of a program, and a program that passed it.
+
 ghost use Rattle.std.specs.Prelude.{◌≡◌, ◌↔◌, ◌++◌, map, Contains, IfOk, IfSome, IsSome, Some};
 ghost use Rattle.std.proofs.Props.{props};
 ghost use Rattle.snl_text.specs.declared.tokens.Pos.{Pos};
 ghost use Rattle.snl_check.specs.Messages.{Said, IsInOrder, said};
-ghost use Rattle.snl_check.specs.Rules.{HasNoError, IsAccepted, IsSaid};
+ghost use Rattle.snl_check.specs.Rules.{IsAccepted, IsSaid};
 ghost use Rattle.snl_check.specs.Tables.{IsTableOf};
 ghost use Rattle.snl_check.specs.Told.{accepted};
 ghost use Rattle.snl_check.specs.Uses.{IsDeclared, IsUsed};
@@ -17,20 +19,20 @@ use snl_text::Pos;
 use snl_tree::thin::Program;
 use std::alloc::{AllocError, Global};
 
-/// A program of which no error holds.
+/// A program of which no error is said.
 #[derive(Drop)]
 pub struct Checked<'a> {
     program: Program<'a>,
     /// The places of the declarations that uses mean, by the offsets of the uses.
     uses: IndexMap<usize, Pos>,
-    pub ghost without_error: { HasNoError program },
+    pub ghost accepted: { IsAccepted program },
     ghost bound: { IsTableOf uses program } by { Prim.hlevel props },
 }
 
 impl<'a> Checked<'a> {
     pub fn program(&self) -> &Program<'a>
         ensures tree { result.now ≡ self.now.program }
-        ensures accepted { HasNoError result.now }
+        ensures accepted { IsAccepted result.now }
     {
         &self.program
     }

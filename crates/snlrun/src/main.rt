@@ -80,12 +80,11 @@ fn run_over_input(rt: &HostRuntime, source: &[u8], job: &Job) -> Status {
     else {
         return Status::Memory;
     };
-    let finished = lines.finish();
+    if lines.finish().is_err() {
+        return Status::InputOutput;
+    }
     if let Some(End::TraceFault(number, fault)) = end {
         let _ = eprintln!(rt; "trace:{number}: {fault}");
     }
-    match finished {
-        Ok(()) => status,
-        Err(_) => Status::InputOutput,
-    }
+    status
 }

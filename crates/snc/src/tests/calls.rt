@@ -9,15 +9,18 @@ use snl_machine::{
 };
 use snl_text::{Kind, Lexed, lex};
 use snl_trace::{End, Feed, Sheet, TraceFault, read_line, run, text_begins};
+use snl_tree::laws::{
+    programs_differ_in_spelling, tokens_have_a_program_or_a_fault, tokens_have_one_answer,
+};
 use snl_tree::thin::{Program, narrow};
-use snl_tree::whole::{programs_differ_in_spelling, tokens_have_a_program_or_a_fault};
 use snl_tree::{ParseFault, parse};
 use std::alloc::Global;
 use std::test::Fail;
 
 /// The program of the first language that tokens spell.
 fn program<'a>(alloc: Global, lexed: &Lexed<'a>) -> Result<Program<'a>, Fail> {
-    let thin = narrow(alloc, parse(alloc, lexed)?)?;
+    let program = parse(alloc, lexed)?;
+    let thin = narrow(alloc, &program)?;
     Ok(thin.ok_or("not of the first language")?)
 }
 
@@ -73,6 +76,7 @@ fn lead_from_bytes_to_a_run(rt: HostRuntime) -> Result<(), Fail> {
 fn laws() {
     programs_differ_in_spelling();
     tokens_have_a_program_or_a_fault();
+    tokens_have_one_answer();
     examples();
     rounds_end();
     ended_stays();

@@ -5,7 +5,7 @@
 //! one that is wanted.
 
 use arrayvec::ArrayVec;
-use snl_tree::whole::{Argument, Clause, Expr, Program, State, StateSet, Term};
+use snl_tree::{Argument, Clause, Expr, Program, State, StateSet, Term};
 
 pub type Text = ArrayVec<u8, 256>;
 
@@ -43,7 +43,11 @@ fn expression(out: &mut Text, expr: &Expr) {
     match expr {
         Expr::Constant(token) | Expr::Named(token) => add(out, token.text),
         Expr::Parenthesized(value) => around(out, b"[", value, b"]"),
-        Expr::Element(name, bracket, index) => {
+        Expr::Element {
+            name,
+            bracket,
+            index,
+        } => {
             add(out, name.text);
             around(out, bracket.text, index, b"]")
         }
@@ -63,24 +67,28 @@ fn expression(out: &mut Text, expr: &Expr) {
             around(out, b"(", first, b"");
             terms(out, rest)
         }
-        Expr::Conditional(test, first, second) => {
-            around(out, b"(", test, b" ? ");
-            around(out, b"", first, b" : ");
-            around(out, b"", second, b")")
+        Expr::Conditional { condition, yes, no } => {
+            around(out, b"(", condition, b" ? ");
+            around(out, b"", yes, b" : ");
+            around(out, b"", no, b")")
         }
-        Expr::Assignment(target, operator, value) => {
+        Expr::Assignment {
+            target,
+            operator,
+            value,
+        } => {
             around(out, b"(", target, operator.text);
             around(out, b"", value, b")")
         }
     }
 }
 
-/// Adds an expression, with something in front of it and behind it.
+/// Adds an expression, with something before it and after it.
 #[cycle(printing_expressions)]
-fn around(out: &mut Text, front: &[u8], expr: &Expr, behind: &[u8]) {
-    add(out, front);
+fn around(out: &mut Text, before: &[u8], expr: &Expr, after: &[u8]) {
+    add(out, before);
     expression(out, expr);
-    add(out, behind)
+    add(out, after)
 }
 
 #[cycle(printing_expressions)]

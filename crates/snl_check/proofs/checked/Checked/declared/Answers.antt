@@ -11,7 +11,7 @@ returns c =
     let offset = c.args.offset in
     let is : c.copied.result ≡ declared_in offset (map noted (sites checked.program)) =
     c.copied.ensures ∙ c.get.ensures.value ∙ checked.bound offset in
-    let used = used_is checked.program checked.without_error offset in
+    let used = used_is checked.program checked.accepted offset in
     record {
       means = λ place. let law = declared_is checked.program offset place in (λ e. law.0 (sym is ∙ e), λ w. is ∙ law.1 w);
       used = (λ h. used.0 (subst IsSome is h), λ u. subst IsSome (sym is) (used.1 u));
