@@ -121,7 +121,7 @@ fn tree_judged<'a>(
         f.messages.items (option_map (λ c. c.program) f.checked)) }
 {
     let word = program.word;
-    match narrow(alloc, &program)? {
+    match narrow(alloc, program)? {
         Some(thin) => {
             let found = program_judged(alloc, thin, names)?;
             Ok(found)

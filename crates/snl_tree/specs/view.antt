@@ -4,3 +4,4 @@ pub mod Declarations
 pub mod Definitions
 pub mod Statements
 pub mod Programs
+pub mod Thin

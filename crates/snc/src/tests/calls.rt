@@ -20,7 +20,7 @@ use std::test::Fail;
 /// The program of the first language that tokens spell.
 fn program<'a>(alloc: Global, lexed: &Lexed<'a>) -> Result<Program<'a>, Fail> {
     let program = parse(alloc, lexed)?;
-    let thin = narrow(alloc, &program)?;
+    let thin = narrow(alloc, program)?;
     Ok(thin.ok_or("not of the first language")?)
 }
 

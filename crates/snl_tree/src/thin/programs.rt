@@ -1,8 +1,12 @@
-ghost use Rattle.std.specs.Prelude.{◌≡◌, map, IfOk, IfSome};
+//! From programs of the whole language to those of the first.
+
+ghost use Rattle.std.specs.Prelude.{◌≡◌, map, IfOk, IfSome, Result, Option};
+ghost use Rattle.std.specs.declared.alloc.AllocError.{AllocError};
 ghost use Rattle.std.specs.List.{list_all};
 ghost use Rattle.snl_tree.specs.Thin as specs;
-ghost use Rattle.snl_tree.specs.Thin.{Narrows, StandEach, StandsForClause, StandsForState, StandsForStateSet, StandsForOne, StandsFor};
-ghost use Rattle.snl_tree.specs.view.Programs.{clause_view, state_view, state_set_view, program_view};
+ghost use Rattle.snl_tree.specs.Thin.{Narrows, StandEach, StandsForClause, StandsForState, StandsForStateSet, StandsForOne};
+ghost use Rattle.snl_tree.specs.view.Programs.{clause_view, state_view, state_set_view};
+ghost use Rattle.snl_tree.specs.view.Thin.{HasThin};
 
 use crate::thin::definitions::parts;
 use crate::thin::expressions::{Narrowed, value};
@@ -109,17 +113,12 @@ fn one_set<'a>(alloc: Global, sets: &[whole::StateSet<'a>]) -> Narrowed<StateSet
     }
 }
 
-/// Makes the tree of the first language that stands for a program, where the program is thin: the names,
-/// strings, operators and numbers of the whole tree, without the words between them.
-///
-/// `None` comes exactly where the program uses a form beyond the first language, and `Err` only where the
-/// new tree found no room in memory.
-pub fn narrow<'a>(
+/// The tree of the first language that stands for a program, where the program is thin.
+fn of_program<'a>(
     alloc: Global,
     program: &whole::Program<'a>,
 ) -> Result<Option<Program<'a>>, AllocError>
-    ensures tree { let p = program_view program.now in Narrows (specs.is_thin p) (StandsFor p) result }
-    ensures carried { IfOk result (λ o. IfSome o (λ p. p.embedded.items ≡ program.now.embedded.items)) }
+    ensures { HasThin program.now result }
 {
     if program.macros.is_some() || program.entry.is_some() || program.exit.is_some() {
         return Ok(None);
@@ -138,4 +137,42 @@ pub fn narrow<'a>(
         state_set,
         embedded,
     }))
+}
+
+/// What makes another tree of a borrowed one. A function that owns a whole program and lends it is dear to
+/// prove; one that owns a value of a type parameter is not.
+trait HasSmaller<R> {
+    ghost smaller: { Self → Result (Option R) AllocError → Type 0 };
+
+    fn narrowed(&self, alloc: Global) -> Result<Option<R>, AllocError>
+        ensures { smaller self.now result };
+}
+
+impl<'a> HasSmaller<Program<'a>> for whole::Program<'a> {
+    ghost smaller = { HasThin };
+
+    fn narrowed(&self, alloc: Global) -> Result<Option<Program<'a>>, AllocError> {
+        of_program(alloc, self)
+    }
+}
+
+/// Makes the other tree, and drops the first.
+fn taken<T: HasSmaller<R> + Drop, R>(alloc: Global, tree: T) -> Result<Option<R>, AllocError>
+    ensures { T.smaller tree result }
+{
+    tree.narrowed(alloc)
+}
+
+/// Makes the tree of the first language that stands for a program, where the program is thin: the names,
+/// strings, operators and numbers of the whole tree, without the words between them.
+///
+/// `None` comes exactly where the program uses a form beyond the first language, and `Err` only where the
+/// new tree found no room in memory. The whole tree is dropped.
+pub fn narrow<'a>(
+    alloc: Global,
+    program: whole::Program<'a>,
+) -> Result<Option<Program<'a>>, AllocError>
+    ensures { HasThin program.entry result }
+{
+    taken(alloc, program)
 }
