@@ -13,11 +13,13 @@ take_take (suc i) zero ts h = absurd (omega arith)
 take_take (suc i) (suc j) [] h = refl
 take_take (suc i) (suc j) (t ∷ ts) h = ap (λ z. t ∷ z) (take_take i j ts (omega arith))
 
+-- a prefix of the tokens has the length that was asked for
 take_length : (j : ℕ) (ts : List Token) → j ≤ length ts → length (take j ts) ≡ j
 take_length zero ts h = refl
 take_length (suc j) [] h = absurd (omega arith)
 take_length (suc j) (t ∷ ts) h = ap suc (take_length j ts (omega arith))
 
+-- the prefix as long as the tokens is all of them
 take_all : (ts : List Token) → take (length ts) ts ≡ ts
 take_all [] = refl
 take_all (t ∷ ts) = ap (λ z. t ∷ z) (take_all ts)

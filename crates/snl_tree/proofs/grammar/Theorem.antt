@@ -34,14 +34,17 @@ spelled_cut [] (suc k) ts rest b h = absurd (let l = ap length h in omega arith)
 spelled_cut (s ∷ front) (suc k) [] rest b h = absurd h
 spelled_cut (s ∷ front) (suc k) (t ∷ ts) rest b h = (h.0, spelled_cut front k ts rest (omega arith) h.1)
 
+-- a list is its prefix of a length and what comes after that
 pub take_drop : (k : ℕ) (xs : List Slot) → xs ≡ take k xs ++ drop k xs
 take_drop zero xs = refl
 take_drop (suc k) [] = refl
 take_drop (suc k) (x ∷ xs) = ap (λ z. x ∷ z) (take_drop k xs)
 
+-- what a sort of trees looks like within a limit
 abbrev pub shape_of : {A : Type 0} → Sort A → (A → Kind → Type 0) → ℕ → Shape A
 shape_of S follow n = record { slots = S.slots; good = S.within n; follow = follow }
 
+-- tokens that spell a prefix of a tree's spelling begin the tree
 front_begins : {A : Type 0} (S : Sort A) (follow : A → Kind → Type 0) (n : ℕ) (ts rest : List Token) → Front (shape_of S follow n) ts rest → Begins S n (take (length ts - length rest) ts)
 front_begins S follow n ts rest f = record { whole = f.whole; is = f.good; front = f.front; back = f.back; halves = f.halves; fits = spelled_take f.front ts rest f.fits }
 
@@ -77,9 +80,11 @@ module _ {A : Type 0} (S : Sort A) (follow : A → Kind → Type 0) (read : ℕ 
   above : (limit n : ℕ) → (m : ℕ) × (suc limit + m ≡ suc limit + n)
   above limit n = (n, refl)
 
+  -- a tree within any limit is so within one above the given limit
   raised : (limit n : ℕ) (a : A) → S.within n a → S.within (suc limit + n) a
   raised limit n a g = raise n (suc limit) a g
 
+  -- where reading stops and nothing is too deep, the token is unexpected
   pub unexpected : (limit : ℕ) (ts : List Token) (r : Read A) → read limit ts ≡ r → ((rest : List Token) → r ≡ Err (Deep rest) → ⊥) → ((a : A) → r ≡ Ok (a, []) → ⊥) → IsUnexpected S limit ts (length ts - length (left r))
   unexpected limit ts r e not_deep not_all = record {
     within = omega arith;
@@ -95,6 +100,7 @@ module _ {A : Type 0} (S : Sort A) (follow : A → Kind → Type 0) (read : ℕ 
         not_all a (sym s ∙ p);
   }
 
+  -- where reading stops at a sign that is too deep, the token is nested too deep
   pub too_deep : (limit : ℕ) (ts rest : List Token) → read limit ts ≡ Err (Deep rest) → IsTooDeep S limit ts (length ts - length rest)
   too_deep limit ts rest e =
       let g : length (left (read (suc limit + 0) ts)) < length rest = subst (λ z. Grown z (read (suc limit + 0) ts)) e ((grows limit 0).more ts) in

@@ -39,6 +39,7 @@ pub record Reads {A : Type 0} (S : Shape A) (read : Reader A) : Type 0 where
   -- reading stops nowhere inside of the front of something well formed
   pub past : (a : A) → S.good a → (front back : List Slot) → S.slots a ≡ front ++ back → (ts rest : List Token) → Spelled front ts rest → length (left (read ts)) ≤ length rest
 
+-- a sound answer leaves no more tokens than there were
 pub sound_ends : {A : Type 0} (S : Shape A) (ts : List Token) (r : Read A) → Sound S ts r → length (left r) ≤ length ts
 sound_ends S ts (Ok x) h = spelled_length (S.slots x.0) ts x.1 h.1
 sound_ends S ts (Err f) (inl e) = subst (λ x. length (place f) ≤ length x) (sym e) (le_refl _)
@@ -53,6 +54,7 @@ abbrev pub Links : (Kind → Type 0) → (Kind → Type 0) → List Slot → Typ
 Links P F [] = (k : Kind) → F k → P k
 Links P F (s ∷ ss) = P (slot_kind s)
 
+-- a token that fits a slot is of the slot's kind
 pub fits_kind : (s : Slot) (t : Token) → Fits s t → t.kind ≡ slot_kind s
 fits_kind (The s) t e = ap (λ (x : Token). x.kind) e
 fits_kind (Sign k) t e = e
