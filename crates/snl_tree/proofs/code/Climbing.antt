@@ -74,7 +74,7 @@ parted n tightness a (suc b) e ts =
     ∙ ap (λ z. (climbed n tightness a e ts >>= λ x. climbed n (tightness + a) b x.0 x.1) >>= λ x. chained n z x.0 x.1) t
     ∙ bind_assoc (climbed n tightness a e ts) (λ x. climbed n (tightness + a) b x.0 x.1) (λ x. chained n (suc ((tightness + a) + b)) x.0 x.1)
 
--- from the operator here on
+-- the levels are that of the next operator and the looser ones, where it is one of theirs
 climbed_on : (n tightness r to : ℕ) (e : ExprTree) (ts : List Token) → tightness < r → r ≤ to → to ≤ 12 → here ts ≡ r → climbed n tightness (to - tightness) e ts ≡ (chained n r e ts >>= λ x. climbed n r (to - r) x.0 x.1)
 unfolding climbed
 climbed_on n tightness r to e ts low high top h =

@@ -10,7 +10,7 @@ use Rattle.snl_tree.specs.Definitions.{PlaceTree, AssignTree, SyncTree, QueueTre
 use Rattle.snl_tree.specs.reading.Definitions.{assign_at, monitor_at, sync_at, queue_at, event_flags_at, setting_at, definition, definition_at, part, part_at}
 use Rattle.snl_tree.proofs.code.Forms.{either_form, elim_same}
 
--- the readers that are left behind each test
+-- the readers that are left after each test
 
 -- reads a queue or event flags
 abbrev from_queue : ℕ → Reader (QueueTree ⊎ List Token)

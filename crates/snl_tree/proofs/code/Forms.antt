@@ -14,7 +14,7 @@ pub bind_assoc : {A B C : Type 0} (m : Result A Fault) (f : A → Result B Fault
 bind_assoc (Ok x) f g = refl
 bind_assoc (Err e) f g = refl
 
--- What is nested, behind the sign that opens it: readers are there from one depth on.
+-- a nested part is read after the sign that opens it, by the readers of one depth less
 pub under_given : {R A B : Type 0} (given : ℕ → Option R) (reader : ℕ → R) → given zero ≡ None → ((n : ℕ) → given (suc n) ≡ Some (reader n))
     → (n : ℕ) (test : Kind → Bool) (opener : Reader A) (inner : R → Reader B) (ts : List Token) → under test (given n) opener inner ts ≡ (opened n test opener ts >>= λ x. inner (reader (n - 1)) x.1 >>= λ y. Ok ((x.0, y.0), y.1))
 under_given {R} {A} {B} given reader missing there zero test opener inner ts = ap (λ (i : Option R). under test i opener inner ts) missing ∙ none (starts test ts)
@@ -84,7 +84,7 @@ named_form n ts =
     (either_form (is OpenParenthesis) (under (is OpenParenthesis) (inside n) (sign OpenParenthesis) (λ d. both (arguments_at d) (λ _. sign CloseParenthesis))) nothing x.1 (λ y. Ok (named_tree x.0 (inr y.0), y.1))
     ∙ elim_same (starts (is OpenParenthesis) x.1) _ _ _ _ (call_form n x.1 x.0) refl))
 
--- the rest of a call's parentheses
+-- a list of arguments is read as one argument and further ones, or as nothing
 pub arguments_form : (d : Inside) (ts : List Token) → arguments_at d ts ≡ elim (starts is_no_close ts) [ true ↦ (argument_at d ts >>= λ x. more_arguments_at d x.1 >>= λ y. Ok (with_argument x.0 (argument_list y.0), y.1)) | false ↦ Ok (no_arguments, ts) ]
 unfolding arguments_at
 arguments_form d ts =
@@ -99,7 +99,7 @@ pub argument_form : (d : Inside) (ts : List Token) → argument_at d ts ≡ elim
 unfolding argument_at
 argument_form d ts = refl
 
--- a prefix operator and its operand
+-- an expression with a prefix operator is read as the operator and a unary
 pub prefixed_form : (n : ℕ) (ts : List Token) → prefixed_at (inside n) ts ≡ (opened n is_prefix (one is_prefix) ts >>= λ x. unary_at (inside (n - 1)) x.1 >>= λ y. Ok (prefix x.0 y.0, y.1))
 unfolding prefixed_at
 prefixed_form n ts =

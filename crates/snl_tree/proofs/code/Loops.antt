@@ -55,7 +55,7 @@ pub many_stop : {A : Type 0} (test : Kind → Bool) (item : Reader A) (ts : List
 many_stop test item [] e = refl
 many_stop {A} test item (t ∷ ts) e = ap (λ (b : Bool). let r : Read (List A) = elim b [ true ↦ (item (t ∷ ts) >>= λ x. many_of test item (length ts) x.1 >>= λ y. Ok (x.0 ∷ y.0, y.1)) | false ↦ Ok ([], t ∷ ts) ] in r) e
 
--- what begins with a token that passes the test is shorter behind it
+-- fewer tokens are left after two parts where the first takes a token
 both_less : {A B : Type 0} (test : Kind → Bool) (opener : Reader A) (second : Reader B) → Opens test opener → ((ts : List Token) → length (left (second ts)) ≤ length ts) → (ts rest : List Token) (x : A × B) → both opener (λ _. second) ts ≡ Ok (x, rest) → length rest < length ts
 both_less {A} {B} test opener second o e ts rest x h = go (starts test ts) refl
   where
@@ -129,7 +129,7 @@ found_all n r start found ts h s = h ∙ ap (λ m. m >>= λ x. Ok (map pair_of f
 pub found_fail : (n r : ℕ) (start : List Token) (found : List Term) (ts : List Token) (f : Fault) → 3 ≤ r → r ≤ 15 → Found n r start found ts → starts (is_operator r) ts ≡ true → term_at n r ts ≡ Err f → terms_at r (level_at (inside n) (r - 1)) start ≡ Err f
 found_fail n r start found ts f low high h s e = h ∙ ap (λ m. m >>= λ x. Ok (map pair_of found ++ x.0, x.1)) (terms_turn n r ts low high s ∙ ap (λ m. m >>= λ x. terms_at r (level_at (inside n) (r - 1)) x.1 >>= λ y. Ok (x.0 ∷ y.0, y.1)) e)
 
--- the arguments behind a first one
+-- the arguments after a first one
 
 -- fewer tokens are left after a comma and an argument
 next_less : (n : ℕ) (ts rest : List Token) (x : Unit {0} × (Token ⊎ ExprTree)) → both (sign Comma) (λ _. argument_at (readers (inside n))) ts ≡ Ok (x, rest) → length rest < length ts

@@ -223,17 +223,17 @@ put_found f x all s o e = (and_both _ _ s o, subst (λ (z : ArgumentList). Stand
 
 -- what is missing, and lists of statements
 
--- what is longer than nothing is not missing
+-- a length that is not 0 fails the test for 0
 there : (n : ℕ) (b : Bool) → 0 < n → nat_eq n 0 ≡ b → false ≡ b
 there n true l h = let k = eqb-true n 0 h in absurd (omega arith)
 there n false l h = refl
 
--- a list shown in other words is missing where its length is 0
+-- a list that is shown is empty where its length is 0
 none_of : {A B : Type 0} (show : A → B) (xs : List A) (n : ℕ) → length xs ≡ n → is_none_of (map show xs) ≡ nat_eq n 0
 none_of show [] n e = ap (λ z. nat_eq z 0) e
 none_of show (x ∷ xs) n e = there n (nat_eq n 0) (omega arith) refl
 
--- the elements of a vector are missing where its length is 0
+-- the elements of a vector that are shown are none where its length is 0
 pub none_there : {A B : Type 0} (show : A → B) (v : Vec A Global) → is_none_of (map show v.items) ≡ nat_eq (vec_len v) 0
 none_there show v = none_of show v.items (vec_len v) (let k = v.ok.0 in omega arith)
 

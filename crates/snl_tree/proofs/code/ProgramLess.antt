@@ -1,4 +1,4 @@
--- Less is left behind a clause, a state and a state set, where the limit leaves room for a block.
+-- Less is left after a clause, a state and a state set, where the limit leaves room for a block.
 use Rattle.std.proofs.Common.{◌≡◌, ℕ, zero, suc, ◌<◌, List, Ok, length, arith}
 use Rattle.snl_text.specs.declared.tokens.Token.{Token}
 use Rattle.snl_tree.specs.Programs.{ClauseTree, StateTree, StateSetTree}

@@ -19,7 +19,7 @@ use Rattle.snl_tree.proofs.grammar.StatementShapes.{statement_heads}
 use Rattle.snl_tree.proofs.grammar.StatementReads.{statement_shape, reads_statement_at}
 use Rattle.snl_tree.proofs.code.Forms.{bind_assoc, bind_same, elim_same, either_form, under_given}
 
--- A statement that is read leaves no `else` behind it that it would take.
+-- A statement that is read leaves no `else` after it that it would take.
 
 -- what is read leaves no `else` where it is not closed
 abbrev Leaves : {A : Type 0} → (A → Bool) → Read A → Type 0
@@ -70,12 +70,12 @@ leaves_choice : (b : Bool) (x y : Read StatementTree) → Leaves is_closed x →
 leaves_choice true x y h k = h
 leaves_choice false x y h k = k
 
--- with an `else`, what stands behind it; without one the `if` would take any
+-- with an `else`, its statement is closed or not; without one the `if` would take any
 abbrev else_closed : (Unit {0} × StatementTree) ⊎ Unit {0} → Bool
 else_closed (inl e) = is_closed e.1
 else_closed (inr u) = false
 
--- tokens that do not begin with an `else` have none first
+-- tokens that begin with no `else` may follow a statement that would take one
 none_here : (ts : List Token) → starts (is Else) ts ≡ false → Ends (λ k. k ≡ Else → false ≡ true) ts
 none_here [] e = tt
 none_here (t ∷ ts) e = λ h. sym e ∙ true_is Else t.kind h
@@ -181,7 +181,7 @@ pub for_form : (l n : ℕ) (ts : List Token) → for_at l (statements_inside l n
 unfolding for_at
 for_form l n ts = ap (λ r. r >>= λ x. Ok (for_loop x.0.0 x.0.1.0 x.0.1.1, x.1)) (nested_form l n (is For) (one (is For)) (λ d. both (header_at l) (λ _. d)) ts) ∙ simp bind_assoc
 
--- an `else` is read wherever one stands, since none is left behind an open statement
+-- an `else` is read wherever one stands, since none is left after an open statement
 else_form : (l n : ℕ) (c : ExprTree) (s : StatementTree) (closed : Bool) (ts : List Token) → Ends (λ k. k ≡ Else → closed ≡ true) ts → (else_at closed (statement_at l n) ts >>= λ y. Ok (if_tree c s y.0, y.1)) ≡ if_rest l n c s ts
 unfolding if_rest
 else_form l n c s true ts e =

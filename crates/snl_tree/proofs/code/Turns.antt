@@ -1,4 +1,4 @@
--- The turns of a loop of the code that reads one thing behind another.
+-- The turns of a loop of the code that reads one thing after another.
 use Rattle.std.proofs.Common.{◌≡◌, ◌<◌, Bool, true, false, List, [], ◌∷◌, ◌++◌, map, Ok, Err, length, refl, sym, ap, ◌∙◌, subst, append-nil}
 use Rattle.snl_text.specs.declared.tokens.Token.{Token}
 use Rattle.snl_text.specs.declared.kinds.Kind.{Kind}

@@ -33,7 +33,7 @@ before_none n ts = go (values_at n ts)
     go (Ok x) = refl
     go (Err f) = refl
 
--- the values of a list, by what stands in front
+-- the values of a list, by what stands first
 
 -- what may be missing is read where its first token is there
 maybe_on : {A : Type 0} (test : Kind → Bool) (item : Reader A) (ts : List Token) → starts test ts ≡ true → maybe test item ts ≡ (item ts >>= λ x. Ok (Some x.0, x.1))
@@ -150,7 +150,7 @@ before_all n all found ts b s comma none =
     same true found h = refl
     same false found h = ap (λ z. value_list (map boxed z) true) (h refl) ∙ sym (ap (λ z. value_list (map boxed z) false) (h refl))
 
--- a row of length 0 has nothing
+-- a vector of length 0 holds nothing
 pub none_there : (v : Vec (Box Expr Global) Global) (b : Bool) → b ≡ nat_eq (vec_len v) 0 → not b ≡ false → v.items ≡ []
 none_there v true e h = go v.items (let k = eqb-true (vec_len v) 0 (sym e) in omega (arith, v.ok.0))
   where

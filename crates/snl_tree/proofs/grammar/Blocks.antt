@@ -32,7 +32,7 @@ pub right_condition : Right condition_form condition_at
 unfolding condition_at
 right_condition = right_between OpenParenthesis expression_form (λ n. level_at (inside n) 15) CloseParenthesis right_expression (λ _ _ _. lit< tt)
 
--- [ expr ] and the sign behind it
+-- [ expr ] and the sign after it
 
 -- an expression that may be missing, and the sign that ends it
 abbrev pub ended_form : Kind → Form (Option ExprTree)

@@ -64,7 +64,7 @@ pub right_bracket : Right bracket_form bracket_at
 unfolding bracket_at
 right_bracket = right_between OpenBracket expression_form (λ n. level_at (inside n) 15) CloseBracket right_expression (λ _ _ _. lit< tt)
 
--- what may stand behind a declared name with all that belongs to it
+-- what may come after a declared name with all that belongs to it
 abbrev pub EndsItem : Kind → Type 0
 EndsItem k = (k ≡ Comma) ⊎ (k ≡ Semicolon)
 
@@ -190,7 +190,7 @@ right_declaration = right_made (both_form type_form (λ _. before_form declarato
 pub declaration_heads : (n : ℕ) (d : DeclarationTree) → IsDeclaration n d → Heads (λ k. starts_declaration k ≡ true) (declaration_slots d)
 declaration_heads n d g = g.0.0
 
--- less is left behind
+-- fewer tokens are left after each
 
 -- fewer tokens are left after an expression in brackets
 pub bracket_less : (n : ℕ) (ts rest : List Token) (e : ExprTree) → bracket_at n ts ≡ Ok (e, rest) → length rest < length ts

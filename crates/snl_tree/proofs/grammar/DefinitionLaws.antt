@@ -394,7 +394,7 @@ from_assign = either_form assign_form from_monitor
 abbrev any_form : Form FormOfDefinition
 any_form = either_form declaration_form from_assign
 
--- the first word of all forms but declarations
+-- a condition that the words `monitor`, `sync`, `syncq` and `evflag` pass
 abbrev Words : (Kind → Type 0) → Type 0
 Words P = P Monitor × P Sync × P SyncQueue × P EventFlag
 
@@ -408,7 +408,7 @@ sync_heads : (n : ℕ) (P : Kind → Type 0) (x : SyncTree ⊎ (QueueTree ⊎ Li
 sync_heads n P (inl s) a b c g = a
 sync_heads n P (inr x) a b c g = queue_heads n P x b c g
 
--- what begins no declaration or assignment of channels begins with one of the other words
+-- a definition from `monitor` on begins with its word
 monitor_heads : (n : ℕ) (P : Kind → Type 0) (x : PlaceTree ⊎ (SyncTree ⊎ (QueueTree ⊎ List Token))) → Words P → from_monitor.good n x → Heads P (from_monitor.slots x)
 monitor_heads n P (inl p) w g = w.0
 monitor_heads n P (inr x) w g = sync_heads n P x w.1 w.2 w.3 g
@@ -568,7 +568,7 @@ pub right_parts : (P : Kind → Type 0) → ((k : Kind) → P k → starts_part 
 unfolding parts_at
 right_parts P stop = right_many starts_part part_form P part_at right_part part_heads stop (λ _ _ _ _ _. tt) (λ _ _ _ _ _. tt)
 
--- less is left behind
+-- fewer tokens are left after each
 
 -- fewer tokens are left after a definition
 pub definition_less : (n : ℕ) (ts rest : List Token) (d : DefinitionTree) → definition_at n ts ≡ Ok (d, rest) → length rest < length ts

@@ -19,6 +19,7 @@ some_token = record { kind = Name; text = record { ref_ptr = (0, 0); now = [] };
 abbrev pub expr_shape : ℕ → ℕ → Shape ExprTree
 expr_shape n r = record { slots = slots; good = λ e. (rank e ≤ r) × IsWell e n; follow = λ _ k. r < looseness k }
 
+-- the readers of nested parts are right, with so much depth left
 pub record InsideLaws (m : ℕ) (d : Inside) : Type 0 where
   pub unary : Reads (expr_shape m 2) d.unary
   pub conditional : Reads (expr_shape m 13) d.conditional
@@ -58,7 +59,7 @@ module _ {R : Type 0} (Laws : ℕ → R → Type 0) {A B : Type 0} (test : Kind 
     (slots_in : B → List Slot) (good_in : ℕ → B → Type 0) (follow_in : B → Kind → Type 0) (inner : R → Reader B)
     (two : (m : ℕ) (d : R) → Laws m d → Reads (record { slots = slots_in; good = good_in m; follow = follow_in }) (inner d))
     (some : (m : ℕ) → (b : B) × good_in m b) where
-  -- with no depth left a nested part is read as nothing, and this is sound
+  -- with no depth left a nested part is a fault at its place, and this is sound
   sound_none : (ts : List Token) (b : Bool) → Sound (nest_shape S slots_in good_in follow_in zero) ts (elim b [ true ↦ Err (Deep ts) | false ↦ Err (Stuck ts) ])
   sound_none ts true = inl refl
   sound_none ts false = inl refl

@@ -13,6 +13,7 @@ use Rattle.snl_tree.proofs.grammar.Inside.{expr_shape, InsideLaws}
 use Rattle.snl_tree.proofs.grammar.Primaries.{closed_shape, reads_closed, listed_shape, reads_listed}
 use Rattle.snl_tree.proofs.grammar.Operators.{choices_shape, reads_choices, deeper}
 
+-- the readers of nested parts on the right have more depth left
 pub record InsideGrows (low high : Inside) : Type 0 where
   pub unary : Grows low.unary high.unary
   pub conditional : Grows low.conditional high.conditional
@@ -174,7 +175,7 @@ higher (suc n) k = subst (λ z. Higher (Some (readers (inside n))) (inside z)) (
   expression = grows_expression (inside n) (inside (suc n + k)) (higher n k);
 }
 
--- with more depth the same is read, but it goes on past what was too deep
+-- the reader of whole expressions gives the same with more depth, or goes on further
 pub grows_with_depth : (n k : ℕ) → Grows (expression_at (inside n)) (expression_at (inside (suc n + k)))
 grows_with_depth n k = grows_expression (inside n) (inside (suc n + k)) (higher n k)
 

@@ -200,12 +200,12 @@ chain_into n q l e (x ∷ xs) g =
       ap (λ z. slots e ++ z) (term_list_slots n q (x ∷ xs)),
     )
 
--- a list of terms that is there gives the chain
+-- an operand with at least one term makes the chain
 chain_again : (e : ExprTree) (xs : List (Token × ExprTree)) (op : Token) (f : ExprTree) (rest : TermList) → term_list xs ≡ term op f rest → chain_tree e xs ≡ chain e (term op f rest)
 chain_again e [] op f rest h = absurd cc
 chain_again e (x ∷ xs) op f rest h = ap (λ z. chain e z) h
 
--- only a chain has the rank of a level of operators
+-- no level of operators is as tight as a unary, or that of conditionals or of assignments
 no_level : (r q : ℕ) → IsLevel (suc q) → r ≡ suc q → (r ≤ 2) ⊎ ((13 ≤ r) × (r ≤ 14)) → ⊥
 no_level r q l e c = elim l [
   | inl a ↦ let a0 = a.0 in let a1 = a.1 in elim c [ inl b ↦ omega arith | inr b ↦ let b0 = b.0 in omega arith ]

@@ -15,7 +15,7 @@ use Rattle.snl_tree.proofs.spelling.Lists.{heads_append, many_shape, slots_all, 
 use Rattle.snl_tree.proofs.grammar.Shapes.{not_is, open_no_text, open_no_close, heads_opens, avoids_heads}
 use Rattle.snl_tree.proofs.grammar.Inside.{some_token, expr_shape, InsideLaws, Deeper, under_map, links_any, nest_shape, reads_under}
 
--- the filler
+-- some expression is well formed at every level and depth
 pub some_expr : (n r : ℕ) → (e : ExprTree) × ((rank e ≤ r) × IsWell e n)
 some_expr n r = (named some_token, (omega arith, refl))
 
@@ -55,7 +55,7 @@ parenthesized_shape n = record { slots = slots; good = λ e. IsParenthesized e �
 abbrev pub closed_shape : Kind → ℕ → Shape (ExprTree × Unit {0})
 closed_shape k m = both_shape (expr_shape m 15) (λ _. sign_shape k)
 
--- the reader of an expression and its closing sign is right, where no operator closes
+-- the reader of an expression and its closing sign is right where the sign is no operator
 pub reads_closed : (k : Kind) → 15 < looseness k → (m : ℕ) (d : Inside) → InsideLaws m d → Reads (closed_shape k m) (both d.expression (λ _. sign k))
 reads_closed k loose m d laws = reads_both (expr_shape m 15) (λ _. sign_shape k) d.expression (λ _. sign k) laws.expression (λ _ _. reads_sign k)
     (λ _ _ _ _. loose) (λ _ _. (tt, tt))
@@ -107,7 +107,7 @@ reads_next : (m : ℕ) (d : Inside) → InsideLaws m d → Reads (next_shape m) 
 reads_next m d laws = reads_both (sign_shape Comma) (λ _. argument_shape m) (sign Comma) (λ _. argument_at d) (reads_sign Comma) (λ _ _. reads_argument m d laws)
     (λ a b _ _. links_any (λ _. Unit {0}) ((argument_shape m).follow b) ((argument_shape m).slots b) (λ k. tt)) (λ _ _. (inr (some_expr m 14).0, (some_expr m 14).1))
 
--- what may stand behind an argument: a comma and a closing parenthesis
+-- a comma may follow an argument
 argument_comma : (m : ℕ) (x : Argument) (k : Kind) → k ≡ Comma → (argument_shape m).follow x k
 argument_comma m (inl t) k e = tt
 argument_comma m (inr b) k e = subst (λ z. 14 < looseness z) (sym e) (lit< tt)
@@ -319,7 +319,7 @@ parenthesized_heads : (n : ℕ) (e : ExprTree) → IsParenthesized e × IsWell e
 parenthesized_heads n (parenthesized e) g = refl
 parenthesized_heads n _ g = absurd g.0
 
--- a name begins what has one
+-- a name, an element and a call begin with a name
 named_heads : (P : Kind → Type 0) → P Name → (n : ℕ) (e : ExprTree) → IsNamed e × IsWell e n → Heads P (slots e)
 named_heads P p n (named x) g = subst P (sym g.1) p
 named_heads P p n (element x b e) g = subst P (sym g.1.0) p

@@ -148,7 +148,7 @@ right_exit P stop = right_maybe (is Exit) (behind_form Exit block_form) P (λ n.
 
 -- states
 
--- what may stand behind the exit, the clauses, the entry and the definitions of a state
+-- what may come after the exit of a state: the closing brace
 abbrev BehindExit : Kind → Type 0
 BehindExit k = Among (CloseBrace ∷ []) k
 
@@ -174,7 +174,7 @@ unfolding clauses_at
 right_clauses = right_many (is When) clause_form BehindClauses (λ n. clause_at (suc n)) right_clause (λ n c g. true_is When c.word.kind g.0)
     (λ k e. among (λ z. is When z ≡ false) (Exit ∷ CloseBrace ∷ []) k (refl, (refl, tt)) e) (λ _ _ _ _ _. tt) (λ _ _ _ _ _. tt)
 
--- an exit block or the closing brace may follow what both may follow
+-- the exit of a state or its closing brace may follow a part that both may follow
 exit_link : (P : Kind → Type 0) → P Exit → P CloseBrace → (o : Option BlockTree) → Links P ((exit_form BehindExit).follow o) ((exit_form BehindExit).slots o)
 exit_link P a b None = λ k e. among P (CloseBrace ∷ []) k (b, tt) e
 exit_link P a b (Some body) = a
@@ -183,7 +183,7 @@ exit_link P a b (Some body) = a
 abbrev last_form : Form (List ClauseTree × Option BlockTree)
 last_form = both_form clauses_form (λ _. exit_form BehindExit)
 
--- the clauses, the exit or the closing brace may follow what all three may follow
+-- the clauses, the exit or the closing brace may follow a part that all three may follow
 clauses_link : (n : ℕ) (P : Kind → Type 0) → P When → P Exit → P CloseBrace → (x : List ClauseTree × Option BlockTree) → last_form.good n x → Links P (last_form.follow x) (last_form.slots x)
 clauses_link n P w a b ([], o) g = exit_link P a b o
 clauses_link n P w a b (c ∷ all, o) g = subst P (sym g.0.0.0) w
@@ -192,7 +192,7 @@ clauses_link n P w a b (c ∷ all, o) g = subst P (sym g.0.0.0) w
 abbrev behind_parts : Form (Option BlockTree × (List ClauseTree × Option BlockTree))
 behind_parts = both_form (entry_form BehindEntry) (λ _. last_form)
 
--- the entry, a clause, the exit or the closing brace may follow what all four may follow
+-- the entry, a clause, the exit or the closing brace may follow a part that all four may follow
 entry_link : (n : ℕ) (P : Kind → Type 0) → P Entry → P When → P Exit → P CloseBrace → (x : Option BlockTree × (List ClauseTree × Option BlockTree)) → behind_parts.good n x → Links P (behind_parts.follow x) (behind_parts.slots x)
 entry_link n P e w a b (None, x) g = clauses_link n P w a b x g.1
 entry_link n P e w a b (Some body, x) g = e
@@ -301,11 +301,11 @@ right_state_sets = right_some_of (is StateSet) state_set_form (λ k. k ≡ Exit)
 
 -- programs
 
--- what may stand behind the definitions and behind the name and macros of a program
+-- what may come after the definitions of a program: its entry or a state set
 abbrev BehindAll : Kind → Type 0
 BehindAll k = Among (Entry ∷ StateSet ∷ []) k
 
--- what may come after the name and the macros of a program
+-- what may come after the name and the macros of a program: a definition, its entry or a state set
 abbrev BehindMacros : Kind → Type 0
 BehindMacros k = (starts_part k ≡ true) ⊎ BehindAll k
 
@@ -351,7 +351,7 @@ last_exit : (o : Option BlockTree) → Links (λ k. k ≡ Exit) ((exit_form Neve
 last_exit None = λ k e. absurd e
 last_exit (Some body) = refl
 
--- a state set may follow what it may follow
+-- the state sets may follow a part that the word of one may follow
 sets_link : (n : ℕ) (P : Kind → Type 0) → P StateSet → (x : List StateSetTree × Option BlockTree) → sets_form.good n x → Links P (sets_form.follow x) (sets_form.slots x)
 sets_link n P a ([], o) g = absurd g.0
 sets_link n P a (s ∷ all, o) g = subst P (sym g.0.0.0) a
@@ -369,7 +369,7 @@ set_entry_link : (n : ℕ) (o : Option BlockTree) (x : List StateSetTree × Opti
 set_entry_link n None x g = sets_link n (λ k. k ≡ StateSet) refl x g
 set_entry_link n (Some body) x g = free (sets_form.follow x) (sets_form.slots x)
 
--- the entry or a state set may follow what both may follow
+-- the entry or a state set may follow a part that both may follow
 entered_link : (n : ℕ) (P : Kind → Type 0) → P Entry → P StateSet → (x : Option BlockTree × (List StateSetTree × Option BlockTree)) → entered_form.good n x → Links P (entered_form.follow x) (entered_form.slots x)
 entered_link n P a b (None, x) g = sets_link n P b x g.1
 entered_link n P a b (Some body, x) g = a
@@ -400,7 +400,7 @@ right_behind_name = right_both macros_form (λ _. defined_form) (λ _. macros_at
     (λ n _ x _ g. entered_link n BehindAll (inl refl) (inr (inl refl)) x g))
     (λ n o x _ g. macros_link n o x g)
 
--- nothing follows a program
+-- a program, which nothing may follow
 abbrev pub program_form : Form ProgramTree
 program_form = record { slots = program_slots; good = λ n. IsProgram (suc n); follow = λ _. Never }
 

@@ -121,7 +121,7 @@ program_left n ts rest p h more = unexpected_later n ts (length ts - length rest
 pub program_deep : (n : ℕ) (ts rest : List Token) → program_at (suc n) ts ≡ Err (Deep rest) → IsTooDeep programs (suc n) ts (length ts - length rest)
 program_deep n ts rest h = too_deep_later n ts (length ts - length rest) (too_deep later none (λ n. program_at (suc n)) right_program.reads right_program.grows right_program.some raise n ts rest h)
 
--- every list of tokens is a program, or has a first token that goes on with none
+-- tokens are a program, or one is unexpected, or one is nested too deep, from limit 1 on
 pub read_program : (n : ℕ) (ts : List Token) → HasProgram (suc n) ts
 read_program n ts = go (program_at (suc n) ts) refl
   where
@@ -138,7 +138,7 @@ read_program n ts = go (program_at (suc n) ts) refl
 pub one_program : (n : ℕ) (ts : List Token) (a b : ProgramTree) → IsProgram n a → IsProgram n b → Spells programs a ts → Spells programs b ts → a ≡ b
 one_program n ts a b g h k l = unambiguous later none (λ n. program_at (suc n)) right_program.reads right_program.grows right_program.some raise n ts a b (program_more n a g) (program_more n b h) k l
 
--- tokens are a program, or one is unexpected, or one is nested too deep
+-- tokens are a program, or one is unexpected, or one is nested too deep, where a limit is given
 pub read_within : (limit : ℕ) (ts : List Token) → 0 < limit → HasProgram limit ts
 read_within zero ts h = absurd (omega arith)
 read_within (suc n) ts h = read_program n ts

@@ -78,7 +78,7 @@ pub avoids_heads : (test : Kind → Bool) (F : Kind → Type 0) (ss : List Slot)
 avoids_heads test F [] h = absurd h
 avoids_heads test F (s ∷ ss) h = h
 
--- the kind of the first token
+-- the kind of the first token of an expression
 abbrev first_kind : ExprTree → Kind
 first_kind (constant t) = t.kind
 first_kind (parenthesized e) = OpenParenthesis
@@ -121,7 +121,7 @@ first_opens (chain e rest) n g = first_opens e n g.2
 first_opens (conditional c a b) n g = first_opens c n g.1
 first_opens (assignment e op f) n g = first_opens e n g.1
 
--- what can open an expression does
+-- a well-formed expression begins with a kind that can open one
 pub heads_opens : (P : Kind → Type 0) (e : ExprTree) (n : ℕ) → ((k : Kind) → can_open k ≡ true → P k) → IsWell e n → Heads P (slots e)
 heads_opens P e n f g = heads_more (λ k. k ≡ first_kind e) P (slots e) (λ k h. f k (ap can_open h ∙ first_opens e n g)) (first_heads e)
 

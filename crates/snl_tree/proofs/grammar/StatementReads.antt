@@ -24,7 +24,7 @@ use Rattle.snl_tree.proofs.grammar.Values.{expression_form, right_expression}
 use Rattle.snl_tree.proofs.grammar.Blocks.{condition_form, right_condition, header_form, right_header, declarations_form, right_declarations, free_links}
 use Rattle.snl_tree.proofs.grammar.StatementShapes.{kind_form, form, form_most, brace_form, semicolon_form, if_form, while_form, for_form, break_form, continue_form, state_form, statement_heads, heads_open}
 
--- What may stand behind a statement: anything but an `else` that it would take.
+-- What may stand after a statement: anything but an `else` that it would take.
 abbrev pub statement_follow : StatementTree → Kind → Type 0
 statement_follow s k = k ≡ Else → is_closed s ≡ true
 
@@ -319,11 +319,11 @@ NoElse k = k ≡ Else → ⊥
 abbrev Else_part : Type 0
 Else_part = (Unit {0} × StatementTree) ⊎ Unit {0}
 
--- behind a statement that is closed or not
+-- an `else` with its statement, after a statement that is closed
 abbrev other_shape : ℕ → ℕ → Bool → Shape (Unit {0} × StatementTree)
 other_shape l m closed = record { slots = λ x. Sign Else ∷ statement_slots x.1; good = λ x. (closed ≡ true) × IsWellStatement l x.1 m; follow = λ x. statement_follow x.1 }
 
--- an `else` with its statement after a closed statement, or nothing before no `else`
+-- an `else` with its statement after one that is closed, or nothing before no `else`
 abbrev else_shape : ℕ → ℕ → Bool → Shape Else_part
 else_shape l m closed = either_shape (other_shape l m closed) (nothing_shape NoElse)
 

@@ -49,7 +49,7 @@ form (continue_loop t) = 6
 form (change_state t x) = 7
 form (expression e) = 8
 
--- what can begin an expression begins the last form of statements
+-- what can begin an expression begins form 8
 opens_form : (k : Kind) → can_open k ≡ true → kind_form k ≡ 8
 opens_form Whole e = refl
 opens_form Decimal e = refl
@@ -64,7 +64,7 @@ opens_form PlusPlus e = refl
 opens_form MinusMinus e = refl
 opens_form _ e = absurd (true≢false (sym e))
 
--- what begins a form of statements opens a statement
+-- what begins one of the forms 0 to 8 opens a statement
 form_opens : (k : Kind) → kind_form k ≤ 8 → opens_statement k ≡ true
 form_opens OpenBrace e = refl
 form_opens Semicolon e = refl
@@ -87,7 +87,7 @@ form_opens PlusPlus e = refl
 form_opens MinusMinus e = refl
 form_opens _ e = absurd (omega arith)
 
--- a statement is of one of the forms up to the eighth
+-- the number of the form of a statement is 8 at most
 pub form_most : (s : StatementTree) → form s ≤ 8
 form_most (nested b) = omega arith
 form_most empty = omega arith
@@ -100,42 +100,42 @@ form_most (continue_loop t) = omega arith
 form_most (change_state t x) = omega arith
 form_most (expression e) = omega arith
 
--- the sign or word of each form but the last
+-- the opening brace alone begins form 0
 pub brace_form : (k : Kind) → is OpenBrace k ≡ nat_eq (kind_form k) 0
 brace_form OpenBrace = refl
 brace_form _ = refl
 
--- a semicolon alone begins the first form
+-- a semicolon alone begins form 1
 pub semicolon_form : (k : Kind) → is Semicolon k ≡ nat_eq (kind_form k) 1
 semicolon_form Semicolon = refl
 semicolon_form _ = refl
 
--- the word `if` alone begins the second form
+-- the word `if` alone begins form 2
 pub if_form : (k : Kind) → is If k ≡ nat_eq (kind_form k) 2
 if_form If = refl
 if_form _ = refl
 
--- the word `while` alone begins the third form
+-- the word `while` alone begins form 3
 pub while_form : (k : Kind) → is While k ≡ nat_eq (kind_form k) 3
 while_form While = refl
 while_form _ = refl
 
--- the word `for` alone begins the fourth form
+-- the word `for` alone begins form 4
 pub for_form : (k : Kind) → is For k ≡ nat_eq (kind_form k) 4
 for_form For = refl
 for_form _ = refl
 
--- the word `break` alone begins the fifth form
+-- the word `break` alone begins form 5
 pub break_form : (k : Kind) → is Break k ≡ nat_eq (kind_form k) 5
 break_form Break = refl
 break_form _ = refl
 
--- the word `continue` alone begins the sixth form
+-- the word `continue` alone begins form 6
 pub continue_form : (k : Kind) → is Continue k ≡ nat_eq (kind_form k) 6
 continue_form Continue = refl
 continue_form _ = refl
 
--- the word `state` alone begins the seventh form
+-- the word `state` alone begins form 7
 pub state_form : (k : Kind) → is State k ≡ nat_eq (kind_form k) 7
 state_form State = refl
 state_form _ = refl

@@ -51,7 +51,7 @@ right_value = record {
 
 -- at most so many values
 
--- how many values and last commas a list has
+-- how many values a list has
 abbrev count : ValueList → ℕ
 count no_values = 0
 count (last_value e) = 1
@@ -166,7 +166,7 @@ values_any n (suc f) zero [] a b = refl
 values_any n (suc f) zero (t ∷ ts) a b = absurd (omega arith)
 values_any n (suc f) (suc g) ts a b = step_same n (values_of (level_at (inside n) 14) f) (values_of (level_at (inside n) 14) g) ts (λ rest h. values_any n f g rest (omega arith) (omega arith))
 
--- one value, and the values behind it
+-- the values of a list are one value and the values after it, or nothing
 pub values_turn : (n : ℕ) (ts : List Token) → values_at n ts ≡ step (level_at (inside n) 14) (values_at n) ts
 unfolding values_at
 values_turn n [] = refl

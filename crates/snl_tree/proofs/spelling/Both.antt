@@ -33,7 +33,7 @@ module _ {A B : Type 0} (S : Shape A) (T : A → Shape B) (first : Reader A) (se
     (one : Reads S first) (two : (a : A) → S.good a → Reads (T a) (second a))
     (link : (a : A) (b : B) → S.good a → (T a).good b → Links (S.follow a) ((T a).follow b) ((T a).slots b))
     (some : (a : A) → S.good a → (b : B) × (T a).good b) where
-  -- the second part, behind a first that was read
+  -- a sound answer for the second part, after a first that was read, gives a sound one for both
   sound_second : (ts : List Token) (a : A) (mid : List Token) → S.good a → Spelled (S.slots a) ts mid → (r : Read B) → Sound (T a) mid r → Sound (both_shape S T) ts (r >>= λ y. Ok ((a, y.0), y.1))
   sound_second ts a mid g h (Ok y) k = ((g, k.0), spelled_join (S.slots a) ((T a).slots y.0) ts mid y.1 h k.1)
   sound_second ts a mid g h (Err f) (inl e) = inr record {
@@ -66,7 +66,7 @@ module _ {A B : Type 0} (S : Shape A) (T : A → Shape B) (first : Reader A) (se
     fits = k.fits;
   }
 
-  -- what the second reader leaves is no more than the first left
+  -- a first part put before a second changes nothing of the tokens that are left
   left_second : (a : A) (r : Read B) → left {A = A × B} (r >>= λ y. Ok ((a, y.0), y.1)) ≡ left r
   left_second a (Ok y) = refl
   left_second a (Err f) = refl

@@ -135,7 +135,7 @@ follow_either S T (inr b) k = T.follow b k
 abbrev pub either_shape : {A B : Type 0} → Shape A → Shape B → Shape (A ⊎ B)
 either_shape S T = record { slots = slots_either S T; good = good_either S T; follow = follow_either S T }
 
--- The slots don't begin with a kind that passes the test, nor do those that may stand behind none.
+-- The slots don't begin with a kind that passes the test, nor, where there are none, do those of F.
 abbrev pub Avoids : (Kind → Bool) → (Kind → Type 0) → List Slot → Type 0
 Avoids test F [] = (k : Kind) → F k → test k ≡ false
 Avoids test F (s ∷ ss) = test (slot_kind s) ≡ false

@@ -12,6 +12,7 @@ Grown (Ok x) r = r ≡ Ok x
 Grown (Err (Stuck rest)) r = r ≡ Err (Stuck rest)
 Grown (Err (Deep rest)) r = length (left r) < length rest
 
+-- with more depth a reader gives the same or goes on further, and leaves no more than there was
 pub record Grows {A : Type 0} (low high : Reader A) : Type 0 where
   pub more : (ts : List Token) → Grown (low ts) (high ts)
   pub ends : (ts : List Token) → length (left (high ts)) ≤ length ts
@@ -148,7 +149,7 @@ opens_sign k = record { on = ons; off = offs }
     offs [] e = refl
     offs (t ∷ ts) e = ap (λ (b : Bool). let r : Read (Unit {0}) = elim b [ true ↦ Ok (tt, ts) | false ↦ Err (Stuck (t ∷ ts)) ] in r) e
 
--- what is nested: with no depth left at first, it goes on past the sign
+-- with no depth left at first, a nested part goes on past its sign where depth is left
 pub grows_under_none : {R A B : Type 0} (test : Kind → Bool) (opener : Reader A) (inner : R → Reader B) (deeper : R) → Opens test opener → Grows opener opener → ((ts : List Token) → length (left (inner deeper ts)) ≤ length ts) → Grows (under test None opener inner) (under test (Some deeper) opener inner)
 unfolding then
 grows_under_none {R} {A} {B} test opener inner deeper o g down = record { more = λ ts. mores ts (starts test ts) refl; ends = λ ts. le_trans (then_ends (λ a rest. made (λ b. (a, b)) (inner deeper) rest) steps (opener ts)) (g.ends ts) }

@@ -109,7 +109,7 @@ module _ {A : Type 0} (test : Kind → Bool) (S : Shape A) (F : Kind → Type 0)
   heads_all : (x : A) (xs : List A) → Good_all S.good (x ∷ xs) → Heads (λ k. test k ≡ true) (slots_all S.slots (x ∷ xs))
   heads_all x xs g = heads_append (λ k. test k ≡ true) (S.slots x) (slots_all S.slots xs) (heads x g.0)
 
-  -- what stands behind an item: the next one, or the end
+  -- what stands after an item may follow it: the next one, or the end
   ends_mid : (x : A) → S.good x → (xs : List A) → Good_all S.good xs → (mid rest : List Token) → Spelled (slots_all S.slots xs) mid rest → Ends F rest → Ends (S.follow x) mid
   ends_mid x g [] gs mid rest h e = ends_more F (S.follow x) mid (last x g) (subst (Ends F) (sym h) e)
   ends_mid x g (y ∷ ys) gs mid rest h e = starts_then test (S.follow x) mid (starts_heads test (slots_all S.slots (y ∷ ys)) mid rest (heads_all y ys gs) h) (between x g)

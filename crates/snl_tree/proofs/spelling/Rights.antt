@@ -25,6 +25,7 @@ pub record Form (A : Type 0) : Type 1 where
 abbrev pub at_depth : {A : Type 0} → Form A → ℕ → Shape A
 at_depth F n = record { slots = F.slots; good = F.good n; follow = F.follow }
 
+-- A reader is right at every depth.
 pub record Right {A : Type 0} (F : Form A) (read : ℕ → Reader A) : Type 0 where
   pub reads : (n : ℕ) → Reads (at_depth F n) (read n)
   -- with more depth the same is read, but it goes on past what was too deep
@@ -116,7 +117,7 @@ either_form F G = record {
   follow = (either_shape (at_depth F 0) (at_depth G 0)).follow;
 }
 
--- The first may be one that no token begins.
+-- a choice by the first token is right even if nothing is well formed in its first form
 either_laws : {A B : Type 0} (test : Kind → Bool) (F : Form A) (G : Form B) (first : ℕ → Reader A) (second : ℕ → Reader B)
     → ((n : ℕ) → Reads (at_depth F n) (first n)) → ((n k : ℕ) → Grows (first n) (first (suc n + k))) → ((n : ℕ) (a : A) → F.good n a → F.good (suc n) a)
     → Right G second
@@ -141,7 +142,7 @@ pub right_either : {A B : Type 0} (test : Kind → Bool) (F : Form A) (G : Form 
     → Right (either_form F G) (λ n. either test (first n) (second n))
 right_either test F G first second one two heads avoids = either_laws test F G first second one.reads one.grows one.raise two heads avoids
 
--- the same reader in other words
+-- a reader that gives the same as a right one is right
 pub right_same : {A : Type 0} (F : Form A) (low high : ℕ → Reader A) → ((n : ℕ) (ts : List Token) → low n ts ≡ high n ts) → Right F low → Right F high
 right_same F low high same laws = let e : low ≡ high = λ i n ts. same n ts i in subst (λ r. Right F r) e laws
 
@@ -202,7 +203,7 @@ pub right_maybe : {A : Type 0} (test : Kind → Bool) (F : Form A) (P : Kind →
     → Right (maybe_form F P) (λ n. maybe test (item n))
 right_maybe test F P item laws heads stop = maybe_laws test F P item laws.reads laws.grows laws.raise heads stop
 
--- a token that passes a test, where none may do so
+-- the reader of a token that may be missing is right where what follows fails its test
 pub right_maybe_one : (test : Kind → Bool) (P : Kind → Type 0) → ((k : Kind) → P k → test k ≡ false) → Right (maybe_form (one_form test) P) (λ _. maybe test (one test))
 right_maybe_one test P stop = maybe_laws test (one_form test) P (λ _. one test) (λ _. reads_one test) (λ _ _. grows_one test) (λ _ _ g. g) (λ _ _ g. g) stop
 
@@ -252,7 +253,7 @@ right_whether k P stop = right_same (whether_form k P) (λ _. made is_there (may
     follows n None g j f = f
     follows n (Some u) g j f = tt
 
--- one thing behind a sign, before one, and between two
+-- one thing after a sign, before one, and between two
 
 -- a thing after a sign
 abbrev pub behind_form : {A : Type 0} → Kind → Form A → Form A
@@ -362,7 +363,7 @@ spelled_less [] ts rest a h = absurd a
 spelled_less (s ∷ ss) [] rest a h = absurd h
 spelled_less (s ∷ ss) (t ∷ ts) rest a h = let e = spelled_length ss ts rest h.1 in omega arith
 
--- behind what begins with a token less is left
+-- fewer tokens are left after what begins with one
 pub right_less : {A : Type 0} (F : Form A) (read : ℕ → Reader A) → Right F read → ((n : ℕ) (a : A) → F.good n a → Heads (λ _. Unit {0}) (F.slots a)) → (n : ℕ) (ts rest : List Token) (a : A) → read n ts ≡ Ok (a, rest) → length rest < length ts
 right_less F read laws heads n ts rest a e = let h = right_ok F read laws n ts rest a e in spelled_less (F.slots a) ts rest (heads n a h.0) h.1
 

@@ -44,7 +44,7 @@ unfolding level_at
 expression-returns t c =
     rw c.in_ok-chain.ensures.ok (level_chained c.args.depth 15 c.args.cursor.now.left.now c.assignment.new.cursor.left.now c.terms.new.cursor.left.now c.in_ok-first.first c.in_ok-terms.terms (omega arith) (omega arith) (λ e. omega arith) (λ e. omega arith) c.in_ok-first.ensures c.in_ok-terms.ensures (sym c.if-is_empty.ensures))
 
--- an operator as tight as the first operand, or looser than the level, is left
+-- where the next operator is of none of the levels, the first operand is all
 pub climb-returns-then-here-tightness : goal.climb-returns-then-here-tightness
 climb-returns-then-here-tightness t c =
     passed c.args.depth c.args.tightness (c.args.looseness - c.args.tightness) (boxed c.args.first) c.args.cursor.now.left.now (omega arith) (λ r low high h. elim c.then-here-tightness.either [

@@ -5,6 +5,8 @@ use Rattle.snl_tree.specs.view.Expressions.{pair_of, list_before}
 use Rattle.snl_tree.proofs.readers.expressions.+reading.Given as goal
 
 -- a nested part costs a thousand, a level twenty
+
+-- what one level of expressions costs
 abbrev pub decreases-level : goal.decreases-level
 decreases-level l = 1000 * l.depth + 20 * l.looseness + 19
 
@@ -60,7 +62,7 @@ decreases-more_arguments l = 1000 * l.depth + 399
 abbrev pub decreases-argument : goal.decreases-argument
 decreases-argument l = 1000 * l.depth + 398
 
--- what was found, and what is left to read
+-- the terms are those found, and those left to read
 abbrev pub invariant-terms-loop-alloc : goal.invariant-terms-loop-alloc
 invariant-terms-loop-alloc l =
     let operand = level_at (inside l.depth) (l.looseness - 1) in

@@ -6,6 +6,8 @@ use Rattle.snl_tree.proofs.code.Turns.{Found}
 use Rattle.snl_tree.proofs.readers.statements.+nesting.Given as goal
 
 -- what is nested costs ten
+
+-- what a statement costs
 abbrev pub decreases-statement : goal.decreases-statement
 decreases-statement l = 10 * l.depth + 5
 
@@ -33,7 +35,7 @@ decreases-while_loop l = 10 * l.depth + 4
 abbrev pub decreases-for_loop : goal.decreases-for_loop
 decreases-for_loop l = 10 * l.depth + 4
 
--- what was found, and what is left to read
+-- the statements are those found, and those left to read
 abbrev pub invariant-statements-loop-alloc : goal.invariant-statements-loop-alloc
 invariant-statements-loop-alloc l = Found opens_statement (statement_at l.limit l.depth) statement_view (statement_row_at l.limit l.depth l.initial.cursor.left.now) l.found.items l.cursor.left.now
 
