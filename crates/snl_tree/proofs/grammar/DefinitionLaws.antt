@@ -56,12 +56,12 @@ is_each : (K : Kind) (ts : List Token) → Each (λ t. t.kind ≡ K) ts → Each
 is_each K [] g = tt
 is_each K (t ∷ ts) g = (true_is K t.kind g.0, is_each K ts g.1)
 
--- at least one token, each of a kind, where each passes the test for it
+-- where each of at least one token passes the test for a kind, each is of it
 some_is : (K : Kind) (ts : List Token) → EachOfSome (λ t. is K t.kind ≡ true) ts → EachOfSome (λ t. t.kind ≡ K) ts
 some_is K [] g = g
 some_is K (t ∷ ts) g = (is_true K t.kind g.0, each_is K ts g.1)
 
--- at least one token, each of which passes the test for a kind, where each is of it
+-- where each of at least one token is of a kind, each passes the test for it
 is_some : (K : Kind) (ts : List Token) → EachOfSome (λ t. t.kind ≡ K) ts → EachOfSome (λ t. is K t.kind ≡ true) ts
 is_some K [] g = g
 is_some K (t ∷ ts) g = (true_is K t.kind g.0, is_each K ts g.1)

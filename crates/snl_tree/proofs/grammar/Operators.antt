@@ -183,7 +183,7 @@ term_list_slots : (n q : ℕ) (xs : List (Token × ExprTree)) → term_slots (te
 term_list_slots n q [] = refl
 term_list_slots n q (x ∷ xs) = ap (λ z. The x.0 ∷ (slots x.1 ++ z)) (term_list_slots n q xs)
 
--- well-formed terms are operators and operands that are read
+-- each well-formed list of terms is one of operators and operands that can be read
 term_list_of : (n q : ℕ) (rest : TermList) → HasTerms rest (suc q) n → (xs : List (Token × ExprTree)) × (terms_shape n q).good xs × (term_list xs ≡ rest)
 term_list_of n q no_terms g = ([], tt, refl)
 term_list_of n q (term op e rest) g =

@@ -138,7 +138,7 @@ read_program n ts = go (program_at (suc n) ts) refl
 pub one_program : (n : ℕ) (ts : List Token) (a b : ProgramTree) → IsProgram n a → IsProgram n b → Spells programs a ts → Spells programs b ts → a ≡ b
 one_program n ts a b g h k l = unambiguous later none (λ n. program_at (suc n)) right_program.reads right_program.grows right_program.some raise n ts a b (program_more n a g) (program_more n b h) k l
 
--- tokens are a program, or one is unexpected, or one is nested too deep, where a limit is given
+-- tokens are a program, or one is unexpected, or one is nested too deep, where the limit is not 0
 pub read_within : (limit : ℕ) (ts : List Token) → 0 < limit → HasProgram limit ts
 read_within zero ts h = absurd (omega arith)
 read_within (suc n) ts h = read_program n ts

@@ -174,7 +174,7 @@ maybe_same {A} test item ts = go (starts test ts)
     go true = some (item ts)
     go false = refl
 
--- something that may be missing is read rightly, even if nothing is well formed at some depth
+-- the reader of something that may be missing is right even if nothing of it is well formed
 maybe_laws : {A : Type 0} (test : Kind → Bool) (F : Form A) (P : Kind → Type 0) (item : ℕ → Reader A)
     → ((n : ℕ) → Reads (at_depth F n) (item n)) → ((n k : ℕ) → Grows (item n) (item (suc n + k))) → ((n : ℕ) (a : A) → F.good n a → F.good (suc n) a)
     → ((n : ℕ) (a : A) → F.good n a → Heads (λ k. test k ≡ true) (F.slots a))
