@@ -13,7 +13,7 @@ pub record Sort (A : Type 0) : Type 1 where
 abbrev pub Spells : {A : Type 0} → Sort A → A → List Token → Type 0
 Spells S a ts = Spelled (S.slots a) ts []
 
--- The tokens begin a tree that is well formed with at most so much nesting: they are the front of its
+-- The tokens begin a tree that is well formed with at most so much nesting: they are a prefix of its
 -- spelling, so they can be completed to all of it.
 pub record Begins {A : Type 0} (S : Sort A) (limit : ℕ) (ts : List Token) : Type 0 where
   pub whole : A

@@ -28,7 +28,7 @@ starts_declaration Double = true
 starts_declaration StringType = true
 starts_declaration _ = false
 
--- A word that may stand behind `unsigned`.
+-- A word that may stand after `unsigned`.
 abbrev pub may_be_unsigned : Kind → Bool
 may_be_unsigned Char = true
 may_be_unsigned Short = true
@@ -45,7 +45,7 @@ pub record TypeTree : Type 0 where
   pub word : Token
   pub second : Option Token
 
--- The values of a list. Each but the last has a comma behind it, and the last may have one.
+-- The values of a list. Each but the last has a comma after it, and the last may have one.
 pub data ValueList : Type 0 where
   no_values : ValueList
   last_value : ExprTree → ValueList

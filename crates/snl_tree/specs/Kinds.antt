@@ -31,7 +31,7 @@ is_prefix MinusMinus = true
 is_prefix _ = false
 
 -- How loosely a sign holds the expression that stands before it: a subscript and a call (0), `++` and
--- `--` behind a place (1), the levels of binary operators (3 to 12), the conditional (13), assignments
+-- `--` after a place (1), the levels of binary operators (3 to 12), the conditional (13), assignments
 -- (14), the comma (15), and all that cannot go on with an expression (16).
 abbrev pub looseness : Kind → ℕ
 looseness OpenParenthesis = 0

@@ -24,7 +24,7 @@ abbrev pub sign_slots : Kind → Bool → List Slot
 sign_slots k true = Sign k ∷ []
 sign_slots k false = []
 
--- One thing behind another.
+-- One thing after another.
 abbrev pub row_slots : {A : Type 0} → (A → List Slot) → List A → List Slot
 row_slots slots [] = []
 row_slots slots (x ∷ xs) = slots x ++ row_slots slots xs

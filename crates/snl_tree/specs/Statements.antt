@@ -72,7 +72,7 @@ abbrev mutual
   pub block_slots : BlockTree → List Slot
   block_slots (block declared all) = Sign OpenBrace ∷ (row_slots declaration_slots declared ++ (statement_list_slots all ++ Sign CloseBrace ∷ []))
 
--- No `else` behind the statement could belong to an `if` at its end.
+-- No `else` after the statement could belong to an `if` at its end.
 abbrev pub is_closed : StatementTree → Bool
 is_closed (if_then c s) = false
 is_closed (if_else c s e) = is_closed e
@@ -85,7 +85,7 @@ IsHeader limit h = IfThere (IsExpr limit) h.start × IfThere (IsExpr limit) h.co
 
 -- Well formed, each expression nested at most as deep as the limit, and the statements at most so deep.
 -- What opens a nested part is the brace of a block and the words `if`, `else`, `while` and `for`; an `if`
--- is ended where its own `else` opens. An `else` belongs to the nearest `if` that has none, so in front of
+-- is ended where its own `else` opens. An `else` belongs to the nearest `if` that has none, so before
 -- it stands a statement that could not take it.
 abbrev mutual
   pub IsWellStatement : ℕ → StatementTree → ℕ → Type 0

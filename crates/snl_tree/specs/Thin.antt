@@ -122,7 +122,7 @@ is_thin_state_set s = is_none_of s.definitions && list_all is_thin_state s.state
 abbrev pub is_bare : DeclaratorTree → Bool
 is_bare d = is_none_of d.sizes && is_missing d.initial
 
--- `int`, and no other word behind it
+-- `int`, and no other word after it
 abbrev pub is_int : TypeTree → Bool
 is_int t = is kind.Int t.word.kind && is_missing t.second
 

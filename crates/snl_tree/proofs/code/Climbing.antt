@@ -16,12 +16,14 @@ use Rattle.snl_tree.proofs.code.Turns.{same_fault}
 use Rattle.snl_tree.proofs.code.Loops.{terms_turn, terms_stop}
 use Rattle.snl_tree.proofs.code.Rows.{chain_view}
 
+-- going on with nothing to do gives what was read
 bind_ok : {A : Type 0} (m : Read A) → m ≡ (m >>= λ x. Ok (x.0, x.1))
 bind_ok (Ok x) = refl
 bind_ok (Err e) = refl
 
 -- a level is the levels below it one after another
 
+-- a binary level is a unary, and so many levels one after another
 level_climbed : (n k : ℕ) (ts : List Token) → k ≤ 10 → level_at (inside n) (2 + k) ts ≡ (unary_at (inside n) ts >>= λ x. climbed n 2 k x.0 x.1)
 unfolding climbed chained
 level_climbed n zero ts h = ap (λ f. f ts) (level_unary n 2 refl) ∙ bind_ok (unary_at (inside n) ts)
@@ -34,6 +36,7 @@ level_climbed n (suc k) ts h =
     ∙ ap (λ m. m >>= λ x. chained n (suc (2 + k)) x.0 x.1) (level_climbed n k ts (omega arith))
     ∙ bind_assoc (unary_at (inside n) ts) (λ x. climbed n 2 k x.0 x.1) (λ x. chained n (suc (2 + k)) x.0 x.1))
 
+-- a binary level, by its number, is a unary and the levels up to it
 pub level_binary : (n r : ℕ) (ts : List Token) → 2 ≤ r → r ≤ 12 → level_at (inside n) r ts ≡ (unary_at (inside n) ts >>= λ x. climbed n 2 (r - 2) x.0 x.1)
 level_binary n r ts low high =
     let e : 2 + (r - 2) ≡ r = omega arith in
@@ -41,10 +44,12 @@ level_binary n r ts low high =
 
 -- levels of which no operator is here
 
+-- tokens that begin with another operator begin with none of this level
 other : (r : ℕ) (ts : List Token) → r ≤ 15 → (here ts ≡ r → ⊥) → starts (is_operator r) ts ≡ false
 other r [] high h = refl
 other r (t ∷ ts) high h = ne_eqb (here (t ∷ ts)) r h
 
+-- levels of which no operator is next change nothing
 pub passed : (n tightness k : ℕ) (e : ExprTree) (ts : List Token) → tightness + k ≤ 15 → ((r : ℕ) → tightness < r → r ≤ tightness + k → here ts ≡ r → ⊥) → climbed n tightness k e ts ≡ Ok (e, ts)
 unfolding climbed chained
 passed n tightness zero e ts h o = refl
@@ -55,6 +60,7 @@ passed n tightness (suc k) e ts h o =
 
 -- some levels, and then others
 
+-- some levels and then others are all of them at once
 parted : (n tightness a b : ℕ) (e : ExprTree) (ts : List Token) → climbed n tightness (a + b) e ts ≡ (climbed n tightness a e ts >>= λ x. climbed n (tightness + a) b x.0 x.1)
 unfolding climbed
 parted n tightness a zero e ts =
@@ -68,7 +74,7 @@ parted n tightness a (suc b) e ts =
     ∙ ap (λ z. (climbed n tightness a e ts >>= λ x. climbed n (tightness + a) b x.0 x.1) >>= λ x. chained n z x.0 x.1) t
     ∙ bind_assoc (climbed n tightness a e ts) (λ x. climbed n (tightness + a) b x.0 x.1) (λ x. chained n (suc ((tightness + a) + b)) x.0 x.1)
 
--- from the operator here on
+-- the levels are that of the next operator and the looser ones, where it is one of theirs
 climbed_on : (n tightness r to : ℕ) (e : ExprTree) (ts : List Token) → tightness < r → r ≤ to → to ≤ 12 → here ts ≡ r → climbed n tightness (to - tightness) e ts ≡ (chained n r e ts >>= λ x. climbed n r (to - r) x.0 x.1)
 unfolding climbed
 climbed_on n tightness r to e ts low high top h =
@@ -84,6 +90,7 @@ climbed_on n tightness r to e ts low high top h =
 
 -- what the code gives, from what its parts gave
 
+-- where an operator of the level is next, at least one term is read
 some : (n r : ℕ) (ts rest : List Token) (v : Vec Term Global) → 3 ≤ r → r ≤ 15 → starts (is_operator r) ts ≡ true → terms_at r (level_at (inside n) (r - 1)) ts ≡ Ok (pairs v, rest) → v.items ≡ [] → ⊥
 some n r ts rest v low high s h z = none (term_at n r ts) (sym (terms_turn n r ts low high s) ∙ h ∙ ap (λ l. Ok (map pair_of l, rest)) z)
   where
@@ -103,16 +110,19 @@ some n r ts rest v low high s h z = none (term_at n r ts) (sym (terms_turn n r t
     none (Ok x) e = second x.0 (terms_at r (level_at (inside n) (r - 1)) x.1) e
     none (Err f) e = differ _ refl e
 
+-- where an operator of a level is next, the tokens begin with one of it
 this : (r : ℕ) (ts : List Token) → r ≤ 15 → here ts ≡ r → starts (is_operator r) ts ≡ true
 this r [] high h = absurd (omega arith)
 this r (t ∷ ts) high h = eq-eqb (here (t ∷ ts)) r h
 
+-- after an operand the terms of a level make the chain that the code builds
 chained_found : (n r : ℕ) (ts rest : List Token) (b : Box Expr Global) (v : Vec Term Global) → 3 ≤ r → r ≤ 15 → here ts ≡ r → terms_at r (level_at (inside n) (r - 1)) ts ≡ Ok (pairs v, rest) → chained n r (boxed b) ts ≡ Ok (view (Chain b v), rest)
 unfolding chained
 chained_found n r ts rest b v low high h k =
     ap (λ m. m >>= λ x. Ok (chain_tree (boxed b) x.0, x.1)) k
     ∙ ap (λ z. Ok (z, rest)) (chain_view b v (some n r ts rest v low high (this r ts high h) k))
 
+-- from the next operator on, the levels are its chain and the looser levels
 pub climbed_chain : (n tightness r to : ℕ) (ts rest : List Token) (b made : Box Expr Global) (v : Vec Term Global) → 2 ≤ tightness → tightness < r → r ≤ to → to ≤ 12 → here ts ≡ r → terms_at r (level_at (inside n) (r - 1)) ts ≡ Ok (pairs v, rest) → made.value ≡ Chain b v
     → climbed n tightness (to - tightness) (boxed b) ts ≡ climbed n r (to - r) (boxed made) rest
 climbed_chain n tightness r to ts rest b made v two low high top h k e =
@@ -120,11 +130,13 @@ climbed_chain n tightness r to ts rest b made v two low high top h k e =
     ∙ ap (λ m. m >>= λ x. climbed n r (to - r) x.0 x.1) (chained_found n r ts rest b v (omega arith) (omega arith) h k)
     ∙ ap (λ z. climbed n r (to - r) (view z) rest) (sym e)
 
+-- a fault in the terms of the next operator is a fault of the levels
 climbed_fault : (n tightness r to : ℕ) (ts : List Token) (e : ExprTree) (f : Fault) → tightness < r → r ≤ to → to ≤ 12 → here ts ≡ r → terms_at r (level_at (inside n) (r - 1)) ts ≡ Err f → climbed n tightness (to - tightness) e ts ≡ Err f
 unfolding chained
 climbed_fault n tightness r to ts e f low high top h k =
     let c : chained n r e ts ≡ Err f = ap (λ m. m >>= λ x. Ok (chain_tree e x.0, x.1)) k in
     climbed_on n tightness r to e ts low high top h ∙ ap (λ m. m >>= λ x. climbed n r (to - r) x.0 x.1) c
 
+-- where the terms of the next operator are not read, the levels are not for the same cause
 pub climbed_fails : (n tightness r to : ℕ) (ts : List Token) (e : ExprTree) (halt : Halt) (left : List Token) → tightness < r → r ≤ to → to ≤ 12 → here ts ≡ r → Fails halt left (terms_at r (level_at (inside n) (r - 1)) ts) → Fails halt left (climbed n tightness (to - tightness) e ts)
 climbed_fails n tightness r to ts e halt left low high top h k = same_fault (terms_at r (level_at (inside n) (r - 1)) ts) (climbed n tightness (to - tightness) e ts) (λ f m. climbed_fault n tightness r to ts e f low high top h m) halt left k

@@ -10,20 +10,25 @@ use Rattle.snl_tree.specs.Definitions.{PlaceTree, AssignTree, SyncTree, QueueTre
 use Rattle.snl_tree.specs.reading.Definitions.{assign_at, monitor_at, sync_at, queue_at, event_flags_at, setting_at, definition, definition_at, part, part_at}
 use Rattle.snl_tree.proofs.code.Forms.{either_form, elim_same}
 
--- the readers that are left behind each test
+-- the readers that are left after each test
 
+-- reads a queue or event flags
 abbrev from_queue : ℕ → Reader (QueueTree ⊎ List Token)
 from_queue n = either (is SyncQueue) (queue_at n) event_flags_at
 
+-- reads a synced place, a queue or event flags
 abbrev from_sync : ℕ → Reader (SyncTree ⊎ (QueueTree ⊎ List Token))
 from_sync n = either (is Sync) (sync_at n) (from_queue n)
 
+-- reads all definitions but declarations and assignments of channels
 abbrev from_monitor : ℕ → Reader (PlaceTree ⊎ (SyncTree ⊎ (QueueTree ⊎ List Token)))
 from_monitor n = either (is Monitor) (monitor_at n) (from_sync n)
 
+-- reads all definitions but declarations
 abbrev from_assign : ℕ → Reader (AssignTree ⊎ (PlaceTree ⊎ (SyncTree ⊎ (QueueTree ⊎ List Token))))
 from_assign n = either (is Assign) (assign_at n) (from_monitor n)
 
+-- a definition is read by the word that it begins with
 pub definition_cases : (n : ℕ) (ts : List Token) → definition_at n ts ≡ elim (starts starts_declaration ts) [
   | true ↦ (declaration_at n ts >>= λ x. Ok (declaration x.0, x.1))
   | false ↦ elim (starts (is Assign) ts) [
@@ -45,6 +50,7 @@ definition_cases n ts =
     (either_form (is Sync) (sync_at n) (from_queue n) ts (λ x. Ok (definition (inr (inr (inr x.0))), x.1)) ∙ elim_same (starts (is Sync) ts) _ _ _ _ refl
     (either_form (is SyncQueue) (queue_at n) event_flags_at ts (λ x. Ok (definition (inr (inr (inr (inr x.0)))), x.1))))))
 
+-- an option is read where the word `option` is next, else a definition
 pub part_cases : (n : ℕ) (ts : List Token) → part_at n ts ≡ elim (starts (is OptionWord) ts) [ true ↦ (setting_at ts >>= λ x. Ok (setting x.0, x.1)) | false ↦ definition_at n ts ]
 unfolding part_at
 part_cases n ts = either_form (is OptionWord) setting_at (definition_at n) ts (λ x. Ok (part x.0, x.1)) ∙ elim_same (starts (is OptionWord) ts) _ _ _ _ refl (same (definition_at n ts))

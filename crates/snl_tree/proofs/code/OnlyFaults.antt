@@ -1,4 +1,4 @@
--- From what a parse says of its answer to what it says of the tokens: a fault that they have is the one given.
+-- From what a parse says of its answer to what it says of the tokens: a fault they have is the one given.
 use Rattle.std.proofs.Common.{◌≡◌, ℕ, List, Result, Ok, Err, IfOk, refl, ap}
 use Rattle.snl_text.specs.declared.tokens.Token.{Token}
 use Rattle.snl_tree.specs.declared.faults.ParseFault.{ParseFault}

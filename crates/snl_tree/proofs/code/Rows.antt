@@ -14,42 +14,51 @@ use Rattle.snl_tree.specs.reading.Expressions.{term_list, chain_tree, inside, re
 use Rattle.snl_tree.specs.view.Expressions.{view, boxed, view_terms, view_arguments, pair_of, pairs, list_before, arguments_of}
 use Rattle.snl_tree.proofs.code.Forms.{level_form, named_form, assignment_form}
 
+-- a row of terms is seen as the list of its terms
 view_term_row : (n : _) (row : Row_of-Term n) → view_terms row ≡ term_list (map pair_of (items-the_row-Term n row))
 view_term_row n end_of-Term = refl
 view_term_row n (more_of-Term op p e rest) = ap (λ z. term op (view e) z) (view_term_row _ rest)
 
+-- a row of arguments is seen as the list of its arguments
 view_argument_row : (n : _) (row : Row_of-Argument n) → view_arguments row ≡ list_before (items-the_row-Argument n row) no_arguments
 view_argument_row n end_of-Argument = refl
 view_argument_row n (more_of-Argument (Value' p e) rest) = ap (λ z. value (view e) z) (view_argument_row _ rest)
 view_argument_row n (more_of-Argument (Text t) rest) = ap (λ z. text t z) (view_argument_row _ rest)
 
+-- the row of terms that a chain holds
 abbrev term_row : Expr → (n : Count) × Row_of-Term n
 term_row (Chain' p e shape row) = (_, row)
 term_row _ = (_, end_of-Term)
 
+-- the row of arguments that a call holds
 abbrev argument_row : Expr → (n : Count) × Row_of-Argument n
 argument_row (Call' t shape row) = (_, row)
 argument_row _ = (_, end_of-Argument)
 
+-- a chain is seen as the chain of what it holds
 pub view_chain : (b : Box Expr Global) (v : Vec Term Global) → view (Chain b v) ≡ chain (view b.value) (term_list (map pair_of v.items))
 view_chain b v =
     let row = term_row (Chain b v) in
     ap (λ z. chain (view b.value) z) (view_term_row row.0 row.1 ∙ ap (λ l. term_list (map pair_of l)) (items_hidden-the_row-Term-1 v))
 
+-- a call is seen as the call with the arguments that it holds
 pub view_call : (t : Token) (v : Vec Argument Global) → view (Call t v) ≡ call t (list_before v.items no_arguments)
 view_call t v =
     let row = argument_row (Call t v) in
     ap (λ z. call t z) (view_argument_row row.0 row.1 ∙ ap (λ l. list_before l no_arguments) (items_hidden-the_row-Argument-0 v))
 
+-- an operand with at least one term is a chain
 some_terms : (e : ExprTree) (l : List Term) → (l ≡ [] → ⊥) → chain_tree e (map pair_of l) ≡ chain e (term_list (map pair_of l))
 some_terms e [] h = absurd (h refl)
 some_terms e (x ∷ l) h = refl
 
+-- an operand with at least one term is seen as the chain that the code builds
 pub chain_view : (b : Box Expr Global) (v : Vec Term Global) → (v.items ≡ [] → ⊥) → chain_tree (view b.value) (map pair_of v.items) ≡ view (Chain b v)
 chain_view b v h = some_terms (view b.value) v.items h ∙ sym (view_chain b v)
 
 -- what the code returns, from what its parts gave
 
+-- a level is its operand alone where no term is found after it
 pub level_alone : (n r : ℕ) (ts mid rest : List Token) (e : ExprTree) (v : Vec Term Global) → 3 ≤ r → r ≤ 15 → (r ≡ 13 → ⊥) → (r ≡ 14 → ⊥) → level_at (inside n) (r - 1) ts ≡ Ok (e, mid) → terms_at r (level_at (inside n) (r - 1)) mid ≡ Ok (pairs v, rest) → nat_eq (vec_len v) 0 ≡ true → level_at (inside n) r ts ≡ Ok (e, rest)
 level_alone n r ts mid rest e v low high a b h k z =
     level_form n r ts low high a b ∙ ap (λ m. m >>= λ x. terms_at r (level_at (inside n) (r - 1)) x.1 >>= λ y. Ok (chain_tree x.0 y.0, y.1)) h ∙ ap (λ m. m >>= λ y. Ok (chain_tree e y.0, y.1)) k
@@ -59,11 +68,13 @@ level_alone n r ts mid rest e v low high a b h k z =
     none [] z = refl
     none (x ∷ l) z = absurd (omega arith)
 
+-- a level is the chain that the code builds where terms are found
 pub level_chained : (n r : ℕ) (ts mid rest : List Token) (b : Box Expr Global) (v : Vec Term Global) → 3 ≤ r → r ≤ 15 → (r ≡ 13 → ⊥) → (r ≡ 14 → ⊥) → level_at (inside n) (r - 1) ts ≡ Ok (boxed b, mid) → terms_at r (level_at (inside n) (r - 1)) mid ≡ Ok (pairs v, rest) → nat_eq (vec_len v) 0 ≡ false → level_at (inside n) r ts ≡ Ok (view (Chain b v), rest)
 level_chained n r ts mid rest b v low high a c h k z =
     level_form n r ts low high a c ∙ ap (λ m. m >>= λ x. terms_at r (level_at (inside n) (r - 1)) x.1 >>= λ y. Ok (chain_tree x.0 y.0, y.1)) h ∙ ap (λ m. m >>= λ y. Ok (chain_tree (boxed b) y.0, y.1)) k
     ∙ ap (λ x. Ok (x, rest)) (chain_view b v (λ w. let e : length v.items ≡ 0 = ap length w in false-eqb (vec_len v) 0 (sym z) (omega (arith, v.ok.0))))
 
+-- a name, and arguments in parentheses, are read as the call that the code builds
 pub named_called : (n : ℕ) (ts mid opened_at behind rest : List Token) (t : Token) (v : Vec Argument Global) → one (is Name) ts ≡ Ok (t, mid) → starts (is OpenBracket) mid ≡ false → starts (is OpenParenthesis) mid ≡ true → opened n (is OpenParenthesis) (sign OpenParenthesis) mid ≡ Ok (tt, opened_at)
     → arguments_at (readers (inside (n - 1))) opened_at ≡ Ok (arguments_of v, behind) → sign CloseParenthesis behind ≡ Ok (tt, rest) → named_at (inside n) ts ≡ Ok (view (Call t v), rest)
 unfolding named_rest
@@ -71,6 +82,7 @@ named_called n ts mid opened_at behind rest t v h f s o k c =
     named_form n ts ∙ ap (λ m. m >>= λ x. named_rest n x.0 x.1) h
     ∙ rw (f, named_rest) (rw s (rw o (rw k (rw c (ap (λ z. Ok (z, rest)) (sym (view_call t v)))))))
 
+-- a target, an assignment operator and a value are read as an assignment
 pub assignment_made : (n : ℕ) (ts mid behind rest : List Token) (target right : ExprTree) (op : Token) → conditional_at (inside n) ts ≡ Ok (target, mid) → is_unary target ≡ true → starts (is_operator 14) mid ≡ true → opened n (is_operator 14) (one (is_operator 14)) mid ≡ Ok (op, behind)
     → assignment_at (inside (n - 1)) behind ≡ Ok (right, rest) → assignment_at (inside n) ts ≡ Ok (assignment target op right, rest)
 unfolding assigned_rest

@@ -7,14 +7,17 @@ use Rattle.snl_tree.specs.Statements.{nested, block, statement}
 use Rattle.snl_tree.specs.reading.Statements.{statement_list}
 use Rattle.snl_tree.specs.view.Statements.{statement_view, row_view, declaration_views, block_view}
 
+-- a row of statements is seen as the list of its statements
 row_statements : (n : _) (row : Row_of-Stmt n) → row_view row ≡ statement_list (map statement_view (items-the_row-Stmt n row))
 row_statements n end_of-Stmt = refl
 row_statements n (more_of-Stmt s rest) = ap (λ z. statement (statement_view s) z) (row_statements _ rest)
 
+-- the row of statements that a block holds
 abbrev statement_row : Stmt → (n : Count) × Row_of-Stmt n
 statement_row (Block' declared shape row) = (_, row)
 statement_row _ = (_, end_of-Stmt)
 
+-- a block that stands as a statement is seen as the block
 pub view_block : (b : declared.Block) → statement_view (Block b) ≡ nested (block_view b)
 view_block b =
     let row = statement_row (Block b) in

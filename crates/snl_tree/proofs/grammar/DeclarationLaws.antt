@@ -20,22 +20,28 @@ use Rattle.snl_tree.proofs.grammar.Values.{expression_form, right_expression, va
 
 -- types
 
+-- a type, which no second word of one may follow
 abbrev pub type_form : Form TypeTree
 type_form = record { slots = type_slots; good = λ _. IsType; follow = λ _ k. may_be_unsigned k ≡ false }
 
+-- the second word of a type, or nothing
 abbrev second_form : Token → Form (Option Token)
 second_form w = maybe_form (one_form (is_second w.kind)) (λ k. may_be_unsigned k ≡ false)
 
+-- what may not come after `unsigned` is no second word of a type
 no_second : (first k : Kind) → may_be_unsigned k ≡ false → is_second first k ≡ false
 no_second first k e = ap (λ b. b && is Unsigned first) e
 
+-- what is no second word of a type may follow one or none
 second_follow : (w : Token) (o : Option Token) (k : Kind) → may_be_unsigned k ≡ false → (second_form w).follow o k
 second_follow w None k f = f
 second_follow w (Some t) k f = tt
 
+-- the reader of the first word of a type is right
 some_type : Right (one_form starts_declaration) (λ _. one starts_declaration)
 some_type = right_one starts_declaration (token_of Int) refl
 
+-- the reader of types is right
 pub right_type : Right type_form (λ _. type_at)
 unfolding type_at
 right_type = right_made (both_form (one_form starts_declaration) second_form) type_form (λ x. record { word = x.0; second = x.1 }) (λ _. both (one starts_declaration) (λ w. maybe (is_second w.kind) (one (is_second w.kind))))
@@ -49,39 +55,48 @@ right_type = right_made (both_form (one_form starts_declaration) second_form) ty
 
 -- sizes
 
+-- an expression in brackets
 abbrev pub bracket_form : Form ExprTree
 bracket_form = between_form OpenBracket expression_form CloseBracket
 
+-- the reader of an expression in brackets is right
 pub right_bracket : Right bracket_form bracket_at
 unfolding bracket_at
 right_bracket = right_between OpenBracket expression_form (λ n. level_at (inside n) 15) CloseBracket right_expression (λ _ _ _. lit< tt)
 
--- what may stand behind a declared name with all that belongs to it
+-- what may come after a declared name with all that belongs to it
 abbrev pub EndsItem : Kind → Type 0
 EndsItem k = (k ≡ Comma) ⊎ (k ≡ Semicolon)
 
+-- what holds of a comma and of a semicolon holds of what ends a declared name
 item_end : (P : Kind → Type 0) (k : Kind) → P Comma → P Semicolon → EndsItem k → P k
 item_end P k a b e = elim e [ inl h ↦ subst P (sym h) a | inr h ↦ subst P (sym h) b ]
 
+-- the sizes of an array, which no bracket may follow
 abbrev sizes_form : Form (List ExprTree)
 sizes_form = many_form bracket_form (λ k. is OpenBracket k ≡ false)
 
+-- the reader of sizes is right
 pub right_sizes : Right sizes_form sizes_at
 unfolding sizes_at
 right_sizes = right_many (is OpenBracket) bracket_form (λ k. is OpenBracket k ≡ false) bracket_at right_bracket (λ _ _ _. refl) (λ _ e. e) (λ _ _ _ _ _. tt) (λ _ _ _ _ _. tt)
 
 -- initialisers
 
+-- what a variable begins with, before what is looser than an assignment
 abbrev pub initialiser_form : Form InitialiserTree
 initialiser_form = record { slots = initialiser_slots; good = IsInitialiser; follow = λ _ k. 14 < looseness k }
 
+-- the values of a list in braces
 abbrev braced_form : Form ValueList
 braced_form = between_form OpenBrace values_form CloseBrace
 
+-- what can begin an expression is no opening brace
 open_no_open_brace : (k : Kind) → can_open k ≡ true → is OpenBrace k ≡ false
 open_no_open_brace OpenBrace e = absurd (true≢false (sym e))
 open_no_open_brace _ e = refl
 
+-- the reader of what a variable begins with is right
 pub right_initialiser : Right initialiser_form initialiser_at
 unfolding initialiser_at
 right_initialiser = right_made (either_form braced_form value_form) initialiser_form initialiser (λ n. either (is OpenBrace) (between OpenBrace (values_at n) CloseBrace) (level_at (inside n) 14))
@@ -103,30 +118,38 @@ right_initialiser = right_made (either_form braced_form value_form) initialiser_
 
 -- declared names
 
+-- the equal sign and what a variable begins with, or nothing
 abbrev initial_form : Form (Option InitialiserTree)
 initial_form = maybe_form (behind_form Equal initialiser_form) EndsItem
 
+-- the reader of what a variable begins with, which may be missing, is right
 right_initial : Right initial_form (λ n. maybe (is Equal) (behind Equal (initialiser_at n)))
 right_initial = right_maybe (is Equal) (behind_form Equal initialiser_form) EndsItem (λ n. behind Equal (initialiser_at n)) (right_behind Equal initialiser_form initialiser_at right_initialiser)
     (λ _ _ _. refl) (λ k e. item_end (λ z. is Equal z ≡ false) k refl refl e)
 
+-- an equal sign, a comma or a semicolon may follow the sizes of an array
 initial_link : (o : Option InitialiserTree) → Links (λ k. is OpenBracket k ≡ false) (initial_form.follow o) (initial_form.slots o)
 initial_link None = λ k e. item_end (λ z. is OpenBracket z ≡ false) k refl refl e
 initial_link (Some i) = refl
 
+-- a comma or a semicolon may follow what a variable begins with
 initial_follow : (o : Option InitialiserTree) (k : Kind) → EndsItem k → initial_form.follow o k
 initial_follow None k e = e
 initial_follow (Some i) k e = item_end (λ z. 14 < looseness z) k (lit< tt) (lit< tt) e
 
+-- a declared name with all that belongs to it, before a comma or a semicolon
 abbrev pub declarator_form : Form DeclaratorTree
 declarator_form = record { slots = declarator_slots; good = IsDeclarator; follow = λ _ k. EndsItem k }
 
+-- all that belongs to a declared name
 abbrev ends_form : Form (List ExprTree × Option InitialiserTree)
 ends_form = both_form sizes_form (λ _. initial_form)
 
+-- the reader of all that belongs to a declared name is right
 right_ends : Right ends_form (λ n. both (sizes_at n) (λ _. maybe (is Equal) (behind Equal (initialiser_at n))))
 right_ends = right_both sizes_form (λ _. initial_form) sizes_at (λ n _. maybe (is Equal) (behind Equal (initialiser_at n))) right_sizes (λ _. right_initial) (λ _ _ o _ _. initial_link o)
 
+-- the reader of declared names is right
 pub right_declarator : Right declarator_form declarator_at
 unfolding declarator_at
 right_declarator = right_made (both_form (one_form (is Name)) (λ _. ends_form)) declarator_form (λ x. record { name = x.0; sizes = x.1.0; initial = x.1.1 }) (λ n. both (one (is Name)) (λ _. both (sizes_at n) (λ _. maybe (is Equal) (behind Equal (initialiser_at n)))))
@@ -135,22 +158,27 @@ right_declarator = right_made (both_form (one_form (is Name)) (λ _. ends_form))
     (λ n x g. ((is_true Name x.0.kind g.0, g.1.0, g.1.1), refl)) (λ n d g. ((d.name, (d.sizes, d.initial)), (true_is Name d.name.kind g.0, (g.1, g.2)), refl))
     (λ n x g k f. initial_follow x.1.1 k f)
 
+-- declared names with commas between them, before a semicolon
 abbrev pub declarators_form : Form (List DeclaratorTree)
 declarators_form = parted_form Comma declarator_form (λ k. k ≡ Semicolon)
 
+-- the reader of declared names with commas between them is right
 pub right_declarators : Right declarators_form declarators_at
 unfolding declarators_at
 right_declarators = right_parted Comma declarator_form (λ k. k ≡ Semicolon) declarator_at right_declarator (λ k e. subst (λ z. is Comma z ≡ false) (sym e) refl) (λ _ _ _. inl refl) (λ _ _ _ k e. inr e)
 
 -- declarations
 
+-- a declaration, which anything may follow
 abbrev pub declaration_form : Form DeclarationTree
 declaration_form = record { slots = declaration_slots; good = IsDeclaration; follow = λ _ _. Unit {0} }
 
+-- a declared name may follow a type
 names_link : (n : ℕ) (names : List DeclaratorTree) → EachOfSome (IsDeclarator n) names → Links (λ k. may_be_unsigned k ≡ false) (λ _. Unit {0}) ((before_form declarators_form Semicolon).slots names)
 names_link n [] g = absurd g
 names_link n (d ∷ names) g = ap may_be_unsigned g.0.0
 
+-- the reader of declarations is right
 pub right_declaration : Right declaration_form declaration_at
 unfolding declaration_at
 right_declaration = right_made (both_form type_form (λ _. before_form declarators_form Semicolon)) declaration_form (λ x. record { type_name = x.0; names = x.1 }) (λ n. both type_at (λ _. before (declarators_at n) Semicolon))
@@ -158,13 +186,16 @@ right_declaration = right_made (both_form type_form (λ _. before_form declarato
     (λ _. right_before declarators_form declarators_at Semicolon right_declarators (λ _ _ _. refl)) (λ n _ names _ g. names_link n names g))
     (λ n x g. (g, refl)) (λ n d g. ((d.type_name, d.names), g, refl)) (λ n x g k f. tt)
 
+-- a declaration begins with a word of a type
 pub declaration_heads : (n : ℕ) (d : DeclarationTree) → IsDeclaration n d → Heads (λ k. starts_declaration k ≡ true) (declaration_slots d)
 declaration_heads n d g = g.0.0
 
--- less is left behind
+-- fewer tokens are left after each
 
+-- fewer tokens are left after an expression in brackets
 pub bracket_less : (n : ℕ) (ts rest : List Token) (e : ExprTree) → bracket_at n ts ≡ Ok (e, rest) → length rest < length ts
 bracket_less n ts rest e h = right_less bracket_form bracket_at right_bracket (λ _ _ _. tt) n ts rest e h
 
+-- fewer tokens are left after a comma and a declared name
 pub next_declarator_less : (n : ℕ) (ts rest : List Token) (d : DeclaratorTree) → behind Comma (declarator_at n) ts ≡ Ok (d, rest) → length rest < length ts
 next_declarator_less n ts rest d h = right_less (behind_form Comma declarator_form) (λ n. behind Comma (declarator_at n)) (right_behind Comma declarator_form declarator_at right_declarator) (λ _ _ _. tt) n ts rest d h

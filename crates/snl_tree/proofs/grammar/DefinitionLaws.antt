@@ -22,12 +22,15 @@ use Rattle.snl_tree.proofs.grammar.DeclarationLaws.{bracket_form, right_bracket,
 
 -- places
 
+-- a variable or an element of one, which no bracket may follow
 abbrev pub place_form : Form PlaceTree
 place_form = record { slots = place_slots; good = IsPlace; follow = λ _ k. is OpenBracket k ≡ false }
 
+-- a subscript that may be missing
 abbrev subscript_form : Form (Option ExprTree)
 subscript_form = maybe_form bracket_form (λ k. is OpenBracket k ≡ false)
 
+-- the reader of places is right
 pub right_place : Right place_form place_at
 unfolding place_at
 right_place = right_made (both_form (one_form (is Name)) (λ _. subscript_form)) place_form (λ x. record { name = x.0; subscript = x.1 }) (λ n. both (one (is Name)) (λ _. maybe (is OpenBracket) (bracket_at n)))
@@ -43,44 +46,55 @@ right_place = right_made (both_form (one_form (is Name)) (λ _. subscript_form))
 
 -- tokens with commas between them
 
+-- each token that passes the test for a kind is of that kind
 each_is : (K : Kind) (ts : List Token) → Each (λ t. is K t.kind ≡ true) ts → Each (λ t. t.kind ≡ K) ts
 each_is K [] g = tt
 each_is K (t ∷ ts) g = (is_true K t.kind g.0, each_is K ts g.1)
 
+-- each token of a kind passes the test for it
 is_each : (K : Kind) (ts : List Token) → Each (λ t. t.kind ≡ K) ts → Each (λ t. is K t.kind ≡ true) ts
 is_each K [] g = tt
 is_each K (t ∷ ts) g = (true_is K t.kind g.0, is_each K ts g.1)
 
+-- where each of at least one token passes the test for a kind, each is of it
 some_is : (K : Kind) (ts : List Token) → EachOfSome (λ t. is K t.kind ≡ true) ts → EachOfSome (λ t. t.kind ≡ K) ts
 some_is K [] g = g
 some_is K (t ∷ ts) g = (is_true K t.kind g.0, each_is K ts g.1)
 
+-- where each of at least one token is of a kind, each passes the test for it
 is_some : (K : Kind) (ts : List Token) → EachOfSome (λ t. t.kind ≡ K) ts → EachOfSome (λ t. is K t.kind ≡ true) ts
 is_some K [] g = g
 is_some K (t ∷ ts) g = (true_is K t.kind g.0, is_each K ts g.1)
 
+-- at least one token of a kind, with a comma between each two
 abbrev tokens_form : Kind → Form (List Token)
 tokens_form K = parted_form Comma (one_form (is K)) (λ k. is Comma k ≡ false)
 
+-- the reader of tokens of a kind with commas between them is right
 right_tokens : (K : Kind) → Right (tokens_form K) (λ _. parted Comma (one (is K)))
 right_tokens K = right_parted Comma (one_form (is K)) (λ k. is Comma k ≡ false) (λ _. one (is K)) (right_kind K) (λ _ e. e) (λ _ _ _. tt) (λ _ _ _ _ _. tt)
 
+-- the reader of strings with commas between them is right
 right_strings : Right (tokens_form Text) (λ _. strings_at)
 unfolding strings_at
 right_strings = right_tokens Text
 
+-- the reader of names of event flags is right
 right_flags : Right (tokens_form Name) (λ _. flags_at)
 unfolding flags_at
 right_flags = right_tokens Name
 
 -- names of channels
 
+-- strings with commas between them, in braces
 abbrev braces_form : Form (List Token)
 braces_form = between_form OpenBrace (tokens_form Text) CloseBrace
 
+-- the names of channels: one string or a list of them
 abbrev names_form : Form NamesTree
 names_form = record { slots = names_slots; good = λ _. AreNames; follow = λ _ _. Unit {0} }
 
+-- the reader of the names of channels is right
 right_names : Right names_form (λ _. names_at)
 unfolding names_at
 right_names = right_made (either_form (one_form (is Text)) braces_form) names_form channel_names (λ _. either (is Text) (one (is Text)) (between OpenBrace strings_at CloseBrace))
@@ -102,26 +116,32 @@ right_names = right_made (either_form (one_form (is Text)) braces_form) names_fo
 
 -- what a missing `to` may stand before
 
+-- whether `to` is there, and none follows where it is not
 abbrev to_form : Form Bool
 to_form = whether_form To (λ k. is To k ≡ false)
 
+-- the reader of whether `to` is there is right
 right_to : Right to_form (λ _. whether To)
 right_to = right_whether To (λ k. is To k ≡ false) (λ _ e. e)
 
+-- the channels of a variable, with `to` or without
 abbrev channels_form : Form ChannelsTree
 channels_form = record { slots = channels_slots; good = λ _ c. AreNames c.names; follow = λ _ _. Unit {0} }
 
+-- the names of channels may follow `to`, and a missing one
 names_link : (b : Bool) (names : NamesTree) → AreNames names → Links (to_form.follow b) (λ _. Unit {0}) (names_slots names)
 names_link true names g = links_any (λ _. Unit {0}) (λ _. Unit {0}) (names_slots names) (λ _. tt)
 names_link false (one_name t) g = subst (λ k. is To k ≡ false) (sym g) refl
 names_link false (name_list ts) g = refl
 
+-- the reader of channels is right
 right_channels : Right channels_form (λ _. channels_at)
 unfolding channels_at
 right_channels = right_made (both_form to_form (λ _. names_form)) channels_form (λ x. record { to = x.0; names = x.1 }) (λ _. both (whether To) (λ _. names_at))
     (right_both to_form (λ _. names_form) (λ _. whether To) (λ _ _. names_at) right_to (λ _. right_names) (λ _ b names _ g. names_link b names g))
     (λ n x g. (g.1, refl)) (λ n c g. ((c.to, c.names), (tt, g), refl)) (λ n x g k f. tt)
 
+-- channels begin with `to`, a string or an opening brace
 channels_heads : (c : ChannelsTree) → AreNames c.names → Heads (λ k. starts_channels k ≡ true) (channels_slots c)
 channels_heads c g = go c.to c.names g
   where
@@ -132,12 +152,15 @@ channels_heads c g = go c.to c.names g
 
 -- assign
 
+-- channels that may be missing before a semicolon
 abbrev target_form : Form (Option ChannelsTree)
 target_form = maybe_form channels_form (λ k. k ≡ Semicolon)
 
+-- what is assigned, up to its semicolon
 abbrev pub assign_form : Form AssignTree
 assign_form = record { slots = assign_slots; good = IsAssign; follow = λ _ _. Unit {0} }
 
+-- the reader of channels that may be missing, and of the semicolon, is right
 right_targets : Right (before_form target_form Semicolon) (λ _. before (maybe starts_channels channels_at) Semicolon)
 right_targets = right_before target_form (λ _. maybe starts_channels channels_at) Semicolon
     (right_maybe starts_channels channels_form (λ k. k ≡ Semicolon) (λ _. channels_at) right_channels (λ _ c g. channels_heads c g) (λ k e. ap starts_channels e))
@@ -147,21 +170,26 @@ right_targets = right_before target_form (λ _. maybe starts_channels channels_a
     ends None = refl
     ends (Some c) = tt
 
+-- no token that begins channels is an opening bracket
 channels_no_bracket : (k : Kind) → starts_channels k ≡ true → is OpenBracket k ≡ false
 channels_no_bracket OpenBracket e = absurd (true≢false (sym e))
 channels_no_bracket _ e = refl
 
+-- slots may follow a part where what they begin with may do so
 pub heads_links : (P Q F : Kind → Type 0) (ss more : List Slot) → Heads P ss → ((k : Kind) → P k → Q k) → Links Q F (ss ++ more)
 heads_links P Q F [] more h f = absurd h
 heads_links P Q F (s ∷ ss) more h f = f _ h
 
+-- channels or the semicolon after them may follow a place
 targets_link : (o : Option ChannelsTree) → IfThere (λ c. AreNames c.names) o → Links (λ k. is OpenBracket k ≡ false) (λ _. Unit {0}) ((before_form target_form Semicolon).slots o)
 targets_link None g = refl
 targets_link (Some c) g = heads_links (λ k. starts_channels k ≡ true) (λ k. is OpenBracket k ≡ false) (λ _. Unit {0}) (channels_slots c) _ (channels_heads c g) channels_no_bracket
 
+-- a place, its channels and the semicolon
 abbrev assigned_form : Form (PlaceTree × Option ChannelsTree)
 assigned_form = both_form place_form (λ _. before_form target_form Semicolon)
 
+-- the reader of assignments of channels is right
 pub right_assign : Right assign_form assign_at
 unfolding assign_at
 right_assign = right_made (both_form (one_form (is Assign)) (λ _. assigned_form)) assign_form (λ x. record { word = x.0; place = x.1.0; channels = x.1.1 })
@@ -173,28 +201,34 @@ right_assign = right_made (both_form (one_form (is Assign)) (λ _. assigned_form
 
 -- monitor
 
+-- a monitored place, between its word and the semicolon
 abbrev pub monitor_form : Form PlaceTree
 monitor_form = between_form Monitor place_form Semicolon
 
+-- the reader of monitored places is right
 pub right_monitor : Right monitor_form monitor_at
 unfolding monitor_at
 right_monitor = right_between Monitor place_form place_at Semicolon right_place (λ _ _ _. refl)
 
 -- sync
 
+-- the name of an event flag, with `to` or without
 abbrev flag_form : Form FlagTree
 flag_form = record { slots = flag_slots; good = λ _ f. f.name.kind ≡ Name; follow = λ _ _. Unit {0} }
 
+-- a name may follow `to`, and a missing one
 name_link : (b : Bool) (t : Token) → is Name t.kind ≡ true → Links (to_form.follow b) (λ _. Unit {0}) ((one_form (is Name)).slots t)
 name_link true t g = tt
 name_link false t g = subst (λ k. is To k ≡ false) (sym (is_true Name t.kind g)) refl
 
+-- the reader of an event flag is right
 right_flag : Right flag_form (λ _. flag_at)
 unfolding flag_at
 right_flag = right_made (both_form to_form (λ _. one_form (is Name))) flag_form (λ x. record { to = x.0; name = x.1 }) (λ _. both (whether To) (λ _. one (is Name)))
     (right_both to_form (λ _. one_form (is Name)) (λ _. whether To) (λ _ _. one (is Name)) right_to (λ _. right_kind Name) (λ _ b t _ g. name_link b t g))
     (λ n x g. (is_true Name x.1.kind g.1, refl)) (λ n f g. ((f.to, f.name), (tt, true_is Name f.name.kind g), refl)) (λ n x g k f. tt)
 
+-- an event flag begins with `to` or a name
 flag_heads : (f : FlagTree) → f.name.kind ≡ Name → Heads (λ k. starts_flag k ≡ true) (flag_slots f)
 flag_heads f g = go f.to
   where
@@ -202,19 +236,24 @@ flag_heads f g = go f.to
     go true = refl
     go false = ap starts_flag g
 
+-- no token that begins an event flag is an opening bracket
 flag_no_bracket : (k : Kind) → starts_flag k ≡ true → is OpenBracket k ≡ false
 flag_no_bracket OpenBracket e = absurd (true≢false (sym e))
 flag_no_bracket _ e = refl
 
+-- an event flag may follow a place
 flag_link : (F : Kind → Type 0) (f : FlagTree) (more : List Slot) → f.name.kind ≡ Name → Links (λ k. is OpenBracket k ≡ false) F (flag_slots f ++ more)
 flag_link F f more g = heads_links (λ k. starts_flag k ≡ true) (λ k. is OpenBracket k ≡ false) F (flag_slots f) more (flag_heads f g) flag_no_bracket
 
+-- a place and the event flag that it is synced to
 abbrev synced_form : Form (PlaceTree × FlagTree)
 synced_form = both_form place_form (λ _. flag_form)
 
+-- a place synced to an event flag, up to the semicolon
 abbrev pub sync_form : Form SyncTree
 sync_form = record { slots = sync_slots; good = IsSync; follow = λ _ _. Unit {0} }
 
+-- the reader of synced places is right
 pub right_sync : Right sync_form sync_at
 unfolding sync_at
 right_sync = right_made (between_form Sync synced_form Semicolon) sync_form (λ x. record { place = x.0; flag = x.1 }) (λ n. between Sync (both (place_at n) (λ _. flag_at)) Semicolon)
@@ -227,15 +266,19 @@ right_sync = right_made (between_form Sync synced_form Semicolon) sync_form (λ 
 
 -- syncq
 
+-- an event flag that may be missing before a whole number or a semicolon
 abbrev queue_flag_form : Form (Option FlagTree)
 queue_flag_form = maybe_form flag_form (λ k. (k ≡ Whole) ⊎ (k ≡ Semicolon))
 
+-- the size of a queue, which may be missing before a semicolon
 abbrev queue_size_form : Form (Option Token)
 queue_size_form = maybe_form (one_form (is Whole)) (λ k. k ≡ Semicolon)
 
+-- what holds of a whole number and of a semicolon holds of what ends a flag of a queue
 queue_end : (P : Kind → Type 0) (k : Kind) → P Whole → P Semicolon → (k ≡ Whole) ⊎ (k ≡ Semicolon) → P k
 queue_end P k a b e = elim e [ inl h ↦ subst P (sym h) a | inr h ↦ subst P (sym h) b ]
 
+-- the reader of the size of a queue, with the semicolon, is right
 right_queue_size : Right (before_form queue_size_form Semicolon) (λ _. before (maybe (is Whole) (one (is Whole))) Semicolon)
 right_queue_size = right_before queue_size_form (λ _. maybe (is Whole) (one (is Whole))) Semicolon
     (right_maybe (is Whole) (one_form (is Whole)) (λ k. k ≡ Semicolon) (λ _. one (is Whole)) (right_kind Whole) (λ _ _ g. g) (λ k e. subst (λ z. is Whole z ≡ false) (sym e) refl))
@@ -245,40 +288,50 @@ right_queue_size = right_before queue_size_form (λ _. maybe (is Whole) (one (is
     ends None = refl
     ends (Some t) = tt
 
+-- the reader of a queue's event flag, which may be missing, is right
 right_queue_flag : Right queue_flag_form (λ _. maybe starts_flag flag_at)
 right_queue_flag = right_maybe starts_flag flag_form (λ k. (k ≡ Whole) ⊎ (k ≡ Semicolon)) (λ _. flag_at) right_flag (λ _ f g. flag_heads f g) (λ k e. queue_end (λ z. starts_flag z ≡ false) k refl refl e)
 
+-- the size of a queue or the semicolon may follow the flag, or the place where it is missing
 size_link : (n : ℕ) (o : Option FlagTree) (size : Option Token) → queue_size_form.good n size → Links (queue_flag_form.follow o) (λ _. Unit {0}) ((before_form queue_size_form Semicolon).slots size)
 size_link n None None g = inr refl
 size_link n None (Some t) g = inl (is_true Whole t.kind g)
 size_link n (Some f) size g = links_any (λ _. Unit {0}) (λ _. Unit {0}) ((before_form queue_size_form Semicolon).slots size) (λ _. tt)
 
+-- the flag and the size of a queue, and the semicolon
 abbrev queue_tail_form : Form (Option FlagTree × Option Token)
 queue_tail_form = both_form queue_flag_form (λ _. before_form queue_size_form Semicolon)
 
+-- the reader of a queue's flag, size and semicolon is right
 right_queue_tail : Right queue_tail_form (λ _. both (maybe starts_flag flag_at) (λ _. before (maybe (is Whole) (one (is Whole))) Semicolon))
 right_queue_tail = right_both queue_flag_form (λ _. before_form queue_size_form Semicolon) (λ _. maybe starts_flag flag_at) (λ _ _. before (maybe (is Whole) (one (is Whole))) Semicolon) right_queue_flag (λ _. right_queue_size)
     (λ n o size _ g. size_link n o size g)
 
+-- the flag, the size or the semicolon of a queue may follow the place
 queue_link : (n : ℕ) (x : Option FlagTree × Option Token) → queue_tail_form.good n x → Links (λ k. is OpenBracket k ≡ false) (λ _. Unit {0}) (queue_tail_form.slots x)
 queue_link n (Some f, size) g = flag_link (λ _. Unit {0}) f ((before_form queue_size_form Semicolon).slots size) g.0
 queue_link n (None, None) g = refl
 queue_link n (None, Some t) g = subst (λ k. is OpenBracket k ≡ false) (sym (is_true Whole t.kind g.1)) refl
 
+-- all of a queue after its word
 abbrev queue_rest_form : Form (PlaceTree × (Option FlagTree × Option Token))
 queue_rest_form = both_form place_form (λ _. queue_tail_form)
 
+-- a queue of a place, up to the semicolon
 abbrev pub queue_form : Form QueueTree
 queue_form = record { slots = queue_slots; good = IsQueue; follow = λ _ _. Unit {0} }
 
+-- a token, if there, that passes the test for a whole number is one
 whole_is : (o : Option Token) → IfThere (λ t. is Whole t.kind ≡ true) o → IfThere (λ t. t.kind ≡ Whole) o
 whole_is None g = g
 whole_is (Some t) g = is_true Whole t.kind g
 
+-- a whole number, if there, passes the test for one
 is_whole : (o : Option Token) → IfThere (λ t. t.kind ≡ Whole) o → IfThere (λ t. is Whole t.kind ≡ true) o
 is_whole None g = g
 is_whole (Some t) g = true_is Whole t.kind g
 
+-- the reader of queues is right
 pub right_queue : Right queue_form queue_at
 unfolding queue_at
 right_queue = right_made (both_form (one_form (is SyncQueue)) (λ _. queue_rest_form)) queue_form (λ x. record { word = x.0; place = x.1.0; flag = x.1.1.0; size = x.1.1.1 })
@@ -291,21 +344,26 @@ right_queue = right_made (both_form (one_form (is SyncQueue)) (λ _. queue_rest_
 
 -- evflag
 
+-- the names of event flags, between their word and the semicolon
 abbrev pub event_flags_form : Form (List Token)
 event_flags_form = between_form EventFlag (tokens_form Name) Semicolon
 
+-- the reader of declared event flags is right
 pub right_event_flags : Right event_flags_form (λ _. event_flags_at)
 unfolding event_flags_at
 right_event_flags = right_between EventFlag (tokens_form Name) (λ _. flags_at) Semicolon right_flags (λ _ _ _. refl)
 
 -- options
 
+-- an option, up to its semicolon
 abbrev pub setting_form : Form SettingTree
 setting_form = record { slots = setting_slots; good = λ _. IsSetting; follow = λ _ _. Unit {0} }
 
+-- the sign and the name of an option, and the semicolon
 abbrev signed_form : Form (Token × Token)
 signed_form = both_form (one_form is_sign) (λ _. before_form (one_form (is Name)) Semicolon)
 
+-- the reader of options is right
 pub right_setting : Right setting_form (λ _. setting_at)
 unfolding setting_at
 right_setting = right_made (behind_form OptionWord signed_form) setting_form (λ x. record { sign = x.0; name = x.1 }) (λ _. behind OptionWord (both (one is_sign) (λ _. before (one (is Name)) Semicolon)))
@@ -316,41 +374,51 @@ right_setting = right_made (behind_form OptionWord signed_form) setting_form (λ
 
 -- all definitions
 
+-- a queue or event flags
 abbrev queue_or_flags : Form (QueueTree ⊎ List Token)
 queue_or_flags = either_form queue_form event_flags_form
 
+-- a synced place, a queue or event flags
 abbrev from_sync : Form (SyncTree ⊎ (QueueTree ⊎ List Token))
 from_sync = either_form sync_form queue_or_flags
 
+-- all definitions but declarations and assignments of channels
 abbrev from_monitor : Form (PlaceTree ⊎ (SyncTree ⊎ (QueueTree ⊎ List Token)))
 from_monitor = either_form monitor_form from_sync
 
+-- all definitions but declarations
 abbrev from_assign : Form (AssignTree ⊎ (PlaceTree ⊎ (SyncTree ⊎ (QueueTree ⊎ List Token))))
 from_assign = either_form assign_form from_monitor
 
+-- all forms of definitions
 abbrev any_form : Form FormOfDefinition
 any_form = either_form declaration_form from_assign
 
--- the first word of all forms but declarations
+-- a condition that the words `monitor`, `sync`, `syncq` and `evflag` pass
 abbrev Words : (Kind → Type 0) → Type 0
 Words P = P Monitor × P Sync × P SyncQueue × P EventFlag
 
+-- a queue or event flags begin with `syncq` or `evflag`
 queue_heads : (n : ℕ) (P : Kind → Type 0) (x : QueueTree ⊎ List Token) → P SyncQueue → P EventFlag → queue_or_flags.good n x → Heads P (queue_or_flags.slots x)
 queue_heads n P (inl q) a b g = subst P (sym g.0) a
 queue_heads n P (inr names) a b g = b
 
+-- a synced place, a queue or event flags begin with the word of one of them
 sync_heads : (n : ℕ) (P : Kind → Type 0) (x : SyncTree ⊎ (QueueTree ⊎ List Token)) → P Sync → P SyncQueue → P EventFlag → from_sync.good n x → Heads P (from_sync.slots x)
 sync_heads n P (inl s) a b c g = a
 sync_heads n P (inr x) a b c g = queue_heads n P x b c g
 
+-- a definition from `monitor` on begins with its word
 monitor_heads : (n : ℕ) (P : Kind → Type 0) (x : PlaceTree ⊎ (SyncTree ⊎ (QueueTree ⊎ List Token))) → Words P → from_monitor.good n x → Heads P (from_monitor.slots x)
 monitor_heads n P (inl p) w g = w.0
 monitor_heads n P (inr x) w g = sync_heads n P x w.1 w.2 w.3 g
 
+-- a definition that is no declaration begins with its word
 assign_heads : (n : ℕ) (P : Kind → Type 0) (x : AssignTree ⊎ (PlaceTree ⊎ (SyncTree ⊎ (QueueTree ⊎ List Token)))) → P Assign → Words P → from_assign.good n x → Heads P (from_assign.slots x)
 assign_heads n P (inl a) w v g = subst P (sym g.0) w
 assign_heads n P (inr x) w v g = monitor_heads n P x v g
 
+-- the choice between the readers of all definitions is right
 right_any : Right any_form (λ n. either starts_declaration (declaration_at n) (either (is Assign) (assign_at n) (either (is Monitor) (monitor_at n) (either (is Sync) (sync_at n) (either (is SyncQueue) (queue_at n) event_flags_at)))))
 right_any =
     right_either starts_declaration declaration_form from_assign declaration_at (λ n. either (is Assign) (assign_at n) (either (is Monitor) (monitor_at n) (either (is Sync) (sync_at n) (either (is SyncQueue) (queue_at n) event_flags_at)))) right_declaration
@@ -363,9 +431,11 @@ right_any =
     (λ _ a g. true_is Assign a.word.kind g.0) (λ n x g. avoids_heads (is Assign) (from_monitor.follow x) (from_monitor.slots x) (monitor_heads n (λ k. is Assign k ≡ false) x (refl, refl, refl, refl) g)))
     declaration_heads (λ n x g. avoids_heads starts_declaration (from_assign.follow x) (from_assign.slots x) (assign_heads n (λ k. starts_declaration k ≡ false) x refl (refl, refl, refl, refl) g))
 
+-- a definition that is no option, which anything may follow
 abbrev pub definition_form : Form DefinitionTree
 definition_form = record { slots = definition_slots; good = IsDefinition; follow = λ _ _. Unit {0} }
 
+-- any kind may follow each form of a definition
 any_free : (x : FormOfDefinition) (k : Kind) → any_form.follow x k
 any_free (inl d) k = tt
 any_free (inr (inl a)) k = tt
@@ -374,6 +444,7 @@ any_free (inr (inr (inr (inl s)))) k = tt
 any_free (inr (inr (inr (inr (inl q))))) k = tt
 any_free (inr (inr (inr (inr (inr names))))) k = tt
 
+-- the reader of definitions is right
 pub right_definition : Right definition_form definition_at
 unfolding definition_at
 right_definition = right_made any_form definition_form definition (λ n. either starts_declaration (declaration_at n) (either (is Assign) (assign_at n) (either (is Monitor) (monitor_at n) (either (is Sync) (sync_at n) (either (is SyncQueue) (queue_at n) event_flags_at)))))
@@ -396,6 +467,7 @@ right_definition = right_made any_form definition_form definition (λ n. either 
     onto n (event_flags names) g = (inr (inr (inr (inr (inr names)))), is_some Name names g, refl)
     onto n (setting o) g = absurd g
 
+-- what begins a declaration begins a definition
 declaration_starts : (k : Kind) → starts_declaration k ≡ true → starts_definition k ≡ true
 declaration_starts Assign e = refl
 declaration_starts Monitor e = refl
@@ -404,14 +476,17 @@ declaration_starts SyncQueue e = refl
 declaration_starts EventFlag e = refl
 declaration_starts _ e = e
 
+-- what begins a definition begins a definition or an option
 definition_starts : (k : Kind) → starts_definition k ≡ true → starts_part k ≡ true
 definition_starts OptionWord e = refl
 definition_starts _ e = e
 
+-- what begins a definition is not the word `option`
 no_option : (k : Kind) → starts_definition k ≡ true → is OptionWord k ≡ false
 no_option OptionWord e = absurd (true≢false (sym e))
 no_option _ e = refl
 
+-- a definition begins with a word that begins definitions
 pub definition_heads : (n : ℕ) (d : DefinitionTree) → IsDefinition n d → Heads (λ k. starts_definition k ≡ true) (definition_slots d)
 definition_heads n (declaration d) g = declaration_starts d.type_name.word.kind (declaration_heads n d g)
 definition_heads n (assign a) g = ap starts_definition g.0
@@ -423,13 +498,16 @@ definition_heads n (setting o) g = absurd g
 
 -- with options among them
 
+-- a definition or an option, which anything may follow
 abbrev pub part_form : Form DefinitionTree
 part_form = record { slots = definition_slots; good = IsPart; follow = λ _ _. Unit {0} }
 
+-- slots whose first passes one condition pass a weaker one
 heads_more : (P Q : Kind → Type 0) (ss : List Slot) → ((k : Kind) → P k → Q k) → Heads P ss → Heads Q ss
 heads_more P Q [] f h = h
 heads_more P Q (s ∷ ss) f h = f _ h
 
+-- the reader of definitions and options is right
 pub right_part : Right part_form part_at
 unfolding part_at
 right_part = right_made (either_form setting_form definition_form) part_form part (λ n. either (is OptionWord) setting_at (definition_at n))
@@ -460,6 +538,7 @@ right_part = right_made (either_form setting_form definition_form) part_form par
     follows n (inl o) g k f = tt
     follows n (inr d) g k f = tt
 
+-- a definition or an option begins with a word that begins either
 pub part_heads : (n : ℕ) (d : DefinitionTree) → IsPart n d → Heads (λ k. starts_part k ≡ true) (definition_slots d)
 part_heads n (setting o) g = refl
 part_heads n (declaration d) g = definition_starts d.type_name.word.kind (definition_heads n (declaration d) g)
@@ -471,27 +550,34 @@ part_heads n (event_flags names) g = refl
 
 -- rows of them
 
+-- a row of definitions, which the kinds of P may follow
 abbrev pub definitions_form : (Kind → Type 0) → Form (List DefinitionTree)
 definitions_form P = many_form definition_form P
 
+-- the reader of rows of definitions is right where what follows begins none
 pub right_definitions : (P : Kind → Type 0) → ((k : Kind) → P k → starts_definition k ≡ false) → Right (definitions_form P) definitions_at
 unfolding definitions_at
 right_definitions P stop = right_many starts_definition definition_form P definition_at right_definition definition_heads stop (λ _ _ _ _ _. tt) (λ _ _ _ _ _. tt)
 
+-- a row of definitions and options, which the kinds of P may follow
 abbrev pub parts_form : (Kind → Type 0) → Form (List DefinitionTree)
 parts_form P = many_form part_form P
 
+-- the reader of rows of definitions and options is right where what follows begins none
 pub right_parts : (P : Kind → Type 0) → ((k : Kind) → P k → starts_part k ≡ false) → Right (parts_form P) parts_at
 unfolding parts_at
 right_parts P stop = right_many starts_part part_form P part_at right_part part_heads stop (λ _ _ _ _ _. tt) (λ _ _ _ _ _. tt)
 
--- less is left behind
+-- fewer tokens are left after each
 
+-- fewer tokens are left after a definition
 pub definition_less : (n : ℕ) (ts rest : List Token) (d : DefinitionTree) → definition_at n ts ≡ Ok (d, rest) → length rest < length ts
 definition_less n ts rest d h = right_less definition_form definition_at right_definition (λ n d g. heads_more (λ k. starts_definition k ≡ true) (λ _. Unit {0}) (definition_slots d) (λ _ _. tt) (definition_heads n d g)) n ts rest d h
 
+-- fewer tokens are left after a definition or an option
 pub part_less : (n : ℕ) (ts rest : List Token) (d : DefinitionTree) → part_at n ts ≡ Ok (d, rest) → length rest < length ts
 part_less n ts rest d h = right_less part_form part_at right_part (λ n d g. heads_more (λ k. starts_part k ≡ true) (λ _. Unit {0}) (definition_slots d) (λ _ _. tt) (part_heads n d g)) n ts rest d h
 
+-- fewer tokens are left after a comma and a token
 pub next_token_less : (K : Kind) (ts rest : List Token) (t : Token) → behind Comma (one (is K)) ts ≡ Ok (t, rest) → length rest < length ts
 next_token_less K ts rest t h = right_less (behind_form Comma (one_form (is K))) (λ _. behind Comma (one (is K))) (right_behind Comma (one_form (is K)) (λ _. one (is K)) (right_kind K)) (λ _ _ _. tt) 0 ts rest t h

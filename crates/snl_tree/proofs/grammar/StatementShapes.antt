@@ -36,6 +36,7 @@ kind_form PlusPlus = 8
 kind_form MinusMinus = 8
 kind_form _ = 9
 
+-- the number of the form of a statement
 abbrev pub form : StatementTree → ℕ
 form (nested b) = 0
 form empty = 1
@@ -48,6 +49,7 @@ form (continue_loop t) = 6
 form (change_state t x) = 7
 form (expression e) = 8
 
+-- what can begin an expression begins form 8
 opens_form : (k : Kind) → can_open k ≡ true → kind_form k ≡ 8
 opens_form Whole e = refl
 opens_form Decimal e = refl
@@ -62,6 +64,7 @@ opens_form PlusPlus e = refl
 opens_form MinusMinus e = refl
 opens_form _ e = absurd (true≢false (sym e))
 
+-- what begins one of the forms 0 to 8 opens a statement
 form_opens : (k : Kind) → kind_form k ≤ 8 → opens_statement k ≡ true
 form_opens OpenBrace e = refl
 form_opens Semicolon e = refl
@@ -84,6 +87,7 @@ form_opens PlusPlus e = refl
 form_opens MinusMinus e = refl
 form_opens _ e = absurd (omega arith)
 
+-- the number of the form of a statement is 8 at most
 pub form_most : (s : StatementTree) → form s ≤ 8
 form_most (nested b) = omega arith
 form_most empty = omega arith
@@ -96,35 +100,42 @@ form_most (continue_loop t) = omega arith
 form_most (change_state t x) = omega arith
 form_most (expression e) = omega arith
 
--- the sign or word of each form but the last
+-- the opening brace alone begins form 0
 pub brace_form : (k : Kind) → is OpenBrace k ≡ nat_eq (kind_form k) 0
 brace_form OpenBrace = refl
 brace_form _ = refl
 
+-- a semicolon alone begins form 1
 pub semicolon_form : (k : Kind) → is Semicolon k ≡ nat_eq (kind_form k) 1
 semicolon_form Semicolon = refl
 semicolon_form _ = refl
 
+-- the word `if` alone begins form 2
 pub if_form : (k : Kind) → is If k ≡ nat_eq (kind_form k) 2
 if_form If = refl
 if_form _ = refl
 
+-- the word `while` alone begins form 3
 pub while_form : (k : Kind) → is While k ≡ nat_eq (kind_form k) 3
 while_form While = refl
 while_form _ = refl
 
+-- the word `for` alone begins form 4
 pub for_form : (k : Kind) → is For k ≡ nat_eq (kind_form k) 4
 for_form For = refl
 for_form _ = refl
 
+-- the word `break` alone begins form 5
 pub break_form : (k : Kind) → is Break k ≡ nat_eq (kind_form k) 5
 break_form Break = refl
 break_form _ = refl
 
+-- the word `continue` alone begins form 6
 pub continue_form : (k : Kind) → is Continue k ≡ nat_eq (kind_form k) 6
 continue_form Continue = refl
 continue_form _ = refl
 
+-- the word `state` alone begins form 7
 pub state_form : (k : Kind) → is State k ≡ nat_eq (kind_form k) 7
 state_form State = refl
 state_form _ = refl
@@ -142,16 +153,19 @@ statement_heads P l n (if_else c s e) f g = f If refl
 statement_heads P l n (while_loop t c s) f g = f t.kind (ap kind_form g.0)
 statement_heads P l n (for_loop t h s) f g = f t.kind (ap kind_form g.0)
 
+-- a well-formed statement begins with a token that opens one
 pub heads_open : (l n : ℕ) (s : StatementTree) → IsWellStatement l s n → Heads (λ k. opens_statement k ≡ true) (statement_slots s)
 heads_open l n s g = statement_heads (λ k. opens_statement k ≡ true) l n s (λ k e. form_opens k (let h = form_most s in omega arith)) g
 
 -- what is well formed stays so where more depth is left
 
+-- what holds one deeper holds so where more depth is left
 under_more : (P Q : ℕ → Type 0) (n : ℕ) → ((m : ℕ) → P m → Q (suc m)) → Under n P → Under (suc n) Q
 under_more P Q zero f h = absurd h
 under_more P Q (suc n) f h = f n h
 
 mutual
+  -- a well-formed statement stays so where the limit and the depth are greater
   pub statement_more : (l n : ℕ) (s : StatementTree) → IsWellStatement l s n → IsWellStatement (suc l) s (suc n)
   statement_more l n (nested b) g = block_more l n b g
   statement_more l n empty g = tt
@@ -164,9 +178,11 @@ mutual
   statement_more l n (while_loop t c s) g = (g.0, under_more (λ m. IsExpr l c × IsWellStatement l s m) (λ m. IsExpr (suc l) c × IsWellStatement (suc l) s m) n (λ m h. ((h.0.0, well_more c l h.0.1), statement_more l m s h.1)) g.1)
   statement_more l n (for_loop t h s) g = (g.0, under_more (λ m. IsHeader l h × IsWellStatement l s m) (λ m. IsHeader (suc l) h × IsWellStatement (suc l) s m) n (λ m k. (right_header.raise l h k.0, statement_more l m s k.1)) g.1)
 
+  -- well-formed statements stay so where the limit and the depth are greater
   statements_more : (l n : ℕ) (all : StatementList) → AreWellStatements l all n → AreWellStatements (suc l) all (suc n)
   statements_more l n no_statements g = tt
   statements_more l n (statement s rest) g = (statement_more l n s g.0, statements_more l n rest g.1)
 
+  -- a well-formed block stays so where the limit and the depth are greater
   pub block_more : (l n : ℕ) (b : BlockTree) → IsWellBlock l b n → IsWellBlock (suc l) b (suc n)
   block_more l n (block declared all) g = under_more (λ m. Each (IsDeclaration l) declared × AreWellStatements l all m) (λ m. Each (IsDeclaration (suc l)) declared × AreWellStatements (suc l) all m) n (λ m h. (right_declarations.raise l declared h.0, statements_more l m all h.1)) g

@@ -9,7 +9,7 @@ use Rattle.snl_tree.proofs.spelling.Spelling.{spelled_length}
 use Rattle.snl_tree.proofs.spelling.Laws.{Shape, Front, Sound, Reads, ends}
 use Rattle.snl_tree.proofs.spelling.Growth.{Grown, Grows}
 
--- the tokens up to rest
+-- tokens that spell slots before a rest spell them alone without it
 pub spelled_take : (front : List Slot) (ts rest : List Token) → Spelled front ts rest → Spelled front (take (length ts - length rest) ts) []
 spelled_take [] ts rest h = let e : length ts - length rest ≡ 0 = let l = ap length h in omega arith in ap (λ n. take n ts) e
 spelled_take (s ∷ front) [] rest h = absurd h
@@ -18,7 +18,7 @@ spelled_take (s ∷ front) (t ∷ ts) rest h =
     let e : suc (length ts - length rest) ≡ suc (length ts) - length rest = omega arith in
     subst (λ n. Spelled (s ∷ front) (take n (t ∷ ts)) []) e (h.0, spelled_take front ts rest h.1)
 
--- and those behind
+-- where a prefix of the tokens spells slots, all of them spell those and then the tokens after it
 pub spelled_drop : (front : List Slot) (k : ℕ) (ts : List Token) → k ≤ length ts → Spelled front (take k ts) [] → Spelled front ts (drop k ts)
 spelled_drop [] zero ts b h = refl
 spelled_drop [] (suc k) [] b h = absurd (omega arith)
@@ -27,21 +27,24 @@ spelled_drop (s ∷ front) zero ts b h = absurd h
 spelled_drop (s ∷ front) (suc k) [] b h = absurd (omega arith)
 spelled_drop (s ∷ front) (suc k) (t ∷ ts) b h = (h.0, spelled_drop front k ts (omega arith) h.1)
 
--- a shorter front
+-- a shorter prefix of the tokens spells a prefix of the slots
 pub spelled_cut : (front : List Slot) (k : ℕ) (ts rest : List Token) → k + length rest ≤ length ts → Spelled front ts rest → Spelled (take k front) (take k ts) []
 spelled_cut front zero ts rest b h = refl
 spelled_cut [] (suc k) ts rest b h = absurd (let l = ap length h in omega arith)
 spelled_cut (s ∷ front) (suc k) [] rest b h = absurd h
 spelled_cut (s ∷ front) (suc k) (t ∷ ts) rest b h = (h.0, spelled_cut front k ts rest (omega arith) h.1)
 
+-- a list is its prefix of a length and what comes after that
 pub take_drop : (k : ℕ) (xs : List Slot) → xs ≡ take k xs ++ drop k xs
 take_drop zero xs = refl
 take_drop (suc k) [] = refl
 take_drop (suc k) (x ∷ xs) = ap (λ z. x ∷ z) (take_drop k xs)
 
+-- what a sort of trees looks like within a limit
 abbrev pub shape_of : {A : Type 0} → Sort A → (A → Kind → Type 0) → ℕ → Shape A
 shape_of S follow n = record { slots = S.slots; good = S.within n; follow = follow }
 
+-- tokens that spell a prefix of a tree's spelling begin the tree
 front_begins : {A : Type 0} (S : Sort A) (follow : A → Kind → Type 0) (n : ℕ) (ts rest : List Token) → Front (shape_of S follow n) ts rest → Begins S n (take (length ts - length rest) ts)
 front_begins S follow n ts rest f = record { whole = f.whole; is = f.good; front = f.front; back = f.back; halves = f.halves; fits = spelled_take f.front ts rest f.fits }
 
@@ -50,13 +53,13 @@ module _ {A : Type 0} (S : Sort A) (follow : A → Kind → Type 0) (read : ℕ 
     (grows : (n k : ℕ) → Grows (read n) (read (suc n + k)))
     (some : (n : ℕ) → (a : A) × S.within n a)
     (raise : (n k : ℕ) (a : A) → S.within n a → S.within (k + n) a) where
-  -- the tokens before the place where reading stopped
+  -- the tokens before the place where reading stopped begin a tree
   before_of : (n : ℕ) (ts : List Token) (r : Read A) → Sound (shape_of S follow n) ts r → Begins S n (take (length ts - length (left r)) ts)
   before_of n ts (Ok x) h = front_begins S follow n ts x.1 record { whole = x.0; good = h.0; front = S.slots x.0; back = []; halves = sym (append-nil _); fits = h.1 }
   before_of n ts (Err f) (inl e) = front_begins S follow n ts (place f) record { whole = (some n).0; good = (some n).1; front = []; back = S.slots (some n).0; halves = refl; fits = e }
   before_of n ts (Err f) (inr h) = front_begins S follow n ts (place f) h
 
-  -- what begins a tree is not stopped in
+  -- reading stops nowhere inside of tokens that begin a tree
   not_past : (n : ℕ) (ts : List Token) (k : ℕ) → k < length ts → Begins S n (take (suc k) ts) → length (left (read n ts)) + suc k ≤ length ts
   not_past n ts k h b =
       let d = spelled_drop b.front (suc k) ts h b.fits in
@@ -77,9 +80,11 @@ module _ {A : Type 0} (S : Sort A) (follow : A → Kind → Type 0) (read : ℕ 
   above : (limit n : ℕ) → (m : ℕ) × (suc limit + m ≡ suc limit + n)
   above limit n = (n, refl)
 
+  -- a tree within any limit is so within one above the given limit
   raised : (limit n : ℕ) (a : A) → S.within n a → S.within (suc limit + n) a
   raised limit n a g = raise n (suc limit) a g
 
+  -- where reading stops and nothing is too deep, the token is unexpected
   pub unexpected : (limit : ℕ) (ts : List Token) (r : Read A) → read limit ts ≡ r → ((rest : List Token) → r ≡ Err (Deep rest) → ⊥) → ((a : A) → r ≡ Ok (a, []) → ⊥) → IsUnexpected S limit ts (length ts - length (left r))
   unexpected limit ts r e not_deep not_all = record {
     within = omega arith;
@@ -95,6 +100,7 @@ module _ {A : Type 0} (S : Sort A) (follow : A → Kind → Type 0) (read : ℕ 
         not_all a (sym s ∙ p);
   }
 
+  -- where reading stops at a sign that is too deep, the token is nested too deep
   pub too_deep : (limit : ℕ) (ts rest : List Token) → read limit ts ≡ Err (Deep rest) → IsTooDeep S limit ts (length ts - length rest)
   too_deep limit ts rest e =
       let g : length (left (read (suc limit + 0) ts)) < length rest = subst (λ z. Grown z (read (suc limit + 0) ts)) e ((grows limit 0).more ts) in

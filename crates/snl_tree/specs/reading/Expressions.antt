@@ -96,7 +96,7 @@ abbrev pub chain_tree : ExprTree → List (Token × ExprTree) → ExprTree
 chain_tree e [] = e
 chain_tree e (x ∷ xs) = chain e (term_list (x ∷ xs))
 
--- the operators of one level, and the operands behind them
+-- the operators of one level, and the operands after them
 unfoldable pub terms_at : ℕ → Reader ExprTree → Reader (List (Token × ExprTree))
 terms_at r operand = many (is_operator r) (both (one (is_operator r)) (λ _. operand))
 
@@ -125,7 +125,7 @@ is_unary (conditional c a b) = false
 is_unary (assignment e op f) = false
 is_unary _ = true
 
--- an assignment operator behind a unary
+-- an assignment operator after a unary
 abbrev pub is_assignment : ExprTree → Kind → Bool
 is_assignment e k = is_unary e && is_operator 14 k
 
@@ -165,7 +165,7 @@ abbrev pub here : List Token → ℕ
 here [] = 16
 here (t ∷ ts) = looseness t.kind
 
--- the operators of a level behind a tree, and their operands
+-- the operators of a level after a tree, and their operands
 unfoldable pub chained : ℕ → ℕ → ExprTree → List Token → Read ExprTree
 chained n r e ts = terms_at r (level_at (inside n) (r - 1)) ts >>= λ x. Ok (chain_tree e x.0, x.1)
 
@@ -174,7 +174,7 @@ unfoldable pub climbed : ℕ → ℕ → ℕ → ExprTree → List Token → Rea
 climbed n tightness zero e ts = Ok (e, ts)
 climbed n tightness (suc k) e ts = climbed n tightness k e ts >>= λ x. chained n (suc (tightness + k)) x.0 x.1
 
--- what stands behind a name
+-- what stands after a name
 unfoldable pub named_rest : ℕ → Token → List Token → Read ExprTree
 named_rest n t ts = elim (starts (is OpenBracket) ts) [
   | true ↦ (opened n (is OpenBracket) (one (is OpenBracket)) ts >>= λ x. level_at (inside (n - 1)) 15 x.1 >>= λ y. sign CloseBracket y.1 >>= λ z. Ok (element t x.0 y.0, z.1))
@@ -184,25 +184,25 @@ named_rest n t ts = elim (starts (is OpenBracket) ts) [
   ]
 ]
 
--- `++` or `--` behind
+-- `++` or `--` after an expression
 unfoldable pub stepped : ExprTree → List Token → Read ExprTree
 stepped e ts = elim (starts is_step ts) [ true ↦ (one is_step ts >>= λ x. Ok (postfix e x.0, x.1)) | false ↦ Ok (e, ts) ]
 
--- what stands behind a condition
+-- what stands after a condition
 unfoldable pub conditional_rest : ℕ → ExprTree → List Token → Read ExprTree
 conditional_rest n c ts = elim (starts (is Question) ts) [
   | true ↦ (opened n (is Question) (sign Question) ts >>= λ q. level_at (inside (n - 1)) 15 q.1 >>= λ a. sign Colon a.1 >>= λ s. conditional_at (inside (n - 1)) s.1 >>= λ b. Ok (conditional c a.0 b.0, b.1))
   | false ↦ Ok (c, ts)
 ]
 
--- what stands behind a target
+-- what stands after a target
 unfoldable pub assigned_rest : ℕ → ExprTree → List Token → Read ExprTree
 assigned_rest n e ts = elim (is_unary e && starts (is_operator 14) ts) [
   | true ↦ (opened n (is_operator 14) (one (is_operator 14)) ts >>= λ x. assignment_at (inside (n - 1)) x.1 >>= λ y. Ok (assignment e x.0 y.0, y.1))
   | false ↦ Ok (e, ts)
 ]
 
--- arguments behind others
+-- arguments after others
 unfoldable pub more_after : Inside → (ArgumentList → ArgumentList) → List Token → Read ArgumentList
 more_after d before ts = more_arguments_at d ts >>= λ x. Ok (before (argument_list x.0), x.1)
 

@@ -1,4 +1,4 @@
--- What reading a list of tokens from its front gives, and the ways of joining readers.
+-- What reading a prefix of a list of tokens gives, and the ways of joining readers.
 use Rattle.std.specs.Prelude.{ℕ, Bool, true, false, List, [], ◌∷◌, Result, Ok, Err, Option, Some, None, ◌⊎◌, length}
 use Rattle.std.proofs.Common.{inl, inr, zero, suc}
 use Rattle.snl_text.specs.declared.tokens.Token.{Token}
@@ -15,14 +15,14 @@ abbrev pub place : Fault → List Token
 place (Stuck rest) = rest
 place (Deep rest) = rest
 
--- What is read, with the tokens behind it.
+-- What is read, with the tokens after it.
 abbrev pub Read : Type 0 → Type 0
 Read A = Result (A × List Token) Fault
 
 abbrev pub Reader : Type 0 → Type 0
 Reader A = List Token → Read A
 
--- The tokens behind what was read, or from the fault on.
+-- The tokens after what was read, or from the fault on.
 abbrev pub left : {A : Type 0} → Read A → List Token
 left (Ok found) = found.1
 left (Err fault) = place fault

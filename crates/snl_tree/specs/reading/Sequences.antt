@@ -12,7 +12,7 @@ maybe test item ts = elim (starts test ts) [ true ↦ (item ts >>= λ x. Ok (Som
 abbrev pub whether : Kind → Reader Bool
 whether k ts = elim (starts (is k) ts) [ true ↦ (sign k ts >>= λ x. Ok (true, x.1)) | false ↦ Ok (false, ts) ]
 
--- one thing behind a sign
+-- one thing after a sign
 abbrev pub behind : {A : Type 0} → Kind → Reader A → Reader A
 behind k item = made (λ x. x.1) (both (sign k) (λ _. item))
 

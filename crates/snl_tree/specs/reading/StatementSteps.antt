@@ -10,15 +10,15 @@ use Rattle.snl_tree.specs.Expressions.{ExprTree}
 use Rattle.snl_tree.specs.Statements.{StatementTree, if_then, if_else}
 use Rattle.snl_tree.specs.reading.Statements.{opens_statement, statement_at}
 
--- a word or a name, and the semicolon behind it
+-- a word or a name, and the semicolon after it
 unfoldable pub ended_word_at : Kind → Reader Token
 ended_word_at kind = before (one (is kind)) Semicolon
 
--- statements, one behind another
+-- statements, one after another
 unfoldable pub statement_row_at : ℕ → ℕ → Reader (List StatementTree)
 statement_row_at l n = many opens_statement (statement_at l n)
 
--- what stands behind the statement of an `if`
+-- what stands after the statement of an `if`
 unfoldable pub if_rest : ℕ → ℕ → ExprTree → StatementTree → List Token → Read StatementTree
 if_rest l n c s ts = elim (starts (is Else) ts) [
   | true ↦ (sign Else ts >>= λ x. statement_at l n x.1 >>= λ y. Ok (if_else c s y.0, y.1))

@@ -41,7 +41,7 @@ opens_statement _ = false
 unfoldable pub condition_at : ℕ → Reader ExprTree
 condition_at l = between OpenParenthesis (level_at (inside l) 15) CloseParenthesis
 
--- [ expr ] and the sign behind it
+-- [ expr ] and the sign after it
 unfoldable pub ended_at : ℕ → Kind → Reader (Option ExprTree)
 ended_at l kind = before (maybe (is_other kind) (level_at (inside l) 15)) kind
 
@@ -90,7 +90,7 @@ continue_at = made continue_loop (before (one (is Continue)) Semicolon)
 unfoldable pub change_state_at : Reader StatementTree
 change_state_at = made (λ x. change_state x.0 x.1) (both (one (is State)) (λ _. before (one (is Name)) Semicolon))
 
--- [ 'else' stmt ] behind a statement that is closed; one that is not has taken an `else` before.
+-- [ 'else' stmt ] after a statement that is closed; one that is not has taken an `else` before.
 abbrev pub else_at : Bool → Reader StatementTree → Reader ((Unit {0} × StatementTree) ⊎ Unit {0})
 else_at true d = either (is Else) (both (sign Else) (λ _. d)) nothing
 else_at false d = made inr nothing

@@ -19,12 +19,12 @@ type_view t = record { word = t.word; second = t.second }
 abbrev pub views : Vec (Box Expr Global) Global → List ExprTree
 views v = map boxed v.items
 
--- values with a comma behind each, before others
+-- values with a comma after each, before others
 abbrev pub values_before : List ExprTree → ValueList → ValueList
 values_before [] rest = rest
 values_before (e ∷ all) rest = value_before e (values_before all rest)
 
--- values with a comma between each two, and one behind the last or not
+-- values with a comma between each two, and one after the last or not
 abbrev pub value_list : List ExprTree → Bool → ValueList
 value_list [] comma = no_values
 value_list (e ∷ []) true = value_before e no_values

@@ -3,6 +3,7 @@ use Rattle.snl_tree.proofs.grammar.OneAnswer as one
 use Rattle.snl_tree.proofs.grammar.ProgramParsing.{one_program}
 use Rattle.snl_tree.proofs.laws.tokens_have_one_answer.Goals as goal
 
+-- tokens have one answer at most
 pub returns : goal.returns
 returns c = λ limit ts. record {
   one_program = λ p q g h k l. one_program limit ts p q g h k l;

@@ -9,23 +9,28 @@ use Rattle.snl_tree.proofs.code.Turns.{found_part, part_fails, found_more, found
 use Rattle.snl_tree.proofs.grammar.DeclarationLaws.{next_declarator_less}
 use Rattle.snl_tree.proofs.readers.declarations.declarators.Goals as goal
 
+-- fewer tokens are left after a comma and a declared name
 pub loop-alloc-smaller : goal.loop-alloc-smaller
 loop-alloc-smaller c = next_declarator_less c.args.depth c.loop-alloc.cursor.left.now c.next_declarator.new.cursor.left.now (declarator_view c.in_ok-next.next.value) c.in_ok-next.ensures
 
+-- where no comma is next, the declared names found are all of them
 pub returns : goal.returns
 returns c = found_all (is Comma) (behind Comma (declarator_at c.args.depth)) declarator_view (declarators_at c.args.depth c.args.cursor.now.left.now) c.loop-alloc.found.items c.loop-alloc.cursor.left.now c.loop-alloc.invariant (sym c.loop-alloc-test.ensures)
 
+-- a fault in the first declared name is a fault of them all
 pub returns-in_err-first : goal.returns-in_err-first
 unfolding declarators_at
 returns-in_err-first c =
     let p = err_from_is_err_and c.from_residual.result c.from_residual.ensures.1 in
     rw (p.1, p.2) (part_fails Comma (declarator_at c.args.depth) c.args.cursor.now.left.now c.in_err-first.field-0.0 c.declarator.new.cursor.left.now c.in_err-first.ensures)
 
+-- with the first declared name found, those after each comma are left to read
 pub loop-alloc-init : goal.loop-alloc-init
 unfolding declarators_at
 loop-alloc-init c =
     found_part Comma (declarator_at c.args.depth) declarator_view c.args.cursor.now.left.now c.declarator.new.cursor.left.now c.in_ok-first.first.value c.added.new.row.items c.new-found.result.items c.new-found.ensures.items c.in_ok-added.ensures.items c.in_ok-first.ensures
 
+-- with one more declared name found, the others are left to read
 pub loop-alloc-preserved : goal.loop-alloc-preserved
 loop-alloc-preserved c =
     found_more (is Comma) (behind Comma (declarator_at c.args.depth)) (next_declarator_less c.args.depth) declarator_view (declarators_at c.args.depth c.args.cursor.now.left.now) c.loop-alloc.found.items c.loop-alloc.cursor.left.now c.in_ok-next.next.value c.next_declarator.new.cursor.left.now _

@@ -7,8 +7,10 @@ use Rattle.snl_tree.specs.reading.Declarations.{declarator_at, declarators_at}
 use Rattle.snl_tree.proofs.code.Turns.{Found}
 use Rattle.snl_tree.proofs.readers.declarations.declarators.Given as goal
 
+-- the declared names are those found, and those left to read
 abbrev pub invariant-loop-alloc : goal.invariant-loop-alloc
 invariant-loop-alloc l = Found (is Comma) (behind Comma (declarator_at l.depth)) declarator_view (declarators_at l.fn.depth l.fn.cursor.left.now) l.found.items l.cursor.left.now
 
+-- the count of the tokens that are left
 abbrev pub decreases-loop-alloc : goal.decreases-loop-alloc
 decreases-loop-alloc l = length l.cursor.left.now

@@ -7,21 +7,26 @@ use Rattle.snl_tree.proofs.code.Turns.{found_none, found_more, found_all, found_
 use Rattle.snl_tree.proofs.grammar.DefinitionLaws.{definition_less}
 use Rattle.snl_tree.proofs.readers.definitions.definitions.Goals as goal
 
+-- at first no definition is found, and all are left to read
 pub loop-alloc-init : goal.loop-alloc-init
 unfolding definitions_at
 loop-alloc-init c = found_none starts_definition (definition_at c.args.depth) definition_view c.args.cursor.now.left.now c.new-found.result.items c.new-found.ensures.items
 
+-- with one more definition found, the others are left to read
 pub loop-alloc-preserved : goal.loop-alloc-preserved
 loop-alloc-preserved c =
     found_more starts_definition (definition_at c.args.depth) (definition_less c.args.depth) definition_view (definitions_at c.args.depth c.args.cursor.now.left.now) c.loop-alloc.found.items c.loop-alloc.cursor.left.now c.in_ok-next.next.value c.definition.new.cursor.left.now _
     c.in_ok-added.ensures.items c.loop-alloc.invariant (sym c.loop-alloc-test.ensures) c.in_ok-next.ensures
 
+-- fewer tokens are left after a definition
 pub loop-alloc-smaller : goal.loop-alloc-smaller
 loop-alloc-smaller c = definition_less c.args.depth c.loop-alloc.cursor.left.now c.definition.new.cursor.left.now (definition_view c.in_ok-next.next.value) c.in_ok-next.ensures
 
+-- where no definition begins, those found are all of them
 pub returns : goal.returns
 returns c = found_all starts_definition (definition_at c.args.depth) definition_view (definitions_at c.args.depth c.args.cursor.now.left.now) c.loop-alloc.found.items c.loop-alloc.cursor.left.now c.loop-alloc.invariant (sym c.loop-alloc-test.ensures)
 
+-- a fault in a definition is a fault of them all
 pub returns-in_err-next : goal.returns-in_err-next
 returns-in_err-next c =
     let p = err_from_is_err_and c.from_residual.result c.from_residual.ensures.1 in

@@ -6,8 +6,10 @@ use Rattle.snl_tree.specs.view.Programs.{state_set_view}
 use Rattle.snl_tree.proofs.code.Turns.{Found}
 use Rattle.snl_tree.proofs.readers.programs.state_sets.Given as goal
 
+-- the state sets are those found, and those left to read
 abbrev pub invariant-loop-alloc : goal.invariant-loop-alloc
 invariant-loop-alloc l = Found (is StateSet) (state_set_at l.depth) state_set_view (state_sets_at l.fn.depth l.fn.cursor.left.now) l.found.items l.cursor.left.now
 
+-- the count of the tokens that are left
 abbrev pub decreases-loop-alloc : goal.decreases-loop-alloc
 decreases-loop-alloc l = length l.cursor.left.now

@@ -6,16 +6,19 @@ use Rattle.snl_tree.specs.view.Expressions.{view}
 use Rattle.snl_tree.proofs.code.Narrowing.{and_first, and_second, compared, not_compared, comparison_found, single, found_none}
 use Rattle.snl_tree.proofs.thin.expressions.comparison.Goals as goal
 
+-- a chain that holds not one term is no comparison
 pub returns-then-all-ne1 : goal.returns-then-all-ne1
 returns-then-all-ne1 c =
     let k = ap length c.as_slice-all.ensures.value in
     rw c.in-Chain.is (not_compared c.in-Chain.first c.in-Chain.terms (λ e. omega arith))
 
+-- where the operator compares nothing, the chain is no comparison
 pub returns-then-not-compares : goal.returns-then-not-compares
 returns-then-not-compares c =
     let one = single c.as_slice-all.result.now c.index-all-0.result (omega arith) (omega arith) c.index-all-0.is in
     rw c.in-Chain.is (compared c.in-Chain.first c.in-Chain.terms c.index-all-0.result (sym c.as_slice-all.ensures.value ∙ one) ∙ and_first _ _ (and_first _ _ (sym c.if-not-compares.ensures)))
 
+-- where the second operand is no sum, the chain is no comparison
 pub returns-in_default-3 : goal.returns-in_default-3
 returns-in_default-3 c =
     let one = single c.as_slice-all.result.now c.index-all-0.result (omega arith) (omega arith) c.index-all-0.is in
@@ -23,6 +26,7 @@ returns-in_default-3 c =
     let o = ap (λ (z : Expr). is_sum (view z)) (sym d) ∙ found_none _ _ c.in_ok-operand.field-0 c.in_ok-operand.ensures c.in_default-3.not-Some in
     rw c.in-Chain.is (compared c.in-Chain.first c.in-Chain.terms c.index-all-0.result (sym c.as_slice-all.ensures.value ∙ one) ∙ and_second _ _ o)
 
+-- the chain is a comparison, and the smaller one found stands for it
 pub returns : goal.returns
 returns c =
     let one = single c.as_slice-all.result.now c.index-all-0.result (omega arith) (omega arith) c.index-all-0.is in
