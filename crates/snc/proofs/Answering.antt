@@ -1,5 +1,5 @@
 -- What the steps answer is what the source means.
-use Rattle.std.proofs.Common.{◌≡◌, ◌<◌, ◌≤◌, ◌↔◌, inl, inr, ℕ, List, [], ◌∷◌, Option, None, Some, IsSome, IfSome, is_some, if◌then◌else◌, Contains, Result, Ok, Err, length, take, slice_get, codes, true, false, refl, sym, ap, subst, ◌∙◌, arith}
+use Rattle.std.proofs.Common.{◌≡◌, ◌<◌, ◌≤◌, ◌↔◌, inl, inr, ℕ, List, [], ◌∷◌, Option, None, Some, IsSome, IfSome, is_some, if◌then◌else◌, Contains, Result, Ok, Err, length, take, slice_get, codes, true, false, refl, sym, ap, subst, ◌∙◌, arith, zero, suc, lit≤}
 use Rattle.std.specs.Option.{option_map}
 use Rattle.std.proofs.lemmas.Bool.{false≢true}
 use Rattle.std.proofs.lemmas.List.Elements.{Contains-push}
@@ -8,10 +8,14 @@ use Rattle.snl_text.specs.declared.tokens.Lexed.{Lexed}
 use Rattle.snl_text.specs.declared.tokens.Pos.{Pos}
 use Rattle.snl_text.specs.declared.tokens.Token.{Token}
 use Rattle.snl_text.specs.declared.faults.LexFault.TheVariants.{SourceTooLong}
+use Rattle.snl_text.specs.declared.faults.LexFault.TheVariants as faults
+use Rattle.snl_text.specs.declared.faults.Flaw.{Flaw}
+use Rattle.snl_text.specs.declared.faults.Flaw.TheVariants as flaw
 use Rattle.snl_text.specs.declared.pieces.Piece.{Piece}
 use Rattle.snl_text.specs.Cut.{Cuts, Reading, nothing_read, start}
 use Rattle.snl_text.specs.Faults.{fault_pos, fault_text}
 use Rattle.snl_text.specs.Lexing.{FaultHolds, GivesOnly, IsLexed}
+use Rattle.snl_text.proofs.Parts.{before_fault}
 use Rattle.snl_check.specs.declared.messages.Severity.TheVariants.{Error}
 use Rattle.snl_tree.specs.declared.thin.trees.Program.{Program}
 use Rattle.snl_tree.specs.Begins.{Spells, IsUnexpected, IsTooDeep}
@@ -30,10 +34,10 @@ use Rattle.snl_trace.specs.Run.{rules_by, rules_of}
 use Rattle.snl_trace.specs.Took.{RunsOver, standing}
 use Rattle.snl_trace.specs.declared.runner.End.{End}
 use Rattle.snc.specs.declared.jobs.Status.TheVariants.{Well, SourceErrors}
-use Rattle.snc.specs.Judging.{AreNamesOf, HasFault, HasTokens, IsJudged, IsSaidOf, IsTreeSaid, NoErrors, error_at, fault_at, names_of, nesting_error, not_yet, syntax_error}
+use Rattle.snc.specs.Judging.{AreNamesBefore, ReadsNames, HasFault, HasTokens, IsJudged, IsSaidOf, IsTreeSaid, NoErrors, error_at, fault_at, names_of, nesting_error, not_yet, syntax_error}
 use Rattle.snc.specs.Outcomes.{IsReport, IsRunOf, IsSession, at_first, status_of}
 use Rattle.snc.specs.Texts.{text_of}
-use Rattle.snc.specs.Told.{AreTokensTold, IsFaultTold, IsProgramTold, IsTreeTold}
+use Rattle.snc.specs.Told.{AreNamesOf, AreTokensTold, IsFaultTold, IsProgramTold, IsTreeTold}
 
 -- an error alone
 lone_error : (messages : List Said) (pos : Pos) (number : ℕ) (text : List ℕ) → messages ≡ error_at pos number text ∷ [] → NoErrors messages → ⊥
@@ -71,9 +75,54 @@ pub fault_told : (word source text front words told : List ℕ) (fault : LexFaul
 fault_told word source text front words told fault pos names listed at says is given same_names same_words text_is = record {
   names = names;
   messages = error_at pos 3 words ∷ [];
-  said = record { pos = pos; words = words; at = at; says = says; given = subst (λ l. AreNamesOf l names) is given; messages_are = refl };
+  said = record { pos = pos; words = words; at = at; says = says; messages_are = refl };
+  given = subst (λ l. AreNamesOf l names) is given;
   text_is = text_is ∙ (λ i. text_of word (same_names i) (error_at pos 3 (same_words i) ∷ []));
 }
+
+-- so many of the first bytes are no more than all
+take_within : (n : ℕ) (source : List ℕ) (most : ℕ) → length source ≤ most → length (take n source) ≤ most
+take_within zero source most h = omega arith
+take_within (suc n) [] most h = omega arith
+take_within (suc n) (b ∷ bs) zero h = absurd (omega arith)
+take_within (suc n) (b ∷ bs) (suc most) h = let k = take_within n bs most (omega arith) in omega arith
+
+-- the names in the bytes before a fault are those that the longest cut reads
+names_read : (source : List ℕ) (kind : Flaw) (pos : Pos) (names : List (List ℕ)) → length (take pos.offset source) ≤ 1048576 → AreNamesOf (take pos.offset source) names → ReadsNames source kind pos names
+names_read source kind pos names within given w = given.cut w.end within (before_fault source kind pos w).0
+
+-- nothing has no names
+names_of_nothing : (source : List ℕ) (names : List (List ℕ)) → AreNamesOf (take 0 source) names → names ≡ []
+names_of_nothing source names given = given.cut nothing_read (lit≤ tt) record { pieces = []; cut = (refl, refl) }
+
+same_place : (p q : Pos) → ◌≡◌ {A = Option Pos} (Some p) (Some q) → p ≡ q
+same_place p q e = cc
+
+too_long : (p : Pos) → ◌≡◌ {A = LexFault} (SourceTooLong p) (SourceTooLong start) → p ≡ start
+too_long p e = cc
+
+-- a source with another fault than its length is within the limit, and so are its first bytes
+front_within : (source : List ℕ) (fault : LexFault) (n : ℕ) → HasFault source fault → (fault ≡ SourceTooLong start → ⊥) → length (take n source) ≤ 1048576
+front_within source fault n has other =
+    let short : 1048576 < length source → ⊥ = λ h. other (has.long h) in
+    take_within n source 1048576 (omega (arith, short))
+
+-- the same of a source that is too long and of one that is not
+names_before : (source : List ℕ) (fault : LexFault) (pos : Pos) (names : List (List ℕ)) → HasFault source fault → fault_pos fault ≡ Some pos → AreNamesOf (take pos.offset source) names → AreNamesBefore source fault names
+names_before source (faults.BadByte p) pos names has at given = names_read source flaw.BadByte p names (front_within source (faults.BadByte p) p.offset has (λ e. cc))
+    (subst (λ (q : Pos). AreNamesOf (take q.offset source) names) (sym (same_place p pos at)) given)
+names_before source (faults.OpenComment p) pos names has at given = names_read source flaw.OpenComment p names (front_within source (faults.OpenComment p) p.offset has (λ e. cc))
+    (subst (λ (q : Pos). AreNamesOf (take q.offset source) names) (sym (same_place p pos at)) given)
+names_before source (faults.OpenString p) pos names has at given = names_read source flaw.OpenString p names (front_within source (faults.OpenString p) p.offset has (λ e. cc))
+    (subst (λ (q : Pos). AreNamesOf (take q.offset source) names) (sym (same_place p pos at)) given)
+names_before source (faults.BadNumber p) pos names has at given = names_read source flaw.BadNumber p names (front_within source (faults.BadNumber p) p.offset has (λ e. cc))
+    (subst (λ (q : Pos). AreNamesOf (take q.offset source) names) (sym (same_place p pos at)) given)
+names_before source (faults.OpenEmbeddedC p) pos names has at given = names_read source flaw.OpenEmbeddedC p names (front_within source (faults.OpenEmbeddedC p) p.offset has (λ e. cc))
+    (subst (λ (q : Pos). AreNamesOf (take q.offset source) names) (sym (same_place p pos at)) given)
+names_before source (faults.SourceTooLong p) pos names has at given =
+    let begins : p ≡ start = too_long p (has.long has.holds) in
+    names_of_nothing source names (subst (λ (q : Pos). AreNamesOf (take q.offset source) names) (sym (same_place p pos at) ∙ begins) given)
+names_before source faults.Memory pos names has at given = tt
 
 -- a source without tokens
 pub judged_fault : (word source text : List ℕ) (fault : LexFault) (checked : Option Checked) → HasFault source fault → IsFaultTold word source fault text → checked ≡ None → IsJudged word source text (tree_of checked)
@@ -81,7 +130,7 @@ judged_fault word source text fault checked has w none = subst (λ o. IsJudged w
   names = w.names;
   messages = w.messages;
   tree = None;
-  finds = inl record { fault = fault; has = has; said = w.said; tree_is = refl };
+  finds = inl record { fault = fault; has = has; named = names_before source fault w.said.pos w.names has w.said.at w.given; said = w.said; tree_is = refl };
   text_is = w.text_is;
   accepted = (λ h. absurd (false≢true h), λ h. absurd (lone_error w.messages w.said.pos 3 w.said.words w.said.messages_are h));
   same = tt;

@@ -1,10 +1,13 @@
 -- What the rules say of a source: its messages, and its tree, if its tokens spell one.
 use Rattle.std.specs.Prelude.{◌≡◌, ◌⊎◌, ◌↔◌, ℕ, true, false, ◌<◌, ◌≤◌, List, [], ◌∷◌, ◌++◌, length, map, take, Option, None, Some, IsSome, IfSome, slice_get, Contains, codes}
-use Rattle.snl_text.specs.Cut.{Reading, start}
+use Rattle.snl_text.specs.Cut.{start}
 use Rattle.snl_text.specs.Faults.{fault_text, fault_pos}
-use Rattle.snl_text.specs.Lexing.{FaultHolds, IsCut, IsLexed}
+use Rattle.snl_text.specs.Lexing.{FaultHolds, IsFault, IsLexed}
 use Rattle.snl_text.specs.declared.faults.LexFault.{LexFault}
+use Rattle.snl_text.specs.declared.faults.LexFault.TheVariants as fault
 use Rattle.snl_text.specs.declared.faults.LexFault.TheVariants.{SourceTooLong}
+use Rattle.snl_text.specs.declared.faults.Flaw.{Flaw}
+use Rattle.snl_text.specs.declared.faults.Flaw.TheVariants as flaw
 use Rattle.snl_text.specs.declared.tokens.Lexed.{Lexed}
 use Rattle.snl_text.specs.declared.tokens.Pos.{Pos}
 use Rattle.snl_text.specs.declared.tokens.Token.{Token}
@@ -25,18 +28,26 @@ error_at pos number text = record { pos = pos; severity = Error; number = number
 abbrev pub NoErrors : List Said → Type 0
 NoErrors messages = (m : Said) → Contains messages m → m.severity ≡ Error → ⊥
 
--- the names that the markers of a text give to files: those of its cut, if it has one
-pub record AreNamesOf (text : List ℕ) (names : List (List ℕ)) : Type 0 where
-  pub cut : (end : Reading) → length text ≤ 1048576 → IsCut text end → names ≡ end.files
-  pub none : ((end : Reading) → IsCut text end → ⊥) → names ≡ []
+-- the names that markers give to files before a fault: those that the longest cut reads, at whose end the fault is
+abbrev pub ReadsNames : List ℕ → Flaw → Pos → List (List ℕ) → Type 0
+ReadsNames source kind pos names = (w : IsFault source kind pos) → names ≡ w.end.files
 
--- E03, alone: what is said of a fault, with the names that the text in front of it gives
-pub record IsFaultSaid (source : List ℕ) (fault : LexFault) (names : List (List ℕ)) (messages : List Said) : Type 0 where
+-- the same by the kind of fault; a source that is too long is not read
+abbrev pub AreNamesBefore : List ℕ → LexFault → List (List ℕ) → Type 0
+AreNamesBefore source (fault.BadByte pos) names = ReadsNames source flaw.BadByte pos names
+AreNamesBefore source (fault.OpenComment pos) names = ReadsNames source flaw.OpenComment pos names
+AreNamesBefore source (fault.OpenString pos) names = ReadsNames source flaw.OpenString pos names
+AreNamesBefore source (fault.BadNumber pos) names = ReadsNames source flaw.BadNumber pos names
+AreNamesBefore source (fault.OpenEmbeddedC pos) names = ReadsNames source flaw.OpenEmbeddedC pos names
+AreNamesBefore source (fault.SourceTooLong pos) names = names ≡ []
+AreNamesBefore source fault.Memory names = Unit {0}
+
+-- E03, alone: what is said of a fault
+pub record IsFaultSaid (fault : LexFault) (messages : List Said) : Type 0 where
   pub pos : Pos
   pub words : List ℕ
   pub at : fault_pos fault ≡ Some pos
   pub says : fault_text fault ≡ Some words
-  pub given : AreNamesOf (take pos.offset source) names
   pub messages_are : messages ≡ error_at pos 3 words ∷ []
 
 -- the source is no row of tokens, by a fault
@@ -111,7 +122,8 @@ names_of lexed = map (λ name. name.now) lexed.files.items
 pub record OfFault (source : List ℕ) (names : List (List ℕ)) (messages : List Said) (tree : Option Program) : Type 0 where
   pub fault : LexFault
   pub has : HasFault source fault
-  pub said : IsFaultSaid source fault names messages
+  pub named : AreNamesBefore source fault names
+  pub said : IsFaultSaid fault messages
   pub tree_is : tree ≡ None
 
 -- a source with tokens

@@ -1,5 +1,7 @@
 -- What the steps of `report` answer: texts, with the messages whose text they are. No reader of the theorem needs them.
-use Rattle.std.specs.Prelude.{◌≡◌, ◌↔◌, ℕ, List, Option, Some, IsSome, IfSome, Contains}
+use Rattle.std.specs.Prelude.{◌≡◌, ◌≤◌, ◌↔◌, ℕ, List, [], length, take, Option, Some, IsSome, IfSome, Contains}
+use Rattle.snl_text.specs.Cut.{Reading}
+use Rattle.snl_text.specs.Lexing.{IsCut}
 use Rattle.snl_text.specs.declared.faults.LexFault.{LexFault}
 use Rattle.snl_text.specs.declared.tokens.Lexed.{Lexed}
 use Rattle.snl_text.specs.declared.tokens.Pos.{Pos}
@@ -10,11 +12,17 @@ use Rattle.snl_check.specs.Rules.{IsSaid}
 use Rattle.snc.specs.Judging.{IsFaultSaid, IsSaidOf, IsTreeSaid, NoErrors, names_of}
 use Rattle.snc.specs.Texts.{text_of}
 
--- the text of the message about a fault
+-- the names that the markers of a text give to files: those of its cut, if it has one
+pub record AreNamesOf (text : List ℕ) (names : List (List ℕ)) : Type 0 where
+  pub cut : (end : Reading) → length text ≤ 1048576 → IsCut text end → names ≡ end.files
+  pub none : ((end : Reading) → IsCut text end → ⊥) → names ≡ []
+
+-- the text of the message about a fault, with the names that the bytes before it give
 pub record IsFaultTold (word source : List ℕ) (fault : LexFault) (text : List ℕ) : Type 0 where
   pub names : List (List ℕ)
   pub messages : List Said
-  pub said : IsFaultSaid source fault names messages
+  pub said : IsFaultSaid fault messages
+  pub given : AreNamesOf (take said.pos.offset source) names
   pub text_is : text ≡ text_of word names messages
 
 -- the text of the messages about tokens, and their tree, if none is an error

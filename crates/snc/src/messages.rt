@@ -2,9 +2,9 @@
 
 ghost use Rattle.std.specs.Prelude.{◌≡◌, [], ◌∷◌, ◌++◌, map, take, codes, IfOk, slice_get};
 ghost use Rattle.std.specs.Option.{option_map};
-ghost use Rattle.snc.specs.Judging.{AreNamesOf, IsJudged, error_at, fault_at, nesting_error, syntax_error};
+ghost use Rattle.snc.specs.Judging.{IsJudged, error_at, fault_at, nesting_error, syntax_error};
 ghost use Rattle.snc.specs.Texts.{text_of};
-ghost use Rattle.snc.specs.Told.{AreTokensTold, IsFaultTold, IsProgramTold, IsTreeTold};
+ghost use Rattle.snc.specs.Told.{AreNamesOf, AreTokensTold, IsFaultTold, IsProgramTold, IsTreeTold};
 ghost use Rattle.snl_tree.specs.view.Programs.{program_view};
 
 use crate::lines::{Names, push_line, push_lines};
