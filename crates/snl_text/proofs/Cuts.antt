@@ -33,10 +33,12 @@ cut_push r bytes (p ∷ ps) end rest piece cut stands =
 pub at_end : (r : Reading) → IsStuck r []
 at_end r piece stands = absurd (omega (arith, stands.some, stands.within))
 
-none_is_some : {a : Piece} → ◌≡◌ {A = Option Piece} None (Some a) → ⊥
+-- nothing is no piece
+pub none_is_some : {a : Piece} → ◌≡◌ {A = Option Piece} None (Some a) → ⊥
 none_is_some e = cc
 
-some_are_one : {a b : Piece} → ◌≡◌ {A = Option Piece} (Some a) (Some b) → a ≡ b
+-- two pieces found at one place are one
+pub some_are_one : {a b : Piece} → ◌≡◌ {A = Option Piece} (Some a) (Some b) → a ≡ b
 some_are_one e = cc
 
 -- any cut begins the one that can't go on

@@ -1,4 +1,6 @@
+pub mod Ascending
 pub mod Cuts
 pub mod Digits
 pub mod Longest
 pub mod Names
+pub mod Reaching

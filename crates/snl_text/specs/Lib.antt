@@ -1,6 +1,7 @@
 pub mod Bytes
 pub mod Cut
 pub mod Faults
+pub mod Laws
 pub mod Lexing
 pub mod Markers
 pub mod Numbers

@@ -1,7 +1,17 @@
 //! Laws of the definitions that the contract of `lex` speaks of. Each function is its contract.
 
-ghost use Rattle.snl_text.specs.Lexing.{AtMostOneCut, AtMostOneFault, NoCutPasses};
+ghost use Rattle.snl_text.specs.Laws.{AtMostOneCut, AtMostOneFault, CutOrFault, NoCutPasses, NotBoth, TokensAscend};
 ghost use Rattle.snl_text.specs.Texts.{NoLongerPiece, TextExamples};
+
+/// Each source has a cut that reaches its end, or a fault.
+pub fn cut_or_fault()
+    ensures { CutOrFault }
+{}
+
+/// No source has both a cut that reaches its end and a fault.
+pub fn not_both()
+    ensures { NotBoth }
+{}
 
 /// There is at most one cut of a source.
 pub fn at_most_one_cut()
@@ -16,6 +26,11 @@ pub fn no_cut_passes()
 /// A source has at most one fault.
 pub fn at_most_one_fault()
     ensures { AtMostOneFault }
+{}
+
+/// Of the tokens of a cut each begins after the one before it.
+pub fn tokens_ascend()
+    ensures { TokensAscend }
 {}
 
 /// Where a piece stands, no longer text is one piece.
