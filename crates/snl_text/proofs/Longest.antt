@@ -73,23 +73,23 @@ length_of : Option Piece → Option ℕ
 length_of None = None
 length_of (Some found) = Some found.length
 
-some_nat : {a b : ℕ} → ◌≡◌ {A = Option ℕ} (Some a) (Some b) → a ≡ b
+pub some_nat : {a b : ℕ} → ◌≡◌ {A = Option ℕ} (Some a) (Some b) → a ≡ b
 some_nat e = cc
 
-some_piece : {a b : Piece} → ◌≡◌ {A = Option Piece} (Some a) (Some b) → a ≡ b
+pub some_piece : {a b : Piece} → ◌≡◌ {A = Option Piece} (Some a) (Some b) → a ≡ b
 some_piece e = cc
 
-none_some : {a : Piece} → ◌≡◌ {A = Option Piece} None (Some a) → ⊥
+pub none_some : {a : Piece} → ◌≡◌ {A = Option Piece} None (Some a) → ⊥
 none_some e = cc
 
-no_length : {n : ℕ} → ◌≡◌ {A = Option ℕ} None (Some n) → ⊥
+pub no_length : {n : ℕ} → ◌≡◌ {A = Option ℕ} None (Some n) → ⊥
 no_length e = cc
 
 -- a piece made of what was found
-mapped : (f : ℕ → Piece) (longer found : Option ℕ) (n : ℕ) (p : Piece) → longer ≡ found → found ≡ Some n → option_map f longer ≡ Some p → f n ≡ p
+pub mapped : (f : ℕ → Piece) (longer found : Option ℕ) (n : ℕ) (p : Piece) → longer ≡ found → found ≡ Some n → option_map f longer ≡ Some p → f n ≡ p
 mapped f longer found n p same is e = some_piece (sym (ap (option_map f) (same ∙ is)) ∙ e)
 
-lengths_of : {A : Type 0} (sort_of : A → Sort) (found : Option (A × ℕ)) (p : Piece) → option_map (λ f. piece (sort_of f.0) f.1) found ≡ Some p → option_map (λ f. f.1) found ≡ Some p.length
+pub lengths_of : {A : Type 0} (sort_of : A → Sort) (found : Option (A × ℕ)) (p : Piece) → option_map (λ f. piece (sort_of f.0) f.1) found ≡ Some p → option_map (λ f. f.1) found ≡ Some p.length
 lengths_of sort_of None p e = absurd (none_some e)
 lengths_of sort_of (Some f) p e = ap (λ (q : Piece). Some q.length) (some_piece e)
 
@@ -99,7 +99,7 @@ word_case text rest p shorter e all =
     let n : prefix_len is_name_byte (text ++ rest) ≡ p.length = ap (λ (q : Piece). q.length) (some_piece e) in
     omega (arith, n, run_long is_name_byte text rest all, shorter)
 
-number_length : (b c : Bool) (n : ℕ) (x y : Sort) (p : Piece) → cond b (Some (piece x n)) (cond c (Some (piece y n)) None) ≡ Some p → n ≡ p.length
+pub number_length : (b c : Bool) (n : ℕ) (x y : Sort) (p : Piece) → cond b (Some (piece x n)) (cond c (Some (piece y n)) None) ≡ Some p → n ≡ p.length
 number_length true c n x y p e = ap (λ (q : Piece). q.length) (some_piece e)
 number_length false true n x y p e = ap (λ (q : Piece). q.length) (some_piece e)
 number_length false false n x y p e = absurd (none_some e)
@@ -120,7 +120,7 @@ string_case a b t rest p shorter e h =
     let same = mapped (λ count. piece (sort.Token k.Text) (1 + count)) (quoted false (b ∷ (t ++ rest))) (quoted false (b ∷ t)) (length (a ∷ b ∷ t) - 1) p more h e in
     omega (arith, ap (λ (q : Piece). q.length) same, shorter)
 
-character_step : (b c d : Bool) (o : Option ℕ) (x n : ℕ) → option_map (λ (f : ℕ × ℕ). f.1) (cond b (cond c (option_map (λ v. (v, 4)) o) None) (cond d (Some (x, 3)) None)) ≡ Some n → n ≡ cond b 4 3
+pub character_step : (b c d : Bool) (o : Option ℕ) (x n : ℕ) → option_map (λ (f : ℕ × ℕ). f.1) (cond b (cond c (option_map (λ v. (v, 4)) o) None) (cond d (Some (x, 3)) None)) ≡ Some n → n ≡ cond b 4 3
 character_step true true d (Some v) x n e = sym (some_nat e)
 character_step true true d None x n e = absurd (no_length e)
 character_step true false d o x n e = absurd (no_length e)
@@ -138,7 +138,7 @@ character_case a b t rest p shorter e h =
     let there = character_step (b == 92) (fourth_there == 39) (is_plain b && third_there == 39) (escape_value third_there) b p.length (lengths_of {A = ℕ} (λ _. sort.Token k.Character) (character_at (a ∷ b ∷ (t ++ rest))) p e) in
     omega (arith, here, there, shorter)
 
-line_step : (says : Option Sort) (b : Bool) (count : ℕ) (p : Piece) → option_map (λ (s : Sort). cond b (piece sort.Skipped count) (piece s (count + 1))) says ≡ Some p → p.length ≡ cond b count (count + 1)
+pub line_step : (says : Option Sort) (b : Bool) (count : ℕ) (p : Piece) → option_map (λ (s : Sort). cond b (piece sort.Skipped count) (piece s (count + 1))) says ≡ Some p → p.length ≡ cond b count (count + 1)
 line_step None b count p e = absurd (none_some e)
 line_step (Some s) true count p e = sym (ap (λ (q : Piece). q.length) (some_piece e))
 line_step (Some s) false count p e = sym (ap (λ (q : Piece). q.length) (some_piece e))
@@ -147,7 +147,7 @@ line_length : (b : Bool) (count whole : ℕ) → ((b ≡ true) × (count ≡ who
 line_length true count whole h n most fits = elim h [ inl x ↦ omega (arith, x.1) | inr x ↦ absurd (cc x.0) ]
 line_length false count whole h n most fits = omega arith
 
-opened : (opens : Bool) (found : Option Piece) (p : Piece) → cond opens found None ≡ Some p → found ≡ Some p
+pub opened : (opens : Bool) (found : Option Piece) (p : Piece) → cond opens found None ≡ Some p → found ≡ Some p
 opened true found p e = e
 opened false found p e = absurd (none_some e)
 
@@ -173,11 +173,11 @@ line_case sort_of text rest p shorter e all =
     let n : prefix_len is_in_line (text ++ rest) ≡ p.length = ap (λ (q : Piece). q.length) (some_piece e) in
     omega (arith, n, run_long is_in_line text rest all, shorter)
 
-no_and : (b : Bool) → (b && false) ≡ false
+pub no_and : (b : Bool) → (b && false) ≡ false
 no_and true = refl
 no_and false = refl
 
-no_third : (a b : ℕ) → sign_of_three a b 0 ≡ None
+pub no_third : (a b : ℕ) → sign_of_three a b 0 ≡ None
 unfolding sign_of_three
 no_third a b = rw (no_and (a == 60 && b == 60)) (rw (no_and (a == 62 && b == 62)) refl)
 

@@ -1,5 +1,5 @@
 -- Laws of cuts, of faults and of what is read.
-use Rattle.std.specs.Prelude.{ℕ, ◌≡◌, ◌≤◌, ◌⊎◌, List, [], length, map}
+use Rattle.std.specs.Prelude.{ℕ, ◌≡◌, ◌≤◌, ◌⊎◌, List, [], length, map, take}
 use Rattle.std.specs.List.Sorted.{IsStrictlyIncreasing}
 use Rattle.snl_text.specs.Cut.{Reading, Spelled, Cuts, IsStuck, nothing_read}
 use Rattle.snl_text.specs.Faults.{fault_of}
@@ -35,3 +35,14 @@ AtMostOneFault = (source : List ℕ) (kind other : Flaw) (pos there : Pos) →
 abbrev pub TokensAscend : Type 0
 TokensAscend = (source : List ℕ) (pieces : List Piece) (end : Reading) (rest : List ℕ) →
     Cuts nothing_read source pieces end rest → IsStrictlyIncreasing (map (λ (token : Spelled). token.pos.offset) end.tokens)
+
+-- The bytes that a cut takes have that cut on their own, whatever follows them in the source.
+abbrev pub FrontHasTheCut : Type 0
+FrontHasTheCut = (source : List ℕ) (pieces : List Piece) (end : Reading) (rest : List ℕ) →
+    Cuts nothing_read source pieces end rest → Cuts nothing_read (take end.pos.offset source) pieces end []
+
+-- What is read up to a fault, by the longest cut, is what the cut of the bytes before the fault reads: the same
+-- files of markers, tokens and places.
+abbrev pub ReadBeforeFault : Type 0
+ReadBeforeFault = (source : List ℕ) (kind : Flaw) (pos : Pos) (fault : IsFault source kind pos) →
+    IsCut (take pos.offset source) fault.end × ((end : Reading) → IsCut (take pos.offset source) end → end ≡ fault.end)

@@ -1,6 +1,6 @@
 //! Laws of the definitions that the contract of `lex` speaks of. Each function is its contract.
 
-ghost use Rattle.snl_text.specs.Laws.{AtMostOneCut, AtMostOneFault, CutOrFault, NoCutPasses, NotBoth, TokensAscend};
+ghost use Rattle.snl_text.specs.Laws.{AtMostOneCut, AtMostOneFault, CutOrFault, FrontHasTheCut, NoCutPasses, NotBoth, ReadBeforeFault, TokensAscend};
 ghost use Rattle.snl_text.specs.Texts.{NoLongerPiece, TextExamples};
 
 /// Each source has a cut that reaches its end, or a fault.
@@ -31,6 +31,16 @@ pub fn at_most_one_fault()
 /// Of the tokens of a cut each begins after the one before it.
 pub fn tokens_ascend()
     ensures { TokensAscend }
+{}
+
+/// The bytes that a cut takes have that cut on their own.
+pub fn front_has_the_cut()
+    ensures { FrontHasTheCut }
+{}
+
+/// What is read up to a fault is what the bytes before the fault give: the same files, tokens and places.
+pub fn read_before_fault()
+    ensures { ReadBeforeFault }
 {}
 
 /// Where a piece stands, no longer text is one piece.
