@@ -11,14 +11,16 @@ use Rattle.snl_text.specs.Markers.{directive_at, says_of}
 use Rattle.snl_text.specs.Numbers.{decimal_value, whole_value}
 use Rattle.snl_text.specs.Pieces.{begins_number, block_at, character_piece, marked_at, number_at, piece, piece_at, sign_piece, string_at, word_at}
 use Rattle.snl_text.specs.Quotes.{character_at, escape_value, is_plain, quoted, through}
-use Rattle.snl_text.specs.Signs.{first_sign, sign_at, sign_of_one, sign_of_two, sign_of_three}
+use Rattle.snl_text.specs.SignsByBytes.{first_sign, sign_by_bytes, sign_of_one, sign_of_two, sign_of_three}
 use Rattle.snl_text.specs.Words.{word_kind}
 use Rattle.snl_text.specs.declared.kinds.Kind.{Kind}
 use Rattle.snl_text.specs.declared.kinds.Kind.TheVariants as k
 use Rattle.snl_text.specs.declared.pieces.Piece.{Piece}
 use Rattle.snl_text.specs.declared.pieces.Sort.{Sort}
 use Rattle.snl_text.specs.declared.pieces.Sort.TheVariants as sort
-use Rattle.snl_text.proofs.Longest.{some_piece, none_some, some_nat, no_length, lengths_of, character_step, number_length, line_step, no_third, no_and}
+use Rattle.snl_text.proofs.Conditions.{lesser, no_and}
+use Rattle.snl_text.proofs.Listed.{by_bytes}
+use Rattle.snl_text.proofs.Longest.{some_piece, none_some, some_nat, no_length, lengths_of, character_step, number_length, line_step, no_third}
 
 -- what a test chooses stays, where it does in both cases
 both : (b : Bool) {X Y V W : Option Piece} {p : Piece} → (X ≡ Some p → V ≡ Some p) → (Y ≡ Some p → W ≡ Some p) → cond b X Y ≡ Some p → cond b V W ≡ Some p
@@ -179,10 +181,6 @@ hash_inner : (n whole front : ℕ) (b : Bool) → ((b ≡ true) × (n ≡ whole)
 hash_inner n whole front true h less short = elim h [ inl x ↦ absurd (omega (arith, x.1)) | inr x ↦ absurd (cc x.0) ]
 hash_inner n whole front false h less short = short
 
--- a lesser number is another one
-lesser : (a b : ℕ) → a < b → (a == b) ≡ false
-lesser a b h = elim (eqb_tells a b) [ inl x ↦ absurd (omega (arith, x.1)) | inr x ↦ x.0 ]
-
 -- the piece that a line is, by whether it is the last one, its length and its bytes
 abbrev line_piece : Bool → ℕ → List ℕ → Option Piece
 line_piece last n line = option_map (λ (says : Sort). cond last (piece sort.Skipped n) (piece says (n + 1))) (says_of line)
@@ -250,15 +248,20 @@ within_one (Some x) two one p short e = absurd (omega (arith, ap (λ (q : Piece)
 
 -- a sign at the front
 sign_alone : (a : ℕ) (t rest : List ℕ) (p : Piece) → p.length ≤ length (a ∷ t) → sign_piece (a ∷ (t ++ rest)) ≡ Some p → sign_piece (a ∷ t) ≡ Some p
-unfolding sign_piece sign_at
+unfolding sign_piece sign_by_bytes
 sign_alone a [] rest p short e =
     let b = slice_index rest 0 in
-    let one = within_one (sign_of_three a b (slice_index rest 1)) (sign_of_two a b) (sign_of_one a) p short e in
-    rw (no_third a 0) (rw (no_second a) one)
+    let found = ap (option_map sign_of) (by_bytes (a ∷ rest)) ∙ e in
+    let one = within_one (sign_of_three a b (slice_index rest 1)) (sign_of_two a b) (sign_of_one a) p short found in
+    let alone : option_map sign_of (sign_by_bytes (a ∷ [])) ≡ Some p = rw (no_third a 0) (rw (no_second a) one) in
+    ap (option_map sign_of) (sym (by_bytes (a ∷ []))) ∙ alone
 sign_alone a (b ∷ []) rest p short e =
-    let two = within_two (sign_of_three a b (slice_index rest 0)) (sign_of_two a b) (sign_of_one a) p short e in
-    rw (no_third a b) two
-sign_alone a (b ∷ c ∷ t) rest p short e = e
+    let found = ap (option_map sign_of) (by_bytes (a ∷ b ∷ rest)) ∙ e in
+    let two = within_two (sign_of_three a b (slice_index rest 0)) (sign_of_two a b) (sign_of_one a) p short found in
+    let alone : option_map sign_of (sign_by_bytes (a ∷ b ∷ [])) ≡ Some p = rw (no_third a b) two in
+    ap (option_map sign_of) (sym (by_bytes (a ∷ b ∷ []))) ∙ alone
+sign_alone a (b ∷ c ∷ t) rest p short e =
+    ap (option_map sign_of) (sym (by_bytes (a ∷ b ∷ c ∷ t))) ∙ ap (option_map sign_of) (by_bytes (a ∷ b ∷ c ∷ (t ++ rest))) ∙ e
 
 -- two tests of one byte each
 tested : (a b m n : ℕ) → (a == m && b == n) ≡ true → (a ≡ m) × (b ≡ n)

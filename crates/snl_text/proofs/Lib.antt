@@ -1,8 +1,11 @@
 pub mod Ascending
+pub mod Conditions
 pub mod Cuts
 pub mod Digits
 pub mod Fronts
+pub mod Listed
 pub mod Longest
 pub mod Names
-pub mod Reaching
 pub mod Parts
+pub mod Reaching
+pub mod Reserved

@@ -9,13 +9,16 @@ use Rattle.snl_text.specs.Markers.{directive_at, says_of}
 use Rattle.snl_text.specs.Numbers.{decimal_value, whole_value}
 use Rattle.snl_text.specs.Pieces.{begins_number, blank_sort, block_at, character_piece, marked_at, number_at, piece, piece_at, sign_piece, string_at, word_at}
 use Rattle.snl_text.specs.Quotes.{character_at, escape_value, is_plain, quoted, through}
-use Rattle.snl_text.specs.Signs.{first_sign, sign_at, sign_of_one, sign_of_two, sign_of_three}
+use Rattle.snl_text.specs.Signs.{sign_at}
+use Rattle.snl_text.specs.SignsByBytes.{first_sign, sign_by_bytes, sign_of_one, sign_of_two, sign_of_three}
 use Rattle.snl_text.specs.Texts.{IsMarkedText, IsText}
 use Rattle.snl_text.specs.declared.kinds.Kind.{Kind}
 use Rattle.snl_text.specs.declared.kinds.Kind.TheVariants as k
 use Rattle.snl_text.specs.declared.pieces.Piece.{Piece}
 use Rattle.snl_text.specs.declared.pieces.Sort.{Sort}
 use Rattle.snl_text.specs.declared.pieces.Sort.TheVariants as sort
+use Rattle.snl_text.proofs.Conditions.{no_and}
+use Rattle.snl_text.proofs.Listed.{by_bytes}
 
 run_step : (b c : Bool) (n k : ℕ) → (b && c) ≡ true → (c ≡ true → n ≤ k) → suc n ≤ cond b (1 + k) 0
 run_step true true n k h more = omega (arith, more refl)
@@ -173,10 +176,6 @@ line_case sort_of text rest p shorter e all =
     let n : prefix_len is_in_line (text ++ rest) ≡ p.length = ap (λ (q : Piece). q.length) (some_piece e) in
     omega (arith, n, run_long is_in_line text rest all, shorter)
 
-pub no_and : (b : Bool) → (b && false) ≡ false
-no_and true = refl
-no_and false = refl
-
 pub no_third : (a b : ℕ) → sign_of_three a b 0 ≡ None
 unfolding sign_of_three
 no_third a b = rw (no_and (a == 60 && b == 60)) (rw (no_and (a == 62 && b == 62)) refl)
@@ -189,13 +188,17 @@ sign_step None None None (Some x) n none h e = omega (arith, some_nat h)
 sign_step None None None None n none h e = absurd (no_length h)
 
 sign_case : (a b : ℕ) (t rest : List ℕ) (p : Piece) → p.length < length (a ∷ b ∷ t) → sign_piece (a ∷ b ∷ (t ++ rest)) ≡ Some p → option_map (λ (f : Kind × ℕ). f.1) (sign_at (a ∷ b ∷ t)) ≡ Some (length (a ∷ b ∷ t)) → ⊥
-unfolding sign_piece sign_at
+unfolding sign_piece sign_by_bytes
 sign_case a b [] rest p shorter e h =
-    let found = lengths_of (λ (x : Kind). sort.Token x) (sign_at (a ∷ b ∷ rest)) p e in
-    omega (arith, sign_step (sign_of_three a b 0) (sign_of_three a b (slice_index rest 0)) (sign_of_two a b) (sign_of_one a) p.length (no_third a b) h found, shorter)
+    let length_in : Option (Kind × ℕ) → Option ℕ = option_map (λ f. f.1) in
+    let found = ap length_in (by_bytes (a ∷ b ∷ rest)) ∙ lengths_of (λ (x : Kind). sort.Token x) (sign_at (a ∷ b ∷ rest)) p e in
+    let here = ap length_in (by_bytes (a ∷ b ∷ [])) ∙ h in
+    omega (arith, sign_step (sign_of_three a b 0) (sign_of_three a b (slice_index rest 0)) (sign_of_two a b) (sign_of_one a) p.length (no_third a b) here found, shorter)
 sign_case a b (c ∷ t) rest p shorter e h =
-    let found = lengths_of (λ (x : Kind). sort.Token x) (sign_at (a ∷ b ∷ c ∷ (t ++ rest))) p e in
-    omega (arith, some_nat (sym found ∙ h), shorter)
+    let length_in : Option (Kind × ℕ) → Option ℕ = option_map (λ f. f.1) in
+    let found = ap length_in (by_bytes (a ∷ b ∷ c ∷ (t ++ rest))) ∙ lengths_of (λ (x : Kind). sort.Token x) (sign_at (a ∷ b ∷ c ∷ (t ++ rest))) p e in
+    let here = ap length_in (by_bytes (a ∷ b ∷ c ∷ t)) ∙ h in
+    omega (arith, some_nat (sym found ∙ here), shorter)
 
 marked_case : (a b : ℕ) (t rest : List ℕ) (p : Piece) → p.length < length (a ∷ b ∷ t) → marked_at (a ∷ b ∷ (t ++ rest)) ≡ Some p → IsMarkedText (a ∷ b ∷ t) → ⊥
 unfolding marked_at

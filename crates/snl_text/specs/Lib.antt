@@ -9,5 +9,7 @@ pub mod Pieces
 pub mod Quotes
 pub mod Scanning
 pub mod Signs
+pub mod SignsByBytes
 pub mod Texts
 pub mod Words
+pub mod WordsByLength

@@ -1,7 +1,7 @@
 -- Lines whose first byte but for spaces and tabs is `#`.
 use Rattle.std.specs.Prelude.{ℕ, ◌+◌, Bool, false, ◌&&◌, ◌||◌, ◌==◌, nat_le, nat_lt, nat_eq, List, length, take, drop, Option, Some, None, option_map, if◌then◌else◌, slice_index, codes}
 use Rattle.std.specs.List.{prefix_len, starts_with}
-use Rattle.snl_text.specs.Bytes.{is_blank, is_digit, is_inner_blank, is_in_line}
+use Rattle.snl_text.specs.Bytes.{is_blank, is_byte, is_digit, is_inner_blank, is_in_line}
 use Rattle.snl_text.specs.Numbers.{value_of}
 use Rattle.snl_text.specs.Quotes.{quoted}
 use Rattle.snl_text.specs.declared.markers.Marker.{Marker}
@@ -32,7 +32,7 @@ name_if_parted line quote (Some count) =
 unfoldable pub name_at : List ℕ → ℕ → Option Span
 name_at line place =
     let quote = place + prefix_len is_inner_blank (drop place line) in
-    if nat_lt quote (length line) && slice_index line quote == 34
+    if nat_lt quote (length line) && is_byte (codes "\"") (slice_index line quote)
     then name_if_parted line quote (quoted false (drop (quote + 1) line)) else None
 
 -- The marker that a line is: 1 to 9 digits, and then nothing or a blank and anything.
