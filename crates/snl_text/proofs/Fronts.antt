@@ -38,7 +38,7 @@ run_alone_step n k whole true h short most = elim h [ inl x ↦ omega (arith, x.
 run_alone_step n k whole false h short most = refl
 
 -- a run that ends in a front is the run of the front
-run_alone : (p : ℕ → Bool) (text rest : List ℕ) → prefix_len p (text ++ rest) ≤ length text → prefix_len p text ≡ prefix_len p (text ++ rest)
+pub run_alone : (p : ℕ → Bool) (text rest : List ℕ) → prefix_len p (text ++ rest) ≤ length text → prefix_len p text ≡ prefix_len p (text ++ rest)
 run_alone p text rest h =
     let is = prefix_len-append p text rest in
     run_alone_step (prefix_len p text) (prefix_len p rest) (length text) (prefix_len p text == length text) (eqb_tells (prefix_len p text) (length text)) (omega (arith, is, h)) (prefix_len-le-length p text) ∙ sym is
@@ -53,7 +53,7 @@ quoted_step false true o n e = omega (arith, some_nat e)
 quoted_step false false o n e = omega (arith, (suc_of o n e).1.1)
 
 -- a closing quote takes a byte
-quoted_some : (escaped : Bool) (bytes : List ℕ) (n : ℕ) → quoted escaped bytes ≡ Some n → 0 < n
+pub quoted_some : (escaped : Bool) (bytes : List ℕ) (n : ℕ) → quoted escaped bytes ≡ Some n → 0 < n
 quoted_some escaped [] n e = absurd (no_length e)
 quoted_some escaped (x ∷ xs) n e = quoted_step (is_control x) (x == 34 && not escaped) (quoted (x == 92 && not escaped) xs) n e
 
@@ -77,7 +77,7 @@ through_step false o n more e =
     omega (arith, more inner.0 inner.1.0, inner.1.1)
 
 -- two closing bytes take two bytes
-through_some : (a b : ℕ) (bytes : List ℕ) (n : ℕ) → through a b bytes ≡ Some n → 1 < n
+pub through_some : (a b : ℕ) (bytes : List ℕ) (n : ℕ) → through a b bytes ≡ Some n → 1 < n
 through_some a b [] n e = absurd (no_length e)
 through_some a b (x ∷ xs) n e = through_step (x == a && slice_index xs 0 == b) (through a b xs) n (λ m f. through_some a b xs m f) e
 
@@ -95,7 +95,7 @@ through_alone a b (x ∷ y ∷ ys) rest n e h =
     through_on (x == a && y == b) (through a b (y ∷ (ys ++ rest))) (through a b (y ∷ ys)) n (length (y ∷ ys)) (λ m f within. through_alone a b (y ∷ ys) rest m f within) e (omega (arith, h))
 
 -- what a piece was made of
-made_of : (f : ℕ → Piece) (o : Option ℕ) (p : Piece) → option_map f o ≡ Some p → (n : ℕ) × ((o ≡ Some n) × (f n ≡ p))
+pub made_of : (f : ℕ → Piece) (o : Option ℕ) (p : Piece) → option_map f o ≡ Some p → (n : ℕ) × ((o ≡ Some n) × (f n ≡ p))
 made_of f None p e = absurd (none_some e)
 made_of f (Some n) p e = (n, (refl, some_piece e))
 
@@ -119,7 +119,7 @@ abbrev word_number : ℕ → List ℕ → Option Piece
 word_number n word = cond (is_some (whole_value word)) (Some (piece (sort.Token k.Whole) n)) (cond (is_some (decimal_value word)) (Some (piece (sort.Token k.Decimal) n)) None)
 
 -- how long a number is
-number_run : (bytes : List ℕ) (p : Piece) → number_at bytes ≡ Some p → prefix_len is_number_byte bytes ≡ p.length
+pub number_run : (bytes : List ℕ) (p : Piece) → number_at bytes ≡ Some p → prefix_len is_number_byte bytes ≡ p.length
 unfolding number_at
 number_run bytes p e =
     let n = prefix_len is_number_byte bytes in
@@ -156,7 +156,7 @@ character_long true = omega arith
 character_long false = omega arith
 
 -- the constants of three bytes do not look at a fourth
-character_three : (b : Bool) (X Y V : Option (ℕ × ℕ)) → cond b 4 3 ≤ 3 → cond b X Y ≡ cond b V Y
+pub character_three : (b : Bool) (X Y V : Option (ℕ × ℕ)) → cond b 4 3 ≤ 3 → cond b X Y ≡ cond b V Y
 character_three true X Y V h = absurd (omega (arith, h))
 character_three false X Y V h = refl
 
@@ -177,7 +177,7 @@ character_alone (a ∷ b ∷ c ∷ []) rest p some short e =
 character_alone (a ∷ b ∷ c ∷ d ∷ t) rest p some short e = e
 
 -- a line that is not the last one ends before its newline
-hash_inner : (n whole front : ℕ) (b : Bool) → ((b ≡ true) × (n ≡ whole)) ⊎ ((b ≡ false) × (n ≢ whole)) → front < whole → cond b n (n + 1) ≤ front → n + 1 ≤ front
+pub hash_inner : (n whole front : ℕ) (b : Bool) → ((b ≡ true) × (n ≡ whole)) ⊎ ((b ≡ false) × (n ≢ whole)) → front < whole → cond b n (n + 1) ≤ front → n + 1 ≤ front
 hash_inner n whole front true h less short = elim h [ inl x ↦ absurd (omega (arith, x.1)) | inr x ↦ absurd (cc x.0) ]
 hash_inner n whole front false h less short = short
 
@@ -214,7 +214,7 @@ block_alone s close end a b t rest p short e =
     ap (option_map f) closes ∙ ap (λ (q : Piece). Some q) made.1.1
 
 -- what two bytes open is longer than one
-block_long : (s : Sort) (close end : ℕ) (bytes : List ℕ) (p : Piece) → block_at s close end bytes ≡ Some p → 1 < p.length
+pub block_long : (s : Sort) (close end : ℕ) (bytes : List ℕ) (p : Piece) → block_at s close end bytes ≡ Some p → 1 < p.length
 unfolding block_at
 block_long s close end bytes p e =
     let made = made_of (λ count. piece s (2 + count)) (through close end (drop 2 bytes)) p e in
@@ -264,11 +264,11 @@ sign_alone a (b ∷ c ∷ t) rest p short e =
     ap (option_map sign_of) (sym (by_bytes (a ∷ b ∷ c ∷ t))) ∙ ap (option_map sign_of) (by_bytes (a ∷ b ∷ c ∷ (t ++ rest))) ∙ e
 
 -- two tests of one byte each
-tested : (a b m n : ℕ) → (a == m && b == n) ≡ true → (a ≡ m) × (b ≡ n)
+pub tested : (a b m n : ℕ) → (a == m && b == n) ≡ true → (a ≡ m) × (b ≡ n)
 tested a b m n h = grind (arith, nat_tests)
 
 -- a line to its end from two bytes that end no line is longer than one
-to_end_long : (s : Sort) (m n : ℕ) (a b : ℕ) (rest : List ℕ) (p : Piece) → is_in_line m ≡ true → is_in_line n ≡ true → (a ≡ m) × (b ≡ n) → ◌≡◌ {A = Option Piece} (Some (piece s (prefix_len is_in_line (a ∷ b ∷ rest)))) (Some p) → 1 < p.length
+pub to_end_long : (s : Sort) (m n : ℕ) (a b : ℕ) (rest : List ℕ) (p : Piece) → is_in_line m ≡ true → is_in_line n ≡ true → (a ≡ m) × (b ≡ n) → ◌≡◌ {A = Option Piece} (Some (piece s (prefix_len is_in_line (a ∷ b ∷ rest)))) (Some p) → 1 < p.length
 to_end_long s m n a b rest p first second is e =
     let at_a : is_in_line a ≡ true = ap is_in_line is.0 ∙ first in
     let at_b : is_in_line b ≡ true = ap is_in_line is.1 ∙ second in
@@ -308,13 +308,17 @@ digit_counts point true false other h = refl
 digit_counts true false letter other h = absurd (cc h)
 digit_counts false false letter other h = absurd (cc h)
 
--- a point and a digit are more than one byte of a number
-point_long : (a b : ℕ) (rest : List ℕ) (p : Piece) → (a == 46 && is_digit b) ≡ true → number_at (a ∷ b ∷ rest) ≡ Some p → 1 < p.length
-point_long a b rest p h e =
+-- a point and a digit are more than one byte of a number word
+pub point_run : (a b : ℕ) (rest : List ℕ) → (a == 46 && is_digit b) ≡ true → 1 < prefix_len is_number_byte (a ∷ b ∷ rest)
+point_run a b rest h =
     let first : is_number_byte a ≡ true = point_counts (is_name_byte a) (a == 46) (is_digit b) h in
     let second : is_number_byte b ≡ true = digit_counts (a == 46) (is_digit b) (is_letter b) (b == 46) h in
     let long : prefix_len is_number_byte (a ∷ b ∷ rest) ≡ 1 + (1 + prefix_len is_number_byte rest) = rw first (rw second refl) in
-    omega (arith, long, number_run (a ∷ b ∷ rest) p e)
+    omega (arith, long)
+
+-- a number that begins with a point has more than one byte
+point_long : (a b : ℕ) (rest : List ℕ) (p : Piece) → (a == 46 && is_digit b) ≡ true → number_at (a ∷ b ∷ rest) ≡ Some p → 1 < p.length
+point_long a b rest p h e = omega (arith, point_run a b rest h, number_run (a ∷ b ∷ rest) p e)
 
 -- a number that begins with one byte, or with two of which the second is not there
 number_lone : (digit second none : Bool) (X Y V W : Option Piece) (p : Piece) → none ≡ false → (X ≡ Some p → V ≡ Some p) → (second ≡ true → X ≡ Some p → ⊥) → (Y ≡ Some p → W ≡ Some p) → cond (digit || second) X Y ≡ Some p → cond (digit || none) V W ≡ Some p

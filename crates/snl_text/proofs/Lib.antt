@@ -9,3 +9,6 @@ pub mod Names
 pub mod Parts
 pub mod Reaching
 pub mod Reserved
+pub mod Standing
+pub mod Texts
+pub mod Whole

@@ -10,6 +10,7 @@ pub mod Quotes
 pub mod Scanning
 pub mod Signs
 pub mod SignsByBytes
+pub mod Standing
 pub mod Texts
 pub mod Words
 pub mod WordsByLength

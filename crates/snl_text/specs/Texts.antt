@@ -1,6 +1,6 @@
 -- What a whole text is when it is one piece, by what it begins with; and the law that no such text is longer
 -- than the piece that stands at a place.
-use Rattle.std.specs.Prelude.{ℕ, ◌+◌, ◌-◌, ◌<◌, ◌≤◌, ◌≡◌, ◌||◌, true, false, List, length, drop, ◌++◌, Some, codes, MatchBool, is_some, option_map, slice_index}
+use Rattle.std.specs.Prelude.{ℕ, ◌+◌, ◌-◌, ◌<◌, ◌≤◌, ◌≡◌, ◌||◌, true, false, List, length, take, drop, ◌++◌, Some, codes, MatchBool, is_some, option_map, slice_index}
 use Rattle.std.specs.List.{list_all, prefix_len}
 use Rattle.snl_text.specs.Bytes.{is_blank, is_byte, is_letter, is_in_line, is_name_byte, is_number_byte, open_with}
 use Rattle.snl_text.specs.Cut.{Reading, Stands}
@@ -51,3 +51,7 @@ TextExamples =
     IsText (codes "while") × IsText (codes "0x1FL") × IsText (codes ".5") × IsText (codes "/**/")
     × IsText (codes "// to the end") × IsText (codes "%{ a } }%") × IsText (codes "<<=") × IsText (codes "# 7")
     × (IsText (codes "09") → ⊥) × (IsText (codes "/*/") → ⊥) × (IsText (codes "<=>") → ⊥)
+
+-- What stands at a place is one piece.
+abbrev pub StandingIsText : Type 0
+StandingIsText = (r : Reading) (bytes : List ℕ) (piece : Piece) → Stands r bytes piece → IsText (take piece.length bytes)

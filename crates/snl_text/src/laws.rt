@@ -1,7 +1,8 @@
 //! Laws of the definitions that the contract of `lex` speaks of. Each function is its contract.
 
 ghost use Rattle.snl_text.specs.Laws.{AtMostOneCut, AtMostOneFault, CutOrFault, FrontHasTheCut, NoCutPasses, NotBoth, ReadBeforeFault, TokensAscend};
-ghost use Rattle.snl_text.specs.Texts.{NoLongerPiece, TextExamples};
+ghost use Rattle.snl_text.specs.Standing.{StandingCanStand, TextsStand};
+ghost use Rattle.snl_text.specs.Texts.{NoLongerPiece, StandingIsText, TextExamples};
 
 /// Each source has a cut that reaches its end, or a fault.
 pub fn cut_or_fault()
@@ -41,6 +42,21 @@ pub fn front_has_the_cut()
 /// What is read up to a fault is what the bytes before the fault give: the same files, tokens and places.
 pub fn read_before_fault()
     ensures { ReadBeforeFault }
+{}
+
+/// What stands at a place is one piece.
+pub fn standing_is_text()
+    ensures { StandingIsText }
+{}
+
+/// Where a piece stands, its text can stand, by the rules of texts alone.
+pub fn standing_can_stand()
+    ensures { StandingCanStand }
+{}
+
+/// Where a text can stand by the rules of texts, a piece of its length stands.
+pub fn texts_stand()
+    ensures { TextsStand }
 {}
 
 /// Where a piece stands, no longer text is one piece.
