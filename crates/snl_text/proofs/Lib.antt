@@ -2,9 +2,11 @@ pub mod Ascending
 pub mod Conditions
 pub mod Cuts
 pub mod Digits
+pub mod Files
 pub mod Fronts
 pub mod Listed
 pub mod Longest
+pub mod MarkerLines
 pub mod Names
 pub mod Parts
 pub mod Reaching

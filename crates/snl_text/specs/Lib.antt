@@ -3,6 +3,7 @@ pub mod Cut
 pub mod Faults
 pub mod Laws
 pub mod Lexing
+pub mod MarkerLines
 pub mod Markers
 pub mod Numbers
 pub mod Pieces

@@ -1,6 +1,7 @@
 //! Laws of the definitions that the contract of `lex` speaks of. Each function is its contract.
 
 ghost use Rattle.snl_text.specs.Laws.{AtMostOneCut, AtMostOneFault, CutOrFault, FrontHasTheCut, NoCutPasses, NotBoth, ReadBeforeFault, TokensAscend};
+ghost use Rattle.snl_text.specs.MarkerLines.{LinesAreMarkers, MarkersAreLines};
 ghost use Rattle.snl_text.specs.Standing.{StandingCanStand, TextsStand};
 ghost use Rattle.snl_text.specs.Texts.{NoLongerPiece, StandingIsText, TextExamples};
 
@@ -62,6 +63,16 @@ pub fn texts_stand()
 /// Where a piece stands, no longer text is one piece.
 pub fn no_longer_piece()
     ensures { NoLongerPiece }
+{}
+
+/// What is read as a marker is a marker line, told by its parts.
+pub fn markers_are_lines()
+    ensures { MarkersAreLines }
+{}
+
+/// A marker line is read as a marker, with its number and its name.
+pub fn lines_are_markers()
+    ensures { LinesAreMarkers }
 {}
 
 /// Texts that are one piece, and some that are not.
