@@ -27,10 +27,12 @@ pub and_both : (x y : Bool) → x ≡ true → y ≡ true → (x && y) ≡ true
 and_both true y a b = b
 and_both false y a b = absurd (cc a)
 
+-- a test holds with its second part
 or_second : (x y : Bool) → y ≡ true → (x || y) ≡ true
 or_second true y h = refl
 or_second false y h = h
 
+-- where the first part fails, the second holds
 or_rest : (x y : Bool) → x ≡ false → (x || y) ≡ true → y ≡ true
 or_rest true y none h = absurd (cc none)
 or_rest false y none h = h
@@ -47,12 +49,15 @@ below a b h = grind (arith, nat_tests)
 pub is_below : (a b : ℕ) → a < b → nat_lt a b ≡ true
 is_below a b h = grind (arith, nat_tests)
 
+-- the test of a number at most another one
 is_most : (a b : ℕ) → a ≤ b → nat_le a b ≡ true
 is_most a b h = grind (arith, nat_tests)
 
+-- the test of a greater number fails
 is_not_most : (a b : ℕ) → b < a → nat_le a b ≡ false
 is_not_most a b h = grind (arith, nat_tests)
 
+-- one byte more of a run
 run_is_step : (b : Bool) (q : ℕ → Bool) (x : ℕ) (xs : List ℕ) → q x ≡ b → list_all q (take (prefix_len q xs) xs) ≡ true → list_all q (take (cond b (1 + prefix_len q xs) 0) (x ∷ xs)) ≡ true
 run_is_step true q x xs is more =
     let n = prefix_len q xs in
@@ -65,6 +70,7 @@ pub run_is : (q : ℕ → Bool) (xs : List ℕ) → list_all q (take (prefix_len
 run_is q [] = refl
 run_is q (x ∷ xs) = run_is_step (q x) q x xs refl (run_is q xs)
 
+-- one byte more up to another class
 run_to_step : (b c : Bool) (n m : ℕ) → (b && c) ≡ true → (c ≡ true → n ≡ m) → cond b (1 + n) 0 ≡ suc m
 run_to_step true c n m h more = omega (arith, more h)
 run_to_step false c n m h more = absurd (cc h)
@@ -112,13 +118,16 @@ never : (b : Bool) → (b && false) ≡ false
 never true = refl
 never false = refl
 
+-- the quote that closes
 closed_here : (escaped : Bool) (x : ℕ) (xs : List ℕ) (count : ℕ) → (x == 34 && not escaped) ≡ true → 1 ≡ count → Closed escaped (x ∷ xs) count
 closed_here true x xs count h one = absurd (cc (sym h ∙ never (x == 34)))
 closed_here false x xs count h one =
     let is : x ≡ 34 = equal x 34 (and_left (x == 34) true h) in
     record { name = []; more = xs; is = ap (λ y. y ∷ xs) is; long = omega (arith, one); closes = refl }
 
-closed_on : (escaped : Bool) (x : ℕ) (xs : List ℕ) (count : ℕ) → is_control x ≡ false → (x == 34 && not escaped) ≡ false → Closed (x == 92 && not escaped) xs count → Closed escaped (x ∷ xs) (suc count)
+-- a byte before the quote that closes
+closed_on : (escaped : Bool) (x : ℕ) (xs : List ℕ) (count : ℕ) → is_control x ≡ false → (x == 34 && not escaped) ≡ false → Closed (x == 92 && not escaped) xs count
+    → Closed escaped (x ∷ xs) (suc count)
 closed_on escaped x xs count plain goes inner =
     let long : suc count ≡ length (x ∷ inner.name) + 1 = omega (arith, inner.long) in
     let next : suc (length inner.name + 1) ≡ length (x ∷ inner.name) + 1 = omega arith in
@@ -131,6 +140,7 @@ closed_on escaped x xs count plain goes inner =
       closes = rw plain (rw goes (ap (option_map suc) inner.closes ∙ one));
     }
 
+-- the first byte, whatever it is
 closed_step : (b c : Bool) (escaped : Bool) (x : ℕ) (xs : List ℕ) (o : Option ℕ) (count : ℕ) → is_control x ≡ b → (x == 34 && not escaped) ≡ c
     → ((n : ℕ) → o ≡ Some n → Closed (x == 92 && not escaped) xs n) → cond b None (cond c (Some 1) (option_map suc o)) ≡ Some count → Closed escaped (x ∷ xs) count
 closed_step true c escaped x xs o count plain goes inner e = absurd (no_length e)
@@ -154,10 +164,12 @@ pub record Found (line : List ℕ) (quote : ℕ) (b : Bool) (o : Option ℕ) (sp
   pub start_is : span.start ≡ quote + 1
   pub end_is : span.end ≡ quote + count
 
+-- a test that answers holds
 span_of : (b : Bool) (x span : Span) → ◌≡◌ {A = Option Span} (cond b (Some x) None) (Some span) → (b ≡ true) × (x ≡ span)
 span_of true x span e = (refl, cc e)
 span_of false x span e = absurd (cc e)
 
+-- what is known where a name was found
 found_name : (line : List ℕ) (quote : ℕ) (b : Bool) (o : Option ℕ) (span : Span) → cond b (name_if_parted line quote o) None ≡ Some span → Found line quote b o span
 found_name line quote false o span e = absurd (cc e)
 found_name line quote true None span e = absurd (cc e)
@@ -172,7 +184,9 @@ found_name line quote true (Some n) span e =
       end_is = sym (ap (λ (s : Span). s.end) parts.1);
     }
 
-name_found : (line : List ℕ) (quote : ℕ) (b : Bool) (o : Option ℕ) (n : ℕ) → b ≡ true → o ≡ Some n → is_parted line (quote + 1 + n) ≡ true → cond b (name_if_parted line quote o) None ≡ Some (record { start = quote + 1; end = quote + n })
+-- a name is found where all is known
+name_found : (line : List ℕ) (quote : ℕ) (b : Bool) (o : Option ℕ) (n : ℕ) → b ≡ true → o ≡ Some n → is_parted line (quote + 1 + n) ≡ true
+    → cond b (name_if_parted line quote o) None ≡ Some (record { start = quote + 1; end = quote + n })
 name_found line quote b o n holds is parted = rw holds (rw is (rw parted refl))
 
 -- a name that is found is told by its parts
@@ -194,7 +208,8 @@ name_told line place span e =
     sym (take-append-drop n left) ∙ ap (λ l. take n left ++ l) (from_quote ∙ ap (λ l. 34 ∷ l) parts.is) in
     let count : span.end - span.start ≡ length parts.name = omega (arith, found.start_is, found.end_is, parts.long) in
     let name : slice_range line span.start span.end ≡ parts.name =
-    ap (λ i. take i (drop span.start line)) count ∙ ap (λ i. take (length parts.name) (drop i line)) found.start_is ∙ ap (take (length parts.name)) parts.is ∙ take-append_seam parts.name (34 ∷ parts.more) in
+    ap (λ i. take i (drop span.start line)) count ∙ ap (λ i. take (length parts.name) (drop i line)) found.start_is ∙ ap (take (length parts.name)) parts.is ∙ take-append_seam parts.name
+    (34 ∷ parts.more) in
     let one : length parts.name + 1 ≡ found.count = sym parts.long in
     let end : parts.more ≡ drop (quote + 1 + found.count) line =
     sym (drop-append-add parts.name (34 ∷ parts.more) 1) ∙ ap (λ l. drop (length parts.name + 1) l) (sym parts.is) ∙ ap (λ i. drop i body) one ∙ drop-drop found.count (quote + 1) line in
@@ -213,6 +228,7 @@ pub record IsFound (line : List ℕ) (place : ℕ) (name : List ℕ) : Type 0 wh
   pub is : name_at line place ≡ Some span
   pub name_is : slice_range line span.start span.end ≡ name
 
+-- a name that is told by its parts is found
 told_name : (line : List ℕ) (place : ℕ) (name : List ℕ) → NamesFile (drop place line) name → IsFound line place name
 unfolding name_at
 told_name line place name h =
@@ -243,12 +259,15 @@ told_name line place name h =
       name_is = ap (λ i. take i body) long ∙ ap (take (length name)) body_is ∙ take-append_seam name (34 ∷ h.more);
     }
 
+-- nothing is no span
 none_some_span : {s : Span} → ◌≡◌ {A = Option Span} None (Some s) → ⊥
 none_some_span e = cc
 
+-- two spans found at one place are one
 some_spans : {s t : Span} → ◌≡◌ {A = Option Span} (Some s) (Some t) → s ≡ t
 some_spans e = cc
 
+-- what was found at a place is told
 told_step : (line : List ℕ) (place : ℕ) (o : Option Span) → name_at line place ≡ o → Names (drop place line) (spanned line o)
 told_step line place None is = λ name h. none_some_span (sym is ∙ (told_name line place name h).is)
 told_step line place (Some span) is = name_told line place span is
@@ -257,6 +276,7 @@ told_step line place (Some span) is = name_told line place span is
 pub names_told : (line : List ℕ) (place : ℕ) → Names (drop place line) (spanned line (name_at line place))
 names_told line place = told_step line place (name_at line place) refl
 
+-- what is told at a place was found
 found_step : (line : List ℕ) (place : ℕ) (file : Option (List ℕ)) (o : Option Span) → name_at line place ≡ o → Names (drop place line) file → spanned line o ≡ file
 found_step line place None None is h = refl
 found_step line place None (Some span) is h = absurd (h (slice_range line span.start span.end) (name_told line place span is))

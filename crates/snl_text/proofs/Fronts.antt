@@ -33,6 +33,7 @@ lone true c V none x y e = absurd (x refl e)
 lone false true V none x y e = absurd (cc none)
 lone false false V none x y e = y e
 
+-- a run that ends in a front, by whether the front is all of it
 run_alone_step : (n k whole : ℕ) (b : Bool) → ((b ≡ true) × (n ≡ whole)) ⊎ ((b ≡ false) × (n ≢ whole)) → cond b (whole + k) n ≤ whole → n ≤ whole → n ≡ cond b (whole + k) n
 run_alone_step n k whole true h short most = elim h [ inl x ↦ omega (arith, x.1) | inr x ↦ absurd (cc x.0) ]
 run_alone_step n k whole false h short most = refl
@@ -41,12 +42,15 @@ run_alone_step n k whole false h short most = refl
 pub run_alone : (p : ℕ → Bool) (text rest : List ℕ) → prefix_len p (text ++ rest) ≤ length text → prefix_len p text ≡ prefix_len p (text ++ rest)
 run_alone p text rest h =
     let is = prefix_len-append p text rest in
-    run_alone_step (prefix_len p text) (prefix_len p rest) (length text) (prefix_len p text == length text) (eqb_tells (prefix_len p text) (length text)) (omega (arith, is, h)) (prefix_len-le-length p text) ∙ sym is
+    run_alone_step (prefix_len p text) (prefix_len p rest) (length text) (prefix_len p text == length text) (eqb_tells (prefix_len p text) (length text)) (omega (arith, is, h))
+    (prefix_len-le-length p text) ∙ sym is
 
+-- what one more was made of
 suc_of : (o : Option ℕ) (n : ℕ) → option_map suc o ≡ Some n → (m : ℕ) × ((o ≡ Some m) × (n ≡ suc m))
 suc_of None n e = absurd (no_length e)
 suc_of (Some m) n e = (m, (refl, sym (some_nat e)))
 
+-- what closes a string has a byte
 quoted_step : (b c : Bool) (o : Option ℕ) (n : ℕ) → cond b None (cond c (Some 1) (option_map suc o)) ≡ Some n → 0 < n
 quoted_step true c o n e = absurd (no_length e)
 quoted_step false true o n e = omega (arith, some_nat e)
@@ -57,7 +61,9 @@ pub quoted_some : (escaped : Bool) (bytes : List ℕ) (n : ℕ) → quoted escap
 quoted_some escaped [] n e = absurd (no_length e)
 quoted_some escaped (x ∷ xs) n e = quoted_step (is_control x) (x == 34 && not escaped) (quoted (x == 92 && not escaped) xs) n e
 
-quoted_on : (b c : Bool) (longer found : Option ℕ) (n whole : ℕ) → ((m : ℕ) → longer ≡ Some m → m ≤ whole → found ≡ Some m) → cond b None (cond c (Some 1) (option_map suc longer)) ≡ Some n → n ≤ suc whole → cond b None (cond c (Some 1) (option_map suc found)) ≡ Some n
+-- one byte more before the quote that closes
+quoted_on : (b c : Bool) (longer found : Option ℕ) (n whole : ℕ) → ((m : ℕ) → longer ≡ Some m → m ≤ whole → found ≡ Some m) → cond b None (cond c (Some 1) (option_map suc longer)) ≡ Some n
+    → n ≤ suc whole → cond b None (cond c (Some 1) (option_map suc found)) ≡ Some n
 quoted_on true c longer found n whole more e h = e
 quoted_on false true longer found n whole more e h = e
 quoted_on false false longer found n whole more e h =
@@ -68,8 +74,10 @@ quoted_on false false longer found n whole more e h =
 quoted_alone : (escaped : Bool) (text rest : List ℕ) (n : ℕ) → quoted escaped (text ++ rest) ≡ Some n → n ≤ length text → quoted escaped text ≡ Some n
 quoted_alone escaped [] rest n e h = absurd (omega (arith, quoted_some escaped rest n e, h))
 quoted_alone escaped (x ∷ xs) rest n e h =
-    quoted_on (is_control x) (x == 34 && not escaped) (quoted (x == 92 && not escaped) (xs ++ rest)) (quoted (x == 92 && not escaped) xs) n (length xs) (λ m f within. quoted_alone (x == 92 && not escaped) xs rest m f within) e (omega (arith, h))
+    quoted_on (is_control x) (x == 34 && not escaped) (quoted (x == 92 && not escaped) (xs ++ rest)) (quoted (x == 92 && not escaped) xs) n (length xs)
+    (λ m f within. quoted_alone (x == 92 && not escaped) xs rest m f within) e (omega (arith, h))
 
+-- what closes has two bytes
 through_step : (b : Bool) (o : Option ℕ) (n : ℕ) → ((m : ℕ) → o ≡ Some m → 1 < m) → cond b (Some 2) (option_map suc o) ≡ Some n → 1 < n
 through_step true o n more e = omega (arith, some_nat e)
 through_step false o n more e =
@@ -81,7 +89,9 @@ pub through_some : (a b : ℕ) (bytes : List ℕ) (n : ℕ) → through a b byte
 through_some a b [] n e = absurd (no_length e)
 through_some a b (x ∷ xs) n e = through_step (x == a && slice_index xs 0 == b) (through a b xs) n (λ m f. through_some a b xs m f) e
 
-through_on : (b : Bool) (longer found : Option ℕ) (n whole : ℕ) → ((m : ℕ) → longer ≡ Some m → m ≤ whole → found ≡ Some m) → cond b (Some 2) (option_map suc longer) ≡ Some n → n ≤ suc whole → cond b (Some 2) (option_map suc found) ≡ Some n
+-- one byte more before what closes
+through_on : (b : Bool) (longer found : Option ℕ) (n whole : ℕ) → ((m : ℕ) → longer ≡ Some m → m ≤ whole → found ≡ Some m) → cond b (Some 2) (option_map suc longer) ≡ Some n → n ≤ suc whole
+    → cond b (Some 2) (option_map suc found) ≡ Some n
 through_on true longer found n whole more e h = e
 through_on false longer found n whole more e h =
     let inner = suc_of longer n e in
@@ -147,7 +157,8 @@ character_run b bytes p e second =
     let first = slice_index bytes 1 in
     let third = slice_index bytes 2 in
     let fourth = slice_index bytes 3 in
-    let is = character_step (first == 92) (fourth == 39) (is_plain first && third == 39) (escape_value third) first p.length (lengths_of {A = ℕ} (λ _. sort.Token k.Character) (character_at bytes) p e) in
+    let is =
+    character_step (first == 92) (fourth == 39) (is_plain first && third == 39) (escape_value third) first p.length (lengths_of {A = ℕ} (λ _. sort.Token k.Character) (character_at bytes) p e) in
     is ∙ ap (λ i. cond (i == 92) 4 3) second
 
 -- a length of three or four is above two
@@ -205,7 +216,8 @@ opens_alone true X V p on e = on e
 opens_alone false X V p on e = absurd (none_some e)
 
 -- what two bytes open, at the front
-block_alone : (s : Sort) (close end : ℕ) (a b : ℕ) (t rest : List ℕ) (p : Piece) → p.length ≤ length (a ∷ b ∷ t) → block_at s close end (a ∷ b ∷ (t ++ rest)) ≡ Some p → block_at s close end (a ∷ b ∷ t) ≡ Some p
+block_alone : (s : Sort) (close end : ℕ) (a b : ℕ) (t rest : List ℕ) (p : Piece) → p.length ≤ length (a ∷ b ∷ t) → block_at s close end (a ∷ b ∷ (t ++ rest)) ≡ Some p
+    → block_at s close end (a ∷ b ∷ t) ≡ Some p
 unfolding block_at
 block_alone s close end a b t rest p short e =
     let f : ℕ → Piece = λ count. piece s (2 + count) in
@@ -221,7 +233,8 @@ block_long s close end bytes p e =
     omega (arith, ap (λ (q : Piece). q.length) made.1.1)
 
 -- a line to its end, at the front
-to_end_alone : (s : Sort) (text rest : List ℕ) (p : Piece) → p.length ≤ length text → ◌≡◌ {A = Option Piece} (Some (piece s (prefix_len is_in_line (text ++ rest)))) (Some p) → ◌≡◌ {A = Option Piece} (Some (piece s (prefix_len is_in_line text))) (Some p)
+to_end_alone : (s : Sort) (text rest : List ℕ) (p : Piece) → p.length ≤ length text → ◌≡◌ {A = Option Piece} (Some (piece s (prefix_len is_in_line (text ++ rest)))) (Some p)
+    → ◌≡◌ {A = Option Piece} (Some (piece s (prefix_len is_in_line text))) (Some p)
 to_end_alone s text rest p short e =
     let n : prefix_len is_in_line (text ++ rest) ≡ p.length = ap (λ (q : Piece). q.length) (some_piece e) in
     run_piece is_in_line (λ i l. Some (piece s i)) text rest p (omega (arith, n, short)) e
@@ -268,7 +281,8 @@ pub tested : (a b m n : ℕ) → (a == m && b == n) ≡ true → (a ≡ m) × (b
 tested a b m n h = grind (arith, nat_tests)
 
 -- a line to its end from two bytes that end no line is longer than one
-pub to_end_long : (s : Sort) (m n : ℕ) (a b : ℕ) (rest : List ℕ) (p : Piece) → is_in_line m ≡ true → is_in_line n ≡ true → (a ≡ m) × (b ≡ n) → ◌≡◌ {A = Option Piece} (Some (piece s (prefix_len is_in_line (a ∷ b ∷ rest)))) (Some p) → 1 < p.length
+pub to_end_long : (s : Sort) (m n : ℕ) (a b : ℕ) (rest : List ℕ) (p : Piece) → is_in_line m ≡ true → is_in_line n ≡ true → (a ≡ m) × (b ≡ n)
+    → ◌≡◌ {A = Option Piece} (Some (piece s (prefix_len is_in_line (a ∷ b ∷ rest)))) (Some p) → 1 < p.length
 to_end_long s m n a b rest p first second is e =
     let at_a : is_in_line a ≡ true = ap is_in_line is.0 ∙ first in
     let at_b : is_in_line b ≡ true = ap is_in_line is.1 ∙ second in
@@ -290,9 +304,12 @@ marked_lone : (a b : ℕ) (rest : List ℕ) (p : Piece) → p.length ≤ 1 → m
 unfolding marked_at
 marked_lone a b rest p short =
     lone (a == 47 && b == 42) (a == 47 && false) (block_at sort.Skipped 42 47 (a ∷ [])) (no_and (a == 47)) (λ h e. absurd (omega (arith, block_long sort.Skipped 42 47 (a ∷ b ∷ rest) p e, short)))
-    (lone (a == 47 && b == 47) (a == 47 && false) (Some (piece sort.Skipped (prefix_len is_in_line (a ∷ [])))) (no_and (a == 47)) (λ h e. absurd (omega (arith, to_end_long sort.Skipped 47 47 a b rest p refl refl (tested a b 47 47 h) e, short)))
-    (lone (a == 37 && b == 123) (a == 37 && false) (block_at sort.EmbeddedC 125 37 (a ∷ [])) (no_and (a == 37)) (λ h e. absurd (omega (arith, block_long sort.EmbeddedC 125 37 (a ∷ b ∷ rest) p e, short)))
-    (lone (a == 37 && b == 37) (a == 37 && false) (Some (piece sort.EmbeddedC (prefix_len is_in_line (a ∷ [])))) (no_and (a == 37)) (λ h e. absurd (omega (arith, to_end_long sort.EmbeddedC 37 37 a b rest p refl refl (tested a b 37 37 h) e, short)))
+    (lone (a == 47 && b == 47) (a == 47 && false) (Some (piece sort.Skipped (prefix_len is_in_line (a ∷ [])))) (no_and (a == 47))
+    (λ h e. absurd (omega (arith, to_end_long sort.Skipped 47 47 a b rest p refl refl (tested a b 47 47 h) e, short)))
+    (lone (a == 37 && b == 123) (a == 37 && false) (block_at sort.EmbeddedC 125 37 (a ∷ [])) (no_and (a == 37))
+    (λ h e. absurd (omega (arith, block_long sort.EmbeddedC 125 37 (a ∷ b ∷ rest) p e, short)))
+    (lone (a == 37 && b == 37) (a == 37 && false) (Some (piece sort.EmbeddedC (prefix_len is_in_line (a ∷ [])))) (no_and (a == 37))
+    (λ h e. absurd (omega (arith, to_end_long sort.EmbeddedC 37 37 a b rest p refl refl (tested a b 37 37 h) e, short)))
     (sign_alone a [] (b ∷ rest) p short))))
 
 -- a point is a byte of a number word
@@ -321,7 +338,8 @@ point_long : (a b : ℕ) (rest : List ℕ) (p : Piece) → (a == 46 && is_digit 
 point_long a b rest p h e = omega (arith, point_run a b rest h, number_run (a ∷ b ∷ rest) p e)
 
 -- a number that begins with one byte, or with two of which the second is not there
-number_lone : (digit second none : Bool) (X Y V W : Option Piece) (p : Piece) → none ≡ false → (X ≡ Some p → V ≡ Some p) → (second ≡ true → X ≡ Some p → ⊥) → (Y ≡ Some p → W ≡ Some p) → cond (digit || second) X Y ≡ Some p → cond (digit || none) V W ≡ Some p
+number_lone : (digit second none : Bool) (X Y V W : Option Piece) (p : Piece) → none ≡ false → (X ≡ Some p → V ≡ Some p) → (second ≡ true → X ≡ Some p → ⊥) → (Y ≡ Some p → W ≡ Some p)
+    → cond (digit || second) X Y ≡ Some p → cond (digit || none) V W ≡ Some p
 number_lone true second none X Y V W p is on never other e = on e
 number_lone false true none X Y V W p is on never other e = absurd (never refl e)
 number_lone false false true X Y V W p is on never other e = absurd (cc is)
@@ -332,7 +350,8 @@ piece_lone : (opens : Bool) (a b : ℕ) (rest : List ℕ) (p : Piece) → p.leng
 unfolding piece_at
 piece_lone opens a b rest p short =
     both (is_letter a) (word_alone (a ∷ []) (b ∷ rest) p short)
-    (number_lone (is_digit a) (a == 46 && is_digit b) (a == 46 && false) _ _ _ _ p (no_and (a == 46)) (number_alone (a ∷ []) (b ∷ rest) p short) (λ h e. absurd (omega (arith, point_long a b rest p h e, short)))
+    (number_lone (is_digit a) (a == 46 && is_digit b) (a == 46 && false) _ _ _ _ p (no_and (a == 46)) (number_alone (a ∷ []) (b ∷ rest) p short)
+    (λ h e. absurd (omega (arith, point_long a b rest p h e, short)))
     (both (is_blank a) (λ e. e)
     (both (a == 34) (string_alone a [] (b ∷ rest) p short)
     (both (a == 39) (character_alone (a ∷ []) (b ∷ rest) p (omega arith) short)
@@ -340,7 +359,8 @@ piece_lone opens a b rest p short =
     (marked_lone a b rest p short))))))
 
 -- the piece at the front of two bytes or more
-piece_more : (opens : Bool) (a b : ℕ) (t : List ℕ) (byte : ℕ) (rest : List ℕ) (p : Piece) → p.length ≤ length (a ∷ b ∷ t) → piece_at opens (a ∷ b ∷ (t ++ byte ∷ rest)) ≡ Some p → piece_at opens (a ∷ b ∷ t) ≡ Some p
+piece_more : (opens : Bool) (a b : ℕ) (t : List ℕ) (byte : ℕ) (rest : List ℕ) (p : Piece) → p.length ≤ length (a ∷ b ∷ t) → piece_at opens (a ∷ b ∷ (t ++ byte ∷ rest)) ≡ Some p
+    → piece_at opens (a ∷ b ∷ t) ≡ Some p
 unfolding piece_at
 piece_more opens a b t byte rest p short =
     both (is_letter a) (word_alone (a ∷ b ∷ t) (byte ∷ rest) p short)

@@ -21,6 +21,7 @@ abbrev nines : ℕ → ℕ → ℕ
 nines zero value = value
 nines (suc n) value = nines n (value * 10 + 9)
 
+-- nines make no value less
 nines_grow : (n value : ℕ) → value ≤ nines n value
 nines_grow zero value = omega arith
 nines_grow (suc n) value = omega (arith, nines_grow n (value * 10 + 9))
@@ -44,7 +45,8 @@ digits_of_ten : (digits : List ℕ) → list_all is_digit digits ≡ true → li
 digits_of_ten [] all = refl
 digits_of_ten (x ∷ xs) all =
     let digit = digit_small x (and_left (is_digit x) (list_all is_digit xs) all) in
-    and_both (nat_lt (digit_value x) 10) (list_all (λ byte. nat_lt (digit_value byte) 10) xs) (is_below (digit_value x) 10 (omega (arith, digit))) (digits_of_ten xs (and_right (is_digit x) (list_all is_digit xs) all))
+    and_both (nat_lt (digit_value x) 10) (list_all (λ byte. nat_lt (digit_value byte) 10) xs) (is_below (digit_value x) 10 (omega (arith, digit)))
+    (digits_of_ten xs (and_right (is_digit x) (list_all is_digit xs) all))
 
 -- nine digits at most have a value
 value_given : (digits : List ℕ) → list_all is_digit digits ≡ true → length digits < 10 → value_of 10 digits ≡ Some (digits_value 10 digits)
@@ -52,6 +54,7 @@ value_given digits all few =
     let small : digits_value 10 digits ≤ 999999999 = digits_small 9 digits 0 0 (omega (arith, few)) all (omega arith) in
     given 10 digits (digits_of_ten digits all) (omega (arith, small))
 
+-- the value that is given is the one
 value_step : (b : Bool) (x v : ℕ) → ◌≡◌ {A = Option ℕ} (cond b (Some x) None) (Some v) → v ≡ x
 value_step true x v e = cc e
 value_step false x v e = absurd (cc e)
@@ -69,17 +72,20 @@ record Begun (rest left : List ℕ) : Type 0 where
   pub blank : list_all is_inner_blank blanks ≡ true
   pub word_is : IsLineWord word
 
+-- the word `line` and one blank, where they stand
 line_word : (rest four : List ℕ) → rest ≡ codes "line" ++ four → is_blank (slice_index four 0) ≡ true → (word : List ℕ) × (IsLineWord word × (rest ≡ word ++ drop 5 rest))
 line_word rest [] is blank = absurd (cc blank)
 line_word rest (b ∷ more) is blank =
     let left : drop 5 rest ≡ more = ap (drop 5) is in
     (codes "line" ++ b ∷ [], (inr (b, (blank, refl)), is ∙ ap (λ l. codes "line" ++ (b ∷ l)) (sym left)))
 
+-- what stands before the number, by whether the word does
 begun_step : (b : Bool) (line rest : List ℕ) (front n : ℕ) → drop front line ≡ drop n rest → n ≡ prefix_len is_inner_blank rest
     → (starts_with nat_eq (drop front line) (codes "line") && is_blank (slice_index (drop front line) 4)) ≡ b → Begun rest (drop (cond b (front + 5) front) line)
 begun_step true line rest front n there run test =
     let here = drop front line in
-    let starts = (starts_is Decides-eqb here (codes "line") (starts_with nat_eq here (codes "line")) refl).0 (and_left (starts_with nat_eq here (codes "line")) (is_blank (slice_index here 4)) test) in
+    let starts =
+    (starts_is Decides-eqb here (codes "line") (starts_with nat_eq here (codes "line")) refl).0 (and_left (starts_with nat_eq here (codes "line")) (is_blank (slice_index here 4)) test) in
     let blank = subst (λ i. is_blank i ≡ true) (sym (first_left here 4)) (and_right (starts_with nat_eq here (codes "line")) (is_blank (slice_index here 4)) test) in
     let word = line_word here (drop 4 here) starts blank in
     let left : drop 5 here ≡ drop (front + 5) line = drop-drop 5 front line in
@@ -116,8 +122,10 @@ record Read (line : List ℕ) (marker : Marker) (start count : ℕ) : Type 0 whe
   pub value : value_of 10 (take count (drop start line)) ≡ Some marker.line
   pub name : marker.name ≡ name_at line (start + count)
 
+-- what holds where a marker is answered
 read_step : (x y z : Bool) (o : Option ℕ) (name : Option Span) (marker : Marker)
-    → cond (x && y && z) (option_map (λ (number : ℕ). record { line = number; name = name }) o) None ≡ Some marker → (x ≡ true) × (y ≡ true) × (z ≡ true) × (o ≡ Some marker.line) × (marker.name ≡ name)
+    → cond (x && y && z) (option_map (λ (number : ℕ). record { line = number; name = name }) o) None ≡ Some marker → (x ≡ true) × (y ≡ true) × (z ≡ true) × (o ≡ Some marker.line) ×
+    (marker.name ≡ name)
 read_step true true true None name marker e = absurd (cc e)
 read_step true true true (Some n) name marker e =
     let same : record { line = n; name = name } ≡ marker = cc e in
@@ -126,6 +134,7 @@ read_step true true false o name marker e = absurd (cc e)
 read_step true false z o name marker e = absurd (cc e)
 read_step false y z o name marker e = absurd (cc e)
 
+-- what holds of a line that is read as a marker
 read_of : (line : List ℕ) (marker : Marker) → marker_at line ≡ Some marker → Read line marker (number_start line) (prefix_len is_digit (drop (number_start line) line))
 unfolding marker_at
 read_of line marker e =
@@ -174,6 +183,7 @@ blank_no_digit byte h = grind (arith, nat_tests)
 digit_no_line : (byte : ℕ) → is_digit byte ≡ true → (108 == byte) ≡ false
 digit_no_line byte h = grind (arith, nat_tests)
 
+-- what is left, by whether the word stands there
 start_given : (b : Bool) (line : List ℕ) (front : ℕ) (tail : List ℕ) → (b ≡ true → drop (front + 5) line ≡ tail) → (b ≡ false → drop front line ≡ tail) → drop (cond b (front + 5) front) line ≡ tail
 start_given true line front tail x y = x refl
 start_given false line front tail x y = y refl
@@ -236,6 +246,7 @@ first_digit (x ∷ xs) rest all some = and_left (is_digit x) (list_all is_digit 
 apart_no_digit : (rest : List ℕ) → IsApart rest → (rest ≡ []) ⊎ (is_digit (slice_index rest 0) ≡ false)
 apart_no_digit rest h = elim h [ inl x ↦ inl x | inr x ↦ inr (blank_no_digit (slice_index rest 0) x) ]
 
+-- a marker is answered where all holds
 marker_step : (x y z : Bool) (o : Option Marker) (marker : Marker) → x ≡ true → y ≡ true → z ≡ true → o ≡ Some marker → cond (x && y && z) o None ≡ Some marker
 marker_step true true true o marker a b c d = d
 marker_step true true false o marker a b c d = absurd (cc c)
@@ -263,10 +274,12 @@ line_is_marker line number file h =
     let marker : Marker = record { line = digits_value 10 h.digits; name = name } in
     let some : nat_lt 0 count ≡ true = is_below 0 count (omega (arith, run, h.some)) in
     let few : nat_lt count 10 ≡ true = is_below count 10 (omega (arith, run, h.few)) in
-    let made : option_map (λ (number : ℕ). let m : Marker = record { line = number; name = name } in m) (value_of 10 (take count left)) ≡ Some marker = ap (option_map (λ (number : ℕ). let m : Marker = record { line = number; name = name } in m)) value in (
+    let made : option_map (λ (number : ℕ). let m : Marker = record { line = number; name = name } in m) (value_of 10 (take count left)) ≡ Some marker =
+    ap (option_map (λ (number : ℕ). let m : Marker = record { line = number; name = name } in m)) value in (
       marker,
       (
-        marker_step (nat_lt 0 count) (nat_lt count 10) (is_parted line (start + count)) (option_map (λ (number : ℕ). let m : Marker = record { line = number; name = name } in m) (value_of 10 (take count left))) marker some few parted made,
+        marker_step (nat_lt 0 count) (nat_lt count 10) (is_parted line (start + count))
+            (option_map (λ (number : ℕ). let m : Marker = record { line = number; name = name } in m) (value_of 10 (take count left))) marker some few parted made,
         (sym h.number_is, names_found line (start + count) file (subst (λ l. Names l file) end h.names)),
       ),
     )

@@ -38,7 +38,8 @@ take-take k m bytes within =
     ap (take k) (take-add k m bytes) ∙ ap (λ i. take i (front ++ more)) (sym (length-take-le k bytes within)) ∙ take-append_seam front more
 
 -- a cut of a front, without the rest
-pub cut_alone : (r : Reading) (bytes : List ℕ) (pieces : List Piece) (end : Reading) (rest : List ℕ) (n : ℕ) → Cuts r bytes pieces end rest → n + length rest ≡ length bytes → Cuts r (take n bytes) pieces end []
+pub cut_alone : (r : Reading) (bytes : List ℕ) (pieces : List Piece) (end : Reading) (rest : List ℕ) (n : ℕ) → Cuts r bytes pieces end rest → n + length rest ≡ length bytes
+    → Cuts r (take n bytes) pieces end []
 cut_alone r bytes [] end rest n cut h =
     let none : n ≡ 0 = omega (arith, ap length cut.1, h) in
     (cut.0, ap (λ i. take i bytes) none)

@@ -18,4 +18,14 @@ by_length (a ∷ b ∷ c ∷ d ∷ e ∷ f ∷ g ∷ []) = simp no_and
 by_length (a ∷ b ∷ c ∷ d ∷ e ∷ f ∷ g ∷ h ∷ []) = simp no_and
 by_length (a ∷ b ∷ c ∷ d ∷ e ∷ f ∷ g ∷ h ∷ i ∷ t) =
     let n = length (a ∷ b ∷ c ∷ d ∷ e ∷ f ∷ g ∷ h ∷ i ∷ t) in
-    simp (no_and, greater n 2 (omega arith), greater n 3 (omega arith), greater n 4 (omega arith), greater n 5 (omega arith), greater n 6 (omega arith), greater n 7 (omega arith), greater n 8 (omega arith))
+    simp (
+      no_and,
+      greater n 2 (omega arith),
+      greater n 3 (omega arith),
+      greater n 4 (omega arith),
+      greater n 5 (omega arith),
+      greater n 6 (omega arith),
+      greater n 7
+          (omega arith),
+      greater n 8 (omega arith),
+    )

@@ -19,6 +19,7 @@ use Rattle.snl_text.proofs.Whole.{whole_text}
 letter_no_number : (a : ℕ) (second : Bool) → is_letter a ≡ true → (is_digit a || a == 46 && second) ≡ true → ⊥
 letter_no_number a second letter number = grind (arith, nat_tests)
 
+-- the second test decides where the first fails
 skip : (b c : Bool) (X N Y : Option Piece) (p : Piece) → (b ≡ true → c ≡ true → ⊥) → c ≡ true → cond b X (cond c N Y) ≡ Some p → N ≡ Some p
 skip true c X N Y p never holds e = absurd (never refl holds)
 skip false true X N Y p never holds e = e
@@ -56,6 +57,7 @@ two_first m n opens (a ∷ []) [] p some whole e long h = h
 two_first m n opens (a ∷ []) (b ∷ rest) p some whole e long h = absurd (omega (arith, long a b rest (tested a b m n h) e, whole))
 two_first m n opens (a ∷ b ∷ t) rest p some whole e long h = h
 
+-- a `#` stands as a line
 hash_there : (opens : Bool) (text : List ℕ) (p : Piece) → (slice_index text 0 == 35) ≡ true → piece_at opens text ≡ Some p → cond opens (directive_at text) None ≡ Some p
 unfolding piece_at
 hash_there opens [] p h e = absurd (cc h)
@@ -64,14 +66,17 @@ hash_there opens (a ∷ t) p h e =
     let here : piece_at opens (35 ∷ t) ≡ Some p = subst (λ x. piece_at opens (x ∷ t) ≡ Some p) is e in
     subst (λ x. cond opens (directive_at (x ∷ t)) None ≡ Some p) (sym is) here
 
+-- it stands only where a line opens
 opens_there : (opens : Bool) (found : Option Piece) (p : Piece) → cond opens found None ≡ Some p → opens ≡ true
 opens_there true found p e = refl
 opens_there false found p e = absurd (none_some e)
 
+-- what was made of something
 says_some : (o : Option Sort) (f : Sort → Piece) (p : Piece) → option_map f o ≡ Some p → is_some o ≡ true
 says_some None f p e = absurd (none_some e)
 says_some (Some s) f p e = refl
 
+-- its line says something
 says_there : (opens : Bool) (text : List ℕ) (p : Piece) → cond opens (directive_at text) None ≡ Some p → is_some (says_of (take (prefix_len is_in_line text) text)) ≡ true
 unfolding directive_at
 says_there true text p e =

@@ -53,6 +53,7 @@ is_equal a b h = grind (arith, nat_tests)
 run_some : (q : ℕ → Bool) (a : ℕ) (rest : List ℕ) → q a ≡ true → 0 < prefix_len q (a ∷ rest)
 run_some q a rest h = rw h (omega arith)
 
+-- a test holds with its first part
 or_left : (x y : Bool) → x ≡ true → (x || y) ≡ true
 or_left true y h = refl
 or_left false y h = absurd (cc h)
@@ -67,13 +68,15 @@ word_has a rest letter = record {
   within = prefix_len-le-length is_name_byte (a ∷ rest);
 }
 
+-- a number of one of the two kinds
 number_step : (b c : Bool) (n most : ℕ) → 0 < n → n ≤ most → (b || c) ≡ true → Has most (cond b (Some (piece (sort.Token k.Whole) n)) (cond c (Some (piece (sort.Token k.Decimal) n)) None))
 number_step true c n most some within h = record { found = piece (sort.Token k.Whole) n; is = refl; some = some; within = within }
 number_step false true n most some within h = record { found = piece (sort.Token k.Decimal) n; is = refl; some = some; within = within }
 number_step false false n most some within h = absurd (cc h)
 
 -- a number word that stands whole
-number_has : (text rest : List ℕ) → 0 < length text → length text ≡ prefix_len is_number_byte (text ++ rest) → (list_all is_number_byte text ≡ true) × ((is_some (whole_value text) || is_some (decimal_value text)) ≡ true)
+number_has : (text rest : List ℕ) → 0 < length text → length text ≡ prefix_len is_number_byte (text ++ rest)
+    → (list_all is_number_byte text ≡ true) × ((is_some (whole_value text) || is_some (decimal_value text)) ≡ true)
     → Has (length (text ++ rest)) (number_at (text ++ rest))
 unfolding number_at
 number_has text rest some same h =
@@ -102,8 +105,15 @@ made_has : {A : Type 0} (sort_of : A → Sort) (o : Option (A × ℕ)) (n most :
 made_has {A} sort_of o n most some within h =
     let made = length_made o n h in
     let same : made.0.1 ≡ n = cc made.1.1 in
-    record { found = piece (sort_of made.0.0) made.0.1; is = ap (option_map (λ (f : A × ℕ). piece (sort_of f.0) f.1)) made.1.0; some = omega (arith, same, some); within = omega (arith, same, within) }
+    record {
+      found = piece (sort_of made.0.0) made.0.1;
+      is = ap (option_map (λ (f : A × ℕ). piece (sort_of f.0) f.1)) made.1.0;
+      some = omega (arith, same, some);
+      within = omega
+          (arith, same, within);
+    }
 
+-- a character constant has more than two bytes
 character_long : (b : Bool) → 2 < cond b 4 3
 character_long true = omega arith
 character_long false = omega arith
@@ -134,15 +144,19 @@ character_has text rest some h =
     let there = ap (option_map (λ (f : ℕ × ℕ). f.1)) (character_more text rest h) ∙ h in
     made_has {A = ℕ} (λ _. sort.Token k.Character) (character_at (text ++ rest)) (length text) (length (text ++ rest)) some (omega (arith, length-append text rest)) there
 
+-- a line ends within the bytes
 line_within : (n whole : ℕ) (b : Bool) → ((b ≡ true) × (n ≡ whole)) ⊎ ((b ≡ false) × (n ≢ whole)) → n ≤ whole → cond b n (n + 1) ≤ whole
 line_within n whole true h most = most
 line_within n whole false h most = elim h [ inl x ↦ absurd (cc x.0) | inr x ↦ (let other : n ≢ whole = x.1 in omega (arith, other)) ]
 
+-- a line is not empty
 line_some : (b : Bool) (n : ℕ) → 0 < n → 0 < cond b n (n + 1)
 line_some true n h = h
 line_some false n h = omega arith
 
-says_has : (says : Option Sort) (b : Bool) (n most : ℕ) → 0 < n → cond b n (n + 1) ≤ most → is_some says ≡ true → Has most (option_map (λ (s : Sort). cond b (piece sort.Skipped n) (piece s (n + 1))) says)
+-- a line that says something is a piece
+says_has : (says : Option Sort) (b : Bool) (n most : ℕ) → 0 < n → cond b n (n + 1) ≤ most → is_some says ≡ true
+    → Has most (option_map (λ (s : Sort). cond b (piece sort.Skipped n) (piece s (n + 1))) says)
 says_has None b n most some within h = absurd (cc h)
 says_has (Some s) true n most some within h = record { found = piece sort.Skipped n; is = refl; some = some; within = within }
 says_has (Some s) false n most some within h = record { found = piece s (n + 1); is = refl; some = omega arith; within = within }
@@ -194,7 +208,8 @@ hash_has true a t rest is opens longest says =
     subst (λ x. Has (length (x ∷ (t ++ rest))) (directive_at (x ∷ (t ++ rest)))) (sym is) here
 
 -- what two bytes open and two close
-block_has : (s : Sort) (close end : ℕ) → (0 == end) ≡ false → (a b : ℕ) (t rest : List ℕ) → through close end t ≡ Some (length (a ∷ b ∷ t) - 2) → Has (length (a ∷ b ∷ (t ++ rest))) (block_at s close end (a ∷ b ∷ (t ++ rest)))
+block_has : (s : Sort) (close end : ℕ) → (0 == end) ≡ false → (a b : ℕ) (t rest : List ℕ) → through close end t ≡ Some (length (a ∷ b ∷ t) - 2)
+    → Has (length (a ∷ b ∷ (t ++ rest))) (block_at s close end (a ∷ b ∷ (t ++ rest)))
 unfolding block_at
 block_has s close end real a b t rest h =
     let count = length (a ∷ b ∷ t) - 2 in
@@ -211,14 +226,17 @@ to_end_has s m n a rest in_line is = record {
   within = prefix_len-le-length is_in_line (a ∷ rest);
 }
 
+-- a sign of one byte
 one_within : (one : Option Kind) (f : Kind × ℕ) → first_sign None None one ≡ Some f → (0 < f.1) × (f.1 ≤ 1)
 one_within None f e = absurd (cc e)
 one_within (Some x) f e = let same : 1 ≡ f.1 = cc e in (omega (arith, same), omega (arith, same))
 
+-- a sign of two bytes or fewer
 two_within : (two one : Option Kind) (f : Kind × ℕ) → first_sign None two one ≡ Some f → (0 < f.1) × (f.1 ≤ 2)
 two_within None one f e = let w = one_within one f e in (w.0, omega (arith, w.1))
 two_within (Some x) one f e = let same : 2 ≡ f.1 = cc e in (omega (arith, same), omega (arith, same))
 
+-- a sign of three bytes or fewer
 three_within : (three two one : Option Kind) (f : Kind × ℕ) → first_sign three two one ≡ Some f → (0 < f.1) × (f.1 ≤ 3)
 three_within None two one f e = let w = two_within two one f e in (w.0, omega (arith, w.1))
 three_within (Some x) two one f e = let same : 3 ≡ f.1 = cc e in (omega (arith, same), omega (arith, same))
@@ -228,6 +246,7 @@ no_sign : sign_at [] ≡ None
 unfolding sign_at
 no_sign = refl
 
+-- nothing is no sign
 nothing_some : {f : Kind × ℕ} → ◌≡◌ {A = Option (Kind × ℕ)} None (Some f) → ⊥
 nothing_some e = cc
 
@@ -237,7 +256,8 @@ unfolding sign_by_bytes
 sign_within [] f e = absurd (nothing_some (sym no_sign ∙ e))
 sign_within (a ∷ []) f e =
     let found : sign_by_bytes (a ∷ []) ≡ Some f = by_bytes (a ∷ []) ∙ e in
-    let alone : first_sign None None (sign_of_one a) ≡ Some f = subst (λ o. first_sign None o (sign_of_one a) ≡ Some f) (no_second a) (subst (λ o. first_sign o (sign_of_two a 0) (sign_of_one a) ≡ Some f) (no_third a 0) found) in
+    let alone : first_sign None None (sign_of_one a) ≡ Some f =
+    subst (λ o. first_sign None o (sign_of_one a) ≡ Some f) (no_second a) (subst (λ o. first_sign o (sign_of_two a 0) (sign_of_one a) ≡ Some f) (no_third a 0) found) in
     one_within (sign_of_one a) f alone
 sign_within (a ∷ b ∷ []) f e =
     let found : sign_by_bytes (a ∷ b ∷ []) ≡ Some f = by_bytes (a ∷ b ∷ []) ∙ e in
@@ -246,11 +266,13 @@ sign_within (a ∷ b ∷ c ∷ t) f e =
     let w = three_within (sign_of_three a b c) (sign_of_two a b) (sign_of_one a) f (by_bytes (a ∷ b ∷ c ∷ t) ∙ e) in
     (w.0, omega (arith, w.1))
 
+-- a sign of one byte leaves one there
 one_more : (three two one : Option Kind) → is_some (first_sign None None one) ≡ true → is_some (first_sign three two one) ≡ true
 one_more (Some x) two one h = refl
 one_more None (Some x) one h = refl
 one_more None None one h = h
 
+-- a sign of two bytes or fewer leaves one there
 two_more : (three two one : Option Kind) → is_some (first_sign None two one) ≡ true → is_some (first_sign three two one) ≡ true
 two_more (Some x) two one h = refl
 two_more None two one h = h
@@ -266,10 +288,12 @@ sign_more (a ∷ b ∷ []) rest h some =
     two_more (sign_of_three a b (slice_index rest 0)) (sign_of_two a b) (sign_of_one a) (subst (λ o. is_some (first_sign o (sign_of_two a b) (sign_of_one a)) ≡ true) (no_third a b) h)
 sign_more (a ∷ b ∷ c ∷ t) rest h some = h
 
+-- a sign that is found is a piece
 found_has : (o : Option (Kind × ℕ)) (most : ℕ) → ((f : Kind × ℕ) → o ≡ Some f → (0 < f.1) × (f.1 ≤ most)) → is_some o ≡ true → Has most (option_map (λ (f : Kind × ℕ). piece (sort.Token f.0) f.1) o)
 found_has None most within h = absurd (cc h)
 found_has (Some f) most within h = record { found = piece (sort.Token f.0) f.1; is = refl; some = (within f refl).0; within = (within f refl).1 }
 
+-- what has a length is there
 length_some : (o : Option (Kind × ℕ)) (n : ℕ) → option_map (λ f. f.1) o ≡ Some n → is_some o ≡ true
 length_some None n h = absurd (no_length h)
 length_some (Some f) n h = refl
@@ -307,16 +331,19 @@ marked_one a rest comment embedded =
     (sign_has (a ∷ []) rest (omega arith)))))
 
 -- a number of one byte
-number_one : (digit second none : Bool) (n : ℕ) (X Y : Option Piece) (P Q : Type 0) → none ≡ false → (digit ≡ true → P → Has n X) → (second ≡ true → ⊥) → (Q → Has n Y) → MatchBool (digit || none) P Q → Has n (cond (digit || second) X Y)
+number_one : (digit second none : Bool) (n : ℕ) (X Y : Option Piece) (P Q : Type 0) → none ≡ false → (digit ≡ true → P → Has n X) → (second ≡ true → ⊥) → (Q → Has n Y)
+    → MatchBool (digit || none) P Q → Has n (cond (digit || second) X Y)
 number_one true second none n X Y P Q is x never y h = x refl h
 number_one false true none n X Y P Q is x never y h = absurd (never refl)
 number_one false false true n X Y P Q is x never y h = absurd (cc is)
 number_one false false false n X Y P Q is x never y h = y h
 
+-- a test holds with its first part
 or_one : (x y : Bool) → x ≡ true → (x || y) ≡ true
 or_one true y h = refl
 or_one false y h = absurd (cc h)
 
+-- a test holds with its second part
 or_other : (x y : Bool) → y ≡ true → (x || y) ≡ true
 or_other true y h = refl
 or_other false y h = h
@@ -326,6 +353,7 @@ no_point : (a : ℕ) (rest : List ℕ) → (begins_number (a ∷ rest) ≡ true 
 no_point a [] number h = cc (sym h ∙ no_and (a == 46))
 no_point a (b ∷ rest) number h = omega (arith, number (or_other (is_digit a) (a == 46 && is_digit b) h), point_run a b rest h)
 
+-- a text of two bytes or more that can stand
 piece_has : (r : Reading) (a b : ℕ) (t rest : List ℕ) → CanStand r (a ∷ b ∷ t) rest → IsText (a ∷ b ∷ t) → Has (length (a ∷ b ∷ (t ++ rest))) (piece_at r.opens_line (a ∷ b ∷ (t ++ rest)))
 unfolding piece_at
 piece_has r a b t rest can =
@@ -339,13 +367,15 @@ piece_has r a b t rest can =
     (find (a == 35) n _ _ _ _ (λ is h. hash_has r.opens_line a (b ∷ t) rest (is_equal a 35 is) (can.opens is) can.longest (can.says is))
     (marked_has a b t rest))))))
 
+-- a text of one byte that can stand
 piece_one : (r : Reading) (a : ℕ) (rest : List ℕ) → CanStand r (a ∷ []) rest → IsText (a ∷ []) → Has (length (a ∷ rest)) (piece_at r.opens_line (a ∷ rest))
 unfolding piece_at
 piece_one r a rest can =
     let text = a ∷ [] in
     let n = length (a ∷ rest) in
     find (is_letter a) n _ _ _ _ (λ is _. word_has a rest is)
-    (number_one (is_digit a) (a == 46 && is_digit (slice_index rest 0)) (a == 46 && false) n _ _ _ _ (no_and (a == 46)) (λ is h. number_has text rest (omega arith) (can.number (or_one (is_digit a) (a == 46 && is_digit (slice_index rest 0)) is)) h) (no_point a rest can.number)
+    (number_one (is_digit a) (a == 46 && is_digit (slice_index rest 0)) (a == 46 && false) n _ _ _ _ (no_and (a == 46))
+    (λ is h. number_has text rest (omega arith) (can.number (or_one (is_digit a) (a == 46 && is_digit (slice_index rest 0)) is)) h) (no_point a rest can.number)
     (find (is_blank a) n _ _ _ _ (λ _ h. record { found = piece (blank_sort a) 1; is = refl; some = omega arith; within = omega arith })
     (find (a == 34) n _ _ _ _ (λ _ h. string_has a [] rest h)
     (find (a == 39) n _ _ _ _ (λ _ h. character_has text rest (omega arith) h)

@@ -25,6 +25,7 @@ chosen : (b : Bool) {X Y : Option Piece} {P Q : Type 0} {p : Piece} → (X ≡ S
 chosen true x y = x
 chosen false x y = y
 
+-- one byte more of one class
 all_step : (b c : Bool) (n whole : ℕ) → (n ≡ whole → c ≡ true) → cond b (1 + n) 0 ≡ suc whole → (b && c) ≡ true
 all_step true c n whole more h = more (omega (arith, h))
 all_step false c n whole more h = absurd (omega (arith, h))
@@ -39,6 +40,7 @@ word_text : (text : List ℕ) (p : Piece) → p.length ≡ length text → ◌�
 unfolding word_at
 word_text text p whole e = all_of_run is_name_byte text (ap (λ (q : Piece). q.length) (some_piece e) ∙ whole)
 
+-- one of the two holds
 one_of : (b c : Bool) (x y : Piece) (p : Piece) → cond b (Some x) (cond c (Some y) None) ≡ Some p → (b || c) ≡ true
 one_of true c x y p e = refl
 one_of false true x y p e = refl
@@ -68,6 +70,7 @@ character_text : (text : List ℕ) (p : Piece) → p.length ≡ length text → 
 unfolding character_piece
 character_text text p whole e = lengths_of {A = ℕ} (λ _. sort.Token k.Character) (character_at text) p e ∙ ap (λ i. Some i) whole
 
+-- a line has one byte more at most
 line_long : (b : Bool) (n : ℕ) → cond b n (n + 1) ≤ n + 1
 line_long true n = omega arith
 line_long false n = omega arith

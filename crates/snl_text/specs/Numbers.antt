@@ -19,7 +19,8 @@ digits_value base digits = fold (λ value byte. value * base + digit_value byte)
 -- the value of digits of a base, if there are no other bytes and it is at most 2^63 - 1; of no digits 0
 unfoldable pub value_of : ℕ → List ℕ → Option ℕ
 value_of base text =
-    if list_all (λ byte. nat_lt (digit_value byte) base) text && nat_lt (digits_value base text) (2 ^ 63) then Some (digits_value base text) else None
+    if list_all (λ byte. nat_lt (digit_value byte) base) text && nat_lt (digits_value base text) (2 ^ 63)
+    then Some (digits_value base text) else None
 
 -- the same of at least one digit
 unfoldable pub value_in : ℕ → List ℕ → Option ℕ
@@ -39,15 +40,15 @@ whole_value text =
     if is_byte (codes "0") (slice_index digits 0) && (is_byte (codes "x") (slice_index digits 1) || is_byte (codes "X") (slice_index digits 1)) then value_in 16 (drop 2 digits)
     else (if is_byte (codes "0") (slice_index digits 0) then value_in 8 digits else value_in 10 digits)
 
--- three digits: those at the front of the fraction, with zeros behind them where it has fewer
+-- three digits: those at the front of the fraction, with zeros after them where it has fewer
 abbrev pub thousandths_of : List ℕ → ℕ
 thousandths_of fraction = digits_value 10 (take 3 (fraction ++ codes "000"))
 
--- whether no digit behind the third is other than 0
+-- whether no digit after the third is other than 0
 abbrev pub is_exact : List ℕ → Bool
 is_exact fraction = list_all (is_byte (codes "0")) (drop 3 fraction)
 
--- a whole part of at most 10^12, and the digits behind the point
+-- a whole part of at most 10^12, and the digits after the point
 abbrev pub decimal_of : Option ℕ → List ℕ → Option DecimalValue
 decimal_of None fraction = None
 decimal_of (Some whole) fraction =
