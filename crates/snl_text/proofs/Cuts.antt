@@ -21,7 +21,8 @@ use Rattle.snl_text.specs.declared.pieces.Sort.{Sort}
 use Rattle.snl_text.specs.declared.pieces.Sort.TheVariants as sort
 
 -- one piece more
-pub cut_push : (r : Reading) (bytes : List ℕ) (pieces : List Piece) (end : Reading) (rest : List ℕ) (piece : Piece) → Cuts r bytes pieces end rest → Stands end rest piece → Cuts r bytes (pieces ++ piece ∷ []) (after end (take piece.length rest) piece.sort) (drop piece.length rest)
+pub cut_push : (r : Reading) (bytes : List ℕ) (pieces : List Piece) (end : Reading) (rest : List ℕ) (piece : Piece) → Cuts r bytes pieces end rest → Stands end rest piece
+    → Cuts r bytes (pieces ++ piece ∷ []) (after end (take piece.length rest) piece.sort) (drop piece.length rest)
 cut_push r bytes [] end rest piece cut stands =
     let there : Stands r bytes piece = subst (λ (s : Reading). Stands s bytes piece) (sym cut.0) (subst (λ (b : List ℕ). Stands end b piece) (sym cut.1) stands) in
     let same : after r (take piece.length bytes) piece.sort ≡ after end (take piece.length rest) piece.sort =
@@ -30,13 +31,16 @@ cut_push r bytes [] end rest piece cut stands =
 cut_push r bytes (p ∷ ps) end rest piece cut stands =
     (cut.0, cut_push (after r (take p.length bytes) p.sort) (drop p.length bytes) ps end rest piece cut.1 stands)
 
+-- at the end no piece can stand
 pub at_end : (r : Reading) → IsStuck r []
 at_end r piece stands = absurd (omega (arith, stands.some, stands.within))
 
-none_is_some : {a : Piece} → ◌≡◌ {A = Option Piece} None (Some a) → ⊥
+-- nothing is no piece
+pub none_is_some : {a : Piece} → ◌≡◌ {A = Option Piece} None (Some a) → ⊥
 none_is_some e = cc
 
-some_are_one : {a b : Piece} → ◌≡◌ {A = Option Piece} (Some a) (Some b) → a ≡ b
+-- two pieces found at one place are one
+pub some_are_one : {a b : Piece} → ◌≡◌ {A = Option Piece} (Some a) (Some b) → a ≡ b
 some_are_one e = cc
 
 -- any cut begins the one that can't go on
@@ -45,7 +49,9 @@ pub record Continues (r : Reading) (bytes : List ℕ) (front : List Piece) (ther
   pub is_whole : whole ≡ front ++ more
   pub cut : Cuts there left more end rest
 
-pub continues : (r : Reading) (bytes : List ℕ) (front : List Piece) (there : Reading) (left : List ℕ) (whole : List Piece) (end : Reading) (rest : List ℕ) → Cuts r bytes front there left → Cuts r bytes whole end rest → IsStuck end rest → Continues r bytes front there left whole end rest
+-- a cut that begins another one is continued by it
+pub continues : (r : Reading) (bytes : List ℕ) (front : List Piece) (there : Reading) (left : List ℕ) (whole : List Piece) (end : Reading) (rest : List ℕ) → Cuts r bytes front there left
+    → Cuts r bytes whole end rest → IsStuck end rest → Continues r bytes front there left whole end rest
 continues r bytes [] there left whole end rest f w stuck = record {
   more = whole;
   is_whole = refl;
@@ -55,7 +61,8 @@ continues r bytes (p ∷ ps) there left [] end rest f w stuck =
     absurd (stuck p (subst (λ (b : List ℕ). Stands end b p) w.1 (subst (λ (s : Reading). Stands s bytes p) w.0 f.0)))
 continues r bytes (p ∷ ps) there left (q ∷ qs) end rest f w stuck =
     let same : p ≡ q = some_are_one (sym f.0.there ∙ w.0.there) in
-    let tail : Cuts (after r (take p.length bytes) p.sort) (drop p.length bytes) qs end rest = subst (λ (x : Piece). Cuts (after r (take x.length bytes) x.sort) (drop x.length bytes) qs end rest) (sym same) w.1 in
+    let tail : Cuts (after r (take p.length bytes) p.sort) (drop p.length bytes) qs end rest =
+    subst (λ (x : Piece). Cuts (after r (take x.length bytes) x.sort) (drop x.length bytes) qs end rest) (sym same) w.1 in
     let inner = continues (after r (take p.length bytes) p.sort) (drop p.length bytes) ps there left qs end rest f.1 tail stuck in
     record {
       more = inner.more;
@@ -74,20 +81,25 @@ offset_renamed : (r : Reading) (text : List ℕ) (marker : Marker) (name : Optio
 offset_renamed r text marker None = refl
 offset_renamed r text marker (Some span) = refl
 
+-- a marker sets no line past the limit
 line_renamed : (r : Reading) (text : List ℕ) (marker : Marker) (name : Option Span) → marker.line < 2 ^ 63 → (renamed r text marker name).pos.line < 2 ^ 63 + (r.pos.offset + length text)
 line_renamed r text marker None h = omega arith
 line_renamed r text marker (Some span) h = omega arith
 
+-- one name more at most
 with_name_length : (b : Bool) (names : List (List ℕ)) (name : List ℕ) → length (cond b names (names ++ name ∷ [])) ≤ length names + 1
 with_name_length true names name = omega arith
 with_name_length false names name = omega (arith, length-append names (name ∷ []))
 
-files_renamed : (r : Reading) (text : List ℕ) (marker : Marker) (name : Option Span) → length r.files ≤ r.pos.offset → 0 < length text → length (renamed r text marker name).files ≤ r.pos.offset + length text
+-- a marker brings one name at most
+files_renamed : (r : Reading) (text : List ℕ) (marker : Marker) (name : Option Span) → length r.files ≤ r.pos.offset → 0 < length text
+    → length (renamed r text marker name).files ≤ r.pos.offset + length text
 files_renamed r text marker None h some = omega arith
 files_renamed r text marker (Some span) h some =
     let name : List ℕ = slice_range text span.start span.end in
     omega (arith, with_name_length (list_any (bytes_eq name) r.files) r.files name)
 
+-- a piece leads on by the bytes of its text
 pub offset_after : (r : Reading) (text : List ℕ) (sort : Sort) → (after r text sort).pos.offset ≡ r.pos.offset + length text
 offset_after r text sort.Blank = refl
 offset_after r text sort.LineEnd = refl
@@ -96,6 +108,7 @@ offset_after r text sort.EmbeddedC = refl
 offset_after r text (sort.Marker marker) = offset_renamed r text marker marker.name
 offset_after r text (sort.Token kind) = refl
 
+-- a piece leads to no line past the limit
 pub line_after : (r : Reading) (text : List ℕ) (sort : Sort) → r.pos.line < 2 ^ 63 + r.pos.offset → SortFits (length text) sort → (after r text sort).pos.line < 2 ^ 63 + (r.pos.offset + length text)
 line_after r text sort.Blank h fits = omega arith
 line_after r text sort.LineEnd h fits = omega (arith, count_by-le-length (λ byte. byte == 10) text)
@@ -104,6 +117,7 @@ line_after r text sort.EmbeddedC h fits = omega (arith, count_by-le-length (λ b
 line_after r text (sort.Marker marker) h fits = line_renamed r text marker marker.name fits.0
 line_after r text (sort.Token kind) h fits = omega arith
 
+-- a piece brings one name at most
 pub files_after : (r : Reading) (text : List ℕ) (sort : Sort) → length r.files ≤ r.pos.offset → 0 < length text → length (after r text sort).files ≤ r.pos.offset + length text
 files_after r text sort.Blank h some = omega arith
 files_after r text sort.LineEnd h some = omega arith
@@ -120,6 +134,7 @@ pub record Reached (source : List ℕ) (r : Reading) : Type 0 where
   pub line : r.pos.line < 2 ^ 63 + r.pos.offset
   pub files : length r.files ≤ r.pos.offset
 
+-- at the begin nothing is cut
 pub begun : (source : List ℕ) → Reached source nothing_read
 begun source = record {
   pieces = [];
@@ -129,7 +144,9 @@ begun source = record {
   files = omega arith;
 }
 
-pub step : (source : List ℕ) (r : Reading) (rest : List ℕ) (piece : Piece) → Reached source r → rest ≡ drop r.pos.offset source → r.pos.offset < length source → Some piece ≡ piece_at r.opens_line rest → FitsIn (length rest) piece → Reached source (after r (take piece.length rest) piece.sort)
+-- a piece more is reached
+pub step : (source : List ℕ) (r : Reading) (rest : List ℕ) (piece : Piece) → Reached source r → rest ≡ drop r.pos.offset source → r.pos.offset < length source
+    → Some piece ≡ piece_at r.opens_line rest → FitsIn (length rest) piece → Reached source (after r (take piece.length rest) piece.sort)
 step source r rest piece reached is short there fits =
     let text = take piece.length rest in
     let long : length text ≡ piece.length = length-take-le piece.length rest fits.1 in
@@ -147,7 +164,9 @@ step source r rest piece reached is short there fits =
       files = omega (arith, offset, files_after r text piece.sort reached.files (omega (arith, long, fits.0)));
     }
 
-pub stuck_fault : (source : List ℕ) (r : Reading) (rest : List ℕ) (kind : Flaw) → Reached source r → rest ≡ drop r.pos.offset source → r.pos.offset < length source → None ≡ piece_at r.opens_line rest → kind ≡ flaw_at rest → IsFault source kind r.pos
+-- where no piece can stand before the end, the fault is
+pub stuck_fault : (source : List ℕ) (r : Reading) (rest : List ℕ) (kind : Flaw) → Reached source r → rest ≡ drop r.pos.offset source → r.pos.offset < length source
+    → None ≡ piece_at r.opens_line rest → kind ≡ flaw_at rest → IsFault source kind r.pos
 stuck_fault source r rest kind reached is short none kind_is =
     let stuck : IsStuck r rest = λ piece stands. none_is_some (none ∙ stands.there) in
     let left : length rest + r.pos.offset ≡ length source = omega (arith, ap length is, length-drop r.pos.offset source) in
@@ -165,6 +184,7 @@ stuck_fault source r rest kind reached is short none kind_is =
       pos_is = refl;
     }
 
+-- a fault of a kind at a place holds
 pub fault_holds : (source : List ℕ) (kind : Flaw) (pos : Pos) → IsFault source kind pos → FaultHolds source (fault_of kind pos)
 fault_holds source flaw.BadByte pos h = h
 fault_holds source flaw.OpenComment pos h = h
@@ -178,14 +198,16 @@ same_end r bytes [] end rest cut stuck = (cut.0, cut.1, refl)
 same_end r bytes (p ∷ ps) end rest cut stuck = absurd (stuck p cut.0)
 
 -- a law of its own: of two cuts that can't go on there is one
-pub one_cut : (source : List ℕ) (ps qs : List Piece) (d e : Reading) (left rest : List ℕ) → Cuts nothing_read source ps d left → IsStuck d left → Cuts nothing_read source qs e rest → IsStuck e rest → (ps ≡ qs) × (d ≡ e) × (left ≡ rest)
+pub one_cut : (source : List ℕ) (ps qs : List Piece) (d e : Reading) (left rest : List ℕ) → Cuts nothing_read source ps d left → IsStuck d left → Cuts nothing_read source qs e rest
+    → IsStuck e rest → (ps ≡ qs) × (d ≡ e) × (left ≡ rest)
 one_cut source ps qs d e left rest p at_d q at_e =
     let on = continues nothing_read source ps d left qs e rest p q at_e in
     let same = same_end d left on.more e rest on.cut at_d in
     (sym (on.is_whole ∙ ap (λ (more : List Piece). ps ++ more) same.2 ∙ append-nil ps), same.0, same.1)
 
 -- no cut passes a place where no piece can stand
-pub none_passes : (source : List ℕ) (pieces others : List Piece) (end there : Reading) (rest left : List ℕ) → Cuts nothing_read source pieces end rest → IsStuck end rest → Cuts nothing_read source others there left → length rest ≤ length left
+pub none_passes : (source : List ℕ) (pieces others : List Piece) (end there : Reading) (rest left : List ℕ) → Cuts nothing_read source pieces end rest → IsStuck end rest
+    → Cuts nothing_read source others there left → length rest ≤ length left
 none_passes source pieces others end there rest left cut stuck other =
     let on = continues nothing_read source others there left pieces end rest other cut stuck in
     shrinks there left on.more end rest on.cut
@@ -210,7 +232,8 @@ pub no_fault : (source : List ℕ) (pieces : List Piece) (end : Reading) (kind :
 no_fault source pieces end kind pos cut fault = omega (arith, fault.longest pieces end [] cut, fault.short)
 
 -- what lex ensures of a source, once it is known what it answered
-pub whole : (source : List ℕ) (result : Result Lexed LexFault) → IfOk result (IsLexed source) → IfErr result (FaultHolds source) → length source ≤ 1048576 → (pieces : List Piece) (end : Reading) → Cuts nothing_read source pieces end [] → GivesOnly end result
+pub whole : (source : List ℕ) (result : Result Lexed LexFault) → IfOk result (IsLexed source) → IfErr result (FaultHolds source) → length source ≤ 1048576
+    → (pieces : List Piece) (end : Reading) → Cuts nothing_read source pieces end [] → GivesOnly end result
 whole source (Ok lexed) ok err short pieces end cut =
     let one = one_cut source ok.cut.pieces pieces ok.end end [] [] ok.cut.cut (at_end ok.end) cut (at_end end) in
     subst (λ (r : Reading). IsReading r lexed) one.1 ok.reads
@@ -222,7 +245,9 @@ whole source (Err (fault.SourceTooLong pos)) ok err short pieces end cut = absur
 whole source (Err (fault.OpenEmbeddedC pos)) ok err short pieces end cut = absurd (no_fault source pieces end flaw.OpenEmbeddedC pos cut err)
 whole source (Err fault.Memory) ok err short pieces end cut = refl
 
-pub broken : (source : List ℕ) (result : Result Lexed LexFault) → IfOk result (IsLexed source) → IfErr result (FaultHolds source) → length source ≤ 1048576 → (kind : Flaw) (pos : Pos) → IsFault source kind pos → FaultsOnly kind pos result
+-- what lex ensures of a source that has a fault
+pub broken : (source : List ℕ) (result : Result Lexed LexFault) → IfOk result (IsLexed source) → IfErr result (FaultHolds source) → length source ≤ 1048576 → (kind : Flaw) (pos : Pos)
+    → IsFault source kind pos → FaultsOnly kind pos result
 broken source (Ok lexed) ok err short kind pos is = absurd (no_fault source ok.cut.pieces ok.end kind pos ok.cut.cut is)
 broken source (Err (fault.BadByte there)) ok err short kind pos is = one_fault source flaw.BadByte kind there pos err is
 broken source (Err (fault.OpenComment there)) ok err short kind pos is = one_fault source flaw.OpenComment kind there pos err is

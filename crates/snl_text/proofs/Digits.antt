@@ -9,6 +9,7 @@ use Rattle.std.proofs.lemmas.List.{take-append-drop}
 use Rattle.std.proofs.lemmas.Bool.Decides.{nat_tests}
 use Rattle.snl_text.specs.Numbers.{digit_value, digits_value, value_of}
 
+-- one digit more makes no value less
 step : (value base d : ℕ) → 1 ≤ base → value ≤ value * base + d
 step value base d h = omega (arith, mul-le-mul_left value h)
 
@@ -20,6 +21,7 @@ grows base h value (x ∷ xs) =
     let first = step value base (digit_value x) h in
     omega (arith, more, first)
 
+-- the first digits are worth no more than all
 pub front_grows : (base : ℕ) → 1 ≤ base → (digits : List ℕ) (i : ℕ) → digits_value base (take i digits) ≤ digits_value base digits
 front_grows base h digits i =
     let f : ℕ → ℕ → ℕ = λ v byte. v * base + digit_value byte in
@@ -44,6 +46,7 @@ too_large base digits i h large =
     let no : nat_lt (digits_value base digits) (2 ^ 63) ≡ false = grind (arith, nat_tests, more, large) in
     rw no (grind (arith, nat_tests))
 
+-- digits of the base below the limit have a value
 pub given : (base : ℕ) (digits : List ℕ) → list_all (λ byte. nat_lt (digit_value byte) base) digits ≡ true → digits_value base digits < 2 ^ 63 → value_of base digits ≡ Some (digits_value base digits)
 unfolding value_of
 given base digits all small =

@@ -1,4 +1,16 @@
+pub mod Ascending
+pub mod Conditions
 pub mod Cuts
 pub mod Digits
+pub mod Files
+pub mod Fronts
+pub mod Listed
 pub mod Longest
+pub mod MarkerLines
 pub mod Names
+pub mod Parts
+pub mod Reaching
+pub mod Reserved
+pub mod Standing
+pub mod Texts
+pub mod Whole

@@ -1,6 +1,7 @@
 -- What a cut of the source gives: the tokens, the embedded pieces, the names of files and the places.
-use Rattle.std.specs.Prelude.{ℕ, ◌+◌, ◌<◌, ◌≤◌, ◌==◌, Bool, true, false, List, [], ◌∷◌, ◌++◌, length, count_by, bytes_eq, if◌then◌else◌, Option, Some, None, slice_range, ◌≡◌, drop, take}
+use Rattle.std.specs.Prelude.{ℕ, ◌+◌, ◌<◌, ◌≤◌, Bool, true, false, List, [], ◌∷◌, ◌++◌, length, count_by, bytes_eq, if◌then◌else◌, codes, Option, Some, None, slice_range, ◌≡◌, drop, take}
 use Rattle.std.specs.List.{list_any, position_or_len}
+use Rattle.snl_text.specs.Bytes.{is_byte}
 use Rattle.snl_text.specs.Pieces.{piece_at}
 use Rattle.snl_text.specs.declared.kinds.Kind.{Kind}
 use Rattle.snl_text.specs.declared.markers.Marker.{Marker}
@@ -34,13 +35,13 @@ abbrev pub nothing_read : Reading
 nothing_read = record { pos = start; opens_line = true; tokens = []; embedded = []; files = [] }
 
 abbrev pub newlines : List ℕ → ℕ
-newlines text = count_by (λ byte. byte == 10) text
+newlines text = count_by (is_byte (codes "\n")) text
 
--- behind bytes of the same line
+-- after bytes of the same line
 abbrev pub along : Pos → List ℕ → Pos
 along pos text = record { offset = pos.offset + length text; file = pos.file; line = pos.line }
 
--- behind bytes that may end lines
+-- after bytes that may end lines
 abbrev pub beyond : Pos → List ℕ → Pos
 beyond pos text = record { offset = pos.offset + length text; file = pos.file; line = pos.line + newlines text }
 

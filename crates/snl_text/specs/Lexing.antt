@@ -1,6 +1,6 @@
 -- What `lex` answers: the cut that reaches the end of the source, or the fault at the end of the longest one.
 use Rattle.std.specs.Prelude.{ℕ, ◌≡◌, ◌<◌, ◌≤◌, List, [], length, map, Result, Ok, Err}
-use Rattle.snl_text.specs.Cut.{Reading, Cuts, IsStuck, nothing_read}
+use Rattle.snl_text.specs.Cut.{Reading, Cuts, nothing_read}
 use Rattle.snl_text.specs.Faults.{fault_of}
 use Rattle.snl_text.specs.Pieces.{flaw_at}
 use Rattle.snl_text.specs.Scanning.{reading, spelled}
@@ -68,18 +68,3 @@ FaultsOnly kind pos (Err other) = other ≡ fault_of kind pos
 abbrev pub Scans : List ℕ → Result Scanner LexFault → Type 0
 Scans source (Ok scanner) = IsCut source (reading scanner)
 Scans source (Err fault) = FaultHolds source fault
-
--- There is at most one cut that reaches the end of a source.
-abbrev pub AtMostOneCut : Type 0
-AtMostOneCut = (source : List ℕ) (pieces others : List Piece) (end there : Reading) →
-    Cuts nothing_read source pieces end [] → Cuts nothing_read source others there [] → (pieces ≡ others) × (end ≡ there)
-
--- Where no piece can stand, every cut of the source ends there or before.
-abbrev pub NoCutPasses : Type 0
-NoCutPasses = (source : List ℕ) (pieces others : List Piece) (end there : Reading) (rest left : List ℕ) →
-    Cuts nothing_read source pieces end rest → IsStuck end rest → Cuts nothing_read source others there left → length rest ≤ length left
-
--- At the end of the longest cut no piece can stand, and a source has at most one fault.
-abbrev pub AtMostOneFault : Type 0
-AtMostOneFault = (source : List ℕ) (kind other : Flaw) (pos there : Pos) →
-    IsFault source kind pos → IsFault source other there → fault_of kind pos ≡ fault_of other there

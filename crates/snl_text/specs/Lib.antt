@@ -1,12 +1,17 @@
 pub mod Bytes
 pub mod Cut
 pub mod Faults
+pub mod Laws
 pub mod Lexing
+pub mod MarkerLines
 pub mod Markers
 pub mod Numbers
 pub mod Pieces
 pub mod Quotes
 pub mod Scanning
 pub mod Signs
+pub mod SignsByBytes
+pub mod Standing
 pub mod Texts
 pub mod Words
+pub mod WordsByLength

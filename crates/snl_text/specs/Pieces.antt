@@ -1,7 +1,7 @@
 -- What stands at a place of the source, by the bytes from there on.
-use Rattle.std.specs.Prelude.{ℕ, ◌+◌, Bool, ◌&&◌, ◌||◌, ◌==◌, List, length, take, drop, Option, Some, None, option_map, is_some, if◌then◌else◌, slice_index, false, IfSome, ◌<◌, ◌≤◌, ◌^◌}
+use Rattle.std.specs.Prelude.{ℕ, ◌+◌, Bool, ◌&&◌, ◌||◌, List, length, take, drop, Option, Some, None, option_map, is_some, if◌then◌else◌, slice_index, false, IfSome, ◌<◌, ◌≤◌, ◌^◌, codes}
 use Rattle.std.specs.List.{prefix_len}
-use Rattle.snl_text.specs.Bytes.{is_blank, is_digit, is_letter, is_name_byte, is_number_byte, is_in_line}
+use Rattle.snl_text.specs.Bytes.{is_blank, is_byte, is_digit, is_letter, is_name_byte, is_number_byte, is_in_line, open_with}
 use Rattle.snl_text.specs.Markers.{directive_at}
 use Rattle.snl_text.specs.Numbers.{whole_value, decimal_value}
 use Rattle.snl_text.specs.Quotes.{quoted, through, character_at}
@@ -19,7 +19,7 @@ piece sort length = record { sort = sort; length = length }
 
 -- a number word begins here: a digit, or a point before a digit
 abbrev pub begins_number : List ℕ → Bool
-begins_number bytes = is_digit (slice_index bytes 0) || slice_index bytes 0 == 46 && is_digit (slice_index bytes 1)
+begins_number bytes = is_digit (slice_index bytes 0) || is_byte (codes ".") (slice_index bytes 0) && is_digit (slice_index bytes 1)
 
 -- a name, or a reserved word: the longest run of letters, digits and underscores
 unfoldable pub word_at : List ℕ → Piece
@@ -46,6 +46,10 @@ character_piece bytes = option_map (λ found. piece (sort.Token k.Character) fou
 unfoldable pub block_at : Sort → ℕ → ℕ → List ℕ → Option Piece
 block_at sort a b bytes = option_map (λ count. piece sort (2 + count)) (through a b (drop 2 bytes))
 
+-- the same, where a text of two closes it
+abbrev pub block_to : Sort → List ℕ → List ℕ → Option Piece
+block_to sort mark bytes = block_at sort (slice_index mark 0) (slice_index mark 1) bytes
+
 -- the longest sign
 unfoldable pub sign_piece : List ℕ → Option Piece
 sign_piece bytes = option_map (λ found. piece (sort.Token found.0) found.1) (sign_at bytes)
@@ -53,18 +57,16 @@ sign_piece bytes = option_map (λ found. piece (sort.Token found.0) found.1) (si
 -- comments, embedded C, and signs
 unfoldable pub marked_at : List ℕ → Option Piece
 marked_at bytes =
-    let a = slice_index bytes 0 in
-    let b = slice_index bytes 1 in
-    if a == 47 && b == 42 then block_at sort.Skipped 42 47 bytes
-    else (if a == 47 && b == 47 then Some (piece sort.Skipped (prefix_len is_in_line bytes))
-    else (if a == 37 && b == 123 then block_at sort.EmbeddedC 125 37 bytes
-    else (if a == 37 && b == 37 then Some (piece sort.EmbeddedC (prefix_len is_in_line bytes))
+    if open_with (codes "/*") bytes then block_to sort.Skipped (codes "*/") bytes
+    else (if open_with (codes "//") bytes then Some (piece sort.Skipped (prefix_len is_in_line bytes))
+    else (if open_with (codes "%{") bytes then block_to sort.EmbeddedC (codes "}%") bytes
+    else (if open_with (codes "%%") bytes then Some (piece sort.EmbeddedC (prefix_len is_in_line bytes))
     else sign_piece bytes)))
 
 -- a newline ends its line; a space or a tab leaves it open for a marker
 abbrev pub blank_sort : ℕ → Sort
 blank_sort byte =
-    if byte == 10 then sort.LineEnd else (if byte == 32 || byte == 9 then sort.Blank else sort.Skipped)
+    if is_byte (codes "\n") byte then sort.LineEnd else (if is_byte (codes " ") byte || is_byte (codes "\t") byte then sort.Blank else sort.Skipped)
 
 -- The piece that stands at the front, if one can. `opens_line` says that no more than spaces and tabs stand
 -- before it in its line.
@@ -74,9 +76,9 @@ piece_at opens_line bytes =
     if is_letter first then Some (word_at bytes)
     else (if begins_number bytes then number_at bytes
     else (if is_blank first then Some (piece (blank_sort first) 1)
-    else (if first == 34 then string_at bytes
-    else (if first == 39 then character_piece bytes
-    else (if first == 35 then (if opens_line then directive_at bytes else None)
+    else (if is_byte (codes "\"") first then string_at bytes
+    else (if is_byte (codes "'") first then character_piece bytes
+    else (if is_byte (codes "#") first then (if opens_line then directive_at bytes else None)
     else marked_at bytes)))))
 
 -- a marker's number is below 2^63, and its name stands in the piece
@@ -91,9 +93,7 @@ FitsIn count piece = (0 < piece.length) × (piece.length ≤ count) × SortFits 
 -- what is wrong where no piece can stand
 abbrev pub flaw_at : List ℕ → Flaw
 flaw_at bytes =
-    let a = slice_index bytes 0 in
-    let b = slice_index bytes 1 in
     if begins_number bytes then flaw.BadNumber
-    else (if a == 47 && b == 42 then flaw.OpenComment
-    else (if a == 37 && b == 123 then flaw.OpenEmbeddedC
-    else (if a == 34 then flaw.OpenString else flaw.BadByte)))
+    else (if open_with (codes "/*") bytes then flaw.OpenComment
+    else (if open_with (codes "%{") bytes then flaw.OpenEmbeddedC
+    else (if is_byte (codes "\"") (slice_index bytes 0) then flaw.OpenString else flaw.BadByte)))

@@ -1,75 +1,66 @@
--- The signs: of one, two and three bytes.
-use Rattle.std.specs.Prelude.{ℕ, ◌==◌, ◌&&◌, Option, Some, None, if◌then◌else◌, List, slice_index}
+-- The signs.
+use Rattle.std.specs.Prelude.{ℕ, Bool, Option, Some, None, if◌then◌else◌, List, [], ◌∷◌, length, take, codes, bytes_eq}
 use Rattle.snl_text.specs.declared.kinds.Kind.{Kind}
 use Rattle.snl_text.specs.declared.kinds.Kind.TheVariants as k
 
--- the sign that the byte is
-unfoldable pub sign_of_one : ℕ → Option Kind
-sign_of_one a =
-    if a == 123 then Some k.OpenBrace
-    else (if a == 125 then Some k.CloseBrace
-    else (if a == 40 then Some k.OpenParenthesis
-    else (if a == 41 then Some k.CloseParenthesis
-    else (if a == 91 then Some k.OpenBracket
-    else (if a == 93 then Some k.CloseBracket
-    else (if a == 59 then Some k.Semicolon
-    else (if a == 44 then Some k.Comma
-    else (if a == 58 then Some k.Colon
-    else (if a == 63 then Some k.Question
-    else (if a == 61 then Some k.Equal
-    else (if a == 124 then Some k.Bar
-    else (if a == 94 then Some k.Caret
-    else (if a == 38 then Some k.Ampersand
-    else (if a == 60 then Some k.Less
-    else (if a == 62 then Some k.Greater
-    else (if a == 43 then Some k.Plus
-    else (if a == 45 then Some k.Minus
-    else (if a == 42 then Some k.Star
-    else (if a == 47 then Some k.Slash
-    else (if a == 37 then Some k.Percent
-    else (if a == 33 then Some k.Bang
-    else (if a == 126 then Some k.Tilde
-    else None))))))))))))))))))))))
+-- each sign, and what sort of token it is, the longer ones first
+abbrev pub signs : List (List ℕ × Kind)
+signs =
+    (codes "<<=", k.LessLessEqual)
+    ∷ (codes ">>=", k.GreaterGreaterEqual)
+    ∷ (codes "+=", k.PlusEqual)
+    ∷ (codes "-=", k.MinusEqual)
+    ∷ (codes "*=", k.StarEqual)
+    ∷ (codes "/=", k.SlashEqual)
+    ∷ (codes "%=", k.PercentEqual)
+    ∷ (codes "&=", k.AmpersandEqual)
+    ∷ (codes "|=", k.BarEqual)
+    ∷ (codes "^=", k.CaretEqual)
+    ∷ (codes "||", k.BarBar)
+    ∷ (codes "&&", k.AmpersandAmpersand)
+    ∷ (codes "==", k.EqualEqual)
+    ∷ (codes "!=", k.BangEqual)
+    ∷ (codes "<=", k.LessEqual)
+    ∷ (codes ">=", k.GreaterEqual)
+    ∷ (codes "<<", k.LessLess)
+    ∷ (codes ">>", k.GreaterGreater)
+    ∷ (codes "++", k.PlusPlus)
+    ∷ (codes "--", k.MinusMinus)
+    ∷ (codes "{", k.OpenBrace)
+    ∷ (codes "}", k.CloseBrace)
+    ∷ (codes "(", k.OpenParenthesis)
+    ∷ (codes ")", k.CloseParenthesis)
+    ∷ (codes "[", k.OpenBracket)
+    ∷ (codes "]", k.CloseBracket)
+    ∷ (codes ";", k.Semicolon)
+    ∷ (codes ",", k.Comma)
+    ∷ (codes ":", k.Colon)
+    ∷ (codes "?", k.Question)
+    ∷ (codes "=", k.Equal)
+    ∷ (codes "|", k.Bar)
+    ∷ (codes "^", k.Caret)
+    ∷ (codes "&", k.Ampersand)
+    ∷ (codes "<", k.Less)
+    ∷ (codes ">", k.Greater)
+    ∷ (codes "+", k.Plus)
+    ∷ (codes "-", k.Minus)
+    ∷ (codes "*", k.Star)
+    ∷ (codes "/", k.Slash)
+    ∷ (codes "%", k.Percent)
+    ∷ (codes "!", k.Bang)
+    ∷ (codes "~", k.Tilde)
+    ∷ []
 
--- the sign that the two bytes are
-unfoldable pub sign_of_two : ℕ → ℕ → Option Kind
-sign_of_two a b =
-    if a == 43 && b == 61 then Some k.PlusEqual
-    else (if a == 45 && b == 61 then Some k.MinusEqual
-    else (if a == 42 && b == 61 then Some k.StarEqual
-    else (if a == 47 && b == 61 then Some k.SlashEqual
-    else (if a == 37 && b == 61 then Some k.PercentEqual
-    else (if a == 38 && b == 61 then Some k.AmpersandEqual
-    else (if a == 124 && b == 61 then Some k.BarEqual
-    else (if a == 94 && b == 61 then Some k.CaretEqual
-    else (if a == 124 && b == 124 then Some k.BarBar
-    else (if a == 38 && b == 38 then Some k.AmpersandAmpersand
-    else (if a == 61 && b == 61 then Some k.EqualEqual
-    else (if a == 33 && b == 61 then Some k.BangEqual
-    else (if a == 60 && b == 61 then Some k.LessEqual
-    else (if a == 62 && b == 61 then Some k.GreaterEqual
-    else (if a == 60 && b == 60 then Some k.LessLess
-    else (if a == 62 && b == 62 then Some k.GreaterGreater
-    else (if a == 43 && b == 43 then Some k.PlusPlus
-    else (if a == 45 && b == 45 then Some k.MinusMinus
-    else None)))))))))))))))))
+-- the bytes begin with a text
+abbrev pub begins_with : List ℕ → List ℕ → Bool
+begins_with bytes text = bytes_eq (take (length text) bytes) text
 
--- the sign that the three bytes are
-unfoldable pub sign_of_three : ℕ → ℕ → ℕ → Option Kind
-sign_of_three a b c =
-    if a == 60 && b == 60 && c == 61 then Some k.LessLessEqual
-    else (if a == 62 && b == 62 && c == 61 then Some k.GreaterGreaterEqual else None)
-
--- the first of three answers that there is
-abbrev pub first_sign : Option Kind → Option Kind → Option Kind → Option (Kind × ℕ)
-first_sign (Some sign) two one = Some (sign, 3)
-first_sign None (Some sign) one = Some (sign, 2)
-first_sign None None (Some sign) = Some (sign, 1)
-first_sign None None None = None
+-- the first in a list of signs that the bytes begin with, and its length
+abbrev pub sign_among : List (List ℕ × Kind) → List ℕ → Option (Kind × ℕ)
+sign_among [] bytes = None
+sign_among (entry ∷ entries) bytes =
+    if begins_with bytes entry.0 then Some (entry.1, length entry.0) else sign_among entries bytes
 
 -- the longest sign that the bytes begin with, and its length
 unfoldable pub sign_at : List ℕ → Option (Kind × ℕ)
-sign_at bytes =
-    let a = slice_index bytes 0 in
-    let b = slice_index bytes 1 in
-    first_sign (sign_of_three a b (slice_index bytes 2)) (sign_of_two a b) (sign_of_one a)
+sign_at bytes = sign_among signs bytes

@@ -1,26 +1,24 @@
 -- What a whole text is when it is one piece, by what it begins with; and the law that no such text is longer
 -- than the piece that stands at a place.
-use Rattle.std.specs.Prelude.{ℕ, ◌+◌, ◌-◌, ◌<◌, ◌≤◌, ◌≡◌, ◌==◌, ◌&&◌, ◌||◌, true, false, List, length, drop, ◌++◌, Some, codes, MatchBool, is_some, option_map, slice_index}
+use Rattle.std.specs.Prelude.{ℕ, ◌+◌, ◌-◌, ◌<◌, ◌≤◌, ◌≡◌, ◌||◌, true, false, List, length, take, drop, ◌++◌, Some, codes, MatchBool, is_some, option_map, slice_index}
 use Rattle.std.specs.List.{list_all, prefix_len}
-use Rattle.snl_text.specs.Bytes.{is_blank, is_letter, is_in_line, is_name_byte, is_number_byte}
+use Rattle.snl_text.specs.Bytes.{is_blank, is_byte, is_letter, is_in_line, is_name_byte, is_number_byte, open_with}
 use Rattle.snl_text.specs.Cut.{Reading, Stands}
 use Rattle.snl_text.specs.Numbers.{whole_value, decimal_value}
 use Rattle.snl_text.specs.Pieces.{begins_number}
-use Rattle.snl_text.specs.Quotes.{quoted, through, character_at}
+use Rattle.snl_text.specs.Quotes.{quoted, through_mark, character_at}
 use Rattle.snl_text.specs.Signs.{sign_at}
 use Rattle.snl_text.specs.declared.pieces.Piece.{Piece}
 
--- `/`, `%` and the two marks behind them; and signs
+-- what begins with `/` or `%` and a mark after it; and signs
 abbrev pub IsMarkedText : List ℕ → Type 0
 IsMarkedText text =
-    let a = slice_index text 0 in
-    let b = slice_index text 1 in
     -- a comment ends at its first `*/`, or goes on to the end of its line
-    MatchBool (a == 47 && b == 42) (through 42 47 (drop 2 text) ≡ Some (length text - 2))
-    (MatchBool (a == 47 && b == 47) (list_all is_in_line text ≡ true)
+    MatchBool (open_with (codes "/*") text) (through_mark (codes "*/") (drop 2 text) ≡ Some (length text - 2))
+    (MatchBool (open_with (codes "//") text) (list_all is_in_line text ≡ true)
     -- embedded C ends at its first `}%`, or goes on to the end of its line
-    (MatchBool (a == 37 && b == 123) (through 125 37 (drop 2 text) ≡ Some (length text - 2))
-    (MatchBool (a == 37 && b == 37) (list_all is_in_line text ≡ true)
+    (MatchBool (open_with (codes "%{") text) (through_mark (codes "}%") (drop 2 text) ≡ Some (length text - 2))
+    (MatchBool (open_with (codes "%%") text) (list_all is_in_line text ≡ true)
     -- a sign
     (option_map (λ found. found.1) (sign_at text) ≡ Some (length text)))))
 
@@ -35,11 +33,11 @@ IsText text =
     -- a blank stands alone
     (MatchBool (is_blank a) (length text ≡ 1)
     -- a string ends at its first closing quote
-    (MatchBool (a == 34) (quoted false (drop 1 text) ≡ Some (length text - 1))
+    (MatchBool (is_byte (codes "\"") a) (quoted false (drop 1 text) ≡ Some (length text - 1))
     -- a character constant
-    (MatchBool (a == 39) (option_map (λ found. found.1) (character_at text) ≡ Some (length text))
+    (MatchBool (is_byte (codes "'") a) (option_map (λ found. found.1) (character_at text) ≡ Some (length text))
     -- a line that begins with `#` has no newline but the last byte
-    (MatchBool (a == 35) (length text ≤ prefix_len is_in_line text + 1)
+    (MatchBool (is_byte (codes "#") a) (length text ≤ prefix_len is_in_line text + 1)
     (IsMarkedText text))))))
 
 -- Where a piece stands, no longer text is one piece.
@@ -53,3 +51,7 @@ TextExamples =
     IsText (codes "while") × IsText (codes "0x1FL") × IsText (codes ".5") × IsText (codes "/**/")
     × IsText (codes "// to the end") × IsText (codes "%{ a } }%") × IsText (codes "<<=") × IsText (codes "# 7")
     × (IsText (codes "09") → ⊥) × (IsText (codes "/*/") → ⊥) × (IsText (codes "<=>") → ⊥)
+
+-- What stands at a place is one piece.
+abbrev pub StandingIsText : Type 0
+StandingIsText = (r : Reading) (bytes : List ℕ) (piece : Piece) → Stands r bytes piece → IsText (take piece.length bytes)

@@ -1,95 +1,62 @@
--- The reserved words, by their lengths.
-use Rattle.std.specs.Prelude.{ℕ, List, codes, bytes_eq, if◌then◌else◌, length, ◌==◌}
+-- The reserved words.
+use Rattle.std.specs.Prelude.{ℕ, List, [], ◌∷◌, codes, bytes_eq, if◌then◌else◌}
 use Rattle.snl_text.specs.declared.kinds.Kind.{Kind}
 use Rattle.snl_text.specs.declared.kinds.Kind.TheVariants as k
 
--- the reserved words of two bytes
-unfoldable pub word_of_two : List ℕ → Kind
-word_of_two word =
-    if bytes_eq word (codes "if") then k.If
-    else (if bytes_eq word (codes "ss") then k.StateSet
-    else (if bytes_eq word (codes "to") then k.To
-    else k.Name))
+-- each reserved word, and what sort of token it is
+abbrev pub reserved_words : List (List ℕ × Kind)
+reserved_words =
+    (codes "assign", k.Assign)
+    ∷ (codes "break", k.Break)
+    ∷ (codes "char", k.Char)
+    ∷ (codes "continue", k.Continue)
+    ∷ (codes "double", k.Double)
+    ∷ (codes "else", k.Else)
+    ∷ (codes "entry", k.Entry)
+    ∷ (codes "enum", k.Enum)
+    ∷ (codes "evflag", k.EventFlag)
+    ∷ (codes "exit", k.Exit)
+    ∷ (codes "float", k.Float)
+    ∷ (codes "for", k.For)
+    ∷ (codes "foreign", k.Foreign)
+    ∷ (codes "if", k.If)
+    ∷ (codes "int", k.Int)
+    ∷ (codes "int8_t", k.Int8)
+    ∷ (codes "int16_t", k.Int16)
+    ∷ (codes "int32_t", k.Int32)
+    ∷ (codes "int64_t", k.Int64)
+    ∷ (codes "long", k.Long)
+    ∷ (codes "monitor", k.Monitor)
+    ∷ (codes "option", k.OptionWord)
+    ∷ (codes "program", k.Program)
+    ∷ (codes "return", k.Return)
+    ∷ (codes "short", k.Short)
+    ∷ (codes "sizeof", k.Sizeof)
+    ∷ (codes "ss", k.StateSet)
+    ∷ (codes "state", k.State)
+    ∷ (codes "string", k.StringType)
+    ∷ (codes "struct", k.Struct)
+    ∷ (codes "sync", k.Sync)
+    ∷ (codes "syncq", k.SyncQueue)
+    ∷ (codes "syncQ", k.SyncQueue)
+    ∷ (codes "to", k.To)
+    ∷ (codes "typename", k.Typename)
+    ∷ (codes "uint8_t", k.Uint8)
+    ∷ (codes "uint16_t", k.Uint16)
+    ∷ (codes "uint32_t", k.Uint32)
+    ∷ (codes "uint64_t", k.Uint64)
+    ∷ (codes "union", k.Union)
+    ∷ (codes "unsigned", k.Unsigned)
+    ∷ (codes "void", k.Void)
+    ∷ (codes "when", k.When)
+    ∷ (codes "while", k.While)
+    ∷ []
 
--- the reserved words of three bytes
-unfoldable pub word_of_three : List ℕ → Kind
-word_of_three word =
-    if bytes_eq word (codes "for") then k.For
-    else (if bytes_eq word (codes "int") then k.Int
-    else k.Name)
-
--- the reserved words of four bytes
-unfoldable pub word_of_four : List ℕ → Kind
-word_of_four word =
-    if bytes_eq word (codes "char") then k.Char
-    else (if bytes_eq word (codes "else") then k.Else
-    else (if bytes_eq word (codes "enum") then k.Enum
-    else (if bytes_eq word (codes "exit") then k.Exit
-    else (if bytes_eq word (codes "long") then k.Long
-    else (if bytes_eq word (codes "sync") then k.Sync
-    else (if bytes_eq word (codes "void") then k.Void
-    else (if bytes_eq word (codes "when") then k.When
-    else k.Name)))))))
-
--- the reserved words of five bytes
-unfoldable pub word_of_five : List ℕ → Kind
-word_of_five word =
-    if bytes_eq word (codes "break") then k.Break
-    else (if bytes_eq word (codes "entry") then k.Entry
-    else (if bytes_eq word (codes "float") then k.Float
-    else (if bytes_eq word (codes "short") then k.Short
-    else (if bytes_eq word (codes "state") then k.State
-    else (if bytes_eq word (codes "syncq") then k.SyncQueue
-    else (if bytes_eq word (codes "syncQ") then k.SyncQueue
-    else (if bytes_eq word (codes "union") then k.Union
-    else (if bytes_eq word (codes "while") then k.While
-    else k.Name))))))))
-
--- the reserved words of six bytes
-unfoldable pub word_of_six : List ℕ → Kind
-word_of_six word =
-    if bytes_eq word (codes "assign") then k.Assign
-    else (if bytes_eq word (codes "double") then k.Double
-    else (if bytes_eq word (codes "evflag") then k.EventFlag
-    else (if bytes_eq word (codes "int8_t") then k.Int8
-    else (if bytes_eq word (codes "option") then k.OptionWord
-    else (if bytes_eq word (codes "return") then k.Return
-    else (if bytes_eq word (codes "sizeof") then k.Sizeof
-    else (if bytes_eq word (codes "string") then k.StringType
-    else (if bytes_eq word (codes "struct") then k.Struct
-    else k.Name))))))))
-
--- the reserved words of seven bytes
-unfoldable pub word_of_seven : List ℕ → Kind
-word_of_seven word =
-    if bytes_eq word (codes "foreign") then k.Foreign
-    else (if bytes_eq word (codes "int16_t") then k.Int16
-    else (if bytes_eq word (codes "int32_t") then k.Int32
-    else (if bytes_eq word (codes "int64_t") then k.Int64
-    else (if bytes_eq word (codes "monitor") then k.Monitor
-    else (if bytes_eq word (codes "program") then k.Program
-    else (if bytes_eq word (codes "uint8_t") then k.Uint8
-    else k.Name))))))
-
--- the reserved words of eight bytes
-unfoldable pub word_of_eight : List ℕ → Kind
-word_of_eight word =
-    if bytes_eq word (codes "continue") then k.Continue
-    else (if bytes_eq word (codes "typename") then k.Typename
-    else (if bytes_eq word (codes "uint16_t") then k.Uint16
-    else (if bytes_eq word (codes "uint32_t") then k.Uint32
-    else (if bytes_eq word (codes "uint64_t") then k.Uint64
-    else (if bytes_eq word (codes "unsigned") then k.Unsigned
-    else k.Name)))))
+-- what the word is in a list of words; a name, where it is not there
+abbrev pub kind_among : List (List ℕ × Kind) → List ℕ → Kind
+kind_among [] word = k.Name
+kind_among (entry ∷ entries) word = if bytes_eq word entry.0 then entry.1 else kind_among entries word
 
 -- the reserved word that it is, or else a name
 unfoldable pub word_kind : List ℕ → Kind
-word_kind word =
-    if length word == 2 then word_of_two word
-    else (if length word == 3 then word_of_three word
-    else (if length word == 4 then word_of_four word
-    else (if length word == 5 then word_of_five word
-    else (if length word == 6 then word_of_six word
-    else (if length word == 7 then word_of_seven word
-    else (if length word == 8 then word_of_eight word
-    else k.Name))))))
+word_kind word = kind_among reserved_words word

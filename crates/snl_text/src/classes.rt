@@ -47,7 +47,7 @@ pub trait ByteClass {
         ensures { result ≡ has byte };
 }
 
-/// The bytes of a name, behind its first.
+/// The bytes of a name, after its first.
 pub struct NameByte;
 
 impl ByteClass for NameByte {

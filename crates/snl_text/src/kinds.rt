@@ -1,3 +1,5 @@
+//! The sorts of tokens.
+
 /// What sort of token it is: one variant for each reserved word and each sign.
 #[derive(Clone, Copy, Debug, PartialEq, Eq)]
 pub enum Kind {

@@ -8,7 +8,7 @@
 mod classes;
 mod faults;
 mod kinds;
-mod laws;
+pub mod laws;
 mod lexer;
 mod markers;
 mod numbers;
@@ -21,9 +21,6 @@ mod words;
 
 pub use faults::LexFault;
 pub use kinds::Kind;
-pub use laws::{
-    at_most_one_cut, at_most_one_fault, examples_of_texts, no_cut_passes, no_longer_piece,
-};
 pub use lexer::{SOURCE_LIMIT, lex};
 pub use numbers::{DecimalValue, decimal_value, whole_value};
 pub use quotes::character_value;

@@ -13,7 +13,7 @@ use crate::quotes::quoted;
 #[derive(Clone, Copy, Debug, PartialEq, Eq)]
 pub struct Span {
     pub start: usize,
-    /// Behind the last byte.
+    /// After the last byte.
     pub end: usize,
 }
 
@@ -33,7 +33,7 @@ fn is_parted(line: &[u8], place: usize) -> bool
     place >= line.len() || is_blank(line[place])
 }
 
-/// Where a marker's number begins: behind the `#`, blanks, and the word `line` with one blank, if it is there.
+/// Where a marker's number begins: after the `#`, blanks, and the word `line` with one blank, if it is there.
 #[tactic(auto, unfolding(crate::specs::Markers::number_start))]
 fn number_start(line: &[u8]) -> usize
     requires { 0 < length line.now }
@@ -49,7 +49,7 @@ fn number_start(line: &[u8]) -> usize
     }
 }
 
-/// Where the name stands behind a marker's number, which ends at a place; None where there is no whole string,
+/// Where the name stands after a marker's number, which ends at a place; None where there is no whole string,
 /// parted from what follows.
 #[tactic(auto, unfolding(crate::specs::Markers::name_at))]
 fn name_at(line: &[u8], place: usize) -> Option<Span>

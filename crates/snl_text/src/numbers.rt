@@ -70,8 +70,8 @@ fn without_suffix(text: &[u8]) -> &[u8]
     }
 }
 
-/// The value of a whole number as it is spelled: decimal without leading zeros, octal behind `0`, or
-/// hexadecimal behind `0x` or `0X`, with an `L` or `l` at the end or without. None where the text is no such
+/// The value of a whole number as it is spelled: decimal without leading zeros, octal after `0`, or
+/// hexadecimal after `0x` or `0X`, with an `L` or `l` at the end or without. None where the text is no such
 /// number or its value is above 2^63 - 1.
 pub fn whole_value(text: &[u8]) -> Option<i64>
     ensures { result ≡ option_map pos (whole_value text.now) }
@@ -113,16 +113,16 @@ fn is_all<C: ByteClass>(bytes: &[u8]) -> bool
 /// What a decimal constant is worth.
 #[derive(Clone, Copy, Debug, PartialEq, Eq)]
 pub struct DecimalValue {
-    /// Thousandths, with the digits behind the third left out.
+    /// Thousandths, with the digits after the third left out.
     pub thousandths: u64,
-    /// No digit behind the third is other than 0.
+    /// No digit after the third is other than 0.
     pub is_exact: bool,
 }
 
 /// The largest whole part of a decimal constant.
 const LARGEST_WHOLE: u64 = 1_000_000_000_000;
 
-/// What a digit is worth behind the point; 0 where there is none.
+/// What a digit is worth after the point; 0 where there is none.
 fn decimal_at(fraction: &[u8], place: usize) -> u64
     ensures value { result ≡ digit_value (slice_index_or fraction.now place 48) }
     ensures small { result ≤ 16 }
@@ -134,7 +134,7 @@ fn decimal_at(fraction: &[u8], place: usize) -> u64
     }
 }
 
-/// What the digits behind the point are worth in thousandths, those behind the third left out.
+/// What the digits after the point are worth in thousandths, those after the third left out.
 fn thousandths_of(fraction: &[u8]) -> u64
     ensures value { result ≡ thousandths_of fraction.now }
     ensures small { result < 2000 }
@@ -142,7 +142,7 @@ fn thousandths_of(fraction: &[u8]) -> u64
     decimal_at(fraction, 0) * 100 + decimal_at(fraction, 1) * 10 + decimal_at(fraction, 2)
 }
 
-/// Whether no digit behind the third is other than 0.
+/// Whether no digit after the third is other than 0.
 fn is_exact(fraction: &[u8]) -> bool
     ensures { result ≡ is_exact fraction.now }
 {

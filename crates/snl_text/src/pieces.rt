@@ -19,12 +19,12 @@ use crate::words::word_kind;
 pub enum Sort {
     /// A space or a tab.
     Blank,
-    /// A newline, or a `#pragma` line with the newline behind it.
+    /// A newline, or a `#pragma` line with the newline after it.
     LineEnd,
     /// Another blank, a comment, or a `#` line that ends the source without a newline.
     Skipped,
     EmbeddedC,
-    /// A marker with the newline behind it.
+    /// A marker with the newline after it.
     Marker(Marker),
     Token(Kind),
 }

@@ -5,7 +5,7 @@ ghost use Rattle.std.specs.Prelude.{◌<◌, ◌≡◌, ◌≢◌, ◌≤◌, If
 
 use crate::classes::{byte_at, is_control};
 
-/// How many bytes there are through the closing quote, behind an opening one. None where a control byte or
+/// How many bytes there are through the closing quote, after an opening one. None where a control byte or
 /// the end comes first.
 pub fn quoted(bytes: &[u8]) -> Option<usize>
     ensures value { result ≡ quoted false bytes.now }

@@ -39,14 +39,16 @@ fn newlines(text: &[u8]) -> usize
 /// Notes the name of a file, and answers its number, from 1.
 fn note_name<'a>(files: &mut IndexSet<&'a [u8]>, name: &'a [u8]) -> Result<usize, AllocError>
     requires { length (map (λ name. name.now) files.old.keys) < 2 ^ 32 }
-    ensures number { IfOk result (λ number. number ≡ number_of (map (λ name. name.now) files.old.keys) name.now) }
-    ensures names { OnOk result (map (λ name. name.now) files.new.keys ≡ with_name (map (λ name. name.now) files.old.keys) name.now) }
+    ensures number { IfOk result
+        (λ number. number ≡ number_of (map (λ name. name.now) files.old.keys) name.now) }
+    ensures names { OnOk result (map (λ name. name.now) files.new.keys
+        ≡ with_name (map (λ name. name.now) files.old.keys) name.now) }
 {
     let (index, _) = files.insert_full(name)?;
     Ok(index + 1)
 }
 
-/// The place behind bytes of the same line.
+/// The place after bytes of the same line.
 fn along(pos: Pos, text: &[u8]) -> Pos
     requires { pos.offset + length text.now < 2 ^ 64 }
     ensures { result ≡ along pos text.now }
@@ -58,7 +60,7 @@ fn along(pos: Pos, text: &[u8]) -> Pos
     }
 }
 
-/// The place behind bytes that may end lines.
+/// The place after bytes that may end lines.
 fn beyond(pos: Pos, text: &[u8]) -> Pos
     requires offset { pos.offset + length text.now < 2 ^ 64 }
     requires line { pos.line + length text.now < 2 ^ 64 }
@@ -133,7 +135,8 @@ impl<'a> Scanner<'a> {
         requires offset { self.old.pos.offset + length text.now < 2 ^ 32 }
         requires files { length (reading self.old).files < 2 ^ 32 }
         requires fits { SortFits (length text.now) (Sort.Marker marker) }
-        ensures { OnOk result (reading self.new ≡ renamed (reading self.old) text.now marker marker.name) }
+        ensures { OnOk result
+            (reading self.new ≡ renamed (reading self.old) text.now marker marker.name) }
     {
         let file = match marker.name {
             Some(span) => note_name(&mut self.files, &text[span.start..span.end])?,

@@ -1,13 +1,14 @@
 //! The signs.
 
-ghost use Rattle.snl_text.specs.Signs.{sign_at, sign_of_one, sign_of_two, sign_of_three};
+ghost use Rattle.snl_text.specs.Signs.{sign_at};
+ghost use Rattle.snl_text.specs.SignsByBytes.{sign_of_one, sign_of_two, sign_of_three};
 ghost use Rattle.std.specs.Prelude.{◌<◌, ◌≡◌, ◌≢◌, ◌≤◌, IfSome, IsSome, length};
 
 use crate::classes::byte_at;
 use crate::kinds::Kind;
 
 /// The sign that a byte is.
-#[tactic(auto, unfolding(crate::specs::Signs::sign_of_one))]
+#[tactic(auto, unfolding(crate::specs::SignsByBytes::sign_of_one))]
 fn sign_of_one(byte: u8) -> Option<Kind>
     ensures { result ≡ sign_of_one byte }
 {
@@ -40,7 +41,7 @@ fn sign_of_one(byte: u8) -> Option<Kind>
 }
 
 /// The sign that two bytes are.
-#[tactic(auto, unfolding(crate::specs::Signs::sign_of_two))]
+#[tactic(auto, unfolding(crate::specs::SignsByBytes::sign_of_two))]
 fn sign_of_two(first: u8, second: u8) -> Option<Kind>
     ensures value { result ≡ sign_of_two first second }
     ensures some { IsSome result → second ≢ 0 }
@@ -69,7 +70,7 @@ fn sign_of_two(first: u8, second: u8) -> Option<Kind>
 }
 
 /// The sign that three bytes are.
-#[tactic(auto, unfolding(crate::specs::Signs::sign_of_three))]
+#[tactic(auto, unfolding(crate::specs::SignsByBytes::sign_of_three))]
 fn sign_of_three(first: u8, second: u8, third: u8) -> Option<Kind>
     ensures value { result ≡ sign_of_three first second third }
     ensures some { IsSome result → third ≢ 0 }
@@ -82,7 +83,6 @@ fn sign_of_three(first: u8, second: u8, third: u8) -> Option<Kind>
 }
 
 /// The longest sign that the bytes begin with, and its length.
-#[tactic(auto, unfolding(crate::specs::Signs::sign_at))]
 pub fn sign_at(bytes: &[u8]) -> Option<(Kind, usize)>
     requires { 0 < length bytes.now }
     ensures value { result ≡ sign_at bytes.now }

@@ -1,3 +1,5 @@
+//! Tokens and places, and what a source is cut into.
+
 use crate::kinds::Kind;
 
 /// A place in the source.

@@ -1,11 +1,12 @@
 //! Names and reserved words.
 
-ghost use Rattle.snl_text.specs.Words.{word_kind, word_of_two, word_of_three, word_of_four, word_of_five, word_of_six, word_of_seven, word_of_eight};
+ghost use Rattle.snl_text.specs.Words.{word_kind};
+ghost use Rattle.snl_text.specs.WordsByLength.{word_of_two, word_of_three, word_of_four, word_of_five, word_of_six, word_of_seven, word_of_eight};
 ghost use Rattle.std.specs.Prelude.{◌≡◌};
 
 use crate::kinds::Kind;
 
-#[tactic(auto, unfolding(crate::specs::Words::word_of_two))]
+#[tactic(auto, unfolding(crate::specs::WordsByLength::word_of_two))]
 fn word_of_two(word: &[u8]) -> Kind
     ensures { result ≡ word_of_two word.now }
 {
@@ -20,7 +21,7 @@ fn word_of_two(word: &[u8]) -> Kind
     }
 }
 
-#[tactic(auto, unfolding(crate::specs::Words::word_of_three))]
+#[tactic(auto, unfolding(crate::specs::WordsByLength::word_of_three))]
 fn word_of_three(word: &[u8]) -> Kind
     ensures { result ≡ word_of_three word.now }
 {
@@ -33,7 +34,7 @@ fn word_of_three(word: &[u8]) -> Kind
     }
 }
 
-#[tactic(auto, unfolding(crate::specs::Words::word_of_four))]
+#[tactic(auto, unfolding(crate::specs::WordsByLength::word_of_four))]
 fn word_of_four(word: &[u8]) -> Kind
     ensures { result ≡ word_of_four word.now }
 {
@@ -58,7 +59,7 @@ fn word_of_four(word: &[u8]) -> Kind
     }
 }
 
-#[tactic(auto, unfolding(crate::specs::Words::word_of_five))]
+#[tactic(auto, unfolding(crate::specs::WordsByLength::word_of_five))]
 fn word_of_five(word: &[u8]) -> Kind
     ensures { result ≡ word_of_five word.now }
 {
@@ -85,7 +86,7 @@ fn word_of_five(word: &[u8]) -> Kind
     }
 }
 
-#[tactic(auto, unfolding(crate::specs::Words::word_of_six))]
+#[tactic(auto, unfolding(crate::specs::WordsByLength::word_of_six))]
 fn word_of_six(word: &[u8]) -> Kind
     ensures { result ≡ word_of_six word.now }
 {
@@ -112,7 +113,7 @@ fn word_of_six(word: &[u8]) -> Kind
     }
 }
 
-#[tactic(auto, unfolding(crate::specs::Words::word_of_seven))]
+#[tactic(auto, unfolding(crate::specs::WordsByLength::word_of_seven))]
 fn word_of_seven(word: &[u8]) -> Kind
     ensures { result ≡ word_of_seven word.now }
 {
@@ -135,7 +136,7 @@ fn word_of_seven(word: &[u8]) -> Kind
     }
 }
 
-#[tactic(auto, unfolding(crate::specs::Words::word_of_eight))]
+#[tactic(auto, unfolding(crate::specs::WordsByLength::word_of_eight))]
 fn word_of_eight(word: &[u8]) -> Kind
     ensures { result ≡ word_of_eight word.now }
 {
@@ -157,7 +158,6 @@ fn word_of_eight(word: &[u8]) -> Kind
 }
 
 /// The kind of a word: a reserved word, or else a name.
-#[tactic(auto, unfolding(crate::specs::Words::word_kind))]
 pub fn word_kind(word: &[u8]) -> Kind
     ensures { result ≡ word_kind word.now }
 {

@@ -1,13 +1,13 @@
 use Rattle.std.proofs.Common.{◌≡◌, ℕ, Option, Some, refl, arith}
 use Rattle.snl_text.specs.Numbers.{decimal_value, value_in, value_of, whole_value, without_suffix}
-use Rattle.snl_text.specs.Signs.{sign_at, sign_of_one, sign_of_three, sign_of_two}
+use Rattle.snl_text.specs.Signs.{sign_at}
 use Rattle.snl_text.proofs.laws.examples_of_texts.Goals as goal
 
 some_nat : {a b : ℕ} → ◌≡◌ {A = Option ℕ} (Some a) (Some b) → a ≡ b
 some_nat e = cc
 
 pub returns : goal.returns
-unfolding whole_value value_in value_of without_suffix decimal_value sign_at sign_of_one sign_of_two sign_of_three
+unfolding whole_value value_in value_of without_suffix decimal_value sign_at
 returns c = (
   refl,
   (refl, refl),
