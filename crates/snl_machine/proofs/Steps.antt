@@ -7,7 +7,7 @@ use Rattle.snl_machine.specs.Devices.{told_more, IsCutShort}
 use Rattle.snl_machine.specs.Does.{Does, Gave, Faulted}
 use Rattle.snl_machine.specs.Ran.{Ran, Gives, Faults, also, then_do, text_of}
 use Rattle.snl_machine.specs.World.{World}
-use Rattle.snl_machine.proofs.Writing.{told_more-told_more, told_more-nil}
+use Rattle.snl_machine.proofs.Writing.{append-lost, told_more-told_more, told_more-nil}
 
 -- no text before
 pub also-nil : {A : Type 0} (r : Ran A) → also [] r ≡ r
@@ -19,17 +19,18 @@ pub then_do-gives : {A : Type 0} (r : Ran A) → then_do r (λ v w. Gives v w []
 then_do-gives (Gives v w text) = ap (Gives v w) (append-nil text)
 then_do-gives (Faults f line w text) = refl
 
--- the text of a step behind another text
+-- the text of a step after another text
 text_of-also : {A : Type 0} (before : List ℕ) (r : Ran A) → text_of (also before r) ≡ before ++ text_of r
 text_of-also before (Gives v w text) = refl
 text_of-also before (Faults f line w text) = refl
 
--- a beginning of a step's text is one of the text of that step and the next
+-- a text that is cut short in a step is cut short in that step and the next
 pub cut-then : {A B : Type 0} (r : Ran A) (go : A → World → Ran B) (old new : Option (List ℕ)) → IsCutShort (text_of r) old new → IsCutShort (text_of (then_do r go)) old new
 cut-then (Gives v w text) go old new cut = record {
-  front = cut.front;
-  back = cut.back ++ text_of (go v w);
-  is = text_of-also text (go v w) ∙ ap (λ t. t ++ text_of (go v w)) cut.is ∙ append_assoc cut.front cut.back (text_of (go v w));
+  taken = cut.taken;
+  rest = cut.rest ++ text_of (go v w);
+  is = text_of-also text (go v w) ∙ ap (λ t. t ++ text_of (go v w)) cut.is ∙ append_assoc cut.taken cut.rest (text_of (go v w));
+  lost = append-lost cut.rest (text_of (go v w)) cut.lost;
   told = cut.told;
 }
 cut-then (Faults f line w text) go old new cut = cut
@@ -59,10 +60,11 @@ does-then view (Err (stop.Fault fault line)) r go a u w old mid new did next = r
   told = next.told ∙ ap (λ o. told_more o next.text) did.told ∙ told_more-told_more old did.text next.text;
 }
 does-then view (Err stop.Sink) r go a u w old mid new did next = record {
-  front = did.text ++ next.front;
-  back = next.back;
-  is = ap (λ x. text_of (then_do x go)) did.is ∙ text_of-also did.text (go a u) ∙ ap (λ t. did.text ++ t) next.is ∙ sym (append_assoc did.text next.front next.back);
-  told = next.told ∙ ap (λ o. told_more o next.front) did.told ∙ told_more-told_more old did.text next.front;
+  taken = did.text ++ next.taken;
+  rest = next.rest;
+  is = ap (λ x. text_of (then_do x go)) did.is ∙ text_of-also did.text (go a u) ∙ ap (λ t. did.text ++ t) next.is ∙ sym (append_assoc did.text next.taken next.rest);
+  lost = next.lost;
+  told = next.told ∙ ap (λ o. told_more o next.taken) did.told ∙ told_more-told_more old did.text next.taken;
 }
 
 -- a step that writes nothing
@@ -74,7 +76,7 @@ also-also : {A : Type 0} (a b : List ℕ) (r : Ran A) → also a (also b r) ≡ 
 also-also a b (Gives v w text) = ap (Gives v w) (sym (append_assoc a b text))
 also-also a b (Faults f line w text) = ap (Faults f line w) (sym (append_assoc a b text))
 
--- a sink was told a text, behind which a rest of the whole remains to be done
+-- a sink was told a text, after which a rest of the whole remains to be done
 pub record IsOnWay {A : Type 0} (old now : Option (List ℕ)) (whole rest : Ran A) : Type 0 where
   pub text : List ℕ
   pub is : whole ≡ also text rest
@@ -106,10 +108,11 @@ on_way-does view (Err (stop.Fault fault line)) w old mid new whole rest way did 
   told = did.told ∙ ap (λ o. told_more o did.text) way.told ∙ told_more-told_more old way.text did.text;
 }
 on_way-does view (Err stop.Sink) w old mid new whole rest way did = record {
-  front = way.text ++ did.front;
-  back = did.back;
-  is = ap text_of way.is ∙ text_of-also way.text rest ∙ ap (λ t. way.text ++ t) did.is ∙ sym (append_assoc way.text did.front did.back);
-  told = did.told ∙ ap (λ o. told_more o did.front) way.told ∙ told_more-told_more old way.text did.front;
+  taken = way.text ++ did.taken;
+  rest = did.rest;
+  is = ap text_of way.is ∙ text_of-also way.text rest ∙ ap (λ t. way.text ++ t) did.is ∙ sym (append_assoc way.text did.taken did.rest);
+  lost = did.lost;
+  told = did.told ∙ ap (λ o. told_more o did.taken) way.told ∙ told_more-told_more old way.text did.taken;
 }
 
 -- what a `?` passes on

@@ -1,5 +1,5 @@
 -- Laws of what a sink tells, and of texts in pieces.
-use Rattle.std.proofs.Common.{◌≡◌, ℕ, List, [], ◌∷◌, ◌++◌, Option, None, Some, refl, ap, sym, ◌∙◌, append_assoc, append-nil, ◌+◌, ◌<◌, take, drop, map, length, get_or, Result, Ok, Err, IsErr}
+use Rattle.std.proofs.Common.{◌≡◌, ℕ, List, [], ◌∷◌, ◌++◌, Option, None, Some, refl, ap, sym, ◌∙◌, append_assoc, append-nil, ◌+◌, ◌<◌, arith, length-drop, take, drop, map, length, get_or, Result, Ok, Err, IsErr}
 use Rattle.std.proofs.Math.Seq.{take-add}
 use Rattle.std.proofs.lemmas.List.{take-append-drop, take_more, map-append}
 use Rattle.snl_machine.specs.Devices.{told_more, IsCutShort, Wrote}
@@ -27,17 +27,23 @@ takes-more told mid new text i n so_far more =
     more ∙ ap (λ o. told_more o (take n (drop i text))) so_far ∙ told_more-told_more told (take i text) (take n (drop i text))
     ∙ ap (told_more told) (sym (take-add i n text))
 
--- a text of which i bytes were taken, and then no more
-pub takes-no_more : (told mid new : Option (List ℕ)) (text : List ℕ) (i : ℕ) →
+-- a text of which i bytes were taken, fewer than it has, and then no more
+pub takes-no_more : (told mid new : Option (List ℕ)) (text : List ℕ) (i : ℕ) → i < length text →
     mid ≡ told_more told (take i text) → new ≡ mid → IsCutShort text told new
-takes-no_more told mid new text i so_far same = record {
-  front = take i text;
-  back = drop i text;
+takes-no_more told mid new text i within so_far same = record {
+  taken = take i text;
+  rest = drop i text;
   is = sym (take-append-drop i text);
+  lost = λ none. absurd (omega (arith, length-drop i text, ap length none));
   told = same ∙ so_far;
 }
 
--- a call that failed may have handed over a beginning
+-- what is added to something leaves something
+pub append-lost : (lost more : List ℕ) → (lost ≡ [] → ⊥) → lost ++ more ≡ [] → ⊥
+append-lost [] more some none = some refl
+append-lost (byte ∷ lost) more some none = cc
+
+-- a call that failed may have handed over a prefix
 pub failed-wrote : {A E : Type 0} (r : Result A E) (text : List ℕ) (old new : Option (List ℕ)) → IsErr r → IsCutShort text old new → Wrote r text old new
 failed-wrote (Ok done) text old new is cut = search is
 failed-wrote (Err fault) text old new is cut = cut
@@ -55,7 +61,7 @@ joined-more f pieces i d within =
     ∙ joined-append (map f (take i pieces)) (f (get_or pieces i d) ∷ [])
     ∙ ap (λ t. joined (map f (take i pieces)) ++ t) (append-nil (f (get_or pieces i d)))
 
--- the pieces up to one, and those behind it
+-- the pieces up to one, and those after it
 joined-parts : {A : Type 0} (f : A → List ℕ) (pieces : List A) (i : ℕ) (d : A) → i < length pieces →
     joined (map f pieces) ≡ (joined (map f (take i pieces)) ++ f (get_or pieces i d)) ++ joined (map f (drop (i + 1) pieces))
 joined-parts f pieces i d within =
@@ -67,14 +73,15 @@ joined-parts f pieces i d within =
 -- pieces that are cut short in one of them
 pub joined-cut : {A : Type 0} (f : A → List ℕ) (pieces : List A) (i : ℕ) (d : A) (told mid new : Option (List ℕ)) → i < length pieces →
     mid ≡ told_more told (joined (map f (take i pieces))) → IsCutShort (f (get_or pieces i d)) mid new → IsCutShort (joined (map f pieces)) told new
-joined-cut f pieces i d told mid new within so_far cut = let before = joined (map f (take i pieces)) in let behind = joined (map f (drop (i + 1) pieces)) in record {
-  front = before ++ cut.front;
-  back = cut.back ++ behind;
+joined-cut f pieces i d told mid new within so_far cut = let before = joined (map f (take i pieces)) in let after = joined (map f (drop (i + 1) pieces)) in record {
+  taken = before ++ cut.taken;
+  rest = cut.rest ++ after;
   is = joined-parts f pieces i d within
-      ∙ ap (λ t. (before ++ t) ++ behind) cut.is
-      ∙ ap (λ t. t ++ behind) (sym (append_assoc before cut.front cut.back))
-      ∙ append_assoc (before ++ cut.front) cut.back behind;
-  told = cut.told ∙ ap (λ o. told_more o cut.front) so_far ∙ told_more-told_more told before cut.front;
+      ∙ ap (λ t. (before ++ t) ++ after) cut.is
+      ∙ ap (λ t. t ++ after) (sym (append_assoc before cut.taken cut.rest))
+      ∙ append_assoc (before ++ cut.taken) cut.rest after;
+  lost = append-lost cut.rest after cut.lost;
+  told = cut.told ∙ ap (λ o. told_more o cut.taken) so_far ∙ told_more-told_more told before cut.taken;
 }
 
 -- pieces of which one more was taken

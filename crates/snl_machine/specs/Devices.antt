@@ -1,5 +1,5 @@
 -- What devices tell: the bytes that a sink was given.
-use Rattle.std.specs.Prelude.{◌≡◌, ◌==◌, ◌+◌, ℕ, ◌&&◌, Bool, true, false, List, ◌++◌, Option, None, Some, Result, Ok, Err, nat_lt}
+use Rattle.std.specs.Prelude.{◌≡◌, ◌==◌, ◌+◌, ℕ, ◌&&◌, Bool, true, false, List, [], ◌++◌, Option, None, Some, Result, Ok, Err, nat_lt}
 use Rattle.snl_machine.specs.declared.faults.Stop.{Stop}
 use Rattle.snl_machine.specs.declared.faults.Stop.TheVariants.{Fault, Sink}
 use Rattle.snl_machine.specs.declared.sinks.SinkFault.{SinkFault}
@@ -9,14 +9,15 @@ abbrev pub told_more : Option (List ℕ) → List ℕ → Option (List ℕ)
 told_more None bytes = None
 told_more (Some before) bytes = Some (before ++ bytes)
 
--- the sink took a front of a text, and not what was behind
+-- the sink took a prefix of a text, and lost the rest, which is not empty
 pub record IsCutShort (text : List ℕ) (old new : Option (List ℕ)) : Type 0 where
-  pub front : List ℕ
-  pub back : List ℕ
-  pub is : text ≡ front ++ back
-  pub told : new ≡ told_more old front
+  pub taken : List ℕ
+  pub rest : List ℕ
+  pub is : text ≡ taken ++ rest
+  pub lost : rest ≡ [] → ⊥
+  pub told : new ≡ told_more old taken
 
--- what a sink tells behind a call that hands it a text: all of that, or a beginning where the call failed
+-- what a sink tells after a call that hands it a text: all of that, or a prefix of it where the call failed
 abbrev pub Wrote : {A E : Type 0} → Result A E → List ℕ → Option (List ℕ) → Option (List ℕ) → Type 0
 Wrote (Ok done) text old new = new ≡ told_more old text
 Wrote (Err fault) text old new = IsCutShort text old new

@@ -19,7 +19,7 @@ pub record Faulted {A : Type 0} (fault : Fault) (line : ℕ) (w : World) (old ne
   pub is : ran ≡ Faults fault line w text
   pub told : new ≡ told_more old text
 
--- what a call answers is what a definition gives; where the sink failed, it was told a beginning
+-- what a call answers is what a definition gives; where the sink failed, it was told a prefix
 abbrev pub Does : {V A : Type 0} → (V → A) → Result V Stop → World → Option (List ℕ) → Option (List ℕ) → Ran A → Type 0
 Does view (Ok v) w old new ran = Gave (view v) w old new ran
 Does view (Err (stop.Fault fault line)) w old new ran = Faulted fault line w old new ran

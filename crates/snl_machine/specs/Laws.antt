@@ -1,10 +1,13 @@
 -- Laws of the definitions of a run: that they mean what the rules say, and that none of them leans on a bound of its own.
-use Rattle.std.specs.Prelude.{◌≡◌, ◌≤◌, ℕ, List, [], true, false, Some, map, slice_get}
+use Rattle.std.specs.Prelude.{◌≡◌, ◌≤◌, ℕ, List, [], true, false, Option, Some, Result, Ok, map, slice_get}
 use Rattle.snl_text.specs.declared.tokens.Token.{Token}
 use Rattle.snl_check.specs.Scopes.{first_of}
 use Rattle.snl_machine.specs.declared.events.Event.{Event}
+use Rattle.snl_machine.specs.declared.events.Live.{Live}
 use Rattle.snl_machine.specs.declared.events.Live.TheVariants.{Ended}
 use Rattle.snl_machine.specs.declared.faults.Fault.{Fault}
+use Rattle.snl_machine.specs.declared.faults.Stop.{Stop}
+use Rattle.snl_machine.specs.Does.{Does}
 use Rattle.snl_machine.specs.Event.{line_of}
 use Rattle.snl_machine.specs.Instant.{round_of, all_rounds}
 use Rattle.snl_machine.specs.Names.{number_of, once}
@@ -20,7 +23,7 @@ pub data Rounds (p : Program) : World → Ran (Unit {0}) → Type 0 where
   Last : (w u : World) (text : List ℕ) → round_of p w ≡ Gives false u text → Rounds p w (Gives tt (record u { wake = u.due }) text)
   -- one that faults is the last
   Stops : (f : Fault) (line : ℕ) (w u : World) (text : List ℕ) → round_of p w ≡ Faults f line u text → Rounds p w (Faults f line u text)
-  -- behind one that has a transition there are others
+  -- after one that has a transition there are others
   Again : (w u : World) (text : List ℕ) (r : Ran (Unit {0})) → round_of p w ≡ Gives true u text → Rounds p u r → Rounds p w (also text r)
 
 -- the rounds of an instant end because one has no transition, or by a fault: never because the number of rounds is used up
@@ -28,11 +31,22 @@ pub data Rounds (p : Program) : World → Ran (Unit {0}) → Type 0 where
 abbrev pub RoundsEnd : Type 0
 RoundsEnd = (p : Program) (w : World) → Rounds p w (all_rounds p w)
 
--- a world that has ended stays as it is, whatever comes and whenever, and nothing is written
+-- what an event gives in a world that has ended: that world, the answer that it has ended, and no text
 abbrev pub EndedStays : Type 0
 EndedStays = (p : Program) (budget ms : ℕ) (event : Event) (w : World) → w.phase ≡ Ended → line_of p budget ms event w ≡ Gives Ended w []
 
--- behind an event the time is that of the event, unless the world had ended, also where the event came to a fault
+-- A call that does an event in a world that has ended: it answers so, the world stays, and the sink is told nothing. It
+-- can't answer that the sink failed, since there is no text that could be lost.
+abbrev pub EndedAnswersEnded : Type 0
+EndedAnswersEnded = (p : Program) (budget ms : ℕ) (event : Event) (w after : World) (result : Result Live Stop) (old new : Option (List ℕ)) →
+    w.phase ≡ Ended → Does (λ live. live) result after old new (line_of p budget ms event w) → (result ≡ Ok Ended) × (after ≡ w) × (new ≡ old)
+
+-- a call that does an event answers how far the program has come then: after the answer that it has ended, it has
+abbrev pub AnswersThePhase : Type 0
+AnswersThePhase = (p : Program) (budget ms : ℕ) (event : Event) (w after : World) (live : Live) (old new : Option (List ℕ)) →
+    Does {V = Live} (λ l. l) (Ok live) after old new (line_of p budget ms event w) → after.phase ≡ live
+
+-- after an event the time is that of the event, unless the world had ended, also where the event came to a fault
 abbrev pub TimeIsTheEvents : Type 0
 TimeIsTheEvents = (p : Program) (budget ms : ℕ) (event : Event) (w : World) → (w.phase ≡ Ended → ⊥) → (world_after (line_of p budget ms event w)).time ≡ ms
 

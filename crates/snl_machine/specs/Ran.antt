@@ -8,7 +8,7 @@ pub data Ran (A : Type 0) : Type 0 where
   Gives : (value : A) (world : World) (text : List ℕ) → Ran A
   Faults : (fault : Fault) (line : ℕ) (world : World) (text : List ℕ) → Ran A
 
--- the same behind text that was written before
+-- the same after text that was written before
 abbrev pub also : {A : Type 0} → List ℕ → Ran A → Ran A
 also before (Gives v w text) = Gives v w (before ++ text)
 also before (Faults f line w text) = Faults f line w (before ++ text)

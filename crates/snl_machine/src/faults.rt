@@ -1,4 +1,3 @@
-use crate::sinks::SinkFault;
 use thiserror::Error;
 
 /// What a program did wrong while it ran.
@@ -32,7 +31,7 @@ impl Fault {
 }
 
 /// A fault, with the line of the source that it is charged to.
-#[derive(Clone, Copy, Debug, PartialEq, Eq)]
+#[derive(Clone, Copy)]
 pub struct Charge {
     pub fault: Fault,
     pub line: usize,
@@ -47,26 +46,4 @@ pub enum Stop {
     /// The sink did not take a line.
     #[error("the output can't be written")]
     Sink,
-}
-
-impl From<SinkFault> for Stop {
-    ghost use Rattle.std.specs.Prelude.{◌≡◌};
-    ghost use Rattle.snl_machine.specs.declared.faults.Stop.TheVariants.{Sink};
-
-    ghost from_gives = { λ _ stop. stop ≡ Sink };
-
-    fn from(_fault: SinkFault) -> Stop {
-        Stop::Sink
-    }
-}
-
-impl From<Charge> for Stop {
-    ghost use Rattle.std.specs.Prelude.{◌≡◌};
-    ghost use Rattle.snl_machine.specs.declared.faults.Stop.TheVariants.{Fault};
-
-    ghost from_gives = { λ charge stop. stop ≡ Fault charge.fault charge.line };
-
-    fn from(charge: Charge) -> Stop {
-        Stop::Fault(charge.fault, charge.line)
-    }
 }

@@ -1,7 +1,7 @@
 //! Laws of the definitions of a run. Each function is its contract, and does nothing.
 
 ghost use Rattle.snl_machine.specs.Examples.{Examples};
-ghost use Rattle.snl_machine.specs.Laws.{EndedStays, NumbersLeadToDeclarations, RoundsEnd, TimeIsTheEvents, TimeNeverFalls};
+ghost use Rattle.snl_machine.specs.Laws.{AnswersThePhase, EndedAnswersEnded, EndedStays, NumbersLeadToDeclarations, RoundsEnd, TimeIsTheEvents, TimeNeverFalls};
 
 /// What the definitions of a run give for small programs: it is computed from them alone.
 pub fn examples()
@@ -15,13 +15,27 @@ pub fn rounds_end()
     ensures { RoundsEnd }
 {}
 
-/// What has ended stays as it is, and nothing is written.
+/// An event in a world that has ended gives that world, the answer that it has ended, and no text.
 #[tactic(auto, using(crate::proofs::RunLaws::ended_stays))]
 pub fn ended_stays()
     ensures { EndedStays }
 {}
 
-/// Behind an event the time is that of the event, unless the run had ended before it.
+/// After `Ended`, and after a stop, `Machine::event` answers `Ended` and writes nothing: whatever meets its
+/// clause `does` on a world that has ended gives that answer, leaves the world, and tells the sink nothing.
+#[tactic(auto, using(crate::proofs::RunLaws::ended_answers_ended))]
+pub fn ended_answers_ended()
+    ensures { EndedAnswersEnded }
+{}
+
+/// Whatever meets that clause and answers how far the program has come leaves a world that has come so far. So
+/// after `Ended` the world has ended; after a stop the clause `ended` says so.
+#[tactic(auto, using(crate::proofs::RunLaws::answers_the_phase))]
+pub fn answers_the_phase()
+    ensures { AnswersThePhase }
+{}
+
+/// After an event the time is that of the event, unless the run had ended before it.
 #[tactic(auto, using(crate::proofs::RunLaws::time_is_the_events))]
 pub fn time_is_the_events()
     ensures { TimeIsTheEvents }

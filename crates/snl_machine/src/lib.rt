@@ -9,7 +9,7 @@ mod arrivals;
 mod events;
 mod faults;
 mod instants;
-mod laws;
+pub mod laws;
 mod lines;
 mod machine;
 mod numbering;
@@ -22,9 +22,5 @@ mod values;
 
 pub use events::{Event, Live, VALUES_KEPT};
 pub use faults::{Fault, Stop};
-pub use laws::{
-    ended_stays, examples, numbers_lead_to_declarations, rounds_end, time_is_the_events,
-    time_never_falls,
-};
 pub use machine::Machine;
 pub use sinks::{Sink, SinkFault};

@@ -1,7 +1,7 @@
 use indexmap::IndexSet;
 
 /// A program whose variables, links, channels and states go by number, in the order of the source.
-#[derive(Debug, Drop)]
+#[derive(Drop)]
 pub struct Numbered<'a> {
     pub name: &'a [u8],
     /// How many variables there are.
@@ -65,20 +65,20 @@ impl<'a> Numbered<'a> {
 }
 
 /// A variable tied to a channel.
-#[derive(Clone, Copy, Debug)]
+#[derive(Clone, Copy)]
 pub struct Link {
     pub variable: usize,
     pub channel: usize,
     pub is_monitored: bool,
 }
 
-#[derive(Debug, Drop)]
+#[derive(Drop)]
 pub struct State<'a> {
     pub name: &'a [u8],
     pub clauses: Vec<Clause>,
 }
 
-#[derive(Debug, Drop)]
+#[derive(Drop)]
 pub struct Clause {
     pub condition: Expr,
     pub block: Vec<Stmt>,
@@ -87,7 +87,7 @@ pub struct Clause {
     pub line: usize,
 }
 
-#[derive(Debug, Drop)]
+#[derive(Drop)]
 pub enum Stmt {
     /// Stores a value in a variable, whose name stands in a line.
     Assign {
@@ -101,7 +101,7 @@ pub enum Stmt {
     },
 }
 
-#[derive(Debug, Drop)]
+#[derive(Drop)]
 #[cycle(expression)]
 pub enum Expr {
     Whole(i64),
@@ -111,7 +111,7 @@ pub enum Expr {
 }
 
 /// An operator, the line that it stands in, and its right operand.
-#[derive(Debug, Drop)]
+#[derive(Drop)]
 #[cycle(expression)]
 pub struct Term {
     pub operator: Operator,
@@ -119,7 +119,7 @@ pub struct Term {
     pub operand: Expr,
 }
 
-#[derive(Clone, Copy, Debug, PartialEq, Eq)]
+#[derive(Clone, Copy)]
 pub enum Operator {
     Add,
     Multiply,

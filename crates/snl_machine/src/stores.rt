@@ -5,7 +5,7 @@ use crate::programs::Numbered;
 use std::alloc::{AllocError, Global};
 
 /// All that a run changes. Its vectors keep their lengths from the first day to the last.
-#[derive(Debug, Drop)]
+#[derive(Drop)]
 pub struct Store {
     /// In milliseconds; that of the last event, and 0 before the first.
     pub time: u64,

@@ -3,6 +3,7 @@ pub mod LineLaws
 pub mod NumberLaws
 pub mod ReadLaws
 pub mod RunLaws
+pub mod ShortLaws
 pub mod SourceLaws
 pub mod TookLaws
 pub mod ValueLaws

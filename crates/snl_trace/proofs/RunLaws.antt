@@ -21,7 +21,7 @@ acts-never : (ran : Ran Live) (u : World) (text : List ℕ) → then_do ran (λ 
 acts-never (Gives live v t) u text e = ended-never live v u t text e
 acts-never (Faults fault line v t) u text e = cc
 
-done-never : (rules : Rules) (number : ℕ) (read : Result (Option (ℕ × Event)) TraceFault) (w u : World) (text : List ℕ) → done_by rules number read w ≡ Gives (Some end.TraceEnded) u text → ⊥
+pub done-never : (rules : Rules) (number : ℕ) (read : Result (Option (ℕ × Event)) TraceFault) (w u : World) (text : List ℕ) → done_by rules number read w ≡ Gives (Some end.TraceEnded) u text → ⊥
 done-never rules number (Err fault) w u text e = cc
 done-never rules number (Ok None) w u text e = cc
 done-never rules number (Ok (Some at)) w u text e = acts-never (rules.act at.0 at.1 w) u text e
@@ -31,7 +31,7 @@ pub also-also : {A : Type 0} (a b : List ℕ) (r : Ran A) → also a (also b r) 
 also-also a b (Gives v w text) = ap (Gives v w) (sym (append_assoc a b text))
 also-also a b (Faults f line w text) = ap (Faults f line w) (sym (append_assoc a b text))
 
--- what comes of the lines behind, where all lines before are done
+-- what comes of the lines after, where all lines before are done
 after-all : (ran rest : Ran End) (go : World → Ran End) (v : World) (text t : List ℕ) →
     ((u : World) (s : List ℕ) → ran ≡ Gives end.TraceEnded u s → rest ≡ also s (go u)) →
     also t ran ≡ Gives end.TraceEnded v text → also t rest ≡ also text (go v)
@@ -68,7 +68,7 @@ run_from-append rules number (line ∷ before) behind w v text is =
     (λ x u s e. run_from-append rules (number + 1) before behind x u s e ∙ ap (λ n. also s (run_from rules n behind u)) (omega arith))
     is
 
--- the text of a step behind another text
+-- the text of a step after another text
 pub text_of-also : {A : Type 0} (before : List ℕ) (r : Ran A) → text_of (also before r) ≡ before ++ text_of r
 text_of-also before (Gives v w text) = refl
 text_of-also before (Faults f line w text) = refl
@@ -86,7 +86,7 @@ begins-step (Gives None x t) some all begins =
 begins-step (Gives (Some e) x t) some all begins = ([], sym (append-nil (t ++ [])))
 begins-step (Faults f l x t) some all begins = ([], sym (append-nil t))
 
--- the text over the first lines is a beginning of the text over all
+-- the text over the first lines is a prefix of the text over all
 pub text-begins : (rules : Rules) (number : ℕ) (first rest : List (List ℕ)) (w : World) →
     (more : List ℕ) × (text_of (run_from rules number (first ++ rest) w) ≡ text_of (run_from rules number first w) ++ more)
 unfolding run_from

@@ -7,7 +7,8 @@ use Rattle.snl_trace.specs.Lines.{lines_to, lines_from, last_line, whole_lines}
 use Rattle.snl_trace.specs.Run.{Rules, run_from}
 use Rattle.snl_trace.specs.Sources.{IsGiven, IsShort}
 use Rattle.snl_trace.specs.Took.{Place, Reaches, EndsIn, Takes, IsBroken, RunsOver}
-use Rattle.snl_trace.proofs.TookLaws.{reaches-start, reaches-then, ends-behind, takes-behind}
+use Rattle.snl_trace.proofs.ShortLaws.{lines-short}
+use Rattle.snl_trace.proofs.TookLaws.{KnowsLong, reaches-start, reaches-then, ends-behind, takes-behind}
 
 -- what a source told of at first and what it tells now, where these bytes came
 pub record HasCome (first now : Option (List ℕ)) (came bytes : List ℕ) : Type 0 where
@@ -94,7 +95,7 @@ under_way-ends rules first mid now reads n room e a b c fresh way given ends byt
     (subst (λ (ls : List (List ℕ)). EndsIn rules e ls a c.world c.told) all
     (takes-behind rules (Some e) way.came (take n room) a b c way.reaches ends come.left))
 
--- behind the last byte
+-- after the last byte
 ends-after : (rules : Rules) (e : End) (came bytes : List ℕ) (now : Option (List ℕ)) (a b : Place) (w : World) (told : Option (List ℕ)) → a.begun ≡ [] → bytes ≡ came →
     Reaches rules came a b → EndsIn rules e (last_line b.begun) b w told → RunsOver rules e bytes now a w told
 ends-after rules e came bytes now a b w told fresh same way ended =
@@ -114,9 +115,9 @@ under_way-ended rules first mid now reads n room e a b w told fresh way given no
     ends-after rules e way.came bytes now a b w told fresh (come.are ∙ ap (λ z. way.came ++ z) none ∙ append-nil way.came) way.reaches ended
 
 -- a read failed
-pub under_way-broken : (rules : Rules) (first mid now : Option (List ℕ)) (reads : ℕ) (a b : Place) → a.begun ≡ [] → now ≡ mid →
+pub under_way-broken : (rules : Rules) → KnowsLong rules → (first mid now : Option (List ℕ)) (reads : ℕ) (a b : Place) → a.begun ≡ [] → length b.begun ≤ 32768 → now ≡ mid →
     IsUnderWay rules first mid reads a b → (bytes : List ℕ) → first ≡ Some bytes → IsBroken rules bytes now a b.world b.told
-under_way-broken rules first mid now reads a b fresh same way bytes is =
+under_way-broken rules long first mid now reads a b fresh short same way bytes is =
     let come = way.come bytes is in
     let whole : whole_lines way.came ≡ way.reaches.done =
     ap (λ z. lines_to (λ _. []) z way.came) (sym fresh) ∙ way.reaches.lines (λ _. []) ∙ append-nil way.reaches.done in
@@ -125,6 +126,7 @@ under_way-broken rules first mid now reads a b fresh same way bytes is =
       rest = come.left;
       are = come.are;
       left_is = same ∙ come.left_is;
+      short = lines-short rules long way.came a b fresh way.reaches short;
       gave = record {
         text = way.reaches.text;
         is = ap (λ ls. run_from rules a.number ls a.world) whole ∙ way.reaches.ran;

@@ -1,5 +1,5 @@
 -- Laws of bytes that are taken in.
-use Rattle.std.proofs.Common.{◌≡◌, ℕ, ◌+◌, ◌<◌, List, [], ◌∷◌, ◌++◌, ◌≢◌, All, Option, None, Some, Result, Ok, Err, length, get_or, eqb, cond, true, false, refl, sym, ap, ◌∙◌, subst, arith, append_assoc, append-nil, length-append}
+use Rattle.std.proofs.Common.{◌≡◌, ℕ, ◌+◌, ◌<◌, List, [], ◌∷◌, ◌++◌, ◌≢◌, All, Option, None, Some, Result, Ok, Err, OnErr, length, get_or, eqb, cond, true, false, refl, sym, ap, ◌∙◌, subst, arith, append_assoc, append-nil, length-append}
 use Rattle.std.proofs.lemmas.Bool.{lt-ltb}
 use Rattle.std.proofs.lemmas.List.Elements.{All-get_or}
 use Rattle.std.specs.Option.{unwrap_or}
@@ -11,7 +11,7 @@ use Rattle.snl_machine.specs.declared.faults.Stop.TheVariants as stop
 use Rattle.snl_machine.specs.declared.machine.Machine.{Machine}
 use Rattle.snl_machine.specs.Devices.{told_more, IsCutShort, stopped_by_sink}
 use Rattle.snl_machine.specs.Does.{Gave, Does}
-use Rattle.snl_machine.specs.Held.{world_held}
+use Rattle.snl_machine.specs.Held.{program_held, world_held}
 use Rattle.snl_machine.specs.Lookup.{channel_of, fits_of}
 use Rattle.snl_machine.specs.Ran.{Ran, Gives, also, then_do, text_of}
 use Rattle.snl_machine.specs.World.{World}
@@ -21,7 +21,7 @@ use Rattle.snl_trace.specs.declared.runner.End.{End}
 use Rattle.snl_trace.specs.declared.runner.End.TheVariants as end
 use Rattle.snl_trace.specs.declared.trace_faults.TraceFault.{TraceFault}
 use Rattle.snl_trace.specs.declared.trace_faults.TraceFault.TheVariants.{LineTooLong}
-use Rattle.snl_trace.specs.Ends.{ends_by_sink}
+use Rattle.snl_trace.specs.Ends.{OnStop, OnStopHere, ends_by_sink}
 use Rattle.snl_trace.specs.Grammar.{told_of, read_of}
 use Rattle.snl_trace.specs.Lines.{lines_to, lines_from, last_line}
 use Rattle.snl_trace.specs.Run.{Rules, run_from, line_done, or_rest, done_by, end_by, ending_of, rules_of, rules_by}
@@ -92,8 +92,8 @@ ends-behind rules end.SourceFailed done lines a b text w told number ran before 
 ends-behind rules end.SinkFailed done lines a b text w told number ran before ended = record {
   before = done ++ ended.before;
   line = ended.line;
-  behind = ended.behind;
-  are = ap (λ z. done ++ z) ended.are ∙ sym (append_assoc done ended.before (ended.line ∷ ended.behind));
+  after = ended.after;
+  are = ap (λ z. done ++ z) ended.are ∙ sym (append_assoc done ended.before (ended.line ∷ ended.after));
   world = ended.world;
   text = text ++ ended.text;
   ran = run-behind rules done ended.before a b text number ran ∙ ap (also text) ended.ran;
@@ -104,7 +104,7 @@ ends-behind rules end.SinkFailed done lines a b text w told number ran before en
       (subst (λ (o : Option (List ℕ)). IsCutShort (text_of (line_done rules (b.number + length ended.before) ended.line ended.world)) o told) now ended.cut);
 }
 
--- some bytes, and what is taken behind them
+-- some bytes, and what is taken after them
 pub takes-behind : (rules : Rules) (result : Option End) (front rest : List ℕ) (a b c : Place) → Reaches rules front a b → Takes rules result rest b c → Takes rules result (front ++ rest) a c
 takes-behind rules None front rest a b c first then = reaches-then rules front rest a b c first then
 takes-behind rules (Some e) front rest a b c first then = λ more.
@@ -140,7 +140,7 @@ ends-here rules end.SourceFailed line behind a w told did = did
 ends-here rules end.SinkFailed line behind a w told did = record {
   before = [];
   line = line;
-  behind = behind;
+  after = behind;
   are = refl;
   world = a.world;
   text = [];
@@ -212,7 +212,20 @@ event-fails (Ok live.Ended) = refl
 event-fails (Err (stop.Fault fault line)) = refl
 event-fails (Err stop.Sink) = refl
 
--- behind the last byte: a line without its newline is one
+-- after a fault, and where the sink fails, the machine has ended
+pub stop-ends : (result : Result Live Stop) (fact : Type 0) → OnErr result fact → OnStopHere (ending_of result) fact
+stop-ends (Ok live.Waiting) fact holds = tt
+stop-ends (Ok live.Running) fact holds = tt
+stop-ends (Ok live.Ended) fact holds = tt
+stop-ends (Err (stop.Fault fault line)) fact holds = holds
+stop-ends (Err stop.Sink) fact holds = holds
+
+-- also where there was nothing more to do
+pub stop-last : (result : Option End) (fact : Type 0) → OnStopHere result fact → OnStop (unwrap_or result end.TraceEnded) fact
+stop-last None fact holds = tt
+stop-last (Some e) fact holds = holds
+
+-- after the last byte: a line without its newline is one
 pub ends-last : (rules : Rules) (result : Option End) (line : List ℕ) (a : Place) (w : World) (told : Option (List ℕ)) → 0 < length line →
     LineDoes result w a.told told (line_done rules a.number line a.world) → EndsIn rules (unwrap_or result end.TraceEnded) (last_line line) a w told
 ends-last rules result [] a w told filled did = absurd (omega arith)
@@ -260,6 +273,10 @@ takes-long rules long fault front a is none size more =
 pub rules-long : (m : Machine) → KnowsLong (rules_of m)
 unfolding rules_by told_of
 rules-long m = record { knows = λ last line long. rw (lt-ltb 32768 (length line) long) refl }
+
+-- machines of one program and one budget have the same rules
+pub rules-same : (a b : Machine) → program_held b ≡ program_held a → b.budget ≡ a.budget → rules_of b ≡ rules_of a
+rules-same a b program budget = ap (λ p. rules_by p b.budget) program ∙ ap (rules_by (program_held a)) budget
 
 -- what a machine reads
 pub read-is : (m : Machine) (last : ℕ) (line : List ℕ) (read : Result (Option (ℕ × Event)) TraceFault) →

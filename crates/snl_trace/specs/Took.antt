@@ -1,5 +1,5 @@
 -- What a run did with the bytes of a trace, by the definition of the run.
-use Rattle.std.specs.Prelude.{◌≡◌, ℕ, ◌+◌, List, [], ◌∷◌, ◌++◌, Option, None, Some, length}
+use Rattle.std.specs.Prelude.{◌≡◌, ℕ, ◌+◌, List, [], ◌∷◌, ◌++◌, Option, None, Some, All, length}
 use Rattle.snl_machine.specs.declared.machine.Machine.{Machine}
 use Rattle.snl_machine.specs.Held.{world_held}
 use Rattle.snl_machine.specs.Devices.{told_more, IsCutShort}
@@ -8,10 +8,10 @@ use Rattle.snl_machine.specs.Ran.{Ran, Gives, text_of}
 use Rattle.snl_machine.specs.World.{World}
 use Rattle.snl_trace.specs.declared.runner.End.{End}
 use Rattle.snl_trace.specs.declared.runner.End.TheVariants as end
-use Rattle.snl_trace.specs.Lines.{lines_to, lines_from, whole_lines}
+use Rattle.snl_trace.specs.Lines.{IsShortEnough, lines_to, lines_from, whole_lines}
 use Rattle.snl_trace.specs.Run.{Rules, run_from, line_done}
 
--- what is done of a line, by the answer how the run ends there; where the sink failed, it was told a beginning
+-- what is done of a line, by the answer how the run ends there; where the sink failed, it was told a prefix
 abbrev pub LineDoes : Option End → World → Option (List ℕ) → Option (List ℕ) → Ran (Option End) → Type 0
 LineDoes None w old new ran = Gave None w old new ran
 LineDoes (Some end.ProgramEnded) w old new ran = Gave (Some end.ProgramEnded) w old new ran
@@ -23,7 +23,7 @@ LineDoes (Some end.SourceFailed) w old new ran = ⊥
 
 -- where a run stands between two bytes of its trace
 pub record Place : Type 0 where
-  -- the bytes behind the last newline, and the number of the line that they begin
+  -- the bytes after the last newline, and the number of the line that they begin
   pub begun : List ℕ
   pub number : ℕ
   pub world : World
@@ -43,13 +43,13 @@ pub record Reaches (rules : Rules) (bytes : List ℕ) (from to : Place) : Type 0
   pub ran : run_from rules from.number done from.world ≡ Gives end.TraceEnded to.world text
   pub told : to.told ≡ told_more from.told text
 
--- the sink failed at one of some lines: it was told the text of all lines before, and of what that line
--- gives a beginning
+-- the sink failed at one of some lines: it was told the text of all lines before, and a prefix of what that
+-- line gives
 pub record IsCutIn (rules : Rules) (lines : List (List ℕ)) (from : Place) (told : Option (List ℕ)) : Type 0 where
   pub before : List (List ℕ)
   pub line : List ℕ
-  pub behind : List (List ℕ)
-  pub are : lines ≡ before ++ line ∷ behind
+  pub after : List (List ℕ)
+  pub are : lines ≡ before ++ line ∷ after
   pub world : World
   pub text : List ℕ
   pub ran : run_from rules from.number before from.world ≡ Gives end.TraceEnded world text
@@ -69,12 +69,14 @@ abbrev pub Takes : Rules → Option End → List ℕ → Place → Place → Typ
 Takes rules None bytes from to = Reaches rules bytes from to
 Takes rules (Some end) bytes from to = (more : List ℕ) → EndsIn rules end (lines_from from.begun (bytes ++ more)) from to.world to.told
 
--- the source failed: all was told that the lines give that came whole
+-- The source failed: of the bytes that came no line is too long, also not the one that was broken off, and all was told
+-- that the lines give that came whole.
 pub record IsBroken (rules : Rules) (bytes : List ℕ) (left : Option (List ℕ)) (from : Place) (w : World) (told : Option (List ℕ)) : Type 0 where
   pub came : List ℕ
   pub rest : List ℕ
   pub are : bytes ≡ came ++ rest
   pub left_is : left ≡ Some rest
+  pub short : All IsShortEnough (lines_from [] came)
   pub gave : Gave end.TraceEnded w from.told told (run_from rules from.number (whole_lines came) from.world)
 
 -- a run over the bytes of a source, of which these are left
@@ -86,7 +88,7 @@ RunsOver rules (end.Fault fault line) bytes left from w told = EndsIn rules (end
 RunsOver rules (end.TraceFault number fault) bytes left from w told = EndsIn rules (end.TraceFault number fault) (lines_from [] bytes) from w told
 RunsOver rules end.SinkFailed bytes left from w told = EndsIn rules end.SinkFailed (lines_from [] bytes) from w told
 
--- the text over the first of some lines is a beginning of the text over all
+-- the text over the first of some lines is a prefix of the text over all
 abbrev pub TextBegins : Type 0
 TextBegins = (rules : Rules) (number : ℕ) (first rest : List (List ℕ)) (w : World) →
     (more : List ℕ) × (text_of (run_from rules number (first ++ rest) w) ≡ text_of (run_from rules number first w) ++ more)

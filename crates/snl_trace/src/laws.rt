@@ -2,7 +2,7 @@
 
 ghost use Rattle.snl_trace.specs.Took.{TextBegins};
 
-/// The text over the first lines of a trace is a beginning of the text over all of them.
+/// The text over the first lines of a trace is a prefix of the text over all of them.
 pub fn text_begins()
     ensures { TextBegins }
 {}

@@ -6,7 +6,7 @@
 #![tactic(auto)]
 
 mod fields;
-mod laws;
+pub mod laws;
 mod lines;
 mod memory;
 mod numbers;
@@ -16,7 +16,6 @@ mod sources;
 mod trace_faults;
 mod words;
 
-pub use laws::text_begins;
 pub use memory::{Feed, Sheet};
 pub use reader::read_line;
 pub use runner::{End, run};

@@ -3,12 +3,15 @@ use Rattle.std.proofs.lemmas.Grind.{common_steps}
 use Rattle.snl_trace.specs.Run.{rules_of}
 use Rattle.snl_trace.specs.Took.{standing}
 use Rattle.snl_trace.proofs.SourceLaws.{under_way-start, under_way-on, under_way-ends, under_way-ended, under_way-broken, under_way-never}
+use Rattle.snl_trace.proofs.TookLaws.{rules-long, rules-same}
 use Rattle.snl_trace.proofs.runner.run.Goals as goal
 
 pub loop-reads-init : goal.loop-reads-init
 loop-reads-init g c = record {
   way = rw c.new-line.ensures (under_way-start _ _ _);
-  rules = refl;
+  program = refl;
+  budget = refl;
+  begun = rw c.new-line.ensures (omega arith);
   room = refl;
   lines = omega arith;
   source_works = refl;
@@ -16,36 +19,41 @@ loop-reads-init g c = record {
 }
 
 pub returns-in-Err-clause-does : goal.returns-in-Err-clause-does
-returns-in-Err-clause-does g c = under_way-broken _ _ _ _ _ _ _ refl c.in-Err.ensures.ungiven c.loop-reads.invariant.way
+returns-in-Err-clause-does g c = under_way-broken _ (rules-long c.args.machine.now) _ _ _ _ _ _ refl c.loop-reads.invariant.begun c.in-Err.ensures.ungiven c.loop-reads.invariant.way
 
 pub returns-in-Ok-eq0-clause-does : goal.returns-in-Ok-eq0-clause-does
 returns-in-Ok-eq0-clause-does g c =
+    let same : rules_of c.loop-reads.machine ≡ rules_of c.args.machine.now = rules-same c.args.machine.now c.loop-reads.machine c.loop-reads.invariant.program c.loop-reads.invariant.budget in
     let some : 0 < length c.read.new.room = omega (arith, c.read.auto.room, c.loop-reads.invariant.room) in
     let nothing : c.in-Ok-eq0.field-0 ≡ 0 = omega arith in
     under_way-ended (rules_of c.args.machine.now) _ _ _ _ c.in-Ok-eq0.field-0 c.read.new.room c.finish.result _ _ _ _ refl c.loop-reads.invariant.way c.in-Ok-eq0.ensures.given nothing some
-    (rw (c.as_slice.ensures.value, c.loop-reads.invariant.rules) at c.finish.ensures.does)
+    (rw (c.as_slice.ensures.value, same) at c.finish.ensures.does)
 
 pub returns-in-Some-clause-does : goal.returns-in-Some-clause-does
 returns-in-Some-clause-does g c =
+    let same : rules_of c.loop-reads.machine ≡ rules_of c.args.machine.now = rules-same c.args.machine.now c.loop-reads.machine c.loop-reads.invariant.program c.loop-reads.invariant.budget in
     let n = c.in-Ok.count in
     let room = c.read.new.room in
     let to = standing c.take_in.new.line.items c.take_in.new.number c.take_in.new.machine (g.S.Sink.told c.take_in.new.sink) in
     under_way-ends (rules_of c.args.machine.now) _ _ _ _ n room c.in-Some.end _ _ to refl c.loop-reads.invariant.way c.in-Ok.ensures.given
-    (rw c.loop-reads.invariant.rules at c.in-Some.ensures.does)
+    (rw same at c.in-Some.ensures.does)
 
 pub returns-in-Some-clause-source : goal.returns-in-Some-clause-source
 returns-in-Some-clause-source g c = let ended = c.in-Some.ensures.does [] in first_of (search rules, grind (arith, common_steps))
 
 pub loop-reads-preserved : goal.loop-reads-preserved
 loop-reads-preserved g c =
+    let same : rules_of c.loop-reads.machine ≡ rules_of c.args.machine.now = rules-same c.args.machine.now c.loop-reads.machine c.loop-reads.invariant.program c.loop-reads.invariant.budget in
     let n = c.in-Ok.count in
     let room = c.read.new.room in
     let some : 0 < n = omega arith in
     let within : n ≤ length room = omega (arith, c.read.auto.room, c.in-Ok.ensures.count) in
     record {
       way = under_way-on _ _ _ _ _ n room _ _ _ c.loop-reads.invariant.way c.in-Ok.ensures.short c.in-Ok.ensures.given some within
-          (rw c.loop-reads.invariant.rules at c.in-None.ensures.does);
-      rules = c.take_in.ensures.rules ∙ c.loop-reads.invariant.rules;
+          (rw same at c.in-None.ensures.does);
+      program = c.take_in.ensures.program ∙ c.loop-reads.invariant.program;
+      budget = c.take_in.ensures.budget ∙ c.loop-reads.invariant.budget;
+      begun = c.in-None.ensures.room;
       room = omega (arith, c.read.auto.room, c.loop-reads.invariant.room);
       lines = omega (arith, c.take_in.ensures.lines, c.loop-reads.invariant.lines, c.read.auto.room, c.loop-reads.invariant.room, c.in-Ok.ensures.count, length-take n room);
       source_works = c.in-Ok.ensures.failures ∙ c.loop-reads.invariant.source_works;

@@ -1,4 +1,5 @@
 use Rattle.std.proofs.Common.{◌≡◌, ◌+◌, ◌*◌, ◌≤◌, [], length}
+use Rattle.snl_machine.specs.Held.{program_held}
 use Rattle.snl_trace.specs.Run.{rules_of}
 use Rattle.snl_trace.specs.Took.{standing}
 use Rattle.snl_trace.proofs.SourceLaws.{IsUnderWay}
@@ -10,7 +11,9 @@ invariant-loop-reads g l = record {
   way : IsUnderWay (rules_of l.initial.machine) (g.R.Source.rest l.initial.source) (g.R.Source.rest l.source) l._reads
       (standing [] 1 l.initial.machine (g.S.Sink.told l.initial.sink))
       (standing l.line.items l.number l.machine (g.S.Sink.told l.sink));
-  rules : rules_of l.machine ≡ rules_of l.initial.machine;
+  program : program_held l.machine ≡ program_held l.initial.machine;
+  budget : l.machine.budget ≡ l.initial.machine.budget;
+  begun : length l.line.items ≤ 32768;
   room : length l.room ≡ 65536;
   lines : l.number ≤ 1 + l._reads * 65536;
   source_works : g.R.Source.failures l.source ≡ g.R.Source.failures l.initial.source;

@@ -1,19 +1,21 @@
 use Rattle.std.proofs.Common.{◌≡◌, ◌+◌, ◌≤◌, length}
+use Rattle.snl_machine.specs.Held.{program_held}
 use Rattle.snl_trace.specs.Run.{rules_of}
 use Rattle.snl_trace.specs.Took.{standing}
 use Rattle.snl_trace.proofs.TookLaws.{IsPartWay}
 use Rattle.snl_trace.proofs.runner.take_in.Given as goal
 
 -- the bytes before those that are left were taken in, and no more lines have ended than there were bytes
-abbrev pub invariant-loop-front : goal.invariant-loop-front
-invariant-loop-front g l = record {
+abbrev pub invariant-loop-text : goal.invariant-loop-text
+invariant-loop-text g l = record {
   way : IsPartWay (rules_of l.initial.machine) l.bytes l.left
       (standing l.initial.line.items l.initial.number l.initial.machine (g.S.Sink.told l.initial.sink))
       (standing l.line.items l.number l.machine (g.S.Sink.told l.sink));
-  rules : rules_of l.machine ≡ rules_of l.initial.machine;
+  program : program_held l.machine ≡ program_held l.initial.machine;
+  budget : l.machine.budget ≡ l.initial.machine.budget;
   lines : l.number + length l.left ≤ l.initial.number + length l.bytes;
   none_failed : g.S.Sink.failures l.sink ≡ g.S.Sink.failures l.initial.sink;
 }
 
-abbrev pub decreases-loop-front : goal.decreases-loop-front
-decreases-loop-front g l = length l.left
+abbrev pub decreases-loop-text : goal.decreases-loop-text
+decreases-loop-text g l = length l.left

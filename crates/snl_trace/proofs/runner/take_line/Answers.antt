@@ -11,13 +11,13 @@ returns-in-Err-clause-does g c = λ more.
     let m = c.args.machine.now in
     let from = standing c.args.line.now.items c.args.number.now m (g.S.Sink.told c.args.sink.now) in
     subst (λ (text : List ℕ). EndsIn (rules_of m) (end.TraceFault c.args.number.now c.in-Err.fault) (lines_from c.args.line.now.items text) from from.world from.told)
-    (sym (append_assoc c.args.front.now (10 ∷ []) more))
-    (takes-long (rules_of m) (rules-long m) c.in-Err.fault c.args.front.now from c.in-Err.ensures.fault c.requires.front c.in-Err.ensures.long ((10 ∷ []) ++ more))
+    (sym (append_assoc c.args.text.now (10 ∷ []) more))
+    (takes-long (rules_of m) (rules-long m) c.in-Err.fault c.args.text.now from c.in-Err.ensures.fault c.requires.text c.in-Err.ensures.long ((10 ∷ []) ++ more))
 
 pub returns-clause-does : goal.returns-clause-does
 returns-clause-does g c =
     let m = c.args.machine.now in
     let from = standing c.args.line.now.items c.args.number.now m (g.S.Sink.told c.args.sink.now) in
-    let line : c.as_slice.result.now ≡ c.args.line.now.items ++ c.args.front.now = c.as_slice.ensures.value ∙ c.in_default.ensures.ok in
+    let line : c.as_slice.result.now ≡ c.args.line.now.items ++ c.args.text.now = c.as_slice.ensures.value ∙ c.in_default.ensures.ok in
     rw c.clear.ensures
-    (takes-line (rules_of m) c.process-ending.result c.args.front.now from _ _ c.requires.front (rw line at c.process-ending.ensures.does))
+    (takes-line (rules_of m) c.process-ending.result c.args.text.now from _ _ c.requires.text (rw line at c.process-ending.ensures.does))
