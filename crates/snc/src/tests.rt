@@ -1,4 +1,4 @@
-//! What only calls can show: trees, budgets, devices that fail or cut, places in bytes, each public call once.
+//! What only calls can show: budgets, devices that fail or cut, places in bytes, each public call once.
 //!
 //! What a program's text shows stands in the folder `cases/` at the root, and runs on the built program.
 
@@ -6,11 +6,9 @@ use crate::Job;
 use std::alloc::{AllocError, Global};
 
 mod calls;
-mod printing;
 mod runs;
 mod sources;
 mod tokens;
-mod trees;
 
 /// Twice a value that passes 3 is put to another channel.
 pub const PROGRAM: &[u8] = b"program p

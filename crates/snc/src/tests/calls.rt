@@ -3,17 +3,11 @@
 use crate::tests::PROGRAM;
 use arrayvec::ArrayVec;
 use snl_check::{Severity, check};
-use snl_machine::{
-    Event, Live, Machine, ended_stays, examples, numbers_lead_to_declarations, rounds_end,
-    time_is_the_events, time_never_falls,
-};
+use snl_machine::{Event, Live, Machine, laws as machine};
 use snl_text::{Kind, Lexed, lex};
-use snl_trace::{End, Feed, Sheet, TraceFault, read_line, run, text_begins};
-use snl_tree::laws::{
-    programs_differ_in_spelling, tokens_have_a_program_or_a_fault, tokens_have_one_answer,
-};
+use snl_trace::{End, Feed, Sheet, TraceFault, laws as trace, read_line, run};
 use snl_tree::thin::{Program, narrow};
-use snl_tree::{ParseFault, parse};
+use snl_tree::{ParseFault, laws as tree, parse};
 use std::alloc::Global;
 use std::test::Fail;
 
@@ -74,16 +68,18 @@ fn lead_from_bytes_to_a_run(rt: HostRuntime) -> Result<(), Fail> {
 
 /// Each law has no code.
 fn laws() {
-    programs_differ_in_spelling();
-    tokens_have_a_program_or_a_fault();
-    tokens_have_one_answer();
-    examples();
-    rounds_end();
-    ended_stays();
-    time_is_the_events();
-    time_never_falls();
-    numbers_lead_to_declarations();
-    text_begins();
+    tree::programs_differ_in_spelling();
+    tree::tokens_have_a_program_or_a_fault();
+    tree::tokens_have_one_answer();
+    machine::examples();
+    machine::rounds_end();
+    machine::ended_stays();
+    machine::ended_answers_ended();
+    machine::answers_the_phase();
+    machine::time_is_the_events();
+    machine::time_never_falls();
+    machine::numbers_lead_to_declarations();
+    trace::text_begins();
 }
 
 /// Lines with what is wrong with them, after an event at 5.

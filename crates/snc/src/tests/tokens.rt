@@ -1,7 +1,6 @@
 //! Tokens by `lex`: their places in bytes, their files, and what numbers and characters are worth.
 
-use snl_text::laws;
-use snl_text::{LexFault, Pos, character_value, decimal_value, lex, whole_value};
+use snl_text::{LexFault, Pos, character_value, decimal_value, laws, lex, whole_value};
 use std::alloc::Global;
 use std::test::Fail;
 
