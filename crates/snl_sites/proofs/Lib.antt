@@ -1,0 +1,6 @@
+pub mod ConstantLaws
+pub mod WalkLaws
+pub mod TableLaws
+pub mod NumberLaws
+pub mod ListLaws
+pub mod BlockLaws

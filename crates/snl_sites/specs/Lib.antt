@@ -1,0 +1,17 @@
+pub mod Arithmetic
+pub mod Constants
+pub mod Scopes
+pub mod Calls
+pub mod Formats
+pub mod Types
+pub mod Parts
+pub mod Options
+pub mod Purposes
+pub mod Numbered
+pub mod Sites
+pub mod Programs
+pub mod Uses
+pub mod Variables
+pub mod Tables
+pub mod Chains
+pub mod NumberTables
