@@ -4,3 +4,4 @@ pub mod TableLaws
 pub mod NumberLaws
 pub mod ListLaws
 pub mod BlockLaws
+pub mod ProgramLaws

@@ -15,3 +15,4 @@ pub mod Variables
 pub mod Tables
 pub mod Chains
 pub mod NumberTables
+pub mod Held

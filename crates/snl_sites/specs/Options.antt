@@ -3,9 +3,9 @@ use Rattle.std.specs.Prelude.{ℕ, Bool, not, ◌&&◌, ◌==◌, List, [], ◌�
 use Rattle.std.specs.List.{list_any}
 use Rattle.snl_text.specs.declared.kinds.Kind.TheVariants.{Plus}
 use Rattle.snl_tree.specs.Kinds.{is}
-use Rattle.snl_tree.specs.Definitions.{OptionTree}
+use Rattle.snl_tree.specs.Definitions.{SettingTree}
 
-abbrev pub is_on : OptionTree → Bool
+abbrev pub is_on : SettingTree → Bool
 is_on o = is Plus o.sign.kind
 
 abbrev pub is_among : List ℕ → ℕ → Bool
@@ -24,5 +24,5 @@ first_refused is_known [] = None
 first_refused is_known (b ∷ more) = if is_known b then first_refused is_known more else Some b
 
 -- The first refused letter of an option, of a state or of the program.
-abbrev pub refused : Bool → OptionTree → Option ℕ
+abbrev pub refused : Bool → SettingTree → Option ℕ
 refused in_state o = first_refused (if in_state then is_state_letter else is_program_letter (is_on o)) o.name.text.now

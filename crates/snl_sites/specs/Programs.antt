@@ -4,7 +4,7 @@ use Rattle.std.specs.List.{flat_map}
 use Rattle.snl_text.specs.declared.tokens.Token.{Token}
 use Rattle.snl_text.specs.Numbers.{whole_value}
 use Rattle.snl_tree.specs.Statements.{BlockTree}
-use Rattle.snl_tree.specs.Definitions.{PlaceTree, FlagTree, DefinitionTree, declaration, assign, monitor, sync, sync_queue, event_flags, option}
+use Rattle.snl_tree.specs.Definitions.{PlaceTree, FlagTree, SyncTree, QueueTree, DefinitionTree, declaration, assign, monitor, sync, sync_queue, event_flags, setting}
 use Rattle.snl_tree.specs.Programs.{TargetTree, to_state, to_exit, ClauseTree, StateTree, StateSetTree, ProgramTree}
 use Rattle.snl_sites.specs.declared.constants.Constant.{Constant}
 use Rattle.snl_sites.specs.declared.constants.Constant.TheVariants.{Worth}
@@ -44,15 +44,21 @@ queue_size (Some t) = size_by t
 abbrev pub in_size : Token → List Site
 in_size t = QueueSize t (nat_le 1 (size_by t) && nat_le (size_by t) 4096) ∷ []
 
+abbrev pub in_sync : List Scope → SyncTree → List Site
+in_sync s y = defined Sync y.place.name s y.place None ++ in_flag s y.flag
+
+abbrev pub in_queue : List Scope → QueueTree → List Site
+in_queue s q = defined (Queue (queue_size q.size)) q.word s q.place None ++ maybe (in_flag s) q.flag ++ maybe in_size q.size
+
 -- A definition or an option, in a state or elsewhere.
 abbrev pub in_definition : Bool → List Scope → DefinitionTree → List Site
 in_definition in_state s (declaration d) = in_declaration s false d
 in_definition in_state s (assign a) = defined Assign a.word s a.place (listed_names a.channels)
 in_definition in_state s (monitor p) = defined Monitor p.name s p None
-in_definition in_state s (sync y) = defined Sync y.place.name s y.place None ++ in_flag s y.flag
-in_definition in_state s (sync_queue q) = defined (Queue (queue_size q.size)) q.word s q.place None ++ maybe (in_flag s) q.flag ++ maybe in_size q.size
+in_definition in_state s (sync y) = in_sync s y
+in_definition in_state s (sync_queue q) = in_queue s q
 in_definition in_state s (event_flags names) = []
-in_definition in_state s (option o) = Setting o.sign o.name (refused in_state o) ∷ []
+in_definition in_state s (setting o) = Setting o.sign o.name (refused in_state o) ∷ []
 
 -- Definitions within their own scope: the names that it declares, then one definition after the other.
 abbrev pub in_definitions : Bool → List Scope → List DefinitionTree → List Site
@@ -99,26 +105,35 @@ in_state outer states s =
 abbrev pub has_clauses : StateTree → Bool
 has_clauses s = elim s.clauses [ [] ↦ false | c ∷ rest ↦ true ]
 
+-- A state of this number.
+abbrev pub in_numbered : List Scope → List Token → ℕ → StateTree → List Site
+in_numbered outer states k s = State s.word s.name (is_later states k s.name) (has_clauses s) ∷ in_state outer states s
+
 -- The states from a number on.
 abbrev pub in_states : List Scope → List Token → ℕ → List StateTree → List Site
 in_states outer states k [] = []
-in_states outer states k (s ∷ rest) =
-    State s.word s.name (is_later states k s.name) (has_clauses s) ∷ in_state outer states s ++ in_states outer states (suc k) rest
+in_states outer states k (s ∷ rest) = in_numbered outer states k s ++ in_states outer states (suc k) rest
+
+-- All states of a state set, each beside the names of all.
+abbrev pub in_all_states : List Scope → List StateTree → List Site
+in_all_states outer states = in_states outer (map (λ s. s.name) states) 0 states
 
 -- ---- state sets
 
-abbrev pub state_names : StateSetTree → List Token
-state_names g = map (λ s. s.name) g.states
-
 abbrev pub in_state_set : List Scope → StateSetTree → List Site
-in_state_set outer g =
-    in_definitions false outer g.definitions ++ in_states (scope_of outer g.definitions ∷ outer) (state_names g) 0 g.states
+in_state_set outer g = in_definitions false outer g.definitions ++ in_all_states (scope_of outer g.definitions ∷ outer) g.states
+
+-- A state set of this number.
+abbrev pub in_numbered_set : List Scope → List Token → ℕ → StateSetTree → List Site
+in_numbered_set outer sets k g = StateSet g.word g.name (is_later sets k g.name) ∷ in_state_set outer g
 
 -- The state sets from a number on.
 abbrev pub in_state_sets : List Scope → List Token → ℕ → List StateSetTree → List Site
 in_state_sets outer sets k [] = []
-in_state_sets outer sets k (g ∷ rest) =
-    StateSet g.word g.name (is_later sets k g.name) ∷ in_state_set outer g ++ in_state_sets outer sets (suc k) rest
+in_state_sets outer sets k (g ∷ rest) = in_numbered_set outer sets k g ++ in_state_sets outer sets (suc k) rest
+
+abbrev pub in_all_sets : List Scope → List StateSetTree → List Site
+in_all_sets outer sets = in_state_sets outer (map (λ g. g.name) sets) 0 sets
 
 -- ---- programs
 
@@ -130,5 +145,5 @@ program_scopes p = scope_of [] p.definitions ∷ []
 abbrev pub sites : ProgramTree → List Site
 sites p =
     in_definitions false [] p.definitions ++ maybe (in_plain_block (program_scopes p) []) p.entry
-    ++ in_state_sets (program_scopes p) (map (λ g. g.name) p.state_sets) 0 p.state_sets
+    ++ in_all_sets (program_scopes p) p.state_sets
     ++ maybe (in_plain_block (program_scopes p) []) p.exit

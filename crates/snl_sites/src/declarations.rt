@@ -11,7 +11,7 @@ ghost use Rattle.snl_sites.specs.Sites as spec;
 use crate::expressions::note_expression;
 use crate::initialisers::{is_good_initialiser, range_of};
 use crate::scopes::Scopes;
-use crate::scoping::size_of;
+use crate::sizes::size_of;
 use crate::sites::{Purpose, Site};
 use snl_tree::{Declaration, Declarator, Expr, Initialiser, TypeName};
 use std::alloc::AllocError;
@@ -25,6 +25,20 @@ pub fn note_value<'a>(
     ensures { OnOk result (sites.new.items ≡ sites.old.items ++ spec.in_value (scopes_of scopes.now) (view value.now)) }
 {
     note_expression(false, scopes, Purpose::Read, value, sites)?;
+    Ok(())
+}
+
+/// Notes the sites in an expression that may be missing.
+pub fn note_if_there<'a>(
+    scopes: &Scopes<'_, 'a>,
+    value: &Option<Box<Expr<'a>>>,
+    sites: &mut Vec<Site<'a>>,
+) -> Result<(), AllocError>
+    ensures { OnOk result (sites.new.items ≡ sites.old.items ++ spec.maybe (spec.in_value (scopes_of scopes.now)) (shown boxed value.now)) }
+{
+    if let Some(value) = value {
+        note_value(scopes, value, sites)?;
+    }
     Ok(())
 }
 

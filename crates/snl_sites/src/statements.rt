@@ -10,7 +10,7 @@ ghost use Rattle.snl_tree.specs.view.Shown.{shown};
 ghost use Rattle.snl_sites.specs.Chains.{scopes_of};
 ghost use Rattle.snl_sites.specs.Sites as spec;
 
-use crate::declarations::{note_declaration, note_value};
+use crate::declarations::{note_declaration, note_if_there, note_value};
 use crate::numbered::Numbered;
 use crate::scopes::Scopes;
 use crate::scoping::block_scope;
@@ -18,20 +18,6 @@ use crate::sites::Site;
 use snl_text::Token;
 use snl_tree::{Block, Declaration, Expr, Header, Stmt};
 use std::alloc::{AllocError, Global};
-
-/// Notes the sites in an expression that may be missing.
-fn note_if_there<'a>(
-    scopes: &Scopes<'_, 'a>,
-    value: &Option<Box<Expr<'a>>>,
-    sites: &mut Vec<Site<'a>>,
-) -> Result<(), AllocError>
-    ensures { OnOk result (sites.new.items ≡ sites.old.items ++ spec.maybe (spec.in_value (scopes_of scopes.now)) (shown boxed value.now)) }
-{
-    if let Some(value) = value {
-        note_value(scopes, value, sites)?;
-    }
-    Ok(())
-}
 
 /// Notes the sites between the parentheses of a `for`.
 fn note_header<'a>(
