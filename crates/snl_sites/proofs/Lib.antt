@@ -5,3 +5,6 @@ pub mod NumberLaws
 pub mod ListLaws
 pub mod BlockLaws
 pub mod ProgramLaws
+pub mod VariableLaws
+pub mod Steps
+pub mod BindingLaws

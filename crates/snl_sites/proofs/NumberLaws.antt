@@ -12,19 +12,23 @@ use Rattle.snl_sites.specs.NumberTables.{number_in, only_number}
 use Rattle.snl_sites.specs.Scopes.{is_spelled, or_in}
 
 -- an entry at the end is found where none before it is
-lookup_last : (q : List ℕ) (t : Token) (k : ℕ) (es : List (Bor (List ℕ) × ℕ)) → lookup (λ key. pointwise nat_eq q key.now) (es ++ (t.text, k) ∷ []) ≡ or_in (lookup (λ key. pointwise nat_eq q key.now) es) (only_number q t k)
+lookup_last : (q : List ℕ) (t : Token) (k : ℕ) (es : List (Bor (List ℕ) × ℕ)) → lookup (λ key. pointwise nat_eq q key.now) (es ++ (t.text, k) ∷ [])
+    ≡ or_in (lookup (λ key. pointwise nat_eq q key.now) es) (only_number q t k)
 lookup_last q t k [] = refl
 lookup_last q t k (e ∷ es) =
-    elim (pointwise nat_eq q e.0.now) as (λ b. cond b (Some e.1) (lookup (λ key. pointwise nat_eq q key.now) (es ++ (t.text, k) ∷ [])) ≡ or_in (cond b (Some e.1) (lookup (λ key. pointwise nat_eq q key.now) es)) (only_number q t k)) [ true ↦ refl | false ↦ lookup_last q t k es ]
+    elim (pointwise nat_eq q e.0.now) as (λ b. cond b (Some e.1) (lookup (λ key. pointwise nat_eq q key.now) (es ++ (t.text, k) ∷ []))
+    ≡ or_in (cond b (Some e.1) (lookup (λ key. pointwise nat_eq q key.now) es)) (only_number q t k)) [ true ↦ refl | false ↦ lookup_last q t k es ]
 
 -- and so with a name at the end
 number_from_last : (q : List ℕ) (k : ℕ) (ts : List Token) (t : Token) (m : ℕ) → m ≡ k + length ts → number_from k (ts ++ t ∷ []) q ≡ or_in (number_from k ts q) (only_number q t m)
 number_from_last q k [] t m e = let h : k ≡ m = omega arith in ap (λ n. only_number q t n) h
 number_from_last q k (s ∷ ts) t m e =
-    elim (is_spelled q s) as (λ b. cond b (Some k) (number_from (suc k) (ts ++ t ∷ []) q) ≡ or_in (cond b (Some k) (number_from (suc k) ts q)) (only_number q t m)) [ true ↦ refl | false ↦ number_from_last q (suc k) ts t m (omega arith) ]
+    elim (is_spelled q s) as (λ b. cond b (Some k) (number_from (suc k) (ts ++ t ∷ []) q) ≡ or_in (cond b (Some k) (number_from (suc k) ts q)) (only_number q t m))
+    [ true ↦ refl | false ↦ number_from_last q (suc k) ts t m (omega arith) ]
 
 -- what is found after a name was added
-pub number_after : {S : Type 0} (m n : HashMap (Bor (List ℕ)) ℕ S) (t : Token) (k : ℕ) → get_by (λ key. pointwise nat_eq t.text.now key.now) m ≡ None → n.entries ≡ insert_entry (λ a b. pointwise nat_eq a.now b.now) m.entries t.text k → (q : List ℕ) → number_in n q ≡ or_in (number_in m q) (only_number q t k)
+pub number_after : {S : Type 0} (m n : HashMap (Bor (List ℕ)) ℕ S) (t : Token) (k : ℕ) → get_by (λ key. pointwise nat_eq t.text.now key.now) m ≡ None → n.entries
+    ≡ insert_entry (λ a b. pointwise nat_eq a.now b.now) m.entries t.text k → (q : List ℕ) → number_in n q ≡ or_in (number_in m q) (only_number q t k)
 number_after m n t k none e q =
     ap (lookup (λ key. pointwise nat_eq q key.now)) (e ∙ insert_entry-new (λ a b. pointwise nat_eq a.now b.now) m t.text k none)
     ∙ lookup_last q t k m.entries

@@ -46,8 +46,10 @@ state_noted s g a ds cs scope old one two three new ed ec es e1 e2 e3 en =
     en
     ∙ (λ j. e3 j ++ maybe (in_plain_block (same j ∷ s) g) (shown (held block_view) a.exit))
     ∙ (λ j. (e2 j ++ in_clauses (same j ∷ s) g false (map clause_view (ec j))) ++ maybe (in_plain_block (scope_of s defs ∷ s) g) (shown (held block_view) a.exit))
-    ∙ (λ j. ((e1 j ++ maybe (in_plain_block (same j ∷ s) g) (shown (held block_view) a.entry)) ++ in_clauses (scope_of s defs ∷ s) g false (map clause_view a.clauses.items)) ++ maybe (in_plain_block (scope_of s defs ∷ s) g) (shown (held block_view) a.exit))
-    ∙ (λ j. (((old ++ in_definitions true s (map definition_view (ed j))) ++ maybe (in_plain_block (scope_of s defs ∷ s) g) (shown (held block_view) a.entry)) ++ in_clauses (scope_of s defs ∷ s) g false (map clause_view a.clauses.items)) ++ maybe (in_plain_block (scope_of s defs ∷ s) g) (shown (held block_view) a.exit))
+    ∙ (λ j. ((e1 j ++ maybe (in_plain_block (same j ∷ s) g) (shown (held block_view) a.entry))
+    ++ in_clauses (scope_of s defs ∷ s) g false (map clause_view a.clauses.items)) ++ maybe (in_plain_block (scope_of s defs ∷ s) g) (shown (held block_view) a.exit))
+    ∙ (λ j. (((old ++ in_definitions true s (map definition_view (ed j))) ++ maybe (in_plain_block (scope_of s defs ∷ s) g) (shown (held block_view) a.entry))
+    ++ in_clauses (scope_of s defs ∷ s) g false (map clause_view a.clauses.items)) ++ maybe (in_plain_block (scope_of s defs ∷ s) g) (shown (held block_view) a.exit))
     ∙ four_parts old _ _ _ _
 
 -- a state set: its definitions, then its states
@@ -79,8 +81,10 @@ program_noted p ds ts none scope old one two three new ed et es en e1 e2 e3 e4 =
     e4
     ∙ (λ j. e3 j ++ maybe (in_plain_block (same j ∷ []) (en j)) (shown (held block_view) p.exit))
     ∙ (λ j. (e2 j ++ in_all_sets (same j ∷ []) (map state_set_view (et j))) ++ maybe (in_plain_block (scope_of [] defs ∷ []) []) (shown (held block_view) p.exit))
-    ∙ (λ j. ((e1 j ++ maybe (in_plain_block (same j ∷ []) (en j)) (shown (held block_view) p.entry)) ++ in_all_sets (scope_of [] defs ∷ []) sets) ++ maybe (in_plain_block (scope_of [] defs ∷ []) []) (shown (held block_view) p.exit))
-    ∙ (λ j. (((old ++ in_definitions false [] (map definition_view (ed j))) ++ maybe (in_plain_block (scope_of [] defs ∷ []) []) (shown (held block_view) p.entry)) ++ in_all_sets (scope_of [] defs ∷ []) sets) ++ maybe (in_plain_block (scope_of [] defs ∷ []) []) (shown (held block_view) p.exit))
+    ∙ (λ j. ((e1 j ++ maybe (in_plain_block (same j ∷ []) (en j)) (shown (held block_view) p.entry)) ++ in_all_sets (scope_of [] defs ∷ []) sets)
+    ++ maybe (in_plain_block (scope_of [] defs ∷ []) []) (shown (held block_view) p.exit))
+    ∙ (λ j. (((old ++ in_definitions false [] (map definition_view (ed j))) ++ maybe (in_plain_block (scope_of [] defs ∷ []) []) (shown (held block_view) p.entry))
+    ++ in_all_sets (scope_of [] defs ∷ []) sets) ++ maybe (in_plain_block (scope_of [] defs ∷ []) []) (shown (held block_view) p.exit))
     ∙ four_parts old _ _ _ _
 
 -- a clause: its condition, its block, its target

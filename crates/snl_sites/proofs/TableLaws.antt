@@ -19,10 +19,12 @@ none_of None e = refl
 none_of (Some t) e = cc
 
 -- an entry at the end is found where none before it is
-pub lookup_last : (q : List ℕ) (t : Declared) (es : List (Bor (List ℕ) × Declared)) → lookup (λ key. pointwise nat_eq q key.now) (es ++ (t.name.text, t) ∷ []) ≡ or_in (lookup (λ key. pointwise nat_eq q key.now) es) (only q t)
+pub lookup_last : (q : List ℕ) (t : Declared) (es : List (Bor (List ℕ) × Declared)) → lookup (λ key. pointwise nat_eq q key.now) (es ++ (t.name.text, t) ∷ [])
+    ≡ or_in (lookup (λ key. pointwise nat_eq q key.now) es) (only q t)
 lookup_last q t [] = refl
 lookup_last q t (e ∷ es) =
-    elim (pointwise nat_eq q e.0.now) as (λ b. cond b (Some e.1) (lookup (λ key. pointwise nat_eq q key.now) (es ++ (t.name.text, t) ∷ [])) ≡ or_in (cond b (Some e.1) (lookup (λ key. pointwise nat_eq q key.now) es)) (only q t)) [ true ↦ refl | false ↦ lookup_last q t es ]
+    elim (pointwise nat_eq q e.0.now) as (λ b. cond b (Some e.1) (lookup (λ key. pointwise nat_eq q key.now) (es ++ (t.name.text, t) ∷ []))
+    ≡ or_in (cond b (Some e.1) (lookup (λ key. pointwise nat_eq q key.now) es)) (only q t)) [ true ↦ refl | false ↦ lookup_last q t es ]
 
 -- and so with a name at the end of a scope
 pub first_of_last : (q : List ℕ) (ts : List Declared) (t : Declared) → first_of q (ts ++ t ∷ []) ≡ or_in (first_of q ts) (only q t)
@@ -30,7 +32,8 @@ first_of_last q [] t = refl
 first_of_last q (s ∷ ts) t =
     elim (is_spelled q s.name) as (λ b. cond b (Some s) (first_of q (ts ++ t ∷ [])) ≡ or_in (cond b (Some s) (first_of q ts)) (only q t)) [ true ↦ refl | false ↦ first_of_last q ts t ]
 
-pub found_after : {S : Type 0} (m n : HashMap (Bor (List ℕ)) Declared S) (t : Declared) → get_by (λ key. pointwise nat_eq t.name.text.now key.now) m ≡ None → n.entries ≡ insert_entry (λ a b. pointwise nat_eq a.now b.now) m.entries t.name.text t → (q : List ℕ) → found_in n q ≡ or_in (found_in m q) (only q t)
+pub found_after : {S : Type 0} (m n : HashMap (Bor (List ℕ)) Declared S) (t : Declared) → get_by (λ key. pointwise nat_eq t.name.text.now key.now) m ≡ None
+    → n.entries ≡ insert_entry (λ a b. pointwise nat_eq a.now b.now) m.entries t.name.text t → (q : List ℕ) → found_in n q ≡ or_in (found_in m q) (only q t)
 found_after m n t none e q =
     ap (lookup (λ key. pointwise nat_eq q key.now)) (e ∙ insert_entry-new (λ a b. pointwise nat_eq a.now b.now) m t.name.text t none)
     ∙ lookup_last q t m.entries

@@ -16,3 +16,5 @@ pub mod Tables
 pub mod Chains
 pub mod NumberTables
 pub mod Held
+pub mod Laws
+pub mod Examples

@@ -27,7 +27,7 @@ use Rattle.snl_sites.specs.Sites.{declares, in_declaration, in_expression, in_va
 abbrev pub defined : Sort → Token → List Scope → PlaceTree → Option ℕ → List Site
 defined sort word s p list =
     Defined sort word p.name (meaning s p.name) (is_some p.subscript) (is_wrong_part (is_hidden s) (meaning s p.name) p.subscript list)
-        (part_of (is_hidden s) (meaning s p.name) p.subscript list)
+    (part_of (is_hidden s) (meaning s p.name) p.subscript list)
     ∷ maybe (in_value s) p.subscript
 
 abbrev pub in_flag : List Scope → FlagTree → List Site

@@ -70,7 +70,7 @@ at_constant p t k = []
 abbrev pub at_call : Purpose → Bool → Token → Option Form → Bool → Site
 at_call p in_condition f form fitting =
     Call f (is_some form || is_ignored p) (is_none form || fitting || is_ignored p)
-        (in_condition || not (bytes_eq f.text.now (codes "delay")) || is_ignored p)
+    (in_condition || not (bytes_eq f.text.now (codes "delay")) || is_ignored p)
 
 -- A name or an element, in parentheses or not.
 abbrev pub is_target : ExprTree → Bool

@@ -1,5 +1,5 @@
 -- The variables that the copy of a state set holds.
-use Rattle.std.specs.Prelude.{ℕ, zero, suc, ℤ, ◌==◌, List, [], ◌∷◌, ◌++◌, map, Option, None, Some, if◌then◌else◌}
+use Rattle.std.specs.Prelude.{ℕ, ℤ, ◌==◌, List, [], ◌∷◌, ◌++◌, map, slice_get, Option, None, Some, if◌then◌else◌}
 use Rattle.std.specs.List.{flat_map}
 use Rattle.snl_text.specs.declared.tokens.Token.{Token}
 use Rattle.snl_tree.specs.Statements.{StatementTree, StatementList, BlockTree, nested, empty, expression, break_loop, continue_loop, change_state, if_then, if_else, while_loop, for_loop, no_statements, statement, block}
@@ -53,24 +53,30 @@ abbrev pub by_maybe : List Scope → Option BlockTree → List Held
 by_maybe s None = []
 by_maybe s (Some b) = by_block s b
 
+abbrev pub by_clause : List Scope → ClauseTree → List Held
+by_clause s c = by_block s c.block
+
 abbrev pub by_state : List Scope → StateTree → List Held
 by_state outer s =
     by_definitions outer s.definitions ++ by_maybe (scope_of outer s.definitions ∷ outer) s.entry
-    ++ flat_map (λ c. by_block (scope_of outer s.definitions ∷ outer) c.block) s.clauses
+    ++ flat_map (by_clause (scope_of outer s.definitions ∷ outer)) s.clauses
     ++ by_maybe (scope_of outer s.definitions ∷ outer) s.exit
 
 abbrev pub by_state_set : List Scope → StateSetTree → List Held
 by_state_set outer g = by_definitions outer g.definitions ++ flat_map (by_state (scope_of outer g.definitions ∷ outer)) g.states
 
--- The same of the state set of a number, if there is one.
-abbrev pub by_numbered : List Scope → List StateSetTree → ℕ → List Held
-by_numbered outer [] set = []
-by_numbered outer (g ∷ rest) zero = by_state_set outer g
-by_numbered outer (g ∷ rest) (suc set) = by_numbered outer rest set
+-- The same of a state set, if there is one.
+abbrev pub by_numbered : List Scope → Option StateSetTree → List Held
+by_numbered outer None = []
+by_numbered outer (Some g) = by_state_set outer g
+
+-- A block of the program, for the first state set alone.
+abbrev pub for_first : ℕ → List Scope → Option BlockTree → List Held
+for_first set s b = if set == 0 then by_maybe s b else []
 
 -- All variables that the copy of a state set holds, in the order of the source: those of the program's definitions, and
 -- of the state set's own with its states and blocks. The first copy holds those of the program's own two blocks too.
 abbrev pub variables_of : ProgramTree → ℕ → List Held
 variables_of p set =
-    by_definitions [] p.definitions ++ (if set == 0 then by_maybe (program_scopes p) p.entry else [])
-    ++ by_numbered (program_scopes p) p.state_sets set ++ (if set == 0 then by_maybe (program_scopes p) p.exit else [])
+    by_definitions [] p.definitions ++ for_first set (program_scopes p) p.entry
+    ++ by_numbered (program_scopes p) (slice_get p.state_sets set) ++ for_first set (program_scopes p) p.exit

@@ -81,8 +81,8 @@ fn shifted_right(left: i64, count: i64) -> Result<i64, Fault>
     Ok(left >> (count as u32))
 }
 
-/// What a binary operator makes of both of its operands (SNL Reference, "Expressions"): any one but `&&` and `||`. Kinds
-/// that are no such operator give the right operand, as the comma does.
+/// What a binary operator makes of both of its operands (SNL Reference, "Expressions"): any one but
+/// `&&` and `||`. Kinds that are no such operator give the right operand, as the comma does.
 pub fn computed(operator: Kind, left: i64, right: i64) -> Result<i64, Fault>
     ensures { result ≡ spec.computed operator left right }
 {
@@ -107,7 +107,8 @@ pub fn computed(operator: Kind, left: i64, right: i64) -> Result<i64, Fault>
     }
 }
 
-/// What a prefix operator other than `++` and `--` makes of its operand. Other kinds give the operand, as `+` does.
+/// What a prefix operator other than `++` and `--` makes of its operand. Other kinds give the
+/// operand, as `+` does.
 pub fn computed_prefix(operator: Kind, operand: i64) -> Result<i64, Fault>
     ensures { result ≡ spec.computed_prefix operator operand }
 {

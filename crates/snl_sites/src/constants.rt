@@ -160,8 +160,8 @@ fn prefixed(operator: Kind, operand: Constant) -> Constant
     }
 }
 
-/// What an expression is worth in every run. A name of one of the scopes is no constant, also where it hides a predefined
-/// one.
+/// What an expression is worth in every run. A name of one of the scopes is no constant, also where
+/// it hides a predefined one.
 pub fn constant_of<'a>(scopes: &Scopes<'_, 'a>, expression: &Expr<'a>) -> Constant
     ensures { result ≡ spec.constant_of (is_hidden (scopes_of scopes.now)) (view expression.now) }
 {

@@ -11,8 +11,8 @@ ghost use Rattle.snl_sites.specs.Sites as spec;
 use crate::expressions::note_expression;
 use crate::initialisers::{is_good_initialiser, range_of};
 use crate::scopes::Scopes;
-use crate::sizes::size_of;
 use crate::sites::{Purpose, Site};
+use crate::sizes::size_of;
 use snl_tree::{Declaration, Declarator, Expr, Initialiser, TypeName};
 use std::alloc::AllocError;
 
@@ -22,7 +22,8 @@ pub fn note_value<'a>(
     value: &Expr<'a>,
     sites: &mut Vec<Site<'a>>,
 ) -> Result<(), AllocError>
-    ensures { OnOk result (sites.new.items ≡ sites.old.items ++ spec.in_value (scopes_of scopes.now) (view value.now)) }
+    ensures { OnOk result (sites.new.items ≡ sites.old.items
+        ++ spec.in_value (scopes_of scopes.now) (view value.now)) }
 {
     note_expression(false, scopes, Purpose::Read, value, sites)?;
     Ok(())
@@ -34,7 +35,8 @@ pub fn note_if_there<'a>(
     value: &Option<Box<Expr<'a>>>,
     sites: &mut Vec<Site<'a>>,
 ) -> Result<(), AllocError>
-    ensures { OnOk result (sites.new.items ≡ sites.old.items ++ spec.maybe (spec.in_value (scopes_of scopes.now)) (shown boxed value.now)) }
+    ensures { OnOk result (sites.new.items ≡ sites.old.items
+        ++ spec.maybe (spec.in_value (scopes_of scopes.now)) (shown boxed value.now)) }
 {
     if let Some(value) = value {
         note_value(scopes, value, sites)?;
@@ -48,7 +50,8 @@ fn note_values<'a>(
     values: &[Box<Expr<'a>>],
     sites: &mut Vec<Site<'a>>,
 ) -> Result<(), AllocError>
-    ensures { OnOk result (sites.new.items ≡ sites.old.items ++ flat_map (spec.in_value (scopes_of scopes.now)) (map boxed values.now)) }
+    ensures { OnOk result (sites.new.items ≡ sites.old.items
+        ++ flat_map (spec.in_value (scopes_of scopes.now)) (map boxed values.now)) }
 {
     for value in values {
         note_value(scopes, value, sites)?;
@@ -63,7 +66,9 @@ fn note_initialiser<'a>(
     initial: &Option<Initialiser<'a>>,
     sites: &mut Vec<Site<'a>>,
 ) -> Result<(), AllocError>
-    ensures { OnOk result (sites.new.items ≡ sites.old.items ++ spec.maybe (spec.in_initialiser (scopes_of scopes.now)) (shown initialiser_view initial.now)) }
+    ensures { OnOk result (sites.new.items ≡ sites.old.items
+        ++ spec.maybe (spec.in_initialiser (scopes_of scopes.now))
+        (shown initialiser_view initial.now)) }
 {
     match initial {
         None => {}
@@ -81,7 +86,9 @@ fn note_declarator<'a>(
     declarator: &Declarator<'a>,
     sites: &mut Vec<Site<'a>>,
 ) -> Result<(), AllocError>
-    ensures { OnOk result (sites.new.items ≡ sites.old.items ++ spec.in_declarator (scopes_of scopes.now) in_block (type_view type_name.entry) (declarator_view declarator.now)) }
+    ensures { OnOk result (sites.new.items ≡ sites.old.items
+        ++ spec.in_declarator (scopes_of scopes.now) in_block (type_view type_name.entry)
+        (declarator_view declarator.now)) }
 {
     let size = size_of(scopes, declarator.sizes.as_slice());
     sites.push(Site::Declarator {
@@ -107,7 +114,8 @@ pub fn note_declaration<'a>(
     declared: &Declaration<'a>,
     sites: &mut Vec<Site<'a>>,
 ) -> Result<(), AllocError>
-    ensures { OnOk result (sites.new.items ≡ sites.old.items ++ spec.in_declaration (scopes_of scopes.now) in_block (declaration_view declared.now)) }
+    ensures { OnOk result (sites.new.items ≡ sites.old.items
+        ++ spec.in_declaration (scopes_of scopes.now) in_block (declaration_view declared.now)) }
 {
     sites.push(Site::Typed {
         word: declared.type_name.word,

@@ -28,10 +28,7 @@ fn push_flags<'a>(flags: &[Token<'a>], names: &mut Vec<Declared<'a>>) -> Result<
 }
 
 /// Adds the names that a definition declares.
-fn push_names_by<'a>(
-    definition: &Def<'a>,
-    names: &mut Vec<Declared<'a>>,
-) -> Result<(), AllocError>
+fn push_names_by<'a>(definition: &Def<'a>, names: &mut Vec<Declared<'a>>) -> Result<(), AllocError>
     ensures { OnOk result (names.new.items ≡ names.old.items
         ++ map spec.bare (spec.names_by (definition_view definition.now))) }
 {
@@ -50,7 +47,8 @@ fn push_declared_by<'a>(
     found: &mut Vec<Declared<'a>>,
 ) -> Result<(), AllocError>
     ensures { OnOk result (found.new.items ≡ found.old.items
-        ++ spec.declared_by (spec.is_hidden (scopes_of scopes.now)) (definition_view definition.now)) }
+        ++ spec.declared_by (spec.is_hidden (scopes_of scopes.now))
+        (definition_view definition.now)) }
 {
     match definition {
         Def::Declaration(declared) => push_declared(scopes, declared, found)?,
@@ -79,7 +77,7 @@ fn declared_of<'a>(
 ) -> Result<Vec<Declared<'a>>, AllocError>
     ensures { IfOk result (λ v. v.items
         ≡ flat_map (spec.declared_by (spec.is_hidden (scopes_of scopes.now)))
-            (map definition_view definitions.now)) }
+        (map definition_view definitions.now)) }
 {
     let mut found = Vec::new(alloc);
     for definition in definitions {
@@ -113,7 +111,8 @@ pub fn definition_scope<'a>(
     ensures scope { IfOk result (λ scope. scope
         ≡ spec.scope_of (scopes_of outer.now) (map definition_view definitions.now)) }
     ensures sites { OnOk result (sites.new.items ≡ sites.old.items
-        ++ declares [] (spec.scope_of (scopes_of outer.now) (map definition_view definitions.now))) }
+        ++ declares [] (spec.scope_of (scopes_of outer.now)
+        (map definition_view definitions.now))) }
 {
     let declared = definition_names(alloc, outer, definitions)?;
     let scope = scope_with(alloc, declared, sites)?;

@@ -107,7 +107,14 @@ fn note_sync<'a>(
     ensures { OnOk result (sites.new.items ≡ sites.old.items
         ++ spec.in_sync (scopes_of scopes.now) (sync_view sync.now)) }
 {
-    note_defined(Sort::Sync, sync.place.name, scopes, &sync.place, None, sites)?;
+    note_defined(
+        Sort::Sync,
+        sync.place.name,
+        scopes,
+        &sync.place,
+        None,
+        sites,
+    )?;
     note_flag(scopes, sync.flag, sites)?;
     Ok(())
 }
@@ -130,7 +137,8 @@ fn note_queue<'a>(
     Ok(())
 }
 
-/// Notes the sites in a definition or an option, of a state or elsewhere; declared names are noted with their scope.
+/// Notes the sites in a definition or an option, of a state or elsewhere; declared names are noted
+/// with their scope.
 fn note_definition<'a>(
     in_state: bool,
     scopes: &Scopes<'_, 'a>,
@@ -144,7 +152,14 @@ fn note_definition<'a>(
         Def::Declaration(declared) => note_declaration(scopes, false, declared, sites)?,
         Def::Assign(assign) => {
             let list = listed_names(&assign.channels);
-            note_defined(Sort::Assign, assign.word, scopes, &assign.place, list, sites)?;
+            note_defined(
+                Sort::Assign,
+                assign.word,
+                scopes,
+                &assign.place,
+                list,
+                sites,
+            )?;
         }
         Def::Monitor(place) => {
             note_defined(Sort::Monitor, place.name, scopes, place, None, sites)?;
@@ -172,7 +187,7 @@ fn note_each<'a>(
 ) -> Result<(), AllocError>
     ensures { OnOk result (sites.new.items ≡ sites.old.items
         ++ flat_map (spec.in_definition in_state (scopes_of scopes.now))
-            (map definition_view definitions.now)) }
+        (map definition_view definitions.now)) }
 {
     for definition in definitions {
         note_definition(in_state, scopes, definition, sites)?;
@@ -180,7 +195,8 @@ fn note_each<'a>(
     Ok(())
 }
 
-/// Notes the sites in definitions, their declared names first; gives the scope that they make within others.
+/// Notes the sites in definitions, their declared names first; gives the scope that they make
+/// within others.
 pub fn note_definitions<'a>(
     alloc: Global,
     in_state: bool,
@@ -191,7 +207,8 @@ pub fn note_definitions<'a>(
     ensures scope { IfOk result (λ scope. scope
         ≡ scope_of (scopes_of outer.now) (map definition_view definitions.now)) }
     ensures sites { OnOk result (sites.new.items ≡ sites.old.items
-        ++ spec.in_definitions in_state (scopes_of outer.now) (map definition_view definitions.now)) }
+        ++ spec.in_definitions in_state (scopes_of outer.now)
+        (map definition_view definitions.now)) }
 {
     let scope = definition_scope(alloc, outer, definitions, sites)?;
     note_each(in_state, &Scopes::Within(&scope, outer), definitions, sites)?;

@@ -22,7 +22,8 @@ fn note_constant<'a>(
     token: Token<'a>,
     sites: &mut Vec<Site<'a>>,
 ) -> Result<(), AllocError>
-    ensures { OnOk result (sites.new.items ≡ sites.old.items ++ at_constant purpose token.entry token.entry.kind) }
+    ensures { OnOk result (sites.new.items ≡ sites.old.items
+        ++ at_constant purpose token.entry token.entry.kind) }
 {
     if let Kind::Decimal = token.kind {
         sites.push(Site::Decimal {
@@ -42,7 +43,8 @@ pub fn note_expression<'a>(
     expression: &Expr<'a>,
     sites: &mut Vec<Site<'a>>,
 ) -> Result<(), AllocError>
-    ensures { OnOk result (sites.new.items ≡ sites.old.items ++ spec.in_expression in_condition (scopes_of scopes.now) purpose (view expression.now)) }
+    ensures { OnOk result (sites.new.items ≡ sites.old.items
+        ++ spec.in_expression in_condition (scopes_of scopes.now) purpose (view expression.now)) }
 {
     match expression {
         Expr::Constant(token) => {
@@ -94,7 +96,13 @@ pub fn note_expression<'a>(
         }
         Expr::Chain(first, terms) => {
             note_expression(in_condition, scopes, purpose.inner(), first, sites)?;
-            note_terms(in_condition, scopes, purpose.inner(), terms.as_slice(), sites)?;
+            note_terms(
+                in_condition,
+                scopes,
+                purpose.inner(),
+                terms.as_slice(),
+                sites,
+            )?;
         }
         Expr::Conditional { condition, yes, no } => {
             note_expression(in_condition, scopes, purpose.inner(), condition, sites)?;
@@ -123,7 +131,9 @@ fn note_terms<'a>(
     terms: &[Term<'a>],
     sites: &mut Vec<Site<'a>>,
 ) -> Result<(), AllocError>
-    ensures { OnOk result (sites.new.items ≡ sites.old.items ++ spec.in_terms in_condition (scopes_of scopes.now) purpose (term_list (map pair_of terms.now))) }
+    ensures { OnOk result (sites.new.items ≡ sites.old.items
+        ++ spec.in_terms in_condition (scopes_of scopes.now) purpose (term_list
+        (map pair_of terms.now))) }
 {
     for term in terms {
         note_expression(in_condition, scopes, purpose, &term.operand, sites)?;
@@ -140,7 +150,9 @@ fn note_arguments<'a>(
     arguments: &[Argument<'a>],
     sites: &mut Vec<Site<'a>>,
 ) -> Result<(), AllocError>
-    ensures { OnOk result (sites.new.items ≡ sites.old.items ++ spec.in_arguments in_condition (scopes_of scopes.now) purpose (list_before arguments.now no_arguments)) }
+    ensures { OnOk result (sites.new.items ≡ sites.old.items
+        ++ spec.in_arguments in_condition (scopes_of scopes.now) purpose
+        (list_before arguments.now no_arguments)) }
 {
     let mut left = arguments.len();
     for argument in arguments {

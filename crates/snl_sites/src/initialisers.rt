@@ -16,7 +16,8 @@ use crate::sites::Size;
 use snl_text::Kind;
 use snl_tree::{Expr, Initialiser, TypeName};
 
-/// The least and the greatest number of a type (SNL Reference, "Declarations"); none where it is not supported.
+/// The least and the greatest number of a type (SNL Reference, "Declarations"); none where it is
+/// not supported.
 pub fn range_of(type_name: TypeName) -> Option<(i64, i64)>
     ensures { result ≡ spec.range_of (type_view type_name.entry) }
 {
@@ -65,7 +66,8 @@ fn are_constants<'a>(
     range: Option<(i64, i64)>,
     values: &[Box<Expr<'a>>],
 ) -> bool
-    ensures { result ≡ list_all (λ e. spec.is_constant_in range (constant_of (is_hidden (scopes_of scopes.now)) e)) (map boxed values.now) }
+    ensures { result ≡ list_all (λ e. spec.is_constant_in range (constant_of (is_hidden
+        (scopes_of scopes.now)) e)) (map boxed values.now) }
 {
     for value in values {
         if !is_constant_in(range, constant_of(scopes, value)) {
@@ -83,7 +85,8 @@ fn is_good_list<'a>(
     size: Size,
     values: &[Box<Expr<'a>>],
 ) -> bool
-    ensures { result ≡ spec.is_good_list (is_hidden (scopes_of scopes.now)) in_block range size (map boxed values.now) }
+    ensures { result ≡ spec.is_good_list (is_hidden (scopes_of scopes.now)) in_block range size
+        (map boxed values.now) }
 {
     if !size.is_array() || size.elements() < values.len() {
         return false;
@@ -99,7 +102,8 @@ fn is_good_value<'a>(
     size: Size,
     value: &Expr<'a>,
 ) -> bool
-    ensures { result ≡ spec.is_good_value (is_hidden (scopes_of scopes.now)) in_block range size (view value.now) }
+    ensures { result ≡ spec.is_good_value (is_hidden (scopes_of scopes.now)) in_block range size
+        (view value.now) }
 {
     if size.is_array() {
         return false;
@@ -116,7 +120,8 @@ pub fn is_good_initialiser<'a>(
     size: Size,
     initial: &Option<Initialiser<'a>>,
 ) -> bool
-    ensures { result ≡ spec.is_good_initialiser (is_hidden (scopes_of scopes.now)) in_block (type_view type_name.entry) size (shown initialiser_view initial.now) }
+    ensures { result ≡ spec.is_good_initialiser (is_hidden (scopes_of scopes.now)) in_block
+        (type_view type_name.entry) size (shown initialiser_view initial.now) }
 {
     match initial {
         None => true,

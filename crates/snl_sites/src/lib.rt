@@ -1,8 +1,9 @@
-//! What is known at each place of a program: what its names mean, how large its variables are, which expressions are
-//! constant, how its calls are formed.
+//! What is known at each place of a program: what its names mean, how large its variables are,
+//! which expressions are constant, how its calls are formed.
 #![tactic(auto)]
 
 mod arithmetic;
+mod block_variables;
 mod calls;
 mod constants;
 mod declarations;
@@ -11,6 +12,7 @@ mod definitions;
 mod expressions;
 mod formats;
 mod initialisers;
+pub mod laws;
 mod numbered;
 mod options;
 mod parts;
@@ -18,6 +20,7 @@ mod programs;
 mod purposes;
 mod scopes;
 mod scoping;
+mod set_variables;
 mod sites;
 mod sizes;
 mod statements;
@@ -30,6 +33,7 @@ pub use calls::Form;
 pub use constants::{Constant, constant_of};
 pub use programs::sites_of;
 pub use scopes::{Declared, Scope, Scopes};
+pub use set_variables::variables_of;
 pub use sites::{Extent, Meaning, Part, Purpose, Site, Size, Sort};
 pub use uses::declared_in;
-pub use variables::{Held, push_definitions};
+pub use variables::Held;

@@ -22,11 +22,13 @@ pub struct Numbered<'a> {
 impl<'a> Model for Numbered<'a> {
     ghost use Rattle.std.specs.Prelude.{List};
     ghost use Rattle.snl_text.specs.declared.tokens.Token.{Token};
+
     ghost Value = { List Token };
 
     ghost view = { λ s. s.names.items };
 
     ghost use Rattle.snl_sites.specs.NumberTables.{IsNumberTable};
+
     ghost invariant = { λ s. IsNumberTable s.numbers s.names.items };
 }
 

@@ -50,8 +50,8 @@ fn refused_in_state(letters: &[u8]) -> Option<u8>
     None
 }
 
-/// The first letter of an option that is refused, of a state's or of the program's (SNL Reference, "State Options" and
-/// "Option").
+/// The first letter of an option that is refused, of a state's or of the program's (SNL Reference,
+/// "State Options" and "Option").
 pub fn refused(in_state: bool, setting: Setting) -> Option<u8>
     ensures { result ≡ spec.refused in_state (setting_view setting.entry) }
 {

@@ -19,10 +19,12 @@ pub fn listed_names(channels: &Option<Channels>) -> Option<usize>
     ensures { result ≡ spec.listed_names (shown channels_view channels.now) }
 {
     match channels {
-        Some(Channels {
-            names: ChannelNames::List(names),
-            ..
-        }) => Some(names.len()),
+        Some(
+            Channels {
+                names: ChannelNames::List(names),
+                ..
+            },
+        ) => Some(names.len()),
         _ => None,
     }
 }
@@ -33,13 +35,7 @@ fn element_by(size: usize, constant: Constant) -> Option<usize>
 {
     match constant {
         Constant::Worth(number) => match usize::try_from(number) {
-            Ok(element) => {
-                if element < size {
-                    Some(element)
-                } else {
-                    None
-                }
-            }
+            Ok(element) => { if element < size { Some(element) } else { None } }
             Err(_) => None,
         },
         _ => None,
@@ -48,7 +44,8 @@ fn element_by(size: usize, constant: Constant) -> Option<usize>
 
 /// The element that a subscript names, if it is constant, does not fault and is in range.
 fn element_at<'a>(scopes: &Scopes<'_, 'a>, size: Size, subscript: &Expr<'a>) -> Option<usize>
-    ensures { result ≡ spec.element_at (is_hidden (scopes_of scopes.now)) size (view subscript.now) }
+    ensures { result ≡ spec.element_at (is_hidden (scopes_of scopes.now)) size
+        (view subscript.now) }
 {
     element_by(size.elements(), constant_of(scopes, subscript))
 }
@@ -77,8 +74,9 @@ fn all_elements(variable: Pos, size: Size, list: Option<usize>) -> Part
     Part { variable, extent }
 }
 
-/// What a definition names, by the meaning of its name, its subscript and the length of its list (SNL Reference,
-/// "Assign"). Those elements count that there are, also where the definition is wrong.
+/// What a definition names, by the meaning of its name, its subscript and the length of its list
+/// (SNL Reference, "Assign"). Those elements count that there are, also where the definition is
+/// wrong.
 pub fn part_of<'a>(
     scopes: &Scopes<'_, 'a>,
     meaning: Meaning,
@@ -104,7 +102,8 @@ fn is_wrong_subscript<'a>(
     subscript: &Option<Box<Expr<'a>>>,
 ) -> bool
     ensures { result
-        ≡ spec.is_wrong_subscript (is_hidden (scopes_of scopes.now)) size (shown boxed subscript.now) }
+        ≡ spec.is_wrong_subscript (is_hidden (scopes_of scopes.now)) size
+        (shown boxed subscript.now) }
 {
     match subscript {
         Some(subscript) => !size.is_array() || element_at(scopes, size, subscript).is_none(),
@@ -130,7 +129,8 @@ pub fn is_wrong_part<'a>(
     list: Option<usize>,
 ) -> bool
     ensures { result
-        ≡ spec.is_wrong_part (is_hidden (scopes_of scopes.now)) meaning (shown boxed subscript.now) list }
+        ≡ spec.is_wrong_part (is_hidden (scopes_of scopes.now)) meaning
+        (shown boxed subscript.now) list }
 {
     match meaning {
         Meaning::Variable(_, size) => {

@@ -166,10 +166,17 @@ fn note_program<'a>(
     program: &Program<'a>,
     sites: &mut Vec<Site<'a>>,
 ) -> Result<(), AllocError>
-    ensures { OnOk result (sites.new.items ≡ sites.old.items ++ spec.sites (program_view program.now)) }
+    ensures { OnOk result (sites.new.items ≡ sites.old.items
+        ++ spec.sites (program_view program.now)) }
 {
     let outside = Scopes::Outside;
-    let scope = note_definitions(alloc, false, &outside, program.definitions.as_slice(), sites)?;
+    let scope = note_definitions(
+        alloc,
+        false,
+        &outside,
+        program.definitions.as_slice(),
+        sites,
+    )?;
     let scopes = Scopes::Within(&scope, &outside);
     let no_states = Numbered::empty(alloc);
     note_plain_block(alloc, &scopes, &no_states, &program.entry, sites)?;
@@ -178,8 +185,8 @@ fn note_program<'a>(
     Ok(())
 }
 
-/// The sites of a program, in the order of the source, but that the declared names stand first in their scope. The only
-/// error is that memory ends.
+/// The sites of a program, in the order of the source, but that the declared names stand first in
+/// their scope. The only error is that memory ends.
 pub fn sites_of<'a>(alloc: Global, program: &Program<'a>) -> Result<Vec<Site<'a>>, AllocError>
     ensures { IfOk result (λ sites. sites.items ≡ spec.sites (program_view program.now)) }
 {

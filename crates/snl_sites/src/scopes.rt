@@ -53,11 +53,13 @@ impl Size {
 impl<'a> Model for Scope<'a> {
     ghost use Rattle.std.specs.Prelude.{List};
     ghost use Rattle.snl_sites.specs.declared.scopes.Declared.{Declared};
+
     ghost Value = { List Declared };
 
     ghost view = { λ s. s.declared.items };
 
     ghost use Rattle.snl_sites.specs.Tables.{IsTable};
+
     ghost invariant = { λ s. IsTable s.firsts s.declared.items };
 }
 
@@ -70,13 +72,16 @@ impl<'a> Scope<'a> {
     }
 }
 
-/// Adds a declaration to a table of firsts, if it is the first of its name; tells whether there was one.
+/// Adds a declaration to a table of firsts, if it is the first of its name; tells whether there was
+/// one.
 fn note_first<'a>(
     firsts: &mut IndexMap<&'a [u8], Declared<'a>>,
     declared: Declared<'a>,
 ) -> Result<bool, AllocError>
-    ensures later { IfOk result (λ later. later ≡ is_some (found_in firsts.old declared.entry.name.text.now)) }
-    ensures firsts { OnOk result ((q : List ℕ) → found_in firsts.new q ≡ spec.or_in (found_in firsts.old q) (only q declared.entry)) }
+    ensures later { IfOk result (λ later. later
+        ≡ is_some (found_in firsts.old declared.entry.name.text.now)) }
+    ensures firsts { OnOk result ((q : List ℕ) → found_in firsts.new q
+        ≡ spec.or_in (found_in firsts.old q) (only q declared.entry)) }
 {
     if firsts.contains_key(&declared.name.text) {
         return Ok(true);
@@ -104,9 +109,11 @@ fn note_declared<'a>(
     firsts: &mut IndexMap<&'a [u8], Declared<'a>>,
     sites: &mut Vec<Site<'a>>,
 ) -> Result<(), AllocError>
-    ensures firsts { OnOk result ((q : List ℕ) → found_in firsts.new q ≡ spec.or_in (found_in firsts.old q) (only q declared.entry)) }
+    ensures firsts { OnOk result ((q : List ℕ) → found_in firsts.new q
+        ≡ spec.or_in (found_in firsts.old q) (only q declared.entry)) }
     ensures sites { OnOk result (sites.new.items ≡ sites.old.items
-        ++ Site.Declaration declared.entry.name (is_flag declared.entry) (is_some (found_in firsts.old declared.entry.name.text.now)) (words_of declared.entry) ∷ []) }
+        ++ Site.Declaration declared.entry.name (is_flag declared.entry) (is_some
+        (found_in firsts.old declared.entry.name.text.now)) (words_of declared.entry) ∷ []) }
 {
     let is_later = note_first(firsts, declared)?;
     sites.push(Site::Declaration {
@@ -128,7 +135,8 @@ pub fn scope_with<'a>(
     sites: &mut Vec<Site<'a>>,
 ) -> Result<Scope<'a>, AllocError>
     ensures scope { IfOk result (λ scope. scope ≡ declared.entry.items) }
-    ensures sites { OnOk result (sites.new.items ≡ sites.old.items ++ declares [] declared.entry.items) }
+    ensures sites { OnOk result (sites.new.items ≡ sites.old.items
+        ++ declares [] declared.entry.items) }
 {
     let mut firsts = IndexMap::new(alloc);
     for name in &declared {
@@ -165,10 +173,12 @@ impl<'s, 'a> Scopes<'s, 'a> {
         ensures { result ≡ spec.meaning (scopes_of self.now) name.entry }
     {
         match self.bound(name) {
-            Some(Declared {
-                name,
-                size: Some(size),
-            }) => Meaning::Variable(name.pos, size),
+            Some(
+                Declared {
+                    name,
+                    size: Some(size),
+                },
+            ) => Meaning::Variable(name.pos, size),
             Some(Declared { name, size: None }) => Meaning::Flag(name.pos),
             None => {
                 if is_predefined(name.text) {

@@ -39,7 +39,7 @@ pub fn push_declared<'a>(
 ) -> Result<(), AllocError>
     ensures { OnOk result (found.new.items ≡ found.old.items
         ++ spec.declared_by (spec.is_hidden (scopes_of scopes.now))
-            (declaration (declaration_view declared.now))) }
+        (declaration (declaration_view declared.now))) }
 {
     for declarator in &declared.names {
         found.push(Declared {
@@ -73,7 +73,7 @@ fn declared_of<'a>(
 ) -> Result<Vec<Declared<'a>>, AllocError>
     ensures { IfOk result (λ v. v.items
         ≡ flat_map (spec.declared_by (spec.is_hidden (scopes_of scopes.now)))
-            (map declaration (map declaration_view declarations.now))) }
+        (map declaration (map declaration_view declarations.now))) }
 {
     let mut found = Vec::new(alloc);
     for declared in declarations {
@@ -89,7 +89,8 @@ pub fn block_names<'a>(
     declarations: &[Declaration<'a>],
 ) -> Result<Vec<Declared<'a>>, AllocError>
     ensures { IfOk result (λ v. v.items
-        ≡ spec.scope_of (scopes_of outer.now) (map declaration (map declaration_view declarations.now))) }
+        ≡ spec.scope_of (scopes_of outer.now) (map declaration
+        (map declaration_view declarations.now))) }
 {
     let names = names_of(alloc, declarations)?;
     let names = Scope::of(alloc, names)?;
@@ -105,10 +106,12 @@ pub fn block_scope<'a>(
     sites: &mut Vec<Site<'a>>,
 ) -> Result<Scope<'a>, AllocError>
     ensures scope { IfOk result (λ scope. scope
-        ≡ spec.scope_of (scopes_of outer.now) (map declaration (map declaration_view declarations.now))) }
+        ≡ spec.scope_of (scopes_of outer.now) (map declaration
+        (map declaration_view declarations.now))) }
     ensures sites { OnOk result (sites.new.items ≡ sites.old.items
         ++ declares []
-            (spec.scope_of (scopes_of outer.now) (map declaration (map declaration_view declarations.now)))) }
+        (spec.scope_of (scopes_of outer.now) (map declaration
+        (map declaration_view declarations.now)))) }
 {
     let declared = block_names(alloc, outer, declarations)?;
     let scope = scope_with(alloc, declared, sites)?;

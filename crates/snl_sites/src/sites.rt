@@ -76,11 +76,13 @@ pub enum Sort {
     Queue(u64),
 }
 
-/// A place of a program that a rule may speak of. Its fields are what the rules ask there, looked up in what stands round
-/// it; a field `is_good`, `is_known` and the like is `true` wherever nothing is asked.
+/// A place of a program that a rule may speak of. Its fields are what the rules ask there, looked
+/// up in what stands round it; a field `is_good`, `is_known` and the like is `true` wherever
+/// nothing is asked.
 #[derive(Clone, Copy)]
 pub enum Site<'a> {
-    /// A declared name: whether it is an event flag, whether its scope declares it before, its elements.
+    /// A declared name: whether it is an event flag, whether its scope declares it before, its
+    /// elements.
     Declaration {
         name: Token<'a>,
         is_flag: bool,
@@ -99,8 +101,9 @@ pub enum Site<'a> {
         size: Size,
         has_good_initialiser: bool,
     },
-    /// An `assign`, `monitor`, `sync` or `syncQ`. `is_wrong` tells whether its subscript or its list of channels is wrong
-    /// by itself, `part` which elements it names. The word of a `monitor` or a `sync` is its name.
+    /// An `assign`, `monitor`, `sync` or `syncQ`. `is_wrong` tells whether its subscript or its
+    /// list of channels is wrong by itself, `part` which elements it names. The word of a `monitor`
+    /// or a `sync` is its name.
     Defined {
         sort: Sort,
         word: Token<'a>,
@@ -160,7 +163,8 @@ pub enum Site<'a> {
         word: Token<'a>,
         is_in_clause: bool,
     },
-    /// The target of a clause, or of a state statement where one may stand or not; with the number of the state.
+    /// The target of a clause, or of a state statement where one may stand or not; with the number
+    /// of the state.
     Target {
         name: Token<'a>,
         state: Option<usize>,

@@ -25,7 +25,8 @@ fn note_header<'a>(
     header: &Header<'a>,
     sites: &mut Vec<Site<'a>>,
 ) -> Result<(), AllocError>
-    ensures { OnOk result (sites.new.items ≡ sites.old.items ++ spec.in_header (scopes_of scopes.now) (header_view header.now)) }
+    ensures { OnOk result (sites.new.items ≡ sites.old.items
+        ++ spec.in_header (scopes_of scopes.now) (header_view header.now)) }
 {
     note_if_there(scopes, &header.start, sites)?;
     note_if_there(scopes, &header.condition, sites)?;
@@ -39,7 +40,9 @@ fn note_declarations<'a>(
     declarations: &[Declaration<'a>],
     sites: &mut Vec<Site<'a>>,
 ) -> Result<(), AllocError>
-    ensures { OnOk result (sites.new.items ≡ sites.old.items ++ flat_map (spec.in_declaration (scopes_of scopes.now) true) (map declaration_view declarations.now)) }
+    ensures { OnOk result (sites.new.items ≡ sites.old.items
+        ++ flat_map (spec.in_declaration (scopes_of scopes.now) true)
+        (map declaration_view declarations.now)) }
 {
     for declared in declarations {
         note_declaration(scopes, true, declared, sites)?;
@@ -47,7 +50,8 @@ fn note_declarations<'a>(
     Ok(())
 }
 
-/// Notes the sites in a statement: in a clause's block or not, beside states of these names, in a loop or not.
+/// Notes the sites in a statement: in a clause's block or not, beside states of these names, in a
+/// loop or not.
 #[cycle(statement)]
 fn note_statement<'a>(
     alloc: Global,
@@ -58,7 +62,9 @@ fn note_statement<'a>(
     statement: &Stmt<'a>,
     sites: &mut Vec<Site<'a>>,
 ) -> Result<(), AllocError>
-    ensures { OnOk result (sites.new.items ≡ sites.old.items ++ spec.in_statement in_clause states.now (scopes_of scopes.now) in_loop (statement_view statement.now)) }
+    ensures { OnOk result (sites.new.items ≡ sites.old.items
+        ++ spec.in_statement in_clause states.now (scopes_of scopes.now) in_loop
+        (statement_view statement.now)) }
 {
     match statement {
         Stmt::Block(block) => {
@@ -97,7 +103,9 @@ fn note_statement<'a>(
             note_statement(alloc, in_clause, states, scopes, in_loop, second, sites)?;
         }
         Stmt::While {
-            condition, body, ..
+            condition,
+            body,
+            ..
         } => {
             note_value(scopes, condition, sites)?;
             note_statement(alloc, in_clause, states, scopes, true, body, sites)?;
@@ -121,7 +129,9 @@ fn note_statements<'a>(
     statements: &[Stmt<'a>],
     sites: &mut Vec<Site<'a>>,
 ) -> Result<(), AllocError>
-    ensures { OnOk result (sites.new.items ≡ sites.old.items ++ spec.in_statements in_clause states.now (scopes_of scopes.now) in_loop (statement_list (map statement_view statements.now))) }
+    ensures { OnOk result (sites.new.items ≡ sites.old.items
+        ++ spec.in_statements in_clause states.now (scopes_of scopes.now) in_loop (statement_list
+        (map statement_view statements.now))) }
 {
     for statement in statements {
         note_statement(alloc, in_clause, states, scopes, in_loop, statement, sites)?;
@@ -140,7 +150,9 @@ pub fn note_block<'a>(
     block: &Block<'a>,
     sites: &mut Vec<Site<'a>>,
 ) -> Result<(), AllocError>
-    ensures { OnOk result (sites.new.items ≡ sites.old.items ++ spec.in_block in_clause states.now (scopes_of outer.now) in_loop (block_view block.now)) }
+    ensures { OnOk result (sites.new.items ≡ sites.old.items
+        ++ spec.in_block in_clause states.now (scopes_of outer.now) in_loop
+        (block_view block.now)) }
 {
     let scope = block_scope(alloc, outer, block.declarations.as_slice(), sites)?;
     let scopes = Scopes::Within(&scope, &*outer);

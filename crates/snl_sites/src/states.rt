@@ -30,7 +30,7 @@ pub fn note_plain_block<'a>(
 ) -> Result<(), AllocError>
     ensures { OnOk result (sites.new.items ≡ sites.old.items
         ++ maybe (spec.in_plain_block (scopes_of scopes.now) states.now)
-            (shown (held block_view) block.now)) }
+        (shown (held block_view) block.now)) }
 {
     if let Some(block) = block {
         note_block(alloc, false, states, scopes, false, block, sites)?;
@@ -45,7 +45,8 @@ fn note_condition<'a>(
     sites: &mut Vec<Site<'a>>,
 ) -> Result<(), AllocError>
     ensures { OnOk result (sites.new.items ≡ sites.old.items
-        ++ maybe (in_expression true (scopes_of scopes.now) Purpose.Read) (shown boxed condition.now)) }
+        ++ maybe (in_expression true (scopes_of scopes.now) Purpose.Read)
+        (shown boxed condition.now)) }
 {
     if let Some(condition) = condition {
         note_expression(true, scopes, Purpose::Read, condition, sites)?;

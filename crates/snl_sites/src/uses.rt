@@ -28,8 +28,9 @@ fn use_at<'a>(site: &Site<'a>) -> Option<(Token<'a>, Meaning)>
     }
 }
 
-/// What the first of some sites says that uses a name at this offset: the place of the declaration, of a variable or an
-/// event flag. None where no name is used, or a predefined one or one that is not declared.
+/// What the first of some sites says that uses a name at this offset: the place of the declaration,
+/// of a variable or an event flag. None where no name is used, or a predefined one or one that is
+/// not declared.
 pub fn declared_in(offset: usize, sites: &[Site]) -> Option<Pos>
     ensures { result ≡ spec.declared_in offset sites.now }
 {

@@ -23,7 +23,8 @@ use std::alloc::{AllocError, Global};
 pub struct Held<'p, 'a> {
     /// Its name, with the place of its declaration.
     pub name: Token<'a>,
-    /// The least and the greatest number of its type; those of `long` where the type is not supported.
+    /// The least and the greatest number of its type; those of `long` where the type is not
+    /// supported.
     pub range: (i64, i64),
     pub size: Size,
     /// What it begins with, if anything is written.
@@ -37,7 +38,8 @@ fn held_for<'p, 'a>(
     declarator: &'p Declarator<'a>,
 ) -> Held<'p, 'a>
     ensures { held_view result
-        ≡ spec.held_for (scopes_of scopes.now) (type_view type_name.entry) (declarator_view declarator.now) }
+        ≡ spec.held_for (scopes_of scopes.now) (type_view type_name.entry)
+        (declarator_view declarator.now) }
 {
     Held {
         name: declarator.name,
@@ -51,13 +53,13 @@ fn held_for<'p, 'a>(
 pub fn push_held<'p, 'a>(
     scopes: &Scopes<'_, 'a>,
     declared: &'p Declaration<'a>,
-    held: &mut Vec<Held<'p, 'a>>,
+    kept: &mut Vec<Held<'p, 'a>>,
 ) -> Result<(), AllocError>
-    ensures { OnOk result (map held_view held.new.items ≡ map held_view held.old.items
+    ensures { OnOk result (map held_view kept.new.items ≡ map held_view kept.old.items
         ++ spec.by_declaration (scopes_of scopes.now) (declaration_view declared.now)) }
 {
     for declarator in &declared.names {
-        held.push(held_for(scopes, declared.type_name, declarator))?;
+        kept.push(held_for(scopes, declared.type_name, declarator))?;
     }
     Ok(())
 }
@@ -66,13 +68,13 @@ pub fn push_held<'p, 'a>(
 fn push_definition<'p, 'a>(
     scopes: &Scopes<'_, 'a>,
     definition: &'p Def<'a>,
-    held: &mut Vec<Held<'p, 'a>>,
+    kept: &mut Vec<Held<'p, 'a>>,
 ) -> Result<(), AllocError>
-    ensures { OnOk result (map held_view held.new.items ≡ map held_view held.old.items
+    ensures { OnOk result (map held_view kept.new.items ≡ map held_view kept.old.items
         ++ spec.by_definition (scopes_of scopes.now) (definition_view definition.now)) }
 {
     if let Def::Declaration(declared) = definition {
-        push_held(scopes, declared, held)?;
+        push_held(scopes, declared, kept)?;
     }
     Ok(())
 }
@@ -81,13 +83,14 @@ fn push_definition<'p, 'a>(
 fn push_each<'p, 'a>(
     scopes: &Scopes<'_, 'a>,
     definitions: &'p [Def<'a>],
-    held: &mut Vec<Held<'p, 'a>>,
+    kept: &mut Vec<Held<'p, 'a>>,
 ) -> Result<(), AllocError>
-    ensures { OnOk result (map held_view held.new.items ≡ map held_view held.old.items
-        ++ flat_map (spec.by_definition (scopes_of scopes.now)) (map definition_view definitions.now)) }
+    ensures { OnOk result (map held_view kept.new.items ≡ map held_view kept.old.items
+        ++ flat_map (spec.by_definition (scopes_of scopes.now))
+        (map definition_view definitions.now)) }
 {
     for definition in definitions {
-        push_definition(scopes, definition, held)?;
+        push_definition(scopes, definition, kept)?;
     }
     Ok(())
 }
@@ -97,15 +100,15 @@ pub fn push_definitions<'p, 'a>(
     alloc: Global,
     outer: &Scopes<'_, 'a>,
     definitions: &'p [Def<'a>],
-    held: &mut Vec<Held<'p, 'a>>,
+    kept: &mut Vec<Held<'p, 'a>>,
 ) -> Result<Scope<'a>, AllocError>
     ensures scope { IfOk result (λ scope. scope
         ≡ scope_of (scopes_of outer.now) (map definition_view definitions.now)) }
-    ensures held { OnOk result (map held_view held.new.items ≡ map held_view held.old.items
+    ensures kept { OnOk result (map held_view kept.new.items ≡ map held_view kept.old.items
         ++ spec.by_definitions (scopes_of outer.now) (map definition_view definitions.now)) }
 {
     let names = definition_names(alloc, outer, definitions)?;
     let scope = Scope::of(alloc, names)?;
-    push_each(&Scopes::Within(&scope, outer), definitions, held)?;
+    push_each(&Scopes::Within(&scope, outer), definitions, kept)?;
     Ok(scope)
 }

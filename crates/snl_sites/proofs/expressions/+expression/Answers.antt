@@ -34,17 +34,18 @@ note_arguments-loop-argument-preserved t c =
     let left : c.loop-argument.left - 1 + (i + 1) ≡ length all = omega arith in
     elim c.match-argument.branch [
       | note_arguments-in-Value+in_ok-note_expression-in-Value w ↦ (
-          argument_step c.args.in_condition s c.args.purpose all i c.argument-item.result c.loop-argument.sites.items c.match-argument.sites.items _
-              (in_expression c.args.in_condition s c.args.purpose (view w.in-Value.value.value)) c.loop-argument-test.true c.argument-item.is c.loop-argument.invariant.0
-              (ap (λ v. v.items) w.sites-is ∙ w.in_ok-note_expression-in-Value.ensures ∙ ap (λ x. c.loop-argument.sites.items ++ in_expression c.args.in_condition s c.args.purpose (view x)) w.deref.ensures)
-              (value_noted c.args.in_condition s c.args.purpose c.argument-item.result w.in-Value.value rest w.in-Value.is),
-          left,
-        )
+        argument_step c.args.in_condition s c.args.purpose all i c.argument-item.result c.loop-argument.sites.items c.match-argument.sites.items _
+            (in_expression c.args.in_condition s c.args.purpose (view w.in-Value.value.value)) c.loop-argument-test.true c.argument-item.is c.loop-argument.invariant.0
+            (ap (λ v. v.items) w.sites-is ∙ w.in_ok-note_expression-in-Value.ensures ∙ ap (λ x. c.loop-argument.sites.items
+            ++ in_expression c.args.in_condition s c.args.purpose (view x)) w.deref.ensures)
+            (value_noted c.args.in_condition s c.args.purpose c.argument-item.result w.in-Value.value rest w.in-Value.is),
+        left,
+      )
       | note_arguments-in-Text+in_ok-push-in-Text w ↦ (
-          argument_step c.args.in_condition s c.args.purpose all i c.argument-item.result c.loop-argument.sites.items c.match-argument.sites.items _
-              (at_format c.args.purpose w.in-Text.format (c.loop-argument.left - 1) ∷ []) c.loop-argument-test.true c.argument-item.is c.loop-argument.invariant.0
-              (ap (λ v. v.items) w.sites-is ∙ w.in_ok-push-in-Text.ensures.items ∙ ap (λ x. c.loop-argument.sites.items ++ x ∷ []) w.format_site.ensures)
-              (text_noted c.args.in_condition s c.args.purpose c.argument-item.result w.in-Text.format rest _ w.in-Text.is count),
-          left,
-        )
+        argument_step c.args.in_condition s c.args.purpose all i c.argument-item.result c.loop-argument.sites.items c.match-argument.sites.items _
+            (at_format c.args.purpose w.in-Text.format (c.loop-argument.left - 1) ∷ []) c.loop-argument-test.true c.argument-item.is c.loop-argument.invariant.0
+            (ap (λ v. v.items) w.sites-is ∙ w.in_ok-push-in-Text.ensures.items ∙ ap (λ x. c.loop-argument.sites.items ++ x ∷ []) w.format_site.ensures)
+            (text_noted c.args.in_condition s c.args.purpose c.argument-item.result w.in-Text.format rest _ w.in-Text.is count),
+        left,
+      )
     ]

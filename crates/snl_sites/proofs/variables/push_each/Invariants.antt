@@ -8,5 +8,5 @@ use Rattle.snl_sites.proofs.variables.push_each.Given as goal
 
 abbrev pub invariant-loop-definition : goal.invariant-loop-definition
 invariant-loop-definition l =
-    map held_view l.held.items ++ flat_map (by_definition (scopes_of l.scopes)) (map definition_view (drop l.definition-index l.definitions))
-    ≡ map held_view l.initial.held.items ++ flat_map (by_definition (scopes_of l.scopes)) (map definition_view l.definitions)
+    map held_view l.kept.items ++ flat_map (by_definition (scopes_of l.scopes)) (map definition_view (drop l.definition-index l.definitions))
+    ≡ map held_view l.initial.kept.items ++ flat_map (by_definition (scopes_of l.scopes)) (map definition_view l.definitions)

@@ -7,5 +7,5 @@ use Rattle.snl_sites.proofs.variables.push_held.Given as goal
 
 abbrev pub invariant-loop-declarator : goal.invariant-loop-declarator
 invariant-loop-declarator l =
-    map held_view l.held.items ++ map (held_for (scopes_of l.scopes) (type_view l.declared.type_name)) (map declarator_view (drop l.declarator-index l.declarator-items))
-    ≡ map held_view l.initial.held.items ++ map (held_for (scopes_of l.scopes) (type_view l.declared.type_name)) (map declarator_view l.declarator-items)
+    map held_view l.kept.items ++ map (held_for (scopes_of l.scopes) (type_view l.declared.type_name)) (map declarator_view (drop l.declarator-index l.declarator-items))
+    ≡ map held_view l.initial.kept.items ++ map (held_for (scopes_of l.scopes) (type_view l.declared.type_name)) (map declarator_view l.declarator-items)
