@@ -1,0 +1,17 @@
+-- The constant of a chain of operators.
+use Rattle.std.proofs.Common.{◌≡◌, ℕ, Bool, List, map, Vec, Box, Global, sym, ap, ◌∙◌}
+use Rattle.snl_tree.specs.declared.trees.expressions.Expr.{Expr, Chain}
+use Rattle.snl_tree.specs.declared.trees.expressions.Term.{Term}
+use Rattle.snl_tree.specs.reading.Expressions.{term_list}
+use Rattle.snl_tree.specs.view.Expressions.{view, pair_of}
+use Rattle.snl_sites.specs.declared.constants.Constant.{Constant}
+use Rattle.snl_sites.specs.Constants.{constant_of, constant_chain}
+use Rattle.snl_tree.proofs.code.Rows.{view_chain}
+
+pub chain_starts : (h : List ℕ → Bool) (e d : Expr) (first : Box Expr Global) (terms : Vec Term Global) (items : List Term) (left : Constant) → e ≡ Chain first terms
+    → d ≡ first.value → items ≡ terms.items → left ≡ constant_of h (view d)
+    → constant_chain h (term_list (map pair_of items)) left ≡ constant_of h (view e)
+chain_starts h e d first terms items left ee ed ei el =
+    ap (λ c. constant_chain h (term_list (map pair_of items)) c) (el ∙ ap (λ x. constant_of h (view x)) ed)
+    ∙ ap (λ l. constant_chain h (term_list (map pair_of l)) (constant_of h (view first.value))) ei
+    ∙ sym (ap (constant_of h) (ap view ee ∙ view_chain first terms))

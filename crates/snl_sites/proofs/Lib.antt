@@ -1,0 +1,10 @@
+pub mod ConstantLaws
+pub mod WalkLaws
+pub mod TableLaws
+pub mod NumberLaws
+pub mod ListLaws
+pub mod BlockLaws
+pub mod ProgramLaws
+pub mod VariableLaws
+pub mod Steps
+pub mod BindingLaws

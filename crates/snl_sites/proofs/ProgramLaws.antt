@@ -1,0 +1,124 @@
+-- The sites of definitions, states, state sets and programs, from those of their parts.
+use Rattle.std.proofs.Common.{◌≡◌, ℕ, suc, ◌+◌, ◌<◌, Bool, true, false, ◌||◌, List, [], ◌∷◌, ◌++◌, length, drop, get_or, map, sym, ap, ◌∙◌, append_assoc, add-one}
+use Rattle.std.proofs.lemmas.List.{drop_more}
+use Rattle.std.specs.List.{flat_map}
+use Rattle.snl_text.specs.declared.tokens.Token.{Token}
+use Rattle.snl_tree.specs.declared.trees.definitions.Def.{Def}
+use Rattle.snl_tree.specs.declared.trees.statements.Block.{Block as DeclaredBlock}
+use Rattle.snl_tree.specs.declared.trees.programs.Clause.{Clause}
+use Rattle.snl_tree.specs.declared.trees.programs.State.{State as DeclaredState}
+use Rattle.snl_tree.specs.declared.trees.programs.StateSet.{StateSet as DeclaredSet}
+use Rattle.snl_tree.specs.declared.trees.programs.Program.{Program}
+use Rattle.snl_tree.specs.Definitions.{DefinitionTree}
+use Rattle.snl_tree.specs.view.Shown.{shown, held}
+use Rattle.snl_tree.specs.view.Statements.{block_view}
+use Rattle.snl_tree.specs.view.Definitions.{definition_view}
+use Rattle.snl_tree.specs.view.Expressions.{boxed}
+use Rattle.snl_tree.specs.view.Programs.{target_view, clause_view, state_view, state_set_view, program_view}
+use Rattle.snl_sites.specs.declared.sites.Purpose.TheVariants.{Read}
+use Rattle.snl_sites.specs.declared.sites.Site.{Site}
+use Rattle.snl_sites.specs.declared.sites.Site.TheVariants.{Clause as ClauseSite}
+use Rattle.snl_sites.specs.Scopes.{Scope, scope_of}
+use Rattle.snl_sites.specs.Sites.{declares, maybe, in_expression, in_block}
+use Rattle.snl_sites.specs.Programs.{in_definition, in_definitions, in_plain_block, in_target, is_always_true, in_clause, in_clauses, in_state, in_all_states, in_state_set, in_all_sets, sites}
+
+four_parts : (old a b c d : List Site) → (((old ++ a) ++ b) ++ c) ++ d ≡ old ++ (((a ++ b) ++ c) ++ d)
+four_parts old a b c d = simp append_assoc
+
+-- definitions: the names of their scope, then each of them
+pub definitions_noted : (in_state : Bool) (s : List Scope) (ds : List DefinitionTree) (scope : Scope) (old mid new : List Site)
+    → scope ≡ scope_of s ds → mid ≡ old ++ declares [] (scope_of s ds) → new ≡ mid ++ flat_map (in_definition in_state (scope ∷ s)) ds
+    → new ≡ old ++ in_definitions in_state s ds
+definitions_noted in_state s ds scope old mid new ec em en =
+    en ∙ (λ j. em j ++ flat_map (in_definition in_state (ec j ∷ s)) ds) ∙ append_assoc old _ _
+
+-- a state: its definitions, `entry`, its clauses, `exit`
+pub state_noted : (s : List Scope) (g : List Token) (a : DeclaredState) (ds : List Def) (cs : List Clause) (scope : Scope) (old one two three new : List Site)
+    → ds ≡ a.definitions.items → cs ≡ a.clauses.items → scope ≡ scope_of s (map definition_view ds)
+    → one ≡ old ++ in_definitions true s (map definition_view ds)
+    → two ≡ one ++ maybe (in_plain_block (scope ∷ s) g) (shown (held block_view) a.entry)
+    → three ≡ two ++ in_clauses (scope ∷ s) g false (map clause_view cs)
+    → new ≡ three ++ maybe (in_plain_block (scope ∷ s) g) (shown (held block_view) a.exit)
+    → new ≡ old ++ in_state s g (state_view a)
+state_noted s g a ds cs scope old one two three new ed ec es e1 e2 e3 en =
+    let defs = map definition_view a.definitions.items in
+    let same : scope ≡ scope_of s defs = es ∙ ap (λ x. scope_of s (map definition_view x)) ed in
+    en
+    ∙ (λ j. e3 j ++ maybe (in_plain_block (same j ∷ s) g) (shown (held block_view) a.exit))
+    ∙ (λ j. (e2 j ++ in_clauses (same j ∷ s) g false (map clause_view (ec j))) ++ maybe (in_plain_block (scope_of s defs ∷ s) g) (shown (held block_view) a.exit))
+    ∙ (λ j. ((e1 j ++ maybe (in_plain_block (same j ∷ s) g) (shown (held block_view) a.entry))
+    ++ in_clauses (scope_of s defs ∷ s) g false (map clause_view a.clauses.items)) ++ maybe (in_plain_block (scope_of s defs ∷ s) g) (shown (held block_view) a.exit))
+    ∙ (λ j. (((old ++ in_definitions true s (map definition_view (ed j))) ++ maybe (in_plain_block (scope_of s defs ∷ s) g) (shown (held block_view) a.entry))
+    ++ in_clauses (scope_of s defs ∷ s) g false (map clause_view a.clauses.items)) ++ maybe (in_plain_block (scope_of s defs ∷ s) g) (shown (held block_view) a.exit))
+    ∙ four_parts old _ _ _ _
+
+-- a state set: its definitions, then its states
+pub state_set_noted : (s : List Scope) (a : DeclaredSet) (ds : List Def) (ts : List DeclaredState) (scope : Scope) (old one new : List Site)
+    → ds ≡ a.definitions.items → ts ≡ a.states.items → scope ≡ scope_of s (map definition_view ds)
+    → one ≡ old ++ in_definitions false s (map definition_view ds)
+    → new ≡ one ++ in_all_states (scope ∷ s) (map state_view ts)
+    → new ≡ old ++ in_state_set s (state_set_view a)
+state_set_noted s a ds ts scope old one new ed et es e1 en =
+    let defs = map definition_view a.definitions.items in
+    let same : scope ≡ scope_of s defs = es ∙ ap (λ x. scope_of s (map definition_view x)) ed in
+    en
+    ∙ (λ j. e1 j ++ in_all_states (same j ∷ s) (map state_view (et j)))
+    ∙ (λ j. (old ++ in_definitions false s (map definition_view (ed j))) ++ in_all_states (scope_of s defs ∷ s) (map state_view a.states.items))
+    ∙ append_assoc old _ _
+
+-- a program: its definitions, `entry`, its state sets, `exit`
+pub program_noted : (p : Program) (ds : List Def) (ts : List DeclaredSet) (none : List Token) (scope : Scope) (old one two three new : List Site)
+    → ds ≡ p.definitions.items → ts ≡ p.state_sets.items → scope ≡ scope_of [] (map definition_view ds) → none ≡ []
+    → one ≡ old ++ in_definitions false [] (map definition_view ds)
+    → two ≡ one ++ maybe (in_plain_block (scope ∷ []) none) (shown (held block_view) p.entry)
+    → three ≡ two ++ in_all_sets (scope ∷ []) (map state_set_view ts)
+    → new ≡ three ++ maybe (in_plain_block (scope ∷ []) none) (shown (held block_view) p.exit)
+    → new ≡ old ++ sites (program_view p)
+program_noted p ds ts none scope old one two three new ed et es en e1 e2 e3 e4 =
+    let defs = map definition_view p.definitions.items in
+    let sets = map state_set_view p.state_sets.items in
+    let same : scope ≡ scope_of [] defs = es ∙ ap (λ x. scope_of [] (map definition_view x)) ed in
+    e4
+    ∙ (λ j. e3 j ++ maybe (in_plain_block (same j ∷ []) (en j)) (shown (held block_view) p.exit))
+    ∙ (λ j. (e2 j ++ in_all_sets (same j ∷ []) (map state_set_view (et j))) ++ maybe (in_plain_block (scope_of [] defs ∷ []) []) (shown (held block_view) p.exit))
+    ∙ (λ j. ((e1 j ++ maybe (in_plain_block (same j ∷ []) (en j)) (shown (held block_view) p.entry)) ++ in_all_sets (scope_of [] defs ∷ []) sets)
+    ++ maybe (in_plain_block (scope_of [] defs ∷ []) []) (shown (held block_view) p.exit))
+    ∙ (λ j. (((old ++ in_definitions false [] (map definition_view (ed j))) ++ maybe (in_plain_block (scope_of [] defs ∷ []) []) (shown (held block_view) p.entry))
+    ++ in_all_sets (scope_of [] defs ∷ []) sets) ++ maybe (in_plain_block (scope_of [] defs ∷ []) []) (shown (held block_view) p.exit))
+    ∙ four_parts old _ _ _ _
+
+-- a clause: its condition, its block, its target
+pub clause_noted : (s : List Scope) (g : List Token) (blocked : Bool) (c : Clause) (b : DeclaredBlock) (old one two three new : List Site)
+    → one ≡ old ++ ClauseSite c.word blocked ∷ []
+    → two ≡ one ++ maybe (in_expression true s Read) (shown boxed c.condition)
+    → b ≡ c.block.value
+    → three ≡ two ++ in_block true g s false (block_view b)
+    → new ≡ three ++ in_target g (target_view c.target)
+    → new ≡ old ++ in_clause s g blocked (clause_view c)
+clause_noted s g blocked c b old one two three new e1 e2 eb e3 en =
+    en
+    ∙ (λ j. e3 j ++ in_target g (target_view c.target))
+    ∙ (λ j. (e2 j ++ in_block true g s false (block_view (eb j))) ++ in_target g (target_view c.target))
+    ∙ (λ j. ((e1 j ++ maybe (in_expression true s Read) (shown boxed c.condition)) ++ in_block true g s false (block_view c.block.value)) ++ in_target g (target_view c.target))
+    ∙ four_parts old _ _ _ _
+
+-- one more clause is noted
+pub clauses_step : (s : List Scope) (g : List Token) (all : List Clause) (i : ℕ) (a : Clause) (blocked always : Bool) (before now start : List Site) → i < length all → a ≡ get_or all i a
+    → before ++ in_clauses s g blocked (map clause_view (drop i all)) ≡ start
+    → now ≡ before ++ in_clause s g blocked (clause_view a)
+    → always ≡ is_always_true s (clause_view a)
+    → now ++ in_clauses s g (blocked || always) (map clause_view (drop (i + 1) all)) ≡ start
+clauses_step s g all i a blocked always before now start h ea inv en et =
+    let rest = map clause_view (drop (i + 1) all) in
+    (λ j. en j ++ in_clauses s g (blocked || et j) rest) ∙ append_assoc before (in_clause s g blocked (clause_view a)) (in_clauses s g (blocked || is_always_true s (clause_view a)) rest)
+    ∙ ap (λ (l : List Clause). before ++ in_clauses s g blocked (map clause_view l)) (ap (λ x. x ∷ drop (i + 1) all) ea ∙ sym (drop_more all i a h)) ∙ inv
+
+-- one more thing of a row is noted, with its number
+pub numbered_step : {A : Type 0} (one : ℕ → A → List Site) (go : ℕ → List A → List Site) → ((k : ℕ) (x : A) (xs : List A) → go k (x ∷ xs) ≡ one k x ++ go (suc k) xs)
+    → (all : List A) (i : ℕ) (a : A) (before now start : List Site) → i < length all → a ≡ get_or all i a
+    → before ++ go i (drop i all) ≡ start → now ≡ before ++ one i a
+    → now ++ go (i + 1) (drop (i + 1) all) ≡ start
+numbered_step one go more all i a before now start h ea inv en =
+    let rest = drop (i + 1) all in
+    (λ j. en j ++ go (add-one i j) rest) ∙ append_assoc before (one i a) (go (suc i) rest) ∙ ap (λ x. before ++ x) (sym (more i a rest))
+    ∙ ap (λ l. before ++ go i l) (ap (λ x. x ∷ rest) ea ∙ sym (drop_more all i a h)) ∙ inv

@@ -1,0 +1,8 @@
+-- The scopes that a chain of tables stands for.
+use Rattle.std.specs.Prelude.{List, [], ◌∷◌}
+use Rattle.snl_sites.specs.declared.scopes.Scopes.{Scopes, Outside, Within'}
+use Rattle.snl_sites.specs.Scopes.{Scope}
+
+abbrev pub scopes_of : Scopes → List Scope
+scopes_of Outside = []
+scopes_of (Within' scope q outer) = scope.now ∷ scopes_of outer

@@ -1,0 +1,8 @@
+-- The plain form of a variable of a state set's copy.
+use Rattle.snl_tree.specs.view.Shown.{shown}
+use Rattle.snl_tree.specs.view.Declarations.{initialiser_view}
+use Rattle.snl_sites.specs.declared.variables.Held.{Held}
+use Rattle.snl_sites.specs.Variables as plain
+
+abbrev pub held_view : Held → plain.Held
+held_view v = record { name = v.name; range = v.range; size = v.size; initial = shown initialiser_view v.initial.now }

@@ -1,0 +1,28 @@
+-- The letters of options.
+use Rattle.std.specs.Prelude.{ℕ, Bool, not, ◌&&◌, ◌==◌, List, [], ◌∷◌, Option, None, Some, codes, if◌then◌else◌}
+use Rattle.std.specs.List.{list_any}
+use Rattle.snl_text.specs.declared.kinds.Kind.TheVariants.{Plus}
+use Rattle.snl_tree.specs.Kinds.{is}
+use Rattle.snl_tree.specs.Definitions.{SettingTree}
+
+abbrev pub is_on : SettingTree → Bool
+is_on o = is Plus o.sign.kind
+
+abbrev pub is_among : List ℕ → ℕ → Bool
+is_among letters b = list_any (λ c. b == c) letters
+
+-- A letter of the program's options: `a` (97) is refused with `+` and `e` (101) with `-`.
+abbrev pub is_program_letter : Bool → ℕ → Bool
+is_program_letter on b = is_among (codes "acdeilmrsuwW") b && not (b == 97 && on) && not (b == 101 && not on)
+
+abbrev pub is_state_letter : ℕ → Bool
+is_state_letter b = is_among (codes "tex") b
+
+-- The first of the letters that a test does not know.
+abbrev pub first_refused : (ℕ → Bool) → List ℕ → Option ℕ
+first_refused is_known [] = None
+first_refused is_known (b ∷ more) = if is_known b then first_refused is_known more else Some b
+
+-- The first refused letter of an option, of a state or of the program.
+abbrev pub refused : Bool → SettingTree → Option ℕ
+refused in_state o = first_refused (if in_state then is_state_letter else is_program_letter (is_on o)) o.name.text.now

@@ -1,0 +1,91 @@
+-- What the parts of an expression are for, and the sites of its tokens.
+use Rattle.std.specs.Prelude.{ℕ, Bool, true, false, not, ◌||◌, ◌==◌, List, [], ◌∷◌, Option, Some, None, is_some, is_none, codes, bytes_eq}
+use Rattle.snl_text.specs.declared.tokens.Token.{Token}
+use Rattle.snl_text.specs.declared.kinds.Kind.{Kind}
+use Rattle.snl_text.specs.declared.kinds.Kind.TheVariants as kind
+use Rattle.snl_text.specs.declared.numbers.DecimalValue.{DecimalValue}
+use Rattle.snl_text.specs.Numbers.{decimal_value}
+use Rattle.snl_tree.specs.Expressions.{ExprTree, parenthesized}
+use Rattle.snl_sites.specs.declared.calls.Form.{Form}
+use Rattle.snl_sites.specs.declared.calls.Form.TheVariants.{ChannelPlace, QueueName, FlagName, Seconds}
+use Rattle.snl_sites.specs.declared.sites.Purpose.{Purpose}
+use Rattle.snl_sites.specs.declared.sites.Purpose.TheVariants.{Read, Changed, Channel, Queued, Flagged, Delayed, Ignored}
+use Rattle.snl_sites.specs.declared.sites.Site.{Site}
+use Rattle.snl_sites.specs.declared.sites.Site.TheVariants.{Decimal, Call, Format, Change}
+use Rattle.snl_sites.specs.Calls.{is_place}
+use Rattle.snl_sites.specs.Formats.{conversions_of}
+use Rattle.snl_sites.specs.Numbered.{is_number}
+
+-- ---- purposes; what stands in a wrong call stays ignored all the way down
+
+-- A part that gives a value: an operand, a subscript, a condition.
+abbrev pub inner : Purpose → Purpose
+inner Ignored = Ignored
+inner _ = Read
+
+-- Only the argument itself is a `delay`'s, and not what stands in parentheses there.
+abbrev pub in_parentheses : Purpose → Purpose
+in_parentheses Delayed = Read
+in_parentheses p = p
+
+-- What is assigned to.
+abbrev pub target : Purpose → Purpose
+target Ignored = Ignored
+target _ = Changed
+
+abbrev pub argument_of : Form → Purpose
+argument_of ChannelPlace = Channel
+argument_of QueueName = Queued
+argument_of FlagName = Flagged
+argument_of Seconds = Delayed
+argument_of _ = Read
+
+-- The arguments of a call, by its form and whether they have it. Those of an unknown or wrong call are ignored.
+abbrev pub argument : Purpose → Option Form → Bool → Purpose
+argument Ignored form fitting = Ignored
+argument p (Some form) true = argument_of form
+argument p _ _ = Ignored
+
+abbrev pub is_ignored : Purpose → Bool
+is_ignored Ignored = true
+is_ignored p = false
+
+-- ---- sites
+
+abbrev pub is_exact : Option DecimalValue → Bool
+is_exact None = false
+is_exact (Some d) = d.is_exact
+
+-- A decimal constant is the whole argument of a `delay`, and has no digit but 0 after the third.
+abbrev pub is_good_decimal : Purpose → List ℕ → Bool
+is_good_decimal Ignored bytes = true
+is_good_decimal Delayed bytes = is_exact (decimal_value bytes)
+is_good_decimal p bytes = false
+
+abbrev pub at_constant : Purpose → Token → Kind → List Site
+at_constant p t kind.Decimal = Decimal t (is_good_decimal p t.text.now) ∷ []
+at_constant p t k = []
+
+-- A call: its function is known, its arguments have the form, and a `delay` stands in a condition.
+abbrev pub at_call : Purpose → Bool → Token → Option Form → Bool → Site
+at_call p in_condition f form fitting =
+    Call f (is_some form || is_ignored p) (is_none form || fitting || is_ignored p)
+    (in_condition || not (bytes_eq f.text.now (codes "delay")) || is_ignored p)
+
+-- A name or an element, in parentheses or not.
+abbrev pub is_target : ExprTree → Bool
+is_target (parenthesized e) = is_target e
+is_target e = is_place e
+
+-- An operator that changes its target.
+abbrev pub at_change : Purpose → ExprTree → Token → Site
+at_change p e op = Change op (is_target e || is_ignored p)
+
+-- A format, which has as many conversions as there are arguments after it.
+abbrev pub at_format : Purpose → Token → ℕ → Site
+at_format p t n = Format t (is_number n (conversions_of t.text.now) || is_ignored p)
+
+abbrev pub is_step : Kind → Bool
+is_step kind.PlusPlus = true
+is_step kind.MinusMinus = true
+is_step _ = false

@@ -1,0 +1,129 @@
+//! The sites in declarations.
+
+ghost use Rattle.std.specs.Prelude.{◌≡◌, ◌++◌, map, OnOk};
+ghost use Rattle.std.specs.List.{flat_map};
+ghost use Rattle.snl_tree.specs.view.Expressions.{boxed, view};
+ghost use Rattle.snl_tree.specs.view.Declarations.{type_view, declarator_view, declaration_view, initialiser_view};
+ghost use Rattle.snl_tree.specs.view.Shown.{shown};
+ghost use Rattle.snl_sites.specs.Chains.{scopes_of};
+ghost use Rattle.snl_sites.specs.Sites as spec;
+
+use crate::expressions::note_expression;
+use crate::initialisers::{is_good_initialiser, range_of};
+use crate::scopes::Scopes;
+use crate::sites::{Purpose, Site};
+use crate::sizes::size_of;
+use snl_tree::{Declaration, Declarator, Expr, Initialiser, TypeName};
+use std::alloc::AllocError;
+
+/// Notes the sites in an expression that stands for its value, outside of a condition.
+pub fn note_value<'a>(
+    scopes: &Scopes<'_, 'a>,
+    value: &Expr<'a>,
+    sites: &mut Vec<Site<'a>>,
+) -> Result<(), AllocError>
+    ensures { OnOk result (sites.new.items ≡ sites.old.items
+        ++ spec.in_value (scopes_of scopes.now) (view value.now)) }
+{
+    note_expression(false, scopes, Purpose::Read, value, sites)?;
+    Ok(())
+}
+
+/// Notes the sites in an expression that may be missing.
+pub fn note_if_there<'a>(
+    scopes: &Scopes<'_, 'a>,
+    value: &Option<Box<Expr<'a>>>,
+    sites: &mut Vec<Site<'a>>,
+) -> Result<(), AllocError>
+    ensures { OnOk result (sites.new.items ≡ sites.old.items
+        ++ spec.maybe (spec.in_value (scopes_of scopes.now)) (shown boxed value.now)) }
+{
+    if let Some(value) = value {
+        note_value(scopes, value, sites)?;
+    }
+    Ok(())
+}
+
+/// Notes the sites in several of them.
+fn note_values<'a>(
+    scopes: &Scopes<'_, 'a>,
+    values: &[Box<Expr<'a>>],
+    sites: &mut Vec<Site<'a>>,
+) -> Result<(), AllocError>
+    ensures { OnOk result (sites.new.items ≡ sites.old.items
+        ++ flat_map (spec.in_value (scopes_of scopes.now)) (map boxed values.now)) }
+{
+    for value in values {
+        note_value(scopes, value, sites)?;
+    }
+    Ok(())
+}
+
+/// Notes the sites in an initialiser.
+#[tactic(auto, using(crate::proofs::ListLaws::sites_of_list))]
+fn note_initialiser<'a>(
+    scopes: &Scopes<'_, 'a>,
+    initial: &Option<Initialiser<'a>>,
+    sites: &mut Vec<Site<'a>>,
+) -> Result<(), AllocError>
+    ensures { OnOk result (sites.new.items ≡ sites.old.items
+        ++ spec.maybe (spec.in_initialiser (scopes_of scopes.now))
+        (shown initialiser_view initial.now)) }
+{
+    match initial {
+        None => {}
+        Some(Initialiser::Single(value)) => note_value(scopes, value, sites)?,
+        Some(Initialiser::List(values)) => note_values(scopes, values.each.as_slice(), sites)?,
+    }
+    Ok(())
+}
+
+/// Notes the sites in a declared name with its sizes and its initialiser.
+fn note_declarator<'a>(
+    scopes: &Scopes<'_, 'a>,
+    in_block: bool,
+    type_name: TypeName<'a>,
+    declarator: &Declarator<'a>,
+    sites: &mut Vec<Site<'a>>,
+) -> Result<(), AllocError>
+    ensures { OnOk result (sites.new.items ≡ sites.old.items
+        ++ spec.in_declarator (scopes_of scopes.now) in_block (type_view type_name.entry)
+        (declarator_view declarator.now)) }
+{
+    let size = size_of(scopes, declarator.sizes.as_slice());
+    sites.push(Site::Declarator {
+        name: declarator.name,
+        size,
+        has_good_initialiser: is_good_initialiser(
+            scopes,
+            in_block,
+            type_name,
+            size,
+            &declarator.initial,
+        ),
+    })?;
+    note_values(scopes, declarator.sizes.as_slice(), sites)?;
+    note_initialiser(scopes, &declarator.initial, sites)?;
+    Ok(())
+}
+
+/// Notes the sites in a declaration; its names are noted with their scope.
+pub fn note_declaration<'a>(
+    scopes: &Scopes<'_, 'a>,
+    in_block: bool,
+    declared: &Declaration<'a>,
+    sites: &mut Vec<Site<'a>>,
+) -> Result<(), AllocError>
+    ensures { OnOk result (sites.new.items ≡ sites.old.items
+        ++ spec.in_declaration (scopes_of scopes.now) in_block (declaration_view declared.now)) }
+{
+    sites.push(Site::Typed {
+        word: declared.type_name.word,
+        second: declared.type_name.second,
+        is_supported: range_of(declared.type_name).is_some(),
+    })?;
+    for declarator in &declared.names {
+        note_declarator(scopes, in_block, declared.type_name, declarator, sites)?;
+    }
+    Ok(())
+}

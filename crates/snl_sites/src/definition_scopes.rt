@@ -1,0 +1,120 @@
+//! The scopes that the definitions of a program, a state set or a state make.
+
+ghost use Rattle.std.specs.Prelude.{◌≡◌, [], ◌∷◌, ◌++◌, map, OnOk, IfOk};
+ghost use Rattle.std.specs.List.{flat_map};
+ghost use Rattle.snl_tree.specs.view.Definitions.{definition_view};
+ghost use Rattle.snl_sites.specs.Chains.{scopes_of};
+ghost use Rattle.snl_sites.specs.Scopes as spec;
+ghost use Rattle.snl_sites.specs.Sites.{declares};
+
+use crate::scopes::{Declared, Scope, Scopes, scope_with};
+use crate::scoping::{push_declared, push_names};
+use crate::sites::Site;
+use snl_text::Token;
+use snl_tree::Def;
+use std::alloc::{AllocError, Global};
+
+/// Adds event flags.
+fn push_flags<'a>(flags: &[Token<'a>], names: &mut Vec<Declared<'a>>) -> Result<(), AllocError>
+    ensures { OnOk result (names.new.items ≡ names.old.items ++ map spec.bare flags.now) }
+{
+    for flag in flags {
+        names.push(Declared {
+            name: *flag,
+            size: None,
+        })?;
+    }
+    Ok(())
+}
+
+/// Adds the names that a definition declares.
+fn push_names_by<'a>(definition: &Def<'a>, names: &mut Vec<Declared<'a>>) -> Result<(), AllocError>
+    ensures { OnOk result (names.new.items ≡ names.old.items
+        ++ map spec.bare (spec.names_by (definition_view definition.now))) }
+{
+    match definition {
+        Def::Declaration(declared) => push_names(declared, names)?,
+        Def::EventFlags(flags) => push_flags(flags.as_slice(), names)?,
+        _ => {}
+    }
+    Ok(())
+}
+
+/// Adds the names that a definition declares, with their sizes.
+fn push_declared_by<'a>(
+    scopes: &Scopes<'_, 'a>,
+    definition: &Def<'a>,
+    found: &mut Vec<Declared<'a>>,
+) -> Result<(), AllocError>
+    ensures { OnOk result (found.new.items ≡ found.old.items
+        ++ spec.declared_by (spec.is_hidden (scopes_of scopes.now))
+        (definition_view definition.now)) }
+{
+    match definition {
+        Def::Declaration(declared) => push_declared(scopes, declared, found)?,
+        Def::EventFlags(flags) => push_flags(flags.as_slice(), found)?,
+        _ => {}
+    }
+    Ok(())
+}
+
+/// The names that some definitions declare.
+fn names_of<'a>(alloc: Global, definitions: &[Def<'a>]) -> Result<Vec<Declared<'a>>, AllocError>
+    ensures { IfOk result (λ v. v.items ≡ spec.bare_names (map definition_view definitions.now)) }
+{
+    let mut names = Vec::new(alloc);
+    for definition in definitions {
+        push_names_by(definition, &mut names)?;
+    }
+    Ok(names)
+}
+
+/// The names that some definitions declare, with their sizes.
+fn declared_of<'a>(
+    alloc: Global,
+    scopes: &Scopes<'_, 'a>,
+    definitions: &[Def<'a>],
+) -> Result<Vec<Declared<'a>>, AllocError>
+    ensures { IfOk result (λ v. v.items
+        ≡ flat_map (spec.declared_by (spec.is_hidden (scopes_of scopes.now)))
+        (map definition_view definitions.now)) }
+{
+    let mut found = Vec::new(alloc);
+    for definition in definitions {
+        push_declared_by(scopes, definition, &mut found)?;
+    }
+    Ok(found)
+}
+
+/// What definitions declare within other scopes.
+pub fn definition_names<'a>(
+    alloc: Global,
+    outer: &Scopes<'_, 'a>,
+    definitions: &[Def<'a>],
+) -> Result<Vec<Declared<'a>>, AllocError>
+    ensures { IfOk result (λ v. v.items
+        ≡ spec.scope_of (scopes_of outer.now) (map definition_view definitions.now)) }
+{
+    let names = names_of(alloc, definitions)?;
+    let names = Scope::of(alloc, names)?;
+    let found = declared_of(alloc, &Scopes::Within(&names, outer), definitions)?;
+    Ok(found)
+}
+
+/// The scope of definitions within others; notes each declared name.
+pub fn definition_scope<'a>(
+    alloc: Global,
+    outer: &Scopes<'_, 'a>,
+    definitions: &[Def<'a>],
+    sites: &mut Vec<Site<'a>>,
+) -> Result<Scope<'a>, AllocError>
+    ensures scope { IfOk result (λ scope. scope
+        ≡ spec.scope_of (scopes_of outer.now) (map definition_view definitions.now)) }
+    ensures sites { OnOk result (sites.new.items ≡ sites.old.items
+        ++ declares [] (spec.scope_of (scopes_of outer.now)
+        (map definition_view definitions.now))) }
+{
+    let declared = definition_names(alloc, outer, definitions)?;
+    let scope = scope_with(alloc, declared, sites)?;
+    Ok(scope)
+}

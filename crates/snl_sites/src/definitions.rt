@@ -1,0 +1,216 @@
+//! The sites in definitions.
+
+ghost use Rattle.std.specs.Prelude.{◌≡◌, ◌++◌, map, OnOk, IfOk};
+ghost use Rattle.std.specs.List.{flat_map};
+ghost use Rattle.snl_tree.specs.view.Shown.{shown};
+ghost use Rattle.snl_tree.specs.view.Definitions.{definition_view, place_view, flag_view, queue_view, sync_view};
+ghost use Rattle.snl_tree.specs.Definitions.{sync, sync_queue};
+ghost use Rattle.snl_sites.specs.Chains.{scopes_of};
+ghost use Rattle.snl_sites.specs.Scopes.{scope_of};
+ghost use Rattle.snl_sites.specs.Sites.{maybe};
+ghost use Rattle.snl_sites.specs.Programs as spec;
+
+use crate::declarations::{note_declaration, note_if_there};
+use crate::definition_scopes::definition_scope;
+use crate::options::refused;
+use crate::parts::{is_wrong_part, listed_names, part_of};
+use crate::scopes::{Scope, Scopes};
+use crate::sites::{Purpose, Site, Sort};
+use snl_text::{Token, whole_value};
+use snl_tree::{Def, Flag, Place, Sync, SyncQueue};
+use std::alloc::{AllocError, Global};
+
+/// Notes an `assign`, `monitor`, `sync` or `syncQ`, and the sites in its subscript.
+fn note_defined<'a>(
+    sort: Sort,
+    word: Token<'a>,
+    scopes: &Scopes<'_, 'a>,
+    place: &Place<'a>,
+    list: Option<usize>,
+    sites: &mut Vec<Site<'a>>,
+) -> Result<(), AllocError>
+    ensures { OnOk result (sites.new.items ≡ sites.old.items
+        ++ spec.defined sort word.entry (scopes_of scopes.now) (place_view place.now) list) }
+{
+    let meaning = scopes.meaning(place.name);
+    sites.push(Site::Defined {
+        sort,
+        word,
+        name: place.name,
+        meaning,
+        has_subscript: place.subscript.is_some(),
+        is_wrong: is_wrong_part(scopes, meaning, &place.subscript, list),
+        part: part_of(scopes, meaning, &place.subscript, list),
+    })?;
+    note_if_there(scopes, &place.subscript, sites)?;
+    Ok(())
+}
+
+/// Notes the event flag of a `sync` or `syncQ`.
+fn note_flag<'a>(
+    scopes: &Scopes<'_, 'a>,
+    flag: Flag<'a>,
+    sites: &mut Vec<Site<'a>>,
+) -> Result<(), AllocError>
+    ensures { OnOk result (sites.new.items ≡ sites.old.items
+        ++ spec.in_flag (scopes_of scopes.now) (flag_view flag.entry)) }
+{
+    sites.push(Site::Use {
+        purpose: Purpose::Flagged,
+        name: flag.name,
+        meaning: scopes.meaning(flag.name),
+        has_subscript: false,
+    })?;
+    Ok(())
+}
+
+/// How many items a queue has; 0 where the number is too large to have a value.
+fn size_by(number: Token) -> u64
+    ensures { result ≡ spec.size_by number.entry }
+{
+    match whole_value(number.text) {
+        Some(count) => count.unsigned_abs(),
+        None => 0,
+    }
+}
+
+/// The same where the number may be missing, which makes it 100 (SNL Reference, "SyncQ").
+fn queue_size(number: Option<Token>) -> u64
+    ensures { result ≡ spec.queue_size number.entry }
+{
+    match number {
+        Some(number) => size_by(number),
+        None => 100,
+    }
+}
+
+/// Notes the size of a queue, where one is written.
+fn note_size<'a>(number: Option<Token<'a>>, sites: &mut Vec<Site<'a>>) -> Result<(), AllocError>
+    ensures { OnOk result (sites.new.items ≡ sites.old.items ++ maybe spec.in_size number.entry) }
+{
+    if let Some(number) = number {
+        let size = size_by(number);
+        sites.push(Site::QueueSize {
+            number,
+            is_good: 1 <= size && size <= 4096,
+        })?;
+    }
+    Ok(())
+}
+
+/// Notes the sites in a `sync`.
+fn note_sync<'a>(
+    scopes: &Scopes<'_, 'a>,
+    sync: &Sync<'a>,
+    sites: &mut Vec<Site<'a>>,
+) -> Result<(), AllocError>
+    ensures { OnOk result (sites.new.items ≡ sites.old.items
+        ++ spec.in_sync (scopes_of scopes.now) (sync_view sync.now)) }
+{
+    note_defined(
+        Sort::Sync,
+        sync.place.name,
+        scopes,
+        &sync.place,
+        None,
+        sites,
+    )?;
+    note_flag(scopes, sync.flag, sites)?;
+    Ok(())
+}
+
+/// Notes the sites in a `syncQ`.
+fn note_queue<'a>(
+    scopes: &Scopes<'_, 'a>,
+    queue: &SyncQueue<'a>,
+    sites: &mut Vec<Site<'a>>,
+) -> Result<(), AllocError>
+    ensures { OnOk result (sites.new.items ≡ sites.old.items
+        ++ spec.in_queue (scopes_of scopes.now) (queue_view queue.now)) }
+{
+    let sort = Sort::Queue(queue_size(queue.size));
+    note_defined(sort, queue.word, scopes, &queue.place, None, sites)?;
+    if let Some(flag) = queue.flag {
+        note_flag(scopes, flag, sites)?;
+    }
+    note_size(queue.size, sites)?;
+    Ok(())
+}
+
+/// Notes the sites in a definition or an option, of a state or elsewhere; declared names are noted
+/// with their scope.
+fn note_definition<'a>(
+    in_state: bool,
+    scopes: &Scopes<'_, 'a>,
+    definition: &Def<'a>,
+    sites: &mut Vec<Site<'a>>,
+) -> Result<(), AllocError>
+    ensures { OnOk result (sites.new.items ≡ sites.old.items
+        ++ spec.in_definition in_state (scopes_of scopes.now) (definition_view definition.now)) }
+{
+    match definition {
+        Def::Declaration(declared) => note_declaration(scopes, false, declared, sites)?,
+        Def::Assign(assign) => {
+            let list = listed_names(&assign.channels);
+            note_defined(
+                Sort::Assign,
+                assign.word,
+                scopes,
+                &assign.place,
+                list,
+                sites,
+            )?;
+        }
+        Def::Monitor(place) => {
+            note_defined(Sort::Monitor, place.name, scopes, place, None, sites)?;
+        }
+        Def::Sync(sync) => note_sync(scopes, sync, sites)?,
+        Def::SyncQueue(queue) => note_queue(scopes, queue, sites)?,
+        Def::EventFlags(_) => {}
+        Def::Setting(setting) => {
+            sites.push(Site::Setting {
+                sign: setting.sign,
+                name: setting.name,
+                refused: refused(in_state, *setting),
+            })?;
+        }
+    }
+    Ok(())
+}
+
+/// Notes the sites in each of some definitions.
+fn note_each<'a>(
+    in_state: bool,
+    scopes: &Scopes<'_, 'a>,
+    definitions: &[Def<'a>],
+    sites: &mut Vec<Site<'a>>,
+) -> Result<(), AllocError>
+    ensures { OnOk result (sites.new.items ≡ sites.old.items
+        ++ flat_map (spec.in_definition in_state (scopes_of scopes.now))
+        (map definition_view definitions.now)) }
+{
+    for definition in definitions {
+        note_definition(in_state, scopes, definition, sites)?;
+    }
+    Ok(())
+}
+
+/// Notes the sites in definitions, their declared names first; gives the scope that they make
+/// within others.
+pub fn note_definitions<'a>(
+    alloc: Global,
+    in_state: bool,
+    outer: &Scopes<'_, 'a>,
+    definitions: &[Def<'a>],
+    sites: &mut Vec<Site<'a>>,
+) -> Result<Scope<'a>, AllocError>
+    ensures scope { IfOk result (λ scope. scope
+        ≡ scope_of (scopes_of outer.now) (map definition_view definitions.now)) }
+    ensures sites { OnOk result (sites.new.items ≡ sites.old.items
+        ++ spec.in_definitions in_state (scopes_of outer.now)
+        (map definition_view definitions.now)) }
+{
+    let scope = definition_scope(alloc, outer, definitions, sites)?;
+    note_each(in_state, &Scopes::Within(&scope, outer), definitions, sites)?;
+    Ok(scope)
+}

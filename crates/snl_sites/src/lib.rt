@@ -1,0 +1,39 @@
+//! What is known at each place of a program: what its names mean, how large its variables are,
+//! which expressions are constant, how its calls are formed.
+#![tactic(auto)]
+
+mod arithmetic;
+mod block_variables;
+mod calls;
+mod constants;
+mod declarations;
+mod definition_scopes;
+mod definitions;
+mod expressions;
+mod formats;
+mod initialisers;
+pub mod laws;
+mod numbered;
+mod options;
+mod parts;
+mod programs;
+mod purposes;
+mod scopes;
+mod scoping;
+mod set_variables;
+mod sites;
+mod sizes;
+mod statements;
+mod states;
+mod uses;
+mod variables;
+
+pub use arithmetic::{Fault, computed, computed_prefix};
+pub use calls::Form;
+pub use constants::{Constant, constant_of};
+pub use programs::sites_of;
+pub use scopes::{Declared, Scope, Scopes};
+pub use set_variables::variables_of;
+pub use sites::{Extent, Meaning, Part, Purpose, Site, Size, Sort};
+pub use uses::declared_in;
+pub use variables::Held;

@@ -1,0 +1,151 @@
+//! What the parts of an expression are for, and the sites of its tokens.
+
+ghost use Rattle.std.specs.Prelude.{◌≡◌};
+ghost use Rattle.snl_tree.specs.view.Expressions.{view};
+ghost use Rattle.snl_sites.specs.Formats.{conversions_of};
+ghost use Rattle.snl_sites.specs.Numbered.{is_number};
+ghost use Rattle.snl_sites.specs.Purposes as spec;
+
+use crate::calls::{Form, is_place};
+use crate::formats::conversions;
+use crate::sites::{Purpose, Site};
+use snl_text::{Kind, Token, decimal_value};
+use snl_tree::Expr;
+
+impl Purpose {
+    /// That of a part that gives a value: an operand, a subscript, a condition.
+    pub fn inner(self) -> Purpose
+        ensures { result ≡ spec.inner self }
+    {
+        match self {
+            Purpose::Ignored => Purpose::Ignored,
+            _ => Purpose::Read,
+        }
+    }
+
+    /// That of what stands in parentheses.
+    pub fn in_parentheses(self) -> Purpose
+        ensures { result ≡ spec.in_parentheses self }
+    {
+        match self {
+            Purpose::Delayed => Purpose::Read,
+            other => other,
+        }
+    }
+
+    /// That of what is assigned to.
+    pub fn target(self) -> Purpose
+        ensures { result ≡ spec.target self }
+    {
+        match self {
+            Purpose::Ignored => Purpose::Ignored,
+            _ => Purpose::Changed,
+        }
+    }
+
+    /// That of the arguments of a call, by its form and whether they have it.
+    pub fn argument(self, form: Option<Form>, is_fitting: bool) -> Purpose
+        ensures { result ≡ spec.argument self form is_fitting }
+    {
+        match (self, form, is_fitting) {
+            (Purpose::Ignored, _, _) => Purpose::Ignored,
+            (_, Some(form), true) => match form {
+                Form::ChannelPlace => Purpose::Channel,
+                Form::QueueName => Purpose::Queued,
+                Form::FlagName => Purpose::Flagged,
+                Form::Seconds => Purpose::Delayed,
+                Form::Nothing | Form::Format => Purpose::Read,
+            },
+            _ => Purpose::Ignored,
+        }
+    }
+
+    fn is_ignored(self) -> bool
+        ensures { result ≡ spec.is_ignored self }
+    {
+        matches!(self, Purpose::Ignored)
+    }
+}
+
+/// Whether an operator is `++` or `--`.
+pub fn is_step(kind: Kind) -> bool
+    ensures { result ≡ spec.is_step kind }
+{
+    matches!(kind, Kind::PlusPlus | Kind::MinusMinus)
+}
+
+/// Whether a decimal constant may stand for a purpose.
+pub fn is_good_decimal(purpose: Purpose, text: &[u8]) -> bool
+    ensures { result ≡ spec.is_good_decimal purpose text.now }
+{
+    match purpose {
+        Purpose::Ignored => true,
+        Purpose::Delayed => match decimal_value(text) {
+            Some(value) => value.is_exact,
+            None => false,
+        },
+        _ => false,
+    }
+}
+
+/// The site of a call.
+pub fn call_site<'a>(
+    purpose: Purpose,
+    in_condition: bool,
+    name: Token<'a>,
+    form: Option<Form>,
+    is_fitting: bool,
+) -> Site<'a>
+    ensures { result ≡ spec.at_call purpose in_condition name.entry form is_fitting }
+{
+    let is_ignored = purpose.is_ignored();
+    Site::Call {
+        name,
+        is_known: form.is_some() || is_ignored,
+        is_fitting: form.is_none() || is_fitting || is_ignored,
+        may_stand: in_condition || name.text != b"delay".as_slice() || is_ignored,
+    }
+}
+
+/// Whether an expression is a name or an element, in parentheses or not.
+fn is_target(expression: &Expr) -> bool
+    ensures { result ≡ spec.is_target (view expression.now) }
+{
+    match expression {
+        Expr::Parenthesized(inner) => is_target(inner),
+        other => is_place(other),
+    }
+}
+
+/// The site of an operator that changes its target.
+pub fn change_site<'a>(purpose: Purpose, target: &Expr, operator: Token<'a>) -> Site<'a>
+    ensures { result ≡ spec.at_change purpose (view target.now) operator.entry }
+{
+    Site::Change {
+        operator,
+        is_good: is_target(target) || purpose.is_ignored(),
+    }
+}
+
+/// Whether a format has as many conversions as there are arguments after it.
+fn has_conversions(format: &[u8], count: usize) -> bool
+    ensures { result ≡ is_number count (conversions_of format.now) }
+{
+    if format.len() < 2 {
+        return count == 0;
+    }
+    match conversions(&format[1..format.len() - 1]) {
+        Some(found) => count == found,
+        None => false,
+    }
+}
+
+/// The site of a string as an argument, with so many arguments after it.
+pub fn format_site<'a>(purpose: Purpose, format: Token<'a>, count: usize) -> Site<'a>
+    ensures { result ≡ spec.at_format purpose format.entry count }
+{
+    Site::Format {
+        text: format,
+        is_good: has_conversions(format.text, count) || purpose.is_ignored(),
+    }
+}

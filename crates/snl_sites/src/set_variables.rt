@@ -1,0 +1,151 @@
+//! The variables of states and state sets, and all that the copy of a state set holds.
+
+ghost use Rattle.std.specs.Prelude.{◌≡◌, ◌++◌, map, slice_get, OnOk, IfOk};
+ghost use Rattle.std.specs.List.{flat_map};
+ghost use Rattle.snl_tree.specs.view.Shown.{shown, held};
+ghost use Rattle.snl_tree.specs.view.Statements.{block_view};
+ghost use Rattle.snl_tree.specs.view.Programs.{clause_view, state_view, state_set_view, program_view};
+ghost use Rattle.snl_sites.specs.Chains.{scopes_of};
+ghost use Rattle.snl_sites.specs.Variables as spec;
+ghost use Rattle.snl_sites.specs.Held.{held_view};
+
+use crate::block_variables::{push_block, push_if_there};
+use crate::scopes::Scopes;
+use crate::variables::{Held, push_definitions};
+use snl_tree::{Block, Clause, Program, State, StateSet};
+use std::alloc::{AllocError, Global};
+
+/// Adds the variables of the blocks of clauses.
+fn push_clauses<'p, 'a>(
+    alloc: Global,
+    scopes: &Scopes<'_, 'a>,
+    clauses: &'p [Clause<'a>],
+    kept: &mut Vec<Held<'p, 'a>>,
+) -> Result<(), AllocError>
+    ensures { OnOk result (map held_view kept.new.items ≡ map held_view kept.old.items
+        ++ flat_map (spec.by_clause (scopes_of scopes.now)) (map clause_view clauses.now)) }
+{
+    for clause in clauses {
+        push_block(alloc, scopes, &clause.block, kept)?;
+    }
+    Ok(())
+}
+
+/// Adds the variables of a state.
+fn push_state<'p, 'a>(
+    alloc: Global,
+    outer: &Scopes<'_, 'a>,
+    state: &'p State<'a>,
+    kept: &mut Vec<Held<'p, 'a>>,
+) -> Result<(), AllocError>
+    ensures { OnOk result (map held_view kept.new.items ≡ map held_view kept.old.items
+        ++ spec.by_state (scopes_of outer.now) (state_view state.now)) }
+{
+    let scope = push_definitions(alloc, outer, state.definitions.as_slice(), kept)?;
+    let scopes = Scopes::Within(&scope, &*outer);
+    push_if_there(alloc, &scopes, &state.entry, kept)?;
+    push_clauses(alloc, &scopes, state.clauses.as_slice(), kept)?;
+    push_if_there(alloc, &scopes, &state.exit, kept)?;
+    Ok(())
+}
+
+/// Adds the variables of states.
+fn push_states<'p, 'a>(
+    alloc: Global,
+    outer: &Scopes<'_, 'a>,
+    states: &'p [State<'a>],
+    kept: &mut Vec<Held<'p, 'a>>,
+) -> Result<(), AllocError>
+    ensures { OnOk result (map held_view kept.new.items ≡ map held_view kept.old.items
+        ++ flat_map (spec.by_state (scopes_of outer.now)) (map state_view states.now)) }
+{
+    for state in states {
+        push_state(alloc, outer, state, kept)?;
+    }
+    Ok(())
+}
+
+/// Adds the variables of a state set, its states and its blocks.
+fn push_set<'p, 'a>(
+    alloc: Global,
+    outer: &Scopes<'_, 'a>,
+    set: &'p StateSet<'a>,
+    kept: &mut Vec<Held<'p, 'a>>,
+) -> Result<(), AllocError>
+    ensures { OnOk result (map held_view kept.new.items ≡ map held_view kept.old.items
+        ++ spec.by_state_set (scopes_of outer.now) (state_set_view set.now)) }
+{
+    let scope = push_definitions(alloc, outer, set.definitions.as_slice(), kept)?;
+    let scopes = Scopes::Within(&scope, &*outer);
+    push_states(alloc, &scopes, set.states.as_slice(), kept)?;
+    Ok(())
+}
+
+/// Adds the variables of the state set of a number, if there is one.
+fn push_numbered<'p, 'a>(
+    alloc: Global,
+    outer: &Scopes<'_, 'a>,
+    sets: &'p [StateSet<'a>],
+    set: usize,
+    kept: &mut Vec<Held<'p, 'a>>,
+) -> Result<(), AllocError>
+    ensures { OnOk result (map held_view kept.new.items ≡ map held_view kept.old.items
+        ++ spec.by_numbered (scopes_of outer.now) (slice_get (map state_set_view sets.now) set)) }
+{
+    if sets.len() <= set {
+        return Ok(());
+    }
+    push_set(alloc, outer, &sets[set], kept)?;
+    Ok(())
+}
+
+/// Adds the variables of a block of the program, if it is there, for the first state set alone.
+fn push_for_first<'p, 'a>(
+    alloc: Global,
+    scopes: &Scopes<'_, 'a>,
+    set: usize,
+    block: &'p Option<Box<Block<'a>>>,
+    kept: &mut Vec<Held<'p, 'a>>,
+) -> Result<(), AllocError>
+    ensures { OnOk result (map held_view kept.new.items ≡ map held_view kept.old.items
+        ++ spec.for_first set (scopes_of scopes.now) (shown (held block_view) block.now)) }
+{
+    if set == 0 {
+        push_if_there(alloc, scopes, block, kept)?;
+    }
+    Ok(())
+}
+
+/// Adds the variables of a state set of a program.
+fn push_variables<'p, 'a>(
+    alloc: Global,
+    program: &'p Program<'a>,
+    set: usize,
+    kept: &mut Vec<Held<'p, 'a>>,
+) -> Result<(), AllocError>
+    ensures { OnOk result (map held_view kept.new.items ≡ map held_view kept.old.items
+        ++ spec.variables_of (program_view program.now) set) }
+{
+    let outside = Scopes::Outside;
+    let scope = push_definitions(alloc, &outside, program.definitions.as_slice(), kept)?;
+    let scopes = Scopes::Within(&scope, &outside);
+    push_for_first(alloc, &scopes, set, &program.entry, kept)?;
+    push_numbered(alloc, &scopes, program.state_sets.as_slice(), set, kept)?;
+    push_for_first(alloc, &scopes, set, &program.exit, kept)?;
+    Ok(())
+}
+
+/// All variables that the copy of the state set of a number holds, from 0 on, in the order of the
+/// source. The only error is that memory ends.
+pub fn variables_of<'p, 'a>(
+    alloc: Global,
+    program: &'p Program<'a>,
+    set: usize,
+) -> Result<Vec<Held<'p, 'a>>, AllocError>
+    ensures { IfOk result (λ held. map held_view held.items
+        ≡ spec.variables_of (program_view program.now) set) }
+{
+    let mut kept = Vec::new(alloc);
+    push_variables(alloc, program, set, &mut kept)?;
+    Ok(kept)
+}

@@ -1,0 +1,170 @@
+//! The sites in statements.
+
+ghost use Rattle.std.specs.Prelude.{◌≡◌, ◌++◌, map, true, OnOk};
+ghost use Rattle.std.specs.List.{flat_map};
+ghost use Rattle.snl_tree.specs.view.Expressions.{boxed};
+ghost use Rattle.snl_tree.specs.view.Declarations.{declaration_view};
+ghost use Rattle.snl_tree.specs.reading.Statements.{statement_list};
+ghost use Rattle.snl_tree.specs.view.Statements.{statement_view, header_view, block_view};
+ghost use Rattle.snl_tree.specs.view.Shown.{shown};
+ghost use Rattle.snl_sites.specs.Chains.{scopes_of};
+ghost use Rattle.snl_sites.specs.Sites as spec;
+
+use crate::declarations::{note_declaration, note_if_there, note_value};
+use crate::numbered::Numbered;
+use crate::scopes::Scopes;
+use crate::scoping::block_scope;
+use crate::sites::Site;
+use snl_text::Token;
+use snl_tree::{Block, Declaration, Expr, Header, Stmt};
+use std::alloc::{AllocError, Global};
+
+/// Notes the sites between the parentheses of a `for`.
+fn note_header<'a>(
+    scopes: &Scopes<'_, 'a>,
+    header: &Header<'a>,
+    sites: &mut Vec<Site<'a>>,
+) -> Result<(), AllocError>
+    ensures { OnOk result (sites.new.items ≡ sites.old.items
+        ++ spec.in_header (scopes_of scopes.now) (header_view header.now)) }
+{
+    note_if_there(scopes, &header.start, sites)?;
+    note_if_there(scopes, &header.condition, sites)?;
+    note_if_there(scopes, &header.step, sites)?;
+    Ok(())
+}
+
+/// Notes the sites in the declarations of a block.
+fn note_declarations<'a>(
+    scopes: &Scopes<'_, 'a>,
+    declarations: &[Declaration<'a>],
+    sites: &mut Vec<Site<'a>>,
+) -> Result<(), AllocError>
+    ensures { OnOk result (sites.new.items ≡ sites.old.items
+        ++ flat_map (spec.in_declaration (scopes_of scopes.now) true)
+        (map declaration_view declarations.now)) }
+{
+    for declared in declarations {
+        note_declaration(scopes, true, declared, sites)?;
+    }
+    Ok(())
+}
+
+/// Notes the sites in a statement: in a clause's block or not, beside states of these names, in a
+/// loop or not.
+#[cycle(statement)]
+fn note_statement<'a>(
+    alloc: Global,
+    in_clause: bool,
+    states: &Numbered<'a>,
+    scopes: &Scopes<'_, 'a>,
+    in_loop: bool,
+    statement: &Stmt<'a>,
+    sites: &mut Vec<Site<'a>>,
+) -> Result<(), AllocError>
+    ensures { OnOk result (sites.new.items ≡ sites.old.items
+        ++ spec.in_statement in_clause states.now (scopes_of scopes.now) in_loop
+        (statement_view statement.now)) }
+{
+    match statement {
+        Stmt::Block(block) => {
+            note_block(alloc, in_clause, states, scopes, in_loop, block, sites)?;
+        }
+        Stmt::Empty => {}
+        Stmt::Expression(value) => note_value(scopes, value, sites)?,
+        Stmt::Break(word) | Stmt::Continue(word) => {
+            sites.push(Site::Leave {
+                word: *word,
+                is_in_loop: in_loop,
+            })?;
+        }
+        Stmt::State { word, name } => {
+            sites.push(Site::Move {
+                word: *word,
+                is_in_clause: in_clause,
+            })?;
+            sites.push(Site::Target {
+                name: *name,
+                state: states.find(*name),
+                may_stand: in_clause,
+            })?;
+        }
+        Stmt::If { condition, first } => {
+            note_value(scopes, condition, sites)?;
+            note_statement(alloc, in_clause, states, scopes, in_loop, first, sites)?;
+        }
+        Stmt::IfElse {
+            condition,
+            first,
+            second,
+        } => {
+            note_value(scopes, condition, sites)?;
+            note_statement(alloc, in_clause, states, scopes, in_loop, first, sites)?;
+            note_statement(alloc, in_clause, states, scopes, in_loop, second, sites)?;
+        }
+        Stmt::While {
+            condition,
+            body,
+            ..
+        } => {
+            note_value(scopes, condition, sites)?;
+            note_statement(alloc, in_clause, states, scopes, true, body, sites)?;
+        }
+        Stmt::For { header, body, .. } => {
+            note_header(scopes, header, sites)?;
+            note_statement(alloc, in_clause, states, scopes, true, body, sites)?;
+        }
+    }
+    Ok(())
+}
+
+/// Notes the sites in statements.
+#[cycle(statement)]
+fn note_statements<'a>(
+    alloc: Global,
+    in_clause: bool,
+    states: &Numbered<'a>,
+    scopes: &Scopes<'_, 'a>,
+    in_loop: bool,
+    statements: &[Stmt<'a>],
+    sites: &mut Vec<Site<'a>>,
+) -> Result<(), AllocError>
+    ensures { OnOk result (sites.new.items ≡ sites.old.items
+        ++ spec.in_statements in_clause states.now (scopes_of scopes.now) in_loop (statement_list
+        (map statement_view statements.now))) }
+{
+    for statement in statements {
+        note_statement(alloc, in_clause, states, scopes, in_loop, statement, sites)?;
+    }
+    Ok(())
+}
+
+/// Notes the sites in a block.
+#[cycle(statement)]
+pub fn note_block<'a>(
+    alloc: Global,
+    in_clause: bool,
+    states: &Numbered<'a>,
+    outer: &Scopes<'_, 'a>,
+    in_loop: bool,
+    block: &Block<'a>,
+    sites: &mut Vec<Site<'a>>,
+) -> Result<(), AllocError>
+    ensures { OnOk result (sites.new.items ≡ sites.old.items
+        ++ spec.in_block in_clause states.now (scopes_of outer.now) in_loop
+        (block_view block.now)) }
+{
+    let scope = block_scope(alloc, outer, block.declarations.as_slice(), sites)?;
+    let scopes = Scopes::Within(&scope, &*outer);
+    note_declarations(&scopes, block.declarations.as_slice(), sites)?;
+    note_statements(
+        alloc,
+        in_clause,
+        states,
+        &scopes,
+        in_loop,
+        block.statements.as_slice(),
+        sites,
+    )?;
+    Ok(())
+}

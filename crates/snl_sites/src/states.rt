@@ -1,0 +1,147 @@
+//! The sites in clauses and states.
+
+ghost use Rattle.std.specs.Prelude.{◌≡◌, ◌++◌, map, false, true, OnOk};
+ghost use Rattle.snl_tree.specs.view.Shown.{shown, held};
+ghost use Rattle.snl_tree.specs.view.Expressions.{boxed};
+ghost use Rattle.snl_tree.specs.view.Statements.{block_view};
+ghost use Rattle.snl_tree.specs.view.Programs.{target_view, clause_view, state_view};
+ghost use Rattle.snl_sites.specs.declared.sites.Purpose.{Purpose};
+ghost use Rattle.snl_sites.specs.Chains.{scopes_of};
+ghost use Rattle.snl_sites.specs.Sites.{in_expression, maybe};
+ghost use Rattle.snl_sites.specs.Programs as spec;
+
+use crate::constants::{Constant, constant_of};
+use crate::definitions::note_definitions;
+use crate::expressions::note_expression;
+use crate::numbered::Numbered;
+use crate::scopes::Scopes;
+use crate::sites::{Purpose, Site};
+use crate::statements::note_block;
+use snl_tree::{Block, Clause, Expr, State, Target};
+use std::alloc::{AllocError, Global};
+
+/// Notes the sites in a block outside of clauses, if it is there.
+pub fn note_plain_block<'a>(
+    alloc: Global,
+    scopes: &Scopes<'_, 'a>,
+    states: &Numbered<'a>,
+    block: &Option<Box<Block<'a>>>,
+    sites: &mut Vec<Site<'a>>,
+) -> Result<(), AllocError>
+    ensures { OnOk result (sites.new.items ≡ sites.old.items
+        ++ maybe (spec.in_plain_block (scopes_of scopes.now) states.now)
+        (shown (held block_view) block.now)) }
+{
+    if let Some(block) = block {
+        note_block(alloc, false, states, scopes, false, block, sites)?;
+    }
+    Ok(())
+}
+
+/// Notes the sites in the condition of a clause.
+fn note_condition<'a>(
+    scopes: &Scopes<'_, 'a>,
+    condition: &Option<Box<Expr<'a>>>,
+    sites: &mut Vec<Site<'a>>,
+) -> Result<(), AllocError>
+    ensures { OnOk result (sites.new.items ≡ sites.old.items
+        ++ maybe (in_expression true (scopes_of scopes.now) Purpose.Read)
+        (shown boxed condition.now)) }
+{
+    if let Some(condition) = condition {
+        note_expression(true, scopes, Purpose::Read, condition, sites)?;
+    }
+    Ok(())
+}
+
+/// Notes where a clause leads.
+fn note_target<'a>(
+    states: &Numbered<'a>,
+    target: Target<'a>,
+    sites: &mut Vec<Site<'a>>,
+) -> Result<(), AllocError>
+    ensures { OnOk result (sites.new.items ≡ sites.old.items
+        ++ spec.in_target states.now (target_view target.entry)) }
+{
+    if let Target::State(name) = target {
+        sites.push(Site::Target {
+            name,
+            state: states.find(name),
+            may_stand: true,
+        })?;
+    }
+    Ok(())
+}
+
+/// Whether a clause has no condition, or a constant one that does not fault and is not 0.
+fn is_always_true<'a>(scopes: &Scopes<'_, 'a>, clause: &Clause<'a>) -> bool
+    ensures { result ≡ spec.is_always_true (scopes_of scopes.now) (clause_view clause.now) }
+{
+    match &clause.condition {
+        Some(condition) => match constant_of(scopes, condition) {
+            Constant::Worth(number) => number != 0,
+            _ => false,
+        },
+        None => true,
+    }
+}
+
+/// Notes the sites in a clause, and whether one before it is always true.
+fn note_clause<'a>(
+    alloc: Global,
+    scopes: &Scopes<'_, 'a>,
+    states: &Numbered<'a>,
+    is_blocked: bool,
+    clause: &Clause<'a>,
+    sites: &mut Vec<Site<'a>>,
+) -> Result<(), AllocError>
+    ensures { OnOk result (sites.new.items ≡ sites.old.items
+        ++ spec.in_clause (scopes_of scopes.now) states.now is_blocked (clause_view clause.now)) }
+{
+    sites.push(Site::Clause {
+        word: clause.word,
+        is_blocked,
+    })?;
+    note_condition(scopes, &clause.condition, sites)?;
+    note_block(alloc, true, states, scopes, false, &clause.block, sites)?;
+    note_target(states, clause.target, sites)?;
+    Ok(())
+}
+
+/// Notes the sites in the clauses of a state.
+fn note_clauses<'a>(
+    alloc: Global,
+    scopes: &Scopes<'_, 'a>,
+    states: &Numbered<'a>,
+    clauses: &[Clause<'a>],
+    sites: &mut Vec<Site<'a>>,
+) -> Result<(), AllocError>
+    ensures { OnOk result (sites.new.items ≡ sites.old.items
+        ++ spec.in_clauses (scopes_of scopes.now) states.now false (map clause_view clauses.now)) }
+{
+    let mut is_blocked = false;
+    for clause in clauses {
+        note_clause(alloc, scopes, states, is_blocked, clause, sites)?;
+        is_blocked |= is_always_true(scopes, clause);
+    }
+    Ok(())
+}
+
+/// Notes the sites in a state of a state set whose states have these names.
+pub fn note_state<'a>(
+    alloc: Global,
+    outer: &Scopes<'_, 'a>,
+    states: &Numbered<'a>,
+    state: &State<'a>,
+    sites: &mut Vec<Site<'a>>,
+) -> Result<(), AllocError>
+    ensures { OnOk result (sites.new.items ≡ sites.old.items
+        ++ spec.in_state (scopes_of outer.now) states.now (state_view state.now)) }
+{
+    let scope = note_definitions(alloc, true, outer, state.definitions.as_slice(), sites)?;
+    let scopes = Scopes::Within(&scope, &*outer);
+    note_plain_block(alloc, &scopes, states, &state.entry, sites)?;
+    note_clauses(alloc, &scopes, states, state.clauses.as_slice(), sites)?;
+    note_plain_block(alloc, &scopes, states, &state.exit, sites)?;
+    Ok(())
+}
