@@ -28,9 +28,11 @@ rounds-end p (suc n) w h = by (round_of p w) refl (round-within p w) (λ u less.
         subst (λ (t : List ℕ). Rounds p w (Gives tt (record u { wake = u.due }) t)) (sym (append-nil text)) (Last w u text is)
     by (Faults f line u text) is spent rest = Stops f line w u text is
 
+-- so as many as an instant allows end by themselves
 pub rounds_end : RoundsEnd
 rounds_end p w = rounds-end p (suc w.ticks) w (omega arith)
 
+-- what an event gives in a world that has ended
 pub ended_stays : EndedStays
 ended_stays p budget ms event w ended = ap (λ (phase : Live). line_by p budget ms event phase w) ended
 
@@ -49,6 +51,7 @@ done-silent w after (Err stop.Sink) old new did = absurd (did.lost (rest-none di
     rest-none [] rest is = sym is
     rest-none (byte ∷ taken) rest is = absurd (cc)
 
+-- what a call answers in a world that has ended
 pub ended_answers_ended : EndedAnswersEnded
 ended_answers_ended p budget ms event w after result old new ended did =
     done-silent w after result old new (subst (λ (r : Ran Live). Does (λ live. live) result after old new r) (ended_stays p budget ms event w ended) did)
@@ -58,6 +61,7 @@ closed-phase : (r : Ran (Unit {0})) (u : World) (live : Live) (text : List ℕ) 
 closed-phase (Gives v w t) u live text is = cc
 closed-phase (Faults f line w t) u live text is = absurd (cc)
 
+-- a call answers how far the program has come
 pub answers_the_phase : AnswersThePhase
 answers_the_phase p budget ms event w after live old new did = by w.phase refl did.is
   where
@@ -66,15 +70,18 @@ answers_the_phase p budget ms event w after live old new did = by w.phase refl d
     by Waiting at is = closed-phase (instant_of p budget (applied p event (record w { time = ms }))) after live did.text is
     by Running at is = closed-phase (instant_of p budget (applied p event (record w { time = ms }))) after live did.text is
 
+-- the end of an instant keeps the time
 closed-time : (time ticks : ℕ) (r : Ran (Unit {0})) → Within time ticks free r → (world_after (closed r)).time ≡ time
 closed-time time ticks (Gives v w text) h = h.0
 closed-time time ticks (Faults f line w text) h = h
 
+-- an instant keeps the time that the event set
 line-time : (p : Program) (budget ms : ℕ) (event : Event) (w : World) → (world_after (closed (instant_of p budget (applied p event (record w { time = ms }))))).time ≡ ms
 line-time p budget ms event w =
     let u = applied p event (record w { time = ms }) in
     closed-time u.time budget (instant_of p budget u) (instant-within p budget u) ∙ applied-time p event (record w { time = ms })
 
+-- the time after an event
 pub time_is_the_events : TimeIsTheEvents
 time_is_the_events p budget ms event w runs = by w.phase runs
   where
@@ -83,6 +90,7 @@ time_is_the_events p budget ms event w runs = by w.phase runs
     by Waiting other = line-time p budget ms event w
     by Running other = line-time p budget ms event w
 
+-- time does not fall
 pub time_never_falls : TimeNeverFalls
 time_never_falls p budget ms event w later = by w.phase
   where

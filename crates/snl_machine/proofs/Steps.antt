@@ -82,6 +82,7 @@ pub record IsOnWay {A : Type 0} (old now : Option (List ℕ)) (whole rest : Ran 
   pub is : whole ≡ also text rest
   pub told : now ≡ told_more old text
 
+-- nothing was done yet
 pub on_way-start : {A : Type 0} (told : Option (List ℕ)) (r : Ran A) → IsOnWay told told r r
 on_way-start told r = record { text = []; is = sym (also-nil r); told = sym (told_more-nil told) }
 
@@ -124,5 +125,6 @@ does-passed {V = V} view result s y w old new ran is same did = let P : Result V
 pub gave-is : {A : Type 0} (v : A) (w : World) (told : Option (List ℕ)) (r : Ran A) → r ≡ Gives v w [] → Gave v w told told r
 gave-is v w told r is = record { text = []; is = is; told = sym (told_more-nil told) }
 
+-- a step that is known to fault and to write nothing
 pub faulted-is : {A : Type 0} (fault : Fault) (line : ℕ) (w : World) (told : Option (List ℕ)) (r : Ran A) → r ≡ Faults fault line w [] → Faulted fault line w told told r
 faulted-is fault line w told r is = record { text = []; is = is; told = sym (told_more-nil told) }

@@ -17,10 +17,12 @@ ended-never live.Waiting v u t text e = cc
 ended-never live.Running v u t text e = cc
 ended-never live.Ended v u t text e = cc
 
+-- nor at an event
 acts-never : (ran : Ran Live) (u : World) (text : List ℕ) → then_do ran (λ live v. Gives (end_by live) v []) ≡ Gives (Some end.TraceEnded) u text → ⊥
 acts-never (Gives live v t) u text e = ended-never live v u t text e
 acts-never (Faults fault line v t) u text e = cc
 
+-- nor where a line was read
 pub done-never : (rules : Rules) (number : ℕ) (read : Result (Option (ℕ × Event)) TraceFault) (w u : World) (text : List ℕ) → done_by rules number read w ≡ Gives (Some end.TraceEnded) u text → ⊥
 done-never rules number (Err fault) w u text e = cc
 done-never rules number (Ok None) w u text e = cc
@@ -42,6 +44,7 @@ after-all (Gives e u s) rest go v text t next is =
     ap (also t) (next u s (ap (λ (x : End). Gives x u s) same)) ∙ also-also t s (go u) ∙ ap (λ x. also x (go u)) both ∙ ap (λ x. also text (go x)) world
 after-all (Faults f l u s) rest go v text t next is = absurd (cc)
 
+-- the same where one line comes first
 after-line : (step : Ran (Option End)) (one all : World → Ran End) (go : World → Ran End) (v : World) (text : List ℕ) →
     ((u : World) (s : List ℕ) → step ≡ Gives (Some end.TraceEnded) u s → ⊥) →
     ((x u : World) (s : List ℕ) → one x ≡ Gives end.TraceEnded u s → all x ≡ also s (go u)) →

@@ -25,6 +25,7 @@ pub record IsUnderWay (rules : Rules) (first now : Option (List ℕ)) (reads : �
   pub many : reads ≤ length came
   pub short : (bytes : List ℕ) → first ≡ Some bytes → 0 < reads → length bytes < 2 ^ 63
 
+-- before the first read
 pub under_way-start : (rules : Rules) (first : Option (List ℕ)) (a : Place) → IsUnderWay rules first first 0 a a
 under_way-start rules first a = record {
   came = [];
@@ -40,9 +41,11 @@ given-left : (mid now : Option (List ℕ)) (n : ℕ) (room left : List ℕ) → 
     (left ≡ take n room ++ drop n left) × (now ≡ Some (drop n left)) × (n ≡ 0 → 0 < length room → left ≡ [])
 given-left mid now n room left is given = let P : Option (List ℕ) → Type 0 = λ o. IsGiven o n room now in subst P is given
 
+-- what is left is short
 short-left : (mid : Option (List ℕ)) (left : List ℕ) → mid ≡ Some left → IsShort mid → length left < 2 ^ 63
 short-left mid left is short = subst IsShort is short
 
+-- more has come
 come-on : (first mid now : Option (List ℕ)) (came bytes room : List ℕ) (n : ℕ) → HasCome first mid came bytes → IsGiven mid n room now → HasCome first now (came ++ take n room) bytes
 come-on first mid now came bytes room n come given =
     let next = given-left mid now n room come.left come.left_is given in

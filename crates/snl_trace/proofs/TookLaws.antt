@@ -67,6 +67,7 @@ run-behind rules done lines a b text number ran =
     run_from-append rules a.number done lines a.world b.world text ran
     ∙ ap (λ n. also text (run_from rules n lines b.world)) (sym number)
 
+-- the same, with what was told
 gave-behind : (rules : Rules) (e : End) (done lines : List (List ℕ)) (a b : Place) (text : List ℕ) (w : World) (told : Option (List ℕ)) →
     b.number ≡ a.number + length done → run_from rules a.number done a.world ≡ Gives end.TraceEnded b.world text → b.told ≡ told_more a.told text →
     Gave e w b.told told (run_from rules b.number lines b.world) → Gave e w a.told told (run_from rules a.number (done ++ lines) a.world)
@@ -125,6 +126,7 @@ gave-here rules e line behind a w told did = record {
   told = did.told;
 }
 
+-- the same, by the way in which it ends
 pub ends-here : (rules : Rules) (e : End) (line : List ℕ) (behind : List (List ℕ)) (a : Place) (w : World) (told : Option (List ℕ)) →
     LineDoes (Some e) w a.told told (line_done rules a.number line a.world) → EndsIn rules e (line ∷ behind) a w told
 unfolding run_from
@@ -196,15 +198,25 @@ takes-more rules left a none = record {
   told = sym (told_more-nil a.told);
 }
 
+-- an event gave an answer, and how the run ends there
+gave-on : (live : Live) (w : World) (old new : Option (List ℕ)) (ran : Ran Live) →
+    Gave live w old new ran → Gave (end_by live) w old new (then_do ran (λ live v. Gives (end_by live) v []))
+gave-on live w old new ran did = record {
+  text = did.text;
+  is = ap (λ r. then_do r (λ live v. Gives (end_by live) v [])) did.is ∙ ap (Gives (end_by live) w) (append-nil did.text);
+  told = did.told;
+}
+
 -- an event is done, and how the run ends there
 pub event-does : (result : Result Live Stop) (w : World) (old new : Option (List ℕ)) (ran : Ran Live) →
     Does (λ live. live) result w old new ran → LineDoes (ending_of result) w old new (then_do ran (λ live v. Gives (end_by live) v []))
-event-does (Ok live.Waiting) w old new ran did = record { text = did.text; is = ap (λ r. then_do r (λ live v. Gives (end_by live) v [])) did.is ∙ ap (Gives None w) (append-nil did.text); told = did.told }
-event-does (Ok live.Running) w old new ran did = record { text = did.text; is = ap (λ r. then_do r (λ live v. Gives (end_by live) v [])) did.is ∙ ap (Gives None w) (append-nil did.text); told = did.told }
-event-does (Ok live.Ended) w old new ran did = record { text = did.text; is = ap (λ r. then_do r (λ live v. Gives (end_by live) v [])) did.is ∙ ap (Gives (Some end.ProgramEnded) w) (append-nil did.text); told = did.told }
+event-does (Ok live.Waiting) w old new ran did = gave-on live.Waiting w old new ran did
+event-does (Ok live.Running) w old new ran did = gave-on live.Running w old new ran did
+event-does (Ok live.Ended) w old new ran did = gave-on live.Ended w old new ran did
 event-does (Err (stop.Fault fault line)) w old new ran did = faulted-then ran (λ live v. Gives (end_by live) v []) fault line w old new did
 event-does (Err stop.Sink) w old new ran did = cut-then ran (λ live v. Gives (end_by live) v []) old new did
 
+-- whether the sink ended it
 pub event-fails : (result : Result Live Stop) → stopped_by_sink result ≡ ends_by_sink (ending_of result)
 event-fails (Ok live.Waiting) = refl
 event-fails (Ok live.Running) = refl
@@ -232,18 +244,23 @@ ends-last rules result [] a w told filled did = absurd (omega arith)
 ends-last rules None (b ∷ bs) a w told filled did = record { text = did.text; is = goes_on rules (b ∷ bs) a w told did; told = did.told }
 ends-last rules (Some e) (b ∷ bs) a w told filled did = ends-here rules e (b ∷ bs) [] a w told did
 
+-- and where nothing stands there, the trace ends
 pub ends-none : (rules : Rules) (line : List ℕ) (a : Place) → length line ≡ 0 → EndsIn rules end.TraceEnded (last_line line) a a.world a.told
 unfolding run_from
 ends-none rules [] a none = record { text = []; is = refl; told = sym (told_more-nil a.told) }
 ends-none rules (b ∷ bs) a none = absurd (omega arith)
 
+-- of some lines the first is too long
+abbrev BeginsLong : List (List ℕ) → Type 0
+BeginsLong lines = (line : List ℕ) × (after : List (List ℕ)) × (lines ≡ line ∷ after) × (32768 < length line)
+
 -- a line that goes on from one that is too long is too long
-long-first : (begun bytes : List ℕ) → 32768 < length begun → (line : List ℕ) × (behind : List (List ℕ)) × (lines_from begun bytes ≡ line ∷ behind) × (32768 < length line)
+long-first : (begun bytes : List ℕ) → 32768 < length begun → BeginsLong (lines_from begun bytes)
 unfolding lines_to
 long-first [] [] long = absurd (omega arith)
 long-first (c ∷ cs) [] long = (c ∷ cs, [], refl, long)
 long-first begun (b ∷ bs) long =
-    elim (eqb b 10) as (λ t. (line : List ℕ) × (behind : List (List ℕ)) × (cond t (begun ∷ lines_to last_line [] bs) (lines_to last_line (begun ++ b ∷ []) bs) ≡ line ∷ behind) × (32768 < length line)) [
+    elim (eqb b 10) as (λ t. BeginsLong (cond t (begun ∷ lines_to last_line [] bs) (lines_to last_line (begun ++ b ∷ []) bs))) [
       | true ↦ (begun, lines_to last_line [] bs, refl, long)
       | false ↦ long-first (begun ++ b ∷ []) bs (omega (arith, length-append begun (b ∷ [])))
     ]
@@ -252,6 +269,7 @@ long-first begun (b ∷ bs) long =
 pub record KnowsLong (rules : Rules) : Type 0 where
   pub knows : (last : ℕ) (line : List ℕ) → 32768 < length line → rules.read last line ≡ Err LineTooLong
 
+-- bytes that make a line too long end the run, whatever follows
 pub takes-long : (rules : Rules) → KnowsLong rules → (fault : TraceFault) (front : List ℕ) (a : Place) → fault ≡ LineTooLong →
     All (λ byte. byte ≢ 10) front → 32768 < length a.begun + length front →
     (more : List ℕ) → EndsIn rules (end.TraceFault a.number fault) (lines_from a.begun (front ++ more)) a a.world a.told
@@ -270,6 +288,7 @@ takes-long rules long fault front a is none size more =
       told = sym (told_more-nil a.told);
     }
 
+-- those of a machine do
 pub rules-long : (m : Machine) → KnowsLong (rules_of m)
 unfolding rules_by told_of
 rules-long m = record { knows = λ last line long. rw (lt-ltb 32768 (length line) long) refl }
@@ -290,6 +309,7 @@ pub record IsPartWay (rules : Rules) (bytes left : List ℕ) (from to : Place) :
   pub are : bytes ≡ taken ++ left
   pub reaches : Reaches rules taken from to
 
+-- none were taken in yet
 pub way-start : (rules : Rules) (bytes : List ℕ) (a : Place) → IsPartWay rules bytes bytes a a
 way-start rules bytes a = record { taken = []; are = refl; reaches = reaches-start rules a }
 

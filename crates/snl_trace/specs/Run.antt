@@ -25,7 +25,7 @@ pub record Rules : Type 0 where
   -- what an event at a time does
   pub act : ℕ → Event → World → Ran Live
 
--- how the run ends behind an event, if it ends there
+-- how the run ends after an event, if it ends there
 abbrev pub end_by : Live → Option End
 end_by live.Waiting = None
 end_by live.Running = None

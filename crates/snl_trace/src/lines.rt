@@ -10,7 +10,7 @@ pub fn without_return(line: &[u8]) -> &[u8]
     line.strip_suffix(b"\r").unwrap_or(line)
 }
 
-/// The bytes before the first newline, and those behind it.
+/// The bytes before the first newline, and those after it.
 pub fn first_line(bytes: &[u8]) -> Option<(&[u8], &[u8])>
     ensures cut { IfSome result (λ cut. bytes.now ≡ cut.0.now ++ 10 ∷ cut.1.now) }
     ensures first { IfSome result (λ cut. All (λ byte. byte ≢ 10) cut.0.now) }

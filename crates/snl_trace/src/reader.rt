@@ -63,7 +63,7 @@ pub fn read_event(
                 Ok(Some(ms))
             }
         },
-        _ => Ok(None),
+        _ => unreachable!(),
     }
 }
 
