@@ -2,13 +2,14 @@
 
 use crate::tests::PROGRAM;
 use arrayvec::ArrayVec;
-use snl_check::{Severity, check};
+use snl_check::{Checked, Severity, check};
 use snl_machine::{Event, Live, Machine, laws as machine};
 use snl_text::{Kind, Lexed, lex};
 use snl_trace::{End, Feed, Sheet, TraceFault, laws as trace, read_line, run};
 use snl_tree::thin::{Program, narrow};
 use snl_tree::{ParseFault, laws as tree, parse};
 use std::alloc::Global;
+use std::process::Abort;
 use std::test::Fail;
 
 /// The program of the first language that tokens spell.
@@ -18,32 +19,60 @@ fn program<'a>(alloc: Global, lexed: &Lexed<'a>) -> Result<Program<'a>, Fail> {
     Ok(thin.ok_or("not of the first language")?)
 }
 
+/// The machine of [`PROGRAM`] with a budget of 10.
+fn loaded(alloc: Global) -> Result<Box<Machine<'static>>, Fail> {
+    let lexed = lex(alloc, PROGRAM)?;
+    let outcome = check(alloc, program(alloc, &lexed)?)?;
+    let checked = outcome.checked.ok_or("not accepted")?;
+    let machine = Machine::load(alloc, checked, 10)?;
+    Ok(Box::new(alloc, machine)?)
+}
+
 #[test]
-fn lead_from_bytes_to_a_run(rt: HostRuntime) -> Result<(), Fail> {
-    let refused = parse(rt.alloc(), &lex(rt.alloc(), b"program p int int;")?).err();
-    assert_eq!(rt; refused, Some(ParseFault::Unexpected(3)));
+fn tokens_of_a_program(rt: HostRuntime) -> Result<(), Fail> {
     let lexed = lex(rt.alloc(), PROGRAM)?;
     assert_eq!(rt; lexed.tokens.len(), 58);
     assert_eq!(rt; lexed.eof.line, 15);
     let second = lexed.tokens.get(1).ok_or("no second token")?;
     assert!(rt; second.kind == Kind::Name && second.text == b"p".as_slice());
     assert!(rt; second.pos.offset == 8 && second.pos.file == 0 && second.pos.line == 1);
+    Ok(())
+}
+
+#[test]
+fn messages_of_a_program(rt: HostRuntime) -> Result<(), Fail> {
+    let lexed = lex(rt.alloc(), PROGRAM)?;
     let outcome = check(rt.alloc(), program(rt.alloc(), &lexed)?)?;
-    assert_eq!(rt; outcome.messages.len(), 1);
     let message = outcome.messages.get(0).ok_or("no message")?;
     assert!(rt; message.severity == Severity::Warning && message.number == 7);
     assert_eq!(rt;
         message.text.as_slice(),
         b"state 'hi' has no clauses".as_slice()
     );
-    let checked = outcome.checked.ok_or("not accepted")?;
+    assert_eq!(rt; outcome.messages.len(), 1);
+    declarations(&rt, &outcome.checked.ok_or("not accepted")?)
+}
+
+/// `assign x` means the `x` after `int`, which is no use itself.
+fn declarations(rt: &impl Abort, checked: &Checked) -> Result<(), Fail> {
     assert_eq!(rt; checked.program().name.text, b"p".as_slice());
-    // `assign x` means the `x` behind `int`, which is no use itself.
     let declared = checked.declared(35).ok_or("no declaration")?;
     assert!(rt; declared.offset == 25 && declared.file == 0 && declared.line == 3);
     assert!(rt; checked.declared(25).is_none() && checked.declared(36).is_none());
-    let mut machine = Machine::load(rt.alloc(), checked, 10)?;
-    let mut sheet = Sheet::new(rt.alloc(), 100, 3)?;
+    Ok(())
+}
+
+#[test]
+fn events_of_a_machine(rt: HostRuntime) -> Result<(), Fail> {
+    let mut machine = loaded(rt.alloc())?;
+    takes_events(&rt, rt.alloc(), &mut machine)?;
+    takes_a_trace(&rt, rt.alloc(), &mut machine)?;
+    laws();
+    Ok(())
+}
+
+fn takes_events(rt: &impl Abort, alloc: Global, machine: &mut Machine) -> Result<(), Fail> {
+    let mut sheet = Sheet::new(alloc, 100, 3)?;
     assert_eq!(rt; machine.channel(b"b"), Some(1));
     assert_eq!(rt; machine.channel(b"c"), None);
     assert_eq!(rt; machine.event(3, &Event::Up(0), &mut sheet)?, Live::Waiting);
@@ -54,15 +83,19 @@ fn lead_from_bytes_to_a_run(rt: HostRuntime) -> Result<(), Fail> {
     assert!(rt; machine.fits(&event) && !machine.fits(&Event::Up(2)));
     assert_eq!(rt; machine.event(5, &event, &mut sheet)?, Live::Running);
     assert_eq!(rt; machine.time(), 5);
-    let mut trace = Feed::new(b"6 tick\n5 tick\n", 4);
-    let end = run(&mut machine, &mut trace, &mut sheet);
-    assert_eq!(rt; end, End::TraceFault(2, TraceFault::BackInTime));
-    assert_eq!(rt; machine.time(), 6);
     assert_eq!(rt;
         sheet.text(),
         b"5 start p\n5 put b 8\n5 go s lo hi\n".as_slice()
     );
-    laws();
+    Ok(())
+}
+
+fn takes_a_trace(rt: &impl Abort, alloc: Global, machine: &mut Machine) -> Result<(), Fail> {
+    let mut sheet = Sheet::new(alloc, 100, 3)?;
+    let mut trace = Feed::new(b"6 tick\n5 tick\n", 4);
+    let end = run(machine, &mut trace, &mut sheet);
+    assert_eq!(rt; end, End::TraceFault(2, TraceFault::BackInTime));
+    assert_eq!(rt; machine.time(), 6);
     Ok(())
 }
 
