@@ -7,8 +7,6 @@ use Rattle.snl_tree.specs.declared.trees.statements.Block.{Block as DeclaredBloc
 use Rattle.snl_tree.specs.declared.trees.statements.Stmt.{Stmt, Block}
 use Rattle.snl_tree.specs.view.Declarations.{declaration_view}
 use Rattle.snl_tree.specs.Definitions.{declaration}
-use Rattle.snl_tree.specs.Declarations.{DeclarationTree}
-use Rattle.snl_tree.specs.Statements.{StatementList, BlockTree, block}
 use Rattle.snl_tree.specs.reading.Statements.{statement_list}
 use Rattle.snl_tree.specs.view.Statements.{statement_view, block_view}
 use Rattle.snl_sites.specs.declared.sites.Site.{Site}

@@ -1,8 +1,7 @@
 -- The values of a list in braces.
-use Rattle.std.proofs.Common.{◌≡◌, Bool, true, false, List, [], ◌∷◌, ◌++◌, map, length, refl, ap, sym, append-nil}
+use Rattle.std.proofs.Common.{◌≡◌, Bool, true, false, List, [], ◌∷◌, ◌++◌, refl, ap, sym, append-nil}
 use Rattle.std.specs.List.{flat_map}
 use Rattle.snl_tree.specs.Expressions.{ExprTree}
-use Rattle.snl_tree.specs.Declarations.{ValueList}
 use Rattle.snl_tree.specs.view.Declarations.{value_list}
 use Rattle.snl_sites.specs.Types.{listed_values}
 use Rattle.snl_sites.specs.Scopes.{Scope}

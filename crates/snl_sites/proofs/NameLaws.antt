@@ -1,7 +1,6 @@
 -- The names that the sites of a program use are those of the program, each with its meaning in the scopes round it.
-use Rattle.std.proofs.Common.{◌≡◌, ℕ, suc, Bool, true, false, ◌||◌, ◌==◌, cond, List, [], ◌∷◌, ◌++◌, map, Option, Some, None, refl, sym, ap, ◌∙◌, append_assoc, append-nil}
+use Rattle.std.proofs.Common.{◌≡◌, ℕ, suc, Bool, true, false, ◌||◌, cond, List, [], ◌∷◌, ◌++◌, map, Option, Some, None, refl, sym, ap, ◌∙◌, append_assoc, append-nil}
 use Rattle.std.specs.List.{flat_map}
-use Rattle.snl_text.specs.declared.tokens.Pos.{Pos}
 use Rattle.snl_text.specs.declared.tokens.Token.{Token}
 use Rattle.snl_text.specs.declared.kinds.Kind.{Kind}
 use Rattle.snl_text.specs.declared.kinds.Kind.TheVariants as kind
@@ -38,16 +37,20 @@ skip x sites names e f = record { at = λ offset rest more g. ap (λ u. declared
 -- a site that uses a name
 take_name : (x : Site) (scopes : List Scope) (t : Token) (sites : List Site) (names : List Placed) → use_at x ≡ Some (t, meaning scopes t) → Fits sites names → Fits (x ∷ sites) ((scopes, t) ∷ names)
 take_name x scopes t sites names e f =
-    record { at = λ offset rest more g.
-      ap (λ u. declared_by offset u (declared_in offset (sites ++ rest))) e
-      ∙ ap (λ o. declared_by offset (Some (t, meaning scopes t)) o) (f.at offset rest more g) }
+    record {
+      at = λ offset rest more g.
+          ap (λ u. declared_by offset u (declared_in offset (sites ++ rest))) e
+          ∙ ap (λ o. declared_by offset (Some (t, meaning scopes t)) o) (f.at offset rest more g);
+    }
 
 -- two parts
 both : (a b : List Site) (m k : List Placed) → Fits a m → Fits b k → Fits (a ++ b) (m ++ k)
 both a b m k f g =
-    record { at = λ offset rest more e.
-      ap (declared_in offset) (append_assoc a b rest) ∙ f.at offset (b ++ rest) (k ++ more) (g.at offset rest more e)
-      ∙ ap (meant_at offset) (sym (append_assoc m k more)) }
+    record {
+      at = λ offset rest more e.
+          ap (declared_in offset) (append_assoc a b rest) ∙ f.at offset (b ++ rest) (k ++ more) (g.at offset rest more e)
+          ∙ ap (meant_at offset) (sym (append_assoc m k more));
+    }
 
 -- a row
 each : {A : Type 0} (f : A → List Site) (g : A → List Placed) → ((x : A) → Fits (f x) (g x)) → (l : List A) → Fits (flat_map f l) (flat_map g l)
@@ -182,7 +185,7 @@ plain c g o = optional _ _ (blocks false g c false) o
 states : (c : List Scope) (g : List Token) (a : StateTree) → Fits (p.in_state c g a) (n.in_state c a)
 states c g a =
     both _ _ _ _ (both _ _ _ _ (both _ _ _ _ (all_definitions true c a.definitions) (plain (scope_of c a.definitions ∷ c) g a.entry))
-        (clause_rows (scope_of c a.definitions ∷ c) g false a.clauses)) (plain (scope_of c a.definitions ∷ c) g a.exit)
+    (clause_rows (scope_of c a.definitions ∷ c) g false a.clauses)) (plain (scope_of c a.definitions ∷ c) g a.exit)
 
 state_rows : (c : List Scope) (g : List Token) (k : ℕ) (l : List StateTree) → Fits (p.in_states c g k l) (flat_map (n.in_state c) l)
 state_rows c g k [] = none
@@ -198,7 +201,7 @@ set_rows c g k (a ∷ l) = both _ _ _ _ (skip _ _ _ refl (state_sets c a)) (set_
 programs : (a : ProgramTree) → Fits (p.sites a) (n.names_of a)
 programs a =
     both _ _ _ _ (both _ _ _ _ (both _ _ _ _ (all_definitions false [] a.definitions) (plain (p.program_scopes a) [] a.entry))
-        (set_rows (p.program_scopes a) _ 0 a.state_sets)) (plain (p.program_scopes a) [] a.exit)
+    (set_rows (p.program_scopes a) _ 0 a.state_sets)) (plain (p.program_scopes a) [] a.exit)
 
 -- what a program's sites say of an offset is what the first name there means
 pub declared_is_meant : (a : ProgramTree) (offset : ℕ) → declared_in offset (p.sites a) ≡ meant_at offset (n.names_of a)

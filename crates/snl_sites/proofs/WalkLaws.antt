@@ -1,5 +1,5 @@
 -- The sites of forms that hold a vector.
-use Rattle.std.proofs.Common.{◌≡◌, ℕ, ◌+◌, ◌<◌, suc, Bool, List, [], ◌∷◌, ◌++◌, length, drop, get_or, map, Option, Vec, Box, Global, refl, sym, ap, ◌∙◌, append_assoc, arith}
+use Rattle.std.proofs.Common.{◌≡◌, ℕ, ◌+◌, ◌<◌, suc, Bool, List, [], ◌∷◌, ◌++◌, length, drop, get_or, map, Option, Vec, Box, Global, refl, sym, ap, ◌∙◌, append_assoc}
 use Rattle.std.proofs.lemmas.List.{drop_more}
 use Rattle.snl_text.specs.declared.tokens.Token.{Token}
 use Rattle.snl_tree.specs.declared.trees.expressions.Expr.{Expr, Chain, Call}
