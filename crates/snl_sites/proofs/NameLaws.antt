@@ -27,6 +27,7 @@ use Rattle.snl_sites.specs.Names.{Placed, if_there, meant_at}
 pub record Fits (sites : List Site) (names : List Placed) : Type 0 where
   pub at : (offset : ℕ) (rest : List Site) (more : List Placed) → declared_in offset rest ≡ meant_at offset more → declared_in offset (sites ++ rest) ≡ meant_at offset (names ++ more)
 
+-- nothing
 none : Fits [] []
 none = record { at = λ offset rest more e. e }
 
@@ -62,14 +63,17 @@ optional : {A : Type 0} (f : A → List Site) (g : A → List Placed) → ((x : 
 optional f g h None = none
 optional f g h (Some x) = h x
 
+-- a constant names nothing
 at_constants : (q : Purpose) (t : Token) (k : Kind) → Fits (at_constant q t k) []
 at_constants q t kind.Decimal = skip _ [] [] refl none
 at_constants q t _ = none
 
+-- `++` and `--`, or another prefix operator
 stepped : (b : Bool) (x : Site) (ls rs : List Site) (names : List Placed) → use_at x ≡ None → Fits ls names → Fits rs names → Fits (cond b (x ∷ ls) rs) names
 stepped true x ls rs names e f g = skip x ls names e f
 stepped false x ls rs names e f g = g
 
+-- expressions, their terms and arguments
 mutual
   expressions : (w : Bool) (c : List Scope) (q : Purpose) (e : ExprTree) → Fits (s.in_expression w c q e) (n.in_expression c e)
   expressions w c q (constant t) = at_constants q t t.kind
@@ -92,31 +96,39 @@ mutual
   arguments w c q (value e rest) = both _ _ _ _ (expressions w c q e) (arguments w c q rest)
   arguments w c q (text t rest) = skip _ _ _ refl (arguments w c q rest)
 
+-- an expression that gives a value
 read : (c : List Scope) (e : ExprTree) → Fits (s.in_value c e) (n.in_expression c e)
 read c e = expressions false c _ e
 
+-- the names that a scope declares are no uses
 declared_names : (before ds : Scope) → Fits (s.declares before ds) []
 declared_names before [] = none
 declared_names before (d ∷ ds) = skip _ _ _ refl (declared_names (before ++ d ∷ []) ds)
 
+-- the values of a list
 values : (c : List Scope) (l : ValueList) → Fits (s.in_values c l) (n.in_values c l)
 values c no_values = none
 values c (last_value e) = read c e
 values c (value_before e rest) = both _ _ _ _ (read c e) (values c rest)
 
+-- an initialiser
 initialisers : (c : List Scope) (i : InitialiserTree) → Fits (s.in_initialiser c i) (n.in_initialiser c i)
 initialisers c (single e) = read c e
 initialisers c (listed l) = values c l
 
+-- a declared name
 declarators : (c : List Scope) (in_block : Bool) (type : TypeTree) (d : DeclaratorTree) → Fits (s.in_declarator c in_block type d) (n.in_declarator c d)
 declarators c in_block type d = skip _ _ _ refl (both _ _ _ _ (each _ _ (read c) d.sizes) (optional _ _ (initialisers c) d.initial))
 
+-- a declaration
 declarations : (c : List Scope) (in_block : Bool) (d : DeclarationTree) → Fits (s.in_declaration c in_block d) (n.in_declaration c d)
 declarations c in_block d = skip _ _ _ refl (each _ _ (declarators c in_block d.type_name) d.names)
 
+-- what stands between the parentheses of a `for`
 headers : (c : List Scope) (h : Header) → Fits (s.in_header c h) (n.in_header c h)
 headers c h = both _ _ _ _ (both _ _ _ _ (optional _ _ (read c) h.start) (optional _ _ (read c) h.condition)) (optional _ _ (read c) h.step)
 
+-- statements and blocks
 mutual
   statements : (k : Bool) (g : List Token) (c : List Scope) (l : Bool) (a : StatementTree) → Fits (s.in_statement k g c l a) (n.in_statement c a)
   statements k g c l (nested b) = blocks k g c l b
@@ -139,12 +151,15 @@ mutual
       both _ _ _ _ (both _ _ [] _ (declared_names [] (scope_of c (map declaration ds))) (each _ _ (declarations (scope_of c (map declaration ds) ∷ c) true) ds))
       (statement_lists k g (scope_of c (map declaration ds) ∷ c) l all)
 
+-- the place of a definition
 places : (sort : Sort) (word : Token) (c : List Scope) (a : PlaceTree) (list : Option ℕ) → Fits (p.defined sort word c a list) (n.in_place c a)
 places sort word c a list = take_name _ c a.name _ _ refl (optional _ _ (read c) a.subscript)
 
+-- an event flag
 flags : (c : List Scope) (f : FlagTree) → Fits (p.in_flag c f) (n.in_flag c f)
 flags c f = take_name _ c f.name [] [] refl none
 
+-- the size of a queue names nothing
 queue_sizes : (o : Option Token) → Fits (s.maybe p.in_size o) []
 queue_sizes None = none
 queue_sizes (Some t) = skip _ _ _ refl none
@@ -154,6 +169,7 @@ alone : (a : List Site) (m : List Placed) (b : List Site) → Fits a m → Fits 
 alone a m b f g =
     record { at = λ offset rest more e. ap (declared_in offset) (append_assoc a b rest) ∙ f.at offset (b ++ rest) more (g.at offset rest more e) }
 
+-- a definition
 definitions : (in_state : Bool) (c : List Scope) (d : DefinitionTree) → Fits (p.in_definition in_state c d) (n.in_definition c d)
 definitions in_state c (declaration d) = declarations c false d
 definitions in_state c (assign a) = places sorts.Assign a.word c a.place (listed_names a.channels)
@@ -164,40 +180,50 @@ definitions in_state c (sync_queue q) =
 definitions in_state c (event_flags names) = none
 definitions in_state c (setting o) = skip _ _ _ refl none
 
+-- definitions in their scope
 all_definitions : (in_state : Bool) (c : List Scope) (ds : List DefinitionTree) → Fits (p.in_definitions in_state c ds) (n.in_definitions c ds)
 all_definitions in_state c ds = both _ _ [] _ (declared_names [] (scope_of c ds)) (each _ _ (definitions in_state (scope_of c ds ∷ c)) ds)
 
+-- a target names no variable
 targets : (g : List Token) (t : TargetTree) → Fits (p.in_target g t) []
 targets g (to_state x) = skip _ _ _ refl none
 targets g to_exit = none
 
+-- a clause
 clauses : (c : List Scope) (g : List Token) (blocked : Bool) (a : ClauseTree) → Fits (p.in_clause c g blocked a) (n.in_clause c a)
 clauses c g blocked a =
     skip _ _ _ refl (alone _ _ _ (both _ _ _ _ (optional _ _ (expressions true c _) a.condition) (blocks true g c false a.block)) (targets g a.target))
 
+-- the clauses of a state
 clause_rows : (c : List Scope) (g : List Token) (blocked : Bool) (l : List ClauseTree) → Fits (p.in_clauses c g blocked l) (flat_map (n.in_clause c) l)
 clause_rows c g blocked [] = none
 clause_rows c g blocked (a ∷ l) = both _ _ _ _ (clauses c g blocked a) (clause_rows c g (blocked || p.is_always_true c a) l)
 
+-- a block that may be missing
 plain : (c : List Scope) (g : List Token) (o : Option BlockTree) → Fits (s.maybe (p.in_plain_block c g) o) (if_there (n.in_block c) o)
 plain c g o = optional _ _ (blocks false g c false) o
 
+-- a state
 states : (c : List Scope) (g : List Token) (a : StateTree) → Fits (p.in_state c g a) (n.in_state c a)
 states c g a =
     both _ _ _ _ (both _ _ _ _ (both _ _ _ _ (all_definitions true c a.definitions) (plain (scope_of c a.definitions ∷ c) g a.entry))
     (clause_rows (scope_of c a.definitions ∷ c) g false a.clauses)) (plain (scope_of c a.definitions ∷ c) g a.exit)
 
+-- the states from a number on
 state_rows : (c : List Scope) (g : List Token) (k : ℕ) (l : List StateTree) → Fits (p.in_states c g k l) (flat_map (n.in_state c) l)
 state_rows c g k [] = none
 state_rows c g k (a ∷ l) = both _ _ _ _ (skip _ _ _ refl (states c g a)) (state_rows c g (suc k) l)
 
+-- a state set
 state_sets : (c : List Scope) (a : StateSetTree) → Fits (p.in_state_set c a) (n.in_state_set c a)
 state_sets c a = both _ _ _ _ (all_definitions false c a.definitions) (state_rows (scope_of c a.definitions ∷ c) _ 0 a.states)
 
+-- the state sets from a number on
 set_rows : (c : List Scope) (g : List Token) (k : ℕ) (l : List StateSetTree) → Fits (p.in_state_sets c g k l) (flat_map (n.in_state_set c) l)
 set_rows c g k [] = none
 set_rows c g k (a ∷ l) = both _ _ _ _ (skip _ _ _ refl (state_sets c a)) (set_rows c g (suc k) l)
 
+-- a program
 programs : (a : ProgramTree) → Fits (p.sites a) (n.names_of a)
 programs a =
     both _ _ _ _ (both _ _ _ _ (both _ _ _ _ (all_definitions false [] a.definitions) (plain (p.program_scopes a) [] a.entry))
