@@ -7,8 +7,6 @@ use Rattle.snl_tree.specs.declared.trees.statements.Block.{Block as DeclaredBloc
 use Rattle.snl_tree.specs.declared.trees.statements.Stmt.{Stmt, Block}
 use Rattle.snl_tree.specs.view.Declarations.{declaration_view}
 use Rattle.snl_tree.specs.Definitions.{declaration}
-use Rattle.snl_tree.specs.Declarations.{DeclarationTree}
-use Rattle.snl_tree.specs.Statements.{StatementList, BlockTree, block}
 use Rattle.snl_tree.specs.reading.Statements.{statement_list}
 use Rattle.snl_tree.specs.view.Statements.{statement_view, block_view}
 use Rattle.snl_sites.specs.declared.sites.Site.{Site}
@@ -16,6 +14,7 @@ use Rattle.snl_sites.specs.Scopes.{Scope, scope_of}
 use Rattle.snl_sites.specs.Sites.{declares, in_declaration, in_statement, in_statements, in_block}
 use Rattle.snl_tree.proofs.code.StatementRows.{view_block}
 
+-- a block: its names, its declarations, its statements
 pub block_noted : (c : Bool) (g : List Token) (s : List Scope) (l : Bool) (b : DeclaredBlock) (ds es : List Declaration) (ss : List Stmt) (scope : Scope) (old mid after new : List Site)
     → ds ≡ b.declarations.items → es ≡ b.declarations.items → ss ≡ b.statements.items
     → scope ≡ scope_of s (map declaration (map declaration_view ds))
@@ -35,6 +34,7 @@ block_noted c g s l b ds es ss scope old mid after new ed ee es' ec em eb en =
     ∙ ap (λ x. x ++ in_statements c g (inside ∷ s) l all) (append_assoc old (declares [] inside) (flat_map (in_declaration (inside ∷ s) true) views))
     ∙ append_assoc old (declares [] inside ++ flat_map (in_declaration (inside ∷ s) true) views) (in_statements c g (inside ∷ s) l all)
 
+-- a block that stands among statements
 pub nested_noted : (c : Bool) (g : List Token) (s : List Scope) (l : Bool) (a : Stmt) (b : DeclaredBlock) (old new : List Site) → a ≡ Block b
     → new ≡ old ++ in_block c g s l (block_view b) → new ≡ old ++ in_statement c g s l (statement_view a)
 nested_noted c g s l a b old new ea en = en ∙ ap (λ x. old ++ in_statement c g s l x) (sym (ap statement_view ea ∙ view_block b))

@@ -8,6 +8,7 @@ use Rattle.snl_sites.specs.declared.constants.Constant.{Constant}
 use Rattle.snl_sites.specs.Constants.{constant_of, constant_chain}
 use Rattle.snl_tree.proofs.code.Rows.{view_chain}
 
+-- a chain of which the first operand is computed is worth what the whole is
 pub chain_starts : (h : List ℕ → Bool) (e d : Expr) (first : Box Expr Global) (terms : Vec Term Global) (items : List Term) (left : Constant) → e ≡ Chain first terms
     → d ≡ first.value → items ≡ terms.items → left ≡ constant_of h (view d)
     → constant_chain h (term_list (map pair_of items)) left ≡ constant_of h (view e)

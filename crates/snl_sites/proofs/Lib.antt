@@ -8,3 +8,4 @@ pub mod ProgramLaws
 pub mod VariableLaws
 pub mod Steps
 pub mod BindingLaws
+pub mod NameLaws

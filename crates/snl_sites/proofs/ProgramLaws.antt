@@ -22,6 +22,7 @@ use Rattle.snl_sites.specs.Scopes.{Scope, scope_of}
 use Rattle.snl_sites.specs.Sites.{declares, maybe, in_expression, in_block}
 use Rattle.snl_sites.specs.Programs.{in_definition, in_definitions, in_plain_block, in_target, is_always_true, in_clause, in_clauses, in_state, in_all_states, in_state_set, in_all_sets, sites}
 
+-- four parts in a row
 four_parts : (old a b c d : List Site) → (((old ++ a) ++ b) ++ c) ++ d ≡ old ++ (((a ++ b) ++ c) ++ d)
 four_parts old a b c d = simp append_assoc
 

@@ -14,6 +14,7 @@ use Rattle.snl_sites.specs.Scopes.{first_of, is_spelled, or_in}
 use Rattle.snl_sites.specs.Sites.{declares, is_flag, words_of}
 use Rattle.snl_sites.specs.Tables.{found_in, only}
 
+-- what is not there
 pub none_of : {A : Type 0} (o : Option A) → is_some o ≡ false → o ≡ None
 none_of None e = refl
 none_of (Some t) e = cc
@@ -32,12 +33,14 @@ first_of_last q [] t = refl
 first_of_last q (s ∷ ts) t =
     elim (is_spelled q s.name) as (λ b. cond b (Some s) (first_of q (ts ++ t ∷ [])) ≡ or_in (cond b (Some s) (first_of q ts)) (only q t)) [ true ↦ refl | false ↦ first_of_last q ts t ]
 
+-- what is found after a name was added
 pub found_after : {S : Type 0} (m n : HashMap (Bor (List ℕ)) Declared S) (t : Declared) → get_by (λ key. pointwise nat_eq t.name.text.now key.now) m ≡ None
     → n.entries ≡ insert_entry (λ a b. pointwise nat_eq a.now b.now) m.entries t.name.text t → (q : List ℕ) → found_in n q ≡ or_in (found_in m q) (only q t)
 found_after m n t none e q =
     ap (lookup (λ key. pointwise nat_eq q key.now)) (e ∙ insert_entry-new (λ a b. pointwise nat_eq a.now b.now) m t.name.text t none)
     ∙ lookup_last q t m.entries
 
+-- one more name is in the table
 pub table_step : (names : List Declared) (i : ℕ) (d : Declared) → i < length names → (before after : List ℕ → Option Declared)
     → ((q : List ℕ) → before q ≡ first_of q (take i names))
     → ((q : List ℕ) → after q ≡ or_in (before q) (only q (get_or names i d)))
@@ -46,6 +49,7 @@ table_step names i d h before after inv step q =
     step q ∙ ap (λ o. or_in o (only q (get_or names i d))) (inv q)
     ∙ sym (first_of_last q (take i names) (get_or names i d)) ∙ ap (first_of q) (sym (take_more names i d h))
 
+-- one more name is noted
 pub declared_step : (names : List Declared) (i : ℕ) (d : Declared) → i < length names → (before : List ℕ → Option Declared) (old new all : List Site)
     → ((q : List ℕ) → before q ≡ first_of q (take i names))
     → old ++ declares (take i names) (drop i names) ≡ all

@@ -1,5 +1,5 @@
 -- The variables of definitions, blocks, states, state sets and programs, from those of their parts.
-use Rattle.std.proofs.Common.{◌≡◌, ℕ, ◌<◌, ◌≤◌, List, [], ◌∷◌, ◌++◌, length, get_or, map, slice_get, Option, Some, None, option_map, sym, ap, ◌∙◌, append_assoc}
+use Rattle.std.proofs.Common.{◌≡◌, ℕ, ◌<◌, ◌≤◌, List, [], ◌∷◌, ◌++◌, length, get_or, map, slice_get, Some, None, option_map, sym, ap, ◌∙◌, append_assoc}
 use Rattle.std.proofs.lemmas.Option.{slice_get-map, slice_get-get_or, slice_get_past}
 use Rattle.std.specs.List.{flat_map}
 use Rattle.snl_tree.specs.declared.trees.declarations.Declaration.{Declaration}
@@ -21,6 +21,7 @@ use Rattle.snl_tree.proofs.code.StatementRows.{view_block}
 use Rattle.snl_sites.specs.Scopes.{Scope, scope_of}
 use Rattle.snl_sites.specs.Variables.{Held, by_declaration, by_definition, by_definitions, by_statement, by_statements, by_block, by_maybe, by_clause, by_state, by_state_set, by_numbered, for_first, variables_of}
 
+-- four parts in a row
 four_parts : (old a b c d : List Held) → (((old ++ a) ++ b) ++ c) ++ d ≡ old ++ (((a ++ b) ++ c) ++ d)
 four_parts old a b c d = simp append_assoc
 
@@ -109,5 +110,6 @@ program_held p set ds ts scope old one two three new ed et es e1 e2 e3 en =
 pub some_set : (sets : List StateSet) (k : ℕ) (g : StateSet) → k < length sets → g ≡ get_or sets k g → slice_get (map state_set_view sets) k ≡ Some (state_set_view g)
 some_set sets k g h e = slice_get-map state_set_view sets k ∙ ap (option_map state_set_view) (slice_get-get_or sets k g h ∙ ap Some (sym e))
 
+-- past the last state set there is none
 pub no_set : (sets : List StateSet) (k : ℕ) → length sets ≤ k → slice_get (map state_set_view sets) k ≡ None
 no_set sets k h = slice_get-map state_set_view sets k ∙ ap (option_map state_set_view) (slice_get_past sets k h)

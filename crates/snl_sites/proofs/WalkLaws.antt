@@ -1,5 +1,5 @@
 -- The sites of forms that hold a vector.
-use Rattle.std.proofs.Common.{◌≡◌, ℕ, ◌+◌, ◌<◌, suc, Bool, List, [], ◌∷◌, ◌++◌, length, drop, get_or, map, Option, Vec, Box, Global, refl, sym, ap, ◌∙◌, append_assoc, arith}
+use Rattle.std.proofs.Common.{◌≡◌, ℕ, ◌+◌, ◌<◌, suc, Bool, List, [], ◌∷◌, ◌++◌, length, drop, get_or, map, Option, Vec, Box, Global, refl, sym, ap, ◌∙◌, append_assoc}
 use Rattle.std.proofs.lemmas.List.{drop_more}
 use Rattle.snl_text.specs.declared.tokens.Token.{Token}
 use Rattle.snl_tree.specs.declared.trees.expressions.Expr.{Expr, Chain, Call}
@@ -17,6 +17,7 @@ use Rattle.snl_sites.specs.Purposes.{inner, argument, at_call, at_format}
 use Rattle.snl_sites.specs.Sites.{in_expression, in_terms, in_arguments}
 use Rattle.snl_tree.proofs.code.Rows.{view_chain, view_call}
 
+-- how many arguments there are
 pub count_list : (l : List Argument) → count_of (list_before l no_arguments) ≡ length l
 count_list [] = refl
 count_list (Value' p e ∷ l) = ap suc (count_list l)
@@ -59,10 +60,12 @@ argument_step w s p all i a before now start at h ea inv en ex =
     ap (λ x. x ++ rest) en ∙ append_assoc before at rest ∙ ap (λ x. before ++ x) (sym ex)
     ∙ ap (λ (l : List Argument). before ++ in_arguments w s p (list_before l no_arguments)) (ap (λ x. x ∷ drop (i + 1) all) ea ∙ sym (drop_more all i a h)) ∙ inv
 
+-- an expression as an argument
 pub value_noted : (w : Bool) (s : List Scope) (p : Purpose) (a : Argument) (b : Box Expr Global) (rest : List Argument) → a ≡ Value b
     → in_arguments w s p (list_before (a ∷ rest) no_arguments) ≡ in_expression w s p (view b.value) ++ in_arguments w s p (list_before rest no_arguments)
 value_noted w s p a b rest e = ap (λ (x : Argument). in_arguments w s p (list_before (x ∷ rest) no_arguments)) e
 
+-- a string as an argument
 pub text_noted : (w : Bool) (s : List Scope) (p : Purpose) (a : Argument) (t : Token) (rest : List Argument) (n : ℕ) → a ≡ Text t → n ≡ length rest
     → in_arguments w s p (list_before (a ∷ rest) no_arguments) ≡ (at_format p t n ∷ []) ++ in_arguments w s p (list_before rest no_arguments)
 text_noted w s p a t rest n e en =

@@ -1,25 +1,22 @@
 -- Examples: constants, meanings and sites of small trees, computed.
-use Rattle.std.specs.Prelude.{◌≡◌, ℕ, pos, negsuc, Bool, true, false, List, [], ◌∷◌, Option, Some, None, Result, Ok, Err, codes}
-use Rattle.snl_text.specs.declared.tokens.Pos.{Pos}
+use Rattle.std.specs.Prelude.{◌≡◌, ℕ, pos, negsuc, Bool, true, false, List, [], ◌∷◌, Some, None, Ok, Err, codes}
 use Rattle.snl_text.specs.declared.tokens.Token.{Token}
 use Rattle.snl_text.specs.declared.kinds.Kind.{Kind}
 use Rattle.snl_text.specs.declared.kinds.Kind.TheVariants as kind
-use Rattle.snl_tree.specs.Expressions.{ExprTree, constant, parenthesized, named, element, call, chain, prefix, no_terms, term, no_arguments, value, text}
-use Rattle.snl_tree.specs.Declarations.{DeclaratorTree, DeclarationTree, TypeTree}
-use Rattle.snl_tree.specs.Statements.{StatementTree, while_loop, break_loop, no_statements}
+use Rattle.snl_tree.specs.Expressions.{ExprTree, constant, parenthesized, named, call, chain, prefix, no_terms, term, no_arguments, value, text}
+use Rattle.snl_tree.specs.Declarations.{DeclaratorTree}
+use Rattle.snl_tree.specs.Statements.{while_loop, break_loop}
 use Rattle.snl_tree.specs.Definitions.{DefinitionTree, declaration, event_flags}
 use Rattle.snl_sites.specs.declared.arithmetic.Fault.TheVariants.{Overflow, Division, Shift}
 use Rattle.snl_sites.specs.declared.constants.Constant.TheVariants.{Varies, Faults, Worth}
-use Rattle.snl_sites.specs.declared.scopes.Declared.{Declared}
 use Rattle.snl_sites.specs.declared.sites.Meaning.TheVariants.{Variable, Flag, Number, Nothing}
 use Rattle.snl_sites.specs.declared.sites.Purpose.TheVariants.{Read, Ignored}
-use Rattle.snl_sites.specs.declared.sites.Size.TheVariants.{Scalar, Array, TooLong, Wrong}
-use Rattle.snl_sites.specs.declared.sites.Site.{Site}
+use Rattle.snl_sites.specs.declared.sites.Size.TheVariants.{Scalar, Array, Wrong}
 use Rattle.snl_sites.specs.declared.sites.Site.TheVariants.{Use, Decimal, Call, Format, Leave}
 use Rattle.snl_sites.specs.Arithmetic.{computed}
 use Rattle.snl_sites.specs.Constants.{constant_of}
 use Rattle.snl_sites.specs.Numbered.{number_of}
-use Rattle.snl_sites.specs.Scopes.{Scope, scope_of, meaning}
+use Rattle.snl_sites.specs.Scopes.{scope_of, meaning}
 use Rattle.snl_sites.specs.Sites.{in_expression, in_statement}
 
 -- a token at an offset

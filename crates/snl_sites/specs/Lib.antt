@@ -16,5 +16,6 @@ pub mod Tables
 pub mod Chains
 pub mod NumberTables
 pub mod Held
+pub mod Names
 pub mod Laws
 pub mod Examples

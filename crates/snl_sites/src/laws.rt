@@ -1,6 +1,6 @@
 //! Laws of the definitions that the sites speak of, and examples. Each function is its contract.
 
-ghost use Rattle.snl_sites.specs.Laws.{BindingIsOne, PlaceIsMeant};
+ghost use Rattle.snl_sites.specs.Laws.{BindingIsOne, DeclaredIsMeant, PlaceIsMeant};
 ghost use Rattle.snl_sites.specs.Examples.{ArithmeticExamples, ConstantExamples, ScopeExamples, SiteExamples};
 
 /// What a name means by the relation is what it is bound to.
@@ -11,6 +11,11 @@ pub fn binding_is_one()
 /// The declaration whose place a site gives is the one that the name means.
 pub fn place_is_meant()
     ensures { PlaceIsMeant }
+{}
+
+/// What a program's sites say of an offset is what the first name there means.
+pub fn declared_is_meant()
+    ensures { DeclaredIsMeant }
 {}
 
 /// The ends of the range, signs and shifts.

@@ -29,8 +29,9 @@ mod uses;
 mod variables;
 
 pub use arithmetic::{Fault, computed, computed_prefix};
-pub use calls::Form;
-pub use constants::{Constant, constant_of};
+pub use calls::{Form, form_of};
+pub use constants::{Constant, constant_of, predefined};
+pub use initialisers::range_of;
 pub use programs::sites_of;
 pub use scopes::{Declared, Scope, Scopes};
 pub use set_variables::variables_of;
