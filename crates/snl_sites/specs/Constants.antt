@@ -59,7 +59,7 @@ joined AmpersandAmpersand a b = then_with a b (λ x. if is_zero x then Worth (po
 joined BarBar a b = then_with a b (λ x. if is_zero x then as_truth b else Worth (pos 1))
 joined op a b = then_with a b (λ x. applied (λ y. outcome (computed op x y)) b)
 
--- `c ? a : b`, all of them constant; only the chosen one may fault.
+-- A conditional, all of whose parts are constant; only the chosen one may fault.
 abbrev pub chosen : Constant → Constant → Constant → Constant
 chosen c Varies b = Varies
 chosen c a Varies = Varies
