@@ -32,6 +32,7 @@ pub use arithmetic::{Fault, computed, computed_prefix};
 pub use calls::{Form, form_of};
 pub use constants::{Constant, constant_of, predefined};
 pub use initialisers::range_of;
+pub use options::{Options, is_program_letter};
 pub use programs::sites_of;
 pub use scopes::{Declared, Scope, Scopes};
 pub use set_variables::variables_of;

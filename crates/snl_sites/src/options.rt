@@ -7,8 +7,72 @@ ghost use Rattle.snl_sites.specs.Options as spec;
 use snl_text::Kind;
 use snl_tree::Setting;
 
+/// The signs in force of the letters that change what is said of a program or how it starts: `true` for `+`, None where no
+/// option has the letter.
+#[derive(Clone, Copy)]
+pub struct Options {
+    /// Safe mode is asked for.
+    pub s: Option<bool>,
+    /// The program waits for its channels before it starts.
+    pub c: Option<bool>,
+    /// Names that are not used have warnings.
+    pub u: Option<bool>,
+    /// Warnings are given.
+    pub w: Option<bool>,
+}
+
+/// Whether one of the letters is this one.
+fn has_letter(letters: &[u8], letter: u8) -> bool
+    ensures { result ≡ spec.is_among letters.now letter }
+{
+    for next in letters {
+        if letter == *next {
+            return true;
+        }
+    }
+    false
+}
+
+/// The sign of a letter after an option with this sign and these letters, where `before` was in force.
+fn sign_after(on: bool, letters: &[u8], letter: u8, before: Option<bool>) -> Option<bool>
+    ensures { result ≡ spec.sign_after on letters.now letter before }
+{
+    if has_letter(letters, letter) {
+        Some(on)
+    } else {
+        before
+    }
+}
+
+impl Options {
+    /// The signs where there is no option.
+    pub fn none() -> Options
+        ensures { result ≡ spec.no_options }
+    {
+        Options {
+            s: None,
+            c: None,
+            u: None,
+            w: None,
+        }
+    }
+
+    /// The signs after one more option with this sign, `true` for `+`, and these letters: of each letter the last sign
+    /// is in force.
+    pub fn after(self, on: bool, letters: &[u8]) -> Options
+        ensures { result ≡ spec.after_option on letters.now self }
+    {
+        Options {
+            s: sign_after(on, letters, b's', self.s),
+            c: sign_after(on, letters, b'c', self.c),
+            u: sign_after(on, letters, b'u', self.u),
+            w: sign_after(on, letters, b'w', self.w),
+        }
+    }
+}
+
 /// Whether it is a letter of the program's options, with `+` or with `-`.
-fn is_program_letter(on: bool, letter: u8) -> bool
+pub fn is_program_letter(on: bool, letter: u8) -> bool
     ensures { result ≡ spec.is_program_letter on letter }
 {
     match letter {
