@@ -26,18 +26,18 @@ use Rattle.snl_check.specs.Messages.{Said, IsInOrder}
 use Rattle.snl_check.specs.Rules.{IsSaid, IsAccepted}
 use Rattle.snl_machine.specs.declared.machine.Machine.{Machine}
 use Rattle.snl_machine.specs.First.{first_world}
-use Rattle.snl_machine.specs.Held.{IsMachineOf, program_held, world_held}
+use Rattle.snl_machine.specs.MachineOf.{IsMachineOf, program_held, world_held}
 use Rattle.snl_machine.specs.Numbering.{numbered}
 use Rattle.snl_machine.specs.Program.{Program as Numbered}
 use Rattle.snl_machine.specs.World.{World}
 use Rattle.snl_trace.specs.Run.{rules_by, rules_of}
-use Rattle.snl_trace.specs.Took.{RunsOver, standing}
+use Rattle.snl_trace.specs.RunOver.{RunsOver, standing}
 use Rattle.snl_trace.specs.declared.runner.End.{End}
 use Rattle.snc.specs.declared.jobs.Status.TheVariants.{Well, SourceErrors}
-use Rattle.snc.specs.Judging.{AreNamesBefore, ReadsNames, HasFault, HasTokens, IsJudged, IsSaidOf, IsTreeSaid, NoErrors, error_at, fault_at, names_of, nesting_error, not_yet, syntax_error}
+use Rattle.snc.specs.Judging.{AreNamesBefore, ReadsNames, HasFault, HasTokens, IsJudged, IsSaidOf, IsTreeSaid, NoErrors, error_at, names_of, nesting_error, not_yet, syntax_error}
 use Rattle.snc.specs.Outcomes.{IsReport, IsRunOf, IsSession, at_first, status_of}
 use Rattle.snc.specs.Texts.{text_of}
-use Rattle.snc.specs.Told.{AreNamesOf, AreTokensTold, IsFaultTold, IsProgramTold, IsTreeTold}
+use Rattle.snc.specs.ReportSteps.{AreNamesOf, AreTokensTold, IsFaultTold, IsProgramTold, IsTreeTold}
 
 -- an error alone
 lone_error : (messages : List Said) (pos : Pos) (number : ℕ) (text : List ℕ) → messages ≡ error_at pos number text ∷ [] → NoErrors messages → ⊥
@@ -148,9 +148,10 @@ judged_tokens word source text lexed checked has w = record {
   same = w.same;
 }
 
-is_error : (lexed : Lexed) (number : ℕ) (words at_end : List ℕ) (o : Option Token) → (fault_at lexed number words at_end o).severity ≡ Error
-is_error lexed number words at_end None = refl
-is_error lexed number words at_end (Some t) = refl
+-- E01 is an error, wherever it stands
+is_error : (lexed : Lexed) (o : Option Token) → (syntax_error lexed o).severity ≡ Error
+is_error lexed None = refl
+is_error lexed (Some t) = refl
 
 -- an error alone
 error_alone : (message : Said) → message.severity ≡ Error → NoErrors (message ∷ []) → ⊥
@@ -170,17 +171,19 @@ told_alone word text names lexed message checked named error said is none = subs
 
 -- tokens that are no program
 pub told_stuck : (word text : List ℕ) (names : List (List ℕ)) (lexed : Lexed) (k : ℕ) (checked : Option Checked) → names ≡ names_of lexed
-    → IsUnexpected programs 64 lexed.tokens.items k → text ≡ text_of word names (syntax_error lexed (slice_get lexed.tokens.items k) ∷ []) → checked ≡ None → AreTokensTold word lexed text (tree_of checked)
+    → IsUnexpected programs 64 lexed.tokens.items k → text ≡ text_of word names (syntax_error lexed (slice_get lexed.tokens.items k) ∷ []) → checked ≡ None
+    → AreTokensTold word lexed text (tree_of checked)
 told_stuck word text names lexed k checked named read is none =
-    told_alone word text names lexed (syntax_error lexed (slice_get lexed.tokens.items k)) checked named (is_error lexed 1 (codes "syntax error at '") (codes "syntax error at end of file") (slice_get lexed.tokens.items k))
+    told_alone word text names lexed (syntax_error lexed (slice_get lexed.tokens.items k)) checked named (is_error lexed (slice_get lexed.tokens.items k))
     (inr (inl record { k = k; read = read; messages_are = refl; tree_is = refl })) is none
 
 -- tokens that are nested too deep
-pub told_deep : (word text : List ℕ) (names : List (List ℕ)) (lexed : Lexed) (k : ℕ) (checked : Option Checked) → names ≡ names_of lexed
-    → IsTooDeep programs 64 lexed.tokens.items k → text ≡ text_of word names (nesting_error lexed (slice_get lexed.tokens.items k) ∷ []) → checked ≡ None → AreTokensTold word lexed text (tree_of checked)
-told_deep word text names lexed k checked named read is none =
-    told_alone word text names lexed (nesting_error lexed (slice_get lexed.tokens.items k)) checked named (is_error lexed 2 (codes "nesting deeper than 64 at '") (codes "nesting deeper than 64 at end of file") (slice_get lexed.tokens.items k))
-    (inr (inr record { k = k; read = read; messages_are = refl; tree_is = refl })) is none
+pub told_deep : (word text : List ℕ) (names : List (List ℕ)) (lexed : Lexed) (k : ℕ) (token : Token) (checked : Option Checked) → names ≡ names_of lexed
+    → IsTooDeep programs 64 lexed.tokens.items k → slice_get lexed.tokens.items k ≡ Some token → text ≡ text_of word names (nesting_error token ∷ []) → checked ≡ None
+    → AreTokensTold word lexed text (tree_of checked)
+told_deep word text names lexed k token checked named read at is none =
+    told_alone word text names lexed (nesting_error token) checked named refl
+    (inr (inr record { k = k; read = read; token = token; at = at; messages_are = refl; tree_is = refl })) is none
 
 some_tree : (o : Option Program) (p : Program) → IfSome o (λ q. q ≡ p) → IfSome o (λ q. Some p ≡ Some q)
 some_tree None p h = tt

@@ -60,18 +60,18 @@ pub record HasTokens (source : List ℕ) (lexed : Lexed) : Type 0 where
   pub within : length source ≤ 1048576
   pub is : IsLexed source lexed
 
--- what is said at a token, or at the end of the file
-abbrev pub fault_at : Lexed → ℕ → List ℕ → List ℕ → Option Token → Said
-fault_at lexed number words at_end None = error_at lexed.eof number at_end
-fault_at lexed number words at_end (Some t) = error_at t.pos number (words ++ (t.text.now ++ codes "'"))
+-- an error at a token, whose text stands after some words, with a quote after it
+abbrev pub token_error : ℕ → List ℕ → Token → Said
+token_error number words t = error_at t.pos number (words ++ (t.text.now ++ codes "'"))
 
 -- E01, at a token or at the end of the file
 abbrev pub syntax_error : Lexed → Option Token → Said
-syntax_error lexed o = fault_at lexed 1 (codes "syntax error at '") (codes "syntax error at end of file") o
+syntax_error lexed None = error_at lexed.eof 1 (codes "syntax error at end of file")
+syntax_error lexed (Some t) = token_error 1 (codes "syntax error at '") t
 
--- E02, at a token (what is nested too deep is never the end of the file)
-abbrev pub nesting_error : Lexed → Option Token → Said
-nesting_error lexed o = fault_at lexed 2 (codes "nesting deeper than 64 at '") (codes "nesting deeper than 64 at end of file") o
+-- E02, at a token
+abbrev pub nesting_error : Token → Said
+nesting_error t = token_error 2 (codes "nesting deeper than 64 at '") t
 
 -- E05, at the word `program`
 abbrev pub not_yet : ProgramTree → Said
@@ -88,7 +88,9 @@ pub record IsStuck (lexed : Lexed) (messages : List Said) (tree : Option Program
 pub record IsNestedDeeper (lexed : Lexed) (messages : List Said) (tree : Option Program) : Type 0 where
   pub k : ℕ
   pub read : IsTooDeep programs 64 lexed.tokens.items k
-  pub messages_are : messages ≡ nesting_error lexed (slice_get lexed.tokens.items k) ∷ []
+  pub token : Token
+  pub at : slice_get lexed.tokens.items k ≡ Some token
+  pub messages_are : messages ≡ nesting_error token ∷ []
   pub tree_is : tree ≡ None
 
 -- all that is said of a program of the first language, which is the tree of the checks

@@ -1,4 +1,4 @@
 pub mod Judging
 pub mod Outcomes
 pub mod Texts
-pub mod Told
+pub mod ReportSteps

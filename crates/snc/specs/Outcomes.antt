@@ -8,7 +8,7 @@ use Rattle.snl_machine.specs.Numbering.{numbered}
 use Rattle.snl_machine.specs.World.{World}
 use Rattle.snl_trace.specs.Ends.{source_failed, sink_failed}
 use Rattle.snl_trace.specs.Run.{rules_by}
-use Rattle.snl_trace.specs.Took.{Place, RunsOver}
+use Rattle.snl_trace.specs.RunOver.{Place, RunsOver}
 use Rattle.snl_trace.specs.declared.runner.End.{End}
 use Rattle.snl_trace.specs.declared.runner.End.TheVariants as end
 use Rattle.snc.specs.Judging.{Finds, NoErrors}

@@ -19,7 +19,8 @@ pub struct Names<'n, 'a> {
 
 /// What a file is called.
 fn file_name<'n>(names: Names<'n, 'n>, file: usize) -> &'n [u8]
-    ensures { result.now ≡ file_name names.entry.read.now (map (λ name. name.now) names.entry.marked.now) file }
+    ensures { result.now ≡ file_name names.entry.read.now (map
+        (λ name. name.now) names.entry.marked.now) file }
 {
     if file == 0 {
         return names.read;
@@ -48,7 +49,8 @@ fn head(severity: Severity, number: u8) -> &'static [u8]
 
 /// Adds pieces, one behind the other.
 fn push_all(out: &mut Vec<u8>, pieces: &[&[u8]]) -> Result<(), AllocError>
-    ensures { OnOk result (out.new.items ≡ out.old.items ++ concat (map (λ piece. piece.now) pieces.now)) }
+    ensures { OnOk result (out.new.items
+        ≡ out.old.items ++ concat (map (λ piece. piece.now) pieces.now)) }
 {
     for piece in pieces {
         out.extend_from_slice(piece)?;

@@ -2,9 +2,9 @@
 
 ghost use Rattle.std.specs.Prelude.{◌≡◌, [], ◌∷◌, ◌++◌, map, take, codes, IfOk, slice_get};
 ghost use Rattle.std.specs.Option.{option_map};
-ghost use Rattle.snc.specs.Judging.{IsJudged, error_at, fault_at, nesting_error, syntax_error};
+ghost use Rattle.snc.specs.Judging.{IsJudged, error_at, nesting_error, syntax_error, token_error};
 ghost use Rattle.snc.specs.Texts.{text_of};
-ghost use Rattle.snc.specs.Told.{AreNamesOf, AreTokensTold, IsFaultTold, IsProgramTold, IsTreeTold};
+ghost use Rattle.snc.specs.ReportSteps.{AreNamesOf, AreTokensTold, IsFaultTold, IsProgramTold, IsTreeTold};
 ghost use Rattle.snl_tree.specs.view.Programs.{program_view};
 
 use crate::lines::{Names, push_line, push_lines};
@@ -23,7 +23,8 @@ pub struct Findings<'a> {
 
 /// Reads and checks a source. A lexical fault has its one message alone, and so has a syntax fault.
 pub fn judged<'a>(alloc: Global, source: &'a [u8], file: &[u8]) -> Result<Findings<'a>, AllocError>
-    ensures { IfOk result (λ f. IsJudged file.now source.now f.messages.items (option_map (λ c. c.program) f.checked)) }
+    ensures { IfOk result (λ f. IsJudged file.now source.now f.messages.items
+        (option_map (λ c. c.program) f.checked)) }
 {
     match lex(alloc, source) {
         Ok(lexed) => {
@@ -87,7 +88,8 @@ fn tokens_judged<'a>(
     lexed: &Lexed<'a>,
     file: &[u8],
 ) -> Result<Findings<'a>, AllocError>
-    ensures { IfOk result (λ f. AreTokensTold file.now lexed.now f.messages.items (option_map (λ c. c.program) f.checked)) }
+    ensures { IfOk result (λ f. AreTokensTold file.now lexed.now f.messages.items
+        (option_map (λ c. c.program) f.checked)) }
 {
     let names = Names {
         read: file,
@@ -104,7 +106,7 @@ fn tokens_judged<'a>(
             Ok(found)
         }
         Err(ParseFault::TooDeep(k)) => {
-            let found = nesting_fault(alloc, lexed, k, names)?;
+            let found = nesting_fault(alloc, lexed.tokens[k], names)?;
             Ok(found)
         }
     }
@@ -117,7 +119,9 @@ fn tree_judged<'a>(
     program: Program<'a>,
     names: Names,
 ) -> Result<Findings<'a>, AllocError>
-    ensures { IfOk result (λ f. IsTreeTold names.entry.read.now (map (λ name. name.now) names.entry.marked.now) (program_view program.entry) program.entry.embedded.items
+    ensures { IfOk result (λ f. IsTreeTold names.entry.read.now
+        (map (λ name. name.now) names.entry.marked.now)
+        (program_view program.entry) program.entry.embedded.items
         f.messages.items (option_map (λ c. c.program) f.checked)) }
 {
     let word = program.word;
@@ -139,7 +143,8 @@ fn program_judged<'a>(
     program: thin::Program<'a>,
     names: Names,
 ) -> Result<Findings<'a>, AllocError>
-    ensures { IfOk result (λ f. IsProgramTold names.entry.read.now (map (λ name. name.now) names.entry.marked.now) program.entry
+    ensures { IfOk result (λ f. IsProgramTold names.entry.read.now
+        (map (λ name. name.now) names.entry.marked.now) program.entry
         f.messages.items (option_map (λ c. c.program) f.checked)) }
 {
     let Outcome {
@@ -158,73 +163,50 @@ fn syntax_fault<'a>(
     k: usize,
     names: Names,
 ) -> Result<Findings<'a>, AllocError>
-    ensures text { IfOk result (λ f. f.messages.items ≡ text_of names.entry.read.now (map (λ name. name.now) names.entry.marked.now)
+    ensures text { IfOk result (λ f. f.messages.items
+        ≡ text_of names.entry.read.now (map (λ name. name.now) names.entry.marked.now)
         (syntax_error lexed.now (slice_get lexed.now.tokens.items k) ∷ [])) }
-    ensures none { IfOk result (λ f. f.checked ≡ None) }
-{
-    let words = b"syntax error at '";
-    let found = token_fault(
-        alloc,
-        lexed,
-        k,
-        names,
-        1,
-        words,
-        b"syntax error at end of file",
-    )?;
-    Ok(found)
-}
-
-/// The one message of tokens with which only programs go on that are nested too deep.
-fn nesting_fault<'a>(
-    alloc: Global,
-    lexed: &Lexed,
-    k: usize,
-    names: Names,
-) -> Result<Findings<'a>, AllocError>
-    ensures text { IfOk result (λ f. f.messages.items ≡ text_of names.entry.read.now (map (λ name. name.now) names.entry.marked.now)
-        (nesting_error lexed.now (slice_get lexed.now.tokens.items k) ∷ [])) }
-    ensures none { IfOk result (λ f. f.checked ≡ None) }
-{
-    let words = b"nesting deeper than 64 at '";
-    let found = token_fault(
-        alloc,
-        lexed,
-        k,
-        names,
-        2,
-        words,
-        b"nesting deeper than 64 at end of file",
-    )?;
-    Ok(found)
-}
-
-/// An error at a token, whose text stands behind some words and a quote behind that; or at the end of the
-/// file.
-fn token_fault<'a>(
-    alloc: Global,
-    lexed: &Lexed,
-    k: usize,
-    names: Names,
-    number: u8,
-    words: &[u8],
-    at_end: &[u8],
-) -> Result<Findings<'a>, AllocError>
-    ensures text { IfOk result (λ f. f.messages.items ≡ text_of names.entry.read.now (map (λ name. name.now) names.entry.marked.now)
-        (fault_at lexed.now number words.now at_end.now (slice_get lexed.now.tokens.items k) ∷ [])) }
     ensures none { IfOk result (λ f. f.checked ≡ None) }
 {
     match token_at(lexed, k) {
         Some(token) => {
-            let text = words_at(alloc, words, token.text)?;
-            let found = refused(alloc, names, token.pos, number, text.as_slice())?;
+            let found = token_fault(alloc, token, names, 1, b"syntax error at '")?;
             Ok(found)
         }
         None => {
-            let found = refused(alloc, names, lexed.eof, number, at_end)?;
+            let found = refused(alloc, names, lexed.eof, 1, b"syntax error at end of file")?;
             Ok(found)
         }
     }
+}
+
+/// The one message of tokens with which only programs go on that are nested too deep.
+fn nesting_fault<'a>(alloc: Global, token: Token, names: Names) -> Result<Findings<'a>, AllocError>
+    ensures text { IfOk result (λ f. f.messages.items
+        ≡ text_of names.entry.read.now (map (λ name. name.now) names.entry.marked.now)
+        (nesting_error token.entry ∷ [])) }
+    ensures none { IfOk result (λ f. f.checked ≡ None) }
+{
+    let found = token_fault(alloc, token, names, 2, b"nesting deeper than 64 at '")?;
+    Ok(found)
+}
+
+/// An error at a token, whose text stands after some words, with a quote after it.
+fn token_fault<'a>(
+    alloc: Global,
+    token: Token,
+    names: Names,
+    number: u8,
+    words: &[u8],
+) -> Result<Findings<'a>, AllocError>
+    ensures text { IfOk result (λ f. f.messages.items
+        ≡ text_of names.entry.read.now (map (λ name. name.now) names.entry.marked.now)
+        (token_error number words.now token.entry ∷ [])) }
+    ensures none { IfOk result (λ f. f.checked ≡ None) }
+{
+    let text = words_at(alloc, words, token.text)?;
+    let found = refused(alloc, names, token.pos, number, text.as_slice())?;
+    Ok(found)
 }
 
 /// A token by its number; None where there are no more than that.
@@ -234,7 +216,7 @@ fn token_at<'a>(lexed: &Lexed<'a>, k: usize) -> Option<Token<'a>>
     lexed.tokens.get(k).copied()
 }
 
-/// Words, with a token and a quote behind them.
+/// Words, with a token and a quote after them.
 fn words_at(alloc: Global, words: &[u8], token: &[u8]) -> Result<Vec<u8>, AllocError>
     ensures { IfOk result (λ text. text.items ≡ words.now ++ (token.now ++ codes "'")) }
 {
@@ -252,7 +234,8 @@ fn refused<'a>(
     number: u8,
     text: &[u8],
 ) -> Result<Findings<'a>, AllocError>
-    ensures text { IfOk result (λ f. f.messages.items ≡ text_of names.entry.read.now (map (λ name. name.now) names.entry.marked.now)
+    ensures text { IfOk result (λ f. f.messages.items
+        ≡ text_of names.entry.read.now (map (λ name. name.now) names.entry.marked.now)
         (error_at pos number text.now ∷ [])) }
     ensures none { IfOk result (λ f. f.checked ≡ None) }
 {

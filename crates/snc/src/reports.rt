@@ -9,7 +9,8 @@ use std::alloc::{AllocError, Global};
 ///
 /// Fails only where memory ran out.
 pub fn report(alloc: Global, source: &[u8], job: &Job) -> Result<Report, AllocError>
-    ensures { IfOk result (λ r. IsReport (string_bytes job.now.file) source.now r.messages.items r.status) }
+    ensures { IfOk result (λ r.
+        IsReport (string_bytes job.now.file) source.now r.messages.items r.status) }
 {
     let found = judged(alloc, source, job.file.as_bytes())?;
     let status = source_status(found.checked.is_some());

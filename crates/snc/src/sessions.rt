@@ -21,7 +21,8 @@ pub fn session<R: Source, S: Sink>(
 ) -> Result<(Vec<u8>, Option<End>, Status), AllocError>
     requires trace { R.failures trace.old < 2 ^ 64 - 1 }
     requires sink { S.failures sink.old < 2 ^ 64 - 1 }
-    ensures answer { IfOk result (λ r. IsSession R.rest R.failures S.told S.failures (string_bytes job.now.file) source.now job.now.budget
+    ensures answer { IfOk result (λ r. IsSession R.rest R.failures S.told S.failures
+        (string_bytes job.now.file) source.now job.now.budget
         trace.old trace.new sink.old sink.new r.0.items r.1 r.2) }
     ensures unread { OnErr result (trace.new ≡ trace.old) }
     ensures unwritten { OnErr result (sink.new ≡ sink.old) }

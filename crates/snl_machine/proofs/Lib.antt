@@ -1,6 +1,6 @@
 pub mod Blocks
 pub mod Faulting
-pub mod Marks
+pub mod StoreWrites
 pub mod Names
 pub mod Numbers
 pub mod Opening

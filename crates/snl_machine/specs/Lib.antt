@@ -4,7 +4,7 @@ pub mod Effect
 pub mod Event
 pub mod Examples
 pub mod First
-pub mod Held
+pub mod MachineOf
 pub mod Instant
 pub mod Laws
 pub mod Lines

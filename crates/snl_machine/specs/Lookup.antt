@@ -5,7 +5,7 @@ use Rattle.snl_machine.specs.declared.events.Event.{Event}
 use Rattle.snl_machine.specs.declared.events.Event.TheVariants.{Up, Val, Tick, Other}
 use Rattle.snl_machine.specs.declared.machine.Machine.{Machine}
 use Rattle.snl_machine.specs.declared.programs.Link.{Link}
-use Rattle.snl_machine.specs.Held.{program_held}
+use Rattle.snl_machine.specs.MachineOf.{program_held}
 use Rattle.snl_machine.specs.Names.{place_of}
 use Rattle.snl_machine.specs.Program.{Program}
 use Rattle.snl_machine.specs.Value.{is_within}

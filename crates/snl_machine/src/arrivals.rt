@@ -25,7 +25,8 @@ pub fn apply(event: &Event, program: &Numbered, store: &mut Store)
 
 /// Puts values into the buffer of each link of a channel, and marks the monitored ones.
 fn receive(channel: usize, values: &[i64], links: &[Link], store: &mut Store)
-    ensures { world_of store.new ≡ received_from channel values.now 0 links.now (world_of store.old) }
+    ensures { world_of store.new
+        ≡ received_from channel values.now 0 links.now (world_of store.old) }
 {
     for (number, link) in links.iter().enumerate() {
         receive_link(channel, values, number, *link, store);
@@ -33,7 +34,8 @@ fn receive(channel: usize, values: &[i64], links: &[Link], store: &mut Store)
 }
 
 fn receive_link(channel: usize, values: &[i64], number: usize, link: Link, store: &mut Store)
-    ensures { world_of store.new ≡ received_link channel values.now number link (world_of store.old) }
+    ensures { world_of store.new
+        ≡ received_link channel values.now number link (world_of store.old) }
 {
     if link.channel == channel {
         store.set_buffer(number, values);
@@ -45,7 +47,8 @@ fn receive_link(channel: usize, values: &[i64], number: usize, link: Link, store
 
 /// Whether each value that a link of a channel keeps fits the link's variable.
 pub fn fit_links(channel: usize, values: &[i64], links: &[Link]) -> bool
-    ensures { result ≡ list_all (λ link. not (link.channel == channel) || is_link_fit values.now link) links.now }
+    ensures { result
+        ≡ list_all (λ link. not (link.channel == channel) || is_link_fit values.now link) links.now }
 {
     for link in links {
         if link.channel == channel && !fit_variable(values) {

@@ -24,7 +24,8 @@ pub fn instant<S: Sink>(
     requires { S.failures sink.old < 2 ^ 64 - 1 }
     ensures does { Does (λ x. x) result (world_of store.new) (S.told sink.old) (S.told sink.new)
         (instant_of (program_of program.now) budget (world_of store.old)) }
-    ensures failures { S.failures sink.new ≡ counted (stopped_by_sink result) (S.failures sink.old) }
+    ensures failures { S.failures sink.new
+        ≡ counted (stopped_by_sink result) (S.failures sink.old) }
 {
     store.ticks = budget;
     match store.phase {
@@ -65,7 +66,8 @@ fn start<S: Sink>(program: &Numbered, store: &mut Store, sink: &mut S) -> Result
     requires { S.failures sink.old < 2 ^ 64 - 1 }
     ensures does { Does (λ x. x) result (world_of store.new) (S.told sink.old) (S.told sink.new)
         (started (program_of program.now) (world_of store.old)) }
-    ensures failures { S.failures sink.new ≡ counted (stopped_by_sink result) (S.failures sink.old) }
+    ensures failures { S.failures sink.new
+        ≡ counted (stopped_by_sink result) (S.failures sink.old) }
 {
     match write_start(sink, store.time, program.name) {
         Ok(()) => {
@@ -78,7 +80,8 @@ fn start<S: Sink>(program: &Numbered, store: &mut Store, sink: &mut S) -> Result
 
 /// Takes in the values that came before the start, and enters the initial state.
 fn begin(links: &[Link], store: &mut Store)
-    ensures { world_of store.new ≡ entered_in 0 0 (refreshed_from 0 0 links.now (record (world_of store.old) { phase = Live.Running })) }
+    ensures { world_of store.new ≡ entered_in 0 0 (refreshed_from 0 0 links.now (record
+        (world_of store.old) { phase = Live.Running })) }
 {
     store.phase = Live::Running;
     refresh(links, store);
@@ -92,7 +95,8 @@ fn rounds<S: Sink>(program: &Numbered, store: &mut Store, sink: &mut S) -> Resul
     requires { S.failures sink.old < 2 ^ 64 - 1 }
     ensures does { Does (λ x. x) result (world_of store.new) (S.told sink.old) (S.told sink.new)
         (all_rounds (program_of program.now) (world_of store.old)) }
-    ensures failures { S.failures sink.new ≡ counted (stopped_by_sink result) (S.failures sink.old) }
+    ensures failures { S.failures sink.new
+        ≡ counted (stopped_by_sink result) (S.failures sink.old) }
 {
     for _round in 0..u64::from(store.ticks) + 1 {
         match turn(program, store, sink) {

@@ -26,7 +26,8 @@ pub fn write_put<'t, S: Sink>(
     value: i64,
 ) -> Result<(), SinkFault>
     requires { S.failures sink.old < 2 ^ 64 - 1 }
-    ensures told { Wrote result (put_line ms channel.now value) (S.told sink.old) (S.told sink.new) }
+    ensures told { Wrote result (put_line ms channel.now value) (S.told sink.old)
+        (S.told sink.new) }
     ensures failures { S.failures sink.new ≡ counted (is_err result) (S.failures sink.old) }
 {
     let mut time = Buffer::new();
@@ -54,7 +55,8 @@ pub fn write_go<'t, S: Sink>(
     to: &'t [u8],
 ) -> Result<(), SinkFault>
     requires { S.failures sink.old < 2 ^ 64 - 1 }
-    ensures told { Wrote result (go_line ms state_set.now from.now to.now) (S.told sink.old) (S.told sink.new) }
+    ensures told { Wrote result (go_line ms state_set.now from.now to.now) (S.told sink.old)
+        (S.told sink.new) }
     ensures failures { S.failures sink.new ≡ counted (is_err result) (S.failures sink.old) }
 {
     let mut time = Buffer::new();
@@ -71,7 +73,8 @@ pub fn write_fault<'t, S: Sink>(
     text: &'t [u8],
 ) -> Result<(), SinkFault>
     requires { S.failures sink.old < 2 ^ 64 - 1 }
-    ensures told { Wrote result (fault_line ms state_set.now line text.now) (S.told sink.old) (S.told sink.new) }
+    ensures told { Wrote result (fault_line ms state_set.now line text.now) (S.told sink.old)
+        (S.told sink.new) }
     ensures failures { S.failures sink.new ≡ counted (is_err result) (S.failures sink.old) }
 {
     let mut time = Buffer::new();
@@ -87,7 +90,8 @@ pub fn write_fault<'t, S: Sink>(
 /// Hands pieces to a sink, one after another.
 fn write_pieces<S: Sink>(sink: &mut S, pieces: &[&[u8]]) -> Result<(), SinkFault>
     requires { S.failures sink.old < 2 ^ 64 - 1 }
-    ensures told { Wrote result (joined (map (λ piece. piece.now) pieces.now)) (S.told sink.old) (S.told sink.new) }
+    ensures told { Wrote result (joined (map (λ piece. piece.now) pieces.now)) (S.told sink.old)
+        (S.told sink.new) }
     ensures failures { S.failures sink.new ≡ counted (is_err result) (S.failures sink.old) }
 {
     for piece in pieces {

@@ -24,7 +24,7 @@ pub struct Machine<'a> {
 impl<'a> Machine<'a> {
     ghost use Rattle.snl_machine.specs.Event.{line_of};
     ghost use Rattle.snl_machine.specs.First.{first_world};
-    ghost use Rattle.snl_machine.specs.Held.{IsMachineOf, program_held, world_held};
+    ghost use Rattle.snl_machine.specs.MachineOf.{IsMachineOf, program_held, world_held};
     ghost use Rattle.snl_machine.specs.Lookup.{channel_of, fits_of};
 
     /// Makes the machine of a program, which waits for its start: variables, links, channels and states go
@@ -34,7 +34,8 @@ impl<'a> Machine<'a> {
     /// Fails only where that room was not to be had; the program is dropped then.
     pub fn load(alloc: Global, checked: Checked<'a>, budget: u32) -> Result<Self, AllocError>
         ensures made { IfOk result (IsMachineOf checked.entry.program budget) }
-        ensures first { IfOk result (λ machine. world_held machine ≡ first_world (program_held machine)) }
+        ensures first { IfOk result (λ machine. world_held machine
+            ≡ first_world (program_held machine)) }
     {
         let program = numbered(alloc, checked.program())?;
         let store = Store::new(alloc, &program)?;
@@ -81,12 +82,14 @@ impl<'a> Machine<'a> {
     /// After a fault, and where the sink fails, the machine has ended, and what was written stands.
     pub fn event<S: Sink>(&mut self, ms: u64, event: &Event, sink: &mut S) -> Result<Live, Stop>
         requires { S.failures sink.old < 2 ^ 64 - 1 }
-        ensures does { Does (λ live. live) result (world_held self.new) (S.told sink.old) (S.told sink.new)
+        ensures does { Does (λ live. live) result (world_held self.new) (S.told sink.old)
+            (S.told sink.new)
             (line_of (program_held self.old) self.old.budget ms event.now (world_held self.old)) }
         ensures ended { OnErr result ((world_held self.new).phase ≡ Live.Ended) }
         ensures program { program_held self.new ≡ program_held self.old }
         ensures budget { self.new.budget ≡ self.old.budget }
-        ensures failures { S.failures sink.new ≡ counted (stopped_by_sink result) (S.failures sink.old) }
+        ensures failures { S.failures sink.new
+            ≡ counted (stopped_by_sink result) (S.failures sink.old) }
     {
         if self.store.phase == Live::Ended {
             return Ok(Live::Ended);

@@ -44,7 +44,8 @@ fn note<'a>(name: &'a [u8], names: &mut IndexSet<&'a [u8]>) -> Result<(), AllocE
 }
 
 fn note_all<'a>(variables: &[Token<'a>], names: &mut IndexSet<&'a [u8]>) -> Result<(), AllocError>
-    ensures { OnOk result (names_in names.new ≡ noted_all (names_in names.old) (map spelled variables.now)) }
+    ensures { OnOk result (names_in names.new
+        ≡ noted_all (names_in names.old) (map spelled variables.now)) }
 {
     for variable in variables {
         note(variable.text, names)?;
@@ -58,7 +59,8 @@ fn note_names<'a>(
     definition: &tree::Def<'a>,
     names: &mut IndexSet<&'a [u8]>,
 ) -> Result<(), AllocError>
-    ensures { OnOk result (names_in names.new ≡ noted_all (names_in names.old) (names_by sort definition.now)) }
+    ensures { OnOk result (names_in names.new
+        ≡ noted_all (names_in names.old) (names_by sort definition.now)) }
 {
     match (sort, definition) {
         (Sort::Variables, tree::Def::Variables(variables)) => note_all(variables.as_slice(), names),
@@ -75,7 +77,8 @@ fn names_by<'a>(
     sort: Sort,
     definitions: &[tree::Def<'a>],
 ) -> Result<IndexSet<&'a [u8]>, AllocError>
-    ensures { IfOk result (λ names. names_in names ≡ once (flat_map (names_by sort) definitions.now)) }
+    ensures { IfOk result (λ names. names_in names
+        ≡ once (flat_map (names_by sort) definitions.now)) }
 {
     let mut names = IndexSet::new(alloc);
     for definition in definitions {
@@ -89,7 +92,8 @@ fn states_by<'a>(
     alloc: Global,
     states: &[tree::State<'a>],
 ) -> Result<IndexSet<&'a [u8]>, AllocError>
-    ensures { IfOk result (λ names. names_in names ≡ once (map (λ state. spelled state.name) states.now)) }
+    ensures { IfOk result (λ names. names_in names
+        ≡ once (map (λ state. spelled state.name) states.now)) }
 {
     let mut names = IndexSet::new(alloc);
     for state in states {
@@ -152,7 +156,8 @@ fn links_of<'a>(
     definitions: &[tree::Def<'a>],
     names: &Names<'a>,
 ) -> Result<Vec<Link>, AllocError>
-    ensures { IfOk result (λ links. links.items ≡ flat_map (link_in (plain_names names.now)) definitions.now) }
+    ensures { IfOk result (λ links. links.items
+        ≡ flat_map (link_in (plain_names names.now)) definitions.now) }
 {
     let mut links = Vec::new(alloc);
     for definition in definitions {
@@ -166,7 +171,8 @@ fn push_link<'a>(
     names: &Names<'a>,
     links: &mut Vec<Link>,
 ) -> Result<(), AllocError>
-    ensures { OnOk result (links.new.items ≡ links.old.items ++ link_in (plain_names names.now) definition.now) }
+    ensures { OnOk result (links.new.items
+        ≡ links.old.items ++ link_in (plain_names names.now) definition.now) }
 {
     match definition {
         tree::Def::Variables(_) | tree::Def::Monitor { .. } => Ok(()),
@@ -192,7 +198,8 @@ fn states_of<'a>(
     states: &[tree::State<'a>],
     names: &Names<'a>,
 ) -> Result<Vec<State<'a>>, AllocError>
-    ensures { IfOk result (λ numbered. map state_of numbered.items ≡ map (numbered_state (plain_names names.now)) states.now) }
+    ensures { IfOk result (λ numbered. map state_of numbered.items
+        ≡ map (numbered_state (plain_names names.now)) states.now) }
 {
     let mut numbered = Vec::new(alloc);
     for state in states {
@@ -206,7 +213,8 @@ fn state_of<'a>(
     state: &tree::State<'a>,
     names: &Names<'a>,
 ) -> Result<State<'a>, AllocError>
-    ensures { IfOk result (λ numbered. state_of numbered ≡ numbered_state (plain_names names.now) state.now) }
+    ensures { IfOk result (λ numbered. state_of numbered
+        ≡ numbered_state (plain_names names.now) state.now) }
 {
     let mut clauses = Vec::new(alloc);
     for clause in &state.clauses {
@@ -223,7 +231,8 @@ fn clause_of<'a>(
     clause: &tree::Clause<'a>,
     names: &Names<'a>,
 ) -> Result<Clause, AllocError>
-    ensures { IfOk result (λ numbered. clause_of numbered ≡ numbered_clause (plain_names names.now) clause.now) }
+    ensures { IfOk result (λ numbered. clause_of numbered
+        ≡ numbered_clause (plain_names names.now) clause.now) }
 {
     let mut block = Vec::new(alloc);
     for statement in &clause.block {
@@ -243,7 +252,8 @@ fn statement_of<'a>(
     statement: &tree::Stmt<'a>,
     names: &Names<'a>,
 ) -> Result<Stmt, AllocError>
-    ensures { IfOk result (λ numbered. statement_of numbered ≡ numbered_statement (plain_names names.now) statement.now) }
+    ensures { IfOk result (λ numbered. statement_of numbered
+        ≡ numbered_statement (plain_names names.now) statement.now) }
 {
     match statement {
         tree::Stmt::Assign { target, value } => {
@@ -266,7 +276,8 @@ fn expression_of<'a>(
     expression: &tree::Expr<'a>,
     names: &Names<'a>,
 ) -> Result<Expr, AllocError>
-    ensures { IfOk result (λ numbered. expression_of numbered ≡ numbered_expression (plain_names names.now) expression.now) }
+    ensures { IfOk result (λ numbered. expression_of numbered
+        ≡ numbered_expression (plain_names names.now) expression.now) }
 {
     match expression {
         tree::Expr::Whole(token) => Ok(Expr::Whole(whole_value(token.text).unwrap_or(0))),
@@ -284,7 +295,8 @@ fn expression_of<'a>(
 
 #[cycle(numbering)]
 fn term_of<'a>(alloc: Global, term: &tree::Term<'a>, names: &Names<'a>) -> Result<Term, AllocError>
-    ensures { IfOk result (λ numbered. plain_term numbered ≡ numbered_term (plain_names names.now) term.now) }
+    ensures { IfOk result (λ numbered. plain_term numbered
+        ≡ numbered_term (plain_names names.now) term.now) }
 {
     let operand = expression_of(alloc, &term.operand, names)?;
     Ok(Term {

@@ -22,7 +22,9 @@ pub trait Sink {
     fn write(&mut self, piece: &[u8]) -> Result<usize, SinkFault>
         requires { failures self.old < 2 ^ 64 - 1 }
         ensures count { IfOk result (λ n. n ≤ length piece.now) }
-        ensures taken { IfOk result (λ n. told self.new ≡ told_more (told self.old) (take n piece.now)) }
+        ensures taken { IfOk result (λ n. told self.new
+            ≡ told_more (told self.old) (take n piece.now)) }
         ensures untaken { OnErr result (told self.new ≡ told self.old) }
-        ensures failures { failures self.new ≡ (if write_fails result (length piece.now) then failures self.old + 1 else failures self.old) };
+        ensures failures { failures self.new ≡ (if write_fails result
+            (length piece.now) then failures self.old + 1 else failures self.old) };
 }

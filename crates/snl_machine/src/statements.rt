@@ -23,7 +23,8 @@ pub fn execute_all<S: Sink>(
     requires { S.failures sink.old < 2 ^ 64 - 1 }
     ensures does { Does (λ x. x) result (world_of store.new) (S.told sink.old) (S.told sink.new)
         (effects_of (program_of program.now) 0 (map statement_of statements.now) (world_of store.old)) }
-    ensures failures { S.failures sink.new ≡ counted (stopped_by_sink result) (S.failures sink.old) }
+    ensures failures { S.failures sink.new
+        ≡ counted (stopped_by_sink result) (S.failures sink.old) }
 {
     for statement in statements {
         execute(statement, program, store, sink)?;
@@ -41,7 +42,8 @@ fn execute<S: Sink>(
     requires { S.failures sink.old < 2 ^ 64 - 1 }
     ensures does { Does (λ x. x) result (world_of store.new) (S.told sink.old) (S.told sink.new)
         (effect_of (program_of program.now) 0 (statement_of statement.now) (world_of store.old)) }
-    ensures failures { S.failures sink.new ≡ counted (stopped_by_sink result) (S.failures sink.old) }
+    ensures failures { S.failures sink.new
+        ≡ counted (stopped_by_sink result) (S.failures sink.old) }
 {
     match statement {
         Stmt::Assign {
@@ -61,7 +63,8 @@ fn execute<S: Sink>(
 
 /// Stores the value of an expression in a variable.
 fn assign(variable: usize, line: usize, expression: &Expr, store: &mut Store) -> Result<(), Charge>
-    ensures { then_do (value_of 0 (expression_of expression.now) (world_of store.old)) (assigned 0 variable line)
+    ensures { then_do (value_of 0 (expression_of expression.now) (world_of store.old))
+        (assigned 0 variable line)
         ≡ gave result (world_of store.new) }
 {
     let number = value(expression, store)?;
@@ -80,7 +83,8 @@ fn put<S: Sink>(link: Link, program: &Numbered, store: &Store, sink: &mut S) -> 
     requires { S.failures sink.old < 2 ^ 64 - 1 }
     ensures does { Does (λ x. x) result (world_of store.now) (S.told sink.old) (S.told sink.new)
         (put_by (program_of program.now) 0 (Some link) (world_of store.now)) }
-    ensures failures { S.failures sink.new ≡ counted (stopped_by_sink result) (S.failures sink.old) }
+    ensures failures { S.failures sink.new
+        ≡ counted (stopped_by_sink result) (S.failures sink.old) }
 {
     if !store.is_up(link.channel) {
         return Ok(());

@@ -111,7 +111,8 @@ impl Store {
 
     /// Notes that a channel is connected.
     pub fn set_up(&mut self, channel: usize)
-        ensures { world_of self.new ≡ record (world_of self.old) { ups = slice_set (world_of self.old).ups channel true } }
+        ensures { world_of self.new
+            ≡ record (world_of self.old) { ups = slice_set (world_of self.old).ups channel true } }
     {
         if let Some(place) = self.ups.get_mut(channel) {
             *place = true;
@@ -120,7 +121,9 @@ impl Store {
 
     /// Notes that a channel was valued.
     pub fn set_valued(&mut self, channel: usize)
-        ensures { world_of self.new ≡ record (world_of self.old) { valued = slice_set (world_of self.old).valued channel true } }
+        ensures { world_of self.new ≡ record (world_of self.old) {
+          valued = slice_set (world_of self.old).valued channel true;
+        } }
     {
         if let Some(place) = self.valued.get_mut(channel) {
             *place = true;
@@ -146,7 +149,9 @@ impl Store {
     }
 
     fn put_buffer(&mut self, link: usize, value: i64)
-        ensures { world_of self.new ≡ record (world_of self.old) { buffers = slice_set (world_of self.old).buffers link (alone value) } }
+        ensures { world_of self.new ≡ record (world_of self.old) {
+          buffers = slice_set (world_of self.old).buffers link (alone value);
+        } }
     {
         if let Some(place) = self.buffers.get_mut(link) {
             *place = value;

@@ -17,7 +17,8 @@ pub fn turn<S: Sink>(program: &Numbered, store: &mut Store, sink: &mut S) -> Res
     requires { S.failures sink.old < 2 ^ 64 - 1 }
     ensures does { Does (λ x. x) result (world_of store.new) (S.told sink.old) (S.told sink.new)
         (turn_of (program_of program.now) 0 (world_of store.old)) }
-    ensures failures { S.failures sink.new ≡ counted (stopped_by_sink result) (S.failures sink.old) }
+    ensures failures { S.failures sink.new
+        ≡ counted (stopped_by_sink result) (S.failures sink.old) }
 {
     refresh(program.links.as_slice(), store);
     match try_clauses(program, store, sink) {
@@ -56,7 +57,8 @@ fn try_clauses<S: Sink>(program: &Numbered, store: &mut Store, sink: &mut S) -> 
     requires { S.failures sink.old < 2 ^ 64 - 1 }
     ensures does { Does (λ x. x) result (world_of store.new) (S.told sink.old) (S.told sink.new)
         (tried (program_of program.now) 0 (slice_get (map state_of program.now.states.items) store.old.state) (world_of store.old)) }
-    ensures failures { S.failures sink.new ≡ counted (stopped_by_sink result) (S.failures sink.old) }
+    ensures failures { S.failures sink.new
+        ≡ counted (stopped_by_sink result) (S.failures sink.old) }
 {
     match program.state(store.state) {
         Some(state) => try_state(state, program, store, sink),
@@ -73,7 +75,8 @@ fn try_state<S: Sink>(
     requires { S.failures sink.old < 2 ^ 64 - 1 }
     ensures does { Does (λ x. x) result (world_of store.new) (S.told sink.old) (S.told sink.new)
         (tried (program_of program.now) 0 (Some (state_of state.now)) (world_of store.old)) }
-    ensures failures { S.failures sink.new ≡ counted (stopped_by_sink result) (S.failures sink.old) }
+    ensures failures { S.failures sink.new
+        ≡ counted (stopped_by_sink result) (S.failures sink.old) }
 {
     match first_true(state.clauses.as_slice(), store) {
         Ok(clause) => fire(clause, state.name, program, store, sink),
@@ -92,7 +95,8 @@ fn fire<S: Sink>(
     requires { S.failures sink.old < 2 ^ 64 - 1 }
     ensures does { Does (λ x. x) result (world_of store.new) (S.told sink.old) (S.told sink.new)
         (fired (program_of program.now) 0 from.now (seen_clause clause.entry) (world_of store.old)) }
-    ensures failures { S.failures sink.new ≡ counted (stopped_by_sink result) (S.failures sink.old) }
+    ensures failures { S.failures sink.new
+        ≡ counted (stopped_by_sink result) (S.failures sink.old) }
 {
     match clause {
         None => Ok(false),
@@ -105,7 +109,8 @@ fn fire<S: Sink>(
 
 /// The first clause whose condition is not 0. Those behind it are not evaluated.
 fn first_true<'p>(clauses: &'p [Clause], store: &Store) -> Result<Option<&'p Clause>, Charge>
-    ensures { chosen 0 (map clause_of clauses.now) (world_of store.now) ≡ picked result (world_of store.now) }
+    ensures { chosen 0 (map clause_of clauses.now) (world_of store.now)
+        ≡ picked result (world_of store.now) }
 {
     for clause in clauses {
         if value(&clause.condition, store)? != 0 {
@@ -126,7 +131,8 @@ fn transit<S: Sink>(
     requires { S.failures sink.old < 2 ^ 64 - 1 }
     ensures does { Does (λ x. x) result (world_of store.new) (S.told sink.old) (S.told sink.new)
         (transition (program_of program.now) 0 from.now (clause_of clause.now) (world_of store.old)) }
-    ensures failures { S.failures sink.new ≡ counted (stopped_by_sink result) (S.failures sink.old) }
+    ensures failures { S.failures sink.new
+        ≡ counted (stopped_by_sink result) (S.failures sink.old) }
 {
     match spend(clause.line, store) {
         Ok(()) => act(clause, from, program, store, sink),
@@ -159,7 +165,8 @@ fn act<S: Sink>(
     requires { S.failures sink.old < 2 ^ 64 - 1 }
     ensures does { Does (λ x. x) result (world_of store.new) (S.told sink.old) (S.told sink.new)
         (acted (program_of program.now) 0 from.now (clause_of clause.now) (world_of store.old)) }
-    ensures failures { S.failures sink.new ≡ counted (stopped_by_sink result) (S.failures sink.old) }
+    ensures failures { S.failures sink.new
+        ≡ counted (stopped_by_sink result) (S.failures sink.old) }
 {
     match execute_all(clause.block.as_slice(), program, store, sink) {
         Ok(()) => arrive(clause.target, from, program, store, sink),
@@ -178,7 +185,8 @@ fn arrive<S: Sink>(
     requires { S.failures sink.old < 2 ^ 64 - 1 }
     ensures does { Does (λ x. x) result (world_of store.new) (S.told sink.old) (S.told sink.new)
         (arrived (program_of program.now) 0 from.now target (world_of store.old)) }
-    ensures failures { S.failures sink.new ≡ counted (stopped_by_sink result) (S.failures sink.old) }
+    ensures failures { S.failures sink.new
+        ≡ counted (stopped_by_sink result) (S.failures sink.old) }
 {
     match write_go(
         sink,

@@ -10,7 +10,8 @@ use crate::stores::Store;
 /// The value of an expression.
 #[cycle(value)]
 pub fn value(expression: &Expr, store: &Store) -> Result<i64, Charge>
-    ensures { value_of 0 (expression_of expression.now) (world_of store.now) ≡ gave result (world_of store.now) }
+    ensures { value_of 0 (expression_of expression.now) (world_of store.now)
+        ≡ gave result (world_of store.now) }
 {
     match expression {
         Expr::Whole(number) => Ok(*number),
@@ -28,7 +29,8 @@ pub fn value(expression: &Expr, store: &Store) -> Result<i64, Charge>
 /// The value of a term's operator between what stands left of it and its operand.
 #[cycle(value)]
 fn applied(term: &Term, left: i64, store: &Store) -> Result<i64, Charge>
-    ensures { then_do (value_of 0 (expression_of term.now.operand) (world_of store.now)) (operated term.now.operator term.now.line left)
+    ensures { then_do (value_of 0 (expression_of term.now.operand) (world_of store.now))
+        (operated term.now.operator term.now.line left)
         ≡ gave result (world_of store.now) }
 {
     let right = value(&term.operand, store)?;

@@ -55,7 +55,8 @@ fn number_start(line: &[u8]) -> usize
 fn name_at(line: &[u8], place: usize) -> Option<Span>
     requires { place ≤ length line.now }
     ensures value { result ≡ name_at line.now place }
-    ensures within { IfSome result (λ span. (span.start ≤ span.end) × (span.end ≤ length line.now)) }
+    ensures within { IfSome result (λ span. (span.start ≤ span.end)
+        × (span.end ≤ length line.now)) }
 {
     let quote = place + run::<InnerBlank>(&line[place..]);
     if quote >= line.len() || line[quote] != b'"' {

@@ -5,5 +5,5 @@ pub mod ReadLaws
 pub mod RunLaws
 pub mod ShortLaws
 pub mod SourceLaws
-pub mod TookLaws
+pub mod RunOverLaws
 pub mod ValueLaws

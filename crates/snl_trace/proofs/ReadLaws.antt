@@ -3,7 +3,7 @@ use Rattle.std.proofs.Common.{◌≡◌, ℕ, Bool, List, Option, Some, Result, 
 use Rattle.snl_machine.specs.declared.events.Event.{Event}
 use Rattle.snl_trace.specs.declared.trace_faults.TraceFault.{TraceFault}
 use Rattle.snl_trace.specs.Grammar.{Told, Val, ◌>>=◌, told_of, event_at, val_at, val_of, if_fits, read_of}
-use Rattle.snl_trace.specs.Told.{event_at_time}
+use Rattle.snl_trace.specs.Seen.{event_at_time}
 
 -- values of a channel that the machine has
 pub read-values : (channel : List ℕ → Option ℕ) (fits : Event → Bool) (last ms number : ℕ) (line name : List ℕ) (values : List ℤ) (read : Result (Option (ℕ × Event)) TraceFault) →

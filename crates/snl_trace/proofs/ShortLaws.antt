@@ -8,9 +8,9 @@ use Rattle.snl_trace.specs.declared.runner.End.TheVariants as end
 use Rattle.snl_trace.specs.declared.trace_faults.TraceFault.TheVariants.{LineTooLong}
 use Rattle.snl_trace.specs.Lines.{IsShortEnough, last_line, lines_from}
 use Rattle.snl_trace.specs.Run.{Rules, done_by, line_done, or_rest, run_from}
-use Rattle.snl_trace.specs.Took.{Place, Reaches}
+use Rattle.snl_trace.specs.RunOver.{Place, Reaches}
 use Rattle.snl_trace.proofs.RunLaws.{done-never}
-use Rattle.snl_trace.proofs.TookLaws.{KnowsLong}
+use Rattle.snl_trace.proofs.RunOverLaws.{KnowsLong}
 
 -- a line that does not end the run is not too long
 first-short : (rules : Rules) → KnowsLong rules → (number : ℕ) (line : List ℕ) (rest : World → Ran End) (w v : World) (text : List ℕ) →

@@ -6,9 +6,9 @@ use Rattle.snl_trace.specs.declared.runner.End.TheVariants as end
 use Rattle.snl_trace.specs.Lines.{lines_to, lines_from, last_line, whole_lines}
 use Rattle.snl_trace.specs.Run.{Rules, run_from}
 use Rattle.snl_trace.specs.Sources.{IsGiven, IsShort}
-use Rattle.snl_trace.specs.Took.{Place, Reaches, EndsIn, Takes, IsBroken, RunsOver}
+use Rattle.snl_trace.specs.RunOver.{Place, Reaches, EndsIn, Takes, IsBroken, RunsOver}
 use Rattle.snl_trace.proofs.ShortLaws.{lines-short}
-use Rattle.snl_trace.proofs.TookLaws.{KnowsLong, reaches-start, reaches-then, ends-behind, takes-behind}
+use Rattle.snl_trace.proofs.RunOverLaws.{KnowsLong, reaches-start, reaches-then, ends-behind, takes-behind}
 
 -- what a source told of at first and what it tells now, where these bytes came
 pub record HasCome (first now : Option (List ℕ)) (came bytes : List ℕ) : Type 0 where

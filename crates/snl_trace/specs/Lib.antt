@@ -5,5 +5,5 @@ pub mod Lines
 pub mod Numbers
 pub mod Run
 pub mod Sources
-pub mod Told
-pub mod Took
+pub mod Seen
+pub mod RunOver

@@ -7,7 +7,7 @@ use Rattle.snl_machine.specs.declared.machine.Machine.{Machine}
 use Rattle.snl_machine.specs.declared.faults.Stop.{Stop}
 use Rattle.snl_machine.specs.declared.faults.Stop.TheVariants as stop
 use Rattle.snl_machine.specs.Event.{line_of}
-use Rattle.snl_machine.specs.Held.{program_held}
+use Rattle.snl_machine.specs.MachineOf.{program_held}
 use Rattle.snl_machine.specs.Lookup.{is_event_fit}
 use Rattle.snl_machine.specs.Names.{place_of}
 use Rattle.snl_machine.specs.Program.{Program}

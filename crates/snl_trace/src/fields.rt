@@ -80,7 +80,8 @@ fn field_end(text: &[u8]) -> usize
 /// The first field of a text, and the text behind it; None where there is no field.
 #[tactic(auto, using(crate::proofs::FieldLaws::fields_empty))]
 pub fn first_field(text: &[u8]) -> Option<(&[u8], &[u8])>
-    ensures cut { MatchOption result (fields text.now ≡ []) (λ cut. fields text.now ≡ cut.0.now ∷ fields cut.1.now) }
+    ensures cut { MatchOption result (fields text.now ≡ [])
+        (λ cut. fields text.now ≡ cut.0.now ∷ fields cut.1.now) }
     ensures shorter { IfSome result (λ cut. length cut.1.now < length text.now) }
 {
     let left = trimmed(text);

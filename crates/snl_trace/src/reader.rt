@@ -3,7 +3,7 @@ ghost use Rattle.snl_machine.specs.Lookup.{channel_of, fits_of};
 ghost use Rattle.snl_trace.specs.Fields.{fields};
 ghost use Rattle.snl_trace.specs.Grammar as grammar;
 ghost use Rattle.snl_trace.specs.Grammar.{told_of, read_of, if_fits, up_at};
-ghost use Rattle.snl_trace.specs.Told.{seen, time_seen, told_seen, event_seen, event_at_time, HasRoom};
+ghost use Rattle.snl_trace.specs.Seen.{seen, time_seen, told_seen, event_seen, event_at_time, HasRoom};
 
 use crate::fields::{first_field, is_ascii_text, is_silent};
 use crate::lines::without_return;
@@ -38,7 +38,8 @@ pub fn read_event(
     last_ms: u64,
     event: &mut Event,
 ) -> Result<Option<u64>, TraceFault>
-    ensures { seen (event_seen event.new) result ≡ read_of (channel_of machine.now) (fits_of machine.now) last_ms line.now }
+    ensures { seen (event_seen event.new) result
+        ≡ read_of (channel_of machine.now) (fits_of machine.now) last_ms line.now }
 {
     make_room(event);
     match event {
@@ -126,7 +127,8 @@ fn up(name: &[u8], machine: &Machine) -> Event
 
 /// The time of an event that fits a machine.
 fn fitting(ms: u64, event: &Event, machine: &Machine) -> Result<Option<u64>, TraceFault>
-    ensures { seen (event_seen event.now) result ≡ event_at_time ms (if_fits (fits_of machine.now event.now) event.now) }
+    ensures { seen (event_seen event.now) result
+        ≡ event_at_time ms (if_fits (fits_of machine.now event.now) event.now) }
 {
     if machine.fits(event) {
         Ok(Some(ms))

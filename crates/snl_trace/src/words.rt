@@ -2,7 +2,7 @@ ghost use Rattle.std.specs.Prelude.{◌≡◌, ◌∷◌, [], ◌++◌, ℤ, Lis
 ghost use Rattle.snl_trace.specs.Fields.{fields};
 ghost use Rattle.snl_trace.specs.Grammar as grammar;
 ghost use Rattle.snl_trace.specs.Grammar.{told_by, kept, values_of, kept_values, up_with, val_with, tick_with, ended, word_of};
-ghost use Rattle.snl_trace.specs.Told.{seen, told};
+ghost use Rattle.snl_trace.specs.Seen.{seen, told};
 
 use crate::fields::first_field;
 use crate::numbers::value;

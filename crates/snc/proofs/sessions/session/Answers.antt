@@ -1,7 +1,7 @@
 use Rattle.std.proofs.Common.{◌≡◌, sym, subst, List, ℕ, Some, string_bytes}
 use Rattle.snc.specs.declared.jobs.Status.{Status}
 use Rattle.snc.specs.Judging.{IsJudged}
-use Rattle.snl_machine.specs.Held.{world_held}
+use Rattle.snl_machine.specs.MachineOf.{world_held}
 use Rattle.snc.specs.Outcomes.{IsRunOf, IsSession}
 use Rattle.snc.proofs.Answering.{ran_by, session_ran, tree_of}
 use Rattle.snc.proofs.sessions.session.Goals as goal

@@ -1,10 +1,10 @@
 use Rattle.std.proofs.Common.{◌≡◌, ◌∙◌, ℕ, Option, Result, Ok, ap}
-use Rattle.snl_machine.specs.Held.{world_held}
+use Rattle.snl_machine.specs.MachineOf.{world_held}
 use Rattle.snl_machine.proofs.Steps.{gave-is}
 use Rattle.snl_trace.specs.declared.trace_faults.TraceFault.{TraceFault}
 use Rattle.snl_trace.specs.Run.{rules_of, done_by}
-use Rattle.snl_trace.specs.Told.{seen, event_seen}
-use Rattle.snl_trace.proofs.TookLaws.{read-is}
+use Rattle.snl_trace.specs.Seen.{seen, event_seen}
+use Rattle.snl_trace.proofs.RunOverLaws.{read-is}
 use Rattle.snl_trace.proofs.runner.process.Goals as goal
 
 pub returns-in-Err-clause-does : goal.returns-in-Err-clause-does

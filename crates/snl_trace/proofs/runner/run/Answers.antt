@@ -1,9 +1,9 @@
 use Rattle.std.proofs.Common.{◌≡◌, ◌∙◌, ◌<◌, ◌≤◌, [], length, refl, arith, rules, length-take}
 use Rattle.std.proofs.lemmas.Grind.{common_steps}
 use Rattle.snl_trace.specs.Run.{rules_of}
-use Rattle.snl_trace.specs.Took.{standing}
+use Rattle.snl_trace.specs.RunOver.{standing}
 use Rattle.snl_trace.proofs.SourceLaws.{under_way-start, under_way-on, under_way-ends, under_way-ended, under_way-broken, under_way-never}
-use Rattle.snl_trace.proofs.TookLaws.{rules-long, rules-same}
+use Rattle.snl_trace.proofs.RunOverLaws.{rules-long, rules-same}
 use Rattle.snl_trace.proofs.runner.run.Goals as goal
 
 pub loop-reads-init : goal.loop-reads-init

@@ -1,7 +1,7 @@
 use Rattle.std.proofs.Common.{◌≡◌, ◌+◌, ◌*◌, ◌≤◌, [], length}
-use Rattle.snl_machine.specs.Held.{program_held}
+use Rattle.snl_machine.specs.MachineOf.{program_held}
 use Rattle.snl_trace.specs.Run.{rules_of}
-use Rattle.snl_trace.specs.Took.{standing}
+use Rattle.snl_trace.specs.RunOver.{standing}
 use Rattle.snl_trace.proofs.SourceLaws.{IsUnderWay}
 use Rattle.snl_trace.proofs.runner.run.Given as goal
 

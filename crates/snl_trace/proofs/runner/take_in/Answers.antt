@@ -1,8 +1,8 @@
 use Rattle.std.proofs.Common.{◌≡◌, ◌∙◌, ◌++◌, ◌∷◌, [], length, refl, sym, ap, arith, rules, append_assoc, append-nil, length-append}
 use Rattle.snl_trace.specs.declared.runner.End.TheVariants as end
 use Rattle.snl_trace.specs.Run.{rules_of}
-use Rattle.snl_trace.specs.Took.{standing}
-use Rattle.snl_trace.proofs.TookLaws.{way-start, way-on, way-ends, way-all, takes-more, takes-long, rules-long, rules-same}
+use Rattle.snl_trace.specs.RunOver.{standing}
+use Rattle.snl_trace.proofs.RunOverLaws.{way-start, way-on, way-ends, way-all, takes-more, takes-long, rules-long, rules-same}
 use Rattle.snl_trace.proofs.runner.take_in.Goals as goal
 
 pub loop-text-init : goal.loop-text-init

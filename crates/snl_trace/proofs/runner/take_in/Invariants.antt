@@ -1,8 +1,8 @@
 use Rattle.std.proofs.Common.{◌≡◌, ◌+◌, ◌≤◌, length}
-use Rattle.snl_machine.specs.Held.{program_held}
+use Rattle.snl_machine.specs.MachineOf.{program_held}
 use Rattle.snl_trace.specs.Run.{rules_of}
-use Rattle.snl_trace.specs.Took.{standing}
-use Rattle.snl_trace.proofs.TookLaws.{IsPartWay}
+use Rattle.snl_trace.specs.RunOver.{standing}
+use Rattle.snl_trace.proofs.RunOverLaws.{IsPartWay}
 use Rattle.snl_trace.proofs.runner.take_in.Given as goal
 
 -- the bytes before those that are left were taken in, and no more lines have ended than there were bytes

@@ -2,8 +2,8 @@ use Rattle.std.proofs.Common.{◌≡◌, ◌∙◌, ◌++◌, ◌∷◌, [], ℕ
 use Rattle.snl_trace.specs.declared.runner.End.TheVariants as end
 use Rattle.snl_trace.specs.Lines.{lines_from}
 use Rattle.snl_trace.specs.Run.{rules_of}
-use Rattle.snl_trace.specs.Took.{standing, EndsIn}
-use Rattle.snl_trace.proofs.TookLaws.{takes-line, takes-long, rules-long}
+use Rattle.snl_trace.specs.RunOver.{standing, EndsIn}
+use Rattle.snl_trace.proofs.RunOverLaws.{takes-line, takes-long, rules-long}
 use Rattle.snl_trace.proofs.runner.take_line.Goals as goal
 
 pub returns-in-Err-clause-does : goal.returns-in-Err-clause-does

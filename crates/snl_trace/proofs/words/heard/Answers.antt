@@ -2,7 +2,7 @@ use Rattle.std.proofs.Common.{◌≡◌, arith}
 use Rattle.std.proofs.lemmas.Grind.{common_steps}
 use Rattle.snl_trace.specs.Fields.{fields}
 use Rattle.snl_trace.specs.Grammar.{told_by, up_with, tick_with}
-use Rattle.snl_trace.specs.Told.{seen, told}
+use Rattle.snl_trace.specs.Seen.{seen, told}
 use Rattle.snl_trace.proofs.words.heard.Goals as goal
 
 pub returns-in-Some-Up : goal.returns-in-Some-Up

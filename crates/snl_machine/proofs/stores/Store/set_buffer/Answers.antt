@@ -1,7 +1,7 @@
 use Rattle.std.proofs.Common.{◌≡◌, ◌∙◌, ℤ, pos, List, ap, slice_index_or, slice_set, FitsSigned, w64, rules}
 use Rattle.std.proofs.lemmas.Int.{to_z-of_z}
 use Rattle.snl_machine.specs.Views.{world_of, alone}
-use Rattle.snl_machine.proofs.Marks.{buffers-first}
+use Rattle.snl_machine.proofs.StoreWrites.{buffers-first}
 use Rattle.snl_machine.proofs.stores.Store.set_buffer.Goals as goal
 
 pub returns-in-len1-up : goal.returns-in-len1-up

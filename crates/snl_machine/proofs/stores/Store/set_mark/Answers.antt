@@ -1,6 +1,6 @@
 use Rattle.std.proofs.Common.{ap}
 use Rattle.snl_machine.specs.Views.{world_of}
-use Rattle.snl_machine.proofs.Marks.{marks-set}
+use Rattle.snl_machine.proofs.StoreWrites.{marks-set}
 use Rattle.snl_machine.proofs.stores.Store.set_mark.Goals as goal
 
 pub returns-in-Some : goal.returns-in-Some

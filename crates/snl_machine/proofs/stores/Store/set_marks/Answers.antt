@@ -1,6 +1,6 @@
 use Rattle.std.proofs.Common.{ap}
 use Rattle.snl_machine.specs.Views.{world_of}
-use Rattle.snl_machine.proofs.Marks.{all_marks-set}
+use Rattle.snl_machine.proofs.StoreWrites.{all_marks-set}
 use Rattle.snl_machine.proofs.stores.Store.set_marks.Goals as goal
 
 pub returns-in-Some : goal.returns-in-Some

@@ -1,7 +1,7 @@
 -- What a run did with the bytes of a trace, by the definition of the run.
 use Rattle.std.specs.Prelude.{◌≡◌, ℕ, ◌+◌, List, [], ◌∷◌, ◌++◌, Option, None, Some, All, length}
 use Rattle.snl_machine.specs.declared.machine.Machine.{Machine}
-use Rattle.snl_machine.specs.Held.{world_held}
+use Rattle.snl_machine.specs.MachineOf.{world_held}
 use Rattle.snl_machine.specs.Devices.{told_more, IsCutShort}
 use Rattle.snl_machine.specs.Does.{Gave, Faulted}
 use Rattle.snl_machine.specs.Ran.{Ran, Gives, text_of}

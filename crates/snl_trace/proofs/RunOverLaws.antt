@@ -11,7 +11,7 @@ use Rattle.snl_machine.specs.declared.faults.Stop.TheVariants as stop
 use Rattle.snl_machine.specs.declared.machine.Machine.{Machine}
 use Rattle.snl_machine.specs.Devices.{told_more, IsCutShort, stopped_by_sink}
 use Rattle.snl_machine.specs.Does.{Gave, Does}
-use Rattle.snl_machine.specs.Held.{program_held, world_held}
+use Rattle.snl_machine.specs.MachineOf.{program_held, world_held}
 use Rattle.snl_machine.specs.Lookup.{channel_of, fits_of}
 use Rattle.snl_machine.specs.Ran.{Ran, Gives, also, then_do, text_of}
 use Rattle.snl_machine.specs.World.{World}
@@ -25,7 +25,7 @@ use Rattle.snl_trace.specs.Ends.{OnStop, OnStopHere, ends_by_sink}
 use Rattle.snl_trace.specs.Grammar.{told_of, read_of}
 use Rattle.snl_trace.specs.Lines.{lines_to, lines_from, last_line}
 use Rattle.snl_trace.specs.Run.{Rules, run_from, line_done, or_rest, done_by, end_by, ending_of, rules_of, rules_by}
-use Rattle.snl_trace.specs.Took.{Place, Reaches, EndsIn, Takes, LineDoes}
+use Rattle.snl_trace.specs.RunOver.{Place, Reaches, EndsIn, Takes, LineDoes}
 use Rattle.snl_trace.proofs.LineLaws.{lines_to-newline, lines_to-end, lines_to-append}
 use Rattle.snl_trace.proofs.RunLaws.{run_from-append}
 
