@@ -47,9 +47,11 @@ lone_error messages pos number text is none =
 abbrev pub tree_of : Option Checked → Option Program
 tree_of checked = option_map (λ c. c.program) checked
 
+-- two results that are one fault have one fault
 same_err : (a b : LexFault) → ◌≡◌ {A = Result Lexed LexFault} (Err a) (Err b) → a ≡ b
 same_err a b e = cc
 
+-- tokens are no fault
 ok_err : (a : Lexed) (b : LexFault) → ◌≡◌ {A = Result Lexed LexFault} (Ok a) (Err b) → ⊥
 ok_err a b e = cc
 
@@ -57,6 +59,7 @@ ok_err a b e = cc
 pub has_fault : (source : List ℕ) (fault : LexFault) → FaultHolds source fault → (1048576 < length source → ◌≡◌ {A = Result Lexed LexFault} (Err fault) (Err (SourceTooLong start))) → HasFault source fault
 has_fault source fault holds long = record { holds = holds; long = λ h. same_err fault (SourceTooLong start) (long h) }
 
+-- a source that `lex` cuts is within the limit, and is the row of its tokens
 pub has_tokens : (source : List ℕ) (lexed : Lexed) → IsLexed source lexed → (1048576 < length source → ◌≡◌ {A = Result Lexed LexFault} (Ok lexed) (Err (SourceTooLong start))) → HasTokens source lexed
 has_tokens source lexed is long =
     let within : 1048576 < length source → ⊥ = λ h. ok_err lexed (SourceTooLong start) (long h) in
@@ -95,9 +98,11 @@ names_read source kind pos names within given w = given.cut w.end within (before
 names_of_nothing : (source : List ℕ) (names : List (List ℕ)) → AreNamesOf (take 0 source) names → names ≡ []
 names_of_nothing source names given = given.cut nothing_read (lit≤ tt) record { pieces = []; cut = (refl, refl) }
 
+-- places that are given as one are one
 same_place : (p q : Pos) → ◌≡◌ {A = Option Pos} (Some p) (Some q) → p ≡ q
 same_place p q e = cc
 
+-- a source that is too long has its fault at the start
 too_long : (p : Pos) → ◌≡◌ {A = LexFault} (SourceTooLong p) (SourceTooLong start) → p ≡ start
 too_long p e = cc
 
@@ -185,6 +190,7 @@ told_deep word text names lexed k token checked named read at is none =
     told_alone word text names lexed (nesting_error token) checked named refl
     (inr (inr record { k = k; read = read; token = token; at = at; messages_are = refl; tree_is = refl })) is none
 
+-- a tree that is given as this one is this one
 some_tree : (o : Option Program) (p : Program) → IfSome o (λ q. q ≡ p) → IfSome o (λ q. Some p ≡ Some q)
 some_tree None p h = tt
 some_tree (Some q) p h = ap Some (sym h)
@@ -231,10 +237,12 @@ told_program word text names lexed whole embedded checked named pieces is spelle
   same = w.same;
 }
 
+-- a tree is there where a checked program is
 is_some_tree : (o : Option Checked) → IsSome (tree_of o) ↔ IsSome o
 is_some_tree None = (λ h. h, λ h. h)
 is_some_tree (Some c) = (λ h. h, λ h. h)
 
+-- the tree of a checked program is its own
 if_some_tree : (o : Option Checked) (p : Program) → IfSome o (λ c. c.program ≡ p) → IfSome (tree_of o) (λ q. q ≡ p)
 if_some_tree None p h = tt
 if_some_tree (Some c) p h = h

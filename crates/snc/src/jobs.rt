@@ -1,3 +1,5 @@
+//! What a call asks for, and what it answers.
+
 /// How many steps an instant may take, where nothing else is said.
 pub const DEFAULT_BUDGET: u32 = 100_000;
 

@@ -1,3 +1,5 @@
+//! `report`: what is said of a source, and the status.
+
 ghost use Rattle.std.specs.Prelude.{◌≡◌, if◌then◌else◌, IfOk, string_bytes};
 ghost use Rattle.snc.specs.Outcomes.{IsReport};
 

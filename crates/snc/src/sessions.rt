@@ -1,3 +1,5 @@
+//! `session`: a source, and the run of its program over a trace.
+
 ghost use Rattle.std.specs.Prelude.{◌≡◌, ◌-◌, ◌^◌, ◌<◌, IfOk, OnErr, string_bytes};
 ghost use Rattle.snc.specs.Outcomes.{IsSession, status_of};
 

@@ -1,3 +1,5 @@
+//! Values and connections that come from channels.
+
 ghost use Rattle.std.specs.Prelude.{◌≡◌, ◌==◌, ◌||◌, not, take};
 ghost use Rattle.std.specs.List.{list_all};
 ghost use Rattle.snl_machine.specs.Event.{applied, received_from, received_link};

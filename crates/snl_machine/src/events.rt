@@ -1,3 +1,5 @@
+//! What a line of a trace tells a machine, and what the machine answers.
+
 use arrayvec::ArrayVec;
 
 /// How many values of one line are kept: no channel of a program has more elements.

@@ -1,3 +1,5 @@
+//! What ends a run: faults of the program, and a sink that fails.
+
 use thiserror::Error;
 
 /// What a program did wrong while it ran.

@@ -1,3 +1,5 @@
+//! What happens at one time.
+
 ghost use Rattle.std.specs.Prelude.{◌≡◌, ◌-◌, ◌^◌, ◌<◌};
 ghost use Rattle.std.specs.List.{list_all};
 ghost use Rattle.snl_machine.specs.Devices.{counted, stopped_by_sink};

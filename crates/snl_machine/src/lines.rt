@@ -1,3 +1,5 @@
+//! The lines that a run writes.
+
 ghost use Rattle.std.specs.Prelude.{◌≡◌, ◌-◌, ◌^◌, ◌<◌, is_err, map};
 ghost use Rattle.snl_machine.specs.Devices.{counted, Wrote};
 ghost use Rattle.snl_machine.specs.Lines.{joined, start_line, put_line, go_line, fault_line};

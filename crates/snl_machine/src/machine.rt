@@ -1,3 +1,5 @@
+//! `Machine`: a program with its store, and the events that it takes.
+
 ghost use Rattle.std.specs.Prelude.{◌≡◌, ◌-◌, ◌^◌, ◌<◌, IfOk, OnErr};
 ghost use Rattle.snl_machine.specs.Devices.{counted, stopped_by_sink};
 ghost use Rattle.snl_machine.specs.Does.{Does};

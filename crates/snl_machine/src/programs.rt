@@ -1,3 +1,5 @@
+//! The program that a machine runs: names are numbers in it.
+
 use indexmap::IndexSet;
 
 /// A program whose variables, links, channels and states go by number, in the order of the source.

@@ -1,3 +1,5 @@
+//! `Sink`: where the lines of a run go.
+
 use thiserror::Error;
 
 /// A sink did not take what it was given.

@@ -1,3 +1,5 @@
+//! The effect of statements.
+
 ghost use Rattle.std.specs.Prelude.{◌≡◌, ◌-◌, ◌^◌, ◌<◌, Some, map};
 ghost use Rattle.snl_machine.specs.Devices.{counted, stopped_by_sink};
 ghost use Rattle.snl_machine.specs.Does.{Does};

@@ -1,3 +1,5 @@
+//! The store: all that a run changes.
+
 ghost use Rattle.std.specs.Prelude.{◌≡◌, slice_index_or, slice_set, false, true, IfOk};
 
 use crate::events::Live;

@@ -1,3 +1,5 @@
+//! The turn of a state set: refresh, conditions, a transition.
+
 ghost use Rattle.std.specs.Prelude.{◌≡◌, ◌-◌, ◌^◌, ◌<◌, map, slice_get, Some};
 ghost use Rattle.snl_machine.specs.Devices.{counted, stopped_by_sink};
 ghost use Rattle.snl_machine.specs.Does.{Does};

@@ -1,3 +1,5 @@
+//! The values of expressions.
+
 ghost use Rattle.std.specs.Prelude.{◌≡◌};
 ghost use Rattle.snl_machine.specs.Ran.{then_do};
 ghost use Rattle.snl_machine.specs.Value.{value_of, operated, computed as computed_of};

@@ -23,15 +23,18 @@ pub begins_with_not : (first : ℕ) (text : List ℕ) → (get_or text 0 0 ≡ f
 begins_with_not first [] other = refl
 begins_with_not first (b ∷ bs) other = ne_eqb b first other
 
+-- an empty text begins with no blank
 pub begins_blank_empty : (text : List ℕ) → length text ≡ 0 → begins_blank text ≡ false
 begins_blank_empty [] none = refl
 begins_blank_empty (b ∷ bs) none = absurd (omega arith)
 
+-- an empty text has no fields
 pub fields_empty : (text : List ℕ) → length text ≡ 0 → fields text ≡ []
 unfolding fields
 fields_empty [] none = refl
 fields_empty (b ∷ bs) none = absurd (omega arith)
 
+-- no bytes have no fields
 fields-nil : fields [] ≡ []
 unfolding fields
 fields-nil = refl
@@ -64,6 +67,7 @@ filled_take zero text more filled = absurd (omega arith)
 filled_take (suc k) [] more filled = absurd (omega arith)
 filled_take (suc k) (b ∷ bs) more filled = refl
 
+-- a text of one byte or more is filled
 is_filled_more : (text : List ℕ) → 0 < length text → is_filled text ≡ true
 is_filled_more [] filled = absurd (omega arith)
 is_filled_more (b ∷ bs) filled = refl
@@ -97,6 +101,7 @@ pub cut-shorter : (text : List ℕ) (r : Option ℕ) → begins_blank text ≡ f
 cut-shorter text None trimmed filled first = filled
 cut-shorter text (Some k) trimmed filled first = later text k trimmed filled first.1
 
+-- the first blank of a text lies within it; otherwise its length stands in the place
 pub cut-within : (text : List ℕ) (r : Option ℕ) → IsFirstByte (is_in (32 ∷ 9 ∷ [])) text r → unwrap_or r (length text) ≤ length text
 cut-within text None first = omega arith
 cut-within text (Some k) first = let within : k < length text = first.0.high in omega arith

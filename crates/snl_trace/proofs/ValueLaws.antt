@@ -11,10 +11,12 @@ use Rattle.snl_trace.specs.Grammar.{values_of, put_first, kept, kept_values}
 unfoldable pub kept_after : List ℤ → List (List ℕ) → Result (List ℤ) TraceFault
 kept_after items fields = kept (option_map (λ values. items ++ values) (values_of fields))
 
+-- with none kept before, those of the fields are kept
 pub kept_after_start : (fields : List (List ℕ)) → kept_after [] fields ≡ kept (values_of fields)
 unfolding kept_after
 kept_after_start fields = elim (values_of fields) as (λ o. kept (option_map (λ values. [] ++ values) o) ≡ kept o) [ None ↦ refl | Some values ↦ refl ]
 
+-- a field that is no value is the fault, whatever was kept
 pub kept_after_bad : (items : List ℤ) (field : List ℕ) (rest : List (List ℕ)) → value_of field ≡ None → kept_after items (field ∷ rest) ≡ Err BadValue
 unfolding kept_after values_of
 kept_after_bad items field rest bad = rw bad refl
@@ -25,6 +27,7 @@ take_front zero xs ys = refl
 take_front (suc n) [] ys = refl
 take_front (suc n) (x ∷ xs) ys = ap (λ z. x ∷ z) (take_front n xs ys)
 
+-- a field that is a value is kept where there is room
 pub kept_after_more : (items : List ℤ) (field : List ℕ) (rest : List (List ℕ)) (value : ℤ) → value_of field ≡ Some value → kept_after (take 1024 (items ++ value ∷ [])) rest ≡ kept_after items (field ∷ rest)
 unfolding kept_after values_of
 kept_after_more items field rest value is =
@@ -35,6 +38,7 @@ kept_after_more items field rest value is =
     ]
     )
 
+-- the first n are at most n
 pub take-within : (n : ℕ) (xs : List ℤ) → length (take n xs) ≤ n
 take-within n xs = omega (arith, length-take n xs)
 
@@ -42,9 +46,11 @@ take-within n xs = omega (arith, length-take n xs)
 pub take_room : (items : List ℤ) (value : ℤ) → length items < 1024 → take 1024 (items ++ value ∷ []) ≡ items ++ value ∷ []
 take_room items value room = take_all 1024 (items ++ value ∷ []) (omega (arith, length-append items (value ∷ [])))
 
+-- of more than 1,024 values the first ones stay
 pub take_full : (items : List ℤ) (value : ℤ) → length items ≡ 1024 → take 1024 (items ++ value ∷ []) ≡ items
 take_full items value full = take-append-le 1024 items (value ∷ []) (omega arith) ∙ take_all 1024 items (omega arith)
 
+-- after the last field those are kept that were
 pub kept_after_end : (items : List ℤ) → length items ≤ 1024 → kept_after items [] ≡ Ok items
 unfolding kept_after values_of
 kept_after_end items within = ap (λ all. Ok all) (ap (λ all. take 1024 all) (append-nil items) ∙ take_all 1024 items within)
@@ -55,10 +61,12 @@ unfolding values_of
 kept_values_bad [] fault is = cc
 kept_values_bad (field ∷ rest) fault is = is
 
+-- a result is a fault
 is_fault : {A : Type 0} → Result A TraceFault → Type 0
 is_fault (Ok value) = ⊥
 is_fault (Err fault) = Unit {0}
 
+-- a fault is no value
 err_ok : {A : Type 0} {fault : TraceFault} {value : A} → Err fault ≡ Ok value → ⊥
 unfolding is_fault
 err_ok {A} e = subst (is_fault {A = A}) e tt

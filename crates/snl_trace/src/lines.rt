@@ -1,3 +1,5 @@
+//! Bytes cut into lines.
+
 ghost use Rattle.std.specs.Prelude.{◌≡◌, ◌≢◌, ◌++◌, ◌∷◌, IfSome, IfNone, All};
 ghost use Rattle.snl_trace.specs.Lines as spec;
 

@@ -1,3 +1,5 @@
+//! A source and a sink over bytes in memory.
+
 ghost use Rattle.std.specs.Prelude.{◌≡◌, ◌<◌, [], IfOk, Some};
 
 use crate::sources::{Source, SourceFault};

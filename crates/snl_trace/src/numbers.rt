@@ -1,3 +1,5 @@
+//! Times and values, as fields spell them.
+
 ghost use Rattle.std.specs.Prelude.{◌≡◌, ◌≤◌, Some};
 ghost use Rattle.snl_trace.specs.Numbers.{number_of, time_of, value_of, below_zero, from_zero};
 

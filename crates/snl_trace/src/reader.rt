@@ -1,3 +1,5 @@
+//! `read_line`: what a line of a trace tells.
+
 ghost use Rattle.std.specs.Prelude.{◌≡◌};
 ghost use Rattle.snl_machine.specs.Lookup.{channel_of, fits_of};
 ghost use Rattle.snl_trace.specs.Fields.{fields};

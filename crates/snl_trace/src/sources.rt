@@ -1,3 +1,5 @@
+//! `Source`: where a trace comes from.
+
 use thiserror::Error;
 
 /// A source could not be read.

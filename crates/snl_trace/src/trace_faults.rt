@@ -1,3 +1,5 @@
+//! What can be wrong with a line of a trace, and the limits.
+
 use thiserror::Error;
 
 /// The most bytes of a line, its newline not counted.

@@ -1,3 +1,5 @@
+//! `Source` and `Sink` over the standard streams.
+
 ghost use Rattle.std.specs.Prelude.{◌≡◌, ◌≤◌, length, IfSome};
 
 use snl_machine::{Sink, SinkFault};

@@ -1,3 +1,5 @@
+//! Reads the source file.
+
 use snl_text::SOURCE_LIMIT;
 use std::fs::File;
 use std::io::{ErrorKind, Read};
