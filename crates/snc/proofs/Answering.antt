@@ -56,7 +56,8 @@ ok_err : (a : Lexed) (b : LexFault) → ◌≡◌ {A = Result Lexed LexFault} (O
 ok_err a b e = cc
 
 -- what `lex` answers
-pub has_fault : (source : List ℕ) (fault : LexFault) → FaultHolds source fault → (1048576 < length source → ◌≡◌ {A = Result Lexed LexFault} (Err fault) (Err (SourceTooLong start))) → HasFault source fault
+pub has_fault : (source : List ℕ) (fault : LexFault) → FaultHolds source fault → (1048576 < length source → ◌≡◌ {A = Result Lexed LexFault} (Err fault) (Err (SourceTooLong start)))
+    → HasFault source fault
 has_fault source fault holds long = record { holds = holds; long = λ h. same_err fault (SourceTooLong start) (long h) }
 
 -- a source that `lex` cuts is within the limit, and is the row of its tokens
@@ -66,7 +67,8 @@ has_tokens source lexed is long =
     record { within = omega (arith, within); is = is }
 
 -- the names in a text that was cut
-pub names_cut : (text : List ℕ) (lexed : Lexed) → IsLexed text lexed → ((pieces : List Piece) (end : Reading) → length text ≤ 1048576 → Cuts nothing_read text pieces end [] → GivesOnly end (Ok lexed)) → AreNamesOf text (names_of lexed)
+pub names_cut : (text : List ℕ) (lexed : Lexed) → IsLexed text lexed
+    → ((pieces : List Piece) (end : Reading) → length text ≤ 1048576 → Cuts nothing_read text pieces end [] → GivesOnly end (Ok lexed)) → AreNamesOf text (names_of lexed)
 names_cut text lexed w whole = record {
   cut = λ end within is. (whole is.pieces end within is.cut).files;
   none = λ never. absurd (never w.end w.cut);
@@ -91,7 +93,8 @@ take_within (suc n) (b ∷ bs) zero h = absurd (omega arith)
 take_within (suc n) (b ∷ bs) (suc most) h = let k = take_within n bs most (omega arith) in omega arith
 
 -- the names in the bytes before a fault are those that the longest cut reads
-names_read : (source : List ℕ) (kind : Flaw) (pos : Pos) (names : List (List ℕ)) → length (take pos.offset source) ≤ 1048576 → AreNamesOf (take pos.offset source) names → ReadsNames source kind pos names
+names_read : (source : List ℕ) (kind : Flaw) (pos : Pos) (names : List (List ℕ)) → length (take pos.offset source) ≤ 1048576 → AreNamesOf (take pos.offset source) names
+    → ReadsNames source kind pos names
 names_read source kind pos names within given w = given.cut w.end within (before_fault source kind pos w).0
 
 -- nothing has no names
@@ -113,7 +116,8 @@ front_within source fault n has other =
     take_within n source 1048576 (omega (arith, short))
 
 -- the same of a source that is too long and of one that is not
-names_before : (source : List ℕ) (fault : LexFault) (pos : Pos) (names : List (List ℕ)) → HasFault source fault → fault_pos fault ≡ Some pos → AreNamesOf (take pos.offset source) names → AreNamesBefore source fault names
+names_before : (source : List ℕ) (fault : LexFault) (pos : Pos) (names : List (List ℕ)) → HasFault source fault → fault_pos fault ≡ Some pos → AreNamesOf (take pos.offset source) names
+    → AreNamesBefore source fault names
 names_before source (faults.BadByte p) pos names has at given = names_read source flaw.BadByte p names (front_within source (faults.BadByte p) p.offset has (λ e. cc))
     (subst (λ (q : Pos). AreNamesOf (take q.offset source) names) (sym (same_place p pos at)) given)
 names_before source (faults.OpenComment p) pos names has at given = names_read source flaw.OpenComment p names (front_within source (faults.OpenComment p) p.offset has (λ e. cc))
@@ -130,7 +134,8 @@ names_before source (faults.SourceTooLong p) pos names has at given =
 names_before source faults.Memory pos names has at given = tt
 
 -- a source without tokens
-pub judged_fault : (word source text : List ℕ) (fault : LexFault) (checked : Option Checked) → HasFault source fault → IsFaultTold word source fault text → checked ≡ None → IsJudged word source text (tree_of checked)
+pub judged_fault : (word source text : List ℕ) (fault : LexFault) (checked : Option Checked) → HasFault source fault → IsFaultTold word source fault text → checked ≡ None
+    → IsJudged word source text (tree_of checked)
 judged_fault word source text fault checked has w none = subst (λ o. IsJudged word source text (tree_of o)) (sym none) record {
   names = w.names;
   messages = w.messages;
@@ -196,7 +201,8 @@ some_tree None p h = tt
 some_tree (Some q) p h = ap Some (sym h)
 
 -- a tree of the whole language that is one of the first
-pub told_thin : (word text : List ℕ) (names : List (List ℕ)) (whole : ProgramTree) (p : Program) (embedded : List Pos) (checked : Option Program) → is_thin whole ≡ true → StandsFor whole p → p.embedded.items ≡ embedded
+pub told_thin : (word text : List ℕ) (names : List (List ℕ)) (whole : ProgramTree) (p : Program) (embedded : List Pos) (checked : Option Program) → is_thin whole ≡ true → StandsFor whole p
+    → p.embedded.items ≡ embedded
     → IsProgramTold word names p text checked → IsTreeTold word names whole embedded text checked
 told_thin word text names whole p embedded checked thin stands pieces w = record {
   messages = w.messages;
@@ -268,7 +274,8 @@ reported word source text None w = record { names = w.names; messages = w.messag
 reported word source text (Some c) w = record { names = w.names; messages = w.messages; tree = w.tree; finds = w.finds; text_is = w.text_is; status_is = w.accepted.0 refl }
 
 -- a machine that was loaded runs as its program does, from the first world on
-pub ran_by : (m : Machine) (p : Program) (budget : ℕ) (end : End) (bytes : List ℕ) (left told told' : Option (List ℕ)) (w : World) → IsMachineOf p budget m → world_held m ≡ first_world (program_held m)
+pub ran_by : (m : Machine) (p : Program) (budget : ℕ) (end : End) (bytes : List ℕ) (left told told' : Option (List ℕ)) (w : World) → IsMachineOf p budget m
+    → world_held m ≡ first_world (program_held m)
     → RunsOver (rules_of m) end bytes left (standing [] 1 m told) w told' → RunsOver (rules_by (numbered p) budget) end bytes left (at_first (first_world (numbered p)) told) w told'
 ran_by m p budget end bytes left told told' w made first ran =
     let begins : world_held m ≡ first_world (numbered p) = first ∙ ap first_world made.program in

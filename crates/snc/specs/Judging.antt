@@ -117,6 +117,7 @@ pub record IsProgramSaid (lexed : Lexed) (messages : List Said) (tree : Option P
 abbrev pub IsSaidOf : Lexed → List Said → Option Program → Type 0
 IsSaidOf lexed messages tree = IsProgramSaid lexed messages tree ⊎ (IsStuck lexed messages tree ⊎ IsNestedDeeper lexed messages tree)
 
+-- the names that markers give to files
 abbrev pub names_of : Lexed → List (List ℕ)
 names_of lexed = map (λ name. name.now) lexed.files.items
 

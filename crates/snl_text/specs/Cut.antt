@@ -31,9 +31,11 @@ pub record Reading : Type 0 where
 abbrev pub start : Pos
 start = record { offset = 0; file = 0; line = 1 }
 
+-- before the first byte
 abbrev pub nothing_read : Reading
 nothing_read = record { pos = start; opens_line = true; tokens = []; embedded = []; files = [] }
 
+-- how many lines end in a text
 abbrev pub newlines : List ℕ → ℕ
 newlines text = count_by (is_byte (codes "\n")) text
 

@@ -14,6 +14,7 @@ use Rattle.snl_text.specs.declared.pieces.Piece.{Piece}
 use Rattle.snl_text.specs.declared.pieces.Sort.{Sort}
 use Rattle.snl_text.specs.declared.pieces.Sort.TheVariants as sort
 
+-- a piece of a sort, so many bytes long
 abbrev pub piece : Sort → ℕ → Piece
 piece sort length = record { sort = sort; length = length }
 

@@ -79,7 +79,8 @@ later (b ∷ bs) zero trimmed filled passes = absurd (false≢true (sym trimmed 
 later (b ∷ bs) (suc k) trimmed filled passes = omega arith
 
 -- the first field of a text that begins with one ends at the first blank, or with the text
-pub fields-cut : (text : List ℕ) (r : Option ℕ) → begins_blank text ≡ false → 0 < length text → IsFirstByte (is_in (32 ∷ 9 ∷ [])) text r → fields text ≡ take (unwrap_or r (length text)) text ∷ fields (drop (unwrap_or r (length text)) text)
+pub fields-cut : (text : List ℕ) (r : Option ℕ) → begins_blank text ≡ false → 0 < length text → IsFirstByte (is_in (32 ∷ 9 ∷ [])) text r
+    → fields text ≡ take (unwrap_or r (length text)) text ∷ fields (drop (unwrap_or r (length text)) text)
 fields-cut text None trimmed filled first =
     let all : take (length text) text ≡ text = take_all (length text) text (omega arith) in
     let none = none_before text (length text) (omega arith) first in

@@ -26,7 +26,10 @@ without_return-other (b ∷ c ∷ bs) other =
     ap (λ z. b ∷ z) (without_return-other (c ∷ bs) (λ front e. other (b ∷ front) (ap (λ z. b ∷ z) e)))
 
 -- what `strip_suffix` says of it
-pub without_return-stripped : (line : Bor (List ℕ)) (r : Option (Bor (List ℕ))) → MatchOption r (pointwise eqb (drop (length line.now - 1) line.now) (13 ∷ []) ≡ false) (λ x. (pointwise eqb (drop (length line.now - 1) line.now) (13 ∷ []) ≡ true) × (x.now ≡ take (length line.now - 1) line.now) × (length x.now + 1 ≡ length line.now)) → (unwrap_or r line).now ≡ without_return line.now
+pub without_return-stripped : (line : Bor (List ℕ)) (r : Option (Bor (List ℕ)))
+    → MatchOption r (pointwise eqb (drop (length line.now - 1) line.now) (13 ∷ []) ≡ false)
+    (λ x. (pointwise eqb (drop (length line.now - 1) line.now) (13 ∷ []) ≡ true) × (x.now ≡ take (length line.now - 1) line.now) × (length x.now + 1 ≡ length line.now))
+    → (unwrap_or r line).now ≡ without_return line.now
 without_return-stripped line None h = sym (without_return-other line.now (strip_suffix_is Decides-eqb line.now (13 ∷ []) None h))
 without_return-stripped line (Some x) h = sym (ap without_return (strip_suffix_is Decides-eqb line.now (13 ∷ []) (Some x) h) ∙ without_return-snoc x.now)
 
@@ -56,7 +59,8 @@ pub lines_to-append : (last : List ℕ → List (List ℕ)) (begun front rest : 
 unfolding lines_to
 lines_to-append last begun [] rest = refl
 lines_to-append last begun (b ∷ bs) rest =
-    elim (eqb b 10) as (λ t. cond t (begun ∷ lines_to last [] (bs ++ rest)) (lines_to last (begun ++ b ∷ []) (bs ++ rest)) ≡ cond t (begun ∷ lines_to (λ line. lines_to last line rest) [] bs) (lines_to (λ line. lines_to last line rest) (begun ++ b ∷ []) bs)) [
+    elim (eqb b 10) as (λ t. cond t (begun ∷ lines_to last [] (bs ++ rest)) (lines_to last (begun ++ b ∷ []) (bs ++ rest)) ≡ cond t
+    (begun ∷ lines_to (λ line. lines_to last line rest) [] bs) (lines_to (λ line. lines_to last line rest) (begun ++ b ∷ []) bs)) [
       | true ↦ ap (λ z. begun ∷ z) (lines_to-append last [] bs rest)
       | false ↦ lines_to-append last (begun ++ b ∷ []) bs rest
     ]

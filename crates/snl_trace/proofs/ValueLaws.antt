@@ -28,7 +28,8 @@ take_front (suc n) [] ys = refl
 take_front (suc n) (x ∷ xs) ys = ap (λ z. x ∷ z) (take_front n xs ys)
 
 -- a field that is a value is kept where there is room
-pub kept_after_more : (items : List ℤ) (field : List ℕ) (rest : List (List ℕ)) (value : ℤ) → value_of field ≡ Some value → kept_after (take 1024 (items ++ value ∷ [])) rest ≡ kept_after items (field ∷ rest)
+pub kept_after_more : (items : List ℤ) (field : List ℕ) (rest : List (List ℕ)) (value : ℤ) → value_of field ≡ Some value
+    → kept_after (take 1024 (items ++ value ∷ [])) rest ≡ kept_after items (field ∷ rest)
 unfolding kept_after values_of
 kept_after_more items field rest value is =
     rw is (

@@ -29,6 +29,7 @@ abbrev pub put_first : Option ℤ → Option (List ℤ) → Option (List ℤ)
 put_first None values = None
 put_first (Some value) values = option_map (λ rest. value ∷ rest) values
 
+-- the values that fields spell, if each of them spells one
 unfoldable pub values_of : List (List ℕ) → Option (List ℤ)
 values_of [] = Some []
 values_of (field ∷ rest) = put_first (value_of field) (values_of rest)
@@ -53,10 +54,12 @@ unfoldable pub up_with : List (List ℕ) → Result Told TraceFault
 up_with [] = Err FieldCount
 up_with (name ∷ rest) = ended rest >>= λ _. Ok (Up name)
 
+-- what `val` tells with these fields after it
 unfoldable pub val_with : List (List ℕ) → Result Told TraceFault
 val_with [] = Err FieldCount
 val_with (name ∷ rest) = kept_values rest >>= λ values. Ok (Val name values)
 
+-- `tick` stands alone
 unfoldable pub tick_with : List (List ℕ) → Result Told TraceFault
 tick_with rest = ended rest >>= λ _. Ok Tick
 
@@ -68,6 +71,7 @@ word_of field =
     else if bytes_eq field (codes "tick") then Some words.Tick
     else None
 
+-- what a word tells with these fields after it
 abbrev pub told_after : Option Word → List (List ℕ) → Result Told TraceFault
 told_after None rest = Err UnknownWord
 told_after (Some words.Up) rest = up_with rest
@@ -112,16 +116,20 @@ abbrev pub up_at : Option ℕ → Event
 up_at None = events.Other
 up_at (Some number) = events.Up number
 
+-- an event, if it fits
 abbrev pub if_fits : Bool → Event → Result Event TraceFault
 if_fits fits event = if fits then Ok event else Err OutOfRange
 
+-- the event of values of a channel
 abbrev pub val_of : ℕ → List ℤ → Event
 val_of number values = events.Val number (record { items = values })
 
+-- values of a channel, where it has a number
 abbrev pub val_at : (Event → Bool) → Option ℕ → List ℤ → Result Event TraceFault
 val_at fits None values = Ok events.Other
 val_at fits (Some number) values = if_fits (fits (val_of number values)) (val_of number values)
 
+-- the event that is told: names become numbers of channels
 abbrev pub event_of : (List ℕ → Option ℕ) → (Event → Bool) → Told → Result Event TraceFault
 event_of channel fits (Up name) = Ok (up_at (channel name))
 event_of channel fits (Val name values) = val_at fits (channel name) values

@@ -14,7 +14,8 @@ pub returns-in_ok-found-in-Err-Unexpected : goal.returns-in_ok-found-in-Err-Unex
 returns-in_ok-found-in-Err-Unexpected c =
     let found = c.in_ok-found-in-Err-Unexpected.found in
     told_stuck c.args.file.now found.messages.items (map (λ name. name.now) c.as_slice.result.now) c.args.lexed.now c.in-Err-Unexpected.k found.checked
-    (ap (map (λ name. name.now)) c.as_slice.ensures.value) (c.parse.ensures.unexpected c.in-Err-Unexpected.k cc) c.in_ok-found-in-Err-Unexpected.ensures.text c.in_ok-found-in-Err-Unexpected.ensures.none
+    (ap (map (λ name. name.now)) c.as_slice.ensures.value)
+    (c.parse.ensures.unexpected c.in-Err-Unexpected.k cc) c.in_ok-found-in-Err-Unexpected.ensures.text c.in_ok-found-in-Err-Unexpected.ensures.none
 
 pub returns-in_ok-found-in-Err-TooDeep : goal.returns-in_ok-found-in-Err-TooDeep
 returns-in_ok-found-in-Err-TooDeep c =

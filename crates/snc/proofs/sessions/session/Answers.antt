@@ -28,5 +28,8 @@ returns-clause-answer g c =
       source_counted = c.run-end.ensures.source;
       sink_counted = c.run-end.ensures.sink;
     } in
-    let session = session_ran g.R.Source.rest g.R.Source.failures g.S.Sink.told g.S.Sink.failures word source text budget c.args.trace.now c.run-end.new.source c.args.sink.now c.run-end.new.sink checked c.in-Some.checked end some judged run in
-    subst (λ (s : Status). IsSession g.R.Source.rest g.R.Source.failures g.S.Sink.told g.S.Sink.failures word source budget c.args.trace.now c.run-end.new.source c.args.sink.now c.run-end.new.sink text (Some end) s) (sym c.status.ensures) session
+    let session = session_ran g.R.Source.rest g.R.Source.failures g.S.Sink.told g.S.Sink.failures word source text budget
+    c.args.trace.now c.run-end.new.source c.args.sink.now c.run-end.new.sink checked c.in-Some.checked end some judged run in
+    subst (λ (s : Status).
+    IsSession g.R.Source.rest g.R.Source.failures g.S.Sink.told g.S.Sink.failures word source budget
+    c.args.trace.now c.run-end.new.source c.args.sink.now c.run-end.new.sink text (Some end) s) (sym c.status.ensures) session
