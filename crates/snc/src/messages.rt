@@ -1,6 +1,6 @@
 //! What the rules say of a source.
 
-ghost use Rattle.std.specs.Prelude.{◌≡◌, [], ◌∷◌, ◌++◌, map, take, codes, IfOk, slice_get};
+ghost use Rattle.std.specs.Prelude.{◌≡◌, ◌<◌, [], ◌∷◌, ◌++◌, map, take, length, codes, IfOk, Some, slice_get};
 ghost use Rattle.std.specs.Option.{option_map};
 ghost use Rattle.snc.specs.Judging.{IsJudged, error_at, nesting_error, syntax_error, token_error};
 ghost use Rattle.snc.specs.Texts.{text_of};
@@ -106,7 +106,8 @@ fn tokens_judged<'a>(
             Ok(found)
         }
         Err(ParseFault::TooDeep(k)) => {
-            let found = nesting_fault(alloc, lexed.tokens[k], names)?;
+            let token = token_of(lexed.tokens.as_slice(), k);
+            let found = nesting_fault(alloc, token, names)?;
             Ok(found)
         }
     }
@@ -207,6 +208,14 @@ fn token_fault<'a>(
     let text = words_at(alloc, words, token.text)?;
     let found = refused(alloc, names, token.pos, number, text.as_slice())?;
     Ok(found)
+}
+
+/// A token by its number, of which there are more.
+fn token_of<'a>(tokens: &[Token<'a>], k: usize) -> Token<'a>
+    requires { k < length tokens.now }
+    ensures { slice_get tokens.now k ≡ Some result }
+{
+    tokens[k]
 }
 
 /// A token by its number; None where there are no more than that.

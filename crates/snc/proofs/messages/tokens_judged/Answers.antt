@@ -1,4 +1,4 @@
-use Rattle.std.proofs.Common.{ap, map}
+use Rattle.std.proofs.Common.{◌≡◌, ◌<◌, ap, sym, subst, map, length, slice_get, Some}
 use Rattle.snl_tree.specs.view.Programs.{program_view}
 use Rattle.snc.proofs.Answering.{told_deep, told_program, told_stuck, tree_of}
 use Rattle.snc.proofs.messages.tokens_judged.Goals as goal
@@ -17,8 +17,15 @@ returns-in_ok-found-in-Err-Unexpected c =
     (ap (map (λ name. name.now)) c.as_slice.ensures.value)
     (c.parse.ensures.unexpected c.in-Err-Unexpected.k cc) c.in_ok-found-in-Err-Unexpected.ensures.text c.in_ok-found-in-Err-Unexpected.ensures.none
 
+pub token_of-token-requires : goal.token_of-token-requires
+token_of-token-requires c =
+    subst (λ ts. c.in-Err-TooDeep.k < length ts) (sym c.as_slice-in-Err-TooDeep.ensures.value) (c.parse.ensures.too_deep c.in-Err-TooDeep.k cc).within
+
 pub returns-in_ok-found-in-Err-TooDeep : goal.returns-in_ok-found-in-Err-TooDeep
 returns-in_ok-found-in-Err-TooDeep c =
+    let k = c.in-Err-TooDeep.k in
     let found = c.in_ok-found-in-Err-TooDeep.found in
-    told_deep c.args.file.now found.messages.items (map (λ name. name.now) c.as_slice.result.now) c.args.lexed.now c.in-Err-TooDeep.k found.checked
-    (ap (map (λ name. name.now)) c.as_slice.ensures.value) (c.parse.ensures.too_deep c.in-Err-TooDeep.k cc) c.in_ok-found-in-Err-TooDeep.ensures.text c.in_ok-found-in-Err-TooDeep.ensures.none
+    let token = c.token_of-token.result in
+    let at : slice_get c.args.lexed.now.tokens.items k ≡ Some token = subst (λ ts. slice_get ts k ≡ Some token) c.as_slice-in-Err-TooDeep.ensures.value c.token_of-token.ensures in
+    told_deep c.args.file.now found.messages.items (map (λ name. name.now) c.as_slice.result.now) c.args.lexed.now k token found.checked
+    (ap (map (λ name. name.now)) c.as_slice.ensures.value) (c.parse.ensures.too_deep k cc) at c.in_ok-found-in-Err-TooDeep.ensures.text c.in_ok-found-in-Err-TooDeep.ensures.none
