@@ -2,6 +2,7 @@ pub mod Opened
 pub mod Loops
 pub mod Forms
 pub mod Rows
+pub mod Building
 pub mod Turns
 pub mod ValueTurns
 pub mod Climbing

@@ -4,6 +4,7 @@ ghost use Rattle.std.specs.Prelude.{◌≡◌, ◌<◌, ℕ, IfOk, List, Err};
 ghost use Rattle.snl_tree.specs.Begins.{Spells, IsUnexpected, IsTooDeep};
 ghost use Rattle.snl_tree.specs.Answers.{IsOnly, IsOnlyFault};
 ghost use Rattle.snl_tree.specs.Programs.{ProgramTree, IsProgram, programs};
+ghost use Rattle.snl_tree.specs.view.Shown.{held};
 ghost use Rattle.snl_tree.specs.view.Programs.{Carries, program_view};
 
 use crate::faults::ParseFault;
@@ -43,32 +44,35 @@ pub fn parse<'a>(alloc: Global, lexed: &Lexed<'a>) -> Result<Program<'a>, ParseF
         → IsOnlyFault result (ParseFault.TooDeep k) }
     ensures carried { IfOk result (λ p. Carries p lexed.now) }
 {
-    parse_within(alloc, lexed, NESTING_LIMIT)
+    match parse_within(alloc, lexed, NESTING_LIMIT) {
+        Ok(program) => Ok(Box::into_inner(program)),
+        Err(fault) => Err(fault),
+    }
 }
 
-/// The same, with any limit on the nesting that leaves room for a block.
+/// The same in a box, with any limit on the nesting that leaves room for a block.
 fn parse_within<'a>(
     alloc: Global,
     lexed: &Lexed<'a>,
     limit: usize,
-) -> Result<Program<'a>, ParseFault>
+) -> Result<Box<Program<'a>>, ParseFault>
     requires { 0 < limit }
-    ensures found { IfOk result (λ p. IsProgram limit (program_view p)
-        × Spells programs (program_view p) lexed.now.tokens.items) }
+    ensures found { IfOk result (λ b. IsProgram limit (program_view b.value)
+        × Spells programs (program_view b.value) lexed.now.tokens.items) }
     ensures only { (p : ProgramTree) → IsProgram limit p
-        → Spells programs p lexed.now.tokens.items → IsOnly program_view result p }
+        → Spells programs p lexed.now.tokens.items → IsOnly (held program_view) result p }
     ensures unexpected { (k : ℕ) → result ≡ Err (ParseFault.Unexpected k)
         → IsUnexpected programs limit lexed.now.tokens.items k }
     ensures too_deep { (k : ℕ) → result ≡ Err (ParseFault.TooDeep k)
         → IsTooDeep programs limit lexed.now.tokens.items k }
-    ensures carried { IfOk result (λ p. Carries p lexed.now) }
+    ensures carried { IfOk result (λ b. Carries b.value lexed.now) }
 {
     let tokens = lexed.tokens.as_slice();
     let mut cursor = Cursor { left: tokens };
     match program(alloc, &mut cursor, limit, lexed) {
         Ok(program) => {
             if cursor.left.is_empty() {
-                Ok(Box::into_inner(program))
+                Ok(program)
             } else {
                 Err(ParseFault::Unexpected(tokens.len() - cursor.left.len()))
             }

@@ -2,7 +2,7 @@
 use Rattle.std.proofs.Common.{◌≡◌, ℕ, zero, suc, ◌+◌, ◌-◌, ◌<◌, ◌≤◌, Bool, true, false, List, [], ◌∷◌, map, Ok, Err, Vec, Box, Global, refl, sym, ap, ◌∙◌, subst, arith}
 use Rattle.std.proofs.lemmas.Bool.{eq-eqb, ne_eqb}
 use Rattle.snl_text.specs.declared.tokens.Token.{Token}
-use Rattle.snl_tree.specs.declared.trees.expressions.Expr.{Expr, Chain}
+use Rattle.snl_tree.specs.declared.trees.expressions.Expr.{Expr}
 use Rattle.snl_tree.specs.declared.trees.expressions.Term.{Term}
 use Rattle.snl_tree.specs.declared.readers.cursor.Halt.{Halt}
 use Rattle.snl_tree.specs.reading.Readers as reading
@@ -10,11 +10,10 @@ use Rattle.snl_tree.specs.reading.Readers.{Fault, Read, starts, ◌>>=◌}
 use Rattle.snl_tree.specs.reading.Moves.{Fails}
 use Rattle.snl_tree.specs.Expressions.{ExprTree}
 use Rattle.snl_tree.specs.reading.Expressions.{inside, here, is_operator, level_at, unary_at, term_at, terms_at, chain_tree, chained, climbed}
-use Rattle.snl_tree.specs.view.Expressions.{view, boxed, pair_of, pairs}
+use Rattle.snl_tree.specs.view.Expressions.{boxed, pair_of, pairs}
 use Rattle.snl_tree.proofs.code.Forms.{bind_assoc, level_form, level_unary}
 use Rattle.snl_tree.proofs.code.Turns.{same_fault}
-use Rattle.snl_tree.proofs.code.Loops.{terms_turn, terms_stop}
-use Rattle.snl_tree.proofs.code.Rows.{chain_view}
+use Rattle.snl_tree.proofs.code.Loops.{terms_stop}
 
 -- going on with nothing to do gives what was read
 bind_ok : {A : Type 0} (m : Read A) → m ≡ (m >>= λ x. Ok (x.0, x.1))
@@ -75,7 +74,8 @@ parted n tightness a (suc b) e ts =
     ∙ bind_assoc (climbed n tightness a e ts) (λ x. climbed n (tightness + a) b x.0 x.1) (λ x. chained n (suc ((tightness + a) + b)) x.0 x.1)
 
 -- the levels are that of the next operator and the looser ones, where it is one of theirs
-climbed_on : (n tightness r to : ℕ) (e : ExprTree) (ts : List Token) → tightness < r → r ≤ to → to ≤ 12 → here ts ≡ r → climbed n tightness (to - tightness) e ts ≡ (chained n r e ts >>= λ x. climbed n r (to - r) x.0 x.1)
+climbed_on : (n tightness r to : ℕ) (e : ExprTree) (ts : List Token) → tightness < r → r ≤ to → to ≤ 12 → here ts ≡ r
+    → climbed n tightness (to - tightness) e ts ≡ (chained n r e ts >>= λ x. climbed n r (to - r) x.0 x.1)
 unfolding climbed
 climbed_on n tightness r to e ts low high top h =
     let k = r - tightness - 1 in
@@ -90,53 +90,27 @@ climbed_on n tightness r to e ts low high top h =
 
 -- what the code gives, from what its parts gave
 
--- where an operator of the level is next, at least one term is read
-some : (n r : ℕ) (ts rest : List Token) (v : Vec Term Global) → 3 ≤ r → r ≤ 15 → starts (is_operator r) ts ≡ true → terms_at r (level_at (inside n) (r - 1)) ts ≡ Ok (pairs v, rest) → v.items ≡ [] → ⊥
-some n r ts rest v low high s h z = none (term_at n r ts) (sym (terms_turn n r ts low high s) ∙ h ∙ ap (λ l. Ok (map pair_of l, rest)) z)
-  where
-    is_cons : Read (List (Token × ExprTree)) → Bool
-    is_cons (Ok ([], ts)) = false
-    is_cons (Ok (x ∷ l, ts)) = true
-    is_cons (Err f) = true
-
-    differ : (m : Read (List (Token × ExprTree))) → is_cons m ≡ true → m ≡ Ok ([], rest) → ⊥
-    differ m c e = absurd (let d = ap is_cons e in cc)
-
-    second : (x : Token × ExprTree) (m : Read (List (Token × ExprTree))) → ◌≡◌ {A = Read (List (Token × ExprTree))} (m >>= λ y. Ok (x ∷ y.0, y.1)) (Ok ([], rest)) → ⊥
-    second x (Ok y) e = differ _ refl e
-    second x (Err f) e = differ _ refl e
-
-    none : (m : Read (Token × ExprTree)) → ◌≡◌ {A = Read (List (Token × ExprTree))} (m >>= λ x. terms_at r (level_at (inside n) (r - 1)) x.1 >>= λ y. Ok (x.0 ∷ y.0, y.1)) (Ok ([], rest)) → ⊥
-    none (Ok x) e = second x.0 (terms_at r (level_at (inside n) (r - 1)) x.1) e
-    none (Err f) e = differ _ refl e
-
--- where an operator of a level is next, the tokens begin with one of it
-this : (r : ℕ) (ts : List Token) → r ≤ 15 → here ts ≡ r → starts (is_operator r) ts ≡ true
-this r [] high h = absurd (omega arith)
-this r (t ∷ ts) high h = eq-eqb (here (t ∷ ts)) r h
-
--- after an operand the terms of a level make the chain that the code builds
-chained_found : (n r : ℕ) (ts rest : List Token) (b : Box Expr Global) (v : Vec Term Global) → 3 ≤ r → r ≤ 15 → here ts ≡ r → terms_at r (level_at (inside n) (r - 1)) ts ≡ Ok (pairs v, rest) → chained n r (boxed b) ts ≡ Ok (view (Chain b v), rest)
-unfolding chained
-chained_found n r ts rest b v low high h k =
-    ap (λ m. m >>= λ x. Ok (chain_tree (boxed b) x.0, x.1)) k
-    ∙ ap (λ z. Ok (z, rest)) (chain_view b v (some n r ts rest v low high (this r ts high h) k))
-
--- from the next operator on, the levels are its chain and the looser levels
-pub climbed_chain : (n tightness r to : ℕ) (ts rest : List Token) (b made : Box Expr Global) (v : Vec Term Global) → 2 ≤ tightness → tightness < r → r ≤ to → to ≤ 12 → here ts ≡ r → terms_at r (level_at (inside n) (r - 1)) ts ≡ Ok (pairs v, rest) → made.value ≡ Chain b v
+-- from the next operator on, the levels are what the code makes of its terms and the looser levels
+pub climbed_chain : (n tightness r to : ℕ) (ts rest : List Token) (b made : Box Expr Global) (v : Vec Term Global) → tightness < r → r ≤ to → to ≤ 12 → here ts ≡ r
+    → terms_at r (level_at (inside n) (r - 1)) ts ≡ Ok (pairs v, rest) → chain_tree (boxed b) (pairs v) ≡ boxed made
     → climbed n tightness (to - tightness) (boxed b) ts ≡ climbed n r (to - r) (boxed made) rest
-climbed_chain n tightness r to ts rest b made v two low high top h k e =
+unfolding chained
+climbed_chain n tightness r to ts rest b made v low high top h k e =
+    let c : chained n r (boxed b) ts ≡ Ok (chain_tree (boxed b) (pairs v), rest) = ap (λ m. m >>= λ x. Ok (chain_tree (boxed b) x.0, x.1)) k in
     climbed_on n tightness r to (boxed b) ts low high top h
-    ∙ ap (λ m. m >>= λ x. climbed n r (to - r) x.0 x.1) (chained_found n r ts rest b v (omega arith) (omega arith) h k)
-    ∙ ap (λ z. climbed n r (to - r) (view z) rest) (sym e)
+    ∙ ap (λ m. m >>= λ x. climbed n r (to - r) x.0 x.1) c
+    ∙ ap (λ z. climbed n r (to - r) z rest) e
 
 -- a fault in the terms of the next operator is a fault of the levels
-climbed_fault : (n tightness r to : ℕ) (ts : List Token) (e : ExprTree) (f : Fault) → tightness < r → r ≤ to → to ≤ 12 → here ts ≡ r → terms_at r (level_at (inside n) (r - 1)) ts ≡ Err f → climbed n tightness (to - tightness) e ts ≡ Err f
+climbed_fault : (n tightness r to : ℕ) (ts : List Token) (e : ExprTree) (f : Fault) → tightness < r → r ≤ to → to ≤ 12 → here ts ≡ r → terms_at r (level_at (inside n) (r - 1)) ts ≡ Err f
+    → climbed n tightness (to - tightness) e ts ≡ Err f
 unfolding chained
 climbed_fault n tightness r to ts e f low high top h k =
     let c : chained n r e ts ≡ Err f = ap (λ m. m >>= λ x. Ok (chain_tree e x.0, x.1)) k in
     climbed_on n tightness r to e ts low high top h ∙ ap (λ m. m >>= λ x. climbed n r (to - r) x.0 x.1) c
 
 -- where the terms of the next operator are not read, the levels are not for the same cause
-pub climbed_fails : (n tightness r to : ℕ) (ts : List Token) (e : ExprTree) (halt : Halt) (left : List Token) → tightness < r → r ≤ to → to ≤ 12 → here ts ≡ r → Fails halt left (terms_at r (level_at (inside n) (r - 1)) ts) → Fails halt left (climbed n tightness (to - tightness) e ts)
-climbed_fails n tightness r to ts e halt left low high top h k = same_fault (terms_at r (level_at (inside n) (r - 1)) ts) (climbed n tightness (to - tightness) e ts) (λ f m. climbed_fault n tightness r to ts e f low high top h m) halt left k
+pub climbed_fails : (n tightness r to : ℕ) (ts : List Token) (e : ExprTree) (halt : Halt) (left : List Token) → tightness < r → r ≤ to → to ≤ 12 → here ts ≡ r
+    → Fails halt left (terms_at r (level_at (inside n) (r - 1)) ts) → Fails halt left (climbed n tightness (to - tightness) e ts)
+climbed_fails n tightness r to ts e halt left low high top h k =
+    same_fault (terms_at r (level_at (inside n) (r - 1)) ts) (climbed n tightness (to - tightness) e ts) (λ f m. climbed_fault n tightness r to ts e f low high top h m) halt left k

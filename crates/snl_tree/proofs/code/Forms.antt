@@ -6,7 +6,7 @@ use Rattle.snl_text.specs.declared.kinds.Kind.TheVariants.{Name, OpenParenthesis
 use Rattle.snl_tree.specs.Kinds.{is, is_constant, is_prefix}
 use Rattle.snl_tree.specs.reading.Readers.{Fault, Stuck, Deep, Read, Reader, starts, one, sign, both, either, nothing, under, made, ◌>>=◌}
 use Rattle.snl_tree.specs.Expressions.{ExprTree, ArgumentList, constant, parenthesized, element, call, prefix, conditional, assignment, no_arguments}
-use Rattle.snl_tree.specs.reading.Expressions.{Inside, readers, inside, opened, parenthesized_at, expression_at, level_at, named_tree, named_at, arguments_at, argument_at, argument_list, with_argument, all_arguments, is_no_close, more_arguments_at, prefixed_at, unary_at, postfix_at, postfix_tree, primary_at, is_step, conditional_tree, conditional_at, binary_at, is_unary, is_assignment, is_operator, assignment_tree, assignment_at, chain_tree, terms_at, chain_at, named_rest, stepped, conditional_rest, assigned_rest}
+use Rattle.snl_tree.specs.reading.Expressions.{Inside, readers, inside, opened, parenthesized_at, expression_at, level_at, named_tree, named_at, arguments_at, argument_at, argument_list, with_argument, all_arguments, is_no_close, more_arguments_at, prefixed_at, unary_at, postfix_at, postfix_tree, primary_at, is_step, conditional_tree, conditional_at, binary_at, is_unary, is_assignment, is_operator, assignment_tree, assignment_at, chain_tree, terms_at, chain_at, element_rest, call_rest, named_rest, stepped, conditional_rest, assigned_rest}
 use Rattle.snl_tree.proofs.grammar.Operators.{level_low}
 
 -- going on twice from what was read is going on once with both steps
@@ -74,7 +74,7 @@ tail n = either (is OpenBracket) (under (is OpenBracket) (inside n) (one (is Ope
 
 -- what begins with a name is read as the name and what comes after it
 pub named_form : (n : ℕ) (ts : List Token) → named_at (inside n) ts ≡ (one (is Name) ts >>= λ x. named_rest n x.0 x.1)
-unfolding named_at named_rest
+unfolding named_at named_rest element_rest call_rest
 named_form n ts =
     bind_assoc (one (is Name) ts) (λ x. tail n x.1 >>= λ y. Ok ((x.0, y.0), y.1)) (λ x. Ok (named_tree x.0.0 x.0.1, x.1))
     ∙ bind_same (one (is Name) ts) (λ x. (tail n x.1 >>= λ y. Ok ((x.0, y.0), y.1)) >>= λ x. Ok (named_tree x.0.0 x.0.1, x.1)) (λ x. named_rest n x.0 x.1) (λ x.

@@ -1,5 +1,5 @@
 -- The plain tree of a form that holds a vector.
-use Rattle.std.proofs.Common.{◌≡◌, ℕ, ◌-◌, ◌≤◌, nat_eq, true, false, Ok, length, vec_len, List, [], ◌∷◌, map, Vec, Box, Global, refl, sym, ap, ◌∙◌, eqb-true, false-eqb, arith}
+use Rattle.std.proofs.Common.{◌≡◌, ℕ, ◌-◌, ◌≤◌, nat_eq, true, false, ◌&&◌, Ok, length, vec_len, List, [], ◌∷◌, map, Vec, Box, Global, refl, sym, ap, ◌∙◌, eqb-true, false-eqb, arith}
 use mathlib.Core.Former.{Count}
 use Rattle.snl_tree.specs.declared.trees.expressions.Expr.{Expr, Chain', Call', Row_of-Term, end_of-Term, more_of-Term, items-the_row-Term, items_hidden-the_row-Term-1, Row_of-Argument, end_of-Argument, more_of-Argument, items-the_row-Argument, items_hidden-the_row-Argument-0, Chain, Call}
 use Rattle.snl_tree.specs.declared.trees.expressions.Argument.{Value', Text}
@@ -47,45 +47,27 @@ view_call t v =
     let row = argument_row (Call t v) in
     ap (λ z. call t z) (view_argument_row row.0 row.1 ∙ ap (λ l. list_before l no_arguments) (items_hidden-the_row-Argument-0 v))
 
--- an operand with at least one term is a chain
-some_terms : (e : ExprTree) (l : List Term) → (l ≡ [] → ⊥) → chain_tree e (map pair_of l) ≡ chain e (term_list (map pair_of l))
-some_terms e [] h = absurd (h refl)
-some_terms e (x ∷ l) h = refl
-
--- an operand with at least one term is seen as the chain that the code builds
-pub chain_view : (b : Box Expr Global) (v : Vec Term Global) → (v.items ≡ [] → ⊥) → chain_tree (view b.value) (map pair_of v.items) ≡ view (Chain b v)
-chain_view b v h = some_terms (view b.value) v.items h ∙ sym (view_chain b v)
-
--- what the code returns, from what its parts gave
-
--- a level is its operand alone where no term is found after it
-pub level_alone : (n r : ℕ) (ts mid rest : List Token) (e : ExprTree) (v : Vec Term Global) → 3 ≤ r → r ≤ 15 → (r ≡ 13 → ⊥) → (r ≡ 14 → ⊥) → level_at (inside n) (r - 1) ts ≡ Ok (e, mid) → terms_at r (level_at (inside n) (r - 1)) mid ≡ Ok (pairs v, rest) → nat_eq (vec_len v) 0 ≡ true → level_at (inside n) r ts ≡ Ok (e, rest)
-level_alone n r ts mid rest e v low high a b h k z =
-    level_form n r ts low high a b ∙ ap (λ m. m >>= λ x. terms_at r (level_at (inside n) (r - 1)) x.1 >>= λ y. Ok (chain_tree x.0 y.0, y.1)) h ∙ ap (λ m. m >>= λ y. Ok (chain_tree e y.0, y.1)) k
-    ∙ ap (λ x. Ok (x, rest)) (none v.items (let e = eqb-true (vec_len v) 0 z in omega (arith, v.ok.0)))
+-- an operand with no term after it is no chain
+pub chain_alone : (e : ExprTree) (v : Vec Term Global) → nat_eq (vec_len v) 0 ≡ true → chain_tree e (pairs v) ≡ e
+chain_alone e v z = none v.items (let k = eqb-true (vec_len v) 0 z in omega (arith, v.ok.0))
   where
     none : (l : List Term) → length l ≡ 0 → chain_tree e (map pair_of l) ≡ e
     none [] z = refl
     none (x ∷ l) z = absurd (omega arith)
 
--- a level is the chain that the code builds where terms are found
-pub level_chained : (n r : ℕ) (ts mid rest : List Token) (b : Box Expr Global) (v : Vec Term Global) → 3 ≤ r → r ≤ 15 → (r ≡ 13 → ⊥) → (r ≡ 14 → ⊥) → level_at (inside n) (r - 1) ts ≡ Ok (boxed b, mid) → terms_at r (level_at (inside n) (r - 1)) mid ≡ Ok (pairs v, rest) → nat_eq (vec_len v) 0 ≡ false → level_at (inside n) r ts ≡ Ok (view (Chain b v), rest)
-level_chained n r ts mid rest b v low high a c h k z =
-    level_form n r ts low high a c ∙ ap (λ m. m >>= λ x. terms_at r (level_at (inside n) (r - 1)) x.1 >>= λ y. Ok (chain_tree x.0 y.0, y.1)) h ∙ ap (λ m. m >>= λ y. Ok (chain_tree (boxed b) y.0, y.1)) k
-    ∙ ap (λ x. Ok (x, rest)) (chain_view b v (λ w. let e : length v.items ≡ 0 = ap length w in false-eqb (vec_len v) 0 (sym z) (omega (arith, v.ok.0))))
-
--- a name, and arguments in parentheses, are read as the call that the code builds
-pub named_called : (n : ℕ) (ts mid opened_at behind rest : List Token) (t : Token) (v : Vec Argument Global) → one (is Name) ts ≡ Ok (t, mid) → starts (is OpenBracket) mid ≡ false → starts (is OpenParenthesis) mid ≡ true → opened n (is OpenParenthesis) (sign OpenParenthesis) mid ≡ Ok (tt, opened_at)
-    → arguments_at (readers (inside (n - 1))) opened_at ≡ Ok (arguments_of v, behind) → sign CloseParenthesis behind ≡ Ok (tt, rest) → named_at (inside n) ts ≡ Ok (view (Call t v), rest)
-unfolding named_rest
-named_called n ts mid opened_at behind rest t v h f s o k c =
-    named_form n ts ∙ ap (λ m. m >>= λ x. named_rest n x.0 x.1) h
-    ∙ rw (f, named_rest) (rw s (rw o (rw k (rw c (ap (λ z. Ok (z, rest)) (sym (view_call t v)))))))
+-- an operand with at least one term after it is a chain
+pub chain_more : (e : ExprTree) (v : Vec Term Global) → nat_eq (vec_len v) 0 ≡ false → chain_tree e (pairs v) ≡ chain e (term_list (pairs v))
+chain_more e v z = some v.items (λ k. false-eqb (vec_len v) 0 (sym z) (omega (arith, v.ok.0)))
+  where
+    some : (l : List Term) → (length l ≡ 0 → ⊥) → chain_tree e (map pair_of l) ≡ chain e (term_list (map pair_of l))
+    some [] h = absurd (h refl)
+    some (x ∷ l) h = refl
 
 -- a target, an assignment operator and a value are read as an assignment
-pub assignment_made : (n : ℕ) (ts mid behind rest : List Token) (target right : ExprTree) (op : Token) → conditional_at (inside n) ts ≡ Ok (target, mid) → is_unary target ≡ true → starts (is_operator 14) mid ≡ true → opened n (is_operator 14) (one (is_operator 14)) mid ≡ Ok (op, behind)
+pub assignment_made : (n : ℕ) (ts mid behind rest : List Token) (target right : ExprTree) (op : Token) → conditional_at (inside n) ts ≡ Ok (target, mid)
+    → (is_unary target && starts (is_operator 14) mid) ≡ true → opened n (is_operator 14) (one (is_operator 14)) mid ≡ Ok (op, behind)
     → assignment_at (inside (n - 1)) behind ≡ Ok (right, rest) → assignment_at (inside n) ts ≡ Ok (assignment target op right, rest)
 unfolding assigned_rest
-assignment_made n ts mid behind rest target right op h u s o k =
+assignment_made n ts mid behind rest target right op h u o k =
     assignment_form n ts ∙ ap (λ m. m >>= λ x. assigned_rest n x.0 x.1) h
-    ∙ rw (u, assigned_rest) (rw s (rw o (rw k refl)))
+    ∙ rw (u, assigned_rest) (rw o (rw k refl))

@@ -174,14 +174,19 @@ unfoldable pub climbed : ℕ → ℕ → ℕ → ExprTree → List Token → Rea
 climbed n tightness zero e ts = Ok (e, ts)
 climbed n tightness (suc k) e ts = climbed n tightness k e ts >>= λ x. chained n (suc (tightness + k)) x.0 x.1
 
+-- a subscript after a name
+unfoldable pub element_rest : ℕ → Token → List Token → Read ExprTree
+element_rest n t ts = opened n (is OpenBracket) (one (is OpenBracket)) ts >>= λ x. level_at (inside (n - 1)) 15 x.1 >>= λ y. sign CloseBracket y.1 >>= λ z. Ok (element t x.0 y.0, z.1)
+
+-- the arguments of a call after its name
+unfoldable pub call_rest : ℕ → Token → List Token → Read ExprTree
+call_rest n t ts = opened n (is OpenParenthesis) (sign OpenParenthesis) ts >>= λ x. arguments_at (readers (inside (n - 1))) x.1 >>= λ y. sign CloseParenthesis y.1 >>= λ z. Ok (call t y.0, z.1)
+
 -- what stands after a name
 unfoldable pub named_rest : ℕ → Token → List Token → Read ExprTree
 named_rest n t ts = elim (starts (is OpenBracket) ts) [
-  | true ↦ (opened n (is OpenBracket) (one (is OpenBracket)) ts >>= λ x. level_at (inside (n - 1)) 15 x.1 >>= λ y. sign CloseBracket y.1 >>= λ z. Ok (element t x.0 y.0, z.1))
-  | false ↦ elim (starts (is OpenParenthesis) ts) [
-    | true ↦ (opened n (is OpenParenthesis) (sign OpenParenthesis) ts >>= λ x. arguments_at (readers (inside (n - 1))) x.1 >>= λ y. sign CloseParenthesis y.1 >>= λ z. Ok (call t y.0, z.1))
-    | false ↦ Ok (named t, ts)
-  ]
+  | true ↦ element_rest n t ts
+  | false ↦ elim (starts (is OpenParenthesis) ts) [ true ↦ call_rest n t ts | false ↦ Ok (named t, ts) ]
 ]
 
 -- `++` or `--` after an expression

@@ -11,10 +11,11 @@ ghost use Rattle.snl_tree.specs.reading.Moves.{Moves, MovesToken};
 ghost use Rattle.snl_tree.specs.view.Expressions.{boxed};
 ghost use Rattle.snl_tree.specs.view.Declarations.{type_view, views, values_view, initialiser_view, declarator_view, declarator_views, declaration_view};
 
+use crate::readers::boxes::declarations::{boxed_declaration, boxed_declarator};
 use crate::readers::cursor::{Cursor, Halt, at, before, sign, token};
 use crate::readers::expressions::level;
 use crate::readers::kinds::{ASSIGNMENT, COMMA};
-use crate::readers::room::{added, in_box, pushed};
+use crate::readers::room::{added, pushed};
 use crate::trees::{Declaration, Declarator, Expr, Initialiser, TypeName, Values};
 use snl_text::{Kind, Token};
 use std::alloc::Global;
@@ -181,15 +182,7 @@ fn declarator<'t, 'a>(
     let name = token(cursor, Kind::Name)?;
     let sizes = sizes(alloc, cursor, depth)?;
     let initial = initial(alloc, cursor, depth)?;
-    let declarator = in_box(
-        alloc,
-        Declarator {
-            name,
-            sizes,
-            initial,
-        },
-    )?;
-    Ok(declarator)
+    boxed_declarator(alloc, name, sizes, initial)
 }
 
 /// Reads a comma and the declared name after it.
@@ -253,12 +246,12 @@ pub fn declaration<'t, 'a>(
     alloc: Global,
     cursor: &mut Cursor<'t, 'a>,
     depth: usize,
-) -> Result<Declaration<'a>, Halt>
-    ensures { Moves declaration_view result cursor.new.left.now
+) -> Result<Box<Declaration<'a>>, Halt>
+    ensures { Moves (held declaration_view) result cursor.new.left.now
         (specs.declaration_at depth cursor.old.left.now) }
 {
     let type_name = type_name(cursor)?;
     let names = declarators(alloc, cursor, depth)?;
     sign(cursor, Kind::Semicolon)?;
-    Ok(Declaration { type_name, names })
+    boxed_declaration(alloc, type_name, names)
 }

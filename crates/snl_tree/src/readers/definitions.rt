@@ -13,12 +13,14 @@ ghost use Rattle.snl_tree.specs.reading.Moves.{Moves, MovesToken};
 ghost use Rattle.snl_tree.specs.view.Expressions.{boxed};
 ghost use Rattle.snl_tree.specs.view.Definitions.{place_view, token_list, names_view, channels_view, flag_view, definition_view, definition_views};
 
+use crate::readers::boxes::definitions::{
+    boxed_assign, boxed_declared, boxed_event_flags, boxed_monitor, boxed_place, boxed_setting,
+    boxed_sync, boxed_sync_queue,
+};
 use crate::readers::cursor::{Cursor, Halt, at, sign, token};
 use crate::readers::declarations::{at_declaration, bracket, declaration, is_type};
-use crate::readers::room::{added, in_box, pushed};
-use crate::trees::{
-    Assign, ChannelNames, Channels, Def, Expr, Flag, Place, Setting, Sync, SyncQueue,
-};
+use crate::readers::room::{added, pushed};
+use crate::trees::{ChannelNames, Channels, Def, Expr, Flag, Place, Setting};
 use snl_text::{Kind, Token};
 use std::alloc::Global;
 
@@ -44,13 +46,13 @@ fn place<'t, 'a>(
     alloc: Global,
     cursor: &mut Cursor<'t, 'a>,
     depth: usize,
-) -> Result<Place<'a>, Halt>
-    ensures { Moves place_view result cursor.new.left.now
+) -> Result<Box<Place<'a>>, Halt>
+    ensures { Moves (held place_view) result cursor.new.left.now
         (specs.place_at depth cursor.old.left.now) }
 {
     let name = token(cursor, Kind::Name)?;
     let subscript = subscript(alloc, cursor, depth)?;
-    Ok(Place { name, subscript })
+    boxed_place(alloc, name, subscript)
 }
 
 /// Reads a comma and the token of a kind after it.
@@ -159,13 +161,7 @@ fn assign<'t, 'a>(
     let place = place(alloc, cursor, depth)?;
     let channels = maybe_channels(alloc, cursor)?;
     sign(cursor, Kind::Semicolon)?;
-    let assign = Assign {
-        word,
-        place,
-        channels,
-    };
-    let found = in_box(alloc, Def::Assign(assign))?;
-    Ok(found)
+    boxed_assign(alloc, word, place, channels)
 }
 
 /// Reads a monitor.
@@ -181,8 +177,7 @@ fn monitor<'t, 'a>(
     sign(cursor, Kind::Monitor)?;
     let place = place(alloc, cursor, depth)?;
     sign(cursor, Kind::Semicolon)?;
-    let found = in_box(alloc, Def::Monitor(place))?;
-    Ok(found)
+    boxed_monitor(alloc, place)
 }
 
 /// Reads the event flag of a sync.
@@ -209,8 +204,7 @@ fn sync<'t, 'a>(
     let place = place(alloc, cursor, depth)?;
     let flag = flag(cursor)?;
     sign(cursor, Kind::Semicolon)?;
-    let found = in_box(alloc, Def::Sync(Sync { place, flag }))?;
-    Ok(found)
+    boxed_sync(alloc, place, flag)
 }
 
 /// Whether the event flag of a queue is here.
@@ -264,14 +258,7 @@ fn sync_queue<'t, 'a>(
     let flag = maybe_flag(cursor)?;
     let size = maybe_size(cursor);
     sign(cursor, Kind::Semicolon)?;
-    let queue = SyncQueue {
-        word,
-        place,
-        flag,
-        size,
-    };
-    let found = in_box(alloc, Def::SyncQueue(queue))?;
-    Ok(found)
+    boxed_sync_queue(alloc, word, place, flag, size)
 }
 
 /// Reads the declaration of event flags.
@@ -283,8 +270,7 @@ fn event_flags<'t, 'a>(alloc: Global, cursor: &mut Cursor<'t, 'a>) -> Result<Box
     sign(cursor, Kind::EventFlag)?;
     let names = tokens(alloc, cursor, Kind::Name)?;
     sign(cursor, Kind::Semicolon)?;
-    let found = in_box(alloc, Def::EventFlags(names))?;
-    Ok(found)
+    boxed_event_flags(alloc, names)
 }
 
 /// Reads the sign of an option.
@@ -315,8 +301,7 @@ fn setting<'t, 'a>(alloc: Global, cursor: &mut Cursor<'t, 'a>) -> Result<Box<Def
         sign: sign_token,
         name,
     };
-    let found = in_box(alloc, Def::Setting(setting))?;
-    Ok(found)
+    boxed_setting(alloc, setting)
 }
 
 /// Whether a definition is here.
@@ -371,8 +356,7 @@ fn definition<'t, 'a>(
 {
     if at_declaration(cursor) {
         let declaration = declaration(alloc, cursor, depth)?;
-        let found = in_box(alloc, Def::Declaration(declaration))?;
-        return Ok(found);
+        return boxed_declared(alloc, declaration);
     }
     if at(cursor, Kind::Assign) {
         return assign(alloc, cursor, depth);

@@ -1,18 +1,22 @@
 //! The readers of expressions.
 
-ghost use Rattle.std.specs.Prelude.{◌≡◌, ◌≤◌, ◌-◌};
+ghost use Rattle.std.specs.Prelude.{◌≡◌, ◌≤◌, ◌-◌, ◌&&◌};
+ghost use Rattle.snl_tree.specs.reading.Readers as readers;
 ghost use Rattle.snl_tree.specs.reading.Expressions as specs;
-ghost use Rattle.snl_tree.specs.reading.Moves.{Moves};
+ghost use Rattle.snl_tree.specs.reading.Moves.{Adds, Moves, MovesTo};
 ghost use Rattle.snl_tree.specs.view.Expressions.{view, boxed, pair_of, pairs, argument_of, arguments_of, list_before};
 
+use crate::readers::boxes::expressions::{
+    boxed_assignment, boxed_call, boxed_conditional, boxed_constant, boxed_element, boxed_name,
+    boxed_parenthesized, boxed_postfix, boxed_prefix, chained, push_term, push_text, push_value,
+};
 use crate::readers::cursor::{
     Cursor, Halt, at, at_constant, at_operator, at_prefix, before, constant, looseness_here,
     open_operator, open_prefix, open_sign, open_token, operator, sign, token,
 };
 use crate::readers::kinds::{ASSIGNMENT, BINARY, COMMA, CONDITIONAL, STEP, UNARY};
-use crate::readers::room::{in_box, pushed};
 use crate::trees::{Argument, Expr, Term};
-use snl_text::Kind;
+use snl_text::{Kind, Token};
 use std::alloc::Global;
 
 /// Whether an assignment operator may stand after this.
@@ -31,6 +35,14 @@ fn is_unary(expr: &Expr) -> bool
     }
 }
 
+/// Whether an assignment operator is here, after what it may assign to.
+fn is_assigned(target: &Expr, cursor: &Cursor) -> bool
+    ensures { result ≡ (specs.is_unary (view target.now)
+        && readers.starts (specs.is_operator 14) cursor.now.left.now) }
+{
+    is_unary(target) && at_operator(cursor, ASSIGNMENT)
+}
+
 /// Reads what may stand after a primary, `++` or `--`.
 #[tactic(auto, unfolding(crate::specs::reading::Expressions::stepped))]
 fn stepped<'t, 'a>(
@@ -45,8 +57,7 @@ fn stepped<'t, 'a>(
         return Ok(primary);
     }
     let step = operator(cursor, STEP)?;
-    let stepped = in_box(alloc, Expr::Postfix(primary, step))?;
-    Ok(stepped)
+    boxed_postfix(alloc, primary, step)
 }
 
 /// Reads what holds together so tightly, from [`UNARY`] to [`COMMA`]: a whole expression is the last.
@@ -89,11 +100,7 @@ fn expression<'t, 'a>(
 {
     let first = assignment(alloc, cursor, depth)?;
     let terms = terms(alloc, cursor, depth, COMMA)?;
-    if terms.is_empty() {
-        return Ok(first);
-    }
-    let chain = in_box(alloc, Expr::Chain(first, terms))?;
-    Ok(chain)
+    chained(alloc, first, terms)
 }
 
 /// Reads the binary operators after a tree with their operands: those that are looser than what the tree
@@ -119,7 +126,7 @@ fn climb<'t, 'a>(
         return Ok(first);
     }
     let terms = terms(alloc, cursor, depth, here)?;
-    let chain = in_box(alloc, Expr::Chain(first, terms))?;
+    let chain = chained(alloc, first, terms)?;
     climb(alloc, chain, cursor, depth, here, looseness)
 }
 
@@ -140,13 +147,12 @@ fn terms<'t, 'a>(
 {
     let mut found = Vec::new(alloc);
     while at_operator(cursor, looseness) {
-        let next = term(alloc, cursor, depth, looseness)?;
-        pushed(&mut found, next)?;
+        term(alloc, cursor, depth, looseness, &mut found)?;
     }
     Ok(found)
 }
 
-/// Reads an operator of a level and its operand.
+/// Reads an operator of a level and its operand, and puts them at the end of a row.
 #[cycle(reading)]
 #[tactic(auto, unfolding(crate::specs::reading::Expressions::term_at))]
 fn term<'t, 'a>(
@@ -154,15 +160,16 @@ fn term<'t, 'a>(
     cursor: &mut Cursor<'t, 'a>,
     depth: usize,
     looseness: u8,
-) -> Result<Term<'a>, Halt>
+    row: &mut Vec<Term<'a>>,
+) -> Result<(), Halt>
     requires low { 3 ≤ looseness }
     requires high { looseness ≤ 15 }
-    ensures { Moves pair_of result cursor.new.left.now
+    ensures { Adds pair_of row.old.items result row.new.items cursor.new.left.now
         (specs.term_at depth looseness cursor.old.left.now) }
 {
     let operator = operator(cursor, looseness)?;
     let operand = level(alloc, cursor, depth, looseness - 1)?;
-    Ok(Term { operator, operand })
+    push_term(row, operator, operand)
 }
 
 /// Reads an assignment, or what may stand in its place.
@@ -177,20 +184,12 @@ fn assignment<'t, 'a>(
         (specs.assignment_at (specs.inside depth) cursor.old.left.now) }
 {
     let target = conditional(alloc, cursor, depth)?;
-    if !is_unary(&target) || !at_operator(cursor, ASSIGNMENT) {
+    if !is_assigned(&target, cursor) {
         return Ok(target);
     }
     let operator = open_operator(cursor, ASSIGNMENT, depth)?;
     let value = assignment(alloc, cursor, depth - 1)?;
-    let assigned = in_box(
-        alloc,
-        Expr::Assignment {
-            target,
-            operator,
-            value,
-        },
-    )?;
-    Ok(assigned)
+    boxed_assignment(alloc, target, operator, value)
 }
 
 /// Reads a conditional, or what may stand in its place.
@@ -212,8 +211,7 @@ fn conditional<'t, 'a>(
     let yes = level(alloc, cursor, depth - 1, COMMA)?;
     sign(cursor, Kind::Colon)?;
     let no = conditional(alloc, cursor, depth - 1)?;
-    let chosen = in_box(alloc, Expr::Conditional { condition, yes, no })?;
-    Ok(chosen)
+    boxed_conditional(alloc, condition, yes, no)
 }
 
 /// Reads prefix operators and what they stand before.
@@ -233,8 +231,7 @@ fn unary<'t, 'a>(
     }
     let operator = open_prefix(cursor, depth)?;
     let operand = unary(alloc, cursor, depth - 1)?;
-    let prefixed = in_box(alloc, Expr::Prefix(operator, operand))?;
-    Ok(prefixed)
+    boxed_prefix(alloc, operator, operand)
 }
 
 /// Reads a constant, an expression in parentheses, or what begins with a name.
@@ -250,8 +247,7 @@ fn primary<'t, 'a>(
 {
     if at_constant(cursor) {
         let token = constant(cursor)?;
-        let constant = in_box(alloc, Expr::Constant(token))?;
-        return Ok(constant);
+        return boxed_constant(alloc, token);
     }
     if at(cursor, Kind::OpenParenthesis) {
         return parenthesized(alloc, cursor, depth);
@@ -273,13 +269,12 @@ fn parenthesized<'t, 'a>(
     open_sign(cursor, Kind::OpenParenthesis, depth)?;
     let inner = level(alloc, cursor, depth - 1, COMMA)?;
     sign(cursor, Kind::CloseParenthesis)?;
-    let parenthesized = in_box(alloc, Expr::Parenthesized(inner))?;
-    Ok(parenthesized)
+    boxed_parenthesized(alloc, inner)
 }
 
 /// Reads a name, with a subscript or a call's arguments after it.
 #[cycle(reading)]
-#[tactic(auto, using(crate::proofs::code::Rows::named_called, crate::proofs::code::Forms::named_form), unfolding(crate::specs::reading::Expressions::named_rest))]
+#[tactic(auto, using(crate::proofs::code::Forms::named_form), unfolding(crate::specs::reading::Expressions::named_rest))]
 fn named<'t, 'a>(
     alloc: Global,
     cursor: &mut Cursor<'t, 'a>,
@@ -290,28 +285,48 @@ fn named<'t, 'a>(
 {
     let name = token(cursor, Kind::Name)?;
     if at(cursor, Kind::OpenBracket) {
-        let bracket = open_token(cursor, Kind::OpenBracket, depth)?;
-        let index = level(alloc, cursor, depth - 1, COMMA)?;
-        sign(cursor, Kind::CloseBracket)?;
-        let element = in_box(
-            alloc,
-            Expr::Element {
-                name,
-                bracket,
-                index,
-            },
-        )?;
-        return Ok(element);
+        return element(alloc, name, cursor, depth);
     }
     if at(cursor, Kind::OpenParenthesis) {
-        open_sign(cursor, Kind::OpenParenthesis, depth)?;
-        let all = arguments(alloc, cursor, depth - 1)?;
-        sign(cursor, Kind::CloseParenthesis)?;
-        let call = in_box(alloc, Expr::Call(name, all))?;
-        return Ok(call);
+        return call(alloc, name, cursor, depth);
     }
-    let named = in_box(alloc, Expr::Named(name))?;
-    Ok(named)
+    boxed_name(alloc, name)
+}
+
+/// Reads the subscript after a name.
+#[cycle(reading)]
+#[tactic(auto, unfolding(crate::specs::reading::Expressions::element_rest))]
+fn element<'t, 'a>(
+    alloc: Global,
+    name: Token<'a>,
+    cursor: &mut Cursor<'t, 'a>,
+    depth: usize,
+) -> Result<Box<Expr<'a>>, Halt>
+    ensures { Moves boxed result cursor.new.left.now
+        (specs.element_rest depth name.entry cursor.old.left.now) }
+{
+    let bracket = open_token(cursor, Kind::OpenBracket, depth)?;
+    let index = level(alloc, cursor, depth - 1, COMMA)?;
+    sign(cursor, Kind::CloseBracket)?;
+    boxed_element(alloc, name, bracket, index)
+}
+
+/// Reads the arguments after the name of a call, in their parentheses.
+#[cycle(reading)]
+#[tactic(auto, unfolding(crate::specs::reading::Expressions::call_rest))]
+fn call<'t, 'a>(
+    alloc: Global,
+    name: Token<'a>,
+    cursor: &mut Cursor<'t, 'a>,
+    depth: usize,
+) -> Result<Box<Expr<'a>>, Halt>
+    ensures { Moves boxed result cursor.new.left.now
+        (specs.call_rest depth name.entry cursor.old.left.now) }
+{
+    open_sign(cursor, Kind::OpenParenthesis, depth)?;
+    let all = arguments(alloc, cursor, depth - 1)?;
+    sign(cursor, Kind::CloseParenthesis)?;
+    boxed_call(alloc, name, all)
 }
 
 /// Reads the arguments of a call, with so much depth left inside of its parentheses.
@@ -329,48 +344,47 @@ fn arguments<'t, 'a>(
     if !before(cursor, Kind::CloseParenthesis) {
         return Ok(found);
     }
-    let first = argument(alloc, cursor, depth)?;
-    pushed(&mut found, first)?;
-    more_arguments(alloc, found, cursor, depth)
+    argument(alloc, cursor, depth, &mut found)?;
+    more_arguments(alloc, cursor, depth, &mut found)?;
+    Ok(found)
 }
 
-/// Reads commas and the arguments after them.
+/// Reads commas and the arguments after them, and puts those at the end of a row.
 #[cycle(reading)]
 #[tactic(auto, using(crate::proofs::code::Loops::after_more, crate::proofs::code::Loops::after_all, crate::proofs::code::Loops::after_stuck, crate::proofs::code::Loops::argument_less))]
 fn more_arguments<'t, 'a>(
     alloc: Global,
-    before: Vec<Argument<'a>>,
     cursor: &mut Cursor<'t, 'a>,
     depth: usize,
-) -> Result<Vec<Argument<'a>>, Halt>
-    ensures { Moves arguments_of result cursor.new.left.now
-        (specs.more_after (specs.readers (specs.inside depth)) (list_before before.entry.items)
+    row: &mut Vec<Argument<'a>>,
+) -> Result<(), Halt>
+    ensures { MovesTo (arguments_of row.new) result cursor.new.left.now
+        (specs.more_after (specs.readers (specs.inside depth)) (list_before row.old.items)
         cursor.old.left.now) }
 {
-    let mut found = before;
     while at(cursor, Kind::Comma) {
         sign(cursor, Kind::Comma)?;
-        let next = argument(alloc, cursor, depth)?;
-        pushed(&mut found, next)?;
+        argument(alloc, cursor, depth, row)?;
     }
-    Ok(found)
+    Ok(())
 }
 
-/// Reads an argument: a string, or an assignment.
+/// Reads an argument, a string or an assignment, and puts it at the end of a row.
 #[cycle(reading)]
 #[tactic(auto, using(crate::proofs::code::Forms::argument_form))]
 fn argument<'t, 'a>(
     alloc: Global,
     cursor: &mut Cursor<'t, 'a>,
     depth: usize,
-) -> Result<Argument<'a>, Halt>
-    ensures { Moves argument_of result cursor.new.left.now
+    row: &mut Vec<Argument<'a>>,
+) -> Result<(), Halt>
+    ensures { Adds argument_of row.old.items result row.new.items cursor.new.left.now
         (specs.argument_at (specs.readers (specs.inside depth)) cursor.old.left.now) }
 {
     if at(cursor, Kind::Text) {
         let text = token(cursor, Kind::Text)?;
-        return Ok(Argument::Text(text));
+        return push_text(row, text);
     }
     let value = assignment(alloc, cursor, depth)?;
-    Ok(Argument::Value(value))
+    push_value(row, value)
 }

@@ -1,6 +1,6 @@
 //! The readers of clauses, states, state sets and programs.
 
-ghost use Rattle.std.specs.Prelude.{◌≡◌, ◌<◌, IfOk, drop};
+ghost use Rattle.std.specs.Prelude.{◌≡◌, ◌<◌, IfOk};
 ghost use Rattle.snl_tree.specs.reading.Sequences as sequences;
 ghost use Rattle.snl_tree.specs.view.Shown.{shown, held};
 ghost use Rattle.snl_tree.specs.Kinds.{is};
@@ -10,17 +10,17 @@ ghost use Rattle.snl_tree.specs.reading.Programs as specs;
 ghost use Rattle.snl_tree.specs.reading.Moves.{Moves, MovesToken};
 ghost use Rattle.snl_tree.specs.view.Expressions.{boxed};
 ghost use Rattle.snl_tree.specs.view.Statements.{block_view};
-ghost use Rattle.snl_tree.specs.view.Programs.{Carries, first_place, target_view, clause_view, clause_views, state_view, state_views, state_set_view, state_set_views, program_view};
+ghost use Rattle.snl_tree.specs.view.Programs.{Carries, target_view, clause_view, clause_views, state_view, state_views, state_set_view, state_set_views, program_view};
 
-use crate::parsing::TOKEN_LIMIT;
+use crate::readers::boxes::programs::{boxed_clause, boxed_program, boxed_state, boxed_state_set};
 use crate::readers::cursor::{Cursor, Halt, at, before, sign, token};
 use crate::readers::definitions::{definitions, parts};
 use crate::readers::expressions::level;
 use crate::readers::kinds::COMMA;
-use crate::readers::room::{added, in_box};
+use crate::readers::room::added;
 use crate::readers::statements::block;
 use crate::trees::{Block, Clause, Expr, Program, State, StateSet, Target};
-use snl_text::{Kind, Lexed, Pos, Token};
+use snl_text::{Kind, Lexed, Token};
 use std::alloc::Global;
 
 /// Reads where a clause leads.
@@ -83,16 +83,7 @@ fn clause<'t, 'a>(
     let condition = condition(alloc, cursor, depth)?;
     let block = block(alloc, cursor, depth, depth)?;
     let target = target(cursor)?;
-    let clause = in_box(
-        alloc,
-        Clause {
-            word,
-            condition,
-            block,
-            target,
-        },
-    )?;
-    Ok(clause)
+    boxed_clause(alloc, word, condition, block, target)
 }
 
 /// Reads the clauses of a state.
@@ -168,18 +159,7 @@ fn state<'t, 'a>(
     let clauses = clauses(alloc, cursor, depth)?;
     let exit = exit(alloc, cursor, depth)?;
     sign(cursor, Kind::CloseBrace)?;
-    let state = in_box(
-        alloc,
-        State {
-            word,
-            name,
-            definitions,
-            entry,
-            clauses,
-            exit,
-        },
-    )?;
-    Ok(state)
+    boxed_state(alloc, word, name, definitions, entry, clauses, exit)
 }
 
 /// Reads the states of a state set.
@@ -219,16 +199,7 @@ fn state_set<'t, 'a>(
     let definitions = definitions(alloc, cursor, depth)?;
     let states = states(alloc, cursor, depth)?;
     sign(cursor, Kind::CloseBrace)?;
-    let state_set = in_box(
-        alloc,
-        StateSet {
-            word,
-            name,
-            definitions,
-            states,
-        },
-    )?;
-    Ok(state_set)
+    boxed_state_set(alloc, word, name, definitions, states)
 }
 
 /// Reads the state sets of a program.
@@ -265,16 +236,6 @@ fn macros<'t, 'a>(cursor: &mut Cursor<'t, 'a>) -> Result<Option<Token<'a>>, Halt
     Ok(Some(text))
 }
 
-/// The place of the first token after the first [`TOKEN_LIMIT`].
-fn beyond(tokens: &[Token]) -> Option<Pos>
-    ensures { result ≡ first_place (drop 65536 tokens.now) }
-{
-    if tokens.len() <= TOKEN_LIMIT {
-        return None;
-    }
-    Some(tokens[TOKEN_LIMIT].pos)
-}
-
 /// Reads a program, of a source with these embedded pieces and files.
 #[tactic(auto, unfolding(crate::specs::reading::Programs::program_at))]
 pub fn program<'t, 'a>(
@@ -295,23 +256,15 @@ pub fn program<'t, 'a>(
     let entry = entry(alloc, cursor, depth)?;
     let state_sets = state_sets(alloc, cursor, depth)?;
     let exit = exit(alloc, cursor, depth)?;
-    let embedded = Vec::from_slice(alloc, lexed.embedded.as_slice())?;
-    let files = Vec::from_slice(alloc, lexed.files.as_slice())?;
-    let program = in_box(
+    boxed_program(
         alloc,
-        Program {
-            word,
-            name,
-            macros,
-            definitions,
-            entry,
-            state_sets,
-            exit,
-            embedded,
-            files,
-            token_count: lexed.tokens.len(),
-            beyond: beyond(lexed.tokens.as_slice()),
-        },
-    )?;
-    Ok(program)
+        word,
+        name,
+        macros,
+        definitions,
+        entry,
+        state_sets,
+        exit,
+        lexed,
+    )
 }

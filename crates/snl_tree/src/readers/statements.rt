@@ -9,11 +9,15 @@ ghost use Rattle.snl_tree.specs.reading.StatementSteps as steps;
 ghost use Rattle.snl_tree.specs.view.Statements.{header_view, declaration_views, statement_view, statement_views, block_view};
 ghost use Rattle.snl_tree.specs.view.Expressions.{boxed};
 
+use crate::readers::boxes::statements::{
+    boxed_block, boxed_break, boxed_change, boxed_continue, boxed_empty, boxed_expression,
+    boxed_for, boxed_header, boxed_if, boxed_if_else, boxed_nested, boxed_while,
+};
 use crate::readers::cursor::{Cursor, Halt, at, before, open_sign, open_token, sign, token};
 use crate::readers::declarations::{at_declaration, declaration};
 use crate::readers::expressions::level;
 use crate::readers::kinds::COMMA;
-use crate::readers::room::{added, in_box, pushed};
+use crate::readers::room::added;
 use crate::trees::{Block, Declaration, Expr, Header, Stmt};
 use snl_text::{Kind, Token};
 use std::alloc::Global;
@@ -116,15 +120,7 @@ fn header<'t, 'a>(
     let start = ended(alloc, cursor, limit, Kind::Semicolon)?;
     let condition = ended(alloc, cursor, limit, Kind::Semicolon)?;
     let step = ended(alloc, cursor, limit, Kind::CloseParenthesis)?;
-    let header = in_box(
-        alloc,
-        Header {
-            start,
-            condition,
-            step,
-        },
-    )?;
-    Ok(header)
+    boxed_header(alloc, start, condition, step)
 }
 
 /// Reads the declarations at the front of a block.
@@ -139,7 +135,7 @@ fn declarations<'t, 'a>(
     let mut found = Vec::new(alloc);
     while at_declaration(cursor) {
         let next = declaration(alloc, cursor, limit)?;
-        pushed(&mut found, next)?;
+        added(&mut found, next)?;
     }
     Ok(found)
 }
@@ -156,30 +152,26 @@ fn word_statement<'t, 'a>(
 {
     if at(cursor, Kind::Break) {
         let word = ended_word(cursor, Kind::Break)?;
-        let found = in_box(alloc, Stmt::Break(word))?;
-        return Ok(found);
+        return boxed_break(alloc, word);
     }
     if at(cursor, Kind::Continue) {
         let word = ended_word(cursor, Kind::Continue)?;
-        let found = in_box(alloc, Stmt::Continue(word))?;
-        return Ok(found);
+        return boxed_continue(alloc, word);
     }
     if at(cursor, Kind::State) {
         let word = token(cursor, Kind::State)?;
         let name = ended_word(cursor, Kind::Name)?;
-        let found = in_box(alloc, Stmt::State { word, name })?;
-        return Ok(found);
+        return boxed_change(alloc, word, name);
     }
     let value = level(alloc, cursor, limit, COMMA)?;
     sign(cursor, Kind::Semicolon)?;
-    let found = in_box(alloc, Stmt::Expression(value))?;
-    Ok(found)
+    boxed_expression(alloc, value)
 }
 
 /// Reads a statement. Its expressions may be nested as deep as the limit, and `depth` is left for blocks,
 /// `if`, `else` and loops.
 #[cycle(nesting)]
-#[tactic(auto, using(crate::proofs::code::StatementForms::statement_form, crate::proofs::code::StatementRows::view_block))]
+#[tactic(auto, using(crate::proofs::code::StatementForms::statement_form))]
 fn statement<'t, 'a>(
     alloc: Global,
     cursor: &mut Cursor<'t, 'a>,
@@ -191,13 +183,11 @@ fn statement<'t, 'a>(
 {
     if at(cursor, Kind::OpenBrace) {
         let block = block(alloc, cursor, limit, depth)?;
-        let found = in_box(alloc, Stmt::Block(Box::into_inner(block)))?;
-        return Ok(found);
+        return boxed_nested(alloc, block);
     }
     if at(cursor, Kind::Semicolon) {
         sign(cursor, Kind::Semicolon)?;
-        let found = in_box(alloc, Stmt::Empty)?;
-        return Ok(found);
+        return boxed_empty(alloc);
     }
     if at(cursor, Kind::If) {
         return if_statement(alloc, cursor, limit, depth);
@@ -228,14 +218,7 @@ pub fn block<'t, 'a>(
     let declarations = declarations(alloc, cursor, limit)?;
     let statements = statements(alloc, cursor, limit, depth - 1)?;
     sign(cursor, Kind::CloseBrace)?;
-    let block = in_box(
-        alloc,
-        Block {
-            declarations,
-            statements,
-        },
-    )?;
-    Ok(block)
+    boxed_block(alloc, declarations, statements)
 }
 
 /// Reads statements, one after another.
@@ -292,20 +275,11 @@ fn otherwise<'t, 'a>(
         cursor.old.left.now) }
 {
     if !at(cursor, Kind::Else) {
-        let found = in_box(alloc, Stmt::If { condition, first })?;
-        return Ok(found);
+        return boxed_if(alloc, condition, first);
     }
     sign(cursor, Kind::Else)?;
     let second = statement(alloc, cursor, limit, depth)?;
-    let found = in_box(
-        alloc,
-        Stmt::IfElse {
-            condition,
-            first,
-            second,
-        },
-    )?;
-    Ok(found)
+    boxed_if_else(alloc, condition, first, second)
 }
 
 /// Reads a `while`.
@@ -323,15 +297,7 @@ fn while_loop<'t, 'a>(
     let word = open_token(cursor, Kind::While, depth)?;
     let condition = condition(alloc, cursor, limit)?;
     let body = statement(alloc, cursor, limit, depth - 1)?;
-    let found = in_box(
-        alloc,
-        Stmt::While {
-            word,
-            condition,
-            body,
-        },
-    )?;
-    Ok(found)
+    boxed_while(alloc, word, condition, body)
 }
 
 /// Reads a `for`.
@@ -349,6 +315,5 @@ fn for_loop<'t, 'a>(
     let word = open_token(cursor, Kind::For, depth)?;
     let header = header(alloc, cursor, limit)?;
     let body = statement(alloc, cursor, limit, depth - 1)?;
-    let found = in_box(alloc, Stmt::For { word, header, body })?;
-    Ok(found)
+    boxed_for(alloc, word, header, body)
 }

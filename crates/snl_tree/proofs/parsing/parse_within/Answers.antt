@@ -1,5 +1,4 @@
 use Rattle.std.proofs.Common.{◌≡◌, ℕ, ◌-◌, length, subst, sym}
-use Rattle.snl_tree.specs.declared.trees.programs.Program.{Program}
 use Rattle.snl_tree.specs.Begins.{Spells, IsUnexpected, IsTooDeep}
 use Rattle.snl_tree.specs.Programs.{IsProgram, programs}
 use Rattle.snl_tree.specs.view.Programs.{program_view}
@@ -9,8 +8,7 @@ use Rattle.snl_tree.proofs.parsing.parse_within.Goals as goal
 -- where no token is left, the program is well formed and spelled by the tokens
 pub returns-then-is_empty-clause-found : goal.returns-then-is_empty-clause-found
 returns-then-is_empty-clause-found c =
-    subst (λ (p : Program). IsProgram c.args.limit (program_view p) × Spells programs (program_view p) c.args.lexed.now.tokens.items) (sym c.into_inner.ensures)
-    (ok_found c.args.limit c.args.lexed.now.tokens.items c.program.new.cursor.left.now (program_view c.in-Ok.program.value) c.requires (rw c.as_slice-tokens.ensures.value at c.in-Ok.ensures.tree) (sym c.if-is_empty.ensures))
+    ok_found c.args.limit c.args.lexed.now.tokens.items c.program.new.cursor.left.now (program_view c.in-Ok.program.value) c.requires (rw c.as_slice-tokens.ensures.value at c.in-Ok.ensures.tree) (sym c.if-is_empty.ensures)
 
 -- where tokens are left after a program, the first of them is unexpected
 pub returns-in-Ok-clause-unexpected : goal.returns-in-Ok-clause-unexpected
@@ -36,7 +34,7 @@ returns-in-Err-Deep-clause-too_deep c = λ k e.
 -- where no token is left, the program given is the one that the tokens spell
 pub returns-then-is_empty-clause-only : goal.returns-then-is_empty-clause-only
 returns-then-is_empty-clause-only c = λ p g k.
-    rw c.into_inner.ensures (ok_only c.args.limit c.args.lexed.now.tokens.items c.program.new.cursor.left.now (program_view c.in-Ok.program.value) p c.requires (rw c.as_slice-tokens.ensures.value at c.in-Ok.ensures.tree) (sym c.if-is_empty.ensures) g k)
+    ok_only c.args.limit c.args.lexed.now.tokens.items c.program.new.cursor.left.now (program_view c.in-Ok.program.value) p c.requires (rw c.as_slice-tokens.ensures.value at c.in-Ok.ensures.tree) (sym c.if-is_empty.ensures) g k
 
 -- where tokens are left after a program, they spell none
 pub returns-in-Ok-clause-only : goal.returns-in-Ok-clause-only

@@ -50,6 +50,14 @@ decreases-parenthesized l = 1000 * l.depth + 10
 abbrev pub decreases-named : goal.decreases-named
 decreases-named l = 1000 * l.depth + 10
 
+-- what a subscript after a name costs
+abbrev pub decreases-element : goal.decreases-element
+decreases-element l = 1000 * l.depth + 9
+
+-- what a call's arguments after its name cost
+abbrev pub decreases-call : goal.decreases-call
+decreases-call l = 1000 * l.depth + 9
+
 -- what a list of arguments costs
 abbrev pub decreases-arguments : goal.decreases-arguments
 decreases-arguments l = 1000 * l.depth + 400
@@ -75,7 +83,7 @@ decreases-terms-loop-alloc l = length l.cursor.left.now
 -- the arguments are those found, and those left to read
 abbrev pub invariant-more_arguments-loop-alloc : goal.invariant-more_arguments-loop-alloc
 invariant-more_arguments-loop-alloc l =
-    more_after (readers (inside l.depth)) (list_before l.initial.found.items) l.initial.cursor.left.now ≡ more_after (readers (inside l.depth)) (list_before l.found.items) l.cursor.left.now
+    more_after (readers (inside l.depth)) (list_before l.initial.row.items) l.initial.cursor.left.now ≡ more_after (readers (inside l.depth)) (list_before l.row.items) l.cursor.left.now
 
 -- the count of the tokens that are left
 abbrev pub decreases-more_arguments-loop-alloc : goal.decreases-more_arguments-loop-alloc

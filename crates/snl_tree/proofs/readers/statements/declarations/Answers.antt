@@ -16,12 +16,12 @@ loop-alloc-init c = found_none starts_declaration (declaration_at c.args.limit) 
 -- with one more declaration found, the others are left to read
 pub loop-alloc-preserved : goal.loop-alloc-preserved
 loop-alloc-preserved c =
-    found_more starts_declaration (declaration_at c.args.limit) (declaration_less c.args.limit) declaration_view (declarations_at c.args.limit c.args.cursor.now.left.now) c.loop-alloc.found.items c.loop-alloc.cursor.left.now c.in_ok-next.next c.declaration.new.cursor.left.now _
-    c.in_ok-pushed.ensures.items c.loop-alloc.invariant (sym c.loop-alloc-test.ensures) c.in_ok-next.ensures
+    found_more starts_declaration (declaration_at c.args.limit) (declaration_less c.args.limit) declaration_view (declarations_at c.args.limit c.args.cursor.now.left.now) c.loop-alloc.found.items c.loop-alloc.cursor.left.now c.in_ok-next.next.value c.declaration.new.cursor.left.now _
+    c.in_ok-added.ensures.items c.loop-alloc.invariant (sym c.loop-alloc-test.ensures) c.in_ok-next.ensures
 
 -- fewer tokens are left after a declaration
 pub loop-alloc-smaller : goal.loop-alloc-smaller
-loop-alloc-smaller c = declaration_less c.args.limit c.loop-alloc.cursor.left.now c.declaration.new.cursor.left.now (declaration_view c.in_ok-next.next) c.in_ok-next.ensures
+loop-alloc-smaller c = declaration_less c.args.limit c.loop-alloc.cursor.left.now c.declaration.new.cursor.left.now (declaration_view c.in_ok-next.next.value) c.in_ok-next.ensures
 
 -- where no declaration begins, those found are all of them
 pub returns : goal.returns

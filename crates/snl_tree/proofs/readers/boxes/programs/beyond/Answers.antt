@@ -1,6 +1,6 @@
 use Rattle.std.proofs.Common.{arith}
 use Rattle.snl_tree.proofs.code.Places.{first_none, first_some}
-use Rattle.snl_tree.proofs.readers.programs.beyond.Goals as goal
+use Rattle.snl_tree.proofs.readers.boxes.programs.beyond.Goals as goal
 
 -- there is no place beyond where the tokens are no more than the limit
 pub returns-then-tokens-le-TOKEN_LIMIT : goal.returns-then-tokens-le-TOKEN_LIMIT

@@ -1,0 +1,149 @@
+//! Clauses, states, state sets and programs in their boxes.
+
+ghost use Rattle.std.specs.Prelude.{◌≡◌, IfOk, drop};
+ghost use Rattle.snl_tree.specs.reading.Moves.{Builds};
+ghost use Rattle.snl_tree.specs.view.Shown.{shown, held};
+ghost use Rattle.snl_tree.specs.view.Expressions.{boxed};
+ghost use Rattle.snl_tree.specs.view.Definitions.{definition_views};
+ghost use Rattle.snl_tree.specs.view.Statements.{block_view};
+ghost use Rattle.snl_tree.specs.view.Programs.{Carries, first_place, target_view, clause_view, clause_views, state_view, state_views, state_set_view, state_set_views, program_view};
+
+use crate::parsing::TOKEN_LIMIT;
+use crate::readers::cursor::Halt;
+use crate::readers::room::in_box;
+use crate::trees::{Block, Clause, Def, Expr, Program, State, StateSet, Target};
+use snl_text::{Lexed, Pos, Token};
+use std::alloc::Global;
+
+/// A clause.
+#[tactic(auto, using(crate::proofs::code::Building::in_a_box))]
+pub fn boxed_clause<'a>(
+    alloc: Global,
+    word: Token<'a>,
+    condition: Option<Box<Expr<'a>>>,
+    block: Box<Block<'a>>,
+    target: Target<'a>,
+) -> Result<Box<Clause<'a>>, Halt>
+    ensures { Builds (held clause_view) result record {
+      word = word.entry;
+      condition = shown boxed condition.entry;
+      block = held block_view block.entry;
+      target = target_view target.entry;
+    } }
+{
+    let clause = Clause {
+        word,
+        condition,
+        block,
+        target,
+    };
+    in_box(alloc, clause)
+}
+
+/// A state.
+#[tactic(auto, using(crate::proofs::code::Building::in_a_box))]
+pub fn boxed_state<'a>(
+    alloc: Global,
+    word: Token<'a>,
+    name: Token<'a>,
+    definitions: Vec<Def<'a>>,
+    entry: Option<Box<Block<'a>>>,
+    clauses: Vec<Clause<'a>>,
+    exit: Option<Box<Block<'a>>>,
+) -> Result<Box<State<'a>>, Halt>
+    ensures { Builds (held state_view) result record {
+      word = word.entry;
+      name = name.entry;
+      definitions = definition_views definitions.entry;
+      entry = shown (held block_view) entry.entry;
+      clauses = clause_views clauses.entry;
+      exit = shown (held block_view) exit.entry;
+    } }
+{
+    let state = State {
+        word,
+        name,
+        definitions,
+        entry,
+        clauses,
+        exit,
+    };
+    in_box(alloc, state)
+}
+
+/// A state set.
+#[tactic(auto, using(crate::proofs::code::Building::in_a_box))]
+pub fn boxed_state_set<'a>(
+    alloc: Global,
+    word: Token<'a>,
+    name: Token<'a>,
+    definitions: Vec<Def<'a>>,
+    states: Vec<State<'a>>,
+) -> Result<Box<StateSet<'a>>, Halt>
+    ensures { Builds (held state_set_view) result record {
+      word = word.entry;
+      name = name.entry;
+      definitions = definition_views definitions.entry;
+      states = state_views states.entry;
+    } }
+{
+    let state_set = StateSet {
+        word,
+        name,
+        definitions,
+        states,
+    };
+    in_box(alloc, state_set)
+}
+
+/// The place of the first token after the first [`TOKEN_LIMIT`].
+fn beyond(tokens: &[Token]) -> Option<Pos>
+    ensures { result ≡ first_place (drop 65536 tokens.now) }
+{
+    if tokens.len() <= TOKEN_LIMIT {
+        return None;
+    }
+    Some(tokens[TOKEN_LIMIT].pos)
+}
+
+/// A program, with what the source held between and after its tokens.
+pub fn boxed_program<'a>(
+    alloc: Global,
+    word: Token<'a>,
+    name: Token<'a>,
+    macros: Option<Token<'a>>,
+    definitions: Vec<Def<'a>>,
+    entry: Option<Box<Block<'a>>>,
+    state_sets: Vec<StateSet<'a>>,
+    exit: Option<Box<Block<'a>>>,
+    lexed: &Lexed<'a>,
+) -> Result<Box<Program<'a>>, Halt>
+    ensures tree { Builds (held program_view) result record {
+      word = word.entry;
+      name = name.entry;
+      macros = macros.entry;
+      definitions = definition_views definitions.entry;
+      entry = shown (held block_view) entry.entry;
+      state_sets = state_set_views state_sets.entry;
+      exit = shown (held block_view) exit.entry;
+    } }
+    ensures carried { IfOk result (λ b. Carries b.value lexed.now) }
+{
+    let embedded = Vec::from_slice(alloc, lexed.embedded.as_slice())?;
+    let files = Vec::from_slice(alloc, lexed.files.as_slice())?;
+    let program = Program {
+        word,
+        name,
+        macros,
+        definitions,
+        entry,
+        state_sets,
+        exit,
+        embedded,
+        files,
+        token_count: lexed.tokens.len(),
+        beyond: beyond(lexed.tokens.as_slice()),
+    };
+    let found = in_box(alloc, program)?;
+    Ok(found)
+}
