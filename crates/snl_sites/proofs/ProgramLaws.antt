@@ -1,5 +1,5 @@
 -- The sites of definitions, states, state sets and programs, from those of their parts.
-use Rattle.std.proofs.Common.{◌≡◌, ℕ, suc, ◌+◌, ◌<◌, Bool, true, false, ◌||◌, List, [], ◌∷◌, ◌++◌, length, drop, get_or, map, sym, ap, ◌∙◌, append_assoc, add-one}
+use Rattle.std.proofs.Common.{◌≡◌, ℕ, suc, ◌+◌, ◌<◌, Bool, true, false, ◌||◌, List, [], ◌∷◌, ◌++◌, length, drop, get_or, map, Option, sym, ap, ◌∙◌, append_assoc, add-one}
 use Rattle.std.proofs.lemmas.List.{drop_more}
 use Rattle.std.specs.List.{flat_map}
 use Rattle.snl_text.specs.declared.tokens.Token.{Token}
@@ -10,6 +10,8 @@ use Rattle.snl_tree.specs.declared.trees.programs.State.{State as DeclaredState}
 use Rattle.snl_tree.specs.declared.trees.programs.StateSet.{StateSet as DeclaredSet}
 use Rattle.snl_tree.specs.declared.trees.programs.Program.{Program}
 use Rattle.snl_tree.specs.Definitions.{DefinitionTree}
+use Rattle.snl_tree.specs.Statements.{BlockTree}
+use Rattle.snl_tree.specs.Programs.{ClauseTree, StateSetTree}
 use Rattle.snl_tree.specs.view.Shown.{shown, held}
 use Rattle.snl_tree.specs.view.Statements.{block_view}
 use Rattle.snl_tree.specs.view.Definitions.{definition_view}
@@ -20,11 +22,19 @@ use Rattle.snl_sites.specs.declared.sites.Site.{Site}
 use Rattle.snl_sites.specs.declared.sites.Site.TheVariants.{Clause as ClauseSite}
 use Rattle.snl_sites.specs.Scopes.{Scope, scope_of}
 use Rattle.snl_sites.specs.Sites.{declares, maybe, in_expression, in_block}
-use Rattle.snl_sites.specs.Programs.{in_definition, in_definitions, in_plain_block, in_target, is_always_true, in_clause, in_clauses, in_state, in_all_states, in_state_set, in_all_sets, sites}
+use Rattle.snl_sites.specs.Programs.{in_definition, in_definitions, in_plain_block, in_target, is_always_true, in_clause, in_clauses, in_blocks, in_state, in_all_states, in_state_set, in_all_sets, in_parts, sites}
 
 -- four parts in a row
 four_parts : (old a b c d : List Site) → (((old ++ a) ++ b) ++ c) ++ d ≡ old ++ (((a ++ b) ++ c) ++ d)
 four_parts old a b c d = simp append_assoc
+
+-- three parts in a row
+three_parts : (old a b c : List Site) → ((old ++ a) ++ b) ++ c ≡ old ++ ((a ++ b) ++ c)
+three_parts old a b c = simp append_assoc
+
+-- one part, then three
+one_and_three : (old a b c d : List Site) → (old ++ a) ++ ((b ++ c) ++ d) ≡ old ++ (((a ++ b) ++ c) ++ d)
+one_and_three old a b c d = simp append_assoc
 
 -- definitions: the names of their scope, then each of them
 pub definitions_noted : (in_state : Bool) (s : List Scope) (ds : List DefinitionTree) (scope : Scope) (old mid new : List Site)
@@ -33,25 +43,27 @@ pub definitions_noted : (in_state : Bool) (s : List Scope) (ds : List Definition
 definitions_noted in_state s ds scope old mid new ec em en =
     en ∙ (λ j. em j ++ flat_map (in_definition in_state (ec j ∷ s)) ds) ∙ append_assoc old _ _
 
--- a state: its definitions, `entry`, its clauses, `exit`
-pub state_noted : (s : List Scope) (g : List Token) (a : DeclaredState) (ds : List Def) (cs : List Clause) (scope : Scope) (old one two three new : List Site)
+-- the blocks and the clauses of a state: `entry`, its clauses, `exit`
+pub blocks_noted : (s : List Scope) (g : List Token) (entry exit : Option BlockTree) (cs : List ClauseTree) (old one two new : List Site)
+    → one ≡ old ++ maybe (in_plain_block s g) entry → two ≡ one ++ in_clauses s g false cs → new ≡ two ++ maybe (in_plain_block s g) exit
+    → new ≡ old ++ in_blocks s g entry cs exit
+blocks_noted s g entry exit cs old one two new e1 e2 en =
+    en ∙ (λ j. e2 j ++ maybe (in_plain_block s g) exit) ∙ (λ j. (e1 j ++ in_clauses s g false cs) ++ maybe (in_plain_block s g) exit) ∙ three_parts old _ _ _
+
+-- a state: its definitions, then its blocks and its clauses
+pub state_noted : (s : List Scope) (g : List Token) (a : DeclaredState) (ds : List Def) (cs : List Clause) (scope : Scope) (old one new : List Site)
     → ds ≡ a.definitions.items → cs ≡ a.clauses.items → scope ≡ scope_of s (map definition_view ds)
     → one ≡ old ++ in_definitions true s (map definition_view ds)
-    → two ≡ one ++ maybe (in_plain_block (scope ∷ s) g) (shown (held block_view) a.entry)
-    → three ≡ two ++ in_clauses (scope ∷ s) g false (map clause_view cs)
-    → new ≡ three ++ maybe (in_plain_block (scope ∷ s) g) (shown (held block_view) a.exit)
+    → new ≡ one ++ in_blocks (scope ∷ s) g (shown (held block_view) a.entry) (map clause_view cs) (shown (held block_view) a.exit)
     → new ≡ old ++ in_state s g (state_view a)
-state_noted s g a ds cs scope old one two three new ed ec es e1 e2 e3 en =
+state_noted s g a ds cs scope old one new ed ec es e1 en =
     let defs = map definition_view a.definitions.items in
     let same : scope ≡ scope_of s defs = es ∙ ap (λ x. scope_of s (map definition_view x)) ed in
+    let inside = in_blocks (scope_of s defs ∷ s) g (shown (held block_view) a.entry) (map clause_view a.clauses.items) (shown (held block_view) a.exit) in
     en
-    ∙ (λ j. e3 j ++ maybe (in_plain_block (same j ∷ s) g) (shown (held block_view) a.exit))
-    ∙ (λ j. (e2 j ++ in_clauses (same j ∷ s) g false (map clause_view (ec j))) ++ maybe (in_plain_block (scope_of s defs ∷ s) g) (shown (held block_view) a.exit))
-    ∙ (λ j. ((e1 j ++ maybe (in_plain_block (same j ∷ s) g) (shown (held block_view) a.entry))
-    ++ in_clauses (scope_of s defs ∷ s) g false (map clause_view a.clauses.items)) ++ maybe (in_plain_block (scope_of s defs ∷ s) g) (shown (held block_view) a.exit))
-    ∙ (λ j. (((old ++ in_definitions true s (map definition_view (ed j))) ++ maybe (in_plain_block (scope_of s defs ∷ s) g) (shown (held block_view) a.entry))
-    ++ in_clauses (scope_of s defs ∷ s) g false (map clause_view a.clauses.items)) ++ maybe (in_plain_block (scope_of s defs ∷ s) g) (shown (held block_view) a.exit))
-    ∙ four_parts old _ _ _ _
+    ∙ (λ j. e1 j ++ in_blocks (same j ∷ s) g (shown (held block_view) a.entry) (map clause_view (ec j)) (shown (held block_view) a.exit))
+    ∙ (λ j. (old ++ in_definitions true s (map definition_view (ed j))) ++ inside)
+    ∙ one_and_three old _ _ _ _
 
 -- a state set: its definitions, then its states
 pub state_set_noted : (s : List Scope) (a : DeclaredSet) (ds : List Def) (ts : List DeclaredState) (scope : Scope) (old one new : List Site)
@@ -67,26 +79,27 @@ state_set_noted s a ds ts scope old one new ed et es e1 en =
     ∙ (λ j. (old ++ in_definitions false s (map definition_view (ed j))) ++ in_all_states (scope_of s defs ∷ s) (map state_view a.states.items))
     ∙ append_assoc old _ _
 
--- a program: its definitions, `entry`, its state sets, `exit`
-pub program_noted : (p : Program) (ds : List Def) (ts : List DeclaredSet) (none : List Token) (scope : Scope) (old one two three new : List Site)
-    → ds ≡ p.definitions.items → ts ≡ p.state_sets.items → scope ≡ scope_of [] (map definition_view ds) → none ≡ []
+-- the blocks and the state sets of a program
+pub parts_noted : (s : List Scope) (entry exit : Option BlockTree) (gs : List StateSetTree) (old one two new : List Site)
+    → one ≡ old ++ maybe (in_plain_block s []) entry → two ≡ one ++ in_all_sets s gs → new ≡ two ++ maybe (in_plain_block s []) exit
+    → new ≡ old ++ in_parts s entry gs exit
+parts_noted s entry exit gs old one two new e1 e2 en =
+    en ∙ (λ j. e2 j ++ maybe (in_plain_block s []) exit) ∙ (λ j. (e1 j ++ in_all_sets s gs) ++ maybe (in_plain_block s []) exit) ∙ three_parts old _ _ _
+
+-- a program: its definitions, then its blocks and its state sets
+pub program_noted : (p : Program) (ds : List Def) (gs : List DeclaredSet) (scope : Scope) (old one new : List Site)
+    → ds ≡ p.definitions.items → gs ≡ p.state_sets.items → scope ≡ scope_of [] (map definition_view ds)
     → one ≡ old ++ in_definitions false [] (map definition_view ds)
-    → two ≡ one ++ maybe (in_plain_block (scope ∷ []) none) (shown (held block_view) p.entry)
-    → three ≡ two ++ in_all_sets (scope ∷ []) (map state_set_view ts)
-    → new ≡ three ++ maybe (in_plain_block (scope ∷ []) none) (shown (held block_view) p.exit)
+    → new ≡ one ++ in_parts (scope ∷ []) (shown (held block_view) p.entry) (map state_set_view gs) (shown (held block_view) p.exit)
     → new ≡ old ++ sites (program_view p)
-program_noted p ds ts none scope old one two three new ed et es en e1 e2 e3 e4 =
+program_noted p ds gs scope old one new ed eg es e1 en =
     let defs = map definition_view p.definitions.items in
-    let sets = map state_set_view p.state_sets.items in
     let same : scope ≡ scope_of [] defs = es ∙ ap (λ x. scope_of [] (map definition_view x)) ed in
-    e4
-    ∙ (λ j. e3 j ++ maybe (in_plain_block (same j ∷ []) (en j)) (shown (held block_view) p.exit))
-    ∙ (λ j. (e2 j ++ in_all_sets (same j ∷ []) (map state_set_view (et j))) ++ maybe (in_plain_block (scope_of [] defs ∷ []) []) (shown (held block_view) p.exit))
-    ∙ (λ j. ((e1 j ++ maybe (in_plain_block (same j ∷ []) (en j)) (shown (held block_view) p.entry)) ++ in_all_sets (scope_of [] defs ∷ []) sets)
-    ++ maybe (in_plain_block (scope_of [] defs ∷ []) []) (shown (held block_view) p.exit))
-    ∙ (λ j. (((old ++ in_definitions false [] (map definition_view (ed j))) ++ maybe (in_plain_block (scope_of [] defs ∷ []) []) (shown (held block_view) p.entry))
-    ++ in_all_sets (scope_of [] defs ∷ []) sets) ++ maybe (in_plain_block (scope_of [] defs ∷ []) []) (shown (held block_view) p.exit))
-    ∙ four_parts old _ _ _ _
+    let inside = in_parts (scope_of [] defs ∷ []) (shown (held block_view) p.entry) (map state_set_view p.state_sets.items) (shown (held block_view) p.exit) in
+    en
+    ∙ (λ j. e1 j ++ in_parts (same j ∷ []) (shown (held block_view) p.entry) (map state_set_view (eg j)) (shown (held block_view) p.exit))
+    ∙ (λ j. (old ++ in_definitions false [] (map definition_view (ed j))) ++ inside)
+    ∙ one_and_three old _ _ _ _
 
 -- a clause: its condition, its block, its target
 pub clause_noted : (s : List Scope) (g : List Token) (blocked : Bool) (c : Clause) (b : DeclaredBlock) (old one two three new : List Site)

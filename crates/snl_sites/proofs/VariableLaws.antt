@@ -1,5 +1,5 @@
 -- The variables of definitions, blocks, states, state sets and programs, from those of their parts.
-use Rattle.std.proofs.Common.{◌≡◌, ℕ, ◌<◌, ◌≤◌, List, [], ◌∷◌, ◌++◌, length, get_or, map, slice_get, Some, None, option_map, sym, ap, ◌∙◌, append_assoc}
+use Rattle.std.proofs.Common.{◌≡◌, ℕ, ◌<◌, ◌≤◌, List, [], ◌∷◌, ◌++◌, length, get_or, map, slice_get, Option, Some, None, option_map, sym, ap, ◌∙◌, append_assoc}
 use Rattle.std.proofs.lemmas.Option.{slice_get-map, slice_get-get_or, slice_get_past}
 use Rattle.std.specs.List.{flat_map}
 use Rattle.snl_tree.specs.declared.trees.declarations.Declaration.{Declaration}
@@ -11,6 +11,8 @@ use Rattle.snl_tree.specs.declared.trees.programs.State.{State}
 use Rattle.snl_tree.specs.declared.trees.programs.StateSet.{StateSet}
 use Rattle.snl_tree.specs.declared.trees.programs.Program.{Program}
 use Rattle.snl_tree.specs.Definitions.{DefinitionTree, declaration}
+use Rattle.snl_tree.specs.Statements.{BlockTree}
+use Rattle.snl_tree.specs.Programs.{ClauseTree, StateSetTree}
 use Rattle.snl_tree.specs.reading.Statements.{statement_list}
 use Rattle.snl_tree.specs.view.Shown.{shown, held}
 use Rattle.snl_tree.specs.view.Declarations.{declaration_view}
@@ -19,11 +21,15 @@ use Rattle.snl_tree.specs.view.Statements.{statement_view, block_view}
 use Rattle.snl_tree.specs.view.Programs.{clause_view, state_view, state_set_view, program_view}
 use Rattle.snl_tree.proofs.code.StatementRows.{view_block}
 use Rattle.snl_sites.specs.Scopes.{Scope, scope_of}
-use Rattle.snl_sites.specs.Variables.{Held, by_declaration, by_definition, by_definitions, by_statement, by_statements, by_block, by_maybe, by_clause, by_state, by_state_set, by_numbered, for_first, variables_of}
+use Rattle.snl_sites.specs.Variables.{Held, by_declaration, by_definition, by_definitions, by_statement, by_statements, by_block, by_maybe, by_clause, by_blocks, by_state, by_state_set, by_numbered, for_first, by_parts, variables_of}
 
--- four parts in a row
-four_parts : (old a b c d : List Held) → (((old ++ a) ++ b) ++ c) ++ d ≡ old ++ (((a ++ b) ++ c) ++ d)
-four_parts old a b c d = simp append_assoc
+-- three parts in a row
+three_parts : (old a b c : List Held) → ((old ++ a) ++ b) ++ c ≡ old ++ ((a ++ b) ++ c)
+three_parts old a b c = simp append_assoc
+
+-- one part, then three
+one_and_three : (old a b c d : List Held) → (old ++ a) ++ ((b ++ c) ++ d) ≡ old ++ (((a ++ b) ++ c) ++ d)
+one_and_three old a b c d = simp append_assoc
 
 -- definitions, within their own scope
 pub definitions_held : (s : List Scope) (ds : List DefinitionTree) (names scope : Scope) (old new : List Held)
@@ -51,25 +57,27 @@ pub nested_held : (s : List Scope) (a : Stmt) (b : DeclaredBlock) (old new : Lis
     → new ≡ old ++ by_block s (block_view b) → new ≡ old ++ by_statement s (statement_view a)
 nested_held s a b old new ea e = e ∙ ap (λ x. old ++ by_statement s x) (sym (ap statement_view ea ∙ view_block b))
 
--- a state: its definitions, `entry`, its clauses, `exit`
-pub state_held : (s : List Scope) (a : State) (ds : List Def) (cs : List Clause) (scope : Scope) (old one two three new : List Held)
+-- the blocks of a state: `entry`, its clauses, `exit`
+pub blocks_held : (s : List Scope) (entry exit : Option BlockTree) (cs : List ClauseTree) (old one two new : List Held)
+    → one ≡ old ++ by_maybe s entry → two ≡ one ++ flat_map (by_clause s) cs → new ≡ two ++ by_maybe s exit
+    → new ≡ old ++ by_blocks s entry cs exit
+blocks_held s entry exit cs old one two new e1 e2 en =
+    en ∙ (λ j. e2 j ++ by_maybe s exit) ∙ (λ j. (e1 j ++ flat_map (by_clause s) cs) ++ by_maybe s exit) ∙ three_parts old _ _ _
+
+-- a state: its definitions, then its blocks
+pub state_held : (s : List Scope) (a : State) (ds : List Def) (cs : List Clause) (scope : Scope) (old one new : List Held)
     → ds ≡ a.definitions.items → cs ≡ a.clauses.items → scope ≡ scope_of s (map definition_view ds)
     → one ≡ old ++ by_definitions s (map definition_view ds)
-    → two ≡ one ++ by_maybe (scope ∷ s) (shown (held block_view) a.entry)
-    → three ≡ two ++ flat_map (by_clause (scope ∷ s)) (map clause_view cs)
-    → new ≡ three ++ by_maybe (scope ∷ s) (shown (held block_view) a.exit)
+    → new ≡ one ++ by_blocks (scope ∷ s) (shown (held block_view) a.entry) (map clause_view cs) (shown (held block_view) a.exit)
     → new ≡ old ++ by_state s (state_view a)
-state_held s a ds cs scope old one two three new ed ec es e1 e2 e3 en =
+state_held s a ds cs scope old one new ed ec es e1 en =
     let defs = map definition_view a.definitions.items in
     let same : scope ≡ scope_of s defs = es ∙ ap (λ x. scope_of s (map definition_view x)) ed in
+    let inside = by_blocks (scope_of s defs ∷ s) (shown (held block_view) a.entry) (map clause_view a.clauses.items) (shown (held block_view) a.exit) in
     en
-    ∙ (λ j. e3 j ++ by_maybe (same j ∷ s) (shown (held block_view) a.exit))
-    ∙ (λ j. (e2 j ++ flat_map (by_clause (same j ∷ s)) (map clause_view (ec j))) ++ by_maybe (scope_of s defs ∷ s) (shown (held block_view) a.exit))
-    ∙ (λ j. ((e1 j ++ by_maybe (same j ∷ s) (shown (held block_view) a.entry)) ++ flat_map (by_clause (scope_of s defs ∷ s)) (map clause_view a.clauses.items))
-    ++ by_maybe (scope_of s defs ∷ s) (shown (held block_view) a.exit))
-    ∙ (λ j. (((old ++ by_definitions s (map definition_view (ed j))) ++ by_maybe (scope_of s defs ∷ s) (shown (held block_view) a.entry))
-    ++ flat_map (by_clause (scope_of s defs ∷ s)) (map clause_view a.clauses.items)) ++ by_maybe (scope_of s defs ∷ s) (shown (held block_view) a.exit))
-    ∙ four_parts old _ _ _ _
+    ∙ (λ j. e1 j ++ by_blocks (same j ∷ s) (shown (held block_view) a.entry) (map clause_view (ec j)) (shown (held block_view) a.exit))
+    ∙ (λ j. (old ++ by_definitions s (map definition_view (ed j))) ++ inside)
+    ∙ one_and_three old _ _ _ _
 
 -- a state set: its definitions, then its states
 pub state_set_held : (s : List Scope) (a : StateSet) (ds : List Def) (ts : List State) (scope : Scope) (old one new : List Held)
@@ -85,26 +93,27 @@ state_set_held s a ds ts scope old one new ed et es e1 en =
     ∙ (λ j. (old ++ by_definitions s (map definition_view (ed j))) ++ flat_map (by_state (scope_of s defs ∷ s)) (map state_view a.states.items))
     ∙ append_assoc old _ _
 
--- a program: its definitions, `entry`, one state set, `exit`
-pub program_held : (p : Program) (set : ℕ) (ds : List Def) (ts : List StateSet) (scope : Scope) (old one two three new : List Held)
-    → ds ≡ p.definitions.items → ts ≡ p.state_sets.items → scope ≡ scope_of [] (map definition_view ds)
+-- the program's blocks and one state set
+pub parts_held : (s : List Scope) (set : ℕ) (entry exit : Option BlockTree) (gs : List StateSetTree) (old one two new : List Held)
+    → one ≡ old ++ for_first set s entry → two ≡ one ++ by_numbered s (slice_get gs set) → new ≡ two ++ for_first set s exit
+    → new ≡ old ++ by_parts s set entry gs exit
+parts_held s set entry exit gs old one two new e1 e2 en =
+    en ∙ (λ j. e2 j ++ for_first set s exit) ∙ (λ j. (e1 j ++ by_numbered s (slice_get gs set)) ++ for_first set s exit) ∙ three_parts old _ _ _
+
+-- a program: its definitions, then its blocks and one state set
+pub program_held : (p : Program) (set : ℕ) (ds : List Def) (gs : List StateSet) (scope : Scope) (old one new : List Held)
+    → ds ≡ p.definitions.items → gs ≡ p.state_sets.items → scope ≡ scope_of [] (map definition_view ds)
     → one ≡ old ++ by_definitions [] (map definition_view ds)
-    → two ≡ one ++ for_first set (scope ∷ []) (shown (held block_view) p.entry)
-    → three ≡ two ++ by_numbered (scope ∷ []) (slice_get (map state_set_view ts) set)
-    → new ≡ three ++ for_first set (scope ∷ []) (shown (held block_view) p.exit)
+    → new ≡ one ++ by_parts (scope ∷ []) set (shown (held block_view) p.entry) (map state_set_view gs) (shown (held block_view) p.exit)
     → new ≡ old ++ variables_of (program_view p) set
-program_held p set ds ts scope old one two three new ed et es e1 e2 e3 en =
+program_held p set ds gs scope old one new ed eg es e1 en =
     let defs = map definition_view p.definitions.items in
-    let one_set = slice_get (map state_set_view p.state_sets.items) set in
     let same : scope ≡ scope_of [] defs = es ∙ ap (λ x. scope_of [] (map definition_view x)) ed in
+    let inside = by_parts (scope_of [] defs ∷ []) set (shown (held block_view) p.entry) (map state_set_view p.state_sets.items) (shown (held block_view) p.exit) in
     en
-    ∙ (λ j. e3 j ++ for_first set (same j ∷ []) (shown (held block_view) p.exit))
-    ∙ (λ j. (e2 j ++ by_numbered (same j ∷ []) (slice_get (map state_set_view (et j)) set)) ++ for_first set (scope_of [] defs ∷ []) (shown (held block_view) p.exit))
-    ∙ (λ j. ((e1 j ++ for_first set (same j ∷ []) (shown (held block_view) p.entry)) ++ by_numbered (scope_of [] defs ∷ []) one_set)
-    ++ for_first set (scope_of [] defs ∷ []) (shown (held block_view) p.exit))
-    ∙ (λ j. (((old ++ by_definitions [] (map definition_view (ed j))) ++ for_first set (scope_of [] defs ∷ []) (shown (held block_view) p.entry))
-    ++ by_numbered (scope_of [] defs ∷ []) one_set) ++ for_first set (scope_of [] defs ∷ []) (shown (held block_view) p.exit))
-    ∙ four_parts old _ _ _ _
+    ∙ (λ j. e1 j ++ by_parts (same j ∷ []) set (shown (held block_view) p.entry) (map state_set_view (eg j)) (shown (held block_view) p.exit))
+    ∙ (λ j. (old ++ by_definitions [] (map definition_view (ed j))) ++ inside)
+    ∙ one_and_three old _ _ _ _
 
 -- what a row of state sets has at a number
 pub some_set : (sets : List StateSet) (k : ℕ) (g : StateSet) → k < length sets → g ≡ get_or sets k g → slice_get (map state_set_view sets) k ≡ Some (state_set_view g)

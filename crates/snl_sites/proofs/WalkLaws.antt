@@ -1,20 +1,19 @@
 -- The sites of forms that hold a vector.
-use Rattle.std.proofs.Common.{◌≡◌, ℕ, ◌+◌, ◌<◌, suc, Bool, List, [], ◌∷◌, ◌++◌, length, drop, get_or, map, Option, Vec, Box, Global, refl, sym, ap, ◌∙◌, append_assoc}
+use Rattle.std.proofs.Common.{◌≡◌, ℕ, ◌+◌, ◌<◌, suc, Bool, List, [], ◌∷◌, ◌++◌, length, drop, get_or, map, Vec, Box, Global, refl, sym, ap, ◌∙◌, append_assoc}
 use Rattle.std.proofs.lemmas.List.{drop_more}
 use Rattle.snl_text.specs.declared.tokens.Token.{Token}
 use Rattle.snl_tree.specs.declared.trees.expressions.Expr.{Expr, Chain, Call}
 use Rattle.snl_tree.specs.declared.trees.expressions.Term.{Term}
-use Rattle.snl_tree.specs.declared.trees.expressions.Argument.{Argument, Value, Value', Text}
+use Rattle.snl_tree.specs.declared.trees.expressions.Argument.{Argument, Value', Text}
 use Rattle.snl_tree.specs.Expressions.{no_arguments}
 use Rattle.snl_tree.specs.reading.Expressions.{term_list}
-use Rattle.snl_tree.specs.view.Expressions.{view, pair_of, list_before}
-use Rattle.snl_sites.specs.declared.calls.Form.{Form}
+use Rattle.snl_tree.specs.view.Expressions.{view, pair_of, argument_of, list_before}
 use Rattle.snl_sites.specs.declared.sites.Purpose.{Purpose}
 use Rattle.snl_sites.specs.declared.sites.Site.{Site}
 use Rattle.snl_sites.specs.Calls.{form_of, is_fitting, count_of}
 use Rattle.snl_sites.specs.Scopes.{Scope}
 use Rattle.snl_sites.specs.Purposes.{inner, argument, at_call, at_format}
-use Rattle.snl_sites.specs.Sites.{in_expression, in_terms, in_arguments}
+use Rattle.snl_sites.specs.Sites.{in_expression, in_terms, in_arguments, in_argument}
 use Rattle.snl_tree.proofs.code.Rows.{view_chain, view_call}
 
 -- how many arguments there are
@@ -24,18 +23,18 @@ count_list (Value' p e ∷ l) = ap suc (count_list l)
 count_list (Text t ∷ l) = ap suc (count_list l)
 
 -- A call: its site, then those of its arguments.
-pub call_noted : (w : Bool) (s : List Scope) (p q : Purpose) (e : Expr) (f : Token) (v : Vec Argument Global) (form : Option Form) (fitting : Bool) (items last : List Argument) (site : Site) (old mid new : List Site)
-    → e ≡ Call f v → form ≡ form_of f.text.now → items ≡ v.items → fitting ≡ is_fitting form (list_before items no_arguments)
-    → site ≡ at_call p w f form fitting → mid ≡ old ++ site ∷ [] → q ≡ argument p form fitting → last ≡ v.items
-    → new ≡ mid ++ in_arguments w s q (list_before last no_arguments)
+pub call_noted : (w : Bool) (s : List Scope) (p q : Purpose) (e : Expr) (f : Token) (v : Vec Argument Global) (items : List Argument) (old mid new : List Site)
+    → e ≡ Call f v → items ≡ v.items
+    → q ≡ argument p (form_of f.text.now) (is_fitting (form_of f.text.now) (list_before items no_arguments))
+    → mid ≡ old ++ at_call p w f (form_of f.text.now) (is_fitting (form_of f.text.now) (list_before items no_arguments)) ∷ []
+    → new ≡ mid ++ in_arguments w s q (list_before items no_arguments)
     → new ≡ old ++ in_expression w s p (view e)
-call_noted w s p q e f v form fitting items last site old mid new ee ef ei et es em eq el en =
-    let all = list_before v.items no_arguments in
-    let it : fitting ≡ is_fitting (form_of f.text.now) all = et ∙ (λ j. is_fitting (ef j) (list_before (ei j) no_arguments)) in
+call_noted w s p q e f v items old mid new ee ei eq em en =
+    let form = form_of f.text.now in
     en
-    ∙ (λ j. em j ++ in_arguments w s (eq j) (list_before (el j) no_arguments))
-    ∙ (λ j. (old ++ es j ∷ []) ++ in_arguments w s (argument p (ef j) (it j)) all)
-    ∙ (λ j. (old ++ at_call p w f (ef j) (it j) ∷ []) ++ in_arguments w s (argument p (form_of f.text.now) (is_fitting (form_of f.text.now) all)) all)
+    ∙ (λ j. em j ++ in_arguments w s (eq j) (list_before items no_arguments))
+    ∙ (λ j. (old ++ at_call p w f form (is_fitting form (list_before (ei j) no_arguments)) ∷ [])
+    ++ in_arguments w s (argument p form (is_fitting form (list_before (ei j) no_arguments))) (list_before (ei j) no_arguments))
     ∙ append_assoc old _ _ ∙ ap (λ x. old ++ in_expression w s p x) (sym (ap view ee ∙ view_call f v))
 
 -- A chain: its first operand, then the others.
@@ -60,14 +59,8 @@ argument_step w s p all i a before now start at h ea inv en ex =
     ap (λ x. x ++ rest) en ∙ append_assoc before at rest ∙ ap (λ x. before ++ x) (sym ex)
     ∙ ap (λ (l : List Argument). before ++ in_arguments w s p (list_before l no_arguments)) (ap (λ x. x ∷ drop (i + 1) all) ea ∙ sym (drop_more all i a h)) ∙ inv
 
--- an expression as an argument
-pub value_noted : (w : Bool) (s : List Scope) (p : Purpose) (a : Argument) (b : Box Expr Global) (rest : List Argument) → a ≡ Value b
-    → in_arguments w s p (list_before (a ∷ rest) no_arguments) ≡ in_expression w s p (view b.value) ++ in_arguments w s p (list_before rest no_arguments)
-value_noted w s p a b rest e = ap (λ (x : Argument). in_arguments w s p (list_before (x ∷ rest) no_arguments)) e
-
--- a string as an argument
-pub text_noted : (w : Bool) (s : List Scope) (p : Purpose) (a : Argument) (t : Token) (rest : List Argument) (n : ℕ) → a ≡ Text t → n ≡ length rest
-    → in_arguments w s p (list_before (a ∷ rest) no_arguments) ≡ (at_format p t n ∷ []) ++ in_arguments w s p (list_before rest no_arguments)
-text_noted w s p a t rest n e en =
-    ap (λ (x : Argument). in_arguments w s p (list_before (x ∷ rest) no_arguments)) e
-    ∙ ap (λ m. at_format p t m ∷ in_arguments w s p (list_before rest no_arguments)) (count_list rest ∙ sym en)
+-- an argument, with those after it
+pub argument_noted : (w : Bool) (s : List Scope) (p : Purpose) (a : Argument) (rest : List Argument) (n : ℕ) → n ≡ length rest
+    → in_arguments w s p (list_before (a ∷ rest) no_arguments) ≡ in_argument w s p (argument_of a) n ++ in_arguments w s p (list_before rest no_arguments)
+argument_noted w s p (Value' q e) rest n en = refl
+argument_noted w s p (Text t) rest n en = ap (λ m. at_format p t m ∷ in_arguments w s p (list_before rest no_arguments)) (count_list rest ∙ sym en)

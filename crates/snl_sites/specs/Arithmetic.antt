@@ -16,6 +16,7 @@ is_in_range (negsuc n) = nat_lt n (2 ^ 63)
 abbrev pub in_range : ℤ → Result ℤ Fault
 in_range z = if is_in_range z then Ok z else Err Overflow
 
+-- Whether a number is 0.
 abbrev pub is_zero : ℤ → Bool
 is_zero z = int_eq z (pos 0)
 

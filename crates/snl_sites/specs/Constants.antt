@@ -19,10 +19,12 @@ predefined name =
     else (if bytes_eq name (codes "pvStatERROR") then Some (negsuc 0)
     else (if bytes_eq name (codes "pvStatDISCONN") then Some (negsuc 1) else None))))
 
+-- A number, or no constant where there is none.
 abbrev pub worth : Option ℤ → Constant
 worth None = Varies
 worth (Some z) = Worth z
 
+-- The result of an operation, or that it faults.
 abbrev pub outcome : Result ℤ Fault → Constant
 outcome (Ok z) = Worth z
 outcome (Err fault) = Faults
@@ -49,6 +51,7 @@ abbrev pub applied : (ℤ → Constant) → Constant → Constant
 applied next (Worth z) = next z
 applied next c = c
 
+-- 1 where a constant is not 0, and else 0.
 abbrev pub as_truth : Constant → Constant
 as_truth = applied (λ y. Worth (truth (not (is_zero y))))
 

@@ -23,12 +23,15 @@ use Rattle.snl_sites.specs.Sites.{in_expression, in_statement}
 abbrev pub token : Kind → ℕ → List ℕ → Token
 token kind offset bytes = record { kind = kind; text = record { ref_ptr = (0, 0); now = bytes }; pos = record { offset = offset; file = 0; line = 1 } }
 
+-- a name at an offset
 abbrev pub name : ℕ → List ℕ → Token
 name = token kind.Name
 
+-- a whole number
 abbrev pub whole : List ℕ → ExprTree
 whole bytes = constant (token kind.Whole 0 bytes)
 
+-- an operator or a word
 abbrev pub sign : Kind → Token
 sign k = token k 0 []
 
@@ -36,12 +39,15 @@ sign k = token k 0 []
 abbrev pub binary : Kind → ExprTree → ExprTree → ExprTree
 binary k a b = chain a (term (sign k) b no_terms)
 
+-- no name is declared
 abbrev pub nothing_hidden : List ℕ → Bool
 nothing_hidden x = false
 
+-- each name is declared
 abbrev pub all_hidden : List ℕ → Bool
 all_hidden x = true
 
+-- `TRUE`
 abbrev pub true_name : ExprTree
 true_name = named (name 0 (codes "TRUE"))
 
@@ -53,6 +59,7 @@ by_zero = binary kind.Slash (whole (codes "1")) (whole (codes "0"))
 abbrev pub ints : List DeclaratorTree → DefinitionTree
 ints names = declaration (record { type_name = record { word = sign kind.Int; second = None }; names = names })
 
+-- a declared name with its sizes
 abbrev pub sized : Token → List ExprTree → DeclaratorTree
 sized t sizes = record { name = t; sizes = sizes; initial = None }
 
@@ -99,6 +106,7 @@ ScopeExamples =
 abbrev pub half : ExprTree
 half = constant (token kind.Decimal 6 (codes "0.5"))
 
+-- as the sites of these are computed by hand
 abbrev pub SiteExamples : Type 0
 SiteExamples =
     (in_expression true [] Read (call (name 0 (codes "delay")) (value half no_arguments))

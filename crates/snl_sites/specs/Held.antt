@@ -4,5 +4,6 @@ use Rattle.snl_tree.specs.view.Declarations.{initialiser_view}
 use Rattle.snl_sites.specs.declared.variables.Held.{Held}
 use Rattle.snl_sites.specs.Variables as plain
 
+-- Each field is the same, and the initialiser is its tree.
 abbrev pub held_view : Held → plain.Held
 held_view v = record { name = v.name; range = v.range; size = v.size; initial = shown initialiser_view v.initial.now }

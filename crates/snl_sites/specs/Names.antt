@@ -12,6 +12,7 @@ use Rattle.snl_sites.specs.Scopes.{Scope, scope_of, meaning}
 use Rattle.snl_sites.specs.Programs.{program_scopes}
 use Rattle.snl_sites.specs.Uses.{place_of}
 
+-- A name, with the scopes round it.
 abbrev pub Placed : Type 0
 Placed = List Scope × Token
 
@@ -29,34 +30,42 @@ abbrev mutual
   in_expression s (conditional c a b) = in_expression s c ++ in_expression s a ++ in_expression s b
   in_expression s (assignment e op f) = in_expression s e ++ in_expression s f
 
+  -- operators with their operands
   pub in_terms : List Scope → TermList → List Placed
   in_terms s no_terms = []
   in_terms s (term op e rest) = in_expression s e ++ in_terms s rest
 
+  -- arguments; a string has no names
   pub in_arguments : List Scope → ArgumentList → List Placed
   in_arguments s no_arguments = []
   in_arguments s (value e rest) = in_expression s e ++ in_arguments s rest
   in_arguments s (text t rest) = in_arguments s rest
 
+-- The names in what may be missing.
 abbrev pub if_there : {A B : Type 0} → (A → List B) → Option A → List B
 if_there f None = []
 if_there f (Some x) = f x
 
+-- In the values of a list in braces.
 abbrev pub in_values : List Scope → ValueList → List Placed
 in_values s no_values = []
 in_values s (last_value e) = in_expression s e
 in_values s (value_before e rest) = in_expression s e ++ in_values s rest
 
+-- In an initialiser.
 abbrev pub in_initialiser : List Scope → InitialiserTree → List Placed
 in_initialiser s (single e) = in_expression s e
 in_initialiser s (listed values) = in_values s values
 
+-- In the sizes and the initialiser of a declared name.
 abbrev pub in_declarator : List Scope → DeclaratorTree → List Placed
 in_declarator s d = flat_map (in_expression s) d.sizes ++ if_there (in_initialiser s) d.initial
 
+-- In a declaration. Its own names are declared there, and not used.
 abbrev pub in_declaration : List Scope → DeclarationTree → List Placed
 in_declaration s d = flat_map (in_declarator s) d.names
 
+-- Between the parentheses of a `for`.
 abbrev pub in_header : List Scope → Header → List Placed
 in_header s h = if_there (in_expression s) h.start ++ if_there (in_expression s) h.condition ++ if_there (in_expression s) h.step
 
@@ -73,6 +82,7 @@ abbrev mutual
   in_statement s (while_loop t e a) = in_expression s e ++ in_statement s a
   in_statement s (for_loop t h a) = in_header s h ++ in_statement s a
 
+  -- statements, one after the other
   pub in_statements : List Scope → StatementList → List Placed
   in_statements s no_statements = []
   in_statements s (statement a rest) = in_statement s a ++ in_statements s rest
@@ -82,12 +92,15 @@ abbrev mutual
   in_block s (block ds all) =
       flat_map (in_declaration (scope_of s (map declaration ds) ∷ s)) ds ++ in_statements (scope_of s (map declaration ds) ∷ s) all
 
+-- The name that a definition speaks of, and those in its subscript.
 abbrev pub in_place : List Scope → PlaceTree → List Placed
 in_place s p = (s, p.name) ∷ if_there (in_expression s) p.subscript
 
+-- The event flag of a `sync` or `syncQ`.
 abbrev pub in_flag : List Scope → FlagTree → List Placed
 in_flag s f = (s, f.name) ∷ []
 
+-- In a definition.
 abbrev pub in_definition : List Scope → DefinitionTree → List Placed
 in_definition s (declaration d) = in_declaration s d
 in_definition s (assign a) = in_place s a.place
@@ -101,15 +114,18 @@ in_definition s (setting o) = []
 abbrev pub in_definitions : List Scope → List DefinitionTree → List Placed
 in_definitions outer defs = flat_map (in_definition (scope_of outer defs ∷ outer)) defs
 
+-- In a clause: its condition, then its block. The states that it names are none of these.
 abbrev pub in_clause : List Scope → ClauseTree → List Placed
 in_clause s c = if_there (in_expression s) c.condition ++ in_block s c.block
 
+-- In a state, whose own definitions stand round all that is in it.
 abbrev pub in_state : List Scope → StateTree → List Placed
 in_state outer s =
     in_definitions outer s.definitions ++ if_there (in_block (scope_of outer s.definitions ∷ outer)) s.entry
     ++ flat_map (in_clause (scope_of outer s.definitions ∷ outer)) s.clauses
     ++ if_there (in_block (scope_of outer s.definitions ∷ outer)) s.exit
 
+-- In a state set, whose own definitions stand round its states.
 abbrev pub in_state_set : List Scope → StateSetTree → List Placed
 in_state_set outer g = in_definitions outer g.definitions ++ flat_map (in_state (scope_of outer g.definitions ∷ outer)) g.states
 

@@ -7,6 +7,7 @@ use Rattle.snl_text.specs.declared.tokens.Token.{Token}
 use Rattle.snl_sites.specs.Numbered.{number_of}
 use Rattle.snl_sites.specs.Scopes.{is_spelled}
 
+-- The number that a table has for a name.
 abbrev pub number_in : {S : Type 0} → HashMap (Bor (List ℕ)) ℕ S → List ℕ → Option ℕ
 number_in table name = get_by (λ key. pointwise nat_eq name key.now) table
 

@@ -6,9 +6,11 @@ use Rattle.snl_tree.specs.Kinds.{is}
 use Rattle.snl_tree.specs.Definitions.{SettingTree}
 use Rattle.snl_sites.specs.declared.options.Options.{Options}
 
+-- An option with `+`, and not with `-`.
 abbrev pub is_on : SettingTree → Bool
 is_on o = is Plus o.sign.kind
 
+-- The letter stands among others.
 abbrev pub is_among : List ℕ → ℕ → Bool
 is_among letters b = list_any (λ c. b == c) letters
 
@@ -16,6 +18,7 @@ is_among letters b = list_any (λ c. b == c) letters
 abbrev pub is_program_letter : Bool → ℕ → Bool
 is_program_letter on b = is_among (codes "acdeilmrsuwW") b && not (b == 97 && on) && not (b == 101 && not on)
 
+-- The letters of a state's options.
 abbrev pub is_state_letter : ℕ → Bool
 is_state_letter b = is_among (codes "tex") b
 
@@ -34,6 +37,7 @@ refused in_state o = first_refused (if in_state then is_state_letter else is_pro
 abbrev pub sign_after : Bool → List ℕ → ℕ → Option Bool → Option Bool
 sign_after on letters letter before = if is_among letters letter then Some on else before
 
+-- The signs where there is no option.
 abbrev pub no_options : Options
 no_options = record { s = None; c = None; u = None; w = None }
 

@@ -23,9 +23,11 @@ abbrev pub element_by : ℕ → Constant → Option ℕ
 element_by size (Worth (pos k)) = if nat_lt k size then Some k else None
 element_by size _ = None
 
+-- The same of a subscript, by what it is worth.
 abbrev pub element_at : (List ℕ → Bool) → Size → ExprTree → Option ℕ
 element_at h size e = element_by (elements size) (constant_of h e)
 
+-- One element, where there is one.
 abbrev pub one_element : Pos → Option ℕ → Option Part
 one_element d None = None
 one_element d (Some k) = Some (record { variable = d; extent = Element k })
@@ -52,6 +54,7 @@ abbrev pub is_wrong_list : Size → Option ExprTree → Option ℕ → Bool
 is_wrong_list size sub None = false
 is_wrong_list size sub (Some n) = not (is_array size) || is_some sub || nat_lt (elements size) n
 
+-- The subscript or the list is wrong. Only that of a variable can be.
 abbrev pub is_wrong_part : (List ℕ → Bool) → Meaning → Option ExprTree → Option ℕ → Bool
 is_wrong_part h (Variable d size) sub list = is_wrong_subscript h size sub || is_wrong_list size sub list
 is_wrong_part h m sub list = false

@@ -4,7 +4,7 @@ use Rattle.std.specs.List.{flat_map}
 use Rattle.snl_text.specs.declared.tokens.Token.{Token}
 use Rattle.snl_text.specs.Numbers.{whole_value}
 use Rattle.snl_tree.specs.Statements.{BlockTree}
-use Rattle.snl_tree.specs.Definitions.{PlaceTree, FlagTree, SyncTree, QueueTree, DefinitionTree, declaration, assign, monitor, sync, sync_queue, event_flags, setting}
+use Rattle.snl_tree.specs.Definitions.{PlaceTree, AssignTree, FlagTree, SettingTree, SyncTree, QueueTree, DefinitionTree, declaration, assign, monitor, sync, sync_queue, event_flags, setting}
 use Rattle.snl_tree.specs.Programs.{TargetTree, to_state, to_exit, ClauseTree, StateTree, StateSetTree, ProgramTree}
 use Rattle.snl_sites.specs.declared.constants.Constant.{Constant}
 use Rattle.snl_sites.specs.declared.constants.Constant.TheVariants.{Worth}
@@ -24,12 +24,20 @@ use Rattle.snl_sites.specs.Sites.{declares, in_declaration, in_expression, in_va
 -- ---- definitions, within their own scope and those round it
 
 -- What an `assign`, `monitor`, `sync` or `syncQ` says of its place, beside the length of its list of channels.
-abbrev pub defined : Sort → Token → List Scope → PlaceTree → Option ℕ → List Site
-defined sort word s p list =
+abbrev pub at_defined : Sort → Token → List Scope → PlaceTree → Option ℕ → Site
+at_defined sort word s p list =
     Defined sort word p.name (meaning s p.name) (is_some p.subscript) (is_wrong_part (is_hidden s) (meaning s p.name) p.subscript list)
     (part_of (is_hidden s) (meaning s p.name) p.subscript list)
-    ∷ maybe (in_value s) p.subscript
 
+-- The same with its subscript.
+abbrev pub defined : Sort → Token → List Scope → PlaceTree → Option ℕ → List Site
+defined sort word s p list = at_defined sort word s p list ∷ maybe (in_value s) p.subscript
+
+-- An `assign`.
+abbrev pub in_assign : List Scope → AssignTree → List Site
+in_assign s a = defined Assign a.word s a.place (listed_names a.channels)
+
+-- The event flag of a `sync` or `syncQ`.
 abbrev pub in_flag : List Scope → FlagTree → List Site
 in_flag s f = Use Flagged f.name (meaning s f.name) false ∷ []
 
@@ -37,28 +45,40 @@ in_flag s f = Use Flagged f.name (meaning s f.name) false ∷ []
 abbrev pub size_by : Token → ℕ
 size_by t = unwrap_or (whole_value t.text.now) 0
 
+-- The same where the number may be missing: 100 then.
 abbrev pub queue_size : Option Token → ℕ
 queue_size None = 100
 queue_size (Some t) = size_by t
 
-abbrev pub in_size : Token → List Site
-in_size t = QueueSize t (nat_le 1 (size_by t) && nat_le (size_by t) 4096) ∷ []
+-- The size of a queue is 1 to 4,096.
+abbrev pub at_size : Token → Site
+at_size t = QueueSize t (nat_le 1 (size_by t) && nat_le (size_by t) 4096)
 
+-- The size of a queue, where one is written.
+abbrev pub in_size : Token → List Site
+in_size t = at_size t ∷ []
+
+-- A `sync`: its place, then its event flag.
 abbrev pub in_sync : List Scope → SyncTree → List Site
 in_sync s y = defined Sync y.place.name s y.place None ++ in_flag s y.flag
 
+-- A `syncQ`: its place, then its event flag and its size, where they are written.
 abbrev pub in_queue : List Scope → QueueTree → List Site
 in_queue s q = defined (Queue (queue_size q.size)) q.word s q.place None ++ maybe (in_flag s) q.flag ++ maybe in_size q.size
+
+-- An option, of a state or elsewhere.
+abbrev pub at_setting : Bool → SettingTree → Site
+at_setting in_state o = Setting o.sign o.name (refused in_state o)
 
 -- A definition or an option, in a state or elsewhere.
 abbrev pub in_definition : Bool → List Scope → DefinitionTree → List Site
 in_definition in_state s (declaration d) = in_declaration s false d
-in_definition in_state s (assign a) = defined Assign a.word s a.place (listed_names a.channels)
+in_definition in_state s (assign a) = in_assign s a
 in_definition in_state s (monitor p) = defined Monitor p.name s p None
 in_definition in_state s (sync y) = in_sync s y
 in_definition in_state s (sync_queue q) = in_queue s q
 in_definition in_state s (event_flags names) = []
-in_definition in_state s (setting o) = Setting o.sign o.name (refused in_state o) ∷ []
+in_definition in_state s (setting o) = at_setting in_state o ∷ []
 
 -- Definitions within their own scope: the names that it declares, then one definition after the other.
 abbrev pub in_definitions : Bool → List Scope → List DefinitionTree → List Site
@@ -67,10 +87,12 @@ in_definitions in_state outer defs =
 
 -- ---- clauses
 
+-- The state that a clause leads to, by its number in its state set. An `exit` names none.
 abbrev pub in_target : List Token → TargetTree → List Site
 in_target states (to_state x) = Target x (number_of states x.text.now) true ∷ []
 in_target states to_exit = []
 
+-- A constant that does not fault and is not 0.
 abbrev pub is_nonzero : Constant → Bool
 is_nonzero (Worth z) = not (is_zero z)
 is_nonzero _ = false
@@ -85,6 +107,7 @@ in_clause s states blocked c =
     Clause c.word blocked
     ∷ (maybe (in_expression true s Read) c.condition ++ in_block true states s false c.block ++ in_target states c.target)
 
+-- Clauses, where one before them is always true or not.
 abbrev pub in_clauses : List Scope → List Token → Bool → List ClauseTree → List Site
 in_clauses s states blocked [] = []
 in_clauses s states blocked (c ∷ rest) =
@@ -96,18 +119,29 @@ in_clauses s states blocked (c ∷ rest) =
 abbrev pub in_plain_block : List Scope → List Token → BlockTree → List Site
 in_plain_block s states = in_block false states s false
 
+-- The blocks and the clauses of a state, within its own scope.
+abbrev pub in_blocks : List Scope → List Token → Option BlockTree → List ClauseTree → Option BlockTree → List Site
+in_blocks s states entry clauses exit =
+    maybe (in_plain_block s states) entry ++ in_clauses s states false clauses ++ maybe (in_plain_block s states) exit
+
+-- A state, beside states of these names.
 abbrev pub in_state : List Scope → List Token → StateTree → List Site
 in_state outer states s =
     in_definitions true outer s.definitions ++ maybe (in_plain_block (scope_of outer s.definitions ∷ outer) states) s.entry
     ++ in_clauses (scope_of outer s.definitions ∷ outer) states false s.clauses
     ++ maybe (in_plain_block (scope_of outer s.definitions ∷ outer) states) s.exit
 
+-- A state has a clause at least.
 abbrev pub has_clauses : StateTree → Bool
 has_clauses s = elim s.clauses [ [] ↦ false | c ∷ rest ↦ true ]
 
--- A state of this number.
+-- A state of this number, beside states of these names.
+abbrev pub at_state : List Token → ℕ → StateTree → Site
+at_state states k s = State s.word s.name (is_later states k s.name) (has_clauses s)
+
+-- The same with what stands in it.
 abbrev pub in_numbered : List Scope → List Token → ℕ → StateTree → List Site
-in_numbered outer states k s = State s.word s.name (is_later states k s.name) (has_clauses s) ∷ in_state outer states s
+in_numbered outer states k s = at_state states k s ∷ in_state outer states s
 
 -- The states from a number on.
 abbrev pub in_states : List Scope → List Token → ℕ → List StateTree → List Site
@@ -120,6 +154,7 @@ in_all_states outer states = in_states outer (map (λ s. s.name) states) 0 state
 
 -- ---- state sets
 
+-- A state set: its definitions, then its states.
 abbrev pub in_state_set : List Scope → StateSetTree → List Site
 in_state_set outer g = in_definitions false outer g.definitions ++ in_all_states (scope_of outer g.definitions ∷ outer) g.states
 
@@ -132,13 +167,19 @@ abbrev pub in_state_sets : List Scope → List Token → ℕ → List StateSetTr
 in_state_sets outer sets k [] = []
 in_state_sets outer sets k (g ∷ rest) = in_numbered_set outer sets k g ++ in_state_sets outer sets (suc k) rest
 
+-- All state sets of a program, each beside the names of all.
 abbrev pub in_all_sets : List Scope → List StateSetTree → List Site
 in_all_sets outer sets = in_state_sets outer (map (λ g. g.name) sets) 0 sets
 
 -- ---- programs
 
+-- The scope of the program's definitions, which stands round all else.
 abbrev pub program_scopes : ProgramTree → List Scope
 program_scopes p = scope_of [] p.definitions ∷ []
+
+-- The blocks and the state sets of a program, within its own scope. There are no states to name in its blocks.
+abbrev pub in_parts : List Scope → Option BlockTree → List StateSetTree → Option BlockTree → List Site
+in_parts s entry sets exit = maybe (in_plain_block s []) entry ++ in_all_sets s sets ++ maybe (in_plain_block s []) exit
 
 -- The sites of a program, in the order of the source, but that the declared names stand first in their scope. In the
 -- program's own blocks there are no states to name.

@@ -33,6 +33,7 @@ abbrev pub target : Purpose → Purpose
 target Ignored = Ignored
 target _ = Changed
 
+-- What the argument of a call is for, by the form that the call takes.
 abbrev pub argument_of : Form → Purpose
 argument_of ChannelPlace = Channel
 argument_of QueueName = Queued
@@ -46,12 +47,14 @@ argument Ignored form fitting = Ignored
 argument p (Some form) true = argument_of form
 argument p _ _ = Ignored
 
+-- It stands in an unknown or wrong call.
 abbrev pub is_ignored : Purpose → Bool
 is_ignored Ignored = true
 is_ignored p = false
 
 -- ---- sites
 
+-- There is a number, and it is exact to its third digit after the point.
 abbrev pub is_exact : Option DecimalValue → Bool
 is_exact None = false
 is_exact (Some d) = d.is_exact
@@ -62,6 +65,7 @@ is_good_decimal Ignored bytes = true
 is_good_decimal Delayed bytes = is_exact (decimal_value bytes)
 is_good_decimal p bytes = false
 
+-- Of constants only decimal ones have a site.
 abbrev pub at_constant : Purpose → Token → Kind → List Site
 at_constant p t kind.Decimal = Decimal t (is_good_decimal p t.text.now) ∷ []
 at_constant p t k = []
@@ -85,7 +89,18 @@ at_change p e op = Change op (is_target e || is_ignored p)
 abbrev pub at_format : Purpose → Token → ℕ → Site
 at_format p t n = Format t (is_number n (conversions_of t.text.now) || is_ignored p)
 
+-- `++` and `--`.
 abbrev pub is_step : Kind → Bool
 is_step kind.PlusPlus = true
 is_step kind.MinusMinus = true
 is_step _ = false
+
+-- What the operand of a prefix operator is for: that of `++` and `--` is changed.
+abbrev pub operand_of : Purpose → Bool → Purpose
+operand_of p true = target p
+operand_of p false = inner p
+
+-- A prefix operator has a site where it changes its operand.
+abbrev pub at_prefix : Purpose → ExprTree → Token → Bool → List Site
+at_prefix p e op true = at_change p e op ∷ []
+at_prefix p e op false = []

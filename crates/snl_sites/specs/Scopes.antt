@@ -19,6 +19,7 @@ use Rattle.snl_sites.specs.Constants.{constant_of, predefined}
 abbrev pub Scope : Type 0
 Scope = List Declared
 
+-- The name is spelled so.
 abbrev pub is_spelled : List ℕ → Token → Bool
 is_spelled name t = pointwise nat_eq name t.text.now
 
@@ -27,6 +28,7 @@ abbrev pub first_of : List ℕ → Scope → Option Declared
 first_of name [] = None
 first_of name (d ∷ ds) = if is_spelled name d.name then Some d else first_of name ds
 
+-- The first, and where it is missing the other.
 abbrev pub or_in : {A : Type 0} → Option A → Option A → Option A
 or_in None other = other
 or_in (Some x) other = Some x
@@ -41,10 +43,12 @@ bound (scope ∷ outer) name = or_in (first_of name scope) (bound outer name)
 abbrev pub is_hidden : List Scope → List ℕ → Bool
 is_hidden scopes name = is_some (bound scopes name)
 
+-- What a declared name means: without a size it is an event flag.
 abbrev pub declared_as : Option Size → Token → Meaning
 declared_as None t = Flag t.pos
 declared_as (Some size) t = Variable t.pos size
 
+-- What a name means by its declaration; where there is none, a predefined name stands for a number.
 abbrev pub meaning_by : Option Declared → Bool → Meaning
 meaning_by (Some d) is_number = declared_as d.size d.name
 meaning_by None is_number = if is_number then Number else Nothing
@@ -58,6 +62,7 @@ abbrev pub size_by : Constant → Size
 size_by (Worth (pos n)) = if n == 0 then Wrong else (if nat_le n 1024 then Array n else TooLong)
 size_by _ = Wrong
 
+-- What the sizes after a declared name say: none is a scalar, and more than one is wrong.
 abbrev pub size_of : (List ℕ → Bool) → List ExprTree → Size
 size_of h [] = Scalar
 size_of h (e ∷ []) = size_by (constant_of h e)
@@ -69,6 +74,7 @@ elements Scalar = 1
 elements (Array n) = n
 elements _ = 1024
 
+-- An array, also one whose size is refused.
 abbrev pub is_array : Size → Bool
 is_array Scalar = false
 is_array _ = true
@@ -79,13 +85,19 @@ names_by (declaration d) = map (λ n. n.name) d.names
 names_by (event_flags names) = names
 names_by _ = []
 
+-- A name without a size.
 abbrev pub bare : Token → Declared
 bare t = record { name = t; size = None }
 
--- The same names with their sizes, where a test tells which names are hidden.
-abbrev pub declared_names : (List ℕ → Bool) → List DeclaratorTree → Scope
-declared_names h names = map (λ n. record { name = n.name; size = Some (size_of h n.sizes) }) names
+-- A declared name with its size, where a test tells which names are hidden.
+abbrev pub declared_name : (List ℕ → Bool) → DeclaratorTree → Declared
+declared_name h n = record { name = n.name; size = Some (size_of h n.sizes) }
 
+-- The same of several names.
+abbrev pub declared_names : (List ℕ → Bool) → List DeclaratorTree → Scope
+declared_names h names = map (declared_name h) names
+
+-- What a definition declares.
 abbrev pub declared_by : (List ℕ → Bool) → DefinitionTree → Scope
 declared_by h (declaration d) = declared_names h d.names
 declared_by h (event_flags names) = map bare names

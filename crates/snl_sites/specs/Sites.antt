@@ -1,6 +1,7 @@
 -- The sites of expressions, declarations and statements: the places that a rule may speak of, each with what is known
 -- there.
-use Rattle.std.specs.Prelude.{ℕ, Bool, true, false, List, [], ◌∷◌, ◌++◌, map, Option, Some, None, is_some, is_none, if◌then◌else◌}
+use Rattle.std.specs.Prelude.{ℕ, Bool, true, false, List, [], ◌∷◌, ◌++◌, map, Option, Some, None, is_some, is_none, ◌⊎◌, if◌then◌else◌}
+use Rattle.std.proofs.Common.{inl, inr}
 use Rattle.std.specs.List.{flat_map}
 use Rattle.snl_text.specs.declared.tokens.Token.{Token}
 use Rattle.snl_tree.specs.Expressions.{ExprTree, TermList, ArgumentList, constant, parenthesized, named, element, call, postfix, prefix, chain, conditional, assignment, no_terms, term, no_arguments, value, text}
@@ -38,25 +39,34 @@ abbrev mutual
   in_expression w s p (conditional c a b) = in_expression w s (inner p) c ++ in_expression w s (inner p) a ++ in_expression w s (inner p) b
   in_expression w s p (assignment e op f) = at_change p e op ∷ (in_expression w s (target p) e ++ in_expression w s (inner p) f)
 
+  -- operators with their operands
   pub in_terms : Bool → List Scope → Purpose → TermList → List Site
   in_terms w s p no_terms = []
   in_terms w s p (term op e rest) = in_expression w s p e ++ in_terms w s p rest
 
+  -- arguments; the format of a string is compared with how many stand after it
   pub in_arguments : Bool → List Scope → Purpose → ArgumentList → List Site
   in_arguments w s p no_arguments = []
   in_arguments w s p (value e rest) = in_expression w s p e ++ in_arguments w s p rest
   in_arguments w s p (text t rest) = at_format p t (count_of rest) ∷ in_arguments w s p rest
 
+-- In an argument: a string, with so many arguments after it, or an expression.
+abbrev pub in_argument : Bool → List Scope → Purpose → Token ⊎ ExprTree → ℕ → List Site
+in_argument w s p (inl t) n = at_format p t n ∷ []
+in_argument w s p (inr e) n = in_expression w s p e
+
 -- An expression that gives a value, outside of conditions.
 abbrev pub in_value : List Scope → ExprTree → List Site
 in_value s e = in_expression false s Read e
 
+-- The sites in what may be missing.
 abbrev pub maybe : {A : Type 0} → (A → List Site) → Option A → List Site
 maybe f None = []
 maybe f (Some x) = f x
 
 -- ---- declarations
 
+-- A declared name without a size.
 abbrev pub is_flag : Declared → Bool
 is_flag d = is_none d.size
 
@@ -69,27 +79,37 @@ abbrev pub declares : Scope → Scope → List Site
 declares before [] = []
 declares before (d ∷ ds) = Declaration d.name (is_flag d) (is_some (first_of d.name.text.now before)) (words_of d) ∷ declares (before ++ d ∷ []) ds
 
+-- In the values of a list in braces.
 abbrev pub in_values : List Scope → ValueList → List Site
 in_values s no_values = []
 in_values s (last_value e) = in_value s e
 in_values s (value_before e rest) = in_value s e ++ in_values s rest
 
+-- In an initialiser.
 abbrev pub in_initialiser : List Scope → InitialiserTree → List Site
 in_initialiser s (single e) = in_value s e
 in_initialiser s (listed values) = in_values s values
 
 -- A declared name of this type, in a block or not.
-abbrev pub in_declarator : List Scope → Bool → TypeTree → DeclaratorTree → List Site
-in_declarator s in_block type d =
+abbrev pub at_declarator : List Scope → Bool → TypeTree → DeclaratorTree → Site
+at_declarator s in_block type d =
     Declarator d.name (size_of (is_hidden s) d.sizes) (is_good_initialiser (is_hidden s) in_block type (size_of (is_hidden s) d.sizes) d.initial)
-    ∷ (flat_map (in_value s) d.sizes ++ maybe (in_initialiser s) d.initial)
 
+-- The same with its sizes and its initialiser.
+abbrev pub in_declarator : List Scope → Bool → TypeTree → DeclaratorTree → List Site
+in_declarator s in_block type d = at_declarator s in_block type d ∷ (flat_map (in_value s) d.sizes ++ maybe (in_initialiser s) d.initial)
+
+-- A type, which may be supported or not.
+abbrev pub at_type : TypeTree → Site
+at_type t = Typed t.word t.second (is_some (range_of t))
+
+-- A declaration, in a block or not: its type, then its names.
 abbrev pub in_declaration : List Scope → Bool → DeclarationTree → List Site
-in_declaration s in_block d =
-    Typed d.type_name.word d.type_name.second (is_some (range_of d.type_name)) ∷ flat_map (in_declarator s in_block d.type_name) d.names
+in_declaration s in_block d = at_type d.type_name ∷ flat_map (in_declarator s in_block d.type_name) d.names
 
 -- ---- statements
 
+-- Between the parentheses of a `for`.
 abbrev pub in_header : List Scope → Header → List Site
 in_header s h = maybe (in_value s) h.start ++ maybe (in_value s) h.condition ++ maybe (in_value s) h.step
 
@@ -108,6 +128,7 @@ abbrev mutual
   in_statement c g s l (while_loop t e a) = in_value s e ++ in_statement c g s true a
   in_statement c g s l (for_loop t h a) = in_header s h ++ in_statement c g s true a
 
+  -- statements, one after the other
   pub in_statements : Bool → List Token → List Scope → Bool → StatementList → List Site
   in_statements c g s l no_statements = []
   in_statements c g s l (statement a rest) = in_statement c g s l a ++ in_statements c g s l rest

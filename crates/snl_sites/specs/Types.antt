@@ -35,6 +35,7 @@ range_by Unsigned None = Some (pos 0, pos 4294967295)
 range_by Unsigned (Some t) = unsigned_range t.kind
 range_by _ second = None
 
+-- The least and the greatest number of a type, if it is supported.
 abbrev pub range_of : TypeTree → Option (ℤ × ℤ)
 range_of t = range_by t.word.kind t.second
 
@@ -53,6 +54,7 @@ abbrev pub is_constant_in : Option (ℤ × ℤ) → Constant → Bool
 is_constant_in range (Worth z) = is_in range z
 is_constant_in range _ = false
 
+-- The values of a list in braces.
 abbrev pub listed_values : ValueList → List ExprTree
 listed_values no_values = []
 listed_values (last_value e) = e ∷ []

@@ -21,6 +21,7 @@ use_at (Use p t m sub) = Some (t, m)
 use_at (Defined sort word t m sub wrong part) = Some (t, m)
 use_at _ = None
 
+-- The place of what is used, if the use is at this offset; else that of a later one.
 abbrev pub declared_by : ℕ → Option (Token × Meaning) → Option Pos → Option Pos
 declared_by offset None later = later
 declared_by offset (Some u) later = if u.0.pos.offset == offset then place_of u.1 else later

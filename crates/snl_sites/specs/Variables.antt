@@ -18,16 +18,20 @@ pub record Held : Type 0 where
   pub size : Size
   pub initial : Option InitialiserTree
 
+-- The variable of a declared name of this type.
 abbrev pub held_for : List Scope → TypeTree → DeclaratorTree → Held
 held_for s type d = record { name = d.name; range = range_or_long (range_of type); size = size_of (is_hidden s) d.sizes; initial = d.initial }
 
+-- The variables of a declaration.
 abbrev pub by_declaration : List Scope → DeclarationTree → List Held
 by_declaration s d = map (held_for s d.type_name) d.names
 
+-- The variables of a definition: only declarations have some.
 abbrev pub by_definition : List Scope → DefinitionTree → List Held
 by_definition s (declaration d) = by_declaration s d
 by_definition s _ = []
 
+-- The variables of definitions, within their own scope.
 abbrev pub by_definitions : List Scope → List DefinitionTree → List Held
 by_definitions outer defs = flat_map (by_definition (scope_of outer defs ∷ outer)) defs
 
@@ -41,27 +45,37 @@ abbrev mutual
   by_statement s (for_loop t h a) = by_statement s a
   by_statement s _ = []
 
+  -- statements, one after the other
   pub by_statements : List Scope → StatementList → List Held
   by_statements s no_statements = []
   by_statements s (statement a rest) = by_statement s a ++ by_statements s rest
 
+  -- a block is a scope of its own
   pub by_block : List Scope → BlockTree → List Held
   by_block s (block ds all) =
       flat_map (by_declaration (scope_of s (map declaration ds) ∷ s)) ds ++ by_statements (scope_of s (map declaration ds) ∷ s) all
 
+-- The variables of a block that may be missing.
 abbrev pub by_maybe : List Scope → Option BlockTree → List Held
 by_maybe s None = []
 by_maybe s (Some b) = by_block s b
 
+-- The variables of a clause are those of its block.
 abbrev pub by_clause : List Scope → ClauseTree → List Held
 by_clause s c = by_block s c.block
 
+-- The variables of the blocks of a state, within its own scope.
+abbrev pub by_blocks : List Scope → Option BlockTree → List ClauseTree → Option BlockTree → List Held
+by_blocks s entry clauses exit = by_maybe s entry ++ flat_map (by_clause s) clauses ++ by_maybe s exit
+
+-- The variables of a state: of its definitions, then of its blocks.
 abbrev pub by_state : List Scope → StateTree → List Held
 by_state outer s =
     by_definitions outer s.definitions ++ by_maybe (scope_of outer s.definitions ∷ outer) s.entry
     ++ flat_map (by_clause (scope_of outer s.definitions ∷ outer)) s.clauses
     ++ by_maybe (scope_of outer s.definitions ∷ outer) s.exit
 
+-- The variables of a state set: of its definitions, then of its states.
 abbrev pub by_state_set : List Scope → StateSetTree → List Held
 by_state_set outer g = by_definitions outer g.definitions ++ flat_map (by_state (scope_of outer g.definitions ∷ outer)) g.states
 
@@ -73,6 +87,10 @@ by_numbered outer (Some g) = by_state_set outer g
 -- A block of the program, for the first state set alone.
 abbrev pub for_first : ℕ → List Scope → Option BlockTree → List Held
 for_first set s b = if set == 0 then by_maybe s b else []
+
+-- The variables of the program's blocks and of one state set, within the program's scope.
+abbrev pub by_parts : List Scope → ℕ → Option BlockTree → List StateSetTree → Option BlockTree → List Held
+by_parts s set entry sets exit = for_first set s entry ++ by_numbered s (slice_get sets set) ++ for_first set s exit
 
 -- All variables that the copy of a state set holds, in the order of the source: those of the program's definitions, and
 -- of the state set's own with its states and blocks. The first copy holds those of the program's own two blocks too.

@@ -44,18 +44,17 @@ fn push_statement<'p, 'a>(
         ++ spec.by_statement (scopes_of scopes.now) (statement_view statement.now)) }
 {
     match statement {
-        Stmt::Block(block) => push_block(alloc, scopes, block, kept)?,
-        Stmt::If { first, .. } => push_statement(alloc, scopes, first, kept)?,
+        Stmt::Block(block) => push_block(alloc, scopes, block, kept),
+        Stmt::If { first, .. } => push_statement(alloc, scopes, first, kept),
         Stmt::IfElse { first, second, .. } => {
             push_statement(alloc, scopes, first, kept)?;
-            push_statement(alloc, scopes, second, kept)?;
+            push_statement(alloc, scopes, second, kept)
         }
         Stmt::While { body, .. } | Stmt::For { body, .. } => {
-            push_statement(alloc, scopes, body, kept)?;
+            push_statement(alloc, scopes, body, kept)
         }
-        _ => {}
+        _ => Ok(()),
     }
-    Ok(())
 }
 
 /// Adds the variables of the blocks in statements.
@@ -91,8 +90,7 @@ pub fn push_block<'p, 'a>(
     let scope = Scope::of(alloc, names)?;
     let scopes = Scopes::Within(&scope, &*outer);
     push_declarations(&scopes, block.declarations.as_slice(), kept)?;
-    push_statements(alloc, &scopes, block.statements.as_slice(), kept)?;
-    Ok(())
+    push_statements(alloc, &scopes, block.statements.as_slice(), kept)
 }
 
 /// Adds the variables of a block, if it is there.

@@ -18,6 +18,7 @@ pub enum Form {
     FlagName,
     /// An expression in seconds.
     Seconds,
+    /// No argument.
     Nothing,
     /// A string, then expressions.
     Format,
@@ -37,7 +38,16 @@ pub fn form_of(name: &[u8]) -> Option<Form>
         Some(Form::QueueName)
     } else if name == b"pvFlushQ".as_slice() {
         Some(Form::QueueName)
-    } else if name == b"efSet".as_slice() {
+    } else {
+        form_of_flag_call(name)
+    }
+}
+
+/// What the call of a name takes that handles no channel: flags first.
+fn form_of_flag_call(name: &[u8]) -> Option<Form>
+    ensures { result ≡ spec.form_of_flag_call name.now }
+{
+    if name == b"efSet".as_slice() {
         Some(Form::FlagName)
     } else if name == b"efClear".as_slice() {
         Some(Form::FlagName)
@@ -45,7 +55,16 @@ pub fn form_of(name: &[u8]) -> Option<Form>
         Some(Form::FlagName)
     } else if name == b"efTestAndClear".as_slice() {
         Some(Form::FlagName)
-    } else if name == b"delay".as_slice() {
+    } else {
+        form_of_other_call(name)
+    }
+}
+
+/// What the call of a name takes that handles neither a channel nor a flag.
+fn form_of_other_call(name: &[u8]) -> Option<Form>
+    ensures { result ≡ spec.form_of_other_call name.now }
+{
+    if name == b"delay".as_slice() {
         Some(Form::Seconds)
     } else if name == b"pvChannelCount".as_slice() {
         Some(Form::Nothing)

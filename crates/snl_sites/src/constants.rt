@@ -1,8 +1,9 @@
 //! Constant expressions, and what they are worth.
 
-ghost use Rattle.std.specs.Prelude.{◌≡◌, is_some};
+ghost use Rattle.std.specs.Prelude.{◌≡◌, is_some, map};
 ghost use Rattle.snl_sites.specs.Arithmetic.{truth};
-ghost use Rattle.snl_tree.specs.view.Expressions.{view};
+ghost use Rattle.snl_tree.specs.view.Expressions.{view, pair_of};
+ghost use Rattle.snl_tree.specs.reading.Expressions.{term_list};
 ghost use Rattle.snl_sites.specs.Constants as spec;
 ghost use Rattle.snl_sites.specs.Scopes.{is_hidden};
 ghost use Rattle.snl_sites.specs.Chains.{scopes_of};
@@ -10,7 +11,7 @@ ghost use Rattle.snl_sites.specs.Chains.{scopes_of};
 use crate::arithmetic::{Fault, computed, computed_prefix};
 use crate::scopes::Scopes;
 use snl_text::{Kind, Token, character_value, whole_value};
-use snl_tree::Expr;
+use snl_tree::{Expr, Term};
 
 /// What an expression is worth that is the same in every run.
 #[derive(Clone, Copy)]
@@ -162,6 +163,7 @@ fn prefixed(operator: Kind, operand: Constant) -> Constant
 
 /// What an expression is worth in every run. A name of one of the scopes is no constant, also where
 /// it hides a predefined one.
+#[cycle(constant)]
 pub fn constant_of<'a>(scopes: &Scopes<'_, 'a>, expression: &Expr<'a>) -> Constant
     ensures { result ≡ spec.constant_of (is_hidden (scopes_of scopes.now)) (view expression.now) }
 {
@@ -171,11 +173,7 @@ pub fn constant_of<'a>(scopes: &Scopes<'_, 'a>, expression: &Expr<'a>) -> Consta
         Expr::Named(name) => of_name(scopes, *name),
         Expr::Prefix(operator, operand) => prefixed(operator.kind, constant_of(scopes, operand)),
         Expr::Chain(first, terms) => {
-            let mut left = constant_of(scopes, first);
-            for term in terms {
-                left = joined(term.operator.kind, left, constant_of(scopes, &term.operand));
-            }
-            left
+            chain_of(scopes, constant_of(scopes, first), terms.as_slice())
         }
         Expr::Conditional { condition, yes, no } => chosen(
             constant_of(scopes, condition),
@@ -186,4 +184,17 @@ pub fn constant_of<'a>(scopes: &Scopes<'_, 'a>, expression: &Expr<'a>) -> Consta
             Constant::Varies
         }
     }
+}
+
+/// What operators and their operands make of what stands to the left of them.
+#[cycle(constant)]
+fn chain_of<'a>(scopes: &Scopes<'_, 'a>, first: Constant, terms: &[Term<'a>]) -> Constant
+    ensures { result ≡ spec.constant_chain (is_hidden (scopes_of scopes.now)) (term_list
+        (map pair_of terms.now)) first }
+{
+    let mut left = first;
+    for term in terms {
+        left = joined(term.operator.kind, left, constant_of(scopes, &term.operand));
+    }
+    left
 }

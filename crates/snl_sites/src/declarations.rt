@@ -1,6 +1,6 @@
 //! The sites in declarations.
 
-ghost use Rattle.std.specs.Prelude.{◌≡◌, ◌++◌, map, OnOk};
+ghost use Rattle.std.specs.Prelude.{◌≡◌, [], ◌∷◌, ◌++◌, map, OnOk};
 ghost use Rattle.std.specs.List.{flat_map};
 ghost use Rattle.snl_tree.specs.view.Expressions.{boxed, view};
 ghost use Rattle.snl_tree.specs.view.Declarations.{type_view, declarator_view, declaration_view, initialiser_view};
@@ -10,6 +10,7 @@ ghost use Rattle.snl_sites.specs.Sites as spec;
 
 use crate::expressions::note_expression;
 use crate::initialisers::{is_good_initialiser, range_of};
+use crate::rows::pushed;
 use crate::scopes::Scopes;
 use crate::sites::{Purpose, Site};
 use crate::sizes::size_of;
@@ -25,8 +26,7 @@ pub fn note_value<'a>(
     ensures { OnOk result (sites.new.items ≡ sites.old.items
         ++ spec.in_value (scopes_of scopes.now) (view value.now)) }
 {
-    note_expression(false, scopes, Purpose::Read, value, sites)?;
-    Ok(())
+    note_expression(false, scopes, Purpose::Read, value, sites)
 }
 
 /// Notes the sites in an expression that may be missing.
@@ -71,11 +71,29 @@ fn note_initialiser<'a>(
         (shown initialiser_view initial.now)) }
 {
     match initial {
-        None => {}
-        Some(Initialiser::Single(value)) => note_value(scopes, value, sites)?,
-        Some(Initialiser::List(values)) => note_values(scopes, values.each.as_slice(), sites)?,
+        None => Ok(()),
+        Some(Initialiser::Single(value)) => note_value(scopes, value, sites),
+        Some(Initialiser::List(values)) => note_values(scopes, values.each.as_slice(), sites),
     }
-    Ok(())
+}
+
+/// The site of a declared name of this type, in a block or not.
+fn declarator_site<'a>(
+    scopes: &Scopes<'_, 'a>,
+    in_block: bool,
+    type_name: TypeName<'a>,
+    declarator: &Declarator<'a>,
+) -> Site<'a>
+    ensures { result ≡ spec.at_declarator (scopes_of scopes.now) in_block
+        (type_view type_name.entry) (declarator_view declarator.now) }
+{
+    let size = size_of(scopes, declarator.sizes.as_slice());
+    let initial = &declarator.initial;
+    Site::Declarator {
+        name: declarator.name,
+        size,
+        has_good_initialiser: is_good_initialiser(scopes, in_block, type_name, size, initial),
+    }
 }
 
 /// Notes the sites in a declared name with its sizes and its initialiser.
@@ -90,20 +108,42 @@ fn note_declarator<'a>(
         ++ spec.in_declarator (scopes_of scopes.now) in_block (type_view type_name.entry)
         (declarator_view declarator.now)) }
 {
-    let size = size_of(scopes, declarator.sizes.as_slice());
-    sites.push(Site::Declarator {
-        name: declarator.name,
-        size,
-        has_good_initialiser: is_good_initialiser(
-            scopes,
-            in_block,
-            type_name,
-            size,
-            &declarator.initial,
-        ),
-    })?;
+    pushed(
+        sites,
+        declarator_site(scopes, in_block, type_name, declarator),
+    )?;
     note_values(scopes, declarator.sizes.as_slice(), sites)?;
-    note_initialiser(scopes, &declarator.initial, sites)?;
+    note_initialiser(scopes, &declarator.initial, sites)
+}
+
+/// Notes the type of a declaration.
+fn note_type<'a>(type_name: TypeName<'a>, sites: &mut Vec<Site<'a>>) -> Result<(), AllocError>
+    ensures { OnOk result (sites.new.items ≡ sites.old.items
+        ++ spec.at_type (type_view type_name.entry) ∷ []) }
+{
+    let site = Site::Typed {
+        word: type_name.word,
+        second: type_name.second,
+        is_supported: range_of(type_name).is_some(),
+    };
+    pushed(sites, site)
+}
+
+/// Notes the sites in declared names of this type.
+fn note_declarators<'a>(
+    scopes: &Scopes<'_, 'a>,
+    in_block: bool,
+    type_name: TypeName<'a>,
+    declarators: &[Declarator<'a>],
+    sites: &mut Vec<Site<'a>>,
+) -> Result<(), AllocError>
+    ensures { OnOk result (sites.new.items ≡ sites.old.items
+        ++ flat_map (spec.in_declarator (scopes_of scopes.now) in_block
+        (type_view type_name.entry)) (map declarator_view declarators.now)) }
+{
+    for declarator in declarators {
+        note_declarator(scopes, in_block, type_name, declarator, sites)?;
+    }
     Ok(())
 }
 
@@ -117,13 +157,7 @@ pub fn note_declaration<'a>(
     ensures { OnOk result (sites.new.items ≡ sites.old.items
         ++ spec.in_declaration (scopes_of scopes.now) in_block (declaration_view declared.now)) }
 {
-    sites.push(Site::Typed {
-        word: declared.type_name.word,
-        second: declared.type_name.second,
-        is_supported: range_of(declared.type_name).is_some(),
-    })?;
-    for declarator in &declared.names {
-        note_declarator(scopes, in_block, declared.type_name, declarator, sites)?;
-    }
-    Ok(())
+    let names = declared.names.as_slice();
+    note_type(declared.type_name, sites)?;
+    note_declarators(scopes, in_block, declared.type_name, names, sites)
 }

@@ -7,6 +7,7 @@ ghost use Rattle.snl_sites.specs.Chains.{scopes_of};
 ghost use Rattle.snl_sites.specs.Scopes as spec;
 ghost use Rattle.snl_sites.specs.Sites.{declares};
 
+use crate::rows::pushed;
 use crate::scopes::{Declared, Scope, Scopes, scope_with};
 use crate::scoping::{push_declared, push_names};
 use crate::sites::Site;
@@ -19,10 +20,13 @@ fn push_flags<'a>(flags: &[Token<'a>], names: &mut Vec<Declared<'a>>) -> Result<
     ensures { OnOk result (names.new.items ≡ names.old.items ++ map spec.bare flags.now) }
 {
     for flag in flags {
-        names.push(Declared {
-            name: *flag,
-            size: None,
-        })?;
+        pushed(
+            names,
+            Declared {
+                name: *flag,
+                size: None,
+            },
+        )?;
     }
     Ok(())
 }
@@ -33,11 +37,10 @@ fn push_names_by<'a>(definition: &Def<'a>, names: &mut Vec<Declared<'a>>) -> Res
         ++ map spec.bare (spec.names_by (definition_view definition.now))) }
 {
     match definition {
-        Def::Declaration(declared) => push_names(declared, names)?,
-        Def::EventFlags(flags) => push_flags(flags.as_slice(), names)?,
-        _ => {}
+        Def::Declaration(declared) => push_names(declared, names),
+        Def::EventFlags(flags) => push_flags(flags.as_slice(), names),
+        _ => Ok(()),
     }
-    Ok(())
 }
 
 /// Adds the names that a definition declares, with their sizes.
@@ -51,11 +54,10 @@ fn push_declared_by<'a>(
         (definition_view definition.now)) }
 {
     match definition {
-        Def::Declaration(declared) => push_declared(scopes, declared, found)?,
-        Def::EventFlags(flags) => push_flags(flags.as_slice(), found)?,
-        _ => {}
+        Def::Declaration(declared) => push_declared(scopes, declared, found),
+        Def::EventFlags(flags) => push_flags(flags.as_slice(), found),
+        _ => Ok(()),
     }
-    Ok(())
 }
 
 /// The names that some definitions declare.
@@ -97,8 +99,7 @@ pub fn definition_names<'a>(
 {
     let names = names_of(alloc, definitions)?;
     let names = Scope::of(alloc, names)?;
-    let found = declared_of(alloc, &Scopes::Within(&names, outer), definitions)?;
-    Ok(found)
+    declared_of(alloc, &Scopes::Within(&names, outer), definitions)
 }
 
 /// The scope of definitions within others; notes each declared name.
@@ -115,6 +116,5 @@ pub fn definition_scope<'a>(
         (map definition_view definitions.now))) }
 {
     let declared = definition_names(alloc, outer, definitions)?;
-    let scope = scope_with(alloc, declared, sites)?;
-    Ok(scope)
+    scope_with(alloc, declared, sites)
 }

@@ -1,9 +1,9 @@
 //! The sites in definitions.
 
-ghost use Rattle.std.specs.Prelude.{◌≡◌, ◌++◌, map, OnOk, IfOk};
+ghost use Rattle.std.specs.Prelude.{◌≡◌, [], ◌∷◌, ◌++◌, map, OnOk, IfOk};
 ghost use Rattle.std.specs.List.{flat_map};
 ghost use Rattle.snl_tree.specs.view.Shown.{shown};
-ghost use Rattle.snl_tree.specs.view.Definitions.{definition_view, place_view, flag_view, queue_view, sync_view};
+ghost use Rattle.snl_tree.specs.view.Definitions.{definition_view, place_view, assign_view, flag_view, queue_view, sync_view, setting_view};
 ghost use Rattle.snl_tree.specs.Definitions.{sync, sync_queue};
 ghost use Rattle.snl_sites.specs.Chains.{scopes_of};
 ghost use Rattle.snl_sites.specs.Scopes.{scope_of};
@@ -14,11 +14,36 @@ use crate::declarations::{note_declaration, note_if_there};
 use crate::definition_scopes::definition_scope;
 use crate::options::refused;
 use crate::parts::{is_wrong_part, listed_names, part_of};
+use crate::rows::pushed;
 use crate::scopes::{Scope, Scopes};
 use crate::sites::{Purpose, Site, Sort};
+use crate::tokens::note_use;
 use snl_text::{Token, whole_value};
-use snl_tree::{Def, Flag, Place, Sync, SyncQueue};
+use snl_tree::{Assign, Def, Flag, Place, Setting, Sync, SyncQueue};
 use std::alloc::{AllocError, Global};
+
+/// The site of an `assign`, `monitor`, `sync` or `syncQ`.
+fn defined_site<'a>(
+    sort: Sort,
+    word: Token<'a>,
+    scopes: &Scopes<'_, 'a>,
+    place: &Place<'a>,
+    list: Option<usize>,
+) -> Site<'a>
+    ensures { result ≡ spec.at_defined sort word.entry (scopes_of scopes.now)
+        (place_view place.now) list }
+{
+    let meaning = scopes.meaning(place.name);
+    Site::Defined {
+        sort,
+        word,
+        name: place.name,
+        meaning,
+        has_subscript: place.subscript.is_some(),
+        is_wrong: is_wrong_part(scopes, meaning, &place.subscript, list),
+        part: part_of(scopes, meaning, &place.subscript, list),
+    }
+}
 
 /// Notes an `assign`, `monitor`, `sync` or `syncQ`, and the sites in its subscript.
 fn note_defined<'a>(
@@ -32,18 +57,8 @@ fn note_defined<'a>(
     ensures { OnOk result (sites.new.items ≡ sites.old.items
         ++ spec.defined sort word.entry (scopes_of scopes.now) (place_view place.now) list) }
 {
-    let meaning = scopes.meaning(place.name);
-    sites.push(Site::Defined {
-        sort,
-        word,
-        name: place.name,
-        meaning,
-        has_subscript: place.subscript.is_some(),
-        is_wrong: is_wrong_part(scopes, meaning, &place.subscript, list),
-        part: part_of(scopes, meaning, &place.subscript, list),
-    })?;
-    note_if_there(scopes, &place.subscript, sites)?;
-    Ok(())
+    pushed(sites, defined_site(sort, word, scopes, place, list))?;
+    note_if_there(scopes, &place.subscript, sites)
 }
 
 /// Notes the event flag of a `sync` or `syncQ`.
@@ -55,13 +70,22 @@ fn note_flag<'a>(
     ensures { OnOk result (sites.new.items ≡ sites.old.items
         ++ spec.in_flag (scopes_of scopes.now) (flag_view flag.entry)) }
 {
-    sites.push(Site::Use {
-        purpose: Purpose::Flagged,
-        name: flag.name,
-        meaning: scopes.meaning(flag.name),
-        has_subscript: false,
-    })?;
-    Ok(())
+    note_use(scopes, Purpose::Flagged, flag.name, false, sites)
+}
+
+/// Notes the event flag of a `syncQ`, where one is written.
+fn note_any_flag<'a>(
+    scopes: &Scopes<'_, 'a>,
+    flag: Option<Flag<'a>>,
+    sites: &mut Vec<Site<'a>>,
+) -> Result<(), AllocError>
+    ensures { OnOk result (sites.new.items ≡ sites.old.items
+        ++ maybe (spec.in_flag (scopes_of scopes.now)) (shown flag_view flag.entry)) }
+{
+    match flag {
+        Some(flag) => note_flag(scopes, flag, sites),
+        None => Ok(()),
+    }
 }
 
 /// How many items a queue has; 0 where the number is too large to have a value.
@@ -84,18 +108,25 @@ fn queue_size(number: Option<Token>) -> u64
     }
 }
 
+/// The site of the size of a queue.
+fn size_site<'a>(number: Token<'a>) -> Site<'a>
+    ensures { result ≡ spec.at_size number.entry }
+{
+    let size = size_by(number);
+    Site::QueueSize {
+        number,
+        is_good: 1 <= size && size <= 4096,
+    }
+}
+
 /// Notes the size of a queue, where one is written.
 fn note_size<'a>(number: Option<Token<'a>>, sites: &mut Vec<Site<'a>>) -> Result<(), AllocError>
     ensures { OnOk result (sites.new.items ≡ sites.old.items ++ maybe spec.in_size number.entry) }
 {
-    if let Some(number) = number {
-        let size = size_by(number);
-        sites.push(Site::QueueSize {
-            number,
-            is_good: 1 <= size && size <= 4096,
-        })?;
+    match number {
+        Some(number) => pushed(sites, size_site(number)),
+        None => Ok(()),
     }
-    Ok(())
 }
 
 /// Notes the sites in a `sync`.
@@ -107,16 +138,9 @@ fn note_sync<'a>(
     ensures { OnOk result (sites.new.items ≡ sites.old.items
         ++ spec.in_sync (scopes_of scopes.now) (sync_view sync.now)) }
 {
-    note_defined(
-        Sort::Sync,
-        sync.place.name,
-        scopes,
-        &sync.place,
-        None,
-        sites,
-    )?;
-    note_flag(scopes, sync.flag, sites)?;
-    Ok(())
+    let place = &sync.place;
+    note_defined(Sort::Sync, place.name, scopes, place, None, sites)?;
+    note_flag(scopes, sync.flag, sites)
 }
 
 /// Notes the sites in a `syncQ`.
@@ -130,11 +154,39 @@ fn note_queue<'a>(
 {
     let sort = Sort::Queue(queue_size(queue.size));
     note_defined(sort, queue.word, scopes, &queue.place, None, sites)?;
-    if let Some(flag) = queue.flag {
-        note_flag(scopes, flag, sites)?;
-    }
-    note_size(queue.size, sites)?;
-    Ok(())
+    note_any_flag(scopes, queue.flag, sites)?;
+    note_size(queue.size, sites)
+}
+
+/// Notes the sites in an `assign`.
+fn note_assign<'a>(
+    scopes: &Scopes<'_, 'a>,
+    assign: &Assign<'a>,
+    sites: &mut Vec<Site<'a>>,
+) -> Result<(), AllocError>
+    ensures { OnOk result (sites.new.items ≡ sites.old.items
+        ++ spec.in_assign (scopes_of scopes.now) (assign_view assign.now)) }
+{
+    let list = listed_names(&assign.channels);
+    let place = &assign.place;
+    note_defined(Sort::Assign, assign.word, scopes, place, list, sites)
+}
+
+/// Notes an option, of a state or elsewhere.
+fn note_setting<'a>(
+    in_state: bool,
+    setting: Setting<'a>,
+    sites: &mut Vec<Site<'a>>,
+) -> Result<(), AllocError>
+    ensures { OnOk result (sites.new.items ≡ sites.old.items
+        ++ spec.at_setting in_state (setting_view setting.entry) ∷ []) }
+{
+    let site = Site::Setting {
+        sign: setting.sign,
+        name: setting.name,
+        refused: refused(in_state, setting),
+    };
+    pushed(sites, site)
 }
 
 /// Notes the sites in a definition or an option, of a state or elsewhere; declared names are noted
@@ -149,33 +201,14 @@ fn note_definition<'a>(
         ++ spec.in_definition in_state (scopes_of scopes.now) (definition_view definition.now)) }
 {
     match definition {
-        Def::Declaration(declared) => note_declaration(scopes, false, declared, sites)?,
-        Def::Assign(assign) => {
-            let list = listed_names(&assign.channels);
-            note_defined(
-                Sort::Assign,
-                assign.word,
-                scopes,
-                &assign.place,
-                list,
-                sites,
-            )?;
-        }
-        Def::Monitor(place) => {
-            note_defined(Sort::Monitor, place.name, scopes, place, None, sites)?;
-        }
-        Def::Sync(sync) => note_sync(scopes, sync, sites)?,
-        Def::SyncQueue(queue) => note_queue(scopes, queue, sites)?,
-        Def::EventFlags(_) => {}
-        Def::Setting(setting) => {
-            sites.push(Site::Setting {
-                sign: setting.sign,
-                name: setting.name,
-                refused: refused(in_state, *setting),
-            })?;
-        }
+        Def::Declaration(declared) => note_declaration(scopes, false, declared, sites),
+        Def::Assign(assign) => note_assign(scopes, assign, sites),
+        Def::Monitor(place) => note_defined(Sort::Monitor, place.name, scopes, place, None, sites),
+        Def::Sync(sync) => note_sync(scopes, sync, sites),
+        Def::SyncQueue(queue) => note_queue(scopes, queue, sites),
+        Def::EventFlags(_) => Ok(()),
+        Def::Setting(setting) => note_setting(in_state, *setting, sites),
     }
-    Ok(())
 }
 
 /// Notes the sites in each of some definitions.

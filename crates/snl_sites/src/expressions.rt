@@ -1,38 +1,17 @@
 //! The sites in expressions.
 
 ghost use Rattle.std.specs.Prelude.{◌≡◌, ◌++◌, map, OnOk};
-ghost use Rattle.snl_tree.specs.view.Expressions.{view, pair_of, list_before};
+ghost use Rattle.snl_tree.specs.view.Expressions.{view, pair_of, argument_of, list_before};
 ghost use Rattle.snl_tree.specs.reading.Expressions.{term_list};
 ghost use Rattle.snl_tree.specs.Expressions.{no_arguments};
 ghost use Rattle.snl_sites.specs.Chains.{scopes_of};
 ghost use Rattle.snl_sites.specs.Sites as spec;
-ghost use Rattle.snl_sites.specs.Purposes.{at_constant};
 
-use crate::calls::{form_of, is_fitting};
-use crate::purposes::{call_site, change_site, format_site, is_good_decimal, is_step};
 use crate::scopes::Scopes;
 use crate::sites::{Purpose, Site};
-use snl_text::{Kind, Token};
+use crate::tokens::{note_call, note_change, note_constant, note_format, note_prefix, note_use};
 use snl_tree::{Argument, Expr, Term};
 use std::alloc::AllocError;
-
-/// Notes a constant, if it is a decimal one.
-fn note_constant<'a>(
-    purpose: Purpose,
-    token: Token<'a>,
-    sites: &mut Vec<Site<'a>>,
-) -> Result<(), AllocError>
-    ensures { OnOk result (sites.new.items ≡ sites.old.items
-        ++ at_constant purpose token.entry token.entry.kind) }
-{
-    if let Kind::Decimal = token.kind {
-        sites.push(Site::Decimal {
-            number: token,
-            is_good: is_good_decimal(purpose, token.text),
-        })?;
-    }
-    Ok(())
-}
 
 /// Notes the sites in an expression that stands in a clause's condition or not, for a purpose.
 #[cycle(expression)]
@@ -46,80 +25,49 @@ pub fn note_expression<'a>(
     ensures { OnOk result (sites.new.items ≡ sites.old.items
         ++ spec.in_expression in_condition (scopes_of scopes.now) purpose (view expression.now)) }
 {
+    let inner = purpose.inner();
     match expression {
-        Expr::Constant(token) => {
-            note_constant(purpose, *token, sites)?;
-        }
-        Expr::Parenthesized(inner) => {
-            note_expression(in_condition, scopes, purpose.in_parentheses(), inner, sites)?;
-        }
-        Expr::Named(name) => {
-            sites.push(Site::Use {
-                purpose,
-                name: *name,
-                meaning: scopes.meaning(*name),
-                has_subscript: false,
-            })?;
+        Expr::Constant(token) => note_constant(purpose, *token, sites),
+        Expr::Named(name) => note_use(scopes, purpose, *name, false, sites),
+        Expr::Parenthesized(part) => {
+            note_expression(in_condition, scopes, purpose.in_parentheses(), part, sites)
         }
         Expr::Element { name, index, .. } => {
-            sites.push(Site::Use {
-                purpose,
-                name: *name,
-                meaning: scopes.meaning(*name),
-                has_subscript: true,
-            })?;
-            note_expression(in_condition, scopes, purpose.inner(), index, sites)?;
+            note_use(scopes, purpose, *name, true, sites)?;
+            note_expression(in_condition, scopes, inner, index, sites)
         }
         Expr::Call(name, arguments) => {
-            let form = form_of(name.text);
-            let fitting = is_fitting(form, arguments.as_slice());
-            sites.push(call_site(purpose, in_condition, *name, form, fitting))?;
-            note_arguments(
-                in_condition,
-                scopes,
-                purpose.argument(form, fitting),
-                arguments.as_slice(),
-                sites,
-            )?;
+            let arguments = arguments.as_slice();
+            let inside = note_call(purpose, in_condition, *name, arguments, sites)?;
+            note_arguments(in_condition, scopes, inside, arguments, sites)
         }
         Expr::Postfix(target, operator) => {
-            sites.push(change_site(purpose, target, *operator))?;
-            note_expression(in_condition, scopes, purpose.target(), target, sites)?;
+            note_change(purpose, target, *operator, sites)?;
+            note_expression(in_condition, scopes, purpose.target(), target, sites)
         }
         Expr::Prefix(operator, operand) => {
-            if is_step(operator.kind) {
-                sites.push(change_site(purpose, operand, *operator))?;
-                note_expression(in_condition, scopes, purpose.target(), operand, sites)?;
-            } else {
-                note_expression(in_condition, scopes, purpose.inner(), operand, sites)?;
-            }
+            let inside = note_prefix(purpose, *operator, operand, sites)?;
+            note_expression(in_condition, scopes, inside, operand, sites)
         }
         Expr::Chain(first, terms) => {
-            note_expression(in_condition, scopes, purpose.inner(), first, sites)?;
-            note_terms(
-                in_condition,
-                scopes,
-                purpose.inner(),
-                terms.as_slice(),
-                sites,
-            )?;
+            note_expression(in_condition, scopes, inner, first, sites)?;
+            note_terms(in_condition, scopes, inner, terms.as_slice(), sites)
         }
         Expr::Conditional { condition, yes, no } => {
-            note_expression(in_condition, scopes, purpose.inner(), condition, sites)?;
-            note_expression(in_condition, scopes, purpose.inner(), yes, sites)?;
-            note_expression(in_condition, scopes, purpose.inner(), no, sites)?;
+            note_expression(in_condition, scopes, inner, condition, sites)?;
+            note_expression(in_condition, scopes, inner, yes, sites)?;
+            note_expression(in_condition, scopes, inner, no, sites)
         }
         Expr::Assignment {
             target,
             operator,
             value,
         } => {
-            sites.push(change_site(purpose, target, *operator))?;
+            note_change(purpose, target, *operator, sites)?;
             note_expression(in_condition, scopes, purpose.target(), target, sites)?;
-            note_expression(in_condition, scopes, purpose.inner(), value, sites)?;
+            note_expression(in_condition, scopes, inner, value, sites)
         }
     }
-    Ok(())
 }
 
 /// Notes the sites in the operands of a chain but the first.
@@ -157,14 +105,27 @@ fn note_arguments<'a>(
     let mut left = arguments.len();
     for argument in arguments {
         left -= 1;
-        match argument {
-            Argument::Value(value) => {
-                note_expression(in_condition, scopes, purpose, value, sites)?;
-            }
-            Argument::Text(format) => {
-                sites.push(format_site(purpose, *format, left))?;
-            }
-        }
+        note_argument(in_condition, scopes, purpose, argument, left, sites)?;
     }
     Ok(())
+}
+
+/// Notes the sites in an argument, with so many arguments after it.
+#[cycle(expression)]
+fn note_argument<'a>(
+    in_condition: bool,
+    scopes: &Scopes<'_, 'a>,
+    purpose: Purpose,
+    argument: &Argument<'a>,
+    count: usize,
+    sites: &mut Vec<Site<'a>>,
+) -> Result<(), AllocError>
+    ensures { OnOk result (sites.new.items ≡ sites.old.items
+        ++ spec.in_argument in_condition (scopes_of scopes.now) purpose
+        (argument_of argument.now) count) }
+{
+    match argument {
+        Argument::Value(value) => note_expression(in_condition, scopes, purpose, value, sites),
+        Argument::Text(format) => note_format(purpose, *format, count, sites),
+    }
 }

@@ -18,6 +18,7 @@ mod options;
 mod parts;
 mod programs;
 mod purposes;
+mod rows;
 mod scopes;
 mod scoping;
 mod set_variables;
@@ -25,6 +26,7 @@ mod sites;
 mod sizes;
 mod statements;
 mod states;
+mod tokens;
 mod uses;
 mod variables;
 

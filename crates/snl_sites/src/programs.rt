@@ -1,16 +1,20 @@
 //! The sites in state sets and programs.
 
-ghost use Rattle.std.specs.Prelude.{◌≡◌, ◌++◌, map, OnOk, IfOk};
+ghost use Rattle.std.specs.Prelude.{◌≡◌, [], ◌++◌, map, OnOk, IfOk};
+ghost use Rattle.snl_tree.specs.view.Shown.{shown, held};
+ghost use Rattle.snl_tree.specs.view.Statements.{block_view};
 ghost use Rattle.snl_tree.specs.view.Programs.{state_view, state_set_view, program_view};
 ghost use Rattle.snl_sites.specs.Chains.{scopes_of};
 ghost use Rattle.snl_sites.specs.Programs as spec;
+ghost use Rattle.snl_sites.specs.Sites.{maybe};
 
 use crate::definitions::note_definitions;
 use crate::numbered::Numbered;
+use crate::rows::pushed;
 use crate::scopes::Scopes;
 use crate::sites::Site;
 use crate::states::{note_plain_block, note_state};
-use snl_tree::{Program, State, StateSet};
+use snl_tree::{Block, Program, State, StateSet};
 use std::alloc::{AllocError, Global};
 
 /// The names of states, with their numbers.
@@ -19,10 +23,9 @@ fn state_names<'a>(alloc: Global, states: &[State<'a>]) -> Result<Numbered<'a>, 
 {
     let mut names = Vec::new(alloc);
     for state in states {
-        names.push(state.name)?;
+        pushed(&mut names, state.name)?;
     }
-    let numbered = Numbered::of(alloc, names)?;
-    Ok(numbered)
+    Numbered::of(alloc, names)
 }
 
 /// The names of state sets, with their numbers.
@@ -31,10 +34,21 @@ fn set_names<'a>(alloc: Global, sets: &[StateSet<'a>]) -> Result<Numbered<'a>, A
 {
     let mut names = Vec::new(alloc);
     for set in sets {
-        names.push(set.name)?;
+        pushed(&mut names, set.name)?;
     }
-    let numbered = Numbered::of(alloc, names)?;
-    Ok(numbered)
+    Numbered::of(alloc, names)
+}
+
+/// The site of a state of this number.
+fn state_site<'a>(names: &Numbered<'a>, number: usize, state: &State<'a>) -> Site<'a>
+    ensures { result ≡ spec.at_state names.now number (state_view state.now) }
+{
+    Site::State {
+        word: state.word,
+        name: state.name,
+        is_later: names.is_later(number, state.name),
+        has_clauses: !state.clauses.is_empty(),
+    }
 }
 
 /// Notes a state of this number, and the sites in it.
@@ -49,14 +63,8 @@ fn note_numbered<'a>(
     ensures { OnOk result (sites.new.items ≡ sites.old.items
         ++ spec.in_numbered (scopes_of outer.now) names.now number (state_view state.now)) }
 {
-    sites.push(Site::State {
-        word: state.word,
-        name: state.name,
-        is_later: names.is_later(number, state.name),
-        has_clauses: !state.clauses.is_empty(),
-    })?;
-    note_state(alloc, outer, names, state, sites)?;
-    Ok(())
+    pushed(sites, state_site(names, number, state))?;
+    note_state(alloc, outer, names, state, sites)
 }
 
 /// Notes the states of these names, and the sites in them.
@@ -87,8 +95,7 @@ fn note_states<'a>(
         ++ spec.in_all_states (scopes_of outer.now) (map state_view states.now)) }
 {
     let names = state_names(alloc, states)?;
-    note_each_state(alloc, outer, &names, states, sites)?;
-    Ok(())
+    note_each_state(alloc, outer, &names, states, sites)
 }
 
 /// Notes the sites in a state set.
@@ -102,9 +109,12 @@ fn note_state_set<'a>(
         ++ spec.in_state_set (scopes_of outer.now) (state_set_view set.now)) }
 {
     let scope = note_definitions(alloc, false, outer, set.definitions.as_slice(), sites)?;
-    let scopes = Scopes::Within(&scope, &*outer);
-    note_states(alloc, &scopes, set.states.as_slice(), sites)?;
-    Ok(())
+    note_states(
+        alloc,
+        &Scopes::Within(&scope, &*outer),
+        set.states.as_slice(),
+        sites,
+    )
 }
 
 /// Notes a state set of this number, and the sites in it.
@@ -119,13 +129,13 @@ fn note_numbered_set<'a>(
     ensures { OnOk result (sites.new.items ≡ sites.old.items
         ++ spec.in_numbered_set (scopes_of outer.now) names.now number (state_set_view set.now)) }
 {
-    sites.push(Site::StateSet {
+    let site = Site::StateSet {
         word: set.word,
         name: set.name,
         is_later: names.is_later(number, set.name),
-    })?;
-    note_state_set(alloc, outer, set, sites)?;
-    Ok(())
+    };
+    pushed(sites, site)?;
+    note_state_set(alloc, outer, set, sites)
 }
 
 /// Notes the state sets of these names, and the sites in them.
@@ -156,8 +166,40 @@ fn note_state_sets<'a>(
         ++ spec.in_all_sets (scopes_of outer.now) (map state_set_view sets.now)) }
 {
     let names = set_names(alloc, sets)?;
-    note_each_set(alloc, outer, &names, sets, sites)?;
-    Ok(())
+    note_each_set(alloc, outer, &names, sets, sites)
+}
+
+/// Notes the sites in a block of a program, where no states can be named.
+fn note_program_block<'a>(
+    alloc: Global,
+    scopes: &Scopes<'_, 'a>,
+    block: &Option<Box<Block<'a>>>,
+    sites: &mut Vec<Site<'a>>,
+) -> Result<(), AllocError>
+    ensures { OnOk result (sites.new.items ≡ sites.old.items
+        ++ maybe (spec.in_plain_block (scopes_of scopes.now) [])
+        (shown (held block_view) block.now)) }
+{
+    let no_states = Numbered::empty(alloc);
+    note_plain_block(alloc, scopes, &no_states, block, sites)
+}
+
+/// Notes the sites in the blocks and the state sets of a program, within its own scope.
+fn note_parts<'a>(
+    alloc: Global,
+    scopes: &Scopes<'_, 'a>,
+    entry: &Option<Box<Block<'a>>>,
+    sets: &[StateSet<'a>],
+    exit: &Option<Box<Block<'a>>>,
+    sites: &mut Vec<Site<'a>>,
+) -> Result<(), AllocError>
+    ensures { OnOk result (sites.new.items ≡ sites.old.items
+        ++ spec.in_parts (scopes_of scopes.now) (shown (held block_view) entry.now)
+        (map state_set_view sets.now) (shown (held block_view) exit.now)) }
+{
+    note_program_block(alloc, scopes, entry, sites)?;
+    note_state_sets(alloc, scopes, sets, sites)?;
+    note_program_block(alloc, scopes, exit, sites)
 }
 
 /// Notes the sites in a program.
@@ -170,19 +212,11 @@ fn note_program<'a>(
         ++ spec.sites (program_view program.now)) }
 {
     let outside = Scopes::Outside;
-    let scope = note_definitions(
-        alloc,
-        false,
-        &outside,
-        program.definitions.as_slice(),
-        sites,
-    )?;
+    let definitions = program.definitions.as_slice();
+    let scope = note_definitions(alloc, false, &outside, definitions, sites)?;
+    let sets = program.state_sets.as_slice();
     let scopes = Scopes::Within(&scope, &outside);
-    let no_states = Numbered::empty(alloc);
-    note_plain_block(alloc, &scopes, &no_states, &program.entry, sites)?;
-    note_state_sets(alloc, &scopes, program.state_sets.as_slice(), sites)?;
-    note_plain_block(alloc, &scopes, &no_states, &program.exit, sites)?;
-    Ok(())
+    note_parts(alloc, &scopes, &program.entry, sets, &program.exit, sites)
 }
 
 /// The sites of a program, in the order of the source, but that the declared names stand first in

@@ -8,16 +8,19 @@ ghost use Rattle.snl_sites.specs.Sites.{declares, is_flag, words_of};
 ghost use Rattle.snl_sites.specs.Tables.{found_in, only};
 
 use crate::constants::is_predefined;
+use crate::rows::pushed;
 use crate::sites::{Meaning, Site, Size};
 use indexmap::IndexMap;
 use snl_text::Token;
 use std::alloc::{AllocError, Global};
 use std::marker::Model;
 
-/// A declared name, and the size of a variable; none of an event flag.
+/// A declared name, and the size of a variable.
 #[derive(Clone, Copy)]
 pub struct Declared<'a> {
+    /// Its token has the place of the declaration.
     pub name: Token<'a>,
+    /// None of an event flag.
     pub size: Option<Size>,
 }
 
@@ -103,6 +106,22 @@ impl<'a> Scope<'a> {
     }
 }
 
+/// The site of a declaration, by whether its scope declares the name before.
+fn declaration_site<'a>(declared: Declared<'a>, is_later: bool) -> Site<'a>
+    ensures { result ≡ Site.Declaration declared.entry.name (is_flag declared.entry) is_later
+        (words_of declared.entry) }
+{
+    Site::Declaration {
+        name: declared.name,
+        is_flag: declared.size.is_none(),
+        is_later,
+        words: match declared.size {
+            Some(size) => size.elements(),
+            None => 0,
+        },
+    }
+}
+
 /// Adds a declaration to a table of firsts, and its site.
 fn note_declared<'a>(
     declared: Declared<'a>,
@@ -116,16 +135,7 @@ fn note_declared<'a>(
         (found_in firsts.old declared.entry.name.text.now)) (words_of declared.entry) ∷ []) }
 {
     let is_later = note_first(firsts, declared)?;
-    sites.push(Site::Declaration {
-        name: declared.name,
-        is_flag: declared.size.is_none(),
-        is_later,
-        words: match declared.size {
-            Some(size) => size.elements(),
-            None => 0,
-        },
-    })?;
-    Ok(())
+    pushed(sites, declaration_site(declared, is_later))
 }
 
 /// The scope that declares these names; notes each of them.

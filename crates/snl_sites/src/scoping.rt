@@ -8,10 +8,11 @@ ghost use Rattle.snl_sites.specs.Chains.{scopes_of};
 ghost use Rattle.snl_sites.specs.Scopes as spec;
 ghost use Rattle.snl_sites.specs.Sites.{declares};
 
+use crate::rows::pushed;
 use crate::scopes::{Declared, Scope, Scopes, scope_with};
 use crate::sites::Site;
 use crate::sizes::size_of;
-use snl_tree::Declaration;
+use snl_tree::{Declaration, Declarator};
 use std::alloc::{AllocError, Global};
 
 /// Adds the names of a declaration.
@@ -23,12 +24,27 @@ pub fn push_names<'a>(
         ++ map spec.bare (spec.names_by (declaration (declaration_view declared.now)))) }
 {
     for declarator in &declared.names {
-        names.push(Declared {
-            name: declarator.name,
-            size: None,
-        })?;
+        pushed(
+            names,
+            Declared {
+                name: declarator.name,
+                size: None,
+            },
+        )?;
     }
     Ok(())
+}
+
+/// A declared name with its size.
+fn declared_for<'a>(scopes: &Scopes<'_, 'a>, declarator: &Declarator<'a>) -> Declared<'a>
+    ensures { result
+        ≡ spec.declared_name (spec.is_hidden (scopes_of scopes.now))
+        (declarator_view declarator.now) }
+{
+    Declared {
+        name: declarator.name,
+        size: Some(size_of(scopes, declarator.sizes.as_slice())),
+    }
 }
 
 /// Adds the names of a declaration with their sizes.
@@ -42,10 +58,7 @@ pub fn push_declared<'a>(
         (declaration (declaration_view declared.now))) }
 {
     for declarator in &declared.names {
-        found.push(Declared {
-            name: declarator.name,
-            size: Some(size_of(scopes, declarator.sizes.as_slice())),
-        })?;
+        pushed(found, declared_for(scopes, declarator))?;
     }
     Ok(())
 }
@@ -94,8 +107,7 @@ pub fn block_names<'a>(
 {
     let names = names_of(alloc, declarations)?;
     let names = Scope::of(alloc, names)?;
-    let found = declared_of(alloc, &Scopes::Within(&names, outer), declarations)?;
-    Ok(found)
+    declared_of(alloc, &Scopes::Within(&names, outer), declarations)
 }
 
 /// The scope of a block within others; notes each declared name.
@@ -114,6 +126,5 @@ pub fn block_scope<'a>(
         (map declaration_view declarations.now)))) }
 {
     let declared = block_names(alloc, outer, declarations)?;
-    let scope = scope_with(alloc, declared, sites)?;
-    Ok(scope)
+    scope_with(alloc, declared, sites)
 }

@@ -31,6 +31,24 @@ fn push_clauses<'p, 'a>(
     Ok(())
 }
 
+/// Adds the variables of the blocks of a state, within its own scope.
+fn push_blocks<'p, 'a>(
+    alloc: Global,
+    scopes: &Scopes<'_, 'a>,
+    entry: &'p Option<Box<Block<'a>>>,
+    clauses: &'p [Clause<'a>],
+    exit: &'p Option<Box<Block<'a>>>,
+    kept: &mut Vec<Held<'p, 'a>>,
+) -> Result<(), AllocError>
+    ensures { OnOk result (map held_view kept.new.items ≡ map held_view kept.old.items
+        ++ spec.by_blocks (scopes_of scopes.now) (shown (held block_view) entry.now)
+        (map clause_view clauses.now) (shown (held block_view) exit.now)) }
+{
+    push_if_there(alloc, scopes, entry, kept)?;
+    push_clauses(alloc, scopes, clauses, kept)?;
+    push_if_there(alloc, scopes, exit, kept)
+}
+
 /// Adds the variables of a state.
 fn push_state<'p, 'a>(
     alloc: Global,
@@ -42,11 +60,9 @@ fn push_state<'p, 'a>(
         ++ spec.by_state (scopes_of outer.now) (state_view state.now)) }
 {
     let scope = push_definitions(alloc, outer, state.definitions.as_slice(), kept)?;
+    let clauses = state.clauses.as_slice();
     let scopes = Scopes::Within(&scope, &*outer);
-    push_if_there(alloc, &scopes, &state.entry, kept)?;
-    push_clauses(alloc, &scopes, state.clauses.as_slice(), kept)?;
-    push_if_there(alloc, &scopes, &state.exit, kept)?;
-    Ok(())
+    push_blocks(alloc, &scopes, &state.entry, clauses, &state.exit, kept)
 }
 
 /// Adds the variables of states.
@@ -76,9 +92,12 @@ fn push_set<'p, 'a>(
         ++ spec.by_state_set (scopes_of outer.now) (state_set_view set.now)) }
 {
     let scope = push_definitions(alloc, outer, set.definitions.as_slice(), kept)?;
-    let scopes = Scopes::Within(&scope, &*outer);
-    push_states(alloc, &scopes, set.states.as_slice(), kept)?;
-    Ok(())
+    push_states(
+        alloc,
+        &Scopes::Within(&scope, &*outer),
+        set.states.as_slice(),
+        kept,
+    )
 }
 
 /// Adds the variables of the state set of a number, if there is one.
@@ -95,8 +114,7 @@ fn push_numbered<'p, 'a>(
     if sets.len() <= set {
         return Ok(());
     }
-    push_set(alloc, outer, &sets[set], kept)?;
-    Ok(())
+    push_set(alloc, outer, &sets[set], kept)
 }
 
 /// Adds the variables of a block of the program, if it is there, for the first state set alone.
@@ -116,6 +134,25 @@ fn push_for_first<'p, 'a>(
     Ok(())
 }
 
+/// Adds the variables of a program's blocks and of one state set, within the program's scope.
+fn push_parts<'p, 'a>(
+    alloc: Global,
+    scopes: &Scopes<'_, 'a>,
+    set: usize,
+    entry: &'p Option<Box<Block<'a>>>,
+    sets: &'p [StateSet<'a>],
+    exit: &'p Option<Box<Block<'a>>>,
+    kept: &mut Vec<Held<'p, 'a>>,
+) -> Result<(), AllocError>
+    ensures { OnOk result (map held_view kept.new.items ≡ map held_view kept.old.items
+        ++ spec.by_parts (scopes_of scopes.now) set (shown (held block_view) entry.now)
+        (map state_set_view sets.now) (shown (held block_view) exit.now)) }
+{
+    push_for_first(alloc, scopes, set, entry, kept)?;
+    push_numbered(alloc, scopes, sets, set, kept)?;
+    push_for_first(alloc, scopes, set, exit, kept)
+}
+
 /// Adds the variables of a state set of a program.
 fn push_variables<'p, 'a>(
     alloc: Global,
@@ -128,11 +165,17 @@ fn push_variables<'p, 'a>(
 {
     let outside = Scopes::Outside;
     let scope = push_definitions(alloc, &outside, program.definitions.as_slice(), kept)?;
+    let sets = program.state_sets.as_slice();
     let scopes = Scopes::Within(&scope, &outside);
-    push_for_first(alloc, &scopes, set, &program.entry, kept)?;
-    push_numbered(alloc, &scopes, program.state_sets.as_slice(), set, kept)?;
-    push_for_first(alloc, &scopes, set, &program.exit, kept)?;
-    Ok(())
+    push_parts(
+        alloc,
+        &scopes,
+        set,
+        &program.entry,
+        sets,
+        &program.exit,
+        kept,
+    )
 }
 
 /// All variables that the copy of the state set of a number holds, from 0 on, in the order of the

@@ -63,16 +63,21 @@ pub enum Extent {
 pub struct Part {
     /// The place of the variable's declaration.
     pub variable: Pos,
+    /// Which of its elements.
     pub extent: Extent,
 }
 
 /// Which definition it is.
 #[derive(Clone, Copy)]
 pub enum Sort {
+    /// An `assign`.
     Assign,
+    /// A `monitor`.
     Monitor,
+    /// A `sync`.
     Sync,
-    /// With the size of its queue.
+    /// A `syncQ`, with the size of its queue: 100 where none is written, and 0 where the number is
+    /// too large to have a value.
     Queue(u64),
 }
 

@@ -1,6 +1,6 @@
 //! The sites in statements.
 
-ghost use Rattle.std.specs.Prelude.{◌≡◌, ◌++◌, map, true, OnOk};
+ghost use Rattle.std.specs.Prelude.{◌≡◌, [], ◌∷◌, ◌++◌, map, true, OnOk};
 ghost use Rattle.std.specs.List.{flat_map};
 ghost use Rattle.snl_tree.specs.view.Expressions.{boxed};
 ghost use Rattle.snl_tree.specs.view.Declarations.{declaration_view};
@@ -8,10 +8,12 @@ ghost use Rattle.snl_tree.specs.reading.Statements.{statement_list};
 ghost use Rattle.snl_tree.specs.view.Statements.{statement_view, header_view, block_view};
 ghost use Rattle.snl_tree.specs.view.Shown.{shown};
 ghost use Rattle.snl_sites.specs.Chains.{scopes_of};
+ghost use Rattle.snl_sites.specs.Numbered.{number_of};
 ghost use Rattle.snl_sites.specs.Sites as spec;
 
 use crate::declarations::{note_declaration, note_if_there, note_value};
 use crate::numbered::Numbered;
+use crate::rows::pushed;
 use crate::scopes::Scopes;
 use crate::scoping::block_scope;
 use crate::sites::Site;
@@ -30,8 +32,7 @@ fn note_header<'a>(
 {
     note_if_there(scopes, &header.start, sites)?;
     note_if_there(scopes, &header.condition, sites)?;
-    note_if_there(scopes, &header.step, sites)?;
-    Ok(())
+    note_if_there(scopes, &header.step, sites)
 }
 
 /// Notes the sites in the declarations of a block.
@@ -48,6 +49,55 @@ fn note_declarations<'a>(
         note_declaration(scopes, true, declared, sites)?;
     }
     Ok(())
+}
+
+/// Notes a `break` or `continue`.
+fn note_leave<'a>(
+    word: Token<'a>,
+    is_in_loop: bool,
+    sites: &mut Vec<Site<'a>>,
+) -> Result<(), AllocError>
+    ensures { OnOk result (sites.new.items ≡ sites.old.items
+        ++ Site.Leave word.entry is_in_loop ∷ []) }
+{
+    pushed(sites, Site::Leave { word, is_in_loop })
+}
+
+/// Notes a state statement and its target.
+fn note_move<'a>(
+    is_in_clause: bool,
+    states: &Numbered<'a>,
+    word: Token<'a>,
+    name: Token<'a>,
+    sites: &mut Vec<Site<'a>>,
+) -> Result<(), AllocError>
+    ensures { OnOk result (sites.new.items ≡ sites.old.items
+        ++ Site.Move word.entry is_in_clause
+        ∷ Site.Target name.entry (number_of states.now name.entry.text.now) is_in_clause ∷ []) }
+{
+    pushed(sites, Site::Move { word, is_in_clause })?;
+    note_target(states, name, is_in_clause, sites)
+}
+
+/// Notes the target of a clause or of a state statement.
+pub fn note_target<'a>(
+    states: &Numbered<'a>,
+    name: Token<'a>,
+    may_stand: bool,
+    sites: &mut Vec<Site<'a>>,
+) -> Result<(), AllocError>
+    ensures { OnOk result (sites.new.items ≡ sites.old.items
+        ++ Site.Target name.entry (number_of states.now name.entry.text.now) may_stand ∷ []) }
+{
+    let state = states.find(name);
+    pushed(
+        sites,
+        Site::Target {
+            name,
+            state,
+            may_stand,
+        },
+    )
 }
 
 /// Notes the sites in a statement: in a clause's block or not, beside states of these names, in a
@@ -67,31 +117,14 @@ fn note_statement<'a>(
         (statement_view statement.now)) }
 {
     match statement {
-        Stmt::Block(block) => {
-            note_block(alloc, in_clause, states, scopes, in_loop, block, sites)?;
-        }
-        Stmt::Empty => {}
-        Stmt::Expression(value) => note_value(scopes, value, sites)?,
-        Stmt::Break(word) | Stmt::Continue(word) => {
-            sites.push(Site::Leave {
-                word: *word,
-                is_in_loop: in_loop,
-            })?;
-        }
-        Stmt::State { word, name } => {
-            sites.push(Site::Move {
-                word: *word,
-                is_in_clause: in_clause,
-            })?;
-            sites.push(Site::Target {
-                name: *name,
-                state: states.find(*name),
-                may_stand: in_clause,
-            })?;
-        }
+        Stmt::Empty => Ok(()),
+        Stmt::Block(block) => note_block(alloc, in_clause, states, scopes, in_loop, block, sites),
+        Stmt::Expression(value) => note_value(scopes, value, sites),
+        Stmt::Break(word) | Stmt::Continue(word) => note_leave(*word, in_loop, sites),
+        Stmt::State { word, name } => note_move(in_clause, states, *word, *name, sites),
         Stmt::If { condition, first } => {
             note_value(scopes, condition, sites)?;
-            note_statement(alloc, in_clause, states, scopes, in_loop, first, sites)?;
+            note_statement(alloc, in_clause, states, scopes, in_loop, first, sites)
         }
         Stmt::IfElse {
             condition,
@@ -100,7 +133,7 @@ fn note_statement<'a>(
         } => {
             note_value(scopes, condition, sites)?;
             note_statement(alloc, in_clause, states, scopes, in_loop, first, sites)?;
-            note_statement(alloc, in_clause, states, scopes, in_loop, second, sites)?;
+            note_statement(alloc, in_clause, states, scopes, in_loop, second, sites)
         }
         Stmt::While {
             condition,
@@ -108,14 +141,13 @@ fn note_statement<'a>(
             ..
         } => {
             note_value(scopes, condition, sites)?;
-            note_statement(alloc, in_clause, states, scopes, true, body, sites)?;
+            note_statement(alloc, in_clause, states, scopes, true, body, sites)
         }
         Stmt::For { header, body, .. } => {
             note_header(scopes, header, sites)?;
-            note_statement(alloc, in_clause, states, scopes, true, body, sites)?;
+            note_statement(alloc, in_clause, states, scopes, true, body, sites)
         }
     }
-    Ok(())
 }
 
 /// Notes the sites in statements.
@@ -165,6 +197,5 @@ pub fn note_block<'a>(
         in_loop,
         block.statements.as_slice(),
         sites,
-    )?;
-    Ok(())
+    )
 }

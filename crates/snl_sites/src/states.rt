@@ -14,9 +14,10 @@ use crate::constants::{Constant, constant_of};
 use crate::definitions::note_definitions;
 use crate::expressions::note_expression;
 use crate::numbered::Numbered;
+use crate::rows::pushed;
 use crate::scopes::Scopes;
 use crate::sites::{Purpose, Site};
-use crate::statements::note_block;
+use crate::statements::{note_block, note_target};
 use snl_tree::{Block, Clause, Expr, State, Target};
 use std::alloc::{AllocError, Global};
 
@@ -55,7 +56,7 @@ fn note_condition<'a>(
 }
 
 /// Notes where a clause leads.
-fn note_target<'a>(
+fn note_end<'a>(
     states: &Numbered<'a>,
     target: Target<'a>,
     sites: &mut Vec<Site<'a>>,
@@ -63,14 +64,10 @@ fn note_target<'a>(
     ensures { OnOk result (sites.new.items ≡ sites.old.items
         ++ spec.in_target states.now (target_view target.entry)) }
 {
-    if let Target::State(name) = target {
-        sites.push(Site::Target {
-            name,
-            state: states.find(name),
-            may_stand: true,
-        })?;
+    match target {
+        Target::State(name) => note_target(states, name, true, sites),
+        _ => Ok(()),
     }
-    Ok(())
 }
 
 /// Whether a clause has no condition, or a constant one that does not fault and is not 0.
@@ -98,14 +95,11 @@ fn note_clause<'a>(
     ensures { OnOk result (sites.new.items ≡ sites.old.items
         ++ spec.in_clause (scopes_of scopes.now) states.now is_blocked (clause_view clause.now)) }
 {
-    sites.push(Site::Clause {
-        word: clause.word,
-        is_blocked,
-    })?;
+    let word = clause.word;
+    pushed(sites, Site::Clause { word, is_blocked })?;
     note_condition(scopes, &clause.condition, sites)?;
     note_block(alloc, true, states, scopes, false, &clause.block, sites)?;
-    note_target(states, clause.target, sites)?;
-    Ok(())
+    note_end(states, clause.target, sites)
 }
 
 /// Notes the sites in the clauses of a state.
@@ -127,6 +121,25 @@ fn note_clauses<'a>(
     Ok(())
 }
 
+/// Notes the sites in the blocks and the clauses of a state, within its own scope.
+fn note_blocks<'a>(
+    alloc: Global,
+    scopes: &Scopes<'_, 'a>,
+    states: &Numbered<'a>,
+    entry: &Option<Box<Block<'a>>>,
+    clauses: &[Clause<'a>],
+    exit: &Option<Box<Block<'a>>>,
+    sites: &mut Vec<Site<'a>>,
+) -> Result<(), AllocError>
+    ensures { OnOk result (sites.new.items ≡ sites.old.items
+        ++ spec.in_blocks (scopes_of scopes.now) states.now (shown (held block_view) entry.now)
+        (map clause_view clauses.now) (shown (held block_view) exit.now)) }
+{
+    note_plain_block(alloc, scopes, states, entry, sites)?;
+    note_clauses(alloc, scopes, states, clauses, sites)?;
+    note_plain_block(alloc, scopes, states, exit, sites)
+}
+
 /// Notes the sites in a state of a state set whose states have these names.
 pub fn note_state<'a>(
     alloc: Global,
@@ -139,9 +152,15 @@ pub fn note_state<'a>(
         ++ spec.in_state (scopes_of outer.now) states.now (state_view state.now)) }
 {
     let scope = note_definitions(alloc, true, outer, state.definitions.as_slice(), sites)?;
+    let clauses = state.clauses.as_slice();
     let scopes = Scopes::Within(&scope, &*outer);
-    note_plain_block(alloc, &scopes, states, &state.entry, sites)?;
-    note_clauses(alloc, &scopes, states, state.clauses.as_slice(), sites)?;
-    note_plain_block(alloc, &scopes, states, &state.exit, sites)?;
-    Ok(())
+    note_blocks(
+        alloc,
+        &scopes,
+        states,
+        &state.entry,
+        clauses,
+        &state.exit,
+        sites,
+    )
 }

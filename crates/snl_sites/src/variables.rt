@@ -11,6 +11,7 @@ ghost use Rattle.snl_sites.specs.Held.{held_view};
 
 use crate::definition_scopes::definition_names;
 use crate::initialisers::range_of;
+use crate::rows::pushed;
 use crate::scopes::{Scope, Scopes};
 use crate::sites::Size;
 use crate::sizes::size_of;
@@ -26,6 +27,7 @@ pub struct Held<'p, 'a> {
     /// The least and the greatest number of its type; those of `long` where the type is not
     /// supported.
     pub range: (i64, i64),
+    /// What its declaration says of its size.
     pub size: Size,
     /// What it begins with, if anything is written.
     pub initial: &'p Option<Initialiser<'a>>,
@@ -59,7 +61,7 @@ pub fn push_held<'p, 'a>(
         ++ spec.by_declaration (scopes_of scopes.now) (declaration_view declared.now)) }
 {
     for declarator in &declared.names {
-        kept.push(held_for(scopes, declared.type_name, declarator))?;
+        pushed(kept, held_for(scopes, declared.type_name, declarator))?;
     }
     Ok(())
 }
@@ -73,10 +75,10 @@ fn push_definition<'p, 'a>(
     ensures { OnOk result (map held_view kept.new.items ≡ map held_view kept.old.items
         ++ spec.by_definition (scopes_of scopes.now) (definition_view definition.now)) }
 {
-    if let Def::Declaration(declared) = definition {
-        push_held(scopes, declared, kept)?;
+    match definition {
+        Def::Declaration(declared) => push_held(scopes, declared, kept),
+        _ => Ok(()),
     }
-    Ok(())
 }
 
 /// Adds the variables of each of some definitions.

@@ -1,4 +1,5 @@
 use Rattle.std.proofs.Common.{◌++◌, map, sym, ap, ◌∙◌, append-nil}
+use Rattle.std.proofs.lemmas.Result.{on_ok_weaker}
 use Rattle.snl_sites.specs.Chains.{scopes_of}
 use Rattle.snl_sites.specs.Held.{held_view}
 use Rattle.snl_sites.specs.Variables.{by_numbered}
@@ -9,7 +10,9 @@ pub returns : goal.returns
 returns c =
     let s = scopes_of c.args.outer.now in
     let before = map held_view c.args.kept.now.items in
-    c.in_ok-push_set.ensures ∙ ap (λ o. before ++ by_numbered s o) (sym (some_set c.args.sets.now c.args.set c.index-sets-set.result c.if-sets-set.false c.index-sets-set.is))
+    on_ok_weaker c.push_set.result
+    (λ e. e ∙ ap (λ o. before ++ by_numbered s o) (sym (some_set c.args.sets.now c.args.set c.index-sets-set.result c.if-sets-set.false c.index-sets-set.is)))
+    c.push_set.ensures
 
 pub returns-then-sets-set : goal.returns-then-sets-set
 returns-then-sets-set c =

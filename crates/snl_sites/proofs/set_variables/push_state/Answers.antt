@@ -1,4 +1,5 @@
 use Rattle.std.proofs.Common.{map}
+use Rattle.std.proofs.lemmas.Result.{on_ok_weaker}
 use Rattle.snl_sites.specs.Chains.{scopes_of}
 use Rattle.snl_sites.specs.Held.{held_view}
 use Rattle.snl_sites.proofs.VariableLaws.{state_held}
@@ -6,8 +7,8 @@ use Rattle.snl_sites.proofs.set_variables.push_state.Goals as goal
 
 pub returns : goal.returns
 returns c =
-    state_held (scopes_of c.args.outer.now) c.args.state.now c.as_slice.result.now c.as_slice-2.result.now c.in_ok-scope.scope
-    (map held_view c.args.kept.now.items) (map held_view c.push_definitions.new.kept.items) (map held_view c.push_if_there.new.kept.items)
-    (map held_view c.push_clauses.new.kept.items) (map held_view c.push_if_there-2.new.kept.items)
-    c.as_slice.ensures.value c.as_slice-2.ensures.value c.in_ok-scope.ensures.scope c.in_ok-scope.ensures.kept
-    c.in_ok-push_if_there.ensures c.in_ok-push_clauses.ensures c.in_ok-push_if_there-2.ensures
+    on_ok_weaker c.push_blocks.result
+    (state_held (scopes_of c.args.outer.now) c.args.state.now c.as_slice.result.now c.as_slice-clauses.result.now c.in_ok-scope.scope
+    (map held_view c.args.kept.now.items) (map held_view c.push_definitions.new.kept.items) (map held_view c.push_blocks.new.kept.items)
+    c.as_slice.ensures.value c.as_slice-clauses.ensures.value c.in_ok-scope.ensures.scope c.in_ok-scope.ensures.kept)
+    c.push_blocks.ensures
