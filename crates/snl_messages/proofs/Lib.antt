@@ -1,0 +1,6 @@
+pub mod EntryLaws
+pub mod FirstLaws
+pub mod GivenLaws
+pub mod ListLaws
+pub mod MemberLaws
+pub mod OrderLaws
