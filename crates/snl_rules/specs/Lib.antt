@@ -1,0 +1,4 @@
+pub mod Elements
+pub mod Rules
+pub mod Tests
+pub mod ElementTables

@@ -1,0 +1,4 @@
+pub mod NamedLaws
+pub mod FactLaws
+pub mod RuleLaws
+pub mod BrokenLaws
