@@ -3,3 +3,6 @@ pub mod MarkLaws
 pub mod UnmarkedLaws
 pub mod TargetLaws
 pub mod StateLaws
+pub mod CountLaws
+pub mod QueueLaws
+pub mod OverfullLaws

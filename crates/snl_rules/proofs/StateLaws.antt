@@ -1,6 +1,5 @@
 -- The names of states, in a list of declared states.
 use Rattle.std.proofs.Common.{◌≡◌, ℕ, ◌+◌, ◌<◌, suc, zero, List, [], ◌∷◌, length, get_or, take, map, Option, refl, sym, ap, ◌∙◌, arith}
-use Rattle.snl_text.specs.declared.tokens.Token.{Token}
 use Rattle.snl_tree.specs.declared.trees.programs.State.{State}
 use Rattle.snl_tree.specs.view.Programs.{state_view}
 use Rattle.snl_sites.specs.Numbered.{number_of}

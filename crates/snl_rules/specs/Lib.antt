@@ -1,2 +1,5 @@
 pub mod Reach
 pub mod Marks
+pub mod Words
+pub mod Counts
+pub mod ReachExamples

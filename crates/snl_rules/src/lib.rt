@@ -1,10 +1,15 @@
 //! The rules of the language that the grammar does not state: which of them are broken, and where.
 #![tactic(auto)]
 
+mod link_words;
+mod queues;
 mod reach;
+pub mod reach_laws;
 mod rules;
 mod state_numbers;
 mod targets;
+mod words;
 
 pub use reach::unreached;
 pub use rules::{Broken, Rule};
+pub use words::{is_overfull, overfull_sets};
