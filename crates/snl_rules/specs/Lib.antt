@@ -2,3 +2,8 @@ pub mod Elements
 pub mod Rules
 pub mod Tests
 pub mod ElementTables
+pub mod Reach
+pub mod Marks
+pub mod Words
+pub mod Counts
+pub mod ReachExamples
