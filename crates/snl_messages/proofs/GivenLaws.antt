@@ -79,3 +79,7 @@ given_same P Q same m w = (w.0, (same w.0).0 w.1, (λ g found. w.2 g ((same g).1
 
 pub given_both : (P Q : Finding → Type 0) → ((f : Finding) → P f ↔ Q f) → (m : Said) → IsGiven P m ↔ IsGiven Q m
 given_both P Q same m = (given_same P Q same m, given_same Q P (λ f. ((same f).1, (same f).0)) m)
+
+-- What is given of what is found and passes a test depends on what is found alone.
+pub given_through : (P Q T : Finding → Type 0) → ((f : Finding) → P f ↔ Q f) → (m : Said) → IsGiven (λ f. P f × T f) m ↔ IsGiven (λ f. Q f × T f) m
+given_through P Q T same = given_both (λ f. P f × T f) (λ f. Q f × T f) (λ f. ((λ h. ((same f).0 h.0, h.1)), (λ h. ((same f).1 h.0, h.1))))

@@ -4,5 +4,6 @@ pub mod Findings
 pub mod Given
 pub mod Lists
 pub mod Messages
+pub mod Says
 pub mod Silence
 pub mod Wordings

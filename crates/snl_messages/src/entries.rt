@@ -15,7 +15,7 @@ use std::alloc::{AllocError, Global};
 pub struct Key {
     pub offset: usize,
     pub is_warning: bool,
-    pub number: u8,
+    pub number: u8, // after E or W
 }
 
 /// A message whose derived order is that of messages. Of limits with one key the first in their list

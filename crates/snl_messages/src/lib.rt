@@ -12,4 +12,5 @@ mod reports;
 mod silence;
 
 pub use messages::{Message, Severity};
+pub use reports::messages_of;
 pub use silence::options_in_force;
