@@ -29,12 +29,16 @@ rest_cmp x y = ordering_then (nat_cmp x.rank y.rank) (ordering_then (nat_cmp x.f
 abbrev pub entry_cmp : Entry → Entry → Ordering
 entry_cmp x y = ordering_then (key_cmp x y) (rest_cmp x y)
 
+-- The order of keys is total.
 pub key_total : IsTotalOrder key_cmp
 key_total = then_total (on_total (λ e. e.key.offset) nat_cmp_total) (then_total (on_total (λ e. e.key.is_warning) bool_cmp_total) (on_total (λ e. e.key.number) nat_cmp_total))
 
+-- So is that of the rest.
 pub rest_total : IsTotalOrder rest_cmp
-rest_total = then_total (on_total (λ e. e.rank) nat_cmp_total) (then_total (on_total (λ e. e.file) nat_cmp_total) (then_total (on_total (λ e. e.line) nat_cmp_total) (on_total (λ e. e.text.items) nat_list_cmp_total)))
+rest_total = then_total (on_total (λ e. e.rank) nat_cmp_total) (then_total (on_total (λ e. e.file) nat_cmp_total) (then_total (on_total (λ e. e.line) nat_cmp_total)
+    (on_total (λ e. e.text.items) nat_list_cmp_total)))
 
+-- So is that of entries.
 pub entry_total : IsTotalOrder entry_cmp
 entry_total = then_total key_total rest_total
 
@@ -49,12 +53,14 @@ then_equal Less b e = let k : ◌≡◌ {A = Ordering} Less Equal = e in cc
 then_equal Equal b e = (refl, e)
 then_equal Greater b e = let k : ◌≡◌ {A = Ordering} Greater Equal = e in cc
 
+-- Truth values that compare equal are one.
 exact_bool : (a b : Bool) → bool_cmp a b ≡ Equal → a ≡ b
 exact_bool false false e = refl
 exact_bool false true e = let k : ◌≡◌ {A = Ordering} Less Equal = e in cc
 exact_bool true false e = let k : ◌≡◌ {A = Ordering} Greater Equal = e in cc
 exact_bool true true e = refl
 
+-- So are texts.
 exact_text : (xs ys : List ℕ) → slice_cmp nat_cmp xs ys ≡ Equal → xs ≡ ys
 exact_text [] [] e = refl
 exact_text [] (y ∷ ys) e = let k : ◌≡◌ {A = Ordering} Less Equal = e in cc
@@ -115,9 +121,11 @@ equal_then Less b = refl
 equal_then Equal b = refl
 equal_then Greater b = refl
 
+-- Numbers are equal where they compare equal.
 number_ties : (a b : ℕ) → (a == b) ≡ is_eq (nat_cmp a b)
 number_ties a b = grind (arith, nat_tests)
 
+-- So are truth values.
 letter_ties : (a b : Bool) → beq a b ≡ is_eq (bool_cmp a b)
 letter_ties false false = refl
 letter_ties false true = refl
@@ -127,21 +135,27 @@ letter_ties true true = refl
 -- Entries are alike where their keys compare equal.
 pub ties : (x y : Entry) → is_alike x y ≡ eq_by_cmp key_cmp x y
 ties x y =
-    let b : (beq x.key.is_warning y.key.is_warning && x.key.number == y.key.number) ≡ is_eq (ordering_then (bool_cmp x.key.is_warning y.key.is_warning) (nat_cmp x.key.number y.key.number)) =
-    (λ j. letter_ties x.key.is_warning y.key.is_warning j && number_ties x.key.number y.key.number j) ∙ sym (equal_then (bool_cmp x.key.is_warning y.key.is_warning) (nat_cmp x.key.number y.key.number)) in
-    (λ j. number_ties x.key.offset y.key.offset j && b j) ∙ sym (equal_then (nat_cmp x.key.offset y.key.offset) (ordering_then (bool_cmp x.key.is_warning y.key.is_warning) (nat_cmp x.key.number y.key.number)))
+    let o = nat_cmp x.key.offset y.key.offset in
+    let w = bool_cmp x.key.is_warning y.key.is_warning in
+    let n = nat_cmp x.key.number y.key.number in
+    let later : (beq x.key.is_warning y.key.is_warning && x.key.number == y.key.number) ≡ is_eq (ordering_then w n) =
+    (λ j. letter_ties x.key.is_warning y.key.is_warning j && number_ties x.key.number y.key.number j) ∙ sym (equal_then w n) in
+    (λ j. number_ties x.key.offset y.key.offset j && later j) ∙ sym (equal_then o (ordering_then w n))
 
 -- To be alike is an equivalence.
 pub alike_equiv : IsEquivalence is_alike
 alike_equiv = and_equiv (on_equiv (λ e. e.key.offset) nat_eq_equiv) (and_equiv (on_equiv (λ e. e.key.is_warning) bool_eq_equiv) (on_equiv (λ e. e.key.number) nat_eq_equiv))
 
+-- A truth value comes back from the severity that it stands for.
 letter_back : (b : Bool) → is_warning (severity_by b) ≡ b
 letter_back false = refl
 letter_back true = refl
 
+-- Equal numbers compare equal.
 same_number : (a b : ℕ) → a ≡ b → nat_cmp a b ≡ Equal
 same_number a b e = ap (nat_cmp a) (sym e) ∙ tied_itself nat_cmp_total a
 
+-- So do truth values that stand for one severity.
 same_letter : (a b : Bool) → severity_by a ≡ severity_by b → bool_cmp a b ≡ Equal
 same_letter a b e = ap (bool_cmp a) (sym (sym (letter_back a) ∙ ap is_warning e ∙ letter_back b)) ∙ tied_itself bool_cmp_total a
 

@@ -43,7 +43,8 @@ neither Less f g = absurd (f refl)
 neither Equal f g = refl
 neither Greater f g = absurd (g refl)
 
-module _ {X : Type 0} {K R : X → X → Ordering} {E : X → X → Bool} (k : IsTotalOrder K) (o : IsTotalOrder R) (e : IsEquivalence E) (ties : (x y : X) → E x y ≡ eq_by_cmp K x y) (within : (x y : X) → R x y ≡ Less → (K x y ≡ Less) ⊎ (K x y ≡ Equal)) where
+module _ {X : Type 0} {K R : X → X → Ordering} {E : X → X → Bool} (k : IsTotalOrder K) (o : IsTotalOrder R) (e : IsEquivalence E)
+    (ties : (x y : X) → E x y ≡ eq_by_cmp K x y) (within : (x y : X) → R x y ≡ Less → (K x y ≡ Less) ⊎ (K x y ≡ Equal)) where
   -- What holds of the first and of each after it holds of each that a `dedup` leaves.
   all_from : (P : X → Type 0) (x : X) (xs : List X) → P x → AllByRecursion P xs → AllByRecursion P (dedup_from E x xs)
   all_from P x [] p h = (p, tt)
@@ -71,12 +72,14 @@ module _ {X : Type 0} {K R : X → X → Ordering} {E : X → X → Bool} (k : I
   left_after : (x y : X) (ys : List X) → E y x ≡ false → R x y ≡ Less → AllByRecursion (λ z. R y z ≡ Less) ys → AllByRecursion (λ z. K x z ≡ Less) (dedup_from E y ys)
   left_after x y ys not_alike less h = let h' = apart x y not_alike less in all_from (λ z. K x z ≡ Less) y ys h' (beyond x y ys h' h)
 
+  -- One step of the next.
   sorted_step : (x y : X) (ys : List X) (b : Bool) → E y x ≡ b → R x y ≡ Less → AllByRecursion (λ z. R y z ≡ Less) ys →
       IsStrictlySortedBy K (dedup_from E x ys) → IsStrictlySortedBy K (dedup_from E y ys) → IsStrictlySortedBy K (cond b (dedup_from E x ys) (x ∷ dedup_from E y ys))
   unfolding IsStrictlySortedBy
   sorted_step x y ys true is less h same other = same
   sorted_step x y ys false is less h same other = (left_after x y ys is less h, other)
 
+  -- What is left of a list that begins with x is in strict order by the coarse order.
   sorted_from : (x : X) (xs : List X) → AllByRecursion (λ y. R x y ≡ Less) xs → IsStrictlySortedBy R xs → IsStrictlySortedBy K (dedup_from E x xs)
   unfolding IsStrictlySortedBy
   sorted_from x [] h s = (tt, tt)
@@ -96,6 +99,7 @@ module _ {X : Type 0} {K R : X → X → Ordering} {E : X → X → Bool} (k : I
   not_back : (x z : X) → R x z ≡ Less → R z x ≡ Less → ⊥
   not_back x z there back = less≢equal (R x x) (o.trans x z x there back) (tied_itself o x)
 
+  -- One step of the next.
   leads_step : (x y : X) (ys : List X) (b : Bool) → E y x ≡ b → AllByRecursion (λ z. R x z ≡ Less) (y ∷ ys) → AllByRecursion (λ z. R y z ≡ Less) ys →
       AllByRecursion (Leads (x ∷ ys)) (dedup_from E x ys) → AllByRecursion (Leads (y ∷ ys)) (dedup_from E y ys) →
       AllByRecursion (Leads (x ∷ y ∷ ys)) (cond b (dedup_from E x ys) (x ∷ dedup_from E y ys))
@@ -108,11 +112,13 @@ module _ {X : Type 0} {K R : X → X → Ordering} {E : X → X → Bool} (k : I
         (both (λ z. K x z ≡ Less) (Leads (y ∷ ys)) (dedup_from E y ys) (left_after x y ys is h.0 s) other),
   )
 
+  -- Each that is left of a list that begins with x leads the list.
   leads_from : (x : X) (xs : List X) → AllByRecursion (λ y. R x y ≡ Less) xs → IsStrictlySortedBy R xs → AllByRecursion (Leads (x ∷ xs)) (dedup_from E x xs)
   unfolding IsStrictlySortedBy Leads
   leads_from x [] h s = (((λ _ less. not_back x x less less), tt), tt)
   leads_from x (y ∷ ys) h s = leads_step x y ys (E y x) refl h s.0 (leads_from x ys h.1 s.1) (leads_from y ys s.0 s.1)
 
+  -- Each that is left of a list leads it.
   leads_dedup : (xs : List X) → IsStrictlySortedBy R xs → AllByRecursion (Leads xs) (dedup E xs)
   unfolding IsStrictlySortedBy Leads
   leads_dedup [] s = tt

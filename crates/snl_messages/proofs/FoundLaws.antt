@@ -74,6 +74,8 @@ words_grown p old new sets full same all is f =
       (λ h. let v = words.0 h in (all.0 v.0, v.1)),
       (λ v. words.1 (all.1 v.0, v.1)),
     ) in
-    let added = joined (map of_overfull sets) (of_words full p.word) f ((word : Token) × IsOverfullSet p word × (f ≡ of_overfull word)) (IsOverfull p × (f ≡ finding TooManyWords p.word.pos [])) set total in
+    let added =
+    joined (map of_overfull sets) (of_words full p.word) f ((word : Token) × IsOverfullSet p word × (f ≡ of_overfull word))
+    (IsOverfull p × (f ≡ finding TooManyWords p.word.pos [])) set total in
     subst (λ l. Contains l f ↔ (Contains old f ⊎ IsOfWords p f)) (sym (is ∙ append_assoc old (map of_overfull sets) (of_words full p.word)))
     (joined old (map of_overfull sets ++ of_words full p.word) f (Contains old f) (IsOfWords p f) ((λ h. h), (λ h. h)) added)

@@ -18,6 +18,7 @@ use Rattle.snl_messages.proofs.MemberLaws.{contains_map, from_map}
 by_rest : (x y : Entry) → key_cmp x y ≡ Equal → entry_cmp x y ≡ rest_cmp x y
 by_rest x y e = ap (λ o. ordering_then o (rest_cmp x y)) e
 
+-- What comes after by its key is a later message.
 all_before : (x : Entry) (ys : List Entry) → AllByRecursion (λ y. key_cmp x y ≡ Less) ys → AllByRecursion (IsBefore (said_in x)) (map said_in ys)
 all_before x [] h = h
 all_before x (y ∷ ys) h = (message_order x y ∙ h.0, all_before x ys h.1)
@@ -28,7 +29,8 @@ unfolding IsStrictlySortedBy
 in_order [] h = tt
 in_order (x ∷ xs) h = (all_before x xs h.0, in_order xs h.1)
 
-module _ (old mid new : List Entry) (kept : (x : Entry) → Contains old x → Any (λ y. entry_cmp x y ≡ Equal) mid) (from : (x : Entry) → Contains mid x → Contains old x) (s : IsStrictlySortedBy entry_cmp mid) (is : new ≡ dedup is_alike mid) where
+module _ (old mid new : List Entry) (kept : (x : Entry) → Contains old x → Any (λ y. entry_cmp x y ≡ Equal) mid)
+    (from : (x : Entry) → Contains mid x → Contains old x) (s : IsStrictlySortedBy entry_cmp mid) (is : new ≡ dedup is_alike mid) where
   -- None that is found is alike and before one that is left.
   leads : (x : Entry) → Contains (dedup is_alike mid) x → IsFirst (Contains (map finding_in old)) (finding_in x)
   leads x left g found alike less =
@@ -40,6 +42,7 @@ module _ (old mid new : List Entry) (kept : (x : Entry) → Contains old x → A
       let less' : rest_cmp a.1 x ≡ Less = subst (λ f. choice_cmp f (finding_in x) ≡ Less) same less in
       first_left key_total entry_total alike_equiv ties within mid s x a.1 left (a.0, a.2, a.3) (ties a.1 x ∙ ap is_eq key) (by_rest a.1 x key ∙ less')
 
+  -- What is left is given.
   given_of : (m : Said) → Contains (map said_in new) m → IsGiven (Contains (map finding_in old)) m
   given_of m h =
       let w = from_map said_in new m h in
@@ -56,6 +59,7 @@ module _ (old mid new : List Entry) (kept : (x : Entry) → Contains old x → A
       (subst (λ g. IsAlike (said_in u) g.said) same (alike_by_key u z key))
       (subst (λ g. choice_cmp (finding_in u) g ≡ Less) same (sym (by_rest u z key) ∙ less)))
 
+  -- What is given is left.
   of_given : (m : Said) → IsGiven (Contains (map finding_in old)) m → Contains (map said_in new) m
   of_given m w =
       let v = from_map finding_in old w.0 w.1 in
@@ -77,6 +81,7 @@ module _ (old mid new : List Entry) (kept : (x : Entry) → Contains old x → A
 given_same : (P Q : Finding → Type 0) → ((f : Finding) → P f ↔ Q f) → (m : Said) → IsGiven P m → IsGiven Q m
 given_same P Q same m w = (w.0, (same w.0).0 w.1, (λ g found. w.2 g ((same g).1 found)), w.3)
 
+-- In both directions.
 pub given_both : (P Q : Finding → Type 0) → ((f : Finding) → P f ↔ Q f) → (m : Said) → IsGiven P m ↔ IsGiven Q m
 given_both P Q same m = (given_same P Q same m, given_same Q P (λ f. ((same f).1, (same f).0)) m)
 

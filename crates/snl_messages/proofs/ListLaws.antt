@@ -11,9 +11,11 @@ use Rattle.snl_messages.specs.Lists.{of_beyond, of_mode, of_words, has_error}
 use Rattle.snl_messages.specs.Wordings.{is_warning}
 use Rattle.snl_messages.proofs.MemberLaws.{only, nothing_in, first_or_further, at_first, further}
 
+-- A place comes back from being there.
 some_pos : (a b : Pos) → Some a ≡ Some b → a ≡ b
 some_pos a b e = ap (λ o. elim o [ None ↦ a | Some x ↦ x ]) e
 
+-- What is not there is no place.
 none≢some : (a : Pos) → None ≡ Some a → ⊥
 none≢some a e = false≢true (ap (λ o. elim o [ None ↦ false | Some x ↦ true ]) e)
 
@@ -35,17 +37,23 @@ pub words_are : (full : Bool) (word : Token) (f : Finding) → Contains (of_word
 words_are false word f = ((λ h. absurd (nothing_in f h)), (λ w. absurd (false≢true w.0)))
 words_are true word f = ((λ h. (refl, (only (finding TooManyWords word.pos []) f).0 h)), (λ w. (only (finding TooManyWords word.pos []) f).1 w.1))
 
+-- What is no warning is an error.
 error_is : (s : Severity) → not (is_warning s) ≡ true → s ≡ Error
 error_is Error e = refl
 error_is Warning e = absurd (false≢true e)
 
+-- An error is no warning.
 is_error : (s : Severity) → s ≡ Error → not (is_warning s) ≡ true
 is_error s e = ap (λ r. not (is_warning r)) e
 
+-- An error in the rest is one in the list.
 found_further : (g : Finding) (gs : List Finding) → ((f : Finding) × Contains gs f × (f.said.severity ≡ Error)) → (f : Finding) × Contains (g ∷ gs) f × (f.said.severity ≡ Error)
 found_further g gs w = (w.0, further g gs w.0 w.1, w.2)
 
-error_step : (g : Finding) (gs : List Finding) (b : Bool) → not (is_warning g.said.severity) ≡ b → (b || has_error gs) ≡ true → (has_error gs ≡ true → (f : Finding) × Contains gs f × (f.said.severity ≡ Error)) → (f : Finding) × Contains (g ∷ gs) f × (f.said.severity ≡ Error)
+-- One step of the next.
+error_step : (g : Finding) (gs : List Finding) (b : Bool) → not (is_warning g.said.severity) ≡ b → (b || has_error gs) ≡ true →
+    (has_error gs ≡ true → (f : Finding) × Contains gs f × (f.said.severity ≡ Error)) →
+    (f : Finding) × Contains (g ∷ gs) f × (f.said.severity ≡ Error)
 error_step g gs true is h rest = (g, at_first g gs, error_is g.said.severity is)
 error_step g gs false is h rest = found_further g gs (rest h)
 
@@ -54,7 +62,9 @@ pub some_error : (fs : List Finding) → has_error fs ≡ true → (f : Finding)
 some_error [] h = absurd (false≢true h)
 some_error (g ∷ gs) h = error_step g gs (not (is_warning g.said.severity)) refl h (some_error gs)
 
-no_step : (g : Finding) (gs : List Finding) (b : Bool) → not (is_warning g.said.severity) ≡ b → (b || has_error gs) ≡ false → (not (is_warning g.said.severity) ≡ false) × (has_error gs ≡ false)
+-- One step of the next.
+no_step : (g : Finding) (gs : List Finding) (b : Bool) → not (is_warning g.said.severity) ≡ b → (b || has_error gs) ≡ false →
+    (not (is_warning g.said.severity) ≡ false) × (has_error gs ≡ false)
 no_step g gs true is h = absurd (false≢true (sym h))
 no_step g gs false is h = (is, h)
 

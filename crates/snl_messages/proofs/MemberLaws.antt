@@ -26,6 +26,7 @@ contains_map f (y ∷ ys) x h = elim (first_or_further y ys x h) [
   | inr k ↦ further (f y) (map f ys) (f x) (contains_map f ys x k)
 ]
 
+-- One further on that is mapped to m.
 contained_further : {A B : Type 0} (f : A → B) (y : A) (ys : List A) (m : B) → ((x : A) × Contains ys x × (f x ≡ m)) → ((x : A) × Contains (y ∷ ys) x × (f x ≡ m))
 contained_further f y ys m w = (w.0, further y ys w.0 w.1, w.2)
 
@@ -62,7 +63,10 @@ only y x = (
   (λ e. subst (Contains (y ∷ [])) (sym e) (at_first y [])),
 )
 
-kept_of : {A : Type 0} (p : A → Bool) (y : A) (ys : List A) (x : A) (b : Bool) → p y ≡ b → Contains (if b then y ∷ filter p ys else filter p ys) x → (Contains (filter p ys) x → Contains ys x × (p x ≡ true)) → Contains (y ∷ ys) x × (p x ≡ true)
+-- One step of the next.
+kept_of : {A : Type 0} (p : A → Bool) (y : A) (ys : List A) (x : A) (b : Bool) → p y ≡ b →
+    Contains (if b then y ∷ filter p ys else filter p ys) x → (Contains (filter p ys) x → Contains ys x × (p x ≡ true)) →
+    Contains (y ∷ ys) x × (p x ≡ true)
 kept_of p y ys x true is h rest = elim (first_or_further y (filter p ys) x h) [
   | inl e ↦ (subst (Contains (y ∷ ys)) e (at_first y ys), sym (ap p e) ∙ is)
   | inr k ↦ let r = rest k in (further y ys x r.0, r.1)
@@ -74,6 +78,7 @@ pub from_filter : {A : Type 0} (p : A → Bool) (xs : List A) (x : A) → Contai
 from_filter p [] x h = absurd (nothing_in x h)
 from_filter p (y ∷ ys) x h = kept_of p y ys x (p y) refl h (from_filter p ys x)
 
+-- What is the first or left of the rest is left of all.
 stays : {A : Type 0} (p : A → Bool) (y : A) (ys : List A) (x : A) (b : Bool) → p y ≡ b → p x ≡ true → (y ≡ x) ⊎ Contains (filter p ys) x → Contains (if b then y ∷ filter p ys else filter p ys) x
 stays p y ys x true is holds h = elim h [
   | inl e ↦ subst (Contains (y ∷ filter p ys)) e (at_first y (filter p ys))
@@ -84,6 +89,7 @@ stays p y ys x false is holds h = elim h [
   | inr k ↦ k
 ]
 
+-- What follows of the rest follows of the first or the rest.
 later : {A : Type 0} (y x : A) (B C : Type 0) → (y ≡ x) ⊎ B → (B → C) → (y ≡ x) ⊎ C
 later y x B C h f = elim h [ inl e ↦ inl e | inr b ↦ inr (f b) ]
 

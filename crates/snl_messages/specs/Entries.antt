@@ -8,6 +8,7 @@ use Rattle.snl_messages.specs.declared.messages.Severity.TheVariants.{Error, War
 use Rattle.snl_messages.specs.Messages.{Said, said}
 use Rattle.snl_messages.specs.Findings.{Finding}
 
+-- The severity of a warning or of an error.
 abbrev pub severity_by : Bool → Severity
 severity_by is_warning = if is_warning then Warning else Error
 
@@ -16,9 +17,11 @@ abbrev pub message_in : Entry → Message
 message_in e =
     record { pos = record { offset = e.key.offset; file = e.file; line = e.line }; severity = severity_by e.key.is_warning; number = e.key.number; text = e.text }
 
+-- What is found, by an entry.
 abbrev pub finding_in : Entry → Finding
 finding_in e = record { rank = e.rank; said = said (message_in e) }
 
+-- What is said, by an entry.
 abbrev pub said_in : Entry → Said
 said_in e = said (message_in e)
 

@@ -24,23 +24,27 @@ use Rattle.snl_messages.specs.declared.messages.Severity.TheVariants.{Error, War
 use Rattle.snl_messages.specs.Findings.{finding, said_at}
 use Rattle.snl_messages.specs.Silence.{after_definitions, is_let_through}
 
--- A token at an offset. Its kind plays no part here.
+-- The place at an offset of the first line.
 abbrev pub place : ℕ → Pos
 place offset = record { offset = offset; file = 0; line = 1 }
 
+-- A token there.
 abbrev pub token : Kind → ℕ → List ℕ → Token
 token kind offset bytes = record { kind = kind; text = record { ref_ptr = (0, 0); now = bytes }; pos = place offset }
 
+-- Its kind plays no part but in options.
 abbrev pub at : ℕ → List ℕ → Token
 at = token Name
 
--- A use of `x` at 7, and a call of `f` there.
+-- A use of `x` at 7.
 abbrev pub use_of : Meaning → Site
 use_of m = Use Read (at 7 (codes "x")) m false
 
+-- A call of `f` there.
 abbrev pub call_of : Site
 call_of = Call (at 7 (codes "f")) false false true
 
+-- A size of a queue there.
 abbrev pub at_number : Site
 at_number = Sites.QueueSize (at 7 (codes "0")) false
 
@@ -116,12 +120,15 @@ OtherExamples =
 abbrev pub TextExamples : Type 0
 TextExamples = LimitExamples × EarlyErrors × LateErrors × Warnings × OtherExamples
 
+-- An option with a sign and letters.
 abbrev pub option_of : Kind → List ℕ → DefinitionTree
 option_of sign letters = setting (record { sign = token sign 0 []; name = at 1 letters })
 
+-- Under `+u`.
 abbrev pub with_unused : Options
 with_unused = record { s = None; c = None; u = Some true; w = None }
 
+-- Under `+u` and `-w`.
 abbrev pub silent : Options
 silent = record { s = None; c = None; u = Some true; w = Some false }
 

@@ -12,6 +12,7 @@ use Rattle.snl_messages.specs.declared.matters.Matter.TheVariants.{AtSite, TooMa
 use Rattle.snl_messages.specs.Messages.{Said}
 use Rattle.snl_messages.specs.Wordings.{wording, text_of}
 
+-- A message, with the rank of its limit.
 pub record Finding : Type 0 where
   pub rank : ℕ
   pub said : Said
@@ -80,6 +81,7 @@ quote_of s = (token_of s).text.now
 abbrev pub found_at : Rule → Site → Finding
 found_at rule s = finding (AtSite rule) (place_of rule s).pos (quote_of s)
 
+-- Its message.
 abbrev pub said_at : Rule → Site → Said
 said_at rule s = (found_at rule s).said
 

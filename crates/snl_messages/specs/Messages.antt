@@ -16,6 +16,7 @@ pub record Said : Type 0 where
   pub number : ℕ
   pub text : List ℕ
 
+-- What a message says.
 abbrev pub said : Message → Said
 said m = record { pos = m.pos; severity = m.severity; number = m.number; text = m.text.items }
 

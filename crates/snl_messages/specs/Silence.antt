@@ -13,6 +13,7 @@ abbrev pub after_definition : Options → DefinitionTree → Options
 after_definition o (setting s) = after_option (is_on s) s.name.text.now o
 after_definition o d = o
 
+-- Definitions count one after the other, so the last sign of each letter is in force.
 abbrev pub after_definitions : Options → List DefinitionTree → Options
 after_definitions o [] = o
 after_definitions o (d ∷ ds) = after_definitions (after_definition o d) ds
@@ -42,5 +43,6 @@ abbrev pub is_let_through : Options → Severity → ℕ → Bool
 is_let_through o Error number = true
 is_let_through o Warning number = gives_warnings o && (not (is_unused number) || gives_unused o)
 
+-- Whether what is found is given.
 abbrev pub lets_through : Options → Finding → Bool
 lets_through o f = is_let_through o f.said.severity f.said.number

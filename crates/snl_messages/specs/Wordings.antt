@@ -17,17 +17,19 @@ pub record Wording : Type 0 where
   pub is_quoting : Bool
   pub after : List ℕ
 
--- An error, and a warning, that quotes something between two texts.
+-- An error that quotes something between two texts.
 abbrev pub error : ℕ → List ℕ → List ℕ → Wording
 error number before after = record { severity = Error; number = number; rank = 0; before = before; is_quoting = true; after = after }
 
+-- A warning that does.
 abbrev pub warning : ℕ → List ℕ → List ℕ → Wording
 warning number before after = record { severity = Warning; number = number; rank = 0; before = before; is_quoting = true; after = after }
 
--- An error, and a warning, that quotes nothing.
+-- An error that quotes nothing.
 abbrev pub plain_error : ℕ → List ℕ → Wording
 plain_error number text = record { severity = Error; number = number; rank = 0; before = text; is_quoting = false; after = [] }
 
+-- A warning that quotes nothing.
 abbrev pub plain_warning : ℕ → List ℕ → Wording
 plain_warning number text = record { severity = Warning; number = number; rank = 0; before = text; is_quoting = false; after = [] }
 
@@ -85,6 +87,7 @@ wording Unreached = warning 2 (codes "state '") (codes "' cannot be reached")
 abbrev pub text_of : Wording → List ℕ → List ℕ
 text_of w quote = if w.is_quoting then w.before ++ quote ++ w.after else w.before
 
+-- Whether it is a warning.
 abbrev pub is_warning : Severity → Bool
 is_warning Error = false
 is_warning Warning = true

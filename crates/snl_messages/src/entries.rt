@@ -18,8 +18,8 @@ pub struct Key {
     pub number: u8, // after E or W
 }
 
-/// A message whose derived order is that of messages. Of limits with one key the first in their list
-/// comes first. What comes after only tells messages apart that no source has at one place.
+/// A message whose derived order is that of messages. Of limits with one key the first in their
+/// list comes first. What comes after only tells messages apart that no source has at one place.
 #[derive(PartialEq, Eq, PartialOrd, Ord, Drop)]
 pub struct Entry {
     pub key: Key,

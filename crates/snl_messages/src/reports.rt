@@ -56,7 +56,8 @@ fn findings(
 ) -> Result<Vec<Entry>, AllocError>
     requires { sites.now ≡ spec.sites (program_view program.now) }
     ensures { IfOk result (λ entries. (f : Finding) → Contains (map finding_in entries.items) f
-        ↔ IsFound options (program_view program.now) program.now.embedded.items program.now.beyond f) }
+        ↔ IsFound options (program_view program.now) program.now.embedded.items
+        program.now.beyond f) }
 {
     let broken = broken_rules(alloc, sites)?;
     let names = unreached(alloc, program)?;
@@ -73,7 +74,8 @@ fn note_limits(
 ) -> Result<(), AllocError>
     requires { sites.now ≡ spec.sites (program_view program.now) }
     ensures { OnOk result ((f : Finding) → Contains (map finding_in entries.new.items) f
-        ↔ (Contains (map finding_in entries.old.items) f ⊎ IsOfWords (program_view program.now) f)) }
+        ↔ (Contains (map finding_in entries.old.items) f
+        ⊎ IsOfWords (program_view program.now) f)) }
 {
     let sets = overfull_sets(alloc, program)?;
     note_overfull(alloc, sets.as_slice(), entries)?;
@@ -89,7 +91,8 @@ fn all_findings(
     options: Options,
 ) -> Result<Vec<Entry>, AllocError>
     ensures { IfOk result (λ entries. (f : Finding) → Contains (map finding_in entries.items) f
-        ↔ IsFoundAtAll options (program_view program.now) program.now.embedded.items program.now.beyond f) }
+        ↔ IsFoundAtAll options (program_view program.now) program.now.embedded.items
+        program.now.beyond f) }
 {
     let sites = sites_of(alloc, program)?;
     let mut entries = findings(alloc, program, sites.as_slice(), options)?;
@@ -106,7 +109,8 @@ fn given_in_order(
     mut entries: Vec<Entry>,
 ) -> Result<Vec<Message>, AllocError>
     ensures given { IfOk result (λ messages. (m : Said) → Contains (map said messages.items) m
-        ↔ IsGiven (λ f. Contains (map finding_in entries.items) f × (lets_through options f ≡ true)) m) }
+        ↔ IsGiven (λ f. Contains (map finding_in entries.items) f
+        × (lets_through options f ≡ true)) m) }
     ensures ordered { IfOk result (λ messages. IsInOrder (map said messages.items)) }
 {
     silence(options, &mut entries);
@@ -123,7 +127,8 @@ pub fn messages_of(
     given: Options,
 ) -> Result<Vec<Message>, AllocError>
     ensures exactly { IfOk result (λ messages. (m : Said) → Contains (map said messages.items) m
-        ↔ IsSaid given (program_view program.now) program.now.embedded.items program.now.beyond m) }
+        ↔ IsSaid given (program_view program.now) program.now.embedded.items
+        program.now.beyond m) }
     ensures in_order { IfOk result (λ messages. IsInOrder (map said messages.items)) }
 {
     let options = options_in_force(program, given);

@@ -24,8 +24,8 @@ fn after_definition(before: Options, definition: &Def) -> Options
     }
 }
 
-/// The options in force in a program, where `given` were given with it: of each letter the last sign,
-/// and those of the program come after the given ones (Compiling SNL Programs, "Options").
+/// The options in force in a program, where `given` were given with it: of each letter the last
+/// sign, and those of the program come after the given ones (Compiling SNL Programs, "Options").
 pub fn options_in_force(program: &Program, given: Options) -> Options
     ensures { result ≡ spec.options_in_force (program_view program.now) given }
 {
@@ -52,7 +52,8 @@ fn is_let_through(options: Options, is_warning: bool, number: u8) -> bool
 
 /// Keeps the messages that options let through.
 pub fn silence(options: Options, entries: &mut Vec<Entry>)
-    ensures { entries.new.items ≡ filter (λ e. spec.lets_through options (finding_in e)) entries.old.items }
+    ensures { entries.new.items
+        ≡ filter (λ e. spec.lets_through options (finding_in e)) entries.old.items }
 {
     entries.retain(|entry| is_let_through(options, entry.key.is_warning, entry.key.number));
 }
