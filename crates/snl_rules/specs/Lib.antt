@@ -7,3 +7,5 @@ pub mod Marks
 pub mod Words
 pub mod Counts
 pub mod ReachExamples
+pub mod Laws
+pub mod Examples

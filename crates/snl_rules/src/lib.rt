@@ -5,6 +5,7 @@ mod alone;
 mod breaking;
 mod elements;
 mod facts;
+pub mod laws;
 mod link_words;
 mod queues;
 mod reach;
