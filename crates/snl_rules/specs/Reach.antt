@@ -19,10 +19,12 @@ abbrev mutual
   targets_in_statement (for_loop t h a) = targets_in_statement a
   targets_in_statement _ = []
 
+  -- one statement after the other
   pub targets_in_statements : StatementList → List Token
   targets_in_statements no_statements = []
   targets_in_statements (statement a rest) = targets_in_statement a ++ targets_in_statements rest
 
+  -- its declarations name none
   pub targets_in_block : BlockTree → List Token
   targets_in_block (block declared all) = targets_in_statements all
 
@@ -46,6 +48,7 @@ targets_in_state s = targets_if_there s.entry ++ flat_map targets_in_clause s.cl
 
 -- ---- ways from state to state, by the numbers of states in their state set
 
+-- The names of states, in the order of their numbers.
 abbrev pub state_names : List StateTree → List Token
 state_names states = map (λ s. s.name) states
 

@@ -51,6 +51,7 @@ abbrev pub assigned_of : Sort → Option Part → Option Part
 assigned_of Assign part = part
 assigned_of _ part = None
 
+-- The same of a site.
 abbrev pub assigned_by : Site → Option Part
 assigned_by (Defined sort w t m sub wrong part) = assigned_of sort part
 assigned_by _ = None
@@ -60,6 +61,7 @@ abbrev pub queue_of : Sort → Option Part → Option (ℕ × ℕ)
 queue_of (Queue n) (Some p) = Some (p.variable.offset, n)
 queue_of _ part = None
 
+-- The same of a site.
 abbrev pub queue_by : Site → Option (ℕ × ℕ)
 queue_by (Defined sort w t m sub wrong part) = queue_of sort part
 queue_by _ = None
@@ -89,6 +91,7 @@ links_words all = sum_by (λ s. link_words (queue_size all) (assigned_by s)) all
 
 -- ---- all in all
 
+-- The stores of all state sets, with the buffers and queues of all links.
 abbrev pub all_words : ProgramTree → ℕ
 all_words p = sets_words p 0 p.state_sets + links_words (sites p)
 
