@@ -2,3 +2,11 @@ pub mod NamedLaws
 pub mod FactLaws
 pub mod RuleLaws
 pub mod BrokenLaws
+pub mod WayLaws
+pub mod MarkLaws
+pub mod UnmarkedLaws
+pub mod TargetLaws
+pub mod StateLaws
+pub mod CountLaws
+pub mod QueueLaws
+pub mod OverfullLaws

@@ -6,8 +6,17 @@ mod breaking;
 mod elements;
 mod facts;
 pub mod laws;
+mod link_words;
+mod queues;
+mod reach;
+pub mod reach_laws;
 mod rules;
+mod state_numbers;
+mod targets;
 mod together;
+mod words;
 
 pub use breaking::broken_rules;
+pub use reach::unreached;
 pub use rules::{Broken, Rule};
+pub use words::{is_overfull, overfull_sets};

@@ -1,0 +1,16 @@
+//! All messages of a program, in the order of the source.
+#![tactic(auto)]
+
+mod entries;
+mod gathering;
+pub mod laws;
+mod matters;
+mod messages;
+mod ordering;
+mod places;
+mod reports;
+mod silence;
+
+pub use messages::{Message, Severity};
+pub use reports::messages_of;
+pub use silence::options_in_force;

@@ -1,0 +1,121 @@
+//! How many words the stores of the state sets take, and with them all buffers and queues.
+
+ghost use Rattle.std.specs.Prelude.{◌≡◌, ◌++◌, ◌+◌, ◌↔◌, true, nat_lt, map, OnOk, IfOk};
+ghost use Rattle.std.specs.List.{Contains, sum_by};
+ghost use Rattle.snl_text.specs.declared.tokens.Token.{Token};
+ghost use Rattle.snl_tree.specs.view.Programs.{state_set_view, program_view};
+ghost use Rattle.snl_sites.specs.Held.{held_view};
+ghost use Rattle.snl_sites.specs.Programs as program_sites;
+ghost use Rattle.snl_rules.specs.Words as spec;
+ghost use Rattle.snl_rules.specs.Counts.{capped, overfull_at, overfull_from};
+
+use crate::link_words::words_of_all_links;
+use snl_sites::{Held, Site, variables_of};
+use snl_text::Token;
+use snl_tree::{Program, StateSet};
+use std::alloc::{AllocError, Global};
+
+/// The words of variables, at most 2^64 - 1.
+fn words_of_variables(held: &[Held]) -> u64
+    ensures { result ≡ capped (sum_by spec.variable_words (map held_view held.now)) }
+{
+    let mut words: u64 = 0;
+    for variable in held {
+        words = words.saturating_add(variable.size.elements() as u64);
+    }
+    words
+}
+
+/// The words of the store of a state set, at most 2^64 - 1.
+fn words_of_set(alloc: Global, program: &Program, number: usize) -> Result<u64, AllocError>
+    ensures { IfOk result (λ words. words
+        ≡ capped (spec.set_words (program_view program.now) number)) }
+{
+    let held = variables_of(alloc, program, number)?;
+    let words = words_of_variables(held.as_slice());
+    Ok(words)
+}
+
+/// Whether the store of a state set takes more than 65,536 words.
+fn is_overfull_set(alloc: Global, program: &Program, number: usize) -> Result<bool, AllocError>
+    ensures { IfOk result (λ b. b
+        ≡ nat_lt 65536 (spec.set_words (program_view program.now) number)) }
+{
+    let words = words_of_set(alloc, program, number)?;
+    Ok(65_536 < words)
+}
+
+/// Adds the `ss` of the state set of a number, if its store is overfull.
+fn push_if_overfull<'a>(
+    alloc: Global,
+    program: &Program<'a>,
+    number: usize,
+    set: &StateSet<'a>,
+    found: &mut Vec<Token<'a>>,
+) -> Result<(), AllocError>
+    ensures { OnOk result (found.new.items ≡ found.old.items
+        ++ overfull_at (program_view program.now) number (state_set_view set.now)) }
+{
+    if is_overfull_set(alloc, program, number)? {
+        found.push(set.word)?;
+    }
+    Ok(())
+}
+
+/// Adds the `ss` of each state set whose store is overfull.
+fn push_overfull<'a>(
+    alloc: Global,
+    program: &Program<'a>,
+    sets: &[StateSet<'a>],
+    found: &mut Vec<Token<'a>>,
+) -> Result<(), AllocError>
+    ensures { OnOk result (found.new.items ≡ found.old.items
+        ++ overfull_from (program_view program.now) 0 (map state_set_view sets.now)) }
+{
+    for (number, set) in sets.iter().enumerate() {
+        push_if_overfull(alloc, program, number, set, found)?;
+    }
+    Ok(())
+}
+
+/// The `ss` of each state set whose store takes more than 65,536 words, in the order of the source.
+/// The only error is that memory ends.
+pub fn overfull_sets<'a>(alloc: Global, program: &Program<'a>) -> Result<Vec<Token<'a>>, AllocError>
+    ensures { IfOk result (λ found. (t : Token) → Contains found.items t
+        ↔ spec.IsOverfullSet (program_view program.now) t) }
+{
+    let mut found = Vec::new(alloc);
+    push_overfull(alloc, program, program.state_sets.as_slice(), &mut found)?;
+    Ok(found)
+}
+
+/// The words of the stores of state sets, at most 2^64 - 1.
+fn words_of_sets(alloc: Global, program: &Program, sets: &[StateSet]) -> Result<u64, AllocError>
+    ensures { IfOk result (λ words. words
+        ≡ capped (spec.sets_words (program_view program.now) 0 (map state_set_view sets.now))) }
+{
+    let mut words: u64 = 0;
+    for (number, _set) in sets.iter().enumerate() {
+        let more = words_of_set(alloc, program, number)?;
+        words = words.saturating_add(more);
+    }
+    Ok(words)
+}
+
+/// Whether so many words of stores and of links are more than there may be.
+fn is_above(stores: u64, links: u64) -> bool
+    ensures { result ≡ nat_lt 1048576 (capped (stores + links)) }
+{
+    1_048_576 < stores.saturating_add(links)
+}
+
+/// Whether the stores of all state sets, with the buffers and queues of all links, take more than
+/// 1,048,576 words. The sites are those of the program. The only error is that memory ends.
+pub fn is_overfull(alloc: Global, program: &Program, sites: &[Site]) -> Result<bool, AllocError>
+    requires { sites.now ≡ program_sites.sites (program_view program.now) }
+    ensures { IfOk result (λ b. (b ≡ true) ↔ spec.IsOverfull (program_view program.now)) }
+{
+    let stores = words_of_sets(alloc, program, program.state_sets.as_slice())?;
+    let links = words_of_all_links(alloc, sites)?;
+    Ok(is_above(stores, links))
+}
