@@ -10,3 +10,4 @@ pub mod StateLaws
 pub mod CountLaws
 pub mod QueueLaws
 pub mod OverfullLaws
+pub mod WayExampleLaws

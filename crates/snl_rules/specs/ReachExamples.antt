@@ -15,7 +15,7 @@ use Rattle.snl_sites.specs.declared.sites.Site.{Site}
 use Rattle.snl_sites.specs.declared.sites.Site.TheVariants.{Defined}
 use Rattle.snl_sites.specs.Examples.{name, whole, sign, ints, sized}
 use Rattle.snl_sites.specs.Numbered.{number_of}
-use Rattle.snl_rules.specs.Reach.{targets_in_state, state_names}
+use Rattle.snl_rules.specs.Reach.{targets_in_state, state_names, IsReached, IsUnreachedIn}
 use Rattle.snl_rules.specs.Words.{set_words, sets_words, links_words}
 
 -- ---- targets
@@ -52,6 +52,28 @@ TargetExamples =
     × (targets_in_state (state_of (name 1 (codes "a")) (Some (only (go_to (name 20 (codes "b"))))) []) ≡ name 20 (codes "b") ∷ [])
     × (targets_in_state (state_of (name 1 (codes "a")) None (always (block [] no_statements) to_exit ∷ [])) ≡ [])
     × (number_of (state_names (state_of (name 1 (codes "a")) None [] ∷ state_of (name 2 (codes "b")) None [] ∷ state_of (name 3 (codes "b")) None [] ∷ [])) (codes "b") ≡ Some 1)
+
+-- ---- ways
+
+-- It leads to `b`.
+abbrev pub first_state : StateTree
+first_state = state_of (name 1 (codes "a")) None (always (block [] no_statements) (to_state (name 10 (codes "b"))) ∷ [])
+
+-- It leads to `a`.
+abbrev pub second_state : StateTree
+second_state = state_of (name 2 (codes "b")) None (always (only (go_to (name 11 (codes "a")))) to_exit ∷ [])
+
+-- It leads nowhere, and has the name of the second.
+abbrev pub third_state : StateTree
+third_state = state_of (name 3 (codes "b")) None []
+
+-- `state a { when () { } state b } state b { when () { state a; } exit } state b { }`
+abbrev pub three_states : List StateTree
+three_states = first_state ∷ second_state ∷ third_state ∷ []
+
+-- The second state is reached. The third has its name, so no way leads to it.
+abbrev pub WayExamples : Type 0
+WayExamples = IsReached three_states 0 × IsReached three_states 1 × IsUnreachedIn three_states (name 3 (codes "b"))
 
 -- ---- words
 

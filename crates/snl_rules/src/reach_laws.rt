@@ -1,10 +1,15 @@
-//! Examples of targets and of words. Each function is its contract.
+//! Examples of targets, ways and words. Each function is its contract.
 
-ghost use Rattle.snl_rules.specs.ReachExamples.{TargetExamples, WordExamples};
+ghost use Rattle.snl_rules.specs.ReachExamples.{TargetExamples, WayExamples, WordExamples};
 
 /// What the targets of small states are, and which states they mean.
 pub fn examples_of_targets()
     ensures { TargetExamples }
+{}
+
+/// Which of three states are reached, where two have one name.
+pub fn examples_of_ways()
+    ensures { WayExamples }
 {}
 
 /// How many words the stores of a small program take, and some links.
