@@ -1,0 +1,11 @@
+//! The words of a call of `snc` or of `snlrun`: what they ask for, or what is wrong with them.
+//!
+//! Words such as `+s` and `-w` are options of the language (SNL Reference, "Option"). They are taken out first,
+//! wherever they stand; `clap` reads the rest.
+#![tactic(auto)]
+
+mod commands;
+mod reading;
+mod words;
+
+pub use words::{Job, Tool, WordsFault};

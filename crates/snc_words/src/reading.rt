@@ -1,0 +1,1 @@
+//! How `clap` reads the words.
