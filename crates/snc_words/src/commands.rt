@@ -15,7 +15,7 @@ fn file_argument<'a>(alloc: Global) -> Arg<'a>
     Arg::new(alloc, "FILE")
         .required(true)
         .action(ArgAction::Set)
-        .help("The program, or - for none")
+        .help("The file of the program")
 }
 
 /// MACROS.
@@ -25,7 +25,7 @@ fn macros_argument<'a>(alloc: Global) -> Arg<'a>
 {
     Arg::new(alloc, "MACROS")
         .action(ArgAction::Set)
-        .help("Macros for the names of channels, as A=1,B=2")
+        .help("The macros in the names of channels")
 }
 
 /// `--budget`.
@@ -39,7 +39,7 @@ fn budget_argument<'a>(alloc: Global) -> Arg<'a>
         .action(ArgAction::Set)
         .value_parser(clap::value_parser!(u32).range(1..=1_000_000_000))
         .default_value("100000")
-        .help("How many steps an instant may take")
+        .help("The steps that an instant may take")
 }
 
 /// `--tables`.
@@ -51,7 +51,7 @@ fn tables_argument<'a>(alloc: Global) -> Arg<'a>
         .long("tables")
         .action(ArgAction::SetTrue)
         .value_parser(clap::value_parser!(bool))
-        .help("Writes the tables of the program")
+        .help("Write the tables of the program")
 }
 
 /// `--help`.
@@ -62,7 +62,7 @@ fn help_argument<'a>(alloc: Global) -> Arg<'a>
     Arg::new(alloc, "help")
         .long("help")
         .action(ArgAction::Help)
-        .help("Prints this help")
+        .help("Print this help")
 }
 
 /// A command with no arguments, for words that don't begin with the name of the program. `clap` would add `-h` beside

@@ -5,7 +5,11 @@
 #![tactic(auto)]
 
 mod commands;
+pub mod laws;
+mod options;
 mod reading;
+#[cfg(test)]
+mod tests;
 mod words;
 
-pub use words::{Job, Tool, WordsFault};
+pub use words::{DEFAULT_BUDGET, Job, Tool, WordsFault, read_words};

@@ -1,8 +1,13 @@
 //! What the words of a call ask for, and what may be wrong with them.
 
-ghost use Rattle.snc_words.specs.Reads.{IsMemory};
+ghost use Rattle.std.specs.Prelude.{IfErr, IfOk, map};
+ghost use Rattle.std.specs.String.{string_bytes};
+ghost use Rattle.snc_words.specs.Reads.{FailsOn, IsBudget, IsMemory, ReadsTo};
 
-use std::alloc::AllocError;
+use crate::options::{first_refused, options_in_force, rest_of};
+use crate::reading::{read_snc, read_snlrun};
+use snl_sites::Options;
+use std::alloc::{AllocError, Global};
 use thiserror::Error;
 
 /// The program that is called.
@@ -14,11 +19,16 @@ pub enum Tool {
     Snlrun,
 }
 
+/// How many steps an instant may take, where nothing is said.
+pub const DEFAULT_BUDGET: u32 = 100_000;
+
 /// What is to be done with a program.
-#[derive(Debug, Drop)]
+#[derive(Drop)]
 pub struct Job {
     /// The file of the program, as it was given: any text, also the empty one.
     pub file: String,
+    /// The signs of the options: of each letter that of the last word with it. None where no word has the letter.
+    pub options: Options,
     /// Whether the tables of the program are to be written. `false` for `snlrun`.
     pub tables: bool,
     /// How many steps an instant may take, from 1 to 1,000,000,000. 100,000 where nothing is said, and for `snc`.
@@ -49,5 +59,29 @@ impl From<AllocError> for WordsFault {
 
     fn from(_error: AllocError) -> WordsFault {
         WordsFault::Memory
+    }
+}
+
+/// What the words of a call ask for; `words` are those after the program's own name.
+///
+/// A word is an option where it begins with `+`, or with `-` but not `--`, and has another byte; it is taken out wherever
+/// it stands, also after `--`. The letters are those of the language (SNL Reference, "Option"): `a`, `c`, `d`, `e`, `i`,
+/// `l`, `m`, `r`, `s`, `u`, `w` and `W`, but not `+a` and not `-e`. `clap` reads the other words.
+///
+/// `BadOption` comes before all else, with the sign and the first refused character of the first option that has one; it
+/// takes no memory. `Usage` and `Help` come of the other words. `Memory` comes where a growth was refused.
+pub fn read_words(alloc: Global, tool: Tool, words: &[String]) -> Result<Job, WordsFault>
+    ensures ok { IfOk result (ReadsTo tool (map string_bytes words.now)) }
+    ensures budget { IfOk result (λ job. IsBudget job.budget) }
+    ensures err { IfErr result (FailsOn tool (map string_bytes words.now)) }
+{
+    if let Some((sign, character)) = first_refused(words) {
+        return Err(WordsFault::BadOption(sign, character));
+    }
+    let options = options_in_force(words);
+    let rest = rest_of(alloc, words)?;
+    match tool {
+        Tool::Snc => read_snc(alloc, rest.as_slice(), options),
+        Tool::Snlrun => read_snlrun(alloc, rest.as_slice(), options),
     }
 }
