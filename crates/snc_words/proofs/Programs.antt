@@ -11,7 +11,8 @@ use Rattle.clap.specs.declared.builder.command.Command.{Command}
 use Rattle.clap.specs.declared.builder.value_parser.ValueParser.TheVariants as vp
 use Rattle.clap.specs.declared.parser.matches.ArgMatches.{ArgMatches}
 use Rattle.snc_words.specs.Commands.{budget_rule, file_rule, snc_app, snlrun_app, tables_rule}
-use Rattle.snc_words.proofs.Arguments.{default_value, first_in, argument_from, has_value, open_from, required_value, text_read}
+use Rattle.snc_words.proofs.Arguments.{first_in, argument_from, open_from}
+use Rattle.snc_words.proofs.Parses.{default_value, has_value, required_value, text_read}
 
 -- Of both commands `clap` says what they read, and how they fail.
 pub snc_is_free : is_simple_and_free snc_app ≡ true

@@ -79,7 +79,8 @@ pub(crate) fn options_in_force(words: &[String]) -> Options
 
 /// The words that are no options, in order.
 pub(crate) fn rest_of<'w>(alloc: Global, words: &'w [String]) -> Result<Vec<&'w str>, AllocError>
-    ensures { IfOk result (λ rest. map (λ w. w.now) rest.items ≡ spec.rest_words (map string_bytes words.now)) }
+    ensures { IfOk result (λ rest.
+        map (λ w. w.now) rest.items ≡ spec.rest_words (map string_bytes words.now)) }
 {
     let mut rest = Vec::new(alloc);
     for word in words {

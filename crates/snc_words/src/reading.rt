@@ -1,8 +1,10 @@
-//! The words that are no options, as `clap` reads them: for each program what they ask for, or what is wrong with them.
+//! The words that are no options, as `clap` reads them: for each program what they ask for, or what
+//! is wrong with them.
 
 ghost use Rattle.std.specs.Prelude.{◌≡◌, IfErr, IfOk, [], map, option_map, true};
 ghost use Rattle.std.specs.String.{string_bytes};
-ghost use Rattle.clap.specs.Words.{IsParsedFrom, app_of, fault_of, found_of, is_simple_and_free, kind_of, matches_of, rows_of};
+ghost use Rattle.clap.specs.Words.{IsParsedFrom, app_of, fault_of, found_of, is_simple_and_free};
+ghost use Rattle.clap.specs.Words.{kind_of, matches_of, rows_of};
 ghost use Rattle.snc_words.specs.Commands.{snc_app, snlrun_app};
 ghost use Rattle.snc_words.specs.Reads.{FailsBy, FaultGives, ReadsSnc, ReadsSnlrun};
 
@@ -35,11 +37,13 @@ fn matches_in<'w>(
     words: &'w [&'w str],
 ) -> Result<ArgMatches<'w>, WordsFault>
     requires { is_simple_and_free (app_of command) ≡ true }
-    ensures faultless { IfOk result (λ _. fault_of (app_of command.entry) (map (λ w. w.now) words.entry.now) ≡ []) }
+    ensures faultless { IfOk result (λ _.
+        fault_of (app_of command.entry) (map (λ w. w.now) words.entry.now) ≡ []) }
     ensures parsed { IfOk result (λ m. IsParsedFrom command.entry m) }
     ensures rows { IfOk result (λ m. rows_of (found_of m)
         ≡ matches_of (app_of command.entry) (map (λ w. w.now) words.entry.now)) }
-    ensures err { IfErr result (FailsBy (fault_of (app_of command.entry) (map (λ w. w.now) words.entry.now))) }
+    ensures err { IfErr result (FailsBy
+        (fault_of (app_of command.entry) (map (λ w. w.now) words.entry.now))) }
 {
     match command.try_get_matches_from(words) {
         Ok(matches) => Ok(matches),
@@ -71,7 +75,8 @@ pub(crate) fn read_snc(alloc: Global, words: &[&str], options: Options) -> Resul
 
 /// A text of the caller's own, where there is one.
 fn owned(alloc: Global, text: Option<&str>) -> Result<Option<String>, AllocError>
-    ensures { IfOk result (λ own. option_map string_bytes own ≡ option_map (λ t. t.now) text.entry) }
+    ensures { IfOk result (λ own.
+        option_map string_bytes own ≡ option_map (λ t. t.now) text.entry) }
 {
     match text {
         Some(text) => Ok(Some(String::from_str(alloc, text)?)),
