@@ -1,0 +1,6 @@
+pub mod Arguments
+pub mod Faults
+pub mod Jobs
+pub mod Parses
+pub mod Programs
+pub mod Settings

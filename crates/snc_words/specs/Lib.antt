@@ -1,0 +1,4 @@
+pub mod Commands
+pub mod Examples
+pub mod Options
+pub mod Reads
