@@ -1,0 +1,5 @@
+pub mod Texts
+pub mod Macros
+pub mod MacroTables
+pub mod MacroViews
+pub mod Examples
