@@ -2,7 +2,11 @@
 #![tactic(auto)]
 
 pub mod laws;
+mod links;
 mod macros;
+mod said;
+mod scoping;
 mod texts;
+mod ties;
 
-pub use macros::MacroTable;
+pub use links::{Link, Macros, links_of};
