@@ -1,0 +1,12 @@
+//! The links of a program, the macros in the names of its channels, and its tables as text.
+#![tactic(auto)]
+
+pub mod laws;
+mod links;
+mod macros;
+mod said;
+mod scoping;
+mod texts;
+mod ties;
+
+pub use links::{Link, Macros, links_of};
