@@ -1,0 +1,5 @@
+pub mod Following
+pub mod Joins
+pub mod WordCode
+pub mod DepthPositive
+pub mod ValueCode

@@ -1,0 +1,104 @@
+-- What the names in a piece of code mean, by their declarations.
+use Rattle.std.specs.Prelude.{ℕ, suc, ℤ, pos, ◌==◌, bytes_eq, List, [], ◌∷◌, map, Option, None, Some, option_map, slice_get, slice_index_or, if◌then◌else◌}
+use Rattle.std.specs.List.{flat_map}
+use Rattle.snl_text.specs.declared.tokens.Pos.{Pos}
+use Rattle.snl_text.specs.declared.tokens.Token.{Token}
+use Rattle.snl_tree.specs.Programs.{ProgramTree, StateSetTree}
+use Rattle.snl_sites.specs.declared.sites.Site.{Site}
+use Rattle.snl_sites.specs.declared.sites.Site.TheVariants.{Format}
+use Rattle.snl_sites.specs.Constants.{predefined}
+use Rattle.snl_sites.specs.Numbered.{number_of}
+use Rattle.snl_sites.specs.Programs.{sites}
+use Rattle.snl_sites.specs.Scopes.{elements}
+use Rattle.snl_sites.specs.Uses.{declared_of}
+use Rattle.snl_sites.specs.Variables.{Held, variables_of}
+use Rattle.snl_code.specs.declared.instrs.Variable.{Variable}
+
+-- Where a piece of code stands: in a program, and on which state set's copy it runs.
+pub record Here : Type 0 where
+  pub program : ProgramTree
+  pub set : ℕ
+
+-- ---- variables
+
+abbrev pub numbered : ℕ → Held → Variable
+numbered n v = record { number = n; size = elements v.size; least = v.range.0; greatest = v.range.1 }
+
+-- The variable that is declared at an offset, among some that are numbered from n on.
+abbrev pub variable_from : ℕ → List Held → ℕ → Option Variable
+variable_from n [] offset = None
+variable_from n (v ∷ vs) offset = if v.name.pos.offset == offset then Some (numbered n v) else variable_from (suc n) vs offset
+
+-- The same among those of the copy. A variable's number is its place in the list of them all.
+abbrev pub variable_at : Here → ℕ → Option Variable
+variable_at h offset = variable_from 0 (variables_of h.program h.set) offset
+
+abbrev pub variable_by : Here → Option Pos → Option Variable
+variable_by h None = None
+variable_by h (Some declared) = variable_at h declared.offset
+
+-- ---- names in expressions
+
+-- What a name is in an expression: a variable, or a number.
+pub data Sense : Type 0 where
+  Varies : (variable : Variable) → Sense
+  Stands : (number : ℤ) → Sense
+
+abbrev pub or_zero : Option ℤ → ℤ
+or_zero None = pos 0
+or_zero (Some z) = z
+
+abbrev pub sense_by : Option Variable → Option ℤ → Sense
+sense_by (Some v) number = Varies v
+sense_by None number = Stands (or_zero number)
+
+-- The variable that its declaration makes, or else the number that its text is predefined to be. A name that is
+-- neither stands for 0; the rules refuse it.
+abbrev pub sense_of : Here → Token → Sense
+sense_of h x = sense_by (variable_by h (declared_of h.program x.pos.offset)) (predefined x.text.now)
+
+-- ---- state sets and states
+
+abbrev pub name_by : Option StateSetTree → List ℕ
+name_by None = []
+name_by (Some g) = g.name.text.now
+
+-- The name of the state set, as lines have it.
+abbrev pub set_name : Here → List ℕ
+set_name h = name_by (slice_get h.program.state_sets h.set)
+
+abbrev pub state_names : Option StateSetTree → List Token
+state_names None = []
+state_names (Some g) = map (λ s. s.name) g.states
+
+abbrev pub or_first : Option ℕ → ℕ
+or_first None = 0
+or_first (Some n) = n
+
+-- The number of the state that is named, in its state set. An unknown name counts as the first state; the rules
+-- refuse it.
+abbrev pub state_number : Here → Token → ℕ
+state_number h x = or_first (number_of (state_names (slice_get h.program.state_sets h.set)) x.text.now)
+
+-- ---- formats
+
+abbrev pub format_at : Site → List (List ℕ)
+format_at (Format t is_good) = t.text.now ∷ []
+format_at _ = []
+
+-- The strings of a program, as spelled, in the order of the source.
+abbrev pub formats_of : ProgramTree → List (List ℕ)
+formats_of p = flat_map format_at (sites p)
+
+-- The number of the first of some texts that is this one; that after the last where none is.
+abbrev pub text_number : List (List ℕ) → List ℕ → ℕ
+text_number [] text = 0
+text_number (t ∷ ts) text = if bytes_eq t text then 0 else suc (text_number ts text)
+
+-- The text of a number; none where there is no such number.
+abbrev pub text_of : List (List ℕ) → ℕ → List ℕ
+text_of texts n = slice_index_or texts n []
+
+-- The number of a string among those of the program.
+abbrev pub format_number : Here → Token → ℕ
+format_number h t = text_number (formats_of h.program) t.text.now
