@@ -80,9 +80,9 @@ keeps-adjusted set v op op_line line is_before k n w few =
 -- an operator with its operand
 pub keeps-joined : (j : Joint) (line : ℕ) (right : World → Ran ℤ) → Keeps right → KeepsOn (joined_by j line right)
 keeps-joined And line right h x n w few =
-    leaves-test (HasFewer n) (is_zero x) _ _ (record { is = few }) (keeps-then right settled h (λ z. keeps-here _) n w few)
+    leaves-test (HasFewer n) (is_zero x) _ _ (record { is = few }) (keeps-then right settled h (λ z m u left. record { is = left }) n w few)
 keeps-joined Or line right h x n w few =
-    leaves-test (HasFewer n) (is_zero x) _ _ (keeps-then right settled h (λ z. keeps-here _) n w few) (record { is = few })
+    leaves-test (HasFewer n) (is_zero x) _ _ (keeps-then right settled h (λ z m u left. record { is = left }) n w few) (record { is = few })
 keeps-joined Sequel line right h x n w few = h n w few
 keeps-joined (Operation op) line right h x n w few = keeps-then right (operated op line x) h (keeps-operated op line x) n w few
 
