@@ -5,15 +5,18 @@ use Rattle.snl_tree.specs.Expressions.{ExprTree, TermList, ArgumentList, constan
 use Rattle.snl_code.specs.ExpressionCode.{expression_depth, terms_depth, target_depth, print_depth, values_depth, wait_depth, called_depth, signed_depth, held_depth}
 use Rattle.snl_code.specs.Value.{Sign, Steps, Alone, Function, Prints, Delays, Others, function_of, compound_of, sign_of}
 
+-- a sign
 signed-positive : (sign : Sign) (d e : ℕ) → 1 ≤ d → 1 ≤ e → 1 ≤ signed_depth sign d e
 signed-positive (Steps op) d e a b = a
 signed-positive (Alone op) d e a b = b
 
+-- a call
 called-positive : (function : Function) (d e : ℕ) → 1 ≤ d → 1 ≤ e → 1 ≤ called_depth function d e
 called-positive Prints d e a b = a
 called-positive Delays d e a b = b
 called-positive Others d e a b = omega arith
 
+-- `printf`
 print-positive : (all : ArgumentList) → 1 ≤ print_depth all
 print-positive no_arguments = omega arith
 print-positive (text t rest) = omega arith
@@ -48,6 +51,7 @@ mutual
       let d = expression_depth r + held_depth (compound_of op.kind) in
       omega (arith, depth-positive r, target-deep e d (d + 1) (omega arith))
 
+  -- `delay`
   wait-positive : (all : ArgumentList) → 1 ≤ wait_depth all
   wait-positive no_arguments = omega arith
   wait-positive (text t rest) = omega arith

@@ -59,7 +59,8 @@ mutual
   depth-within (postfix e op) =
       let l = length-append (slots e) (The op ∷ []) in
       signed-small (sign_of op.kind) (target_depth e 2 3) (expression_depth e) (length (slots (postfix e op))) (omega (arith, l, target-within e 2 3 refl)) (omega (arith, l, depth-within e))
-  depth-within (prefix op e) = signed-small (sign_of op.kind) (target_depth e 2 3) (expression_depth e) (length (slots (prefix op e))) (omega (arith, target-within e 2 3 refl)) (omega (arith, depth-within e))
+  depth-within (prefix op e) =
+      signed-small (sign_of op.kind) (target_depth e 2 3) (expression_depth e) (length (slots (prefix op e))) (omega (arith, target-within e 2 3 refl)) (omega (arith, depth-within e))
   depth-within (chain e rest) = omega (arith, length-append (slots e) (term_slots rest), depth-within e, terms-within rest, some-slots e)
   depth-within (conditional c a b) =
       omega (arith, length-append (slots c) (Mark Question ∷ (slots a ++ Mark Colon ∷ slots b)), length-append (slots a) (Mark Colon ∷ slots b), depth-within c, depth-within a, depth-within b)
@@ -67,6 +68,7 @@ mutual
       let o = held_depth (compound_of op.kind) in
       omega (arith, length-append (slots e) (The op ∷ slots r), depth-within r, held-small (compound_of op.kind), target-within e (expression_depth r + o) (expression_depth r + o + 1) refl)
 
+  -- operators and operands
   terms-within : (ts : TermList) → terms_depth ts ≤ length (term_slots ts)
   terms-within no_terms = omega arith
   terms-within (term op e rest) = omega (arith, length-append (slots e) (term_slots rest), depth-within e, terms-within rest, joint-small (joint_of op.kind) (expression_depth e))
@@ -90,11 +92,13 @@ mutual
   more-within (text t rest) k = omega (arith, more-within rest k)
   more-within (value e rest) k = omega (arith, length-append (slots e) (more_slots rest), depth-within e, some-slots e, more-within rest (suc k))
 
+  -- `printf`
   print-within : (all : ArgumentList) → print_depth all ≤ length (argument_slots all) + 1
   print-within no_arguments = omega arith
   print-within (text t rest) = omega (arith, more-within rest 0)
   print-within (value e rest) = omega arith
 
+  -- `delay`
   wait-within : (all : ArgumentList) → wait_depth all ≤ length (argument_slots all) + 1
   wait-within no_arguments = omega arith
   wait-within (text t rest) = omega arith

@@ -68,15 +68,18 @@ cleared-keeps : (set : ℕ) (o : Option Variable) → Keeps (cleared_maybe set o
 cleared-keeps set None n w few = record { is = few }
 cleared-keeps set (Some v) n w few = record { is = few }
 
+-- what a variable begins with
 begun-keeps : (set : ℕ) (o : Option Variable) (line k : ℕ) → KeepsOn (begun set o line k)
 begun-keeps set None line k z n w few = record { is = few }
 begun-keeps set (Some v) line k z n w few = keeps-stored set v line (pos k) z n w few
 
+-- all variables of a block are 0
 all_cleared-keeps : (h : Here) (ds : List DeclaratorTree) → Keeps (all_cleared h ds)
 all_cleared-keeps h [] n w few = record { is = few }
 all_cleared-keeps h (d ∷ ds) n w few =
     keeps-then (cleared_maybe h.set (variable_for h d)) (λ _ u. all_cleared h ds u) (cleared-keeps h.set (variable_for h d)) (λ _. all_cleared-keeps h ds) n w few
 
+-- the values of one
 begun_with-keeps : (h : Here) (d : DeclaratorTree) (k : ℕ) (es : List ExprTree) → Keeps (begun_with h d k es)
 begun_with-keeps h d k [] n w few = record { is = few }
 begun_with-keeps h d k (e ∷ es) n w few =
@@ -84,6 +87,7 @@ begun_with-keeps h d k (e ∷ es) n w few =
     (keeps-then (value_of h e) (begun h.set (variable_for h d) d.name.pos.line k) (value-keeps h e) (begun-keeps h.set (variable_for h d) d.name.pos.line k))
     (λ _. begun_with-keeps h d (suc k) es) n w few
 
+-- the values of all
 all_begun-keeps : (h : Here) (ds : List DeclaratorTree) → Keeps (all_begun h ds)
 all_begun-keeps h [] n w few = record { is = few }
 all_begun-keeps h (d ∷ ds) n w few =

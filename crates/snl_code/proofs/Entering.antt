@@ -21,6 +21,7 @@ use Rattle.snl_code.proofs.Leading.{idle}
 use Rattle.snl_code.proofs.ValueCode.{value-follows}
 
 module _ (h : Here) (room : ℕ) (code : List Instr) where
+  -- what the code runs with
   abbrev g : Setting
   g = setting_of h room
 
@@ -48,6 +49,7 @@ module _ (h : Here) (room : ℕ) (code : List Instr) where
   clears None at w has = does-nothing at w has
   clears (Some v) at w has = follows-step g code (Clear v) at [] w (cleared h.set v w) (λ _. at + 1) idle has.0 refl
 
+  -- each variable is 0
   all-clear : (ds : List DeclaratorTree) → Does (all_cleared h ds) (all_cleared_code h ds)
   all-clear [] = does-nothing
   all-clear (d ∷ ds) = does-then (cleared_maybe h.set (variable_for h d)) (all_cleared h ds) (cleared_code (variable_for h d)) (all_cleared_code h ds) (clears (variable_for h d)) (all-clear ds)
@@ -82,6 +84,7 @@ module _ (h : Here) (room : ℕ) (code : List Instr) where
       (expression_code h e ++ begun_code (variable_for h d) d.name.pos.line k ∷ []) (begun_with_code h d (suc k) es)
       (begins d k e (omega (arith, free))) (begins-with d (suc k) es (omega (arith, free)))
 
+  -- the values of all variables
   all-begin : (ds : List DeclaratorTree) → entered_depth ds ≤ room → Does (all_begun h ds) (all_begun_code h ds)
   all-begin [] free = does-nothing
   all-begin (d ∷ ds) free =

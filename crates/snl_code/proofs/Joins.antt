@@ -35,7 +35,8 @@ module _ (g : Setting) (code : List Instr) where
       (is at s w ∙ ap (λ (b : Bool). if b then then_do (word w) (goes_with (at + 1) s) else Gives Sticks w []) (lt-ltb (length s) g.room (omega arith)))
 
   -- an instruction that takes one operand
-  pub on-one : (i : Instr) (word : ℤ → World → Ran ℤ) → ((at : ℕ) (x : ℤ) (s : List ℤ) (w : World) → done_by g i at (x ∷ s) w ≡ then_do (word x w) (goes_with (at + 1) s)) → (d : ℕ) → CodesOn word (i ∷ []) d
+  pub on-one : (i : Instr) (word : ℤ → World → Ran ℤ) → ((at : ℕ) (x : ℤ) (s : List ℤ) (w : World) → done_by g i at (x ∷ s) w ≡ then_do (word x w) (goes_with (at + 1) s)) →
+      (d : ℕ) → CodesOn word (i ∷ []) d
   on-one i word is d at x s w has room = follows-step g code i at (x ∷ s) w (word x w) (λ _. at + 1) (λ z. z ∷ s) has.0 (is at x s w)
 
   -- more room does no harm

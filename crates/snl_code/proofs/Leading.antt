@@ -69,6 +69,7 @@ module _ (g : Setting) (code : List Instr) where
 module _ (g : Setting) (code : List Instr) {A : Type 0} (test second : ℕ) (held failed : World → Ran A) (onward : A → World → ℕ → Ran Exit)
     (jump : (z : ℤ) (w : World) → Quiet g code test (z ∷ []) w (if is_zero z then second else test + 1) [])
     (h : (u : World) → Continues (run_at g code (test + 1) [] u) (held u) onward) (f : (u : World) → Continues (run_at g code second [] u) (failed u) onward) where
+  -- it goes on as the chosen one
   pub continues-either : (z : ℤ) (u : World) → Continues (run_at g code test (z ∷ []) u) (either held failed z u) onward
   continues-either z u = by (is_zero z) (jump z u)
     where
@@ -77,6 +78,7 @@ module _ (g : Setting) (code : List Instr) {A : Type 0} (test second : ℕ) (hel
       by false q = continues-quiet g code test (z ∷ []) u (test + 1) [] (held u) onward q (h u)
 
 module _ (h : Here) (room : ℕ) (code : List Instr) where
+  -- what the code runs with
   abbrev g : Setting
   g = setting_of h room
 

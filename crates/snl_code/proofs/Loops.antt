@@ -30,7 +30,8 @@ module _ (g : Setting) (code : List Instr) (line start onward again test after o
   turn-follows n go goes w few =
       continues-then_if (HasFewer n) (run_at g code test [] w) (spent line w) (λ _ u. then_do (body u) (unless_broken go)) _ (led g code after out away)
       (spent-falls n line w few) (tick w)
-      (λ _ u left. continues-then_if (HasFewer n) (run_at g code start [] u) (body u) (unless_broken go) (led g code onward after onward) (led g code after out away) (body-keeps n u left.is) (bodies u) by)
+      (λ _ u left. continues-then_if (HasFewer n) (run_at g code start [] u) (body u) (unless_broken go) (led g code onward after onward) (led g code after out away)
+      (body-keeps n u left.is) (bodies u) by)
     where
       by : (way : Way) (v : World) → HasFewer n v → Continues (led g code onward after onward way v) (unless_broken go way v) (led g code after out away)
       by Done v left = goes v left.is
@@ -53,7 +54,8 @@ module _ (g : Setting) (code : List Instr) (line start onward again test after o
       by goes false u left = continues-here g code Done after [] u after [] (led g code after out away) (quiet-none g code after [] u) refl
       by goes true u left =
           turn-follows n (λ v. then_do (step v) (λ _ x. turns n line condition body step x))
-          (λ v few. continues-then_if (HasFewer n) (run_at g code onward [] v) (step v) (λ _ x. turns n line condition body step x) _ (led g code after out away) (step-keeps n v few) (steps v) (λ _ x k. goes x k.is))
+          (λ v few. continues-then_if (HasFewer n) (run_at g code onward [] v) (step v) (λ _ x. turns n line condition body step x) _ (led g code after out away)
+          (step-keeps n v few) (steps v) (λ _ x k. goes x k.is))
           u (omega (arith, left.is))
 
 -- a loop's code, from its jump on
@@ -61,11 +63,13 @@ module _ (h : Here) (room : ℕ) (code : List Instr) (line : ℕ) (condition ste
     (has : HasAt code at (loop_code line bc (dropped_code h step) (test_code h condition)))
     (free : max (maybe_depth condition) (maybe_depth step) ≤ room)
     (bodies : (again after : ℕ) → at + 1 + length bc ≡ again → at + 1 + length bc + (length (dropped_code h step) + length (test_code h condition) + 1) ≡ after →
-        (w : World) → Continues (run_at (setting_of h room) code (at + 1) [] w) (body w) (led (setting_of h room) code again after again))
+    (w : World) → Continues (run_at (setting_of h room) code (at + 1) [] w) (body w) (led (setting_of h room) code again after again))
     (body-keeps : Keeps body) where
+  -- what the code runs with
   abbrev g : Setting
   g = setting_of h room
 
+  -- it does what the loop does
   pub loop-follows : (w : World) → Continues (run_at g code at [] w) (looped line (held_by h condition) body (evaluated h step) w)
       (led g code (at + length (loop_code line bc (dropped_code h step) (test_code h condition))) out away)
   loop-follows w =

@@ -48,12 +48,13 @@ module _ (g : Setting) (code : List Instr) {A : Type 0} (start : ℕ) (w : World
 ends : (g : Setting) (code : List Instr) (at : ℕ) (s : List ℤ) (w : World) → slice_get code at ≡ Some End → exec g code 1 at s w ≡ Gives (Over s) w []
 ends g code at s w there = ap (λ o. then_do (step_of g o at s w) (from_there (exec g code 0))) there
 
+-- the run of a condition
 condition-runs : (h : Here) (code : List Instr) (room start : ℕ) (e : ExprTree) → HasAt code start (condition_piece h e) → expression_depth e ≤ room → (w : World) →
     run_of (setting_of h room) code start w ≡ then_do (value_of h e w) ends_with
 condition-runs h code room start e has deep w =
     runs (setting_of h room) code start w (value_of h e w) (λ z. Over (z ∷ [])) (λ _ _ _. tt) (λ z u. run_at (setting_of h room) code (start + length (expression_code h e)) (z ∷ []) u)
-      (λ z u. ends (setting_of h room) code (start + length (expression_code h e)) (z ∷ []) u (has_back code start (expression_code h e) (End ∷ []) has).0)
-      (value-follows h room code e start [] w (has_front code start (expression_code h e) (End ∷ []) has) (omega (arith, deep)))
+    (λ z u. ends (setting_of h room) code (start + length (expression_code h e)) (z ∷ []) u (has_back code start (expression_code h e) (End ∷ []) has).0)
+    (value-follows h room code e start [] w (has_front code start (expression_code h e) (End ∷ []) has) (omega (arith, deep)))
 
 -- a condition
 pub conditions-right : ConditionsAreRight
@@ -69,11 +70,12 @@ way-over Broken u text = tt
 way-over Continued u text = tt
 way-over (Left state) u text = tt
 
+-- the run of a block
 block-runs : (h : Here) (code : List Instr) (room start : ℕ) (b : BlockTree) → HasAt code start (block_piece h b) → block_depth b ≤ room → (w : World) →
     run_of (setting_of h room) code start w ≡ then_do (block_effect h b w) leads_to
 block-runs h code room start b has deep w =
     runs (setting_of h room) code start w (block_effect h b w) led_to way-over (led (setting_of h room) code last (last + 0) (last + 0)) there
-      (block-follows h room code b 0 0 start w (has_front code start (block_code h 0 0 b) (End ∷ []) has) deep)
+    (block-follows h room code b 0 0 start w (has_front code start (block_code h 0 0 b) (End ∷ []) has) deep)
   where
     last : ℕ
     last = start + length (block_code h 0 0 b)

@@ -22,6 +22,7 @@ use Rattle.snl_code.proofs.Loops.{loop-follows}
 use Rattle.snl_code.proofs.ValueCode.{value-follows}
 
 module _ (h : Here) (room : ℕ) (code : List Instr) where
+  -- what the code runs with
   abbrev g : Setting
   g = setting_of h room
 

@@ -21,6 +21,7 @@ use Rattle.snl_code.proofs.Joins.{Runs, Codes, CodesOn, codes-pushes, on-one, co
 use Rattle.snl_code.proofs.WordCode.{codes-name, codes-at_name, codes-called, on-subscript, on-put, codes-put, codes-signed, codes-either, runs-print}
 
 module _ (h : Here) (room : ℕ) (code : List Instr) where
+  -- what the code runs with
   abbrev g : Setting
   g = setting_of h room
 
@@ -56,6 +57,7 @@ module _ (h : Here) (room : ℕ) (code : List Instr) where
       (follow [] (count_values all) (at + length ac) at s w (omega arith) refl (has_back code at ac _ has).0 (has_front code at ac _ has) (omega arith) (omega arith))
 
   mutual
+    -- an expression
     pub value-follows : (e : ExprTree) → Codes g code (value_of h e) (expression_code h e) (expression_depth e)
     value-follows (constant t) = codes-pushes g code (Push (constant_of t.kind t.text.now)) (gives (constant_of t.kind t.text.now)) (λ at s w. refl) 1 (omega arith)
     value-follows (parenthesized e) = value-follows e
@@ -69,11 +71,13 @@ module _ (h : Here) (room : ℕ) (code : List Instr) where
         codes-called g code (function_of f.text.now) (print_of h all) (wait_of h all) (print_code h all) (wait_code h all) (print_depth all) (wait_depth all) (print-follows all) (wait-follows all)
     value-follows (postfix e op) =
         codes-signed g code (sign_of op.kind) _ (value_of h e) _ (expression_code h e) op.pos.line (target_depth e 2 3) (expression_depth e)
-        (λ by. target-follows e _ _ (gives (pos 0)) (λ v x. Adjust v by op.pos.line x.pos.line true ∷ []) (λ v x. AdjustAt v by op.pos.line x.pos.line true ∷ []) (Push (pos 0) ∷ []) 2 3 (omega arith)
+        (λ by. target-follows e _ _ (gives (pos 0)) (λ v x. Adjust v by op.pos.line x.pos.line true ∷ []) (λ v x. AdjustAt v by op.pos.line x.pos.line true ∷ [])
+        (Push (pos 0) ∷ []) 2 3 (omega arith)
         (λ x v. adjusts op.pos.line by true x 2 (omega arith) v) (λ x v. adjusts-at op.pos.line by true x 3 v) (pushes-zero 2 (omega arith))) (value-follows e)
     value-follows (prefix op e) =
         codes-signed g code (sign_of op.kind) _ (value_of h e) _ (expression_code h e) op.pos.line (target_depth e 2 3) (expression_depth e)
-        (λ by. target-follows e _ _ (gives (pos 0)) (λ v x. Adjust v by op.pos.line x.pos.line false ∷ []) (λ v x. AdjustAt v by op.pos.line x.pos.line false ∷ []) (Push (pos 0) ∷ []) 2 3 (omega arith)
+        (λ by. target-follows e _ _ (gives (pos 0)) (λ v x. Adjust v by op.pos.line x.pos.line false ∷ []) (λ v x. AdjustAt v by op.pos.line x.pos.line false ∷ [])
+        (Push (pos 0) ∷ []) 2 3 (omega arith)
         (λ x v. adjusts op.pos.line by false x 2 (omega arith) v) (λ x v. adjusts-at op.pos.line by false x 3 v) (pushes-zero 2 (omega arith))) (value-follows e)
     value-follows (chain e rest) =
         let d = max (expression_depth e) (terms_depth rest) in
@@ -99,6 +103,7 @@ module _ (h : Here) (room : ℕ) (code : List Instr) where
         (λ x v. on-put g code o op.pos.line (value_of h r) rc d x.pos.line (value-follows r) v)
         (codes-more g code (value_of h r) rc d (d + held_depth o) n (value-follows r))
 
+    -- the operators and operands of one level
     chain-follows : (ts : TermList) → CodesOn g code (chained h ts) (terms_code h ts) (terms_depth ts)
     chain-follows no_terms = on-none g code 0
     chain-follows (term op e rest) =
@@ -110,6 +115,7 @@ module _ (h : Here) (room : ℕ) (code : List Instr) where
         (on-more g code _ _ _ d l (on-joint g code j op.pos.line (value_of h e) (expression_code h e) (expression_depth e) (depth-positive e) (value-follows e)))
         (on-more g code _ _ _ d r (chain-follows rest))
 
+    -- what is done at a target
     target-follows : (e : ExprTree) (alone : OnVariable) (indexed : OnElement) (other : World → Ran ℤ) (ac ic : CodeOn) (oc : List Instr) (a i : ℕ) → a ≤ i →
         ((x : Token) (v : Variable) → Codes g code (alone v x) (ac v x) a) → ((x : Token) (v : Variable) → CodesOn g code (indexed v x) (ic v x) i) → Codes g code other oc a →
         Codes g code (at_target h e alone indexed other) (target_code h e ac ic oc) (target_depth e a i)
@@ -132,11 +138,13 @@ module _ (h : Here) (room : ℕ) (code : List Instr) where
     target-follows (conditional b c e) alone indexed other ac ic oc a i le f d k = k
     target-follows (assignment e o r) alone indexed other ac ic oc a i le f d k = k
 
+    -- `printf`
     print-follows : (all : ArgumentList) → Codes g code (print_of h all) (print_code h all) (print_depth all)
     print-follows no_arguments = pushes-zero 1 (omega arith)
     print-follows (value e rest) = pushes-zero 1 (omega arith)
     print-follows (text t rest) = codes-print (format_number h t) rest (printing-follows (format_number h t) rest)
 
+    -- the values of `printf`
     printing-follows : (f : ℕ) (all : ArgumentList) → PrintsFrom f all
     printing-follows f no_arguments taken n last at s w is is_last there has free enough =
         let e : last ≡ at = omega arith in
@@ -152,6 +160,7 @@ module _ (h : Here) (room : ℕ) (code : List Instr) where
         (value-follows e at (taken ++ s) w (has_front code at ec rc has) (omega (arith, length-append taken s)))
         (λ z u. printing-follows f rest (z ∷ taken) n last (at + length ec) s u (omega arith) next there (has_back code at ec rc has) free (omega arith))
 
+    -- `delay`
     wait-follows : (all : ArgumentList) → Codes g code (wait_of h all) (wait_code h all) (wait_depth all)
     wait-follows no_arguments = pushes-zero 1 (omega arith)
     wait-follows (text t rest) = pushes-zero 1 (omega arith)

@@ -66,6 +66,7 @@ mutual
   print-keeps h (value e rest) n w few = record { is = few }
   print-keeps h (text t rest) n w few = printing-keeps h (format_number h t) rest [] n w few
 
+  -- the values of `printf`
   printing-keeps : (h : Here) (f : ℕ) (all : ArgumentList) (taken : List ℤ) → Keeps (printing_with h f all taken)
   printing-keeps h f no_arguments taken n w few = record { is = few }
   printing-keeps h f (text t rest) taken n w few = printing-keeps h f rest taken n w few

@@ -20,6 +20,7 @@ use Rattle.snl_code.proofs.Following.{has_front, has_back, Quiet, follows-on, fo
 use Rattle.snl_code.proofs.Joins.{Runs, Codes, CodesOn, codes-pushes, on-one, codes-more, on-more, codes-then, on-then, on-held, on-two, on-drop}
 
 module _ (g : Setting) (code : List Instr) where
+  -- the state set
   abbrev set : ℕ
   set = g.set
 
@@ -44,7 +45,8 @@ module _ (g : Setting) (code : List Instr) where
       let e : at + 1 + length (c ++ Apply o op_line ∷ []) ≡ at + length (Peek v ∷ (c ++ Apply o op_line ∷ [])) = omega arith in
       let free : length (k ∷ s) < g.room = omega arith in
       follows-to g code at (k ∷ s) w _ _ _ (λ z. z ∷ k ∷ s) e
-      (follows-then g code at (k ∷ s) w (read set v k w) (λ old u. then_do (right u) (operated o op_line old)) (λ _. at + 1) (λ z. z ∷ k ∷ s) (λ _. at + 1 + length (c ++ Apply o op_line ∷ [])) (λ z. z ∷ k ∷ s)
+      (follows-then g code at (k ∷ s) w (read set v k w) (λ old u. then_do (right u) (operated o op_line old)) (λ _. at + 1) (λ z. z ∷ k ∷ s)
+      (λ _. at + 1 + length (c ++ Apply o op_line ∷ [])) (λ z. z ∷ k ∷ s)
       (follows-step g code (Peek v) at (k ∷ s) w (read set v k w) (λ _. at + 1) (λ z. z ∷ k ∷ s) has.0
       (ap (λ (b : Bool). if b then then_do (read set v k w) (goes_with (at + 1) (k ∷ s)) else Gives Sticks w []) (lt-ltb (length (k ∷ s)) g.room free)))
       (λ old u. on-two g code (Apply o op_line) right (operated o op_line) c d (d + 1) (omega arith) (λ at x y s w. refl) f (at + 1) old (k ∷ s) u has.1 room)))
@@ -53,7 +55,8 @@ module _ (g : Setting) (code : List Instr) where
   pub codes-put : (op : Option Kind) (op_line : ℕ) (right : World → Ran ℤ) (c : List Instr) (d : ℕ) (line : ℕ) → Codes g code right c d → (v : Variable) →
       Codes g code (put_at op op_line right set v line (pos 0)) (put_code op op_line c v line) (d + held_depth op)
   codes-put None op_line right c d line f v =
-      codes-more g code _ _ d (d + 0) (omega arith) (codes-then g code right (stored set v line (pos 0)) c (Store v line ∷ []) d f (on-one g code (Store v line) (stored set v line (pos 0)) (λ at x s w. refl) d))
+      codes-more g code _ _ d (d + 0) (omega arith)
+      (codes-then g code right (stored set v line (pos 0)) c (Store v line ∷ []) d f (on-one g code (Store v line) (stored set v line (pos 0)) (λ at x s w. refl) d))
   codes-put (Some o) op_line right c d line f v =
       codes-then g code (renewed (Some o) op_line right set v (pos 0)) (stored set v line (pos 0)) (Load v ∷ (c ++ Apply o op_line ∷ [])) (Store v line ∷ []) (d + 1)
       (codes-then g code (read set v (pos 0)) (λ old u. then_do (right u) (operated o op_line old)) (Load v ∷ []) (c ++ Apply o op_line ∷ []) (d + 1)
@@ -115,7 +118,8 @@ module _ (g : Setting) (code : List Instr) where
   takes-is : (at : ℕ) (taken s : List ℤ) (w : World) (word : List ℤ → World → Ran ℤ) → length s < g.room →
       takes g (length taken) at (taken ++ s) w word ≡ then_do (word taken w) (goes_with (at + 1) s)
   takes-is at taken s w word room =
-      ap (λ (b : Bool). if b then with_room g.room (drop (length taken) (taken ++ s)) w (then_do (word (take (length taken) (taken ++ s)) w) (goes_with (at + 1) (drop (length taken) (taken ++ s)))) else Gives Sticks w []) (enough taken)
+      ap (λ (b : Bool). if b then with_room g.room (drop (length taken) (taken ++ s)) w (then_do (word (take (length taken) (taken ++ s)) w)
+      (goes_with (at + 1) (drop (length taken) (taken ++ s)))) else Gives Sticks w []) (enough taken)
       ∙ ap (λ (l : List ℤ). with_room g.room l w (then_do (word (take (length taken) (taken ++ s)) w) (goes_with (at + 1) l))) (dropped taken)
       ∙ ap (λ (l : List ℤ). with_room g.room s w (then_do (word l w) (goes_with (at + 1) s))) (kept taken)
       ∙ ap (λ (b : Bool). if b then then_do (word taken w) (goes_with (at + 1) s) else Gives Sticks w []) (lt-ltb (length s) g.room room)

@@ -21,6 +21,7 @@ pub record HasFewer (n : ℕ) (w : World) : Type 0 where
 abbrev pub Keeps : {A : Type 0} → (World → Ran A) → Type 0
 Keeps word = (n : ℕ) (w : World) → w.ticks < n → Leaves (HasFewer n) (word w)
 
+-- the same with what came before
 abbrev pub KeepsOn : {A B : Type 0} → (A → World → Ran B) → Type 0
 KeepsOn {A = A} word = (x : A) → Keeps (word x)
 
@@ -138,5 +139,6 @@ spent-falls n line w few = by w.ticks few
     by zero k = tt
     by (suc left) k = record { is = omega arith }
 
+-- a tick
 pub keeps-spent : (line : ℕ) → Keeps (spent line)
 keeps-spent line n w few = spent-falls n line w (omega arith)

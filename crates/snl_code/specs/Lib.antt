@@ -9,3 +9,6 @@ pub mod ExpressionCode
 pub mod BlockCode
 pub mod Run
 pub mod Right
+pub mod Examples
+pub mod Known
+pub mod Stack

@@ -10,14 +10,40 @@ use Rattle.snl_sites.specs.Constants.{predefined}
 use Rattle.snl_sites.specs.Numbered.{number_of}
 use Rattle.snl_sites.specs.Programs.{sites}
 use Rattle.snl_sites.specs.Scopes.{elements}
-use Rattle.snl_sites.specs.Uses.{declared_of}
+use Rattle.snl_sites.specs.Uses.{declared_in}
 use Rattle.snl_sites.specs.Variables.{Held, variables_of}
 use Rattle.snl_code.specs.declared.instrs.Variable.{Variable}
+pub use Rattle.snl_code.specs.declared.names.Sense.{Sense}
+pub use Rattle.snl_code.specs.declared.names.Sense.TheVariants.{Varies, Stands}
 
--- Where a piece of code stands: in a program, and on which state set's copy it runs.
+-- Where a piece of code stands: what is known of its program, and on which state set's copy it runs.
 pub record Here : Type 0 where
-  pub program : ProgramTree
+  -- the number of the state set, its name, and the names of its states
   pub set : ℕ
+  pub set_name : List ℕ
+  pub states : List Token
+  -- what the names of the program mean, each at its place
+  pub sites : List Site
+  -- the variables of the copy
+  pub variables : List Held
+
+abbrev pub name_by : Option StateSetTree → List ℕ
+name_by None = []
+name_by (Some g) = g.name.text.now
+
+abbrev pub states_by : Option StateSetTree → List Token
+states_by None = []
+states_by (Some g) = map (λ s. s.name) g.states
+
+-- The same of a state set of a program.
+abbrev pub here_in : ProgramTree → ℕ → Here
+here_in p set = record {
+  set = set;
+  set_name = name_by (slice_get p.state_sets set);
+  states = states_by (slice_get p.state_sets set);
+  sites = sites p;
+  variables = variables_of p set;
+}
 
 -- ---- variables
 
@@ -31,18 +57,13 @@ variable_from n (v ∷ vs) offset = if v.name.pos.offset == offset then Some (nu
 
 -- The same among those of the copy. A variable's number is its place in the list of them all.
 abbrev pub variable_at : Here → ℕ → Option Variable
-variable_at h offset = variable_from 0 (variables_of h.program h.set) offset
+variable_at h offset = variable_from 0 h.variables offset
 
 abbrev pub variable_by : Here → Option Pos → Option Variable
 variable_by h None = None
 variable_by h (Some declared) = variable_at h declared.offset
 
 -- ---- names in expressions
-
--- What a name is in an expression: a variable, or a number.
-pub data Sense : Type 0 where
-  Varies : (variable : Variable) → Sense
-  Stands : (number : ℤ) → Sense
 
 abbrev pub or_zero : Option ℤ → ℤ
 or_zero None = pos 0
@@ -55,21 +76,9 @@ sense_by None number = Stands (or_zero number)
 -- The variable that its declaration makes, or else the number that its text is predefined to be. A name that is
 -- neither stands for 0; the rules refuse it.
 abbrev pub sense_of : Here → Token → Sense
-sense_of h x = sense_by (variable_by h (declared_of h.program x.pos.offset)) (predefined x.text.now)
+sense_of h x = sense_by (variable_by h (declared_in x.pos.offset h.sites)) (predefined x.text.now)
 
--- ---- state sets and states
-
-abbrev pub name_by : Option StateSetTree → List ℕ
-name_by None = []
-name_by (Some g) = g.name.text.now
-
--- The name of the state set, as lines have it.
-abbrev pub set_name : Here → List ℕ
-set_name h = name_by (slice_get h.program.state_sets h.set)
-
-abbrev pub state_names : Option StateSetTree → List Token
-state_names None = []
-state_names (Some g) = map (λ s. s.name) g.states
+-- ---- states
 
 abbrev pub or_first : Option ℕ → ℕ
 or_first None = 0
@@ -78,7 +87,7 @@ or_first (Some n) = n
 -- The number of the state that is named, in its state set. An unknown name counts as the first state; the rules
 -- refuse it.
 abbrev pub state_number : Here → Token → ℕ
-state_number h x = or_first (number_of (state_names (slice_get h.program.state_sets h.set)) x.text.now)
+state_number h x = or_first (number_of h.states x.text.now)
 
 -- ---- formats
 
@@ -86,9 +95,9 @@ abbrev pub format_at : Site → List (List ℕ)
 format_at (Format t is_good) = t.text.now ∷ []
 format_at _ = []
 
--- The strings of a program, as spelled, in the order of the source.
-abbrev pub formats_of : ProgramTree → List (List ℕ)
-formats_of p = flat_map format_at (sites p)
+-- The strings of the program, as spelled, in the order of the source.
+abbrev pub formats_of : Here → List (List ℕ)
+formats_of h = flat_map format_at h.sites
 
 -- The number of the first of some texts that is this one; that after the last where none is.
 abbrev pub text_number : List (List ℕ) → List ℕ → ℕ
@@ -101,4 +110,4 @@ text_of texts n = slice_index_or texts n []
 
 -- The number of a string among those of the program.
 abbrev pub format_number : Here → Token → ℕ
-format_number h t = text_number (formats_of h.program) t.text.now
+format_number h t = text_number (formats_of h) t.text.now

@@ -10,7 +10,13 @@ use Rattle.snl_tree.specs.Expressions.{ExprTree, TermList, ArgumentList, constan
 use Rattle.snl_tree.specs.Kinds.{is}
 use Rattle.snl_sites.specs.Arithmetic.{is_zero}
 use Rattle.snl_code.specs.declared.instrs.Variable.{Variable}
-use Rattle.snl_code.specs.Names.{Here, Sense, Varies, Stands, sense_of, set_name, formats_of, format_number, text_of}
+pub use Rattle.snl_code.specs.declared.operators.Function.{Function}
+pub use Rattle.snl_code.specs.declared.operators.Function.TheVariants.{Prints, Delays, Others}
+pub use Rattle.snl_code.specs.declared.operators.Joint.{Joint}
+pub use Rattle.snl_code.specs.declared.operators.Joint.TheVariants.{And, Or, Sequel, Operation}
+pub use Rattle.snl_code.specs.declared.operators.Sign.{Sign}
+pub use Rattle.snl_code.specs.declared.operators.Sign.TheVariants.{Steps, Alone}
+use Rattle.snl_code.specs.Names.{Here, Sense, Varies, Stands, sense_of, formats_of, format_number, text_of}
 use Rattle.snl_code.specs.Ran.{Ran, Gives, Faults, then_do}
 use Rattle.snl_code.specs.Words.{gives, operated, operated_prefix, settled, subscript, read, stored, adjusted, printed, waited}
 use Rattle.snl_code.specs.World.{World}
@@ -44,13 +50,6 @@ one_of right z w = if is_zero z then then_do (right w) settled else Gives (pos 1
 -- ---- operators
 
 -- How an operator joins what stands left of it and its operand.
-pub data Joint : Type 0 where
-  And : Joint
-  Or : Joint
-  -- the comma
-  Sequel : Joint
-  Operation : (operator : Kind) → Joint
-
 abbrev pub joint_of : Kind → Joint
 joint_of kind.AmpersandAmpersand = And
 joint_of kind.BarBar = Or
@@ -78,10 +77,6 @@ compound_of kind.GreaterGreaterEqual = Some kind.GreaterGreater
 compound_of _ = None
 
 -- A sign before or after an operand: `++` and `--` add 1 or take 1 away; all others make a number of a number.
-pub data Sign : Type 0 where
-  Steps : (operator : Kind) → Sign
-  Alone : (operator : Kind) → Sign
-
 abbrev pub sign_of : Kind → Sign
 sign_of kind.PlusPlus = Steps kind.Plus
 sign_of kind.MinusMinus = Steps kind.Minus
@@ -125,11 +120,6 @@ put_at op op_line right set v line k w = then_do (renewed op op_line right set v
 -- ---- calls
 
 -- A function. The others give 0.
-pub data Function : Type 0 where
-  Prints : Function
-  Delays : Function
-  Others : Function
-
 abbrev pub function_of : List ℕ → Function
 function_of name = if bytes_eq name (codes "printf") then Prints else (if bytes_eq name (codes "delay") then Delays else Others)
 
@@ -145,7 +135,7 @@ is_decimal _ = false
 
 -- `printf` with its numbers.
 abbrev pub printing : Here → ℕ → List ℤ → World → Ran ℤ
-printing h format taken w = printed (set_name h) (text_of (formats_of h.program) format) taken w
+printing h format taken w = printed h.set_name (text_of (formats_of h) format) taken w
 
 -- ---- expressions
 
