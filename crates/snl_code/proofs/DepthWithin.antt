@@ -1,9 +1,8 @@
 -- No expression needs more operands than it has tokens.
-use Rattle.std.proofs.Common.{◌≡◌, ◌+◌, ◌≤◌, ℕ, suc, List, [], ◌∷◌, ◌++◌, Option, None, Some, refl, arith, length, length-append}
-use Rattle.std.specs.Prelude.{max}
+use Rattle.std.proofs.Common.{◌≡◌, ◌+◌, ◌≤◌, ℕ, suc, [], ◌∷◌, ◌++◌, Option, None, Some, refl, arith, length, length-append}
 use Rattle.snl_text.specs.declared.kinds.Kind.{Kind}
-use Rattle.snl_text.specs.declared.kinds.Kind.TheVariants.{CloseParenthesis, CloseBracket, Colon, Question, OpenParenthesis, Comma}
-use Rattle.snl_tree.specs.Slots.{Slot, The}
+use Rattle.snl_text.specs.declared.kinds.Kind.TheVariants.{CloseParenthesis, CloseBracket, Colon, Question}
+use Rattle.snl_tree.specs.Slots.{The}
 use Rattle.snl_tree.specs.Slots.{Sign as Mark}
 use Rattle.snl_tree.specs.Expressions.{ExprTree, TermList, ArgumentList, constant, parenthesized, named, element, call, postfix, prefix, chain, conditional, assignment, no_terms, term, no_arguments, value, text, slots, term_slots, argument_slots, more_slots}
 use Rattle.snl_code.specs.ExpressionCode.{expression_depth, terms_depth, target_depth, print_depth, values_depth, wait_depth, called_depth, joint_depth, signed_depth, held_depth}

@@ -1,5 +1,5 @@
 -- No statement gives ticks back.
-use Rattle.std.proofs.Common.{◌≡◌, ◌<◌, ◌≤◌, ℕ, zero, suc, ℤ, pos, Bool, true, false, List, [], ◌∷◌, Option, None, Some, refl, arith}
+use Rattle.std.proofs.Common.{ℕ, zero, suc, pos, Bool, true, false, List, [], ◌∷◌, Option, None, Some}
 use Rattle.snl_tree.specs.Expressions.{ExprTree}
 use Rattle.snl_tree.specs.Declarations.{DeclaratorTree}
 use Rattle.snl_tree.specs.Statements.{StatementTree, StatementList, BlockTree, nested, empty, expression, break_loop, continue_loop, change_state, if_then, if_else, while_loop, for_loop, no_statements, statement, block}
@@ -7,13 +7,12 @@ use Rattle.snl_sites.specs.Arithmetic.{is_zero}
 use Rattle.snl_code.specs.declared.instrs.Variable.{Variable}
 use Rattle.snl_code.specs.Effect.{Way, Done, Broken, Continued, Left, ends, done, if_done, unless_broken, holds, held_by, dropped, evaluated, turned, turns, looped, variable_for, cleared_maybe, all_cleared, begun, begun_with, values_of, all_begun, names_of, entered, effect_of, effects_of, block_effect}
 use Rattle.snl_code.specs.Names.{Here}
-use Rattle.snl_code.specs.Ran.{Ran, Gives, Faults, then_do}
+use Rattle.snl_code.specs.Ran.{Ran, then_do}
 use Rattle.snl_code.specs.Value.{value_of, either}
 use Rattle.snl_code.specs.Words.{spent}
 use Rattle.snl_code.specs.World.{World}
-use Rattle.snl_code.proofs.Following.{Leaves}
 use Rattle.snl_code.proofs.ValueTicks.{value-keeps}
-use Rattle.snl_code.proofs.WordTicks.{HasFewer, Keeps, KeepsOn, leaves-then, leaves-test, keeps-then, keeps-here, keeps-stored, keeps-spent}
+use Rattle.snl_code.proofs.WordTicks.{HasFewer, Keeps, KeepsOn, leaves-test, keeps-then, keeps-here, keeps-stored, keeps-spent}
 
 -- what follows a statement
 if_done-keeps : (go : World → Ran Way) → Keeps go → KeepsOn (if_done go)

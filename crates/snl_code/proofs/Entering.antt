@@ -1,6 +1,5 @@
 -- The code of a block's variables does what the entry of the block does.
-use Rattle.std.proofs.Common.{◌≡◌, ◌∙◌, ◌+◌, ◌<◌, ◌≤◌, ℕ, zero, suc, ℤ, pos, List, [], ◌∷◌, ◌++◌, Option, None, Some, refl, sym, ap, subst, arith, length, length-append}
-use Rattle.std.specs.Prelude.{max}
+use Rattle.std.proofs.Common.{◌≡◌, ◌+◌, ◌≤◌, ℕ, suc, ℤ, List, [], ◌∷◌, ◌++◌, Option, None, Some, refl, arith, length, length-append}
 use Rattle.snl_tree.specs.Expressions.{ExprTree}
 use Rattle.snl_tree.specs.Declarations.{DeclaratorTree}
 use Rattle.snl_code.specs.declared.instrs.Instr.{Instr}
@@ -12,7 +11,7 @@ use Rattle.snl_code.specs.ExpressionCode.{expression_code}
 use Rattle.snl_code.specs.Names.{Here}
 use Rattle.snl_code.specs.Ran.{Ran, Gives, then_do}
 use Rattle.snl_code.specs.Right.{HasAt}
-use Rattle.snl_code.specs.Run.{Setting, setting_of, Step, GoesTo, done_by}
+use Rattle.snl_code.specs.Run.{Setting, setting_of, GoesTo, done_by}
 use Rattle.snl_code.specs.Value.{value_of}
 use Rattle.snl_code.specs.Words.{cleared}
 use Rattle.snl_code.specs.World.{World}

@@ -1,15 +1,13 @@
 -- The code of a word, and how such codes are joined.
-use Rattle.std.proofs.Common.{◌≡◌, ◌∙◌, ◌+◌, ◌<◌, ◌≤◌, ℕ, suc, zero, ℤ, pos, Bool, true, false, List, [], ◌∷◌, ◌++◌, Some, refl, sym, ap, subst, arith, length, length-append, slice_get, if◌then◌else◌}
-use Rattle.std.specs.Prelude.{max, not}
+use Rattle.std.proofs.Common.{◌≡◌, ◌∙◌, ◌+◌, ◌<◌, ◌≤◌, ℕ, ℤ, pos, Bool, true, false, List, [], ◌∷◌, ◌++◌, Some, refl, ap, subst, arith, length, length-append, slice_get, if◌then◌else◌}
 use Rattle.std.proofs.lemmas.Bool.{lt-ltb}
-use Rattle.snl_text.specs.declared.kinds.Kind.{Kind}
-use Rattle.snl_sites.specs.Arithmetic.{is_zero, truth}
+use Rattle.snl_sites.specs.Arithmetic.{is_zero}
 use Rattle.snl_code.specs.declared.instrs.Instr.{Instr}
-use Rattle.snl_code.specs.declared.instrs.Instr.TheVariants.{Push, Apply, Settle, Drop, Jump, JumpIfZero}
+use Rattle.snl_code.specs.declared.instrs.Instr.TheVariants.{Push, Apply, Settle, Drop, Jump}
 use Rattle.snl_code.specs.ExpressionCode.{joint_code, joint_depth}
 use Rattle.snl_code.specs.Ran.{Ran, Gives, then_do}
 use Rattle.snl_code.specs.Right.{HasAt}
-use Rattle.snl_code.specs.Run.{Setting, Step, GoesTo, Sticks, Exit, goes_with, pushes, done_by}
+use Rattle.snl_code.specs.Run.{Setting, GoesTo, Sticks, goes_with, pushes, done_by}
 use Rattle.snl_code.specs.Value.{Joint, And, Or, Sequel, Operation, both, one_of, joined_by}
 use Rattle.snl_code.specs.Words.{settled, operated}
 use Rattle.snl_code.specs.World.{World}

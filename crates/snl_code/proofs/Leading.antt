@@ -1,16 +1,16 @@
 -- Code of a statement: where it leads, and how such facts are joined.
-use Rattle.std.proofs.Common.{◌≡◌, ◌∙◌, ◌+◌, ◌<◌, ◌≤◌, ℕ, suc, ℤ, pos, Bool, true, false, List, [], ◌∷◌, ◌++◌, Option, None, Some, refl, sym, ap, subst, arith, length, length-append, slice_get, if◌then◌else◌}
+use Rattle.std.proofs.Common.{◌≡◌, ◌∙◌, ◌+◌, ◌≤◌, ℕ, ℤ, Bool, true, false, List, [], ◌∷◌, ◌++◌, Option, None, Some, refl, sym, ap, subst, arith, length, length-append, if◌then◌else◌}
 use Rattle.snl_tree.specs.Expressions.{ExprTree}
 use Rattle.snl_sites.specs.Arithmetic.{is_zero}
 use Rattle.snl_code.specs.declared.instrs.Instr.{Instr}
 use Rattle.snl_code.specs.declared.instrs.Instr.TheVariants.{Drop, JumpIfZero}
 use Rattle.snl_code.specs.BlockCode.{dropped_code, test_code, maybe_depth}
-use Rattle.snl_code.specs.Effect.{Way, Done, Broken, Continued, Left, done, if_done, holds, held_by, dropped, evaluated}
+use Rattle.snl_code.specs.Effect.{Way, Done, Broken, Continued, Left, if_done, holds, held_by, dropped, evaluated}
 use Rattle.snl_code.specs.ExpressionCode.{expression_code, expression_depth}
 use Rattle.snl_code.specs.Names.{Here}
 use Rattle.snl_code.specs.Ran.{Ran, Gives, Faults, also, then_do}
 use Rattle.snl_code.specs.Right.{HasAt}
-use Rattle.snl_code.specs.Run.{Setting, setting_of, Exit, LeftFor, exec}
+use Rattle.snl_code.specs.Run.{Setting, setting_of, Exit, LeftFor}
 use Rattle.snl_code.specs.Value.{value_of, either}
 use Rattle.snl_code.specs.World.{World}
 use Rattle.snl_code.proofs.Following.{has_front, has_back, Quiet, Continues, run_at, Follows, quiet-step, follows-then, follows-to, follows-here, continues-here, continues-quiet, continues-then, quiet-none, quiet-if_zero}

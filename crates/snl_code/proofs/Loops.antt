@@ -1,5 +1,5 @@
 -- The code of a loop does what the loop does.
-use Rattle.std.proofs.Common.{◌≡◌, ◌∙◌, ◌+◌, ◌-◌, ◌<◌, ◌≤◌, ℕ, zero, suc, ℤ, pos, Bool, true, false, List, [], ◌∷◌, ◌++◌, Option, None, Some, refl, sym, ap, subst, arith, length, length-append, slice_get, if◌then◌else◌}
+use Rattle.std.proofs.Common.{◌≡◌, ◌+◌, ◌-◌, ◌<◌, ◌≤◌, ℕ, zero, suc, Bool, true, false, List, [], ◌∷◌, ◌++◌, Option, refl, arith, length, length-append, if◌then◌else◌}
 use Rattle.std.specs.Prelude.{max}
 use Rattle.snl_tree.specs.Expressions.{ExprTree}
 use Rattle.snl_code.specs.declared.instrs.Instr.{Instr}
@@ -7,7 +7,7 @@ use Rattle.snl_code.specs.declared.instrs.Instr.TheVariants.{Tick}
 use Rattle.snl_code.specs.BlockCode.{dropped_code, test_code, maybe_depth, loop_code}
 use Rattle.snl_code.specs.Effect.{Way, Done, Broken, Continued, Left, unless_broken, held_by, evaluated, turned, turns, looped}
 use Rattle.snl_code.specs.Names.{Here}
-use Rattle.snl_code.specs.Ran.{Ran, Gives, Faults, then_do}
+use Rattle.snl_code.specs.Ran.{Ran, then_do}
 use Rattle.snl_code.specs.Right.{HasAt}
 use Rattle.snl_code.specs.Run.{Setting, setting_of}
 use Rattle.snl_code.specs.Words.{spent}

@@ -1,5 +1,5 @@
 -- The code of a piece is right for it, wherever it stands.
-use Rattle.std.proofs.Common.{◌≡◌, ◌∙◌, ◌+◌, ◌-◌, ◌*◌, ◌<◌, ◌≤◌, ℕ, suc, ℤ, List, [], ◌∷◌, ◌++◌, Some, refl, sym, ap, subst, arith, length, slice_get}
+use Rattle.std.proofs.Common.{◌≡◌, ◌∙◌, ◌+◌, ◌*◌, ◌≤◌, ℕ, suc, ℤ, List, [], ◌∷◌, Some, refl, sym, ap, subst, arith, length, slice_get}
 use Rattle.snl_tree.specs.Expressions.{ExprTree}
 use Rattle.snl_tree.specs.Statements.{BlockTree}
 use Rattle.snl_code.specs.declared.instrs.Instr.{Instr}
@@ -9,11 +9,11 @@ use Rattle.snl_code.specs.Effect.{Way, Done, Broken, Continued, Left, block_effe
 use Rattle.snl_code.specs.ExpressionCode.{expression_code, expression_depth}
 use Rattle.snl_code.specs.Names.{Here}
 use Rattle.snl_code.specs.Ran.{Ran, Gives, Faults, also, then_do}
-use Rattle.snl_code.specs.Right.{ends_with, led_to, leads_to, HasAt, IsNotStuck, IsConditionAt, IsBlockAt, ConditionsAreRight, BlocksAreRight}
-use Rattle.snl_code.specs.Run.{Setting, setting_of, Exit, Over, LeftFor, step_of, from_there, exec, run_of}
+use Rattle.snl_code.specs.Right.{ends_with, led_to, leads_to, HasAt, IsNotStuck, ConditionsAreRight, BlocksAreRight}
+use Rattle.snl_code.specs.Run.{Setting, setting_of, Exit, Over, step_of, from_there, exec, run_of}
 use Rattle.snl_code.specs.Value.{value_of}
 use Rattle.snl_code.specs.World.{World}
-use Rattle.snl_code.proofs.Ends.{IsOver, enough, not_stuck, left_at}
+use Rattle.snl_code.proofs.Ends.{IsOver, enough, not_stuck}
 use Rattle.snl_code.proofs.Following.{has_front, has_back, Continues, run_at}
 use Rattle.snl_code.proofs.Leading.{led}
 use Rattle.snl_code.proofs.StatementCode.{block-follows}

@@ -1,15 +1,13 @@
 -- The code of a statement and of a block does what they do.
-use Rattle.std.proofs.Common.{◌≡◌, ◌∙◌, ◌+◌, ◌-◌, ◌<◌, ◌≤◌, ℕ, zero, suc, ℤ, pos, Bool, true, false, List, [], ◌∷◌, ◌++◌, Option, None, Some, refl, sym, ap, subst, arith, length, length-append, slice_get}
-use Rattle.std.specs.Prelude.{max}
-use Rattle.snl_tree.specs.Expressions.{ExprTree}
+use Rattle.std.proofs.Common.{◌≡◌, ◌+◌, ◌≤◌, ℕ, List, [], ◌∷◌, ◌++◌, None, Some, refl, ap, arith, length, length-append}
 use Rattle.snl_tree.specs.Statements.{StatementTree, StatementList, BlockTree, nested, empty, expression, break_loop, continue_loop, change_state, if_then, if_else, while_loop, for_loop, no_statements, statement, block}
 use Rattle.snl_code.specs.declared.instrs.Instr.{Instr}
 use Rattle.snl_code.specs.declared.instrs.Instr.TheVariants.{Drop, Jump, JumpIfZero}
-use Rattle.snl_code.specs.BlockCode.{maybe_depth, dropped_code, test_code, loop_code, when_code, entered_code, statement_code, statements_code, block_code, statement_depth, statements_depth, block_depth, entered_depth}
-use Rattle.snl_code.specs.Effect.{Way, Done, Broken, Continued, Left, ends, done, if_done, held_by, evaluated, looped, names_of, entered, effect_of, effects_of, block_effect}
-use Rattle.snl_code.specs.ExpressionCode.{expression_code, expression_depth, if_code}
+use Rattle.snl_code.specs.BlockCode.{dropped_code, test_code, loop_code, when_code, entered_code, statement_code, statements_code, block_code, statement_depth, statements_depth, block_depth}
+use Rattle.snl_code.specs.Effect.{Way, Done, Broken, Continued, ends, done, if_done, held_by, evaluated, looped, names_of, entered, effect_of, effects_of, block_effect}
+use Rattle.snl_code.specs.ExpressionCode.{expression_code, if_code}
 use Rattle.snl_code.specs.Names.{Here}
-use Rattle.snl_code.specs.Ran.{Ran, Gives, then_do}
+use Rattle.snl_code.specs.Ran.{Ran, then_do}
 use Rattle.snl_code.specs.Right.{HasAt}
 use Rattle.snl_code.specs.Run.{Setting, setting_of, step_of, from_there, exec}
 use Rattle.snl_code.specs.Value.{value_of, either}
@@ -17,7 +15,7 @@ use Rattle.snl_code.specs.World.{World}
 use Rattle.snl_code.proofs.EffectTicks.{effect-keeps}
 use Rattle.snl_code.proofs.Entering.{enters}
 use Rattle.snl_code.proofs.Following.{has_front, has_back, Continues, run_at, continues-here, continues-then, quiet-jump, quiet-if_zero}
-use Rattle.snl_code.proofs.Leading.{led, idle, renamed, continues-done, continues-either, goes_on_to, goes_on, drops, drops-maybe}
+use Rattle.snl_code.proofs.Leading.{led, renamed, continues-done, continues-either, goes_on_to, goes_on, drops, drops-maybe}
 use Rattle.snl_code.proofs.Loops.{loop-follows}
 use Rattle.snl_code.proofs.ValueCode.{value-follows}
 

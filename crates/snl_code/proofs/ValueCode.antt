@@ -1,5 +1,5 @@
 -- The code of an expression gives its value.
-use Rattle.std.proofs.Common.{◌≡◌, ◌∙◌, ◌+◌, ◌<◌, ◌≤◌, ℕ, suc, zero, ℤ, pos, Bool, true, false, List, [], ◌∷◌, ◌++◌, Option, None, Some, refl, sym, ap, subst, arith, length, length-append, slice_get}
+use Rattle.std.proofs.Common.{◌≡◌, ◌+◌, ◌<◌, ◌≤◌, ℕ, ℤ, pos, Bool, true, false, List, [], ◌∷◌, ◌++◌, Some, refl, subst, arith, length, length-append, slice_get}
 use Rattle.std.specs.Prelude.{max, not}
 use Rattle.snl_text.specs.declared.kinds.Kind.{Kind}
 use Rattle.snl_text.specs.declared.tokens.Token.{Token}
@@ -9,10 +9,10 @@ use Rattle.snl_code.specs.declared.instrs.Instr.TheVariants.{Push, Get, Adjust, 
 use Rattle.snl_code.specs.declared.instrs.Variable.{Variable}
 use Rattle.snl_code.specs.ExpressionCode.{CodeOn, expression_code, terms_code, target_code, values_code, print_code, wait_code, expression_depth, terms_depth, target_depth, values_depth, print_depth, wait_depth, joint_code, joint_depth, at_code, get_code, put_code, put_at_code, held_depth, count_values}
 use Rattle.snl_code.specs.Names.{Here, sense_of, format_number}
-use Rattle.snl_code.specs.Ran.{Ran, Gives, then_do}
+use Rattle.snl_code.specs.Ran.{Ran}
 use Rattle.snl_code.specs.Right.{HasAt}
 use Rattle.snl_code.specs.Run.{Setting, setting_of}
-use Rattle.snl_code.specs.Value.{Joint, Sign, OnVariable, OnElement, constant_of, function_of, joint_of, compound_of, sign_of, is_decimal, joined_by, put_at, at_subscript, either, value_of, chained, at_target, printing, print_of, printing_with, wait_of}
+use Rattle.snl_code.specs.Value.{OnVariable, OnElement, constant_of, function_of, joint_of, compound_of, sign_of, is_decimal, joined_by, put_at, at_subscript, value_of, chained, at_target, print_of, printing_with, wait_of}
 use Rattle.snl_code.specs.Words.{gives, read, adjusted, waited}
 use Rattle.snl_code.specs.World.{World}
 use Rattle.snl_code.proofs.DepthPositive.{depth-positive}

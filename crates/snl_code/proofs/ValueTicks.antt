@@ -1,14 +1,14 @@
 -- No expression gives ticks back.
-use Rattle.std.proofs.Common.{◌≡◌, ◌<◌, ◌≤◌, ℕ, ℤ, pos, Bool, true, false, List, [], ◌∷◌, refl, arith}
+use Rattle.std.proofs.Common.{ℕ, ℤ, pos, true, false, List, [], ◌∷◌}
 use Rattle.std.specs.Prelude.{not}
 use Rattle.snl_text.specs.declared.tokens.Token.{Token}
 use Rattle.snl_tree.specs.Expressions.{ExprTree, TermList, ArgumentList, constant, parenthesized, named, element, call, postfix, prefix, chain, conditional, assignment, no_terms, term, no_arguments, value, text}
 use Rattle.snl_sites.specs.Arithmetic.{is_zero}
 use Rattle.snl_code.specs.declared.instrs.Variable.{Variable}
 use Rattle.snl_code.specs.Names.{Here, sense_of, format_number}
-use Rattle.snl_code.specs.Ran.{Ran, Gives, then_do}
+use Rattle.snl_code.specs.Ran.{Ran}
 use Rattle.snl_code.specs.Value.{OnVariable, OnElement, function_of, joint_of, compound_of, sign_of, is_decimal, joined_by, either, value_of, chained, at_target, print_of, printing_with, wait_of}
-use Rattle.snl_code.specs.Words.{gives, read, waited}
+use Rattle.snl_code.specs.Words.{gives, read}
 use Rattle.snl_code.specs.World.{World}
 use Rattle.snl_code.proofs.WordTicks.{HasFewer, Keeps, KeepsOn, keeps-then, keeps-here, keeps-adjusted, keeps-joined, keeps-put, keeps-at_subscript, keeps-at_name, keeps-named, keeps-signed, keeps-called, keeps-waited, leaves-test}
 

@@ -1,5 +1,5 @@
 -- The code of the words of an expression does what they do.
-use Rattle.std.proofs.Common.{◌≡◌, ◌∙◌, ◌+◌, ◌<◌, ◌≤◌, ℕ, suc, zero, ℤ, pos, Bool, true, false, List, [], ◌∷◌, ◌++◌, Option, None, Some, refl, sym, ap, subst, arith, length, length-append, slice_get, if◌then◌else◌}
+use Rattle.std.proofs.Common.{◌≡◌, ◌∙◌, ◌+◌, ◌<◌, ◌≤◌, ℕ, ℤ, pos, Bool, true, false, List, [], ◌∷◌, ◌++◌, Option, None, Some, refl, sym, ap, arith, length, length-append, slice_get, if◌then◌else◌}
 use Rattle.std.specs.Prelude.{nat_le, take, drop}
 use Rattle.std.proofs.lemmas.Bool.{lt-ltb, le-leb}
 use Rattle.snl_text.specs.declared.kinds.Kind.{Kind}
@@ -12,12 +12,12 @@ use Rattle.snl_code.specs.ExpressionCode.{name_code, at_code, put_at_code, put_c
 use Rattle.snl_code.specs.Names.{Sense, Varies, Stands, text_of}
 use Rattle.snl_code.specs.Ran.{Ran, Gives, then_do}
 use Rattle.snl_code.specs.Right.{HasAt}
-use Rattle.snl_code.specs.Run.{Setting, GoesTo, Sticks, goes_with, pushes, takes, with_room, done_by}
-use Rattle.snl_code.specs.Value.{Function, Prints, Delays, Others, OnVariable, OnElement, at_name, called, Sign, Steps, Alone, either, renewed, put_at, at_subscript, named_value, signed}
+use Rattle.snl_code.specs.Run.{Setting, Sticks, goes_with, takes, with_room}
+use Rattle.snl_code.specs.Value.{Function, Prints, Delays, Others, OnVariable, at_name, called, Sign, Steps, Alone, either, renewed, put_at, at_subscript, named_value, signed}
 use Rattle.snl_code.specs.Words.{gives, operated, operated_prefix, subscript, read, stored, printed}
 use Rattle.snl_code.specs.World.{World}
 use Rattle.snl_code.proofs.Following.{has_front, has_back, Quiet, follows-on, follows-step, follows-quiet, follows-then, follows-to, quiet-jump, quiet-if_zero}
-use Rattle.snl_code.proofs.Joins.{Runs, Codes, CodesOn, codes-pushes, on-one, codes-more, on-more, codes-then, on-then, on-held, on-two, on-drop}
+use Rattle.snl_code.proofs.Joins.{Runs, Codes, CodesOn, codes-pushes, on-one, codes-more, codes-then, on-then, on-held, on-two, on-drop}
 
 module _ (g : Setting) (code : List Instr) where
   -- the state set

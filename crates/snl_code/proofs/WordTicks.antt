@@ -1,5 +1,5 @@
 -- No word gives ticks back.
-use Rattle.std.proofs.Common.{◌≡◌, ◌+◌, ◌<◌, ◌≤◌, ℕ, zero, suc, ℤ, pos, Bool, true, false, List, [], ◌∷◌, ◌++◌, Option, None, Some, refl, arith, Result, Ok, Err, if◌then◌else◌}
+use Rattle.std.proofs.Common.{◌<◌, ◌≤◌, ℕ, zero, suc, ℤ, pos, Bool, true, false, List, [], Option, None, Some, arith, Result, Ok, Err, if◌then◌else◌}
 use Rattle.std.specs.Prelude.{◌&&◌, int_le, ◌+ℤ◌, ◌*ℤ◌}
 use Rattle.snl_text.specs.declared.kinds.Kind.{Kind}
 use Rattle.snl_text.specs.declared.tokens.Token.{Token}
@@ -8,8 +8,8 @@ use Rattle.snl_sites.specs.Arithmetic.{is_zero, computed, computed_prefix}
 use Rattle.snl_code.specs.declared.instrs.Variable.{Variable}
 use Rattle.snl_code.specs.Names.{Sense, Varies, Stands}
 use Rattle.snl_code.specs.Ran.{Ran, Gives, Faults, also, then_do}
-use Rattle.snl_code.specs.Value.{Joint, And, Or, Sequel, Operation, Sign, Steps, Alone, Function, Prints, Delays, Others, OnVariable, OnElement, either, both, one_of, joined_by, called, signed, renewed, put_at, at_name, at_subscript, named_value}
-use Rattle.snl_code.specs.Words.{gives, operated, operated_prefix, outcome_at, settled, is_subscript, natural, subscript, read, stored, adjusted_to, adjusted, cleared, printed, waited_until, waited, spent_of, spent}
+use Rattle.snl_code.specs.Value.{Joint, And, Or, Sequel, Operation, Sign, Steps, Alone, Function, Prints, Delays, Others, OnVariable, joined_by, called, signed, renewed, put_at, at_name, at_subscript, named_value}
+use Rattle.snl_code.specs.Words.{operated, operated_prefix, outcome_at, settled, is_subscript, natural, subscript, read, stored, adjusted_to, adjusted, waited, spent_of, spent}
 use Rattle.snl_code.specs.World.{World, copy_of, element_of}
 use Rattle.snl_code.proofs.Following.{Leaves}
 

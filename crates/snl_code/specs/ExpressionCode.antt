@@ -1,5 +1,5 @@
 -- The code of an expression, and how many operands it needs at once. The code pushes the value.
-use Rattle.std.specs.Prelude.{ℕ, suc, ◌+◌, ℤ, pos, true, false, not, List, [], ◌∷◌, ◌++◌, Option, None, Some, length, max}
+use Rattle.std.specs.Prelude.{ℕ, suc, ◌+◌, pos, true, false, not, List, [], ◌∷◌, ◌++◌, Option, None, Some, length, max}
 use Rattle.snl_text.specs.declared.kinds.Kind.{Kind}
 use Rattle.snl_text.specs.declared.tokens.Token.{Token}
 use Rattle.snl_tree.specs.Expressions.{ExprTree, TermList, ArgumentList, constant, parenthesized, named, element, call, postfix, prefix, chain, conditional, assignment, no_terms, term, no_arguments, value, text}

@@ -1,5 +1,5 @@
 -- What the names in a piece of code mean, by their declarations.
-use Rattle.std.specs.Prelude.{ℕ, suc, ℤ, pos, ◌==◌, bytes_eq, List, [], ◌∷◌, map, Option, None, Some, option_map, slice_get, slice_index_or, if◌then◌else◌}
+use Rattle.std.specs.Prelude.{ℕ, suc, ℤ, pos, ◌==◌, bytes_eq, List, [], ◌∷◌, map, Option, None, Some, slice_get, slice_index_or, if◌then◌else◌}
 use Rattle.std.specs.List.{flat_map}
 use Rattle.snl_text.specs.declared.tokens.Pos.{Pos}
 use Rattle.snl_text.specs.declared.tokens.Token.{Token}

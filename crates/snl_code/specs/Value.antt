@@ -1,8 +1,7 @@
 -- The value of an expression, for a state set in a world. Operands go from left to right.
-use Rattle.std.specs.Prelude.{ℕ, suc, ℤ, pos, Bool, true, false, not, codes, bytes_eq, List, [], ◌∷◌, Option, None, Some, option_map, if◌then◌else◌}
+use Rattle.std.specs.Prelude.{ℕ, ℤ, pos, Bool, true, false, not, codes, bytes_eq, List, [], ◌∷◌, Option, None, Some, option_map, if◌then◌else◌}
 use Rattle.snl_text.specs.declared.kinds.Kind.{Kind}
 use Rattle.snl_text.specs.declared.kinds.Kind.TheVariants as kind
-use Rattle.snl_text.specs.declared.numbers.DecimalValue.{DecimalValue}
 use Rattle.snl_text.specs.declared.tokens.Token.{Token}
 use Rattle.snl_text.specs.Numbers.{whole_value, decimal_value}
 use Rattle.snl_text.specs.Quotes.{character_value}
@@ -17,7 +16,7 @@ pub use Rattle.snl_code.specs.declared.operators.Joint.TheVariants.{And, Or, Seq
 pub use Rattle.snl_code.specs.declared.operators.Sign.{Sign}
 pub use Rattle.snl_code.specs.declared.operators.Sign.TheVariants.{Steps, Alone}
 use Rattle.snl_code.specs.Names.{Here, Sense, Varies, Stands, sense_of, formats_of, format_number, text_of}
-use Rattle.snl_code.specs.Ran.{Ran, Gives, Faults, then_do}
+use Rattle.snl_code.specs.Ran.{Ran, Gives, then_do}
 use Rattle.snl_code.specs.Words.{gives, operated, operated_prefix, settled, subscript, read, stored, adjusted, printed, waited}
 use Rattle.snl_code.specs.World.{World}
 
