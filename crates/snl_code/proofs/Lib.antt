@@ -1,0 +1,16 @@
+pub mod Following
+pub mod Joins
+pub mod WordCode
+pub mod DepthPositive
+pub mod ValueCode
+pub mod WordTicks
+pub mod ValueTicks
+pub mod EffectTicks
+pub mod Leading
+pub mod Loops
+pub mod Entering
+pub mod StatementCode
+pub mod Nearer
+pub mod Ends
+pub mod Pieces
+pub mod DepthWithin

@@ -1,0 +1,40 @@
+-- The line that `printf` writes.
+use Rattle.std.specs.Prelude.{ℕ, ℤ, ◌-◌, ◌==◌, ◌||◌, List, [], ◌∷◌, ◌++◌, length, take, drop, codes, decimal, Option, None, Some, if◌then◌else◌}
+use Rattle.std.specs.Fmt.{signed_decimal}
+use Rattle.snl_sites.specs.declared.formats.Place.{Place}
+use Rattle.snl_sites.specs.declared.formats.Place.TheVariants.{Plain, Escaped, Percent, Long}
+use Rattle.snl_sites.specs.Formats.{next, converts}
+
+abbrev pub first_shown : List ℤ → List ℕ
+first_shown [] = []
+first_shown (z ∷ zs) = signed_decimal z
+
+-- What a byte of a format writes. A conversion writes the first of the numbers. `\\n`, `\\t` and `\\\\` are written as
+-- they are spelled, and a tab as `\\t`; of `\\"` the quote alone.
+abbrev pub shown_byte : Place → ℕ → List ℤ → List ℕ
+shown_byte Plain b zs = if b == 92 || b == 37 then [] else (if b == 9 then codes "\\t" else b ∷ [])
+shown_byte Escaped b zs = if b == 34 then b ∷ [] else 92 ∷ b ∷ []
+shown_byte Percent b zs = if b == 37 then b ∷ [] else (if b == 100 then first_shown zs else [])
+shown_byte Long b zs = first_shown zs
+
+-- Where no byte may stand, the format goes on plainly; the rules refuse it.
+abbrev pub or_plain : Option Place → Place
+or_plain None = Plain
+or_plain (Some place) = place
+
+-- The bytes of a format, with the numbers in the order in which they are written.
+abbrev pub shown : Place → List ℤ → List ℕ → List ℕ
+shown place zs [] = []
+shown place zs (b ∷ more) = shown_byte place b zs ++ shown (or_plain (next place b)) (if converts place b then drop 1 zs else zs) more
+
+-- A string without its quotes.
+abbrev pub between_quotes : List ℕ → List ℕ
+between_quotes text = take (length text - 2) (drop 1 text)
+
+-- `MS print SS TEXT`
+abbrev pub print_line : ℕ → List ℕ → List ℕ → List ℕ
+print_line ms set text = decimal ms ++ codes " print " ++ set ++ codes " " ++ text ++ 10 ∷ []
+
+-- The line of a string and its numbers.
+abbrev pub printed_line : ℕ → List ℕ → List ℕ → List ℤ → List ℕ
+printed_line ms set format zs = print_line ms set (shown Plain zs (between_quotes format))

@@ -1,0 +1,17 @@
+//! What the pieces of a program do, and the flat code that does it.
+#![tactic(auto)]
+
+mod faults;
+mod instrs;
+pub mod laws;
+mod names;
+mod operands;
+mod operators;
+
+pub use faults::Fault;
+pub use instrs::{Instr, Variable};
+pub use names::{Known, Sense};
+pub use operands::Operands;
+pub use operators::{
+    Function, Joint, Sign, compound_of, function_of, is_decimal, joint_of, sign_of,
+};

@@ -1,0 +1,74 @@
+//! What the names in a piece of code mean.
+
+ghost use Rattle.std.specs.Prelude.{◌≡◌, map};
+ghost use Rattle.snl_sites.specs.Held.{held_view};
+ghost use Rattle.snl_code.specs.Names as spec;
+ghost use Rattle.snl_code.specs.Known.{here_of};
+
+use crate::instrs::Variable;
+use snl_sites::{Held, Site, declared_in, predefined};
+use snl_text::Token;
+
+/// What a name is in an expression.
+#[derive(Clone, Copy)]
+pub enum Sense {
+    /// A variable of the copy.
+    Varies(Variable),
+    /// A number.
+    Stands(i64),
+}
+
+/// What is known where a piece of code stands.
+pub struct Known<'s, 'p, 'a> {
+    /// The number of the state set on whose copy the piece runs.
+    pub set: usize,
+    pub set_name: &'a [u8],
+    /// The names of its states.
+    pub states: &'s [Token<'a>],
+    /// The sites of the program.
+    pub sites: &'s [Site<'a>],
+    /// The variables of the copy.
+    pub variables: &'s [Held<'p, 'a>],
+}
+
+fn numbered(number: usize, held: &Held) -> Variable
+    ensures { result ≡ spec.numbered number (held_view held.now) }
+{
+    let (least, greatest) = held.range;
+    Variable {
+        number,
+        size: held.size.elements(),
+        least,
+        greatest,
+    }
+}
+
+/// The variable that is declared at an offset.
+fn variable_at(variables: &[Held], offset: usize) -> Option<Variable>
+    ensures { result ≡ spec.variable_from 0 (map held_view variables.now) offset }
+{
+    for number in 0..variables.len() {
+        if variables[number].name.pos.offset == offset {
+            return Some(numbered(number, &variables[number]));
+        }
+    }
+    None
+}
+
+impl<'s, 'p, 'a> Known<'s, 'p, 'a> {
+    /// The variable that a name's declaration makes, or else the number that its text is predefined
+    /// to be. A name that is neither stands for 0.
+    pub fn sense(&self, name: Token<'a>) -> Sense
+        ensures { result ≡ spec.sense_of (here_of self.now) name.entry }
+    {
+        let declared = declared_in(name.pos.offset, self.sites);
+        let variable = match declared {
+            Some(place) => variable_at(self.variables, place.offset),
+            None => None,
+        };
+        match variable {
+            Some(variable) => Sense::Varies(variable),
+            None => Sense::Stands(predefined(name.text).unwrap_or(0)),
+        }
+    }
+}
