@@ -47,7 +47,8 @@ module _ {A B C : Type 0} (thin : A → Bool) (Stands : A → B → Type 0) (sho
   and_false false b e = refl
 
   -- with one more smaller tree found, the rest is one shorter
-  pub one_left_less : (all rest : List C) (found : List B) (x : C) (y : B) → AllBut thin Stands show xs all found → all ≡ x ∷ rest → thin (show x) ≡ true → Stands (show x) y → AllBut thin Stands show xs rest (found ++ y ∷ [])
+  pub one_left_less : (all rest : List C) (found : List B) (x : C) (y : B) → AllBut thin Stands show xs all found → all ≡ x ∷ rest → thin (show x) ≡ true → Stands (show x) y
+      → AllBut thin Stands show xs rest (found ++ y ∷ [])
   one_left_less all rest found x y h e t s = record {
     same = h.same ∙ ap (λ z. list_all thin (map show z)) e ∙ and_true (thin (show x)) (list_all thin (map show rest)) t;
     stand = λ bs k. subst (λ (z : List B). StandEach Stands (map show xs) z) (sym (append_assoc found (y ∷ []) bs))
@@ -67,7 +68,8 @@ module _ {A B C : Type 0} (thin : A → Bool) (Stands : A → B → Type 0) (sho
   )
 
   -- with the tree for the next place found, those found stand up to the place after it
-  pub one_more : (i : ℕ) (found : List B) (x : C) (y : B) → EachSoFar thin Stands show xs i found → i < length xs → x ≡ get_or xs i x → thin (show x) ≡ true → Stands (show x) y → EachSoFar thin Stands show xs (i + 1) (found ++ y ∷ [])
+  pub one_more : (i : ℕ) (found : List B) (x : C) (y : B) → EachSoFar thin Stands show xs i found → i < length xs → x ≡ get_or xs i x → thin (show x) ≡ true → Stands (show x) y
+      → EachSoFar thin Stands show xs (i + 1) (found ++ y ∷ [])
   one_more i found x y h l e = one_left_less (drop i xs) (drop (i + 1) xs) found x y h (next i x l e)
 
   -- where the one at a place is not thin, not all of the list are
@@ -154,11 +156,14 @@ pub terms_are_none : (b : Box whole.Expr Global) (v : WholeTerms) → list_all i
 terms_are_none b v e = sum_test b v ∙ and_second (is_sum (view b.value)) _ e
 
 -- a smaller chain whose parts stand for those of a chain is that chain
-same_chain : (b : Box whole.Expr Global) (v : WholeTerms) (c : Box Expr Global) (w : Vec Term Global) → wide c.value ≡ view b.value → StandEach StandsForTerm (map pair_of v.items) w.items → wide (Chain c w) ≡ view (whole.Chain b v)
-same_chain b v c w e s = wide_chain c w ∙ ap (λ z. chain z (term_list (map wide_pair w.items))) e ∙ ap (λ z. chain (view b.value) (term_list z)) (same_terms (map pair_of v.items) w.items s) ∙ sym (view_chain b v)
+same_chain : (b : Box whole.Expr Global) (v : WholeTerms) (c : Box Expr Global) (w : Vec Term Global) → wide c.value ≡ view b.value → StandEach StandsForTerm (map pair_of v.items) w.items
+    → wide (Chain c w) ≡ view (whole.Chain b v)
+same_chain b v c w e s =
+    wide_chain c w ∙ ap (λ z. chain z (term_list (map wide_pair w.items))) e ∙ ap (λ z. chain (view b.value) (term_list z)) (same_terms (map pair_of v.items) w.items s) ∙ sym (view_chain b v)
 
 -- smaller parts that stand for those of a sum make a sum that stands for it
-pub sum_found : (b : Box whole.Expr Global) (v : WholeTerms) (c : Box Expr Global) (w : Vec Term Global) → is_sum (view b.value) ≡ true → wide c.value ≡ view b.value → (list_all is_joined (map pair_of v.items) ≡ true) × StandEach StandsForTerm (map pair_of v.items) w.items → (is_sum (view (whole.Chain b v)) ≡ true) × (wide (Chain c w) ≡ view (whole.Chain b v))
+pub sum_found : (b : Box whole.Expr Global) (v : WholeTerms) (c : Box Expr Global) (w : Vec Term Global) → is_sum (view b.value) ≡ true → wide c.value ≡ view b.value
+    → (list_all is_joined (map pair_of v.items) ≡ true) × StandEach StandsForTerm (map pair_of v.items) w.items → (is_sum (view (whole.Chain b v)) ≡ true) × (wide (Chain c w) ≡ view (whole.Chain b v))
 sum_found b v c w e f s = (sum_test b v ∙ and_both (is_sum (view b.value)) _ e s.0, same_chain b v c w f s.1)
 
 -- comparisons
@@ -168,7 +173,8 @@ comparison_test : (e : ExprTree) (ps : List (Token × ExprTree)) (p : Token × E
 comparison_test e ps p h = ap (λ z. is_comparison (chain e (term_list z))) h
 
 -- a chain that holds one term is a comparison by its operator and its two sums
-pub compared : (b : Box whole.Expr Global) (v : WholeTerms) (t : whole_term.Term) → v.items ≡ t ∷ [] → is_comparison (view (whole.Chain b v)) ≡ ((compares t.operator.kind && is_sum (view b.value)) && is_sum (boxed t.operand))
+pub compared : (b : Box whole.Expr Global) (v : WholeTerms) (t : whole_term.Term) → v.items ≡ t ∷ []
+    → is_comparison (view (whole.Chain b v)) ≡ ((compares t.operator.kind && is_sum (view b.value)) && is_sum (boxed t.operand))
 compared b v t e = ap is_comparison (view_chain b v) ∙ comparison_test (view b.value) (map pair_of v.items) (pair_of t) (ap (map pair_of) e)
 
 -- a list of terms that is not one makes no comparison
@@ -182,7 +188,8 @@ pub not_compared : (b : Box whole.Expr Global) (v : WholeTerms) → (length v.it
 not_compared b v h = ap is_comparison (view_chain b v) ∙ not_one (view b.value) v.items h
 
 -- smaller sums that stand for those of a comparison make one that stands for it
-pub comparison_found : (b : Box whole.Expr Global) (v : WholeTerms) (t : whole_term.Term) (c : Box Expr Global) (w : Vec Term Global) (u : Term) → v.items ≡ t ∷ [] → w.items ≡ u ∷ [] → u.operator ≡ t.operator → compares t.operator.kind ≡ true → is_sum (view b.value) ≡ true → is_sum (boxed t.operand) ≡ true → wide c.value ≡ view b.value → wide u.operand ≡ boxed t.operand
+pub comparison_found : (b : Box whole.Expr Global) (v : WholeTerms) (t : whole_term.Term) (c : Box Expr Global) (w : Vec Term Global) (u : Term) → v.items ≡ t ∷ [] → w.items ≡ u ∷ []
+    → u.operator ≡ t.operator → compares t.operator.kind ≡ true → is_sum (view b.value) ≡ true → is_sum (boxed t.operand) ≡ true → wide c.value ≡ view b.value → wide u.operand ≡ boxed t.operand
     → (is_comparison (view (whole.Chain b v)) ≡ true) × (wide (Chain c w) ≡ view (whole.Chain b v))
 comparison_found b v t c w u e f o k s r g h = (
   compared b v t e ∙ and_both (compares t.operator.kind && is_sum (view b.value)) _ (and_both (compares t.operator.kind) _ k s) r,
@@ -218,7 +225,8 @@ not_one_argument (Value' p e ∷ Text t ∷ all) h = refl
 not_one_argument (Text t ∷ b ∷ all) h = refl
 
 -- `pvPut` with one name is thin, and the smaller statement stands for it
-pub put_found : (f x : Token) (all : ArgumentList) → is_spelled (codes "pvPut") f ≡ true → is_one_name all ≡ true → all ≡ value (named x) no_arguments → (is_thin_statement (expression (call f all)) ≡ true) × StandsForStatement (expression (call f all)) (stmt.Put x)
+pub put_found : (f x : Token) (all : ArgumentList) → is_spelled (codes "pvPut") f ≡ true → is_one_name all ≡ true → all ≡ value (named x) no_arguments
+    → (is_thin_statement (expression (call f all)) ≡ true) × StandsForStatement (expression (call f all)) (stmt.Put x)
 put_found f x all s o e = (and_both _ _ s o, subst (λ (z : ArgumentList). StandsForStatement (expression (call f z)) (stmt.Put x)) (sym e) refl)
 
 -- what is missing, and lists of statements

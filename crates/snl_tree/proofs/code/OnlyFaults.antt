@@ -15,14 +15,16 @@ pub record Says {A : Type 0} (view : A → ProgramTree) (limit : ℕ) (ts : List
   pub too_deep : (k : ℕ) → r ≡ Err (TooDeep k) → IsTooDeep programs limit ts k
 
 -- a token that is unexpected is the one given
-pub only_unexpected : {A : Type 0} (view : A → ProgramTree) (limit : ℕ) (ts : List Token) (r : Result A ParseFault) → Says view limit ts r → (k : ℕ) → IsUnexpected programs limit ts k → IsOnlyFault r (Unexpected k)
+pub only_unexpected : {A : Type 0} (view : A → ProgramTree) (limit : ℕ) (ts : List Token) (r : Result A ParseFault) → Says view limit ts r → (k : ℕ)
+    → IsUnexpected programs limit ts k → IsOnlyFault r (Unexpected k)
 only_unexpected view limit ts (Ok a) s k u = spelled_not_unexpected programs limit ts k (view a) s.found.0 s.found.1 u
 only_unexpected view limit ts (Err (Unexpected j)) s k u = ap (λ z. Unexpected z) (one_unexpected programs limit ts j k (s.unexpected j refl) u)
 only_unexpected view limit ts (Err (TooDeep j)) s k u = absurd (unexpected_not_too_deep programs limit ts k j u (s.too_deep j refl))
 only_unexpected view limit ts (Err Memory) s k u = tt
 
 -- a token that is too deep is the one given
-pub only_too_deep : {A : Type 0} (view : A → ProgramTree) (limit : ℕ) (ts : List Token) (r : Result A ParseFault) → Says view limit ts r → (k : ℕ) → IsTooDeep programs limit ts k → IsOnlyFault r (TooDeep k)
+pub only_too_deep : {A : Type 0} (view : A → ProgramTree) (limit : ℕ) (ts : List Token) (r : Result A ParseFault) → Says view limit ts r → (k : ℕ)
+    → IsTooDeep programs limit ts k → IsOnlyFault r (TooDeep k)
 only_too_deep view limit ts (Ok a) s k d = spelled_not_too_deep programs limit ts k (view a) s.found.0 s.found.1 d
 only_too_deep view limit ts (Err (Unexpected j)) s k d = absurd (unexpected_not_too_deep programs limit ts j k (s.unexpected j refl) d)
 only_too_deep view limit ts (Err (TooDeep j)) s k d = ap (λ z. TooDeep z) (one_too_deep programs limit ts j k (s.too_deep j refl) d)

@@ -11,6 +11,7 @@ opened_some zero test opener ts h = absurd (omega arith)
 opened_some (suc n) test opener ts h = refl
 
 -- where no depth is left, a sign that would open a part is too deep
-pub opened_none : {A : Type 0} (n : ℕ) (test : Kind → Bool) (opener : Reader A) (ts : List Token) → n ≡ 0 → opened n test opener ts ≡ elim (starts test ts) [ true ↦ Err (Deep ts) | false ↦ Err (Stuck ts) ]
+pub opened_none : {A : Type 0} (n : ℕ) (test : Kind → Bool) (opener : Reader A) (ts : List Token) → n ≡ 0
+    → opened n test opener ts ≡ elim (starts test ts) [ true ↦ Err (Deep ts) | false ↦ Err (Stuck ts) ]
 opened_none zero test opener ts h = refl
 opened_none (suc n) test opener ts h = absurd cc

@@ -37,7 +37,8 @@ leaves_free make closed e (Ok x) = ends_all (λ k. k ≡ Else → closed (make x
 leaves_free make closed e (Err f) = tt
 
 -- what is made of a part leaves an `else` only where the part does
-leaves_made : {A B : Type 0} (make : A → B) (closed : A → Bool) (closed_tree : B → Bool) → ((a : A) → closed_tree (make a) ≡ closed a) → (r : Read A) → Leaves closed r → Leaves closed_tree (r >>= λ x. Ok (make x.0, x.1))
+leaves_made : {A B : Type 0} (make : A → B) (closed : A → Bool) (closed_tree : B → Bool) → ((a : A) → closed_tree (make a) ≡ closed a) → (r : Read A) → Leaves closed r
+    → Leaves closed_tree (r >>= λ x. Ok (make x.0, x.1))
 leaves_made make closed closed_tree e (Ok x) h = subst (λ b. Ends (λ k. k ≡ Else → b ≡ true) x.1) (sym (e x.0)) h
 leaves_made make closed closed_tree e (Err f) h = tt
 
@@ -47,7 +48,8 @@ leaves_second a closed (Ok y) h = h
 leaves_second a closed (Err f) h = tt
 
 -- two parts leave an `else` only where the second does
-leaves_both : {A B : Type 0} (second : A → Reader B) (closed : B → Bool) → ((a : A) (ts : List Token) → Leaves closed (second a ts)) → (r : Read A) → Leaves {A = A × B} (λ x. closed x.1) (r >>= λ x. second x.0 x.1 >>= λ y. Ok ((x.0, y.0), y.1))
+leaves_both : {A B : Type 0} (second : A → Reader B) (closed : B → Bool) → ((a : A) (ts : List Token) → Leaves closed (second a ts)) → (r : Read A)
+    → Leaves {A = A × B} (λ x. closed x.1) (r >>= λ x. second x.0 x.1 >>= λ y. Ok ((x.0, y.0), y.1))
 leaves_both second closed h (Ok x) = leaves_second x.0 closed (second x.0 x.1) (h x.0 x.1)
 leaves_both second closed h (Err f) = tt
 
@@ -57,7 +59,9 @@ Tidy None = Unit {0}
 Tidy (Some d) = (ts : List Token) → Leaves is_closed (d ts)
 
 -- a nested part leaves an `else` only where what is inside does
-leaves_under : {A B : Type 0} (i : Inner) → Tidy i → (test : Kind → Bool) (opener : Reader A) (inner : Reader StatementTree → Reader B) (closed : B → Bool) → ((d : Reader StatementTree) → ((ts : List Token) → Leaves is_closed (d ts)) → (ts : List Token) → Leaves closed (inner d ts)) → (ts : List Token) → Leaves {A = A × B} (λ x. closed x.1) (under test i opener inner ts)
+leaves_under : {A B : Type 0} (i : Inner) → Tidy i → (test : Kind → Bool) (opener : Reader A) (inner : Reader StatementTree → Reader B) (closed : B → Bool)
+    → ((d : Reader StatementTree) → ((ts : List Token) → Leaves is_closed (d ts)) → (ts : List Token) → Leaves closed (inner d ts)) → (ts : List Token)
+    → Leaves {A = A × B} (λ x. closed x.1) (under test i opener inner ts)
 leaves_under {A} {B} None h test opener inner closed f ts = go (starts test ts)
   where
     go : (b : Bool) → Leaves {A = A × B} (λ x. closed x.1) (elim b [ true ↦ Err (Deep ts) | false ↦ Err (Stuck ts) ])
@@ -90,16 +94,19 @@ left_part (Ok x) h = h
 left_part (Err f) h = tt
 
 -- an `else` part leaves no further `else` that it would take
-leaves_else : (d : Reader StatementTree) → ((ts : List Token) → Leaves is_closed (d ts)) → (closed : Bool) (ts : List Token) → Ends (λ k. k ≡ Else → closed ≡ true) ts → Leaves else_closed (else_at closed d ts)
+leaves_else : (d : Reader StatementTree) → ((ts : List Token) → Leaves is_closed (d ts)) → (closed : Bool) (ts : List Token) → Ends (λ k. k ≡ Else → closed ≡ true) ts
+    → Leaves else_closed (else_at closed d ts)
 leaves_else d h true ts e = go (starts (is Else) ts) refl
   where
-    go : (b : Bool) → starts (is Else) ts ≡ b → Leaves {A = Else_part} else_closed (elim b [ true ↦ (both (sign Else) (λ _. d) ts >>= λ x. Ok (inl x.0, x.1)) | false ↦ (nothing ts >>= λ y. Ok (inr y.0, y.1)) ])
+    go : (b : Bool) → starts (is Else) ts ≡ b → Leaves {A = Else_part} else_closed (elim b
+        [ true ↦ (both (sign Else) (λ _. d) ts >>= λ x. Ok (inl x.0, x.1)) | false ↦ (nothing ts >>= λ y. Ok (inr y.0, y.1)) ])
     go true k = left_part (both (sign Else) (λ _. d) ts) (leaves_both (λ _. d) is_closed (λ _. h) (sign Else ts))
     go false k = none_here ts k
 leaves_else d h false ts e = e
 
 -- the statement of an `if` and its `else` part leave no `else` that they would take
-leaves_chosen : (d : Reader StatementTree) → ((ts : List Token) → Leaves is_closed (d ts)) → (ts : List Token) → Leaves {A = StatementTree × Else_part} (λ x. else_closed x.1) (both d (λ s. else_at (is_closed s) d) ts)
+leaves_chosen : (d : Reader StatementTree) → ((ts : List Token) → Leaves is_closed (d ts)) → (ts : List Token)
+    → Leaves {A = StatementTree × Else_part} (λ x. else_closed x.1) (both d (λ s. else_at (is_closed s) d) ts)
 leaves_chosen d h ts = go (d ts) (h ts)
   where
     go : (r : Read StatementTree) → Leaves is_closed r → Leaves {A = StatementTree × Else_part} (λ x. else_closed x.1) (r >>= λ x. else_at (is_closed x.0) d x.1 >>= λ y. Ok ((x.0, y.0), y.1))
@@ -115,7 +122,8 @@ module _ (l : ℕ) (i : Inner) (h : Tidy i) where
   -- an `if` statement leaves no `else` that it would take
   leaves_if : (ts : List Token) → Leaves is_closed (if_at l i ts)
   unfolding if_at
-  leaves_if ts = leaves_made {A = Unit {0} × (ExprTree × (StatementTree × Else_part))} (λ x. if_tree x.1.0 x.1.1.0 x.1.1.1) (λ x. else_closed x.1.1.1) is_closed (λ x. if_tree_closed x.1.0 x.1.1.0 x.1.1.1)
+  leaves_if ts =
+      leaves_made {A = Unit {0} × (ExprTree × (StatementTree × Else_part))} (λ x. if_tree x.1.0 x.1.1.0 x.1.1.1) (λ x. else_closed x.1.1.1) is_closed (λ x. if_tree_closed x.1.0 x.1.1.0 x.1.1.1)
       (under (is If) i (sign If) (λ d. both (condition_at l) (λ _. both d (λ s. else_at (is_closed s) d))) ts)
       (leaves_under {B = ExprTree × (StatementTree × Else_part)} i h (is If) (sign If) (λ d. both (condition_at l) (λ _. both d (λ s. else_at (is_closed s) d))) (λ x. else_closed x.1.1)
       (λ d k ts. leaves_both {B = StatementTree × Else_part} (λ _. both d (λ s. else_at (is_closed s) d)) (λ x. else_closed x.1) (λ _. leaves_chosen d k) (condition_at l ts)) ts)
@@ -123,14 +131,20 @@ module _ (l : ℕ) (i : Inner) (h : Tidy i) where
   -- a `while` loop leaves no `else` that it would take
   leaves_while : (ts : List Token) → Leaves is_closed (while_at l i ts)
   unfolding while_at
-  leaves_while ts = leaves_made {A = Token × (ExprTree × StatementTree)} (λ x. while_loop x.0 x.1.0 x.1.1) (λ x. is_closed x.1.1) is_closed (λ x. refl) (under (is While) i (one (is While)) (λ d. both (condition_at l) (λ _. d)) ts)
-      (leaves_under {B = ExprTree × StatementTree} i h (is While) (one (is While)) (λ d. both (condition_at l) (λ _. d)) (λ x. is_closed x.1) (λ d k ts. leaves_both (λ _. d) is_closed (λ _. k) (condition_at l ts)) ts)
+  leaves_while ts =
+      leaves_made {A = Token × (ExprTree × StatementTree)} (λ x. while_loop x.0 x.1.0 x.1.1) (λ x. is_closed x.1.1) is_closed (λ x. refl)
+      (under (is While) i (one (is While)) (λ d. both (condition_at l) (λ _. d)) ts)
+      (leaves_under {B = ExprTree × StatementTree} i h (is While) (one (is While)) (λ d. both (condition_at l) (λ _. d)) (λ x. is_closed x.1)
+      (λ d k ts. leaves_both (λ _. d) is_closed (λ _. k) (condition_at l ts)) ts)
 
   -- a `for` loop leaves no `else` that it would take
   leaves_for : (ts : List Token) → Leaves is_closed (for_at l i ts)
   unfolding for_at
-  leaves_for ts = leaves_made {A = Token × (Header × StatementTree)} (λ x. for_loop x.0 x.1.0 x.1.1) (λ x. is_closed x.1.1) is_closed (λ x. refl) (under (is For) i (one (is For)) (λ d. both (header_at l) (λ _. d)) ts)
-      (leaves_under {B = Header × StatementTree} i h (is For) (one (is For)) (λ d. both (header_at l) (λ _. d)) (λ x. is_closed x.1) (λ d k ts. leaves_both (λ _. d) is_closed (λ _. k) (header_at l ts)) ts)
+  leaves_for ts =
+      leaves_made {A = Token × (Header × StatementTree)} (λ x. for_loop x.0 x.1.0 x.1.1) (λ x. is_closed x.1.1) is_closed (λ x. refl)
+      (under (is For) i (one (is For)) (λ d. both (header_at l) (λ _. d)) ts)
+      (leaves_under {B = Header × StatementTree} i h (is For) (one (is For)) (λ d. both (header_at l) (λ _. d)) (λ x. is_closed x.1)
+      (λ d k ts. leaves_both (λ _. d) is_closed (λ _. k) (header_at l ts)) ts)
 
   -- a statement that nests none leaves no `else` that it would take
   leaves_word : (ts : List Token) → Leaves is_closed (word_statement_at l ts)
@@ -163,26 +177,33 @@ leaves_at l n ts = leaves_statement l (statements_inside l n) (tidy l n) ts
 -- The forms.
 
 -- a part nested in a statement is read after the sign that opens it
-nested_form : {A B : Type 0} (l n : ℕ) (test : Kind → Bool) (opener : Reader A) (inner : Reader StatementTree → Reader B) (ts : List Token) → under test (statements_inside l n) opener inner ts ≡ (opened n test opener ts >>= λ x. inner (statement_at l (n - 1)) x.1 >>= λ y. Ok ((x.0, y.0), y.1))
+nested_form : {A B : Type 0} (l n : ℕ) (test : Kind → Bool) (opener : Reader A) (inner : Reader StatementTree → Reader B) (ts : List Token)
+    → under test (statements_inside l n) opener inner ts ≡ (opened n test opener ts >>= λ x. inner (statement_at l (n - 1)) x.1 >>= λ y. Ok ((x.0, y.0), y.1))
 nested_form l = under_given (statements_inside l) (statement_at l) refl (λ _. refl)
 
 -- a block is read as a brace, declarations, statements and a brace
-pub block_form : (l n : ℕ) (ts : List Token) → block_at l n ts ≡ (opened n (is OpenBrace) (sign OpenBrace) ts >>= λ x. declarations_at l x.1 >>= λ y. statement_row_at l (n - 1) y.1 >>= λ z. sign CloseBrace z.1 >>= λ u. Ok (block y.0 (statement_list z.0), u.1))
+pub block_form : (l n : ℕ) (ts : List Token) → block_at l n ts ≡ (opened n (is OpenBrace) (sign OpenBrace) ts >>= λ x. declarations_at l x.1 >>= λ y. statement_row_at l (n - 1) y.1 >>= λ z. sign
+    CloseBrace z.1 >>= λ u. Ok (block y.0 (statement_list z.0), u.1))
 unfolding block_of statements_at statement_row_at
-block_form l n ts = ap (λ r. r >>= λ x. Ok (block x.0.1.0 x.0.1.1, x.1)) (nested_form l n (is OpenBrace) (sign OpenBrace) (λ d. both (declarations_at l) (λ _. before (statements_at d) CloseBrace)) ts) ∙ simp bind_assoc
+block_form l n ts =
+    ap (λ r. r >>= λ x. Ok (block x.0.1.0 x.0.1.1, x.1)) (nested_form l n (is OpenBrace) (sign OpenBrace) (λ d. both (declarations_at l) (λ _. before (statements_at d) CloseBrace)) ts) ∙ simp
+    bind_assoc
 
 -- a `while` loop is read as its word, a condition and a statement
-pub while_form : (l n : ℕ) (ts : List Token) → while_at l (statements_inside l n) ts ≡ (opened n (is While) (one (is While)) ts >>= λ x. condition_at l x.1 >>= λ y. statement_at l (n - 1) y.1 >>= λ z. Ok (while_loop x.0 y.0 z.0, z.1))
+pub while_form : (l n : ℕ) (ts : List Token) → while_at l (statements_inside l n) ts ≡ (opened n (is While) (one (is While)) ts >>= λ x. condition_at l x.1 >>= λ y. statement_at l (n - 1) y.1
+    >>= λ z. Ok (while_loop x.0 y.0 z.0, z.1))
 unfolding while_at
 while_form l n ts = ap (λ r. r >>= λ x. Ok (while_loop x.0.0 x.0.1.0 x.0.1.1, x.1)) (nested_form l n (is While) (one (is While)) (λ d. both (condition_at l) (λ _. d)) ts) ∙ simp bind_assoc
 
 -- a `for` loop is read as its word, a header and a statement
-pub for_form : (l n : ℕ) (ts : List Token) → for_at l (statements_inside l n) ts ≡ (opened n (is For) (one (is For)) ts >>= λ x. header_at l x.1 >>= λ y. statement_at l (n - 1) y.1 >>= λ z. Ok (for_loop x.0 y.0 z.0, z.1))
+pub for_form : (l n : ℕ) (ts : List Token) → for_at l (statements_inside l n) ts ≡ (opened n (is For) (one (is For)) ts >>= λ x. header_at l x.1 >>= λ y. statement_at l (n - 1) y.1 >>= λ z.
+    Ok (for_loop x.0 y.0 z.0, z.1))
 unfolding for_at
 for_form l n ts = ap (λ r. r >>= λ x. Ok (for_loop x.0.0 x.0.1.0 x.0.1.1, x.1)) (nested_form l n (is For) (one (is For)) (λ d. both (header_at l) (λ _. d)) ts) ∙ simp bind_assoc
 
 -- an `else` is read wherever one stands, since none is left after an open statement
-else_form : (l n : ℕ) (c : ExprTree) (s : StatementTree) (closed : Bool) (ts : List Token) → Ends (λ k. k ≡ Else → closed ≡ true) ts → (else_at closed (statement_at l n) ts >>= λ y. Ok (if_tree c s y.0, y.1)) ≡ if_rest l n c s ts
+else_form : (l n : ℕ) (c : ExprTree) (s : StatementTree) (closed : Bool) (ts : List Token) → Ends (λ k. k ≡ Else → closed ≡ true) ts
+    → (else_at closed (statement_at l n) ts >>= λ y. Ok (if_tree c s y.0, y.1)) ≡ if_rest l n c s ts
 unfolding if_rest
 else_form l n c s true ts e =
     either_form (is Else) (both (sign Else) (λ _. statement_at l n)) nothing ts (λ y. Ok (if_tree c s y.0, y.1))
@@ -193,24 +214,28 @@ else_form l n c s false ts e = go (starts (is Else) ts) (absent ts e)
     absent [] e = refl
     absent (t ∷ ts) e = not_is Else t.kind (λ h. true≢false (sym (e h)))
 
-    go : (b : Bool) → b ≡ false → ◌≡◌ {A = Read StatementTree} (Ok (if_then c s, ts)) (elim b [ true ↦ (sign Else ts >>= λ x. statement_at l n x.1 >>= λ y. Ok (if_else c s y.0, y.1)) | false ↦ Ok (if_then c s, ts) ])
+    go : (b : Bool) → b ≡ false → ◌≡◌ {A = Read StatementTree} (Ok (if_then c s, ts)) (elim b
+        [ true ↦ (sign Else ts >>= λ x. statement_at l n x.1 >>= λ y. Ok (if_else c s y.0, y.1)) | false ↦ Ok (if_then c s, ts) ])
     go true h = absurd (true≢false h)
     go false h = refl
 
 -- after the statement of an `if` an `else` is read wherever one stands
-chosen_form : (l n : ℕ) (c : ExprTree) (r : Read StatementTree) → Leaves is_closed r → (r >>= λ s. else_at (is_closed s.0) (statement_at l n) s.1 >>= λ y. Ok (if_tree c s.0 y.0, y.1)) ≡ (r >>= λ s. if_rest l n c s.0 s.1)
+chosen_form : (l n : ℕ) (c : ExprTree) (r : Read StatementTree) → Leaves is_closed r
+    → (r >>= λ s. else_at (is_closed s.0) (statement_at l n) s.1 >>= λ y. Ok (if_tree c s.0 y.0, y.1)) ≡ (r >>= λ s. if_rest l n c s.0 s.1)
 chosen_form l n c (Ok s) h = else_form l n c s.0 (is_closed s.0) s.1 h
 chosen_form l n c (Err f) h = refl
 
 -- an `if` statement is read as its word, a condition, a statement and an `else` part
-if_spread : (l n : ℕ) (ts : List Token) → if_at l (statements_inside l n) ts ≡ (opened n (is If) (sign If) ts >>= λ x. condition_at l x.1 >>= λ y. statement_at l (n - 1) y.1 >>= λ s. else_at (is_closed s.0) (statement_at l (n - 1)) s.1 >>= λ z. Ok (if_tree y.0 s.0 z.0, z.1))
+if_spread : (l n : ℕ) (ts : List Token) → if_at l (statements_inside l n) ts ≡ (opened n (is If) (sign If) ts >>= λ x. condition_at l x.1 >>= λ y. statement_at l (n - 1) y.1 >>= λ s. else_at
+    (is_closed s.0) (statement_at l (n - 1)) s.1 >>= λ z. Ok (if_tree y.0 s.0 z.0, z.1))
 unfolding if_at
 if_spread l n ts =
     ap (λ r. r >>= λ x. Ok (if_tree x.0.1.0 x.0.1.1.0 x.0.1.1.1, x.1)) (nested_form l n (is If) (sign If) (λ d. both (condition_at l) (λ _. both d (λ s. else_at (is_closed s) d))) ts)
     ∙ simp bind_assoc
 
 -- an `if` statement is read as its word, a condition, a statement and what comes after
-pub if_form : (l n : ℕ) (ts : List Token) → if_at l (statements_inside l n) ts ≡ (opened n (is If) (sign If) ts >>= λ x. condition_at l x.1 >>= λ y. statement_at l (n - 1) y.1 >>= λ z. if_rest l (n - 1) y.0 z.0 z.1)
+pub if_form : (l n : ℕ) (ts : List Token) → if_at l (statements_inside l n) ts ≡ (opened n (is If) (sign If) ts >>= λ x. condition_at l x.1 >>= λ y. statement_at l (n - 1) y.1 >>= λ z. if_rest l
+    (n - 1) y.0 z.0 z.1)
 if_form l n ts =
     if_spread l n ts
     ∙ bind_same (opened n (is If) (sign If) ts) _ _ (λ x. bind_same (condition_at l x.1) _ _ (λ y. chosen_form l (n - 1) y.0 (statement_at l (n - 1) y.1) (leaves_at l (n - 1) y.1)))
@@ -237,7 +262,8 @@ pub word_statement_form : (l : ℕ) (ts : List Token) → word_statement_at l ts
   ]
 ]
 unfolding word_statement_at break_at continue_at ended_word_at
-word_statement_form l ts = elim_same (starts (is Break) ts) _ _ _ _ refl (elim_same (starts (is Continue) ts) _ _ _ _ refl (elim_same (starts (is State) ts) _ _ _ _ (change_form ts) (expression_form l ts)))
+word_statement_form l ts =
+    elim_same (starts (is Break) ts) _ _ _ _ refl (elim_same (starts (is Continue) ts) _ _ _ _ refl (elim_same (starts (is State) ts) _ _ _ _ (change_form ts) (expression_form l ts)))
 
 -- a statement is read by the sign or word that it begins with
 pub statement_form : (l n : ℕ) (ts : List Token) → statement_at l n ts ≡ elim (starts (is OpenBrace) ts) [

@@ -68,22 +68,26 @@ after_comma n r =
 
 -- where a closing brace is next, there are no values
 values_stop : (n : ℕ) (ts : List Token) → starts is_no_brace ts ≡ false → values_at n ts ≡ Ok (no_values, ts)
-values_stop n ts s = values_turn n ts ∙ ap (λ (r : Read (Option (ExprTree × Option ValueList))). let m : Read ValueList = (r >>= λ x. Ok (specs.value_list x.0, x.1)) in m) (maybe_off is_no_brace (value_at n) ts s)
+values_stop n ts s =
+    values_turn n ts ∙ ap (λ (r : Read (Option (ExprTree × Option ValueList))). let m : Read ValueList = (r >>= λ x. Ok (specs.value_list x.0, x.1)) in m) (maybe_off is_no_brace (value_at n) ts s)
 
 -- where no closing brace is next, the values are a first one and what comes after it
 values_on : (n : ℕ) (ts : List Token) → starts is_no_brace ts ≡ true → values_at n ts ≡ finish (value_at n ts)
-values_on n ts s = values_turn n ts ∙ ap (λ (r : Read (Option (ExprTree × Option ValueList))). let m : Read ValueList = (r >>= λ x. Ok (specs.value_list x.0, x.1)) in m) (maybe_on is_no_brace (value_at n) ts s)
+values_on n ts s =
+    values_turn n ts ∙ ap (λ (r : Read (Option (ExprTree × Option ValueList))). let m : Read ValueList = (r >>= λ x. Ok (specs.value_list x.0, x.1)) in m) (maybe_on is_no_brace (value_at n) ts s)
 
 -- after a value that is read comes a comma with further ones, or nothing
 value_then : (n : ℕ) (ts mid : List Token) (e : ExprTree) → level_at (inside n) 14 ts ≡ Ok (e, mid) → value_at n ts ≡ with_value e (comma_at n mid)
 value_then n ts mid e h = ap (λ (r : Read ExprTree). let m : Read (ExprTree × Option ValueList) = (r >>= λ x. comma_at n x.1 >>= λ y. Ok ((x.0, y.0), y.1)) in m) h
 
 -- a value with no comma after it is the last
-values_last : (n : ℕ) (ts rest : List Token) (e : ExprTree) → starts is_no_brace ts ≡ true → level_at (inside n) 14 ts ≡ Ok (e, rest) → starts (is Comma) rest ≡ false → values_at n ts ≡ Ok (last_value e, rest)
+values_last : (n : ℕ) (ts rest : List Token) (e : ExprTree) → starts is_no_brace ts ≡ true → level_at (inside n) 14 ts ≡ Ok (e, rest) → starts (is Comma) rest ≡ false
+    → values_at n ts ≡ Ok (last_value e, rest)
 values_last n ts rest e s h c = values_on n ts s ∙ ap finish (value_then n ts rest e h ∙ ap (with_value e) (maybe_off (is Comma) (behind Comma (values_at n)) rest c))
 
 -- a value with a comma after it is put before the values that are read then
-values_next : (n : ℕ) (ts mid rest : List Token) (e : ExprTree) → starts is_no_brace ts ≡ true → level_at (inside n) 14 ts ≡ Ok (e, mid) → starts (is Comma) mid ≡ true → sign Comma mid ≡ Ok (tt, rest) → values_at n ts ≡ (values_at n rest >>= λ x. Ok (value_before e x.0, x.1))
+values_next : (n : ℕ) (ts mid rest : List Token) (e : ExprTree) → starts is_no_brace ts ≡ true → level_at (inside n) 14 ts ≡ Ok (e, mid) → starts (is Comma) mid ≡ true
+    → sign Comma mid ≡ Ok (tt, rest) → values_at n ts ≡ (values_at n rest >>= λ x. Ok (value_before e x.0, x.1))
 values_next n ts mid rest e s h c k =
     values_on n ts s ∙ ap finish (value_then n ts mid e h ∙ ap (with_value e) (maybe_on (is Comma) (behind Comma (values_at n)) mid c ∙ ap (after_comma n) k)) ∙ go (values_at n rest)
   where
@@ -124,13 +128,15 @@ list_last (a ∷ b ∷ found) e = ap (λ z. value_before a z) (list_last (b ∷ 
 -- what the loop keeps and gives
 
 -- with one more value and its comma found, the others are left to read
-pub before_more : (n : ℕ) (all : Read ValueList) (found : List (Box Expr Global)) (next : Box Expr Global) (items : List (Box Expr Global)) (ts mid rest : List Token) → items ≡ found ++ next ∷ [] → Before n all (map boxed found) ts
+pub before_more : (n : ℕ) (all : Read ValueList) (found : List (Box Expr Global)) (next : Box Expr Global) (items : List (Box Expr Global)) (ts mid rest : List Token)
+    → items ≡ found ++ next ∷ [] → Before n all (map boxed found) ts
     → starts is_no_brace ts ≡ true → level_at (inside n) 14 ts ≡ Ok (boxed next, mid) → starts (is Comma) mid ≡ true → sign Comma mid ≡ Ok (tt, rest) → Before n all (map boxed items) rest
 before_more n all found next items ts mid rest w b s h c k =
     subst (λ z. Before n all z rest) (sym (map_one found next) ∙ ap (λ z. map boxed z) (sym w))
     (b ∙ ap (λ m. m >>= λ x. Ok (values_before (map boxed found) x.0, x.1)) (values_next n ts mid rest (boxed next) s h c k) ∙ go (values_at n rest))
   where
-    go : (r : Read ValueList) → ◌≡◌ {A = Read ValueList} (let r1 : Read ValueList = (r >>= λ x. Ok (value_before (boxed next) x.0, x.1)) in r1 >>= λ x. Ok (values_before (map boxed found) x.0, x.1)) (r >>= λ x. Ok (values_before (map boxed found ++ boxed next ∷ []) x.0, x.1))
+    go : (r : Read ValueList) → ◌≡◌ {A = Read ValueList} (let r1 : Read ValueList = (r >>= λ x. Ok (value_before (boxed next) x.0, x.1)) in r1 >>= λ x.
+        Ok (values_before (map boxed found) x.0, x.1)) (r >>= λ x. Ok (values_before (map boxed found ++ boxed next ∷ []) x.0, x.1))
     go (Ok x) = ap (λ z. Ok (z, x.1)) (before_snoc (map boxed found) (boxed next) x.0)
     go (Err f) = refl
 
@@ -142,7 +148,8 @@ before_less n ts mid rest e h k =
     omega arith
 
 -- where a closing brace is next, the values found are all of them
-pub before_all : (n : ℕ) (all : Read ValueList) (found : List (Box Expr Global)) (ts : List Token) → Before n all (map boxed found) ts → starts is_no_brace ts ≡ false → (comma : Bool) → (comma ≡ false → found ≡ []) → all ≡ Ok (value_list (map boxed found) comma, ts)
+pub before_all : (n : ℕ) (all : Read ValueList) (found : List (Box Expr Global)) (ts : List Token) → Before n all (map boxed found) ts → starts is_no_brace ts ≡ false → (comma : Bool)
+    → (comma ≡ false → found ≡ []) → all ≡ Ok (value_list (map boxed found) comma, ts)
 before_all n all found ts b s comma none =
     b ∙ ap (λ m. m >>= λ x. Ok (values_before (map boxed found) x.0, x.1)) (values_stop n ts s) ∙ ap (λ z. Ok (z, ts)) (list_comma (map boxed found) ∙ same comma found none)
   where
@@ -160,7 +167,8 @@ none_there v true e h = go v.items (let k = eqb-true (vec_len v) 0 (sym e) in om
 none_there v false e h = absurd cc
 
 -- where no comma comes after a value, it is the last of those found
-pub before_last : (n : ℕ) (all : Read ValueList) (found : List (Box Expr Global)) (next : Box Expr Global) (items : List (Box Expr Global)) (ts rest : List Token) → items ≡ found ++ next ∷ [] → Before n all (map boxed found) ts
+pub before_last : (n : ℕ) (all : Read ValueList) (found : List (Box Expr Global)) (next : Box Expr Global) (items : List (Box Expr Global)) (ts rest : List Token)
+    → items ≡ found ++ next ∷ [] → Before n all (map boxed found) ts
     → starts is_no_brace ts ≡ true → level_at (inside n) 14 ts ≡ Ok (boxed next, rest) → starts (is Comma) rest ≡ false → all ≡ Ok (value_list (map boxed items) false, rest)
 before_last n all found next items ts rest w b s h c =
     b ∙ ap (λ m. m >>= λ x. Ok (values_before (map boxed found) x.0, x.1)) (values_last n ts rest (boxed next) s h c)
@@ -171,5 +179,6 @@ before_fault : (n : ℕ) (all : Read ValueList) (found : List (Box Expr Global))
 before_fault n all found ts f b h = b ∙ ap (λ m. m >>= λ x. Ok (values_before (map boxed found) x.0, x.1)) h
 
 -- where a value is not read, the list is not read for the same cause
-pub before_fails : (n : ℕ) (all : Read ValueList) (found : List (Box Expr Global)) (ts : List Token) (halt : Halt) (left : List Token) → Before n all (map boxed found) ts → starts is_no_brace ts ≡ true → Fails halt left (level_at (inside n) 14 ts) → Fails halt left all
+pub before_fails : (n : ℕ) (all : Read ValueList) (found : List (Box Expr Global)) (ts : List Token) (halt : Halt) (left : List Token) → Before n all (map boxed found) ts
+    → starts is_no_brace ts ≡ true → Fails halt left (level_at (inside n) 14 ts) → Fails halt left all
 before_fails n all found ts halt left b s h = same_fault (level_at (inside n) 14 ts) all (λ f k. before_fault n all found ts f b (values_fault n ts f s k)) halt left h

@@ -87,9 +87,12 @@ pub right_header : Right header_form header_at
 unfolding header_at
 right_header = right_made header_parts header_form (λ x. record { start = x.0; condition = x.1.0; step = x.1.1 })
     (λ n. behind OpenParenthesis (both (ended_at n Semicolon) (λ _. both (ended_at n Semicolon) (λ _. ended_at n CloseParenthesis))))
-    (right_behind OpenParenthesis (both_form (ended_form Semicolon) (λ _. both_form (ended_form Semicolon) (λ _. ended_form CloseParenthesis))) (λ n. both (ended_at n Semicolon) (λ _. both (ended_at n Semicolon) (λ _. ended_at n CloseParenthesis)))
-    (right_both (ended_form Semicolon) (λ _. both_form (ended_form Semicolon) (λ _. ended_form CloseParenthesis)) (λ n. ended_at n Semicolon) (λ n _. both (ended_at n Semicolon) (λ _. ended_at n CloseParenthesis)) right_semicolon
-    (λ _. right_both (ended_form Semicolon) (λ _. ended_form CloseParenthesis) (λ n. ended_at n Semicolon) (λ n _. ended_at n CloseParenthesis) right_semicolon (λ _. right_close) (λ _ _ _ _ _. free_links _ _))
+    (right_behind OpenParenthesis (both_form (ended_form Semicolon) (λ _. both_form (ended_form Semicolon) (λ _. ended_form CloseParenthesis)))
+    (λ n. both (ended_at n Semicolon) (λ _. both (ended_at n Semicolon) (λ _. ended_at n CloseParenthesis)))
+    (right_both (ended_form Semicolon) (λ _. both_form (ended_form Semicolon) (λ _. ended_form CloseParenthesis)) (λ n. ended_at n Semicolon)
+    (λ n _. both (ended_at n Semicolon) (λ _. ended_at n CloseParenthesis)) right_semicolon
+    (λ _. right_both (ended_form Semicolon) (λ _. ended_form CloseParenthesis) (λ n. ended_at n Semicolon) (λ n _. ended_at n CloseParenthesis) right_semicolon
+    (λ _. right_close) (λ _ _ _ _ _. free_links _ _))
     (λ _ _ _ _ _. free_links _ _)))
     (λ n x g. ((g.0, g.1.0, g.1.1), refl)) (λ n h g. ((h.start, (h.condition, h.step)), (g.0, (g.1, g.2)), refl)) (λ n x g k f. tt)
 

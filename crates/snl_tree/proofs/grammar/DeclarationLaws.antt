@@ -44,7 +44,9 @@ some_type = right_one starts_declaration (token_of Int) refl
 -- the reader of types is right
 pub right_type : Right type_form (λ _. type_at)
 unfolding type_at
-right_type = right_made (both_form (one_form starts_declaration) second_form) type_form (λ x. record { word = x.0; second = x.1 }) (λ _. both (one starts_declaration) (λ w. maybe (is_second w.kind) (one (is_second w.kind))))
+right_type =
+    right_made (both_form (one_form starts_declaration) second_form) type_form (λ x. record { word = x.0; second = x.1 })
+    (λ _. both (one starts_declaration) (λ w. maybe (is_second w.kind) (one (is_second w.kind))))
     (right_both (one_form starts_declaration) second_form (λ _. one starts_declaration) (λ _ w. maybe (is_second w.kind) (one (is_second w.kind))) some_type
     (λ w. right_maybe_one (is_second w.kind) (λ k. may_be_unsigned k ≡ false) (no_second w.kind)) (λ _ w o _ _. second_link w o))
     (λ n x g. (g, refl)) (λ n t g. ((t.word, t.second), g, refl)) (λ n x g k f. second_follow x.0 x.1 k f)
@@ -100,11 +102,13 @@ open_no_open_brace _ e = refl
 pub right_initialiser : Right initialiser_form initialiser_at
 unfolding initialiser_at
 right_initialiser = right_made (either_form braced_form value_form) initialiser_form initialiser (λ n. either (is OpenBrace) (between OpenBrace (values_at n) CloseBrace) (level_at (inside n) 14))
-    (right_either (is OpenBrace) braced_form value_form (λ n. between OpenBrace (values_at n) CloseBrace) (λ n. level_at (inside n) 14) (right_between OpenBrace values_form values_at CloseBrace right_values (λ _ _ _. refl)) right_value
+    (right_either (is OpenBrace) braced_form value_form (λ n. between OpenBrace (values_at n) CloseBrace) (λ n. level_at (inside n) 14)
+    (right_between OpenBrace values_form values_at CloseBrace right_values (λ _ _ _. refl)) right_value
     (λ _ _ _. refl) (λ n e g. avoids_heads (is OpenBrace) (λ k. 14 < looseness k) (slots e) (heads_opens (λ k. is OpenBrace k ≡ false) e n open_no_open_brace g.1)))
     into onto follows
   where
-    into : (n : ℕ) (x : ValueList ⊎ ExprTree) → (either_form braced_form value_form).good n x → IsInitialiser n (initialiser x) × (initialiser_slots (initialiser x) ≡ (either_form braced_form value_form).slots x)
+    into : (n : ℕ) (x : ValueList ⊎ ExprTree) → (either_form braced_form value_form).good n x
+        → IsInitialiser n (initialiser x) × (initialiser_slots (initialiser x) ≡ (either_form braced_form value_form).slots x)
     into n (inl all) g = (g, refl)
     into n (inr e) g = (g, refl)
 
@@ -152,7 +156,9 @@ right_ends = right_both sizes_form (λ _. initial_form) sizes_at (λ n _. maybe 
 -- the reader of declared names is right
 pub right_declarator : Right declarator_form declarator_at
 unfolding declarator_at
-right_declarator = right_made (both_form (one_form (is Name)) (λ _. ends_form)) declarator_form (λ x. record { name = x.0; sizes = x.1.0; initial = x.1.1 }) (λ n. both (one (is Name)) (λ _. both (sizes_at n) (λ _. maybe (is Equal) (behind Equal (initialiser_at n)))))
+right_declarator =
+    right_made (both_form (one_form (is Name)) (λ _. ends_form)) declarator_form (λ x. record { name = x.0; sizes = x.1.0; initial = x.1.1 })
+    (λ n. both (one (is Name)) (λ _. both (sizes_at n) (λ _. maybe (is Equal) (behind Equal (initialiser_at n)))))
     (right_both (one_form (is Name)) (λ _. ends_form) (λ _. one (is Name)) (λ n _. both (sizes_at n) (λ _. maybe (is Equal) (behind Equal (initialiser_at n)))) (right_kind Name) (λ _. right_ends)
     (λ _ _ b _ _. links_any (λ _. Unit {0}) (ends_form.follow b) (ends_form.slots b) (λ _. tt)))
     (λ n x g. ((is_true Name x.0.kind g.0, g.1.0, g.1.1), refl)) (λ n d g. ((d.name, (d.sizes, d.initial)), (true_is Name d.name.kind g.0, (g.1, g.2)), refl))
@@ -165,7 +171,8 @@ declarators_form = parted_form Comma declarator_form (λ k. k ≡ Semicolon)
 -- the reader of declared names with commas between them is right
 pub right_declarators : Right declarators_form declarators_at
 unfolding declarators_at
-right_declarators = right_parted Comma declarator_form (λ k. k ≡ Semicolon) declarator_at right_declarator (λ k e. subst (λ z. is Comma z ≡ false) (sym e) refl) (λ _ _ _. inl refl) (λ _ _ _ k e. inr e)
+right_declarators =
+    right_parted Comma declarator_form (λ k. k ≡ Semicolon) declarator_at right_declarator (λ k e. subst (λ z. is Comma z ≡ false) (sym e) refl) (λ _ _ _. inl refl) (λ _ _ _ k e. inr e)
 
 -- declarations
 
@@ -181,7 +188,9 @@ names_link n (d ∷ names) g = ap may_be_unsigned g.0.0
 -- the reader of declarations is right
 pub right_declaration : Right declaration_form declaration_at
 unfolding declaration_at
-right_declaration = right_made (both_form type_form (λ _. before_form declarators_form Semicolon)) declaration_form (λ x. record { type_name = x.0; names = x.1 }) (λ n. both type_at (λ _. before (declarators_at n) Semicolon))
+right_declaration =
+    right_made (both_form type_form (λ _. before_form declarators_form Semicolon)) declaration_form (λ x. record { type_name = x.0; names = x.1 })
+    (λ n. both type_at (λ _. before (declarators_at n) Semicolon))
     (right_both type_form (λ _. before_form declarators_form Semicolon) (λ _. type_at) (λ n _. before (declarators_at n) Semicolon) right_type
     (λ _. right_before declarators_form declarators_at Semicolon right_declarators (λ _ _ _. refl)) (λ n _ names _ g. names_link n names g))
     (λ n x g. (g, refl)) (λ n d g. ((d.type_name, d.names), g, refl)) (λ n x g k f. tt)
@@ -198,4 +207,5 @@ bracket_less n ts rest e h = right_less bracket_form bracket_at right_bracket (�
 
 -- fewer tokens are left after a comma and a declared name
 pub next_declarator_less : (n : ℕ) (ts rest : List Token) (d : DeclaratorTree) → behind Comma (declarator_at n) ts ≡ Ok (d, rest) → length rest < length ts
-next_declarator_less n ts rest d h = right_less (behind_form Comma declarator_form) (λ n. behind Comma (declarator_at n)) (right_behind Comma declarator_form declarator_at right_declarator) (λ _ _ _. tt) n ts rest d h
+next_declarator_less n ts rest d h =
+    right_less (behind_form Comma declarator_form) (λ n. behind Comma (declarator_at n)) (right_behind Comma declarator_form declarator_at right_declarator) (λ _ _ _. tt) n ts rest d h

@@ -33,7 +33,8 @@ subscript_form = maybe_form bracket_form (λ k. is OpenBracket k ≡ false)
 -- the reader of places is right
 pub right_place : Right place_form place_at
 unfolding place_at
-right_place = right_made (both_form (one_form (is Name)) (λ _. subscript_form)) place_form (λ x. record { name = x.0; subscript = x.1 }) (λ n. both (one (is Name)) (λ _. maybe (is OpenBracket) (bracket_at n)))
+right_place =
+    right_made (both_form (one_form (is Name)) (λ _. subscript_form)) place_form (λ x. record { name = x.0; subscript = x.1 }) (λ n. both (one (is Name)) (λ _. maybe (is OpenBracket) (bracket_at n)))
     (right_both (one_form (is Name)) (λ _. subscript_form) (λ _. one (is Name)) (λ n _. maybe (is OpenBracket) (bracket_at n)) (right_kind Name)
     (λ _. right_maybe (is OpenBracket) bracket_form (λ k. is OpenBracket k ≡ false) bracket_at right_bracket (λ _ _ _. refl) (λ _ e. e))
     (λ _ _ o _ _. links_any (λ _. Unit {0}) (subscript_form.follow o) (subscript_form.slots o) (λ _. tt)))
@@ -102,7 +103,8 @@ right_names = right_made (either_form (one_form (is Text)) braces_form) names_fo
     (right_between OpenBrace (tokens_form Text) (λ _. strings_at) CloseBrace right_strings (λ _ _ _. refl)) (λ _ _ g. g) (λ _ _ _. refl))
     into onto follows
   where
-    into : (n : ℕ) (x : Token ⊎ List Token) → (either_form (one_form (is Text)) braces_form).good n x → AreNames (channel_names x) × (names_slots (channel_names x) ≡ (either_form (one_form (is Text)) braces_form).slots x)
+    into : (n : ℕ) (x : Token ⊎ List Token) → (either_form (one_form (is Text)) braces_form).good n x
+        → AreNames (channel_names x) × (names_slots (channel_names x) ≡ (either_form (one_form (is Text)) braces_form).slots x)
     into n (inl t) g = (is_true Text t.kind g, refl)
     into n (inr ts) g = (some_is Text ts g, refl)
 
@@ -195,7 +197,8 @@ unfolding assign_at
 right_assign = right_made (both_form (one_form (is Assign)) (λ _. assigned_form)) assign_form (λ x. record { word = x.0; place = x.1.0; channels = x.1.1 })
     (λ n. both (one (is Assign)) (λ _. both (place_at n) (λ _. before (maybe starts_channels channels_at) Semicolon)))
     (right_both (one_form (is Assign)) (λ _. assigned_form) (λ _. one (is Assign)) (λ n _. both (place_at n) (λ _. before (maybe starts_channels channels_at) Semicolon)) (right_kind Assign)
-    (λ _. right_both place_form (λ _. before_form target_form Semicolon) place_at (λ _ _. before (maybe starts_channels channels_at) Semicolon) right_place (λ _. right_targets) (λ _ _ o _ g. targets_link o g))
+    (λ _. right_both place_form (λ _. before_form target_form Semicolon) place_at (λ _ _. before (maybe starts_channels channels_at) Semicolon) right_place
+    (λ _. right_targets) (λ _ _ o _ g. targets_link o g))
     (λ _ _ b _ _. links_any (λ _. Unit {0}) (assigned_form.follow b) (assigned_form.slots b) (λ _. tt)))
     (λ n x g. ((is_true Assign x.0.kind g.0, g.1.0, g.1.1), refl)) (λ n a g. ((a.word, (a.place, a.channels)), (true_is Assign a.word.kind g.0, (g.1, g.2)), refl)) (λ n x g k f. tt)
 
@@ -290,7 +293,8 @@ right_queue_size = right_before queue_size_form (λ _. maybe (is Whole) (one (is
 
 -- the reader of a queue's event flag, which may be missing, is right
 right_queue_flag : Right queue_flag_form (λ _. maybe starts_flag flag_at)
-right_queue_flag = right_maybe starts_flag flag_form (λ k. (k ≡ Whole) ⊎ (k ≡ Semicolon)) (λ _. flag_at) right_flag (λ _ f g. flag_heads f g) (λ k e. queue_end (λ z. starts_flag z ≡ false) k refl refl e)
+right_queue_flag =
+    right_maybe starts_flag flag_form (λ k. (k ≡ Whole) ⊎ (k ≡ Semicolon)) (λ _. flag_at) right_flag (λ _ f g. flag_heads f g) (λ k e. queue_end (λ z. starts_flag z ≡ false) k refl refl e)
 
 -- the size of a queue or the semicolon may follow the flag, or the place where it is missing
 size_link : (n : ℕ) (o : Option FlagTree) (size : Option Token) → queue_size_form.good n size → Links (queue_flag_form.follow o) (λ _. Unit {0}) ((before_form queue_size_form Semicolon).slots size)
@@ -304,7 +308,9 @@ queue_tail_form = both_form queue_flag_form (λ _. before_form queue_size_form S
 
 -- the reader of a queue's flag, size and semicolon is right
 right_queue_tail : Right queue_tail_form (λ _. both (maybe starts_flag flag_at) (λ _. before (maybe (is Whole) (one (is Whole))) Semicolon))
-right_queue_tail = right_both queue_flag_form (λ _. before_form queue_size_form Semicolon) (λ _. maybe starts_flag flag_at) (λ _ _. before (maybe (is Whole) (one (is Whole))) Semicolon) right_queue_flag (λ _. right_queue_size)
+right_queue_tail =
+    right_both queue_flag_form (λ _. before_form queue_size_form Semicolon) (λ _. maybe starts_flag flag_at) (λ _ _. before (maybe (is Whole) (one (is Whole))) Semicolon)
+    right_queue_flag (λ _. right_queue_size)
     (λ n o size _ g. size_link n o size g)
 
 -- the flag, the size or the semicolon of a queue may follow the place
@@ -336,8 +342,10 @@ pub right_queue : Right queue_form queue_at
 unfolding queue_at
 right_queue = right_made (both_form (one_form (is SyncQueue)) (λ _. queue_rest_form)) queue_form (λ x. record { word = x.0; place = x.1.0; flag = x.1.1.0; size = x.1.1.1 })
     (λ n. both (one (is SyncQueue)) (λ _. both (place_at n) (λ _. both (maybe starts_flag flag_at) (λ _. before (maybe (is Whole) (one (is Whole))) Semicolon))))
-    (right_both (one_form (is SyncQueue)) (λ _. queue_rest_form) (λ _. one (is SyncQueue)) (λ n _. both (place_at n) (λ _. both (maybe starts_flag flag_at) (λ _. before (maybe (is Whole) (one (is Whole))) Semicolon))) (right_kind SyncQueue)
-    (λ _. right_both place_form (λ _. queue_tail_form) place_at (λ _ _. both (maybe starts_flag flag_at) (λ _. before (maybe (is Whole) (one (is Whole))) Semicolon)) right_place (λ _. right_queue_tail) (λ n _ x _ g. queue_link n x g))
+    (right_both (one_form (is SyncQueue)) (λ _. queue_rest_form) (λ _. one (is SyncQueue))
+    (λ n _. both (place_at n) (λ _. both (maybe starts_flag flag_at) (λ _. before (maybe (is Whole) (one (is Whole))) Semicolon))) (right_kind SyncQueue)
+    (λ _. right_both place_form (λ _. queue_tail_form) place_at (λ _ _. both (maybe starts_flag flag_at) (λ _. before (maybe (is Whole) (one (is Whole))) Semicolon)) right_place
+    (λ _. right_queue_tail) (λ n _ x _ g. queue_link n x g))
     (λ _ _ b _ _. links_any (λ _. Unit {0}) (queue_rest_form.follow b) (queue_rest_form.slots b) (λ _. tt)))
     (λ n x g. ((is_true SyncQueue x.0.kind g.0, g.1.0, g.1.1.0, whole_is x.1.1.1 g.1.1.1), refl))
     (λ n q g. ((q.word, (q.place, (q.flag, q.size))), (true_is SyncQueue q.word.kind g.0, (g.1, (g.2, is_whole q.size g.3))), refl)) (λ n x g k f. tt)
@@ -366,7 +374,8 @@ signed_form = both_form (one_form is_sign) (λ _. before_form (one_form (is Name
 -- the reader of options is right
 pub right_setting : Right setting_form (λ _. setting_at)
 unfolding setting_at
-right_setting = right_made (behind_form OptionWord signed_form) setting_form (λ x. record { sign = x.0; name = x.1 }) (λ _. behind OptionWord (both (one is_sign) (λ _. before (one (is Name)) Semicolon)))
+right_setting =
+    right_made (behind_form OptionWord signed_form) setting_form (λ x. record { sign = x.0; name = x.1 }) (λ _. behind OptionWord (both (one is_sign) (λ _. before (one (is Name)) Semicolon)))
     (right_behind OptionWord signed_form (λ _. both (one is_sign) (λ _. before (one (is Name)) Semicolon))
     (right_both (one_form is_sign) (λ _. before_form (one_form (is Name)) Semicolon) (λ _. one is_sign) (λ _ _. before (one (is Name)) Semicolon) (right_one is_sign (token_of Plus) refl)
     (λ _. right_before (one_form (is Name)) (λ _. one (is Name)) Semicolon (right_kind Name) (λ _ _ _. tt)) (λ _ _ _ _ _. tt)))
@@ -419,16 +428,20 @@ assign_heads n P (inl a) w v g = subst P (sym g.0) w
 assign_heads n P (inr x) w v g = monitor_heads n P x v g
 
 -- the choice between the readers of all definitions is right
-right_any : Right any_form (λ n. either starts_declaration (declaration_at n) (either (is Assign) (assign_at n) (either (is Monitor) (monitor_at n) (either (is Sync) (sync_at n) (either (is SyncQueue) (queue_at n) event_flags_at)))))
+right_any : Right any_form (λ n. either starts_declaration (declaration_at n)
+    (either (is Assign) (assign_at n) (either (is Monitor) (monitor_at n) (either (is Sync) (sync_at n) (either (is SyncQueue) (queue_at n) event_flags_at)))))
 right_any =
-    right_either starts_declaration declaration_form from_assign declaration_at (λ n. either (is Assign) (assign_at n) (either (is Monitor) (monitor_at n) (either (is Sync) (sync_at n) (either (is SyncQueue) (queue_at n) event_flags_at)))) right_declaration
-    (right_either (is Assign) assign_form from_monitor assign_at (λ n. either (is Monitor) (monitor_at n) (either (is Sync) (sync_at n) (either (is SyncQueue) (queue_at n) event_flags_at))) right_assign
+    right_either starts_declaration declaration_form from_assign declaration_at (λ n. either (is Assign) (assign_at n)
+    (either (is Monitor) (monitor_at n) (either (is Sync) (sync_at n) (either (is SyncQueue) (queue_at n) event_flags_at)))) right_declaration
+    (right_either (is Assign) assign_form from_monitor assign_at (λ n. either (is Monitor) (monitor_at n) (either (is Sync) (sync_at n) (either (is SyncQueue) (queue_at n) event_flags_at)))
+    right_assign
     (right_either (is Monitor) monitor_form from_sync monitor_at (λ n. either (is Sync) (sync_at n) (either (is SyncQueue) (queue_at n) event_flags_at)) right_monitor
     (right_either (is Sync) sync_form queue_or_flags sync_at (λ n. either (is SyncQueue) (queue_at n) event_flags_at) right_sync
     (right_either (is SyncQueue) queue_form event_flags_form queue_at (λ _. event_flags_at) right_queue right_event_flags (λ _ q g. true_is SyncQueue q.word.kind g.0) (λ _ _ _. refl))
     (λ _ _ _. refl) (λ n x g. avoids_heads (is Sync) (queue_or_flags.follow x) (queue_or_flags.slots x) (queue_heads n (λ k. is Sync k ≡ false) x refl refl g)))
     (λ _ _ _. refl) (λ n x g. avoids_heads (is Monitor) (from_sync.follow x) (from_sync.slots x) (sync_heads n (λ k. is Monitor k ≡ false) x refl refl refl g)))
-    (λ _ a g. true_is Assign a.word.kind g.0) (λ n x g. avoids_heads (is Assign) (from_monitor.follow x) (from_monitor.slots x) (monitor_heads n (λ k. is Assign k ≡ false) x (refl, refl, refl, refl) g)))
+    (λ _ a g. true_is Assign a.word.kind g.0) (λ n x g. avoids_heads (is Assign) (from_monitor.follow x) (from_monitor.slots x)
+    (monitor_heads n (λ k. is Assign k ≡ false) x (refl, refl, refl, refl) g)))
     declaration_heads (λ n x g. avoids_heads starts_declaration (from_assign.follow x) (from_assign.slots x) (assign_heads n (λ k. starts_declaration k ≡ false) x refl (refl, refl, refl, refl) g))
 
 -- a definition that is no option, which anything may follow
@@ -447,7 +460,9 @@ any_free (inr (inr (inr (inr (inr names))))) k = tt
 -- the reader of definitions is right
 pub right_definition : Right definition_form definition_at
 unfolding definition_at
-right_definition = right_made any_form definition_form definition (λ n. either starts_declaration (declaration_at n) (either (is Assign) (assign_at n) (either (is Monitor) (monitor_at n) (either (is Sync) (sync_at n) (either (is SyncQueue) (queue_at n) event_flags_at)))))
+right_definition =
+    right_made any_form definition_form definition (λ n. either starts_declaration (declaration_at n)
+    (either (is Assign) (assign_at n) (either (is Monitor) (monitor_at n) (either (is Sync) (sync_at n) (either (is SyncQueue) (queue_at n) event_flags_at)))))
     right_any into onto (λ n x g k f. any_free x k)
   where
     into : (n : ℕ) (x : FormOfDefinition) → any_form.good n x → IsDefinition n (definition x) × (definition_slots (definition x) ≡ any_form.slots x)
@@ -512,10 +527,12 @@ pub right_part : Right part_form part_at
 unfolding part_at
 right_part = right_made (either_form setting_form definition_form) part_form part (λ n. either (is OptionWord) setting_at (definition_at n))
     (right_either (is OptionWord) setting_form definition_form (λ _. setting_at) definition_at right_setting right_definition (λ _ _ _. refl)
-    (λ n d g. avoids_heads (is OptionWord) (λ _. Unit {0}) (definition_slots d) (heads_more (λ k. starts_definition k ≡ true) (λ k. is OptionWord k ≡ false) (definition_slots d) no_option (definition_heads n d g))))
+    (λ n d g. avoids_heads (is OptionWord) (λ _. Unit {0}) (definition_slots d) (heads_more (λ k. starts_definition k ≡ true) (λ k. is OptionWord k ≡ false) (definition_slots d) no_option
+    (definition_heads n d g))))
     into onto follows
   where
-    into : (n : ℕ) (x : SettingTree ⊎ DefinitionTree) → (either_form setting_form definition_form).good n x → IsPart n (part x) × (definition_slots (part x) ≡ (either_form setting_form definition_form).slots x)
+    into : (n : ℕ) (x : SettingTree ⊎ DefinitionTree) → (either_form setting_form definition_form).good n x
+        → IsPart n (part x) × (definition_slots (part x) ≡ (either_form setting_form definition_form).slots x)
     into n (inl o) g = (g, refl)
     into n (inr (setting o)) g = absurd g
     into n (inr (declaration d)) g = (g, refl)
@@ -572,7 +589,9 @@ right_parts P stop = right_many starts_part part_form P part_at right_part part_
 
 -- fewer tokens are left after a definition
 pub definition_less : (n : ℕ) (ts rest : List Token) (d : DefinitionTree) → definition_at n ts ≡ Ok (d, rest) → length rest < length ts
-definition_less n ts rest d h = right_less definition_form definition_at right_definition (λ n d g. heads_more (λ k. starts_definition k ≡ true) (λ _. Unit {0}) (definition_slots d) (λ _ _. tt) (definition_heads n d g)) n ts rest d h
+definition_less n ts rest d h =
+    right_less definition_form definition_at right_definition (λ n d g. heads_more (λ k. starts_definition k ≡ true) (λ _. Unit {0}) (definition_slots d) (λ _ _. tt) (definition_heads n d g)) n
+    ts rest d h
 
 -- fewer tokens are left after a definition or an option
 pub part_less : (n : ℕ) (ts rest : List Token) (d : DefinitionTree) → part_at n ts ≡ Ok (d, rest) → length rest < length ts
@@ -580,4 +599,5 @@ part_less n ts rest d h = right_less part_form part_at right_part (λ n d g. hea
 
 -- fewer tokens are left after a comma and a token
 pub next_token_less : (K : Kind) (ts rest : List Token) (t : Token) → behind Comma (one (is K)) ts ≡ Ok (t, rest) → length rest < length ts
-next_token_less K ts rest t h = right_less (behind_form Comma (one_form (is K))) (λ _. behind Comma (one (is K))) (right_behind Comma (one_form (is K)) (λ _. one (is K)) (right_kind K)) (λ _ _ _. tt) 0 ts rest t h
+next_token_less K ts rest t h =
+    right_less (behind_form Comma (one_form (is K))) (λ _. behind Comma (one (is K))) (right_behind Comma (one_form (is K)) (λ _. one (is K)) (right_kind K)) (λ _ _ _. tt) 0 ts rest t h

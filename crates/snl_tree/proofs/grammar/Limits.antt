@@ -44,7 +44,9 @@ closed_grows K l h g = grows_both l.expression h.expression (λ _. sign K) (λ _
 -- the reader of expressions in parentheses grows with the depth
 grows_parenthesized : (i j : Option Inside) → Higher i j → Grows (parenthesized_at i) (parenthesized_at j)
 unfolding parenthesized_at
-grows_parenthesized i j k = grows_made (λ x. parenthesized x.1.0) (under (is OpenParenthesis) i (sign OpenParenthesis) (λ d. both d.expression (λ _. sign CloseParenthesis))) (under (is OpenParenthesis) j (sign OpenParenthesis) (λ d. both d.expression (λ _. sign CloseParenthesis)))
+grows_parenthesized i j k =
+    grows_made (λ x. parenthesized x.1.0) (under (is OpenParenthesis) i (sign OpenParenthesis) (λ d. both d.expression (λ _. sign CloseParenthesis)))
+    (under (is OpenParenthesis) j (sign OpenParenthesis) (λ d. both d.expression (λ _. sign CloseParenthesis)))
     (grows_under i j k (is OpenParenthesis) (sign OpenParenthesis) (opens_sign OpenParenthesis) (grows_sign OpenParenthesis) (λ d. both d.expression (λ _. sign CloseParenthesis))
     (λ m d laws. ends (closed_shape CloseParenthesis m) (both d.expression (λ _. sign CloseParenthesis)) (reads_closed CloseParenthesis (lit≤ tt) m d laws)) (closed_grows CloseParenthesis))
 
@@ -62,7 +64,8 @@ grows_more l h g = grows_many (is Comma) (both (sign Comma) (λ _. argument_at l
 -- the reader of a list of arguments grows with the depth
 grows_arguments : (l h : Inside) → InsideGrows l h → Grows (arguments_at l) (arguments_at h)
 unfolding arguments_at
-grows_arguments l h g = grows_made all_arguments (either is_no_close (both (argument_at l) (λ _. more_arguments_at l)) nothing) (either is_no_close (both (argument_at h) (λ _. more_arguments_at h)) nothing)
+grows_arguments l h g =
+    grows_made all_arguments (either is_no_close (both (argument_at l) (λ _. more_arguments_at l)) nothing) (either is_no_close (both (argument_at h) (λ _. more_arguments_at h)) nothing)
     (grows_either is_no_close (both (argument_at l) (λ _. more_arguments_at l)) (both (argument_at h) (λ _. more_arguments_at h)) nothing nothing
     (grows_both (argument_at l) (argument_at h) (λ _. more_arguments_at l) (λ _. more_arguments_at h) (grows_argument l h g) (λ _. grows_more l h g)) grows_nothing)
 
@@ -85,7 +88,8 @@ unfolding named_at
 grows_named i j k = grows_made (λ x. named_tree x.0 x.1) _ _
     (grows_both (one (is Name)) (one (is Name)) _ _ (grows_one (is Name)) (λ _.
     grows_either (is OpenBracket) (subscript i) (subscript j) _ _ (grows_subscript i j k)
-    (grows_either (is OpenParenthesis) (under (is OpenParenthesis) i (sign OpenParenthesis) (λ d. both (arguments_at d) (λ _. sign CloseParenthesis))) (under (is OpenParenthesis) j (sign OpenParenthesis) (λ d. both (arguments_at d) (λ _. sign CloseParenthesis))) nothing nothing
+    (grows_either (is OpenParenthesis) (under (is OpenParenthesis) i (sign OpenParenthesis) (λ d. both (arguments_at d) (λ _. sign CloseParenthesis)))
+    (under (is OpenParenthesis) j (sign OpenParenthesis) (λ d. both (arguments_at d) (λ _. sign CloseParenthesis))) nothing nothing
     (grows_under i j k (is OpenParenthesis) (sign OpenParenthesis) (opens_sign OpenParenthesis) (grows_sign OpenParenthesis) (λ d. both (arguments_at d) (λ _. sign CloseParenthesis))
     (λ m d laws. ends (listed_shape m) (both (arguments_at d) (λ _. sign CloseParenthesis)) (reads_listed m d laws)) listed_grows)
     grows_nothing)))
@@ -144,7 +148,8 @@ choices_grow l h g = grows_both l.expression h.expression (λ _. both (sign Colo
 -- the reader of conditionals grows with the depth
 grows_conditional : (i j : Option Inside) → Higher i j → Grows (conditional_at i) (conditional_at j)
 unfolding conditional_at
-grows_conditional i j k = grows_made (λ x. conditional_tree x.0 x.1) (both (binary_at i 10) (λ _. either (is Question) (question i) nothing)) (both (binary_at j 10) (λ _. either (is Question) (question j) nothing))
+grows_conditional i j k =
+    grows_made (λ x. conditional_tree x.0 x.1) (both (binary_at i 10) (λ _. either (is Question) (question i) nothing)) (both (binary_at j 10) (λ _. either (is Question) (question j) nothing))
     (grows_both (binary_at i 10) (binary_at j 10) (λ _. either (is Question) (question i) nothing) (λ _. either (is Question) (question j) nothing) (grows_binary i j k 10)
     (λ _. grows_either (is Question) (question i) (question j) nothing nothing
     (grows_under i j k (is Question) (sign Question) (opens_sign Question) (grows_sign Question) (λ d. both d.expression (λ _. both (sign Colon) (λ _. d.conditional)))
@@ -157,7 +162,8 @@ unfolding assignment_at
 grows_assignment i j k = grows_made (λ x. assignment_tree x.0 x.1) _ _
     (grows_both (conditional_at i) (conditional_at j) _ _ (grows_conditional i j k)
     (λ e. grows_either (is_assignment e) (under (is_assignment e) i (one (is_assignment e)) (λ d. d.assignment)) (under (is_assignment e) j (one (is_assignment e)) (λ d. d.assignment)) nothing nothing
-    (grows_under i j k (is_assignment e) (one (is_assignment e)) (opens_one (is_assignment e)) (grows_one (is_assignment e)) (λ d. d.assignment) (λ m d laws. ends (expr_shape m 14) d.assignment laws.assignment) (λ l h g. g.assignment))
+    (grows_under i j k (is_assignment e) (one (is_assignment e)) (opens_one (is_assignment e)) (grows_one (is_assignment e)) (λ d. d.assignment)
+    (λ m d laws. ends (expr_shape m 14) d.assignment laws.assignment) (λ l h g. g.assignment))
     grows_nothing))
 
 -- the reader of whole expressions grows with the depth

@@ -50,7 +50,8 @@ abbrev postfix_parts : ℕ → Shape (ExprTree × (Token ⊎ Unit {0}))
 postfix_parts n = both_shape (expr_shape n 0) (λ _. step_shape)
 
 -- a primary with `++` or `--` or nothing is a well-formed postfix expression
-postfix_into : (n : ℕ) (e : ExprTree) (s : Token ⊎ Unit {0}) → (postfix_parts n).good (e, s) → ((rank (postfix_tree e s) ≤ 1) × IsWell (postfix_tree e s) n) × (slots (postfix_tree e s) ≡ (postfix_parts n).slots (e, s))
+postfix_into : (n : ℕ) (e : ExprTree) (s : Token ⊎ Unit {0}) → (postfix_parts n).good (e, s)
+    → ((rank (postfix_tree e s) ≤ 1) × IsWell (postfix_tree e s) n) × (slots (postfix_tree e s) ≡ (postfix_parts n).slots (e, s))
 postfix_into n e (inl t) g = ((le_refl _, (g.0.0, g.0.1, same_rank 1 (looseness t.kind) g.1)), refl)
 postfix_into n e (inr u) g = ((let h = g.0.0 in omega arith, g.0.1), sym (append-nil (slots e)))
 
@@ -191,7 +192,8 @@ term_list_of n q (term op e rest) g =
     ((op, e) ∷ more.0, ((rank_same (suc q) (looseness op.kind) g.0, (let h = g.1 in omega arith, g.2)), more.1), ap (λ z. term op e z) more.2)
 
 -- an operand with operators and operands makes a well-formed expression of the level
-chain_into : (n q : ℕ) → IsLevel (suc q) → (e : ExprTree) (xs : List (Token × ExprTree)) → (chain_parts n q).good (e, xs) → ((rank (chain_tree e xs) ≤ suc q) × IsWell (chain_tree e xs) n) × (slots (chain_tree e xs) ≡ (chain_parts n q).slots (e, xs))
+chain_into : (n q : ℕ) → IsLevel (suc q) → (e : ExprTree) (xs : List (Token × ExprTree)) → (chain_parts n q).good (e, xs)
+    → ((rank (chain_tree e xs) ≤ suc q) × IsWell (chain_tree e xs) n) × (slots (chain_tree e xs) ≡ (chain_parts n q).slots (e, xs))
 chain_into n q l e [] g = ((let h = g.0.0 in omega arith, g.0.1), sym (append-nil (slots e)))
 chain_into n q l e (x ∷ xs) g =
     let h : looseness x.0.kind ≡ suc q = same_rank (suc q) (looseness x.0.kind) g.1.0.0 in
@@ -280,8 +282,11 @@ no_question : (k : Kind) → 13 < looseness k → is Question k ≡ false
 no_question k f = not_is Question k (λ e. let a : looseness k ≡ 13 = ap looseness e in absurd (omega arith))
 
 -- the reader of the question mark with the choices, or of nothing, is right
-reads_maybe_question : (n : ℕ) (i : Option Inside) → Deeper n i → Reads (maybe_question_shape n) (either (is Question) (under (is Question) i (sign Question) (λ d. both d.expression (λ _. both (sign Colon) (λ _. d.conditional)))) nothing)
-reads_maybe_question n i h = reads_either (is Question) (question_shape n) (nothing_shape (λ k. 13 < looseness k)) (under (is Question) i (sign Question) (λ d. both d.expression (λ _. both (sign Colon) (λ _. d.conditional)))) nothing
+reads_maybe_question : (n : ℕ) (i : Option Inside) → Deeper n i → Reads (maybe_question_shape n) (either (is Question)
+    (under (is Question) i (sign Question) (λ d. both d.expression (λ _. both (sign Colon) (λ _. d.conditional)))) nothing)
+reads_maybe_question n i h =
+    reads_either (is Question) (question_shape n) (nothing_shape (λ k. 13 < looseness k))
+    (under (is Question) i (sign Question) (λ d. both d.expression (λ _. both (sign Colon) (λ _. d.conditional)))) nothing
     (reads_under (is Question) (sign_shape Question) (sign Question) (reads_sign Question) (λ _ _. tt) (choices_shape 0).slots (λ m. (choices_shape m).good) (choices_shape 0).follow
     (λ d. both d.expression (λ _. both (sign Colon) (λ _. d.conditional))) reads_choices (λ m. (((some_expr m 15).0, (tt, (some_expr m 13).0)), ((some_expr m 15).1, (tt, (some_expr m 13).1)))) n i h)
     (reads_nothing (λ k. 13 < looseness k)) (λ x g. refl) (λ _ _ k f. no_question k f)
@@ -305,7 +310,8 @@ abbrev Choices : ExprTree → ExprTree → ℕ → Type 0
 Choices a b m = (rank a ≤ 15) × IsWell a m × (rank b ≤ 13) × IsWell b m
 
 -- a condition with choices or nothing makes a well-formed expression
-conditional_into : (n : ℕ) (c : ExprTree) (x : (Unit {0} × (ExprTree × (Unit {0} × ExprTree))) ⊎ Unit {0}) → (conditional_parts n).good (c, x) → ((rank (conditional_tree c x) ≤ 13) × IsWell (conditional_tree c x) n) × (slots (conditional_tree c x) ≡ (conditional_parts n).slots (c, x))
+conditional_into : (n : ℕ) (c : ExprTree) (x : (Unit {0} × (ExprTree × (Unit {0} × ExprTree))) ⊎ Unit {0}) → (conditional_parts n).good (c, x)
+    → ((rank (conditional_tree c x) ≤ 13) × IsWell (conditional_tree c x) n) × (slots (conditional_tree c x) ≡ (conditional_parts n).slots (c, x))
 conditional_into n c (inl x) g = ((le_refl _, (g.0.0, g.0.1, under_map (λ m. (choices_shape m).good x.1) (Choices x.1.0 x.1.1.1) n (λ m h. (h.0.0, h.0.1, h.1.1.0, h.1.1.1)) g.1.1)), refl)
 conditional_into n c (inr u) g = ((let h = g.0.0 in omega arith, g.0.1), sym (append-nil (slots c)))
 
@@ -331,14 +337,18 @@ conditional_of n (call f all) g = conditional_low n (call f all) (lit≤ tt, g.1
 conditional_of n (postfix e op) g = conditional_low n (postfix e op) (lit≤ tt, g.1)
 conditional_of n (prefix op e) g = conditional_low n (prefix op e) (lit≤ tt, g.1)
 conditional_of n (chain e rest) g = conditional_low n (chain e rest) (chain_low rest g.1.0 (let h = g.0 in omega arith), g.1)
-conditional_of n (conditional c a b) g = ((c, inl (tt, (a, (tt, b)))), ((g.1.0, g.1.1), (tt, under_map (Choices a b) (λ m. (choices_shape m).good (a, (tt, b))) n (λ m h. ((h.0, h.1), (tt, (h.2, h.3)))) g.1.2)), refl)
+conditional_of n (conditional c a b) g =
+    ((c, inl (tt, (a, (tt, b)))), ((g.1.0, g.1.1), (tt, under_map (Choices a b) (λ m. (choices_shape m).good (a, (tt, b))) n (λ m h. ((h.0, h.1), (tt, (h.2, h.3)))) g.1.2)), refl)
 conditional_of n (assignment e op f) g = let h = g.0 in absurd (omega arith)
 
 -- the reader of conditionals is right
 reads_conditional : (n : ℕ) (i : Option Inside) → Deeper n i → Reads (expr_shape n 13) (conditional_at i)
 unfolding conditional_at
-reads_conditional n i h = reads_made (conditional_parts n) (expr_shape n 13) (λ x. conditional_tree x.0 x.1) (both (binary_at i 10) (λ _. either (is Question) (under (is Question) i (sign Question) (λ d. both d.expression (λ _. both (sign Colon) (λ _. d.conditional)))) nothing))
-    (reads_both (expr_shape n 12) (λ _. maybe_question_shape n) (binary_at i 10) (λ _. either (is Question) (under (is Question) i (sign Question) (λ d. both d.expression (λ _. both (sign Colon) (λ _. d.conditional)))) nothing)
+reads_conditional n i h =
+    reads_made (conditional_parts n) (expr_shape n 13) (λ x. conditional_tree x.0 x.1)
+    (both (binary_at i 10) (λ _. either (is Question) (under (is Question) i (sign Question) (λ d. both d.expression (λ _. both (sign Colon) (λ _. d.conditional)))) nothing))
+    (reads_both (expr_shape n 12) (λ _. maybe_question_shape n) (binary_at i 10)
+    (λ _. either (is Question) (under (is Question) i (sign Question) (λ d. both d.expression (λ _. both (sign Colon) (λ _. d.conditional)))) nothing)
     (reads_binary n i h 10 (lit≤ tt)) (λ _ _. reads_maybe_question n i h) (λ _ x _ _. question_link n x) (λ _ _. (inr tt, tt)))
     (λ x g. conditional_into n x.0 x.1 g) (conditional_of n) (λ x g k f. question_follow n x.1 k f)
 
@@ -393,9 +403,12 @@ abbrev maybe_assigned_shape : ExprTree → ℕ → Shape ((Token × ExprTree) �
 maybe_assigned_shape e n = either_shape (assigned_shape e n) (nothing_shape (λ k. 14 < looseness k))
 
 -- the reader of an assignment operator with the value, or of nothing, is right
-reads_maybe_assigned : (e : ExprTree) (n : ℕ) (i : Option Inside) → Deeper n i → Reads (maybe_assigned_shape e n) (either (is_assignment e) (under (is_assignment e) i (one (is_assignment e)) (λ d. d.assignment)) nothing)
-reads_maybe_assigned e n i h = reads_either (is_assignment e) (assigned_shape e n) (nothing_shape (λ k. 14 < looseness k)) (under (is_assignment e) i (one (is_assignment e)) (λ d. d.assignment)) nothing
-    (reads_under (is_assignment e) (one_shape (is_assignment e)) (one (is_assignment e)) (reads_one (is_assignment e)) (λ _ _. tt) (expr_shape 0 14).slots (λ m. (expr_shape m 14).good) (expr_shape 0 14).follow
+reads_maybe_assigned : (e : ExprTree) (n : ℕ) (i : Option Inside) → Deeper n i → Reads (maybe_assigned_shape e n) (either (is_assignment e)
+    (under (is_assignment e) i (one (is_assignment e)) (λ d. d.assignment)) nothing)
+reads_maybe_assigned e n i h =
+    reads_either (is_assignment e) (assigned_shape e n) (nothing_shape (λ k. 14 < looseness k)) (under (is_assignment e) i (one (is_assignment e)) (λ d. d.assignment)) nothing
+    (reads_under (is_assignment e) (one_shape (is_assignment e)) (one (is_assignment e)) (reads_one (is_assignment e)) (λ _ _. tt) (expr_shape 0 14).slots
+    (λ m. (expr_shape m 14).good) (expr_shape 0 14).follow
     (λ d. d.assignment) (λ m d laws. laws.assignment) (λ m. some_expr m 14) n i h)
     (reads_nothing (λ k. 14 < looseness k)) (λ x g. g.0) (λ _ _ k f. not_assignment e k f)
 
@@ -404,7 +417,8 @@ abbrev assignment_parts : ℕ → Shape (ExprTree × ((Token × ExprTree) ⊎ Un
 assignment_parts n = both_shape (expr_shape n 13) (λ e. maybe_assigned_shape e n)
 
 -- an assignment operator and what is looser may follow a target
-assigned_link : (n : ℕ) (e : ExprTree) (x : (Token × ExprTree) ⊎ Unit {0}) → (maybe_assigned_shape e n).good x → Links (λ k. 13 < looseness k) ((maybe_assigned_shape e n).follow x) ((maybe_assigned_shape e n).slots x)
+assigned_link : (n : ℕ) (e : ExprTree) (x : (Token × ExprTree) ⊎ Unit {0}) → (maybe_assigned_shape e n).good x
+    → Links (λ k. 13 < looseness k) ((maybe_assigned_shape e n).follow x) ((maybe_assigned_shape e n).slots x)
 assigned_link n e (inl x) g = let h = (is_assignment_true e x.0.kind g.0).1 in omega arith
 assigned_link n e (inr u) g = λ k f. omega arith
 
@@ -414,7 +428,8 @@ assigned_follow n e (inl x) k f = f
 assigned_follow n e (inr u) k f = f
 
 -- a target with a value, or a conditional with nothing, makes a well-formed expression
-assignment_into : (n : ℕ) (e : ExprTree) (x : (Token × ExprTree) ⊎ Unit {0}) → (assignment_parts n).good (e, x) → ((rank (assignment_tree e x) ≤ 14) × IsWell (assignment_tree e x) n) × (slots (assignment_tree e x) ≡ (assignment_parts n).slots (e, x))
+assignment_into : (n : ℕ) (e : ExprTree) (x : (Token × ExprTree) ⊎ Unit {0}) → (assignment_parts n).good (e, x)
+    → ((rank (assignment_tree e x) ≤ 14) × IsWell (assignment_tree e x) n) × (slots (assignment_tree e x) ≡ (assignment_parts n).slots (e, x))
 assignment_into n e (inl x) g = let h = is_assignment_true e x.0.kind g.1.0 in ((le_refl _, (h.0, g.0.1, h.1, g.1.1)), refl)
 assignment_into n e (inr u) g = ((let h = g.0.0 in omega arith, g.0.1), sym (append-nil (slots e)))
 
@@ -442,7 +457,9 @@ assignment_of n (assignment e op f) g = ((e, inl (op, f)), (((let h = g.1.0 in o
 -- the reader of assignments is right
 reads_assignment : (n : ℕ) (i : Option Inside) → Deeper n i → Reads (expr_shape n 14) (assignment_at i)
 unfolding assignment_at
-reads_assignment n i h = reads_made (assignment_parts n) (expr_shape n 14) (λ x. assignment_tree x.0 x.1) (both (conditional_at i) (λ e. either (is_assignment e) (under (is_assignment e) i (one (is_assignment e)) (λ d. d.assignment)) nothing))
+reads_assignment n i h =
+    reads_made (assignment_parts n) (expr_shape n 14) (λ x. assignment_tree x.0 x.1)
+    (both (conditional_at i) (λ e. either (is_assignment e) (under (is_assignment e) i (one (is_assignment e)) (λ d. d.assignment)) nothing))
     (reads_both (expr_shape n 13) (λ e. maybe_assigned_shape e n) (conditional_at i) (λ e. either (is_assignment e) (under (is_assignment e) i (one (is_assignment e)) (λ d. d.assignment)) nothing)
     (reads_conditional n i h) (λ e _. reads_maybe_assigned e n i h) (λ e x _ g. assigned_link n e x g) (λ _ _. (inr tt, tt)))
     (λ x g. assignment_into n x.0 x.1 g) (assignment_of n) (λ x g k f. assigned_follow n x.0 x.1 k f)

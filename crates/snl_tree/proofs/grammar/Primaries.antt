@@ -76,8 +76,10 @@ parenthesized_of n _ g = absurd g.0
 -- the reader of expressions in parentheses is right
 reads_parenthesized : (n : ℕ) (i : Option Inside) → Deeper n i → Reads (parenthesized_shape n) (parenthesized_at i)
 unfolding parenthesized_at
-reads_parenthesized n i h = reads_made (parentheses_shape n) (parenthesized_shape n) (λ x. parenthesized x.1.0) (under (is OpenParenthesis) i (sign OpenParenthesis) (λ d. both d.expression (λ _. sign CloseParenthesis)))
-    (reads_under (is OpenParenthesis) (sign_shape OpenParenthesis) (sign OpenParenthesis) (reads_sign OpenParenthesis) (λ _ _. tt) (closed_shape CloseParenthesis 0).slots (λ m. (closed_shape CloseParenthesis m).good) (closed_shape CloseParenthesis 0).follow
+reads_parenthesized n i h =
+    reads_made (parentheses_shape n) (parenthesized_shape n) (λ x. parenthesized x.1.0) (under (is OpenParenthesis) i (sign OpenParenthesis) (λ d. both d.expression (λ _. sign CloseParenthesis)))
+    (reads_under (is OpenParenthesis) (sign_shape OpenParenthesis) (sign OpenParenthesis) (reads_sign OpenParenthesis) (λ _ _. tt) (closed_shape CloseParenthesis 0).slots
+    (λ m. (closed_shape CloseParenthesis m).good) (closed_shape CloseParenthesis 0).follow
     (λ d. both d.expression (λ _. sign CloseParenthesis)) (reads_closed CloseParenthesis (lit< tt)) (some_closed CloseParenthesis) n i h)
     (λ x g. ((tt, under_map (λ m. ((rank x.1.0 ≤ 15) × IsWell x.1.0 m) × Unit {0}) (λ m. (rank x.1.0 ≤ 15) × IsWell x.1.0 m) n (λ m h. h.0) g.1), refl))
     (parenthesized_of n) (λ x g k f. tt)
@@ -175,11 +177,13 @@ maybe_arguments_shape m = either_shape (some_arguments_shape m) (nothing_shape I
 
 -- the reader of arguments, where there are any, is right
 reads_maybe_arguments : (m : ℕ) (d : Inside) → InsideLaws m d → Reads (maybe_arguments_shape m) (either is_no_close (both (argument_at d) (λ _. more_arguments_at d)) nothing)
-reads_maybe_arguments m d laws = reads_either is_no_close (some_arguments_shape m) (nothing_shape IsClose) (both (argument_at d) (λ _. more_arguments_at d)) nothing (reads_some_arguments m d laws) (reads_nothing IsClose)
+reads_maybe_arguments m d laws =
+    reads_either is_no_close (some_arguments_shape m) (nothing_shape IsClose) (both (argument_at d) (λ _. more_arguments_at d)) nothing (reads_some_arguments m d laws) (reads_nothing IsClose)
     (λ x g. heads_argument m x.0 g.0 (slots_all (next_shape m).slots x.1)) (λ _ _ k e. subst (λ z. is_no_close z ≡ false) (sym e) refl)
 
 -- arguments or nothing make a well-formed list of arguments
-all_arguments_into : (m : ℕ) (x : (Argument × List (Unit {0} × Argument)) ⊎ Unit {0}) → (maybe_arguments_shape m).good x → AreWell (all_arguments x) m × (argument_slots (all_arguments x) ≡ (maybe_arguments_shape m).slots x)
+all_arguments_into : (m : ℕ) (x : (Argument × List (Unit {0} × Argument)) ⊎ Unit {0}) → (maybe_arguments_shape m).good x
+    → AreWell (all_arguments x) m × (argument_slots (all_arguments x) ≡ (maybe_arguments_shape m).slots x)
 all_arguments_into m (inl (inl t, xs)) g = ((is_true Text t.kind g.0, argument_list_good m xs g.1), ap (λ z. The t ∷ z) (argument_list_slots m xs))
 all_arguments_into m (inl (inr e, xs)) g = ((g.0.0, g.0.1, argument_list_good m xs g.1), ap (λ z. slots e ++ z) (argument_list_slots m xs))
 all_arguments_into m (inr u) g = (tt, refl)
@@ -198,7 +202,8 @@ all_arguments_follow m (inr u) k e = e
 -- the reader of a list of arguments is right
 reads_arguments : (m : ℕ) (d : Inside) → InsideLaws m d → Reads (arguments_shape m) (arguments_at d)
 unfolding arguments_at
-reads_arguments m d laws = reads_made (maybe_arguments_shape m) (arguments_shape m) all_arguments (either is_no_close (both (argument_at d) (λ _. more_arguments_at d)) nothing) (reads_maybe_arguments m d laws)
+reads_arguments m d laws =
+    reads_made (maybe_arguments_shape m) (arguments_shape m) all_arguments (either is_no_close (both (argument_at d) (λ _. more_arguments_at d)) nothing) (reads_maybe_arguments m d laws)
     (all_arguments_into m) (all_arguments_of m) (λ x g k e. all_arguments_follow m x k e)
 
 -- NAME [ '[' expr ']' ] | NAME '(' arguments ')'
@@ -243,22 +248,29 @@ tail_at i = either (is OpenBracket) (under (is OpenBracket) i (one (is OpenBrack
     nothing)
 
 -- the reader of arguments in parentheses, or of nothing, is right
-reads_call_tail : (n : ℕ) (i : Option Inside) → Deeper n i → Reads (either_shape (call_shape n) (nothing_shape FollowsName)) (either (is OpenParenthesis) (under (is OpenParenthesis) i (sign OpenParenthesis) (λ d. both (arguments_at d) (λ _. sign CloseParenthesis))) nothing)
-reads_call_tail n i h = reads_either (is OpenParenthesis) (call_shape n) (nothing_shape FollowsName) (under (is OpenParenthesis) i (sign OpenParenthesis) (λ d. both (arguments_at d) (λ _. sign CloseParenthesis))) nothing
-    (reads_under (is OpenParenthesis) (sign_shape OpenParenthesis) (sign OpenParenthesis) (reads_sign OpenParenthesis) (λ _ _. tt) (listed_shape 0).slots (λ m. (listed_shape m).good) (listed_shape 0).follow
+reads_call_tail : (n : ℕ) (i : Option Inside) → Deeper n i → Reads (either_shape (call_shape n) (nothing_shape FollowsName)) (either (is OpenParenthesis)
+    (under (is OpenParenthesis) i (sign OpenParenthesis) (λ d. both (arguments_at d) (λ _. sign CloseParenthesis))) nothing)
+reads_call_tail n i h =
+    reads_either (is OpenParenthesis) (call_shape n) (nothing_shape FollowsName) (under (is OpenParenthesis) i (sign OpenParenthesis) (λ d. both (arguments_at d) (λ _. sign CloseParenthesis))) nothing
+    (reads_under (is OpenParenthesis) (sign_shape OpenParenthesis) (sign OpenParenthesis) (reads_sign OpenParenthesis) (λ _ _. tt) (listed_shape 0).slots
+    (λ m. (listed_shape m).good) (listed_shape 0).follow
     (λ d. both (arguments_at d) (λ _. sign CloseParenthesis)) reads_listed (λ m. ((no_arguments, tt), (tt, tt))) n i h)
     (reads_nothing FollowsName) (λ x g. refl) (λ _ _ k f. follows_no OpenParenthesis k refl f)
 
 -- arguments in parentheses, and what may follow a name, begin with no bracket
-call_tail_avoids : (n : ℕ) (x : (Unit {0} × (ArgumentList × Unit {0})) ⊎ Unit {0}) → Avoids (is OpenBracket) ((either_shape (call_shape n) (nothing_shape FollowsName)).follow x) ((either_shape (call_shape n) (nothing_shape FollowsName)).slots x)
+call_tail_avoids : (n : ℕ) (x : (Unit {0} × (ArgumentList × Unit {0})) ⊎ Unit {0})
+    → Avoids (is OpenBracket) ((either_shape (call_shape n) (nothing_shape FollowsName)).follow x) ((either_shape (call_shape n) (nothing_shape FollowsName)).slots x)
 call_tail_avoids n (inl x) = refl
 call_tail_avoids n (inr u) = λ k f. follows_no OpenBracket k refl f
 
 -- the reader of a subscript, arguments or nothing is right
 reads_tail : (n : ℕ) (i : Option Inside) → Deeper n i → Reads (tail_shape n) (tail_at i)
-reads_tail n i h = reads_either (is OpenBracket) (subscript_shape n) (either_shape (call_shape n) (nothing_shape FollowsName)) (under (is OpenBracket) i (one (is OpenBracket)) (λ d. both d.expression (λ _. sign CloseBracket)))
+reads_tail n i h =
+    reads_either (is OpenBracket) (subscript_shape n) (either_shape (call_shape n) (nothing_shape FollowsName))
+    (under (is OpenBracket) i (one (is OpenBracket)) (λ d. both d.expression (λ _. sign CloseBracket)))
     (either (is OpenParenthesis) (under (is OpenParenthesis) i (sign OpenParenthesis) (λ d. both (arguments_at d) (λ _. sign CloseParenthesis))) nothing)
-    (reads_under (is OpenBracket) (one_shape (is OpenBracket)) (one (is OpenBracket)) (reads_one (is OpenBracket)) (λ _ _. tt) (closed_shape CloseBracket 0).slots (λ m. (closed_shape CloseBracket m).good) (closed_shape CloseBracket 0).follow
+    (reads_under (is OpenBracket) (one_shape (is OpenBracket)) (one (is OpenBracket)) (reads_one (is OpenBracket)) (λ _ _. tt) (closed_shape CloseBracket 0).slots
+    (λ m. (closed_shape CloseBracket m).good) (closed_shape CloseBracket 0).follow
     (λ d. both d.expression (λ _. sign CloseBracket)) (reads_closed CloseBracket (lit< tt)) (some_closed CloseBracket) n i h)
     (reads_call_tail n i h) (λ x g. g.0) (λ x g. call_tail_avoids n x)
 
@@ -279,14 +291,32 @@ name_parts_shape n = both_shape (one_shape (is Name)) (λ _. tail_shape n)
 
 -- a name with a subscript, arguments or nothing makes a well-formed expression
 named_into : (n : ℕ) (x : Token) (t : Tail) → (name_parts_shape n).good (x, t) → (IsNamed (named_tree x t) × IsWell (named_tree x t) n) × (slots (named_tree x t) ≡ (name_parts_shape n).slots (x, t))
-named_into n x (inl e) g = ((tt, (is_true Name x.kind g.0, is_true OpenBracket e.0.kind g.1.0, under_map (λ m. ((rank e.1.0 ≤ 15) × IsWell e.1.0 m) × Unit {0}) (λ m. (rank e.1.0 ≤ 15) × IsWell e.1.0 m) n (λ m h. h.0) g.1.1)), refl)
+named_into n x (inl e) g = (
+  (
+    tt,
+    (
+      is_true Name x.kind g.0,
+      is_true OpenBracket e.0.kind g.1.0,
+      under_map (λ m. ((rank e.1.0 ≤ 15) × IsWell e.1.0 m) × Unit {0})
+          (λ m. (rank e.1.0 ≤ 15) × IsWell e.1.0 m) n (λ m h. h.0) g.1.1,
+    ),
+  ),
+  refl,
+)
 named_into n x (inr (inl all)) g = ((tt, (is_true Name x.kind g.0, under_map (λ m. AreWell all.1.0 m × Unit {0}) (λ m. AreWell all.1.0 m) n (λ m h. h.0) g.1.1)), refl)
 named_into n x (inr (inr u)) g = ((tt, is_true Name x.kind g.0), refl)
 
 -- each name, element or call is a name with a subscript, arguments or nothing
 named_of : (n : ℕ) (e : ExprTree) → IsNamed e × IsWell e n → (x : Token × Tail) × (name_parts_shape n).good x × (named_tree x.0 x.1 ≡ e)
 named_of n (named x) g = ((x, inr (inr tt)), (true_is Name x.kind g.1, tt), refl)
-named_of n (element x b e) g = ((x, inl (b, (e, tt))), (true_is Name x.kind g.1.0, (true_is OpenBracket b.kind g.1.1, under_map (λ m. (rank e ≤ 15) × IsWell e m) (λ m. ((rank e ≤ 15) × IsWell e m) × Unit {0}) n (λ m h. (h, tt)) g.1.2)), refl)
+named_of n (element x b e) g = (
+  (x, inl (b, (e, tt))),
+  (
+    true_is Name x.kind g.1.0,
+    (true_is OpenBracket b.kind g.1.1, under_map (λ m. (rank e ≤ 15) × IsWell e m) (λ m. ((rank e ≤ 15) × IsWell e m) × Unit {0}) n (λ m h. (h, tt)) g.1.2),
+  ),
+  refl,
+)
 named_of n (call f all) g = ((f, inr (inl (tt, (all, tt)))), (true_is Name f.kind g.1.0, (tt, under_map (λ m. AreWell all m) (λ m. AreWell all m × Unit {0}) n (λ m h. (h, tt)) g.1.1)), refl)
 named_of n _ g = absurd g.0
 
@@ -378,6 +408,8 @@ open_heads n _ g = absurd (elim g.0 [ inl p ↦ p | inr p ↦ p ])
 -- the reader of primaries is right
 pub reads_primary : (n : ℕ) (i : Option Inside) → Deeper n i → Reads (expr_shape n 0) (primary_at i)
 unfolding primary_at
-reads_primary n i h = reads_choice is_constant (constant_shape n) (open_shape n) (expr_shape n 0) (made constant (one is_constant)) (choice (is OpenParenthesis) (parenthesized_at i) (named_at i)) (reads_constant n) (reads_open n i h)
+reads_primary n i h =
+    reads_choice is_constant (constant_shape n) (open_shape n) (expr_shape n 0) (made constant (one is_constant))
+    (choice (is OpenParenthesis) (parenthesized_at i) (named_at i)) (reads_constant n) (reads_open n i h)
     (λ _. refl) (λ _. refl) (constant_into n) (open_into n) (primary_cover n) (λ _ _ _ _. tt) (λ _ _ _ f. f)
     (constant_heads n) (λ e g. avoids_heads is_constant (λ k. 0 < looseness k) (slots e) (open_heads n e g))

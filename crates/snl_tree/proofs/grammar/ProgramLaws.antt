@@ -63,7 +63,8 @@ ways_form = either_form (behind_form State (one_form (is Name))) (sign_form Exit
 right_target : Right target_form (λ _. target_at)
 unfolding target_at
 right_target = right_made ways_form target_form target (λ _. either (is State) (behind State (one (is Name))) (sign Exit))
-    (right_either (is State) (behind_form State (one_form (is Name))) (sign_form Exit) (λ _. behind State (one (is Name))) (λ _. sign Exit) (right_behind State (one_form (is Name)) (λ _. one (is Name)) (right_kind Name)) (right_sign Exit)
+    (right_either (is State) (behind_form State (one_form (is Name))) (sign_form Exit) (λ _. behind State (one (is Name))) (λ _. sign Exit)
+    (right_behind State (one_form (is Name)) (λ _. one (is Name)) (right_kind Name)) (right_sign Exit)
     (λ _ _ _. refl) (λ _ _ _. refl))
     into onto follows
   where
@@ -135,7 +136,9 @@ entry_form P = maybe_form (behind_form Entry block_form) P
 -- the reader of an entry block that may be missing is right where what follows is no entry
 right_entry : (P : Kind → Type 0) → ((k : Kind) → P k → is Entry k ≡ false) → Right (entry_form P) (λ n. entry_at (suc n))
 unfolding entry_at
-right_entry P stop = right_maybe (is Entry) (behind_form Entry block_form) P (λ n. behind Entry (block_at (suc n) (suc n))) (right_behind Entry block_form (λ n. block_at (suc n) (suc n)) right_block) (λ _ _ _. refl) stop
+right_entry P stop =
+    right_maybe (is Entry) (behind_form Entry block_form) P (λ n. behind Entry (block_at (suc n) (suc n)))
+    (right_behind Entry block_form (λ n. block_at (suc n) (suc n)) right_block) (λ _ _ _. refl) stop
 
 -- an exit block, or nothing where the kinds of P may follow
 abbrev pub exit_form : (Kind → Type 0) → Form (Option BlockTree)
@@ -144,7 +147,8 @@ exit_form P = maybe_form (behind_form Exit block_form) P
 -- the reader of an exit block that may be missing is right where what follows is no exit
 right_exit : (P : Kind → Type 0) → ((k : Kind) → P k → is Exit k ≡ false) → Right (exit_form P) (λ n. exit_at (suc n))
 unfolding exit_at
-right_exit P stop = right_maybe (is Exit) (behind_form Exit block_form) P (λ n. behind Exit (block_at (suc n) (suc n))) (right_behind Exit block_form (λ n. block_at (suc n) (suc n)) right_block) (λ _ _ _. refl) stop
+right_exit P stop =
+    right_maybe (is Exit) (behind_form Exit block_form) P (λ n. behind Exit (block_at (suc n) (suc n))) (right_behind Exit block_form (λ n. block_at (suc n) (suc n)) right_block) (λ _ _ _. refl) stop
 
 -- states
 
@@ -193,7 +197,8 @@ abbrev behind_parts : Form (Option BlockTree × (List ClauseTree × Option Block
 behind_parts = both_form (entry_form BehindEntry) (λ _. last_form)
 
 -- the entry, a clause, the exit or the closing brace may follow a part that all four may follow
-entry_link : (n : ℕ) (P : Kind → Type 0) → P Entry → P When → P Exit → P CloseBrace → (x : Option BlockTree × (List ClauseTree × Option BlockTree)) → behind_parts.good n x → Links P (behind_parts.follow x) (behind_parts.slots x)
+entry_link : (n : ℕ) (P : Kind → Type 0) → P Entry → P When → P Exit → P CloseBrace → (x : Option BlockTree × (List ClauseTree × Option BlockTree)) → behind_parts.good n x
+    → Links P (behind_parts.follow x) (behind_parts.slots x)
 entry_link n P e w a b (None, x) g = clauses_link n P w a b x g.1
 entry_link n P e w a b (Some body, x) g = e
 
@@ -231,11 +236,15 @@ pub right_state : Right state_form (λ n. state_at (suc n))
 unfolding state_at
 right_state = right_made (both_form (one_form (is State)) (λ _. both_form (one_form (is Name)) (λ _. braced_insides))) state_form
     (λ x. record { word = x.0; name = x.1.0; definitions = x.1.1.0; entry = x.1.1.1.0; clauses = x.1.1.1.1.0; exit = x.1.1.1.1.1 })
-    (λ n. both (one (is State)) (λ _. both (one (is Name)) (λ _. between OpenBrace (both (parts_at (suc n)) (λ _. both (entry_at (suc n)) (λ _. both (clauses_at (suc n)) (λ _. exit_at (suc n))))) CloseBrace)))
+    (λ n. both (one (is State)) (λ _. both (one (is Name))
+    (λ _. between OpenBrace (both (parts_at (suc n)) (λ _. both (entry_at (suc n)) (λ _. both (clauses_at (suc n)) (λ _. exit_at (suc n))))) CloseBrace)))
     (right_both (one_form (is State)) (λ _. both_form (one_form (is Name)) (λ _. braced_insides)) (λ _. one (is State))
-    (λ n _. both (one (is Name)) (λ _. between OpenBrace (both (parts_at (suc n)) (λ _. both (entry_at (suc n)) (λ _. both (clauses_at (suc n)) (λ _. exit_at (suc n))))) CloseBrace)) (right_kind State)
-    (λ _. right_both (one_form (is Name)) (λ _. braced_insides) (λ _. one (is Name)) (λ n _. between OpenBrace (both (parts_at (suc n)) (λ _. both (entry_at (suc n)) (λ _. both (clauses_at (suc n)) (λ _. exit_at (suc n))))) CloseBrace) (right_kind Name)
-    (λ _. right_between OpenBrace insides_form (λ n. both (parts_at (suc n)) (λ _. both (entry_at (suc n)) (λ _. both (clauses_at (suc n)) (λ _. exit_at (suc n))))) CloseBrace right_insides (λ _ x _. ends x.1.1.1))
+    (λ n _. both (one (is Name)) (λ _. between OpenBrace (both (parts_at (suc n)) (λ _. both (entry_at (suc n)) (λ _. both (clauses_at (suc n)) (λ _. exit_at (suc n))))) CloseBrace))
+    (right_kind State)
+    (λ _. right_both (one_form (is Name)) (λ _. braced_insides) (λ _. one (is Name))
+    (λ n _. between OpenBrace (both (parts_at (suc n)) (λ _. both (entry_at (suc n)) (λ _. both (clauses_at (suc n)) (λ _. exit_at (suc n))))) CloseBrace) (right_kind Name)
+    (λ _. right_between OpenBrace insides_form (λ n. both (parts_at (suc n)) (λ _. both (entry_at (suc n)) (λ _. both (clauses_at (suc n)) (λ _. exit_at (suc n)))))
+    CloseBrace right_insides (λ _ x _. ends x.1.1.1))
     (λ _ _ _ _ _. tt)) (λ _ _ _ _ _. tt))
     (λ n x g. ((is_true State x.0.kind g.0, is_true Name x.1.0.kind g.1.0, g.1.1.0, g.1.1.1.0, g.1.1.1.1.0, g.1.1.1.1.1), refl))
     (λ n s g. ((s.word, (s.name, (s.definitions, (s.entry, (s.clauses, s.exit))))), (true_is State s.word.kind g.0, (true_is Name s.name.kind g.1, (g.2, (g.3, (g.4, g.5))))), refl)) (λ n x g k f. tt)
@@ -253,7 +262,9 @@ states_form = some_form state_form (λ k. k ≡ CloseBrace)
 -- the reader of rows of states is right
 right_states : Right states_form (λ n. states_at (suc n))
 unfolding states_at
-right_states = right_some_of (is State) state_form (λ k. k ≡ CloseBrace) (λ n. state_at (suc n)) right_state (λ n s g. true_is State s.word.kind g.0) (λ k e. subst (λ z. is State z ≡ false) (sym e) refl) (λ _ _. tt)
+right_states =
+    right_some_of (is State) state_form (λ k. k ≡ CloseBrace) (λ n. state_at (suc n)) right_state (λ n s g. true_is State s.word.kind g.0)
+    (λ k e. subst (λ z. is State z ≡ false) (sym e) refl) (λ _ _. tt)
 
 -- all that stands in the braces of a state set
 abbrev set_insides : Form (List DefinitionTree × List StateTree)
@@ -281,9 +292,12 @@ braced_set = between_form OpenBrace set_insides CloseBrace
 -- the reader of state sets is right
 pub right_state_set : Right state_set_form (λ n. state_set_at (suc n))
 unfolding state_set_at
-right_state_set = right_made (both_form (one_form (is StateSet)) (λ _. both_form (one_form (is Name)) (λ _. braced_set))) state_set_form (λ x. record { word = x.0; name = x.1.0; definitions = x.1.1.0; states = x.1.1.1 })
+right_state_set =
+    right_made (both_form (one_form (is StateSet)) (λ _. both_form (one_form (is Name)) (λ _. braced_set))) state_set_form
+    (λ x. record { word = x.0; name = x.1.0; definitions = x.1.1.0; states = x.1.1.1 })
     (λ n. both (one (is StateSet)) (λ _. both (one (is Name)) (λ _. between OpenBrace (both (definitions_at (suc n)) (λ _. states_at (suc n))) CloseBrace)))
-    (right_both (one_form (is StateSet)) (λ _. both_form (one_form (is Name)) (λ _. braced_set)) (λ _. one (is StateSet)) (λ n _. both (one (is Name)) (λ _. between OpenBrace (both (definitions_at (suc n)) (λ _. states_at (suc n))) CloseBrace)) (right_kind StateSet)
+    (right_both (one_form (is StateSet)) (λ _. both_form (one_form (is Name)) (λ _. braced_set)) (λ _. one (is StateSet))
+    (λ n _. both (one (is Name)) (λ _. between OpenBrace (both (definitions_at (suc n)) (λ _. states_at (suc n))) CloseBrace)) (right_kind StateSet)
     (λ _. right_both (one_form (is Name)) (λ _. braced_set) (λ _. one (is Name)) (λ n _. between OpenBrace (both (definitions_at (suc n)) (λ _. states_at (suc n))) CloseBrace) (right_kind Name)
     (λ _. right_between OpenBrace set_insides (λ n. both (definitions_at (suc n)) (λ _. states_at (suc n))) CloseBrace right_set_insides (λ _ _ _. refl))
     (λ _ _ _ _ _. tt)) (λ _ _ _ _ _. tt))
@@ -297,7 +311,9 @@ state_sets_form = some_form state_set_form (λ k. k ≡ Exit)
 -- the reader of rows of state sets is right
 right_state_sets : Right state_sets_form (λ n. state_sets_at (suc n))
 unfolding state_sets_at
-right_state_sets = right_some_of (is StateSet) state_set_form (λ k. k ≡ Exit) (λ n. state_set_at (suc n)) right_state_set (λ n s g. true_is StateSet s.word.kind g.0) (λ k e. subst (λ z. is StateSet z ≡ false) (sym e) refl) (λ _ _. tt)
+right_state_sets =
+    right_some_of (is StateSet) state_set_form (λ k. k ≡ Exit) (λ n. state_set_at (suc n)) right_state_set (λ n s g. true_is StateSet s.word.kind g.0)
+    (λ k e. subst (λ z. is StateSet z ≡ false) (sym e) refl) (λ _ _. tt)
 
 -- programs
 
@@ -370,7 +386,8 @@ set_entry_link n None x g = sets_link n (λ k. k ≡ StateSet) refl x g
 set_entry_link n (Some body) x g = free (sets_form.follow x) (sets_form.slots x)
 
 -- the entry or a state set may follow a part that both may follow
-entered_link : (n : ℕ) (P : Kind → Type 0) → P Entry → P StateSet → (x : Option BlockTree × (List StateSetTree × Option BlockTree)) → entered_form.good n x → Links P (entered_form.follow x) (entered_form.slots x)
+entered_link : (n : ℕ) (P : Kind → Type 0) → P Entry → P StateSet → (x : Option BlockTree × (List StateSetTree × Option BlockTree)) → entered_form.good n x
+    → Links P (entered_form.follow x) (entered_form.slots x)
 entered_link n P a b (None, x) g = sets_link n P b x g.1
 entered_link n P a b (Some body, x) g = a
 
@@ -379,7 +396,8 @@ abbrev defined_form : Form (List DefinitionTree × (Option BlockTree × (List St
 defined_form = both_form (later_form (parts_form BehindAll)) (λ _. entered_form)
 
 -- a definition, the entry or a state set may follow the macros
-macros_link : (n : ℕ) (o : Option Token) (x : List DefinitionTree × (Option BlockTree × (List StateSetTree × Option BlockTree))) → defined_form.good n x → Links (macros_form.follow o) (defined_form.follow x) (defined_form.slots x)
+macros_link : (n : ℕ) (o : Option Token) (x : List DefinitionTree × (Option BlockTree × (List StateSetTree × Option BlockTree))) → defined_form.good n x
+    → Links (macros_form.follow o) (defined_form.follow x) (defined_form.slots x)
 macros_link n (Some t) x g = free (defined_form.follow x) (defined_form.slots x)
 macros_link n None ([], x) g = entered_link n BehindMacros (inr (inl refl)) (inr (inr (inl refl))) x g.1
 macros_link n None (d ∷ all, x) g = heads_links (λ k. starts_part k ≡ true) BehindMacros (entered_form.follow x) (definition_slots d ++ row_slots definition_slots all) (entered_form.slots x)
@@ -391,10 +409,12 @@ behind_name = both_form macros_form (λ _. defined_form)
 
 -- the reader of all of a program after its name is right
 right_behind_name : Right behind_name (λ n. both macros_at (λ _. both (parts_at (suc n)) (λ _. both (entry_at (suc n)) (λ _. both (state_sets_at (suc n)) (λ _. exit_at (suc n))))))
-right_behind_name = right_both macros_form (λ _. defined_form) (λ _. macros_at) (λ n _. both (parts_at (suc n)) (λ _. both (entry_at (suc n)) (λ _. both (state_sets_at (suc n)) (λ _. exit_at (suc n))))) right_macros
+right_behind_name =
+    right_both macros_form (λ _. defined_form) (λ _. macros_at) (λ n _. both (parts_at (suc n)) (λ _. both (entry_at (suc n)) (λ _. both (state_sets_at (suc n)) (λ _. exit_at (suc n))))) right_macros
     (λ _. right_both (later_form (parts_form BehindAll)) (λ _. entered_form) (λ n. parts_at (suc n)) (λ n _. both (entry_at (suc n)) (λ _. both (state_sets_at (suc n)) (λ _. exit_at (suc n))))
     (right_later (parts_form BehindAll) parts_at (right_parts BehindAll (λ k e. among (λ z. starts_part z ≡ false) (Entry ∷ StateSet ∷ []) k (refl, (refl, tt)) e)))
-    (λ _. right_both set_entry (λ _. sets_form) (λ n. entry_at (suc n)) (λ n _. both (state_sets_at (suc n)) (λ _. exit_at (suc n))) (right_entry (λ k. k ≡ StateSet) (λ k e. subst (λ z. is Entry z ≡ false) (sym e) refl))
+    (λ _. right_both set_entry (λ _. sets_form) (λ n. entry_at (suc n)) (λ n _. both (state_sets_at (suc n)) (λ _. exit_at (suc n)))
+    (right_entry (λ k. k ≡ StateSet) (λ k e. subst (λ z. is Entry z ≡ false) (sym e) refl))
     (λ _. right_both state_sets_form (λ _. exit_form Never) (λ n. state_sets_at (suc n)) (λ n _. exit_at (suc n)) right_state_sets (λ _. right_exit Never (λ k e. absurd e)) (λ _ _ o _ _. last_exit o))
     (λ n o x _ g. set_entry_link n o x g))
     (λ n _ x _ g. entered_link n BehindAll (inl refl) (inr (inl refl)) x g))
@@ -409,11 +429,17 @@ pub right_program : Right program_form (λ n. program_at (suc n))
 unfolding program_at
 right_program = right_made (both_form (one_form (is Program)) (λ _. both_form (one_form (is Name)) (λ _. behind_name))) program_form
     (λ x. record { word = x.0; name = x.1.0; macros = x.1.1.0; definitions = x.1.1.1.0; entry = x.1.1.1.1.0; state_sets = x.1.1.1.1.1.0; exit = x.1.1.1.1.1.1 })
-    (λ n. both (one (is Program)) (λ _. both (one (is Name)) (λ _. both macros_at (λ _. both (parts_at (suc n)) (λ _. both (entry_at (suc n)) (λ _. both (state_sets_at (suc n)) (λ _. exit_at (suc n))))))))
+    (λ n. both (one (is Program)) (λ _. both (one (is Name))
+    (λ _. both macros_at (λ _. both (parts_at (suc n)) (λ _. both (entry_at (suc n)) (λ _. both (state_sets_at (suc n)) (λ _. exit_at (suc n))))))))
     (right_both (one_form (is Program)) (λ _. both_form (one_form (is Name)) (λ _. behind_name)) (λ _. one (is Program))
     (λ n _. both (one (is Name)) (λ _. both macros_at (λ _. both (parts_at (suc n)) (λ _. both (entry_at (suc n)) (λ _. both (state_sets_at (suc n)) (λ _. exit_at (suc n))))))) (right_kind Program)
-    (λ _. right_both (one_form (is Name)) (λ _. behind_name) (λ _. one (is Name)) (λ n _. both macros_at (λ _. both (parts_at (suc n)) (λ _. both (entry_at (suc n)) (λ _. both (state_sets_at (suc n)) (λ _. exit_at (suc n)))))) (right_kind Name)
+    (λ _. right_both (one_form (is Name)) (λ _. behind_name) (λ _. one (is Name))
+    (λ n _. both macros_at (λ _. both (parts_at (suc n)) (λ _. both (entry_at (suc n)) (λ _. both (state_sets_at (suc n)) (λ _. exit_at (suc n)))))) (right_kind Name)
     (λ _. right_behind_name) (λ _ _ b _ _. free (behind_name.follow b) (behind_name.slots b))) (λ _ _ _ _ _. tt))
     (λ n x g. ((is_true Program x.0.kind g.0, is_true Name x.1.0.kind g.1.0, text_is x.1.1.0 g.1.1.0, g.1.1.1.0, g.1.1.1.1.0, g.1.1.1.1.1.0, g.1.1.1.1.1.1), refl))
-    (λ n p g. ((p.word, (p.name, (p.macros, (p.definitions, (p.entry, (p.state_sets, p.exit)))))), (true_is Program p.word.kind g.0, (true_is Name p.name.kind g.1, (is_text p.macros g.2, (g.3, (g.4, (g.5, g.6)))))), refl))
+    (λ n p g. (
+      (p.word, (p.name, (p.macros, (p.definitions, (p.entry, (p.state_sets, p.exit)))))),
+      (true_is Program p.word.kind g.0, (true_is Name p.name.kind g.1, (is_text p.macros g.2, (g.3, (g.4, (g.5, g.6)))))),
+      refl,
+    ))
     (λ n x g k f. absurd f)

@@ -38,7 +38,15 @@ block_first (Some b) g = absurd (no_block b g)
 
 -- a state within limit 0 is within limit 1
 state_first : (s : StateTree) → IsState 0 s → IsState 1 s
-state_first s g = (g.0, g.1, each_more (IsPart 0) (IsPart 1) (right_part.raise 0) s.definitions g.2, block_first s.entry g.3, each_more (IsClause 0) (IsClause 1) (λ c h. absurd (no_block c.block h.2)) s.clauses g.4, block_first s.exit g.5)
+state_first s g = (
+  g.0,
+  g.1,
+  each_more (IsPart 0) (IsPart 1) (right_part.raise 0) s.definitions g.2,
+  block_first s.entry g.3,
+  each_more (IsClause 0) (IsClause 1)
+      (λ c h. absurd (no_block c.block h.2)) s.clauses g.4,
+  block_first s.exit g.5,
+)
 
 -- a state set within limit 0 is within limit 1
 set_first : (s : StateSetTree) → IsStateSet 0 s → IsStateSet 1 s
@@ -46,7 +54,16 @@ set_first s g = (g.0, g.1, each_more (IsDefinition 0) (IsDefinition 1) (right_de
 
 -- a program within a limit is within the next one
 program_more : (n : ℕ) (p : ProgramTree) → IsProgram n p → IsProgram (suc n) p
-program_more zero p g = (g.0, g.1, g.2, each_more (IsPart 0) (IsPart 1) (right_part.raise 0) p.definitions g.3, block_first p.entry g.4, some_more (IsStateSet 0) (IsStateSet 1) set_first p.state_sets g.5, block_first p.exit g.6)
+program_more zero p g = (
+  g.0,
+  g.1,
+  g.2,
+  each_more (IsPart 0) (IsPart 1) (right_part.raise 0) p.definitions g.3,
+  block_first p.entry g.4,
+  some_more (IsStateSet 0) (IsStateSet 1) set_first
+      p.state_sets g.5,
+  block_first p.exit g.6,
+)
 program_more (suc n) p g = right_program.raise n p g
 
 -- programs, by the number of nested parts beyond the first
@@ -110,11 +127,14 @@ only_program n ts p g h = one_tree later none (λ n. program_at (suc n)) right_p
 
 -- where the reader of programs is stuck, the token is unexpected
 pub program_stuck : (n : ℕ) (ts rest : List Token) → program_at (suc n) ts ≡ Err (Stuck rest) → IsUnexpected programs (suc n) ts (length ts - length rest)
-program_stuck n ts rest h = unexpected_later n ts (length ts - length rest) (unexpected later none (λ n. program_at (suc n)) right_program.reads right_program.grows right_program.some raise n ts (Err (Stuck rest)) h (λ r e. cc) (λ a e. cc))
+program_stuck n ts rest h =
+    unexpected_later n ts (length ts - length rest) (unexpected later none (λ n. program_at (suc n)) right_program.reads right_program.grows right_program.some raise n ts (Err (Stuck rest)) h
+    (λ r e. cc) (λ a e. cc))
 
 -- where tokens are left after a program, the first of them is unexpected
 pub program_left : (n : ℕ) (ts rest : List Token) (p : ProgramTree) → program_at (suc n) ts ≡ Ok (p, rest) → (rest ≡ [] → ⊥) → IsUnexpected programs (suc n) ts (length ts - length rest)
-program_left n ts rest p h more = unexpected_later n ts (length ts - length rest) (unexpected later none (λ n. program_at (suc n)) right_program.reads right_program.grows right_program.some raise n ts (Ok (p, rest)) h (λ r k. cc)
+program_left n ts rest p h more =
+    unexpected_later n ts (length ts - length rest) (unexpected later none (λ n. program_at (suc n)) right_program.reads right_program.grows right_program.some raise n ts (Ok (p, rest)) h (λ r k. cc)
     (λ a k. let both : ◌≡◌ {A = ProgramTree × List Token} (p, rest) (a, []) = cc in more (ap (λ x. x.1) both)))
 
 -- where the reader of programs finds a sign too deep, the token is nested too deep

@@ -160,7 +160,8 @@ mutual
   well_more (postfix e op) n g = (g.0, well_more e n g.1, g.2)
   well_more (prefix op e) n g = (g.0, under_more (λ m. (rank e ≤ 2) × IsWell e m) n (λ m h. (h.0, well_more e m h.1)) g.1)
   well_more (chain e rest) n g = (g.0, g.1, well_more e n g.2, terms_more rest (terms_rank rest) n g.3)
-  well_more (conditional c a b) n g = (g.0, well_more c n g.1, under_more (λ m. (rank a ≤ 15) × IsWell a m × (rank b ≤ 13) × IsWell b m) n (λ m h. (h.0, well_more a m h.1, h.2, well_more b m h.3)) g.2)
+  well_more (conditional c a b) n g =
+      (g.0, well_more c n g.1, under_more (λ m. (rank a ≤ 15) × IsWell a m × (rank b ≤ 13) × IsWell b m) n (λ m h. (h.0, well_more a m h.1, h.2, well_more b m h.3)) g.2)
   well_more (assignment e op f) n g = (g.0, well_more e n g.1, g.2, under_more (λ m. (rank f ≤ 14) × IsWell f m) n (λ m h. (h.0, well_more f m h.1)) g.3)
 
   -- well-formed terms stay so where more depth is left

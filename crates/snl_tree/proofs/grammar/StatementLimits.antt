@@ -64,7 +64,9 @@ module _ (l k : ℕ) (i j : Inner) (h : Higher (suc l + k) i j) where
   -- the reader of blocks grows with the limit and the depth
   grows_block : Grows (block_of l i) (block_of (suc l + k) j)
   unfolding block_of
-  grows_block = grows_made (λ x. block x.1.0 x.1.1) (under (is OpenBrace) i (sign OpenBrace) (λ d. both (declarations_at l) (λ _. before (statements_at d) CloseBrace))) (under (is OpenBrace) j (sign OpenBrace) (λ d. both (declarations_at (suc l + k)) (λ _. before (statements_at d) CloseBrace)))
+  grows_block =
+      grows_made (λ x. block x.1.0 x.1.1) (under (is OpenBrace) i (sign OpenBrace) (λ d. both (declarations_at l) (λ _. before (statements_at d) CloseBrace)))
+      (under (is OpenBrace) j (sign OpenBrace) (λ d. both (declarations_at (suc l + k)) (λ _. before (statements_at d) CloseBrace)))
       (grows_nested (suc l + k) i j h (is OpenBrace) (sign OpenBrace) (opens_sign OpenBrace) (grows_sign OpenBrace)
       (λ d. both (declarations_at l) (λ _. before (statements_at d) CloseBrace)) (λ d. both (declarations_at (suc l + k)) (λ _. before (statements_at d) CloseBrace))
       (λ m d laws. ends (content_shape (suc l + k) m) (both (declarations_at (suc l + k)) (λ _. before (statements_at d) CloseBrace)) (reads_content (suc l + k) m d laws))
@@ -81,8 +83,11 @@ module _ (l k : ℕ) (i j : Inner) (h : Higher (suc l + k) i j) where
   -- the reader of `if` statements grows with the limit and the depth
   grows_if : Grows (if_at l i) (if_at (suc l + k) j)
   unfolding if_at
-  grows_if = grows_made (λ x. if_tree x.1.0 x.1.1.0 x.1.1.1) (under (is If) i (sign If) (λ d. both (condition_at l) (λ _. both d (λ s. else_at (is_closed s) d)))) (under (is If) j (sign If) (λ d. both (condition_at (suc l + k)) (λ _. both d (λ s. else_at (is_closed s) d))))
-      (grows_nested (suc l + k) i j h (is If) (sign If) (opens_sign If) (grows_sign If) (λ d. both (condition_at l) (λ _. both d (λ s. else_at (is_closed s) d))) (λ d. both (condition_at (suc l + k)) (λ _. both d (λ s. else_at (is_closed s) d)))
+  grows_if =
+      grows_made (λ x. if_tree x.1.0 x.1.1.0 x.1.1.1) (under (is If) i (sign If) (λ d. both (condition_at l) (λ _. both d (λ s. else_at (is_closed s) d))))
+      (under (is If) j (sign If) (λ d. both (condition_at (suc l + k)) (λ _. both d (λ s. else_at (is_closed s) d))))
+      (grows_nested (suc l + k) i j h (is If) (sign If) (opens_sign If) (grows_sign If) (λ d. both (condition_at l) (λ _. both d (λ s. else_at (is_closed s) d)))
+      (λ d. both (condition_at (suc l + k)) (λ _. both d (λ s. else_at (is_closed s) d)))
       (λ m d laws. ends (chosen_shape (suc l + k) m) (both (condition_at (suc l + k)) (λ _. both d (λ s. else_at (is_closed s) d))) (reads_chosen (suc l + k) m d laws))
       (λ a b g. grows_both (condition_at l) (condition_at (suc l + k)) (λ _. both a (λ s. else_at (is_closed s) a)) (λ _. both b (λ s. else_at (is_closed s) b)) (right_condition.grows l k)
       (λ _. grows_both a b (λ s. else_at (is_closed s) a) (λ s. else_at (is_closed s) b) g (λ s. grows_else (is_closed s) a b g))))
@@ -90,7 +95,9 @@ module _ (l k : ℕ) (i j : Inner) (h : Higher (suc l + k) i j) where
   -- the reader of `while` loops grows with the limit and the depth
   grows_while : Grows (while_at l i) (while_at (suc l + k) j)
   unfolding while_at
-  grows_while = grows_made (λ x. while_loop x.0 x.1.0 x.1.1) (under (is While) i (one (is While)) (λ d. both (condition_at l) (λ _. d))) (under (is While) j (one (is While)) (λ d. both (condition_at (suc l + k)) (λ _. d)))
+  grows_while =
+      grows_made (λ x. while_loop x.0 x.1.0 x.1.1) (under (is While) i (one (is While)) (λ d. both (condition_at l) (λ _. d)))
+      (under (is While) j (one (is While)) (λ d. both (condition_at (suc l + k)) (λ _. d)))
       (grows_nested (suc l + k) i j h (is While) (one (is While)) (opens_one (is While)) (grows_one (is While)) (λ d. both (condition_at l) (λ _. d)) (λ d. both (condition_at (suc l + k)) (λ _. d))
       (λ m d laws. ends (looped_shape (suc l + k) m) (both (condition_at (suc l + k)) (λ _. d)) (reads_looped (suc l + k) m d laws))
       (λ a b g. grows_both (condition_at l) (condition_at (suc l + k)) (λ _. a) (λ _. b) (right_condition.grows l k) (λ _. g)))
@@ -98,7 +105,8 @@ module _ (l k : ℕ) (i j : Inner) (h : Higher (suc l + k) i j) where
   -- the reader of `for` loops grows with the limit and the depth
   grows_for : Grows (for_at l i) (for_at (suc l + k) j)
   unfolding for_at
-  grows_for = grows_made (λ x. for_loop x.0 x.1.0 x.1.1) (under (is For) i (one (is For)) (λ d. both (header_at l) (λ _. d))) (under (is For) j (one (is For)) (λ d. both (header_at (suc l + k)) (λ _. d)))
+  grows_for =
+      grows_made (λ x. for_loop x.0 x.1.0 x.1.1) (under (is For) i (one (is For)) (λ d. both (header_at l) (λ _. d))) (under (is For) j (one (is For)) (λ d. both (header_at (suc l + k)) (λ _. d)))
       (grows_nested (suc l + k) i j h (is For) (one (is For)) (opens_one (is For)) (grows_one (is For)) (λ d. both (header_at l) (λ _. d)) (λ d. both (header_at (suc l + k)) (λ _. d))
       (λ m d laws. ends (counted_shape (suc l + k) m) (both (header_at (suc l + k)) (λ _. d)) (reads_counted (suc l + k) m d laws))
       (λ a b g. grows_both (header_at l) (header_at (suc l + k)) (λ _. a) (λ _. b) (right_header.grows l k) (λ _. g)))

@@ -41,7 +41,8 @@ some_statement : (l n : ℕ) → (s : StatementTree) × IsWellStatement l s n
 some_statement l n = (empty, tt)
 
 -- the same reader, where well-formed is said in other words
-reads_good : {A : Type 0} (S : Shape A) (good : A → Type 0) (read : Reader A) → Reads S read → ((a : A) → S.good a → good a) → ((a : A) → good a → S.good a) → Reads (record { slots = S.slots; good = good; follow = S.follow }) read
+reads_good : {A : Type 0} (S : Shape A) (good : A → Type 0) (read : Reader A) → Reads S read → ((a : A) → S.good a → good a) → ((a : A) → good a → S.good a)
+    → Reads (record { slots = S.slots; good = good; follow = S.follow }) read
 reads_good {A} S good read laws into onto = record {
   sound = λ ts. sounds ts (read ts) (laws.sound ts);
   again = λ a g. laws.again a (onto a g);
@@ -148,7 +149,8 @@ declarations_link l m (statement s rest) g =
 
 -- the reader of all in a block after its opening brace is right
 pub reads_content : (l m : ℕ) (d : Reader StatementTree) → StatementLaws l m d → Reads (content_shape l m) (both (declarations_at l) (λ _. before (statements_at d) CloseBrace))
-reads_content l m d laws = reads_both (at_depth declarations_form l) (λ _. closed_shape l m) (declarations_at l) (λ _. before (statements_at d) CloseBrace) (right_declarations.reads l) (λ _ _. reads_closed l m d laws)
+reads_content l m d laws =
+    reads_both (at_depth declarations_form l) (λ _. closed_shape l m) (declarations_at l) (λ _. before (statements_at d) CloseBrace) (right_declarations.reads l) (λ _ _. reads_closed l m d laws)
     (λ _ all _ g. declarations_link l m all g) (λ _ _. (no_statements, tt))
 
 -- a well-formed block, which anything may follow
@@ -166,8 +168,10 @@ block_of_parts l n (block declared all) g = ((tt, (declared, all)), (tt, g), ref
 -- the reader of blocks is right
 reads_block : (l n : ℕ) (i : Inner) → Given (StatementLaws l) n i → Reads (block_shape l n) (block_of l i)
 unfolding block_of
-reads_block l n i h = reads_made (block_parts l n) (block_shape l n) (λ x. block x.1.0 x.1.1) (under (is OpenBrace) i (sign OpenBrace) (λ d. both (declarations_at l) (λ _. before (statements_at d) CloseBrace)))
-    (reads_given (StatementLaws l) (is OpenBrace) (sign_shape OpenBrace) (sign OpenBrace) (reads_sign OpenBrace) (λ _ _. tt) (content_shape l 0).slots (λ m. (content_shape l m).good) (content_shape l 0).follow
+reads_block l n i h =
+    reads_made (block_parts l n) (block_shape l n) (λ x. block x.1.0 x.1.1) (under (is OpenBrace) i (sign OpenBrace) (λ d. both (declarations_at l) (λ _. before (statements_at d) CloseBrace)))
+    (reads_given (StatementLaws l) (is OpenBrace) (sign_shape OpenBrace) (sign OpenBrace) (reads_sign OpenBrace) (λ _ _. tt) (content_shape l 0).slots
+    (λ m. (content_shape l m).good) (content_shape l 0).follow
     (λ d. both (declarations_at l) (λ _. before (statements_at d) CloseBrace)) (reads_content l) (λ m. (([], no_statements), (tt, tt))) n i h)
     (λ x g. (g.1, refl)) (block_of_parts l n) (λ x g k f. tt)
 
@@ -276,7 +280,8 @@ while_parts l n = nest_shape (one_shape (is While)) (looped_shape l 0).slots (λ
 reads_while : (l n : ℕ) (i : Inner) → Given (StatementLaws l) n i → Reads (form_shape l n 3) (while_at l i)
 unfolding while_at
 reads_while l n i h = reads_made (while_parts l n) (form_shape l n 3) (λ x. while_loop x.0 x.1.0 x.1.1) (under (is While) i (one (is While)) (λ d. both (condition_at l) (λ _. d)))
-    (reads_given (StatementLaws l) (is While) (one_shape (is While)) (one (is While)) (reads_one (is While)) (λ _ _. tt) (looped_shape l 0).slots (λ m. (looped_shape l m).good) (looped_shape l 0).follow
+    (reads_given (StatementLaws l) (is While) (one_shape (is While)) (one (is While)) (reads_one (is While)) (λ _ _. tt) (looped_shape l 0).slots
+    (λ m. (looped_shape l m).good) (looped_shape l 0).follow
     (λ d. both (condition_at l) (λ _. d)) (reads_looped l) (λ m. (((right_condition.some l).0, empty), ((right_condition.some l).1, tt))) n i h)
     (λ x g. ((refl, (is_true While x.0.kind g.0, g.1)), refl)) onto (λ x g k f. f)
   where
@@ -342,7 +347,8 @@ reads_else l m d laws false = reads_made (nothing_shape NoElse) (else_shape l m 
     onto (inr u) g = (u, tt, refl)
 
 -- an `else` part may follow the statement of an `if`
-else_link : (l m : ℕ) (s : StatementTree) (x : Else_part) → (else_shape l m (is_closed s)).good x → Links (statement_follow s) ((else_shape l m (is_closed s)).follow x) ((else_shape l m (is_closed s)).slots x)
+else_link : (l m : ℕ) (s : StatementTree) (x : Else_part) → (else_shape l m (is_closed s)).good x
+    → Links (statement_follow s) ((else_shape l m (is_closed s)).follow x) ((else_shape l m (is_closed s)).slots x)
 else_link l m s (inl x) g = λ h. g.0
 else_link l m s (inr u) g = λ k f h. absurd (f h)
 
@@ -352,7 +358,9 @@ chosen_shape l m = both_shape (at_depth condition_form l) (λ _. both_shape (sta
 
 -- the reader of a condition, a statement and the `else` part is right
 pub reads_chosen : (l m : ℕ) (d : Reader StatementTree) → StatementLaws l m d → Reads (chosen_shape l m) (both (condition_at l) (λ _. both d (λ s. else_at (is_closed s) d)))
-reads_chosen l m d laws = reads_both (at_depth condition_form l) (λ _. both_shape (statement_shape l m) (λ s. else_shape l m (is_closed s))) (condition_at l) (λ _. both d (λ s. else_at (is_closed s) d)) (right_condition.reads l)
+reads_chosen l m d laws =
+    reads_both (at_depth condition_form l) (λ _. both_shape (statement_shape l m) (λ s. else_shape l m (is_closed s))) (condition_at l)
+    (λ _. both d (λ s. else_at (is_closed s) d)) (right_condition.reads l)
     (λ _ _. reads_both (statement_shape l m) (λ s. else_shape l m (is_closed s)) d (λ s. else_at (is_closed s) d) laws (λ s _. reads_else l m d laws (is_closed s))
     (λ s x _ g. else_link l m s x g) (λ _ _. (inr tt, tt)))
     (λ _ _ _ _. free_links _ _) (λ _ _. ((empty, inr tt), (tt, tt)))
@@ -362,14 +370,33 @@ abbrev if_parts : ℕ → ℕ → Shape (Unit {0} × (ExprTree × (StatementTree
 if_parts l n = nest_shape (sign_shape If) (chosen_shape l 0).slots (λ m. (chosen_shape l m).good) (chosen_shape l 0).follow n
 
 -- a condition, a statement and an `else` part make a well-formed `if` statement
-if_into : (l n : ℕ) (c : ExprTree) (s : StatementTree) (x : Else_part) → (if_parts l n).good (tt, (c, (s, x))) → (form_shape l n 2).good (if_tree c s x) × (statement_slots (if_tree c s x) ≡ (if_parts l n).slots (tt, (c, (s, x))))
-if_into l n c s (inl e) g = ((refl, under_map (λ m. (chosen_shape l m).good (c, (s, inl e))) (λ m. IsExpr l c × IsWellStatement l s m × (is_closed s ≡ true) × IsWellStatement l e.1 m) n (λ m h. (h.0, h.1.0, h.1.1.0, h.1.1.1)) g.1), refl)
-if_into l n c s (inr u) g = ((refl, under_map (λ m. (chosen_shape l m).good (c, (s, inr u))) (λ m. IsExpr l c × IsWellStatement l s m) n (λ m h. (h.0, h.1.0)) g.1), ap (λ z. Sign If ∷ (condition_slots c ++ z)) (sym (append-nil (statement_slots s))))
+if_into : (l n : ℕ) (c : ExprTree) (s : StatementTree) (x : Else_part) → (if_parts l n).good (tt, (c, (s, x)))
+    → (form_shape l n 2).good (if_tree c s x) × (statement_slots (if_tree c s x) ≡ (if_parts l n).slots (tt, (c, (s, x))))
+if_into l n c s (inl e) g = (
+  (
+    refl,
+    under_map (λ m. (chosen_shape l m).good (c, (s, inl e))) (λ m. IsExpr l c × IsWellStatement l s m × (is_closed s ≡ true) × IsWellStatement l e.1 m) n
+        (λ m h. (h.0, h.1.0, h.1.1.0, h.1.1.1)) g.1,
+  ),
+  refl,
+)
+if_into l n c s (inr u) g = (
+  (refl, under_map (λ m. (chosen_shape l m).good (c, (s, inr u))) (λ m. IsExpr l c × IsWellStatement l s m) n (λ m h. (h.0, h.1.0)) g.1),
+  ap (λ z. Sign If ∷ (condition_slots c ++ z)) (sym (append-nil (statement_slots s))),
+)
 
 -- each well-formed `if` statement is a condition, a statement and an `else` part
 if_of : (l n : ℕ) (s : StatementTree) → (form s ≡ 2) × IsWellStatement l s n → (x : Unit {0} × (ExprTree × (StatementTree × Else_part))) × (if_parts l n).good x × (if_tree x.1.0 x.1.1.0 x.1.1.1 ≡ s)
 if_of l n (if_then c s) g = ((tt, (c, (s, inr tt))), (tt, under_map (λ m. IsExpr l c × IsWellStatement l s m) (λ m. (chosen_shape l m).good (c, (s, inr tt))) n (λ m h. (h.0, (h.1, tt))) g.1), refl)
-if_of l n (if_else c s e) g = ((tt, (c, (s, inl (tt, e)))), (tt, under_map (λ m. IsExpr l c × IsWellStatement l s m × (is_closed s ≡ true) × IsWellStatement l e m) (λ m. (chosen_shape l m).good (c, (s, inl (tt, e)))) n (λ m h. (h.0, (h.1, (h.2, h.3)))) g.1), refl)
+if_of l n (if_else c s e) g = (
+  (tt, (c, (s, inl (tt, e)))),
+  (
+    tt,
+    under_map (λ m. IsExpr l c × IsWellStatement l s m × (is_closed s ≡ true) × IsWellStatement l e m) (λ m. (chosen_shape l m).good (c, (s, inl (tt, e)))) n
+        (λ m h. (h.0, (h.1, (h.2, h.3)))) g.1,
+  ),
+  refl,
+)
 if_of l n _ g = let h = g.0 in absurd (omega arith)
 
 -- what may follow an `if` statement may follow its `else` part
@@ -380,7 +407,8 @@ if_follow l n c s (inr u) k f = λ h. true≢false (sym (f h))
 -- the reader of `if` statements is right
 reads_if : (l n : ℕ) (i : Inner) → Given (StatementLaws l) n i → Reads (form_shape l n 2) (if_at l i)
 unfolding if_at
-reads_if l n i h = reads_made (if_parts l n) (form_shape l n 2) (λ x. if_tree x.1.0 x.1.1.0 x.1.1.1) (under (is If) i (sign If) (λ d. both (condition_at l) (λ _. both d (λ s. else_at (is_closed s) d))))
+reads_if l n i h =
+    reads_made (if_parts l n) (form_shape l n 2) (λ x. if_tree x.1.0 x.1.1.0 x.1.1.1) (under (is If) i (sign If) (λ d. both (condition_at l) (λ _. both d (λ s. else_at (is_closed s) d))))
     (reads_given (StatementLaws l) (is If) (sign_shape If) (sign If) (reads_sign If) (λ _ _. tt) (chosen_shape l 0).slots (λ m. (chosen_shape l m).good) (chosen_shape l 0).follow
     (λ d. both (condition_at l) (λ _. both d (λ s. else_at (is_closed s) d))) (reads_chosen l) (λ m. (((right_condition.some l).0, (empty, inr tt)), ((right_condition.some l).1, (tt, tt)))) n i h)
     (λ x g. if_into l n x.1.0 x.1.1.0 x.1.1.1 g) (if_of l n) (λ x g k f. if_follow l n x.1.0 x.1.1.0 x.1.1.1 k f)
@@ -396,7 +424,8 @@ later_form : (j k : ℕ) → j < k → nat_eq k j ≡ false
 later_form j k e = grind (arith, nat_tests)
 
 -- a choice between one form and all later ones is right where the first token tells them
-choose : (l n j : ℕ) (K : Kind) → ((k : Kind) → is K k ≡ nat_eq (kind_form k) j) → (first second : Reader StatementTree) → Reads (form_shape l n j) first → Reads (from_shape l n (suc j)) second → Reads (from_shape l n j) (choice (is K) first second)
+choose : (l n j : ℕ) (K : Kind) → ((k : Kind) → is K k ≡ nat_eq (kind_form k) j) → (first second : Reader StatementTree) → Reads (form_shape l n j) first → Reads (from_shape l n (suc j)) second
+    → Reads (from_shape l n j) (choice (is K) first second)
 choose l n j K begins first second one two = reads_choice (is K) (form_shape l n j) (from_shape l n (suc j)) (from_shape l n j) first second one two
     (λ _. refl) (λ _. refl) (λ s g. (let e = g.0 in omega arith, g.1)) (λ s g. (let e = g.0 in omega arith, g.1))
     (λ s g. elim (eq-or-lt_of_le g.0) [ inl e ↦ inl (sym e, g.1) | inr h ↦ inr (h, g.1) ])
@@ -415,7 +444,9 @@ reads_word_statement l n =
 -- the reader of statements is right where the one of those nested in them is
 reads_statement : (l n : ℕ) (i : Inner) → Given (StatementLaws l) n i → Reads (statement_shape l n) (statement_of l i)
 unfolding statement_of
-reads_statement l n i h = reads_good (from_shape l n 0) (statement_shape l n).good (choice (is OpenBrace) (made nested (block_of l i)) (choice (is Semicolon) empty_at (choice (is If) (if_at l i) (choice (is While) (while_at l i) (choice (is For) (for_at l i) (word_statement_at l))))))
+reads_statement l n i h =
+    reads_good (from_shape l n 0) (statement_shape l n).good (choice (is OpenBrace) (made nested (block_of l i))
+    (choice (is Semicolon) empty_at (choice (is If) (if_at l i) (choice (is While) (while_at l i) (choice (is For) (for_at l i) (word_statement_at l))))))
     (choose l n 0 OpenBrace brace_form (made nested (block_of l i)) _ (reads_nested l n i h)
     (choose l n 1 Semicolon semicolon_form empty_at _ (reads_empty l n)
     (choose l n 2 If if_form (if_at l i) _ (reads_if l n i h)

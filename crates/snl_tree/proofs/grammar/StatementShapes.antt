@@ -173,10 +173,16 @@ mutual
   statement_more l n (break_loop t) g = g
   statement_more l n (continue_loop t) g = g
   statement_more l n (change_state t x) g = g
-  statement_more l n (if_then c s) g = under_more (λ m. IsExpr l c × IsWellStatement l s m) (λ m. IsExpr (suc l) c × IsWellStatement (suc l) s m) n (λ m h. ((h.0.0, well_more c l h.0.1), statement_more l m s h.1)) g
-  statement_more l n (if_else c s e) g = under_more (λ m. IsExpr l c × IsWellStatement l s m × (is_closed s ≡ true) × IsWellStatement l e m) (λ m. IsExpr (suc l) c × IsWellStatement (suc l) s m × (is_closed s ≡ true) × IsWellStatement (suc l) e m) n (λ m h. ((h.0.0, well_more c l h.0.1), statement_more l m s h.1, h.2, statement_more l m e h.3)) g
-  statement_more l n (while_loop t c s) g = (g.0, under_more (λ m. IsExpr l c × IsWellStatement l s m) (λ m. IsExpr (suc l) c × IsWellStatement (suc l) s m) n (λ m h. ((h.0.0, well_more c l h.0.1), statement_more l m s h.1)) g.1)
-  statement_more l n (for_loop t h s) g = (g.0, under_more (λ m. IsHeader l h × IsWellStatement l s m) (λ m. IsHeader (suc l) h × IsWellStatement (suc l) s m) n (λ m k. (right_header.raise l h k.0, statement_more l m s k.1)) g.1)
+  statement_more l n (if_then c s) g =
+      under_more (λ m. IsExpr l c × IsWellStatement l s m) (λ m. IsExpr (suc l) c × IsWellStatement (suc l) s m) n (λ m h. ((h.0.0, well_more c l h.0.1), statement_more l m s h.1)) g
+  statement_more l n (if_else c s e) g =
+      under_more (λ m. IsExpr l c × IsWellStatement l s m × (is_closed s ≡ true) × IsWellStatement l e m)
+      (λ m. IsExpr (suc l) c × IsWellStatement (suc l) s m × (is_closed s ≡ true) × IsWellStatement (suc l) e m) n
+      (λ m h. ((h.0.0, well_more c l h.0.1), statement_more l m s h.1, h.2, statement_more l m e h.3)) g
+  statement_more l n (while_loop t c s) g =
+      (g.0, under_more (λ m. IsExpr l c × IsWellStatement l s m) (λ m. IsExpr (suc l) c × IsWellStatement (suc l) s m) n (λ m h. ((h.0.0, well_more c l h.0.1), statement_more l m s h.1)) g.1)
+  statement_more l n (for_loop t h s) g =
+      (g.0, under_more (λ m. IsHeader l h × IsWellStatement l s m) (λ m. IsHeader (suc l) h × IsWellStatement (suc l) s m) n (λ m k. (right_header.raise l h k.0, statement_more l m s k.1)) g.1)
 
   -- well-formed statements stay so where the limit and the depth are greater
   statements_more : (l n : ℕ) (all : StatementList) → AreWellStatements l all n → AreWellStatements (suc l) all (suc n)
@@ -185,4 +191,6 @@ mutual
 
   -- a well-formed block stays so where the limit and the depth are greater
   pub block_more : (l n : ℕ) (b : BlockTree) → IsWellBlock l b n → IsWellBlock (suc l) b (suc n)
-  block_more l n (block declared all) g = under_more (λ m. Each (IsDeclaration l) declared × AreWellStatements l all m) (λ m. Each (IsDeclaration (suc l)) declared × AreWellStatements (suc l) all m) n (λ m h. (right_declarations.raise l declared h.0, statements_more l m all h.1)) g
+  block_more l n (block declared all) g =
+      under_more (λ m. Each (IsDeclaration l) declared × AreWellStatements l all m) (λ m. Each (IsDeclaration (suc l)) declared × AreWellStatements (suc l) all m) n
+      (λ m h. (right_declarations.raise l declared h.0, statements_more l m all h.1)) g

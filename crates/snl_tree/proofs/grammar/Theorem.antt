@@ -85,14 +85,17 @@ module _ {A : Type 0} (S : Sort A) (follow : A → Kind → Type 0) (read : ℕ 
   raised limit n a g = raise n (suc limit) a g
 
   -- where reading stops and nothing is too deep, the token is unexpected
-  pub unexpected : (limit : ℕ) (ts : List Token) (r : Read A) → read limit ts ≡ r → ((rest : List Token) → r ≡ Err (Deep rest) → ⊥) → ((a : A) → r ≡ Ok (a, []) → ⊥) → IsUnexpected S limit ts (length ts - length (left r))
+  pub unexpected : (limit : ℕ) (ts : List Token) (r : Read A) → read limit ts ≡ r → ((rest : List Token) → r ≡ Err (Deep rest) → ⊥) → ((a : A) → r ≡ Ok (a, []) → ⊥)
+      → IsUnexpected S limit ts (length ts - length (left r))
   unexpected limit ts r e not_deep not_all = record {
     within = omega arith;
     before = before_of limit ts r (subst (λ z. Sound (shape_of S follow limit) ts z) e ((laws limit).sound ts));
     at = λ n h b.
         let s : read (suc limit + n) ts ≡ r = same limit n ts r e not_deep in
-        let c : Begins S (suc limit + n) (take (suc (length ts - length (left r))) ts) = record { whole = b.whole; is = raised limit n b.whole b.is; front = b.front; back = b.back; halves = b.halves; fits = b.fits } in
-        let p : length (left r) + suc (length ts - length (left r)) ≤ length ts = subst (λ z. length (left z) + suc (length ts - length (left r)) ≤ length ts) s (not_past (suc limit + n) ts (length ts - length (left r)) h c) in
+        let c : Begins S (suc limit + n) (take (suc (length ts - length (left r)))
+        ts) = record { whole = b.whole; is = raised limit n b.whole b.is; front = b.front; back = b.back; halves = b.halves; fits = b.fits } in
+        let p : length (left r) + suc (length ts - length (left r)) ≤ length ts = subst (λ z. length (left z) + suc (length ts - length (left r)) ≤ length ts) s
+        (not_past (suc limit + n) ts (length ts - length (left r)) h c) in
         omega arith;
     whole = λ n h a g k.
         let s : read (suc limit + n) ts ≡ r = same limit n ts r e not_deep in
@@ -109,7 +112,8 @@ module _ {A : Type 0} (S : Sort A) (follow : A → Kind → Type 0) (read : ℕ 
         within = omega arith;
         before = before_of limit ts (Err (Deep rest)) (subst (λ z. Sound (shape_of S follow limit) ts z) e ((laws limit).sound ts));
         at = λ c.
-            let p : length rest + suc (length ts - length rest) ≤ length ts = subst (λ z. length (left z) + suc (length ts - length rest) ≤ length ts) e (not_past limit ts (length ts - length rest) (omega arith) c) in
+            let p : length rest + suc (length ts - length rest) ≤ length ts = subst (λ z. length (left z) + suc (length ts - length rest) ≤ length ts) e
+            (not_past limit ts (length ts - length rest) (omega arith) c) in
             absurd (omega arith);
         beyond = (suc limit + 0, beyond_of (suc limit + 0) ts (length ts - length rest) (read (suc limit + 0) ts) ((laws (suc limit + 0)).sound ts) (omega arith));
       }

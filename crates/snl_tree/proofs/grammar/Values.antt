@@ -105,7 +105,8 @@ right_step : (m : ℕ) (more : ℕ → Reader ValueList) → Right (few_form m) 
 right_step m more laws = right_made (parts_form m) (few_form (suc m)) value_list (λ n. maybe is_no_brace (both (level_at (inside n) 14) (λ _. maybe (is Comma) (behind Comma (more n)))))
     (right_maybe is_no_brace (pair_form m) IsClose (λ n. both (level_at (inside n) 14) (λ _. maybe (is Comma) (behind Comma (more n))))
     (right_both value_form (λ _. behind_value m) (λ n. level_at (inside n) 14) (λ n _. maybe (is Comma) (behind Comma (more n))) right_value
-    (λ _. right_maybe (is Comma) (behind_form Comma (few_form m)) IsClose (λ n. behind Comma (more n)) (right_behind Comma (few_form m) more laws) (λ _ _ _. refl) (λ k e. subst (λ z. is Comma z ≡ false) (sym e) refl))
+    (λ _. right_maybe (is Comma) (behind_form Comma (few_form m)) IsClose (λ n. behind Comma (more n)) (right_behind Comma (few_form m) more laws) (λ _ _ _. refl)
+    (λ k e. subst (λ z. is Comma z ≡ false) (sym e) refl))
     (λ n e o _ _. value_link m o))
     (λ n x g. heads_append (λ k. is_no_brace k ≡ true) (slots x.0) _ (heads_opens (λ k. is_no_brace k ≡ true) x.0 n open_no_brace g.0.1))
     (λ k e. subst (λ z. is_no_brace z ≡ false) (sym e) refl))
@@ -148,7 +149,8 @@ sign_less : (k : Kind) (ts : List Token) (x : Unit {0} × List Token) → sign k
 sign_less k ts x e = right_less (sign_form k) (λ _. sign k) (right_sign k) (λ _ _ _. tt) 0 ts x.1 x.0 e
 
 -- one value and the list after it are read the same where shorter lists are
-step_same : (n : ℕ) (more other : Reader ValueList) (ts : List Token) → ((rest : List Token) → length rest < length ts → more rest ≡ other rest) → step (level_at (inside n) 14) more ts ≡ step (level_at (inside n) 14) other ts
+step_same : (n : ℕ) (more other : Reader ValueList) (ts : List Token) → ((rest : List Token) → length rest < length ts → more rest ≡ other rest)
+    → step (level_at (inside n) 14) more ts ≡ step (level_at (inside n) 14) other ts
 step_same n more other ts h =
     ap (λ r. r >>= λ x. Ok (value_list x.0, x.1)) (elim_same (starts is_no_brace ts) _ _ _ (ap (λ r. r >>= λ x. Ok (Some x.0, x.1))
     (bind_same (level_at (inside n) 14 ts) _ _ (λ x e. ap (λ r. r >>= λ y. Ok ((x.0, y.0), y.1)) (rest_same x.1 (right_at_most value_form (λ n. level_at (inside n) 14) right_value n ts x.1 x.0 e))))))
@@ -170,7 +172,9 @@ values_any n (suc f) (suc g) ts a b = step_same n (values_of (level_at (inside n
 pub values_turn : (n : ℕ) (ts : List Token) → values_at n ts ≡ step (level_at (inside n) 14) (values_at n) ts
 unfolding values_at
 values_turn n [] = refl
-values_turn n (t ∷ ts) = step_same n (values_of (level_at (inside n) 14) (length ts)) (λ ts. values_of (level_at (inside n) 14) (length ts) ts) (t ∷ ts) (λ rest h. values_any n (length ts) (length rest) rest (omega arith) (le_refl _))
+values_turn n (t ∷ ts) =
+    step_same n (values_of (level_at (inside n) 14) (length ts)) (λ ts. values_of (level_at (inside n) 14) (length ts) ts) (t ∷ ts)
+    (λ rest h. values_any n (length ts) (length rest) rest (omega arith) (le_refl _))
 
 -- the values of a list before a closing brace
 abbrev pub values_form : Form ValueList
@@ -193,7 +197,9 @@ right_values = record { reads = readss; grows = growss; some = λ n. (no_values,
     readss n = record {
       sound = λ ts. sounds n (length ts) ts (values_of (level_at (inside n) 14) (length ts) ts) (((right_few (length ts)).reads n).sound ts);
       again = λ v g ts rest h e. more n (count v) ts ∙ ((right_few (length ts + count v)).reads n).again v (g, omega arith) ts rest h e;
-      past = λ v g front back e ts rest h. subst (λ r. length (left r) ≤ length rest) (sym (more n (count v) ts)) (((right_few (length ts + count v)).reads n).past v (g, omega arith) front back e ts rest h);
+      past =
+          λ v g front back e ts rest h. subst (λ r. length (left r) ≤ length rest) (sym (more n (count v) ts))
+          (((right_few (length ts + count v)).reads n).past v (g, omega arith) front back e ts rest h);
     }
 
     growss : (n k : ℕ) → Grows (λ ts. values_of (level_at (inside n) 14) (length ts) ts) (λ ts. values_of (level_at (inside (suc n + k)) 14) (length ts) ts)

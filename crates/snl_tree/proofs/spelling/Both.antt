@@ -86,7 +86,8 @@ module _ {A B : Type 0} (S : Shape A) (T : A → Shape B) (first : Reader A) (se
       rw p (rw q refl)
 
   -- the reader of both gets past a prefix that ends in the second part
-  past_second : (x : A × B) → (both_shape S T).good x → (m back : List Slot) → (T x.0).slots x.1 ≡ m ++ back → (ts mid rest : List Token) → Spelled (S.slots x.0) ts mid → Spelled m mid rest → length (left (both first second ts)) ≤ length rest
+  past_second : (x : A × B) → (both_shape S T).good x → (m back : List Slot) → (T x.0).slots x.1 ≡ m ++ back → (ts mid rest : List Token) → Spelled (S.slots x.0) ts mid → Spelled m mid rest
+      → length (left (both first second ts)) ≤ length rest
   past_second x g [] back e ts mid rest h k =
       let p = one.past x.0 g.0 (S.slots x.0) [] (sym (append-nil _)) ts mid h in
       let q = left_first ts (first ts) (one.sound ts) in
@@ -97,7 +98,8 @@ module _ {A B : Type 0} (S : Shape A) (T : A → Shape B) (first : Reader A) (se
       rw p (subst (λ z. length z ≤ length rest) (sym (left_second x.0 (second x.0 mid))) q)
 
   -- the reader of both gets past any prefix of the spelling
-  past_both : (x : A × B) → (both_shape S T).good x → (front back : List Slot) → (both_shape S T).slots x ≡ front ++ back → (ts rest : List Token) → Spelled front ts rest → length (left (both first second ts)) ≤ length rest
+  past_both : (x : A × B) → (both_shape S T).good x → (front back : List Slot) → (both_shape S T).slots x ≡ front ++ back → (ts rest : List Token) → Spelled front ts rest
+      → length (left (both first second ts)) ≤ length rest
   past_both x g front back e ts rest h =
       elim (append_split (S.slots x.0) ((T x.0).slots x.1) front back e) [
         | inl m ↦ le_trans (left_first ts (first ts) (one.sound ts)) (one.past x.0 g.0 front m.0 m.1 ts rest h)

@@ -213,7 +213,8 @@ module _ {A B : Type 0} (test : Kind → Bool) (S : Shape A) (T : Shape B) (firs
   avoid_of F s ss front back e h = subst (Avoids test F) e h
 
   -- the choice gets past any prefix of the spelling of either thing
-  past_either : (x : A ⊎ B) → good_either S T x → (front back : List Slot) → slots_either S T x ≡ front ++ back → (ts rest : List Token) → Spelled front ts rest → length (left (either test first second ts)) ≤ length rest
+  past_either : (x : A ⊎ B) → good_either S T x → (front back : List Slot) → slots_either S T x ≡ front ++ back → (ts rest : List Token) → Spelled front ts rest
+      → length (left (either test first second ts)) ≤ length rest
   past_either x g [] back e ts rest h = subst (λ z. length (left (either test first second ts)) ≤ length z) h (sound_ends (either_shape S T) ts (either test first second ts) (sound_either ts))
   past_either (inl a) g (s ∷ front) back e ts rest h =
       subst (λ r. length (left r) ≤ length rest) (sym (either_at ts true (starts_head test s front ts rest true (head_of (λ k. test k ≡ true) s _ front back e (heads a g)) h)))
@@ -263,8 +264,10 @@ module _ {A : Type 0} (test : Kind → Bool) (S T U : Shape A) (first second : R
   -- a thing in either form is read again from its spelling
   again_choice : (a : A) → U.good a → (ts rest : List Token) → Spelled (U.slots a) ts rest → Ends (U.follow a) rest → choice test first second ts ≡ Ok (a, rest)
   again_choice a g ts rest h e = elim (cover a g) [
-    | inl s ↦ choice_at ts true (starts_heads test (U.slots a) ts rest (heads a s) h) ∙ one.again a s ts rest (subst (λ z. Spelled z ts rest) (sym (slots_one a)) h) (ends_into (U.follow a) (S.follow a) rest (follow_one a s) e)
-    | inr t ↦ choice_at ts false (starts_avoids test (U.follow a) (U.slots a) ts rest (avoids a t) h e) ∙ two.again a t ts rest (subst (λ z. Spelled z ts rest) (sym (slots_two a)) h) (ends_into (U.follow a) (T.follow a) rest (follow_two a t) e)
+    | inl s ↦ choice_at ts true (starts_heads test (U.slots a) ts rest (heads a s) h)
+        ∙ one.again a s ts rest (subst (λ z. Spelled z ts rest) (sym (slots_one a)) h) (ends_into (U.follow a) (S.follow a) rest (follow_one a s) e)
+    | inr t ↦ choice_at ts false (starts_avoids test (U.follow a) (U.slots a) ts rest (avoids a t) h e)
+        ∙ two.again a t ts rest (subst (λ z. Spelled z ts rest) (sym (slots_two a)) h) (ends_into (U.follow a) (T.follow a) rest (follow_two a t) e)
   ]
 
   -- the choice of forms gets past any prefix of the spelling
@@ -313,7 +316,8 @@ module _ {A B : Type 0} (S : Shape A) (T : Shape B) (make : A → B) (reader : R
       let a = (onto b g).0 in
       let good = (onto b g).1 in
       let same = (onto b g).2 in
-      let p : reader ts ≡ Ok (a, rest) = laws.again a good ts rest (subst (λ z. Spelled z ts rest) (slots_onto b g) h) (ends_follow (T.follow b) (S.follow a) rest (λ k f. follows a good k (subst (λ z. T.follow z k) (sym same) f)) e) in
+      let p : reader ts ≡ Ok (a, rest) = laws.again a good ts rest (subst (λ z. Spelled z ts rest) (slots_onto b g) h)
+      (ends_follow (T.follow b) (S.follow a) rest (λ k f. follows a good k (subst (λ z. T.follow z k) (sym same) f)) e) in
       rw p (ap (λ z. Ok (z, rest)) same)
 
   -- a reader that makes something of parts gets past any prefix of the spelling

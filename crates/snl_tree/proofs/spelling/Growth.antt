@@ -18,7 +18,8 @@ pub record Grows {A : Type 0} (low high : Reader A) : Type 0 where
   pub ends : (ts : List Token) → length (left (high ts)) ≤ length ts
 
 -- a first token that is kept is read the same at any depth
-grows_one_of : (test : Kind → Bool) (t : Token) (ts : List Token) (b : Bool) → let r : Read Token = elim b [ true ↦ Ok (t, ts) | false ↦ Err (Stuck (t ∷ ts)) ] in Grown r r × (length (left r) ≤ suc (length ts))
+grows_one_of : (test : Kind → Bool) (t : Token) (ts : List Token) (b : Bool) → let r : Read Token =
+    elim b [ true ↦ Ok (t, ts) | false ↦ Err (Stuck (t ∷ ts)) ] in Grown r r × (length (left r) ≤ suc (length ts))
 grows_one_of test t ts true = (refl, omega arith)
 grows_one_of test t ts false = (refl, le_refl _)
 
@@ -68,7 +69,8 @@ then_ends f h (Ok x) = h x.0 x.1
 then_ends f h (Err e) = le_refl _
 
 -- what was read, and then a step, grow with the depth where both do
-then_grows : {A B : Type 0} (f g : A → List Token → Read B) → ((a : A) (ts : List Token) → Grown (f a ts) (g a ts)) → ((a : A) (ts : List Token) → length (left (g a ts)) ≤ length ts) → (r s : Read A) → Grown r s → Grown (then f r) (then g s)
+then_grows : {A B : Type 0} (f g : A → List Token → Read B) → ((a : A) (ts : List Token) → Grown (f a ts) (g a ts)) → ((a : A) (ts : List Token) → length (left (g a ts)) ≤ length ts)
+    → (r s : Read A) → Grown r s → Grown (then f r) (then g s)
 unfolding then
 then_grows f g h e (Ok x) s k = subst (λ z. Grown (f x.0 x.1) (z >>= λ y. g y.0 y.1)) (sym k) (h x.0 x.1)
 then_grows f g h e (Err (Stuck rest)) s k = ap (λ z. z >>= λ y. g y.0 y.1) k
@@ -150,9 +152,11 @@ opens_sign k = record { on = ons; off = offs }
     offs (t ∷ ts) e = ap (λ (b : Bool). let r : Read (Unit {0}) = elim b [ true ↦ Ok (tt, ts) | false ↦ Err (Stuck (t ∷ ts)) ] in r) e
 
 -- with no depth left at first, a nested part goes on past its sign where depth is left
-pub grows_under_none : {R A B : Type 0} (test : Kind → Bool) (opener : Reader A) (inner : R → Reader B) (deeper : R) → Opens test opener → Grows opener opener → ((ts : List Token) → length (left (inner deeper ts)) ≤ length ts) → Grows (under test None opener inner) (under test (Some deeper) opener inner)
+pub grows_under_none : {R A B : Type 0} (test : Kind → Bool) (opener : Reader A) (inner : R → Reader B) (deeper : R) → Opens test opener → Grows opener opener
+    → ((ts : List Token) → length (left (inner deeper ts)) ≤ length ts) → Grows (under test None opener inner) (under test (Some deeper) opener inner)
 unfolding then
-grows_under_none {R} {A} {B} test opener inner deeper o g down = record { more = λ ts. mores ts (starts test ts) refl; ends = λ ts. le_trans (then_ends (λ a rest. made (λ b. (a, b)) (inner deeper) rest) steps (opener ts)) (g.ends ts) }
+grows_under_none {R} {A} {B} test opener inner deeper o g down =
+    record { more = λ ts. mores ts (starts test ts) refl; ends = λ ts. le_trans (then_ends (λ a rest. made (λ b. (a, b)) (inner deeper) rest) steps (opener ts)) (g.ends ts) }
   where
     steps : (a : A) (ts : List Token) → length (left {A = A × B} (made (λ b. (a, b)) (inner deeper) ts)) ≤ length ts
     steps a ts = le_trans (then_ends {B = A × B} (λ b rest. Ok ((a, b), rest)) (λ b rest. le_refl _) (inner deeper ts)) (down ts)
@@ -162,19 +166,24 @@ grows_under_none {R} {A} {B} test opener inner deeper o g down = record { more =
     mores ts false e = ap (λ r. r >>= λ x. inner deeper x.1 >>= λ y. Ok ((x.0, y.0), y.1)) (o.off ts e)
 
 -- with depth left at first, a nested part grows where what is inside does
-pub grows_under_some : {R A B : Type 0} (test : Kind → Bool) (opener : Reader A) (inner : R → Reader B) (low high : R) → Grows opener opener → Grows (inner low) (inner high) → Grows (under test (Some low) opener inner) (under test (Some high) opener inner)
+pub grows_under_some : {R A B : Type 0} (test : Kind → Bool) (opener : Reader A) (inner : R → Reader B) (low high : R) → Grows opener opener → Grows (inner low) (inner high)
+    → Grows (under test (Some low) opener inner) (under test (Some high) opener inner)
 grows_under_some test opener inner low high g g2 = grows_both opener opener (λ _. inner low) (λ _. inner high) g (λ _. g2)
 
 -- one turn more of a row grows where its item and the turns before do
-grows_turn : {A : Type 0} (test : Kind → Bool) (low high : Reader A) → Grows low high → (most : ℕ) → Grows (many_of test low most) (many_of test high most) → Grows (many_of test low (suc most)) (many_of test high (suc most))
+grows_turn : {A : Type 0} (test : Kind → Bool) (low high : Reader A) → Grows low high → (most : ℕ) → Grows (many_of test low most) (many_of test high most)
+    → Grows (many_of test low (suc most)) (many_of test high (suc most))
 unfolding then
 grows_turn {A} test low high g most g2 = record { more = λ ts. mores ts (starts test ts); ends = λ ts. endss ts (starts test ts) }
   where
     step : (a : A) → Grows (made (λ b. a ∷ b) (many_of test low most)) (made (λ b. a ∷ b) (many_of test high most))
     step a = grows_made (λ b. a ∷ b) (many_of test low most) (many_of test high most) g2
 
-    mores : (ts : List Token) (b : Bool) → Grown {A = List A} (elim b [ true ↦ (low ts >>= λ x. many_of test low most x.1 >>= λ y. Ok (x.0 ∷ y.0, y.1)) | false ↦ Ok ([], ts) ]) (elim b [ true ↦ (high ts >>= λ x. many_of test high most x.1 >>= λ y. Ok (x.0 ∷ y.0, y.1)) | false ↦ Ok ([], ts) ])
-    mores ts true = then_grows (λ a rest. made (λ b. a ∷ b) (many_of test low most) rest) (λ a rest. made (λ b. a ∷ b) (many_of test high most) rest) (λ a. (step a).more) (λ a. (step a).ends) (low ts) (high ts) (g.more ts)
+    mores : (ts : List Token) (b : Bool) → Grown {A = List A} (elim b [ true ↦ (low ts >>= λ x. many_of test low most x.1 >>= λ y. Ok (x.0 ∷ y.0, y.1)) | false ↦ Ok ([], ts) ]) (elim b
+        [ true ↦ (high ts >>= λ x. many_of test high most x.1 >>= λ y. Ok (x.0 ∷ y.0, y.1)) | false ↦ Ok ([], ts) ])
+    mores ts true =
+        then_grows (λ a rest. made (λ b. a ∷ b) (many_of test low most) rest) (λ a rest. made (λ b. a ∷ b) (many_of test high most) rest) (λ a. (step a).more)
+        (λ a. (step a).ends) (low ts) (high ts) (g.more ts)
     mores ts false = refl
 
     endss : (ts : List Token) (b : Bool) → length (left {A = List A} (elim b [ true ↦ (high ts >>= λ x. many_of test high most x.1 >>= λ y. Ok (x.0 ∷ y.0, y.1)) | false ↦ Ok ([], ts) ])) ≤ length ts

@@ -49,7 +49,8 @@ module _ {A : Type 0} (test : Kind → Bool) (S : Shape A) (F : Kind → Type 0)
     (between : (a : A) → S.good a → (k : Kind) → test k ≡ true → S.follow a k)
     (last : (a : A) → S.good a → (k : Kind) → F k → S.follow a k) where
   -- after an item a sound answer for the others gives a sound one for the list
-  sound_rest : (ts : List Token) (a : A) (mid : List Token) → S.good a → Spelled (S.slots a) ts mid → (r : Read (List A)) → Sound (many_shape S F) mid r → Sound (many_shape S F) ts (r >>= λ y. Ok (a ∷ y.0, y.1))
+  sound_rest : (ts : List Token) (a : A) (mid : List Token) → S.good a → Spelled (S.slots a) ts mid → (r : Read (List A)) → Sound (many_shape S F) mid r
+      → Sound (many_shape S F) ts (r >>= λ y. Ok (a ∷ y.0, y.1))
   sound_rest ts a mid g h (Ok y) k = ((g, k.0), spelled_join (S.slots a) (slots_all S.slots y.0) ts mid y.1 h k.1)
   sound_rest ts a mid g h (Err f) (inl e) = inr record {
     whole = a ∷ [];
@@ -69,7 +70,8 @@ module _ {A : Type 0} (test : Kind → Bool) (S : Shape A) (F : Kind → Type 0)
   }
 
   -- a sound answer for an item, and sound ones for what comes after, give one for the list
-  sound_item : (most : ℕ) (ts : List Token) (r : Read A) → Sound S ts r → ((mid : List Token) → Sound (many_shape S F) mid (many_of test item most mid)) → Sound (many_shape S F) ts (r >>= λ x. many_of test item most x.1 >>= λ y. Ok (x.0 ∷ y.0, y.1))
+  sound_item : (most : ℕ) (ts : List Token) (r : Read A) → Sound S ts r → ((mid : List Token) → Sound (many_shape S F) mid (many_of test item most mid))
+      → Sound (many_shape S F) ts (r >>= λ x. many_of test item most x.1 >>= λ y. Ok (x.0 ∷ y.0, y.1))
   sound_item most ts (Ok x) h more = sound_rest ts x.0 x.1 h.0 h.1 (many_of test item most x.1) (more x.1)
   sound_item most ts (Err f) (inl e) more = inl e
   sound_item most ts (Err f) (inr k) more = inr record {
@@ -82,7 +84,8 @@ module _ {A : Type 0} (test : Kind → Bool) (S : Shape A) (F : Kind → Type 0)
   }
 
   -- one turn of the loop is sound, whether the first token passes the test or not
-  sound_turn : (most : ℕ) (ts : List Token) (b : Bool) → ((mid : List Token) → Sound (many_shape S F) mid (many_of test item most mid)) → Sound (many_shape S F) ts (elim b [ true ↦ (item ts >>= λ x. many_of test item most x.1 >>= λ y. Ok (x.0 ∷ y.0, y.1)) | false ↦ Ok ([], ts) ])
+  sound_turn : (most : ℕ) (ts : List Token) (b : Bool) → ((mid : List Token) → Sound (many_shape S F) mid (many_of test item most mid))
+      → Sound (many_shape S F) ts (elim b [ true ↦ (item ts >>= λ x. many_of test item most x.1 >>= λ y. Ok (x.0 ∷ y.0, y.1)) | false ↦ Ok ([], ts) ])
   sound_turn most ts true more = sound_item most ts (item ts) (laws.sound ts) more
   sound_turn most ts false more = (tt, refl)
 
@@ -102,7 +105,11 @@ module _ {A : Type 0} (test : Kind → Bool) (S : Shape A) (F : Kind → Type 0)
   left_item most (Err f) = le_refl _
 
   -- what a turn of the loop gives, by whether the first token passes the test
-  turn_at : (most : ℕ) (ts : List Token) (b : Bool) → starts test ts ≡ b → many_of test item (suc most) ts ≡ elim b [ true ↦ (item ts >>= λ x. many_of test item most x.1 >>= λ y. Ok (x.0 ∷ y.0, y.1)) | false ↦ Ok ([], ts) ]
+  turn_at : (most : ℕ) (ts : List Token) (b : Bool) → starts test ts ≡ b → many_of test item (suc most) ts ≡ elim b [
+    | true ↦
+        (item ts >>= λ x. many_of test item most x.1 >>= λ y. Ok (x.0 ∷ y.0, y.1))
+    | false ↦ Ok ([], ts)
+  ]
   turn_at most ts b e = ap (λ (b : Bool). let r : Read (List A) = elim b [ true ↦ (item ts >>= λ x. many_of test item most x.1 >>= λ y. Ok (x.0 ∷ y.0, y.1)) | false ↦ Ok ([], ts) ] in r) e
 
   -- a list with an item in it begins with a token that passes the test
@@ -115,7 +122,8 @@ module _ {A : Type 0} (test : Kind → Bool) (S : Shape A) (F : Kind → Type 0)
   ends_mid x g (y ∷ ys) gs mid rest h e = starts_then test (S.follow x) mid (starts_heads test (slots_all S.slots (y ∷ ys)) mid rest (heads_all y ys gs) h) (between x g)
 
   -- a well-formed list is read again from its spelling, where no item could follow
-  again_many : (xs : List A) → Good_all S.good xs → (most : ℕ) (ts rest : List Token) → length ts ≤ most → Spelled (slots_all S.slots xs) ts rest → Ends F rest → many_of test item most ts ≡ Ok (xs, rest)
+  again_many : (xs : List A) → Good_all S.good xs → (most : ℕ) (ts rest : List Token) → length ts ≤ most → Spelled (slots_all S.slots xs) ts rest → Ends F rest
+      → many_of test item most ts ≡ Ok (xs, rest)
   again_many [] g zero ts rest n h e = ap (λ x. Ok ([], x)) h
   again_many [] g (suc most) ts rest n h e = turn_at most ts false (starts_ends test F ts stop (subst (Ends F) (sym h) e)) ∙ ap (λ x. Ok ([], x)) h
   again_many (x ∷ xs) g zero ts rest n h e =
@@ -137,7 +145,8 @@ module _ {A : Type 0} (test : Kind → Bool) (S : Shape A) (F : Kind → Type 0)
   head_front (x ∷ xs) g s front back e = subst (Heads (λ k. test k ≡ true)) e (heads_all x xs g)
 
   -- the loop gets past a prefix that ends in or after the first item
-  past_rest : (x : A) (xs : List A) → Good_all S.good (x ∷ xs) → (most : ℕ) (back m : List Slot) → slots_all S.slots xs ≡ m ++ back → (ts rest : List Token) → length ts ≤ suc most → (mid : List Token) → Spelled (S.slots x) ts mid → Spelled m mid rest
+  past_rest : (x : A) (xs : List A) → Good_all S.good (x ∷ xs) → (most : ℕ) (back m : List Slot) → slots_all S.slots xs ≡ m ++ back → (ts rest : List Token) → length ts ≤ suc most
+      → (mid : List Token) → Spelled (S.slots x) ts mid → Spelled m mid rest
       → ((front back : List Slot) → slots_all S.slots xs ≡ front ++ back → (ts rest : List Token) → length ts ≤ most → Spelled front ts rest → length (left (many_of test item most ts)) ≤ length rest)
       → length (left {A = List A} (item ts >>= λ x. many_of test item most x.1 >>= λ y. Ok (x.0 ∷ y.0, y.1))) ≤ length rest
   past_rest x xs g most back [] e ts rest n mid h k more =
@@ -152,7 +161,8 @@ module _ {A : Type 0} (test : Kind → Bool) (S : Shape A) (F : Kind → Type 0)
       (subst (λ z. length z ≤ length rest) (sym (left_rest x (many_of test item most mid))) q)
 
   -- the loop gets past any prefix of the spelling of a well-formed list
-  past_many : (xs : List A) → Good_all S.good xs → (most : ℕ) (front back : List Slot) → slots_all S.slots xs ≡ front ++ back → (ts rest : List Token) → length ts ≤ most → Spelled front ts rest → length (left (many_of test item most ts)) ≤ length rest
+  past_many : (xs : List A) → Good_all S.good xs → (most : ℕ) (front back : List Slot) → slots_all S.slots xs ≡ front ++ back → (ts rest : List Token) → length ts ≤ most → Spelled front ts rest
+      → length (left (many_of test item most ts)) ≤ length rest
   past_many xs g most [] back e ts rest n h = subst (λ z. length (left (many_of test item most ts)) ≤ length z) h (sound_ends (many_shape S F) ts (many_of test item most ts) (sound_many most ts))
   past_many [] g most (s ∷ front) back e ts rest n h = absurd cc
   past_many (x ∷ xs) g zero (s ∷ front) back e ts rest n h =

@@ -170,7 +170,8 @@ maybe_same {A} test item ts = go (starts test ts)
     some (Ok x) = refl
     some (Err f) = refl
 
-    go : (b : Bool) → ◌≡◌ {A = Read (Option A)} (let s : Read (A ⊎ Unit {0}) = elim b [ true ↦ (item ts >>= λ x. Ok (inl x.0, x.1)) | false ↦ (nothing ts >>= λ y. Ok (inr y.0, y.1)) ] in s >>= λ x. Ok (setting_of x.0, x.1)) (elim b [ true ↦ (item ts >>= λ x. Ok (Some x.0, x.1)) | false ↦ Ok (None, ts) ])
+    go : (b : Bool) → ◌≡◌ {A = Read (Option A)} (let s : Read (A ⊎ Unit {0}) = elim b [ true ↦ (item ts >>= λ x. Ok (inl x.0, x.1)) | false ↦ (nothing ts >>= λ y. Ok (inr y.0, y.1)) ] in s
+        >>= λ x. Ok (setting_of x.0, x.1)) (elim b [ true ↦ (item ts >>= λ x. Ok (Some x.0, x.1)) | false ↦ Ok (None, ts) ])
     go true = some (item ts)
     go false = refl
 
@@ -180,7 +181,8 @@ maybe_laws : {A : Type 0} (test : Kind → Bool) (F : Form A) (P : Kind → Type
     → ((n : ℕ) (a : A) → F.good n a → Heads (λ k. test k ≡ true) (F.slots a))
     → ((k : Kind) → P k → test k ≡ false)
     → Right (maybe_form F P) (λ n. maybe test (item n))
-maybe_laws {A} test F P item reads grows raise heads stop = right_same (maybe_form F P) (λ n. made setting_of (either test (item n) nothing)) (λ n. maybe test (item n)) (λ n ts. maybe_same test (item n) ts)
+maybe_laws {A} test F P item reads grows raise heads stop =
+    right_same (maybe_form F P) (λ n. made setting_of (either test (item n) nothing)) (λ n. maybe test (item n)) (λ n ts. maybe_same test (item n) ts)
     (right_made (either_form F (nothing_form P)) (maybe_form F P) setting_of (λ n. either test (item n) nothing)
     (either_laws test F (nothing_form P) item (λ _. nothing) reads grows raise (right_nothing P) heads (λ _ _ _. stop)) into onto follows)
   where
@@ -231,7 +233,8 @@ whether_same k ts = go (starts (is k) ts)
     some (Ok x) = refl
     some (Err f) = refl
 
-    go : (b : Bool) → ◌≡◌ {A = Read Bool} (let s : Read (Option (Unit {0})) = elim b [ true ↦ (sign k ts >>= λ x. Ok (Some x.0, x.1)) | false ↦ Ok (None, ts) ] in s >>= λ x. Ok (is_there x.0, x.1)) (elim b [ true ↦ (sign k ts >>= λ x. Ok (true, x.1)) | false ↦ Ok (false, ts) ])
+    go : (b : Bool) → ◌≡◌ {A = Read Bool} (let s : Read (Option (Unit {0})) = elim b [ true ↦ (sign k ts >>= λ x. Ok (Some x.0, x.1)) | false ↦ Ok (None, ts) ] in s >>= λ x.
+        Ok (is_there x.0, x.1)) (elim b [ true ↦ (sign k ts >>= λ x. Ok (true, x.1)) | false ↦ Ok (false, ts) ])
     go true = some (sign k ts)
     go false = refl
 
@@ -280,7 +283,8 @@ abbrev pub between_form : {A : Type 0} → Kind → Form A → Kind → Form A
 between_form k F l = behind_form k (before_form F l)
 
 -- the reader of a thing between two signs is right where the second may follow it
-pub right_between : {A : Type 0} (k : Kind) (F : Form A) (item : ℕ → Reader A) (l : Kind) → Right F item → ((n : ℕ) (a : A) → F.good n a → F.follow a l) → Right (between_form k F l) (λ n. between k (item n) l)
+pub right_between : {A : Type 0} (k : Kind) (F : Form A) (item : ℕ → Reader A) (l : Kind) → Right F item → ((n : ℕ) (a : A) → F.good n a → F.follow a l)
+    → Right (between_form k F l) (λ n. between k (item n) l)
 right_between k F item l laws link = right_behind k (before_form F l) (λ n. before (item n) l) (right_before F item l laws link)
 
 -- rows
@@ -336,7 +340,8 @@ pub right_parted : {A : Type 0} (k : Kind) (F : Form A) (P : Kind → Type 0) (i
     → ((n : ℕ) (a : A) → F.good n a → F.follow a k)
     → ((n : ℕ) (a : A) → F.good n a → (j : Kind) → P j → F.follow a j)
     → Right (parted_form k F P) (λ n. parted k (item n))
-right_parted {A} k F P item laws stop next last = right_made (both_form F (λ _. many_form (behind_form k F) P)) (parted_form k F P) (λ x. x.0 ∷ x.1) (λ n. both (item n) (λ _. many (is k) (behind k (item n))))
+right_parted {A} k F P item laws stop next last =
+    right_made (both_form F (λ _. many_form (behind_form k F) P)) (parted_form k F P) (λ x. x.0 ∷ x.1) (λ n. both (item n) (λ _. many (is k) (behind k (item n))))
     (right_both F (λ _. many_form (behind_form k F) P) item (λ n _. many (is k) (behind k (item n))) laws
     (λ _. right_many (is k) (behind_form k F) P (λ n. behind k (item n)) (right_behind k F item laws) (λ _ _ _. true_is k k refl) stop
     (λ n a g j e. subst (F.follow a) (sym (is_true k j e)) (next n a g)) last)
@@ -364,7 +369,8 @@ spelled_less (s ∷ ss) [] rest a h = absurd h
 spelled_less (s ∷ ss) (t ∷ ts) rest a h = let e = spelled_length ss ts rest h.1 in omega arith
 
 -- fewer tokens are left after what begins with one
-pub right_less : {A : Type 0} (F : Form A) (read : ℕ → Reader A) → Right F read → ((n : ℕ) (a : A) → F.good n a → Heads (λ _. Unit {0}) (F.slots a)) → (n : ℕ) (ts rest : List Token) (a : A) → read n ts ≡ Ok (a, rest) → length rest < length ts
+pub right_less : {A : Type 0} (F : Form A) (read : ℕ → Reader A) → Right F read → ((n : ℕ) (a : A) → F.good n a → Heads (λ _. Unit {0}) (F.slots a)) → (n : ℕ) (ts rest : List Token) (a : A)
+    → read n ts ≡ Ok (a, rest) → length rest < length ts
 right_less F read laws heads n ts rest a e = let h = right_ok F read laws n ts rest a e in spelled_less (F.slots a) ts rest (heads n a h.0) h.1
 
 -- what a right reader leaves is no more than there was

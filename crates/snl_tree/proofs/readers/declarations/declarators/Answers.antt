@@ -15,7 +15,9 @@ loop-alloc-smaller c = next_declarator_less c.args.depth c.loop-alloc.cursor.lef
 
 -- where no comma is next, the declared names found are all of them
 pub returns : goal.returns
-returns c = found_all (is Comma) (behind Comma (declarator_at c.args.depth)) declarator_view (declarators_at c.args.depth c.args.cursor.now.left.now) c.loop-alloc.found.items c.loop-alloc.cursor.left.now c.loop-alloc.invariant (sym c.loop-alloc-test.ensures)
+returns c =
+    found_all (is Comma) (behind Comma (declarator_at c.args.depth)) declarator_view (declarators_at c.args.depth c.args.cursor.now.left.now) c.loop-alloc.found.items c.loop-alloc.cursor.left.now
+    c.loop-alloc.invariant (sym c.loop-alloc-test.ensures)
 
 -- a fault in the first declared name is a fault of them all
 pub returns-in_err-first : goal.returns-in_err-first
@@ -28,10 +30,12 @@ returns-in_err-first c =
 pub loop-alloc-init : goal.loop-alloc-init
 unfolding declarators_at
 loop-alloc-init c =
-    found_part Comma (declarator_at c.args.depth) declarator_view c.args.cursor.now.left.now c.declarator.new.cursor.left.now c.in_ok-first.first.value c.added.new.row.items c.new-found.result.items c.new-found.ensures.items c.in_ok-added.ensures.items c.in_ok-first.ensures
+    found_part Comma (declarator_at c.args.depth) declarator_view c.args.cursor.now.left.now c.declarator.new.cursor.left.now c.in_ok-first.first.value c.added.new.row.items
+    c.new-found.result.items c.new-found.ensures.items c.in_ok-added.ensures.items c.in_ok-first.ensures
 
 -- with one more declared name found, the others are left to read
 pub loop-alloc-preserved : goal.loop-alloc-preserved
 loop-alloc-preserved c =
-    found_more (is Comma) (behind Comma (declarator_at c.args.depth)) (next_declarator_less c.args.depth) declarator_view (declarators_at c.args.depth c.args.cursor.now.left.now) c.loop-alloc.found.items c.loop-alloc.cursor.left.now c.in_ok-next.next.value c.next_declarator.new.cursor.left.now _
+    found_more (is Comma) (behind Comma (declarator_at c.args.depth)) (next_declarator_less c.args.depth) declarator_view (declarators_at c.args.depth c.args.cursor.now.left.now)
+    c.loop-alloc.found.items c.loop-alloc.cursor.left.now c.in_ok-next.next.value c.next_declarator.new.cursor.left.now _
     c.in_ok-added-2.ensures.items c.loop-alloc.invariant (sym c.loop-alloc-test.ensures) c.in_ok-next.ensures

@@ -15,7 +15,8 @@ loop-alloc-init c = found_none starts_definition (definition_at c.args.depth) de
 -- with one more definition found, the others are left to read
 pub loop-alloc-preserved : goal.loop-alloc-preserved
 loop-alloc-preserved c =
-    found_more starts_definition (definition_at c.args.depth) (definition_less c.args.depth) definition_view (definitions_at c.args.depth c.args.cursor.now.left.now) c.loop-alloc.found.items c.loop-alloc.cursor.left.now c.in_ok-next.next.value c.definition.new.cursor.left.now _
+    found_more starts_definition (definition_at c.args.depth) (definition_less c.args.depth) definition_view (definitions_at c.args.depth c.args.cursor.now.left.now) c.loop-alloc.found.items
+    c.loop-alloc.cursor.left.now c.in_ok-next.next.value c.definition.new.cursor.left.now _
     c.in_ok-added.ensures.items c.loop-alloc.invariant (sym c.loop-alloc-test.ensures) c.in_ok-next.ensures
 
 -- fewer tokens are left after a definition
@@ -24,11 +25,14 @@ loop-alloc-smaller c = definition_less c.args.depth c.loop-alloc.cursor.left.now
 
 -- where no definition begins, those found are all of them
 pub returns : goal.returns
-returns c = found_all starts_definition (definition_at c.args.depth) definition_view (definitions_at c.args.depth c.args.cursor.now.left.now) c.loop-alloc.found.items c.loop-alloc.cursor.left.now c.loop-alloc.invariant (sym c.loop-alloc-test.ensures)
+returns c =
+    found_all starts_definition (definition_at c.args.depth) definition_view (definitions_at c.args.depth c.args.cursor.now.left.now) c.loop-alloc.found.items c.loop-alloc.cursor.left.now
+    c.loop-alloc.invariant (sym c.loop-alloc-test.ensures)
 
 -- a fault in a definition is a fault of them all
 pub returns-in_err-next : goal.returns-in_err-next
 returns-in_err-next c =
     let p = err_from_is_err_and c.from_residual.result c.from_residual.ensures.1 in
-    rw (p.1, p.2) (found_fails starts_definition (definition_at c.args.depth) (definition_less c.args.depth) definition_view (definitions_at c.args.depth c.args.cursor.now.left.now) c.loop-alloc.found.items c.loop-alloc.cursor.left.now c.in_err-next.field-0.0 c.definition.new.cursor.left.now
+    rw (p.1, p.2) (found_fails starts_definition (definition_at c.args.depth) (definition_less c.args.depth) definition_view (definitions_at c.args.depth c.args.cursor.now.left.now)
+    c.loop-alloc.found.items c.loop-alloc.cursor.left.now c.in_err-next.field-0.0 c.definition.new.cursor.left.now
     c.loop-alloc.invariant (sym c.loop-alloc-test.ensures) c.in_err-next.ensures)

@@ -16,7 +16,8 @@ loop-kind-smaller c = next_token_less c.args.kind c.loop-kind.cursor.left.now c.
 -- where no comma is next, the tokens found are all of them
 pub returns : goal.returns
 returns c =
-    found_all (is Comma) (behind Comma (one (is c.args.kind))) (λ (t : Token). t) (parted Comma (one (is c.args.kind)) c.args.cursor.now.left.now) c.loop-kind.found.items c.loop-kind.cursor.left.now c.loop-kind.invariant (sym c.loop-kind-test.ensures)
+    found_all (is Comma) (behind Comma (one (is c.args.kind))) (λ (t : Token). t) (parted Comma (one (is c.args.kind)) c.args.cursor.now.left.now) c.loop-kind.found.items
+    c.loop-kind.cursor.left.now c.loop-kind.invariant (sym c.loop-kind-test.ensures)
     ∙ ap (λ (z : List Token). Ok (z, c.loop-kind.cursor.left.now)) (map_same c.loop-kind.found.items)
 
 -- a fault in the first token is a fault of them all
@@ -28,10 +29,12 @@ returns-in_err-first c =
 -- with the first token found, those after each comma are left to read
 pub loop-kind-init : goal.loop-kind-init
 loop-kind-init c =
-    found_part Comma (one (is c.args.kind)) (λ (t : Token). t) c.args.cursor.now.left.now c.token.new.cursor.left.now c.in_ok-first.first c.pushed.new.row.items c.new-found.result.items c.new-found.ensures.items c.in_ok-pushed.ensures.items c.in_ok-first.ensures
+    found_part Comma (one (is c.args.kind)) (λ (t : Token). t) c.args.cursor.now.left.now c.token.new.cursor.left.now c.in_ok-first.first c.pushed.new.row.items c.new-found.result.items
+    c.new-found.ensures.items c.in_ok-pushed.ensures.items c.in_ok-first.ensures
 
 -- with one more token found, the others are left to read
 pub loop-kind-preserved : goal.loop-kind-preserved
 loop-kind-preserved c =
-    found_more (is Comma) (behind Comma (one (is c.args.kind))) (next_token_less c.args.kind) (λ (t : Token). t) (parted Comma (one (is c.args.kind)) c.args.cursor.now.left.now) c.loop-kind.found.items c.loop-kind.cursor.left.now c.in_ok-next.next c.next_token.new.cursor.left.now _
+    found_more (is Comma) (behind Comma (one (is c.args.kind))) (next_token_less c.args.kind) (λ (t : Token). t) (parted Comma (one (is c.args.kind)) c.args.cursor.now.left.now)
+    c.loop-kind.found.items c.loop-kind.cursor.left.now c.in_ok-next.next c.next_token.new.cursor.left.now _
     c.in_ok-pushed-2.ensures.items c.loop-kind.invariant (sym c.loop-kind-test.ensures) c.in_ok-next.ensures

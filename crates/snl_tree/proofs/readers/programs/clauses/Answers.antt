@@ -11,7 +11,8 @@ use Rattle.snl_tree.proofs.readers.programs.clauses.Goals as goal
 -- with one more clause found, the others are left to read
 pub loop-alloc-preserved : goal.loop-alloc-preserved
 loop-alloc-preserved c =
-    found_more (is When) (clause_at c.args.depth) (clause_less c.args.depth c.requires) clause_view (clauses_at c.args.depth c.args.cursor.now.left.now) c.loop-alloc.found.items c.loop-alloc.cursor.left.now c.in_ok-next.next.value c.clause.new.cursor.left.now _
+    found_more (is When) (clause_at c.args.depth) (clause_less c.args.depth c.requires) clause_view (clauses_at c.args.depth c.args.cursor.now.left.now) c.loop-alloc.found.items
+    c.loop-alloc.cursor.left.now c.in_ok-next.next.value c.clause.new.cursor.left.now _
     c.in_ok-added.ensures.items c.loop-alloc.invariant (sym c.loop-alloc-test.ensures) c.in_ok-next.ensures
 
 -- fewer tokens are left after a clause
@@ -20,13 +21,16 @@ loop-alloc-smaller c = clause_less c.args.depth c.requires c.loop-alloc.cursor.l
 
 -- where no clause begins, those found are all of them
 pub returns : goal.returns
-returns c = found_all (is When) (clause_at c.args.depth) clause_view (clauses_at c.args.depth c.args.cursor.now.left.now) c.loop-alloc.found.items c.loop-alloc.cursor.left.now c.loop-alloc.invariant (sym c.loop-alloc-test.ensures)
+returns c =
+    found_all (is When) (clause_at c.args.depth) clause_view (clauses_at c.args.depth c.args.cursor.now.left.now) c.loop-alloc.found.items c.loop-alloc.cursor.left.now
+    c.loop-alloc.invariant (sym c.loop-alloc-test.ensures)
 
 -- a fault in a clause is a fault of them all
 pub returns-in_err-next : goal.returns-in_err-next
 returns-in_err-next c =
     let p = err_from_is_err_and c.from_residual.result c.from_residual.ensures.1 in
-    rw (p.1, p.2) (found_fails (is When) (clause_at c.args.depth) (clause_less c.args.depth c.requires) clause_view (clauses_at c.args.depth c.args.cursor.now.left.now) c.loop-alloc.found.items c.loop-alloc.cursor.left.now c.in_err-next.field-0.0 c.clause.new.cursor.left.now
+    rw (p.1, p.2) (found_fails (is When) (clause_at c.args.depth) (clause_less c.args.depth c.requires) clause_view (clauses_at c.args.depth c.args.cursor.now.left.now) c.loop-alloc.found.items
+    c.loop-alloc.cursor.left.now c.in_err-next.field-0.0 c.clause.new.cursor.left.now
     c.loop-alloc.invariant (sym c.loop-alloc-test.ensures) c.in_err-next.ensures)
 
 -- at first no clause is found, and all are left to read

@@ -11,7 +11,8 @@ use Rattle.snl_tree.proofs.readers.programs.state_sets.Goals as goal
 -- with one more state set found, the others are left to read
 pub loop-alloc-preserved : goal.loop-alloc-preserved
 loop-alloc-preserved c =
-    found_more (is StateSet) (state_set_at c.args.depth) (state_set_less c.args.depth c.requires) state_set_view (state_sets_at c.args.depth c.args.cursor.now.left.now) c.loop-alloc.found.items c.loop-alloc.cursor.left.now c.in_ok-next.next.value c.state_set-in-loop-alloc.new.cursor.left.now _
+    found_more (is StateSet) (state_set_at c.args.depth) (state_set_less c.args.depth c.requires) state_set_view (state_sets_at c.args.depth c.args.cursor.now.left.now) c.loop-alloc.found.items
+    c.loop-alloc.cursor.left.now c.in_ok-next.next.value c.state_set-in-loop-alloc.new.cursor.left.now _
     c.in_ok-added-2.ensures.items c.loop-alloc.invariant (sym c.loop-alloc-test.ensures) c.in_ok-next.ensures
 
 -- fewer tokens are left after a state set
@@ -20,13 +21,16 @@ loop-alloc-smaller c = state_set_less c.args.depth c.requires c.loop-alloc.curso
 
 -- where no state set begins, those found are all of them
 pub returns : goal.returns
-returns c = found_all (is StateSet) (state_set_at c.args.depth) state_set_view (state_sets_at c.args.depth c.args.cursor.now.left.now) c.loop-alloc.found.items c.loop-alloc.cursor.left.now c.loop-alloc.invariant (sym c.loop-alloc-test.ensures)
+returns c =
+    found_all (is StateSet) (state_set_at c.args.depth) state_set_view (state_sets_at c.args.depth c.args.cursor.now.left.now) c.loop-alloc.found.items c.loop-alloc.cursor.left.now
+    c.loop-alloc.invariant (sym c.loop-alloc-test.ensures)
 
 -- a fault in a further state set is a fault of them all
 pub returns-in_err-next : goal.returns-in_err-next
 returns-in_err-next c =
     let p = err_from_is_err_and c.from_residual-in_err-next.result c.from_residual-in_err-next.ensures.1 in
-    rw (p.1, p.2) (found_fails (is StateSet) (state_set_at c.args.depth) (state_set_less c.args.depth c.requires) state_set_view (state_sets_at c.args.depth c.args.cursor.now.left.now) c.loop-alloc.found.items c.loop-alloc.cursor.left.now c.in_err-next.field-0.0 c.state_set-in-loop-alloc.new.cursor.left.now
+    rw (p.1, p.2) (found_fails (is StateSet) (state_set_at c.args.depth) (state_set_less c.args.depth c.requires) state_set_view (state_sets_at c.args.depth c.args.cursor.now.left.now)
+    c.loop-alloc.found.items c.loop-alloc.cursor.left.now c.in_err-next.field-0.0 c.state_set-in-loop-alloc.new.cursor.left.now
     c.loop-alloc.invariant (sym c.loop-alloc-test.ensures) c.in_err-next.ensures)
 
 -- a fault in the first state set is a fault of them all
@@ -40,4 +44,5 @@ returns-in_err-first c =
 pub loop-alloc-init : goal.loop-alloc-init
 unfolding state_sets_at
 loop-alloc-init c =
-    found_some (is StateSet) (state_set_at c.args.depth) state_set_view c.args.cursor.now.left.now c.state_set.new.cursor.left.now c.in_ok-first.first.value c.added.new.row.items c.new-found.result.items c.new-found.ensures.items c.in_ok-added.ensures.items c.in_ok-first.ensures
+    found_some (is StateSet) (state_set_at c.args.depth) state_set_view c.args.cursor.now.left.now c.state_set.new.cursor.left.now c.in_ok-first.first.value c.added.new.row.items
+    c.new-found.result.items c.new-found.ensures.items c.in_ok-added.ensures.items c.in_ok-first.ensures

@@ -15,7 +15,8 @@ statements-loop-alloc-init t c = found_none opens_statement (statement_at c.args
 -- with one more statement found, the others are left to read
 pub statements-loop-alloc-preserved : goal.statements-loop-alloc-preserved
 statements-loop-alloc-preserved t c =
-    found_more opens_statement (statement_at c.args.limit c.args.depth) (statement_less c.args.limit c.args.depth) statement_view (statement_row_at c.args.limit c.args.depth c.args.cursor.now.left.now) c.loop-alloc.found.items c.loop-alloc.cursor.left.now c.in_ok-next.next.value c.statement.new.cursor.left.now _
+    found_more opens_statement (statement_at c.args.limit c.args.depth) (statement_less c.args.limit c.args.depth) statement_view
+    (statement_row_at c.args.limit c.args.depth c.args.cursor.now.left.now) c.loop-alloc.found.items c.loop-alloc.cursor.left.now c.in_ok-next.next.value c.statement.new.cursor.left.now _
     c.in_ok-added.ensures.items c.loop-alloc.invariant (sym c.loop-alloc-test.ensures) c.in_ok-next.ensures
 
 -- fewer tokens are left after a statement
@@ -24,11 +25,14 @@ statements-loop-alloc-smaller t c = statement_less c.args.limit c.args.depth c.l
 
 -- where no statement begins, those found are all of them
 pub statements-returns : goal.statements-returns
-statements-returns t c = found_all opens_statement (statement_at c.args.limit c.args.depth) statement_view (statement_row_at c.args.limit c.args.depth c.args.cursor.now.left.now) c.loop-alloc.found.items c.loop-alloc.cursor.left.now c.loop-alloc.invariant (sym c.loop-alloc-test.ensures)
+statements-returns t c =
+    found_all opens_statement (statement_at c.args.limit c.args.depth) statement_view (statement_row_at c.args.limit c.args.depth c.args.cursor.now.left.now) c.loop-alloc.found.items
+    c.loop-alloc.cursor.left.now c.loop-alloc.invariant (sym c.loop-alloc-test.ensures)
 
 -- a fault in a statement is a fault of them all
 pub statements-returns-in_err-next : goal.statements-returns-in_err-next
 statements-returns-in_err-next t c =
     let p = err_from_is_err_and c.from_residual.result c.from_residual.ensures.1 in
-    rw (p.1, p.2) (found_fails opens_statement (statement_at c.args.limit c.args.depth) (statement_less c.args.limit c.args.depth) statement_view (statement_row_at c.args.limit c.args.depth c.args.cursor.now.left.now) c.loop-alloc.found.items c.loop-alloc.cursor.left.now c.in_err-next.field-0.0 c.statement.new.cursor.left.now
+    rw (p.1, p.2) (found_fails opens_statement (statement_at c.args.limit c.args.depth) (statement_less c.args.limit c.args.depth) statement_view
+    (statement_row_at c.args.limit c.args.depth c.args.cursor.now.left.now) c.loop-alloc.found.items c.loop-alloc.cursor.left.now c.in_err-next.field-0.0 c.statement.new.cursor.left.now
     c.loop-alloc.invariant (sym c.loop-alloc-test.ensures) c.in_err-next.ensures)

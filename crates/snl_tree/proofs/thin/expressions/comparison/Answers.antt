@@ -37,4 +37,5 @@ returns c =
     let w : wide c.in_ok-new.field-0.value ≡ wide c.in-Some.first = ap wide c.in_ok-new.ensures.ok in
     let u : Term = record { operator = c.index-all-0.result.operator; operand = c.in-Some-2.operand } in
     rw c.in-Chain.is (comparison_found c.in-Chain.first c.in-Chain.terms c.index-all-0.result c.in_ok-new.field-0 c.push.new.self u
-    (sym c.as_slice-all.ensures.value ∙ one) (c.in_ok-push.ensures.items ∙ ap (λ z. z ++ u ∷ []) c.new-terms.ensures.items) refl (sym c.if-not-compares.ensures) (ap (λ (z : Expr). is_sum (view z)) (sym d) ∙ f.0) (ap (λ (z : Expr). is_sum (view z)) (sym x) ∙ o.0) (w ∙ f.1 ∙ ap view d) (o.1 ∙ ap view x))
+    (sym c.as_slice-all.ensures.value ∙ one) (c.in_ok-push.ensures.items ∙ ap (λ z. z ++ u ∷ []) c.new-terms.ensures.items) refl (sym c.if-not-compares.ensures)
+    (ap (λ (z : Expr). is_sum (view z)) (sym d) ∙ f.0) (ap (λ (z : Expr). is_sum (view z)) (sym x) ∙ o.0) (w ∙ f.1 ∙ ap view d) (o.1 ∙ ap view x))

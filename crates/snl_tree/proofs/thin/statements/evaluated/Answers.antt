@@ -8,4 +8,5 @@ use Rattle.snl_tree.proofs.thin.statements.evaluated.Goals as goal
 -- a call is thin where `pvPut` with one name is found of it
 pub returns-in-Call : goal.returns-in-Call
 returns-in-Call c =
-    rw c.in-Call.is (subst (λ (e : ExprTree). Finds (is_thin_statement (expression e)) (StandsForStatement (expression e)) c.put.result) (sym (view_call c.in-Call.name c.in-Call.arguments)) c.put.ensures)
+    rw c.in-Call.is (subst (λ (e : ExprTree). Finds (is_thin_statement (expression e)) (StandsForStatement (expression e)) c.put.result)
+    (sym (view_call c.in-Call.name c.in-Call.arguments)) c.put.ensures)
