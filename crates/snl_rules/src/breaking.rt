@@ -107,7 +107,10 @@ fn tell_by_tables<'a>(
 {
     let mut known = Known::new(alloc);
     let mut seen = Seen::new(alloc);
-    tell_all(alloc, sites, &mut known, &mut seen, found)
+    let told = tell_all(alloc, sites, &mut known, &mut seen, found);
+    drop(known);
+    drop(seen);
+    told
 }
 
 /// Each rule that a site of a program breaks, with the site (SNL Reference; docs/MESSAGES.md has the
