@@ -20,23 +20,29 @@ use Rattle.snl_rules.proofs.RuleLaws.{twice_decides, unmonitored_decides, unassi
 
 -- ---- elements of lists
 
+-- nothing is in an empty list
 in_none : {X B : Type 0} (y : X) → Contains [] y → B
 in_none y h = let l : h.0 < 0 = h.1 in absurd (omega arith)
 
+-- what is in a list of one
 in_one : {X : Type 0} (x y : X) → Contains (x ∷ []) y → x ≡ y
 in_one x y h = elim (Contains-push_cases [] x y h) [ inl w ↦ in_none y w | inr e ↦ e ]
 
+-- what is in a list is its first or in the rest
 in_cons : {X : Type 0} (x : X) (xs : List X) (y : X) → Contains (x ∷ xs) y → (x ≡ y) ⊎ Contains xs y
 in_cons x xs y h = elim (Contains-append_cases (x ∷ []) xs y h) [ inl w ↦ inl (in_one x y w) | inr w ↦ inr w ]
 
+-- the first is in a list
 in_first : {X : Type 0} (x : X) (xs : List X) → Contains (x ∷ xs) x
 in_first x xs = Contains-append_left (x ∷ []) xs x (Contains-push [] x)
 
+-- what is in the rest is in a list
 in_rest : {X : Type 0} (x : X) (xs : List X) (y : X) → Contains xs y → Contains (x ∷ xs) y
 in_rest x xs y h = Contains-append_right (x ∷ []) xs y h
 
 -- ---- the rules of a site
 
+-- a rule where a test holds
 when_law : (b : Bool) (P : Type 0) → Decides b P → (this rule : Rule) → Contains (when b this) rule ↔ Told P this rule
 when_law true P d this rule = (
   (λ h. (sym (in_one this rule h), d.0 refl)),
@@ -44,12 +50,14 @@ when_law true P d this rule = (
 )
 when_law false P d this rule = ((λ h. in_none rule h), (λ t. absurd (false≢true (d.1 t.1))))
 
+-- rules of two lists
 join_law : (xs ys : List Rule) (P Q : Type 0) (rule : Rule) → Contains xs rule ↔ P → Contains ys rule ↔ Q → Contains (xs ++ ys) rule ↔ (P ⊎ Q)
 join_law xs ys P Q rule p q = (
   (λ h. elim (Contains-append_cases xs ys rule h) [ inl w ↦ inl (p.0 w) | inr w ↦ inr (q.0 w) ]),
   (λ h. elim h [ inl w ↦ Contains-append_left xs ys rule (p.1 w) | inr w ↦ Contains-append_right xs ys rule (q.1 w) ]),
 )
 
+-- one rule, or else others
 if_law : (b : Bool) (P Q : Type 0) → Decides b P → (this rule : Rule) (xs : List Rule) → Contains xs rule ↔ Q
     → Contains (if b then this ∷ [] else xs) rule ↔ (Told P this rule ⊎ ((P → ⊥) × Q))
 if_law true P Q d this rule xs q = (
@@ -61,9 +69,11 @@ if_law false P Q d this rule xs q = (
   (λ h. elim h [ inl t ↦ absurd (false≢true (d.1 t.1)) | inr w ↦ q.1 w.1 ]),
 )
 
+-- no rule
 nothing_law : (rule : Rule) → Contains [] rule ↔ ⊥
 nothing_law rule = ((λ h. in_none rule h), (λ h. absurd h))
 
+-- the rules of elements
 elements_law : (before all : List Site) (sort : Sort) (p : Option Part) (rule : Rule)
     → Contains (by_elements (seen_facts before) (all_facts all) sort p) rule ↔ ByElements sort before all p rule
 elements_law before all Assign p rule = when_law _ _ (twice_decides is_assign before p) r.AssignedTwice rule
@@ -72,6 +82,7 @@ elements_law before all sort p rule =
     join_law _ _ _ _ rule (when_law _ _ (unassigned_decides all p) r.Unassigned rule)
     (join_law _ _ _ _ rule (when_law _ _ (twice_decides is_sync before p) r.SyncedTwice rule) (when_law _ _ (unmonitored_decides all p) r.NotMonitored rule))
 
+-- the rules of a site beside others
 together_law : (before all : List Site) (s : Site) (rule : Rule) → Contains (together (seen_facts before) (all_facts all) s) rule ↔ Together before all s rule
 together_law before all (Declaration t flag later words) rule = when_law _ _ (unused_decides all t) (unused flag) rule
 together_law before all (Defined sort word t m sub wrong part) rule =
@@ -88,14 +99,17 @@ together_law before all (State word t later clauses) rule = when_law _ _ (over_d
 together_law before all (StateSet word t later) rule = when_law _ _ (over_decides 64 (sum_by sets_at before) 1) r.TooManySets rule
 together_law before all s rule = nothing_law rule
 
+-- all rules of a site
 breaks_law : (before all : List Site) (s : Site) (rule : Rule) → Contains (rules_at (seen_facts before) (all_facts all) s) rule ↔ Breaks before all s rule
 breaks_law before all s rule = join_law _ _ _ _ rule ((λ h. h), (λ h. h)) (together_law before all s rule)
 
 -- ---- all sites
 
+-- the rule is told at a site after some
 abbrev At : List Site → List Site → Site → Rule → Type 0
 At before all s rule = Contains (rules_at (seen_facts before) (all_facts all) s) rule
 
+-- what is broken at a site
 from_map : (s : Site) (rules : List Rule) (b : Broken) → Contains (map (broken_at s) rules) b → (b.site ≡ s) × Contains rules b.rule
 from_map s [] b h = in_none b h
 from_map s (x ∷ rules) b h =
@@ -104,6 +118,7 @@ from_map s (x ∷ rules) b h =
       | inr w ↦ let rest = from_map s rules b w in (rest.0, in_rest x rules b.rule rest.1)
     ]
 
+-- a rule of a site is broken there
 to_map : (s : Site) (rules : List Rule) (rule : Rule) → Contains rules rule → Contains (map (broken_at s) rules) (broken_at s rule)
 to_map s [] rule h = in_none rule h
 to_map s (x ∷ rules) rule h =
@@ -112,9 +127,11 @@ to_map s (x ∷ rules) rule h =
       | inr w ↦ in_rest (broken_at s x) (map (broken_at s) rules) (broken_at s rule) (to_map s rules rule w)
     ]
 
+-- a site of these where the rule is told
 abbrev Split : List Site → List Site → List Site → Broken → Type 0
 Split before all rest b = (mid : List Site) × (after : List Site) × (rest ≡ mid ++ b.site ∷ after) × At (before ++ mid) all b.site b.rule
 
+-- it is the first site
 from_first : (before all : List Site) (s : Site) (rest : List Site) (b : Broken) → b.site ≡ s → At before all s b.rule → Split before all (s ∷ rest) b
 from_first before all s rest b e h = (
   [],
@@ -123,9 +140,11 @@ from_first before all s rest b e h = (
   subst (λ l. At l all b.site b.rule) (sym (append-nil before)) (subst (λ x. At before all x b.rule) (sym e) h),
 )
 
+-- it is a later site
 from_rest : (before all : List Site) (s : Site) (rest : List Site) (b : Broken) → Split (before ++ s ∷ []) all rest b → Split before all (s ∷ rest) b
 from_rest before all s rest b w = (s ∷ w.0, w.1, ap (λ l. s ∷ l) w.2, subst (λ l. At l all b.site b.rule) (append_assoc before (s ∷ []) w.0) w.3)
 
+-- what is told is told at some site
 from_broken : (before all rest : List Site) (b : Broken) → Contains (broken_from before all rest) b → Split before all rest b
 from_broken before all [] b h = in_none b h
 from_broken before all (s ∷ rest) b h =
@@ -135,6 +154,7 @@ from_broken before all (s ∷ rest) b h =
       | inr w ↦ from_rest before all s rest b (from_broken (before ++ s ∷ []) all rest b w)
     ]
 
+-- what a site breaks is told
 to_broken : (before all mid : List Site) (x : Site) (after : List Site) (rule : Rule) → At (before ++ mid) all x rule → Contains (broken_from before all (mid ++ x ∷ after)) (broken_at x rule)
 to_broken before all [] x after rule h =
     let rules = rules_at (seen_facts before) (all_facts all) x in

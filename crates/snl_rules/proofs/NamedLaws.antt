@@ -26,16 +26,20 @@ pub below_never : (f : ℕ → Bool) (n : ℕ) → ((k : ℕ) → k < n → f k 
 below_never f zero h = refl
 below_never f (suc n) h = (λ j. h n (omega arith) j || some_below f n) ∙ below_never f n (λ k l. h k (omega arith))
 
+-- or with true
 or_true : (b : Bool) → (b || true) ≡ true
 or_true true = refl
 or_true false = refl
 
+-- numbers that are tested equal
 same_number : (n k : ℕ) → (n == k) ≡ true → n ≡ k
 same_number n k s = grind (arith, nat_tests)
 
+-- a lower number that is not the last
 lower_number : (n k : ℕ) → k < suc n → (n == k) ≡ false → k < n
 lower_number n k l s = grind (arith, nat_tests)
 
+-- a step of the search for a number that passes
 once_or : (f : ℕ → Bool) (n k : ℕ) (rest b : Bool) → (n == k) ≡ b → f k ≡ true → (b ≡ false → rest ≡ true) → (f n || rest) ≡ true
 once_or f n k rest true s e h = ap (λ m. f m || rest) (same_number n k s) ∙ ap (λ b. b || rest) e
 once_or f n k rest false s e h = ap (λ b. f n || b) (h refl) ∙ or_true (f n)
@@ -45,6 +49,7 @@ pub below_once : (f : ℕ → Bool) (n k : ℕ) → k < n → f k ≡ true → s
 below_once f zero k l e = absurd (omega arith)
 below_once f (suc n) k l e = once_or f n k (some_below f n) (n == k) refl e (λ s. below_once f n k (lower_number n k l s) e)
 
+-- the middle two change places
 or_swap : (a b c d : Bool) → ((a || b) || (c || d)) ≡ ((a || c) || (b || d))
 or_swap true b c d = refl
 or_swap false true true d = refl
@@ -57,19 +62,24 @@ pub below_or : (f g : ℕ → Bool) (n : ℕ) → some_below (λ k. f k || g k) 
 below_or f g zero = refl
 below_or f g (suc n) = ap (λ b. (f n || g n) || b) (below_or f g n) ∙ or_swap (f n) (g n) (some_below f n) (some_below g n)
 
+-- one number more is looked at
 one_more : (e n : ℕ) → ((n == e) || nat_lt e n) ≡ nat_lt e (suc n)
 one_more e n = grind (arith, nat_tests)
 
+-- a number below that is this one
 equal_below : (e n : ℕ) → some_below (λ k. k == e) n ≡ nat_lt e n
 equal_below e zero = grind (arith, nat_tests)
 equal_below e (suc n) = ap (λ b. (n == e) || b) (equal_below e n) ∙ one_more e n
 
+-- one number more, of the first ones
 first_more : (c n : ℕ) → (nat_lt n c || (nat_lt 0 c && nat_lt 0 n)) ≡ (nat_lt 0 c && nat_lt 0 (suc n))
 first_more c n = grind (arith, nat_tests)
 
+-- no number is below 0
 first_none : (c : ℕ) → false ≡ (nat_lt 0 c && nat_lt 0 0)
 first_none c = grind (arith, nat_tests)
 
+-- a number below that is one of the first
 less_below : (c n : ℕ) → some_below (λ k. nat_lt k c) n ≡ (nat_lt 0 c && nat_lt 0 n)
 less_below c zero = first_none c
 less_below c (suc n) = ap (λ b. nat_lt n c || b) (less_below c n) ∙ first_more c n
@@ -115,6 +125,7 @@ pub in_first : (x : Extent) (c : ℕ) → (x ≡ Whole c) ⊎ (x ≡ Front c) �
 in_first x c (inl e) k = ap (is_in k) e
 in_first x c (inr e) k = ap (is_in k) e
 
+-- a number that is not below
 not_less : (k g : ℕ) → g ≤ k → nat_lt k g ≡ false
 not_less k g h = grind (arith, nat_tests)
 
@@ -124,7 +135,8 @@ missing k front g b r e h same none = let under : g ≤ k = omega arith in (λ j
 
 -- nothing more is named
 pub with_none : (n : Named) → n ≡ with_part n None
-with_none n = named_same n (with_part n None) (λ v k. sym (or-false (n.element v k))) (λ v m. sym (ap (λ b. n.below v m || b) (below_none m) ∙ or-false (n.below v m))) (λ v. sym (or-false (n.some v)))
+with_none n =
+    named_same n (with_part n None) (λ v k. sym (or-false (n.element v k))) (λ v m. sym (ap (λ b. n.below v m || b) (below_none m) ∙ or-false (n.below v m))) (λ v. sym (or-false (n.some v)))
 
 -- no site names anything
 pub named_nothing : (sorts : Sort → Bool) (n : Named) → ((v k : ℕ) → n.element v k ≡ false) → ((v m : ℕ) → n.below v m ≡ false) → ((v : ℕ) → n.some v ≡ false) → n ≡ named_of sorts []

@@ -11,10 +11,12 @@ use Rattle.snl_sites.specs.declared.sites.Site.TheVariants.{Defined}
 
 -- ---- the sorts of definitions
 
+-- An `assign`.
 abbrev pub is_assign : Sort → Bool
 is_assign Assign = true
 is_assign sort = false
 
+-- A `monitor`.
 abbrev pub is_monitor : Sort → Bool
 is_monitor Monitor = true
 is_monitor sort = false
@@ -83,6 +85,7 @@ pub record FirstAssign (all : List Site) (variable : ℕ) (extent : Extent) : Ty
   pub assigns : HasExtent variable extent (part_at is_assign site)
   pub first : All (λ s. NamesVariable is_assign variable s → ⊥) before
 
+-- All of a variable by one channel.
 abbrev pub is_whole : Extent → Bool
 is_whole (Whole n) = true
 is_whole extent = false

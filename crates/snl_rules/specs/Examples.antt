@@ -18,9 +18,11 @@ use Rattle.snl_rules.specs.declared.rules.Rule.{Rule}
 use Rattle.snl_rules.specs.declared.rules.Rule.TheVariants as r
 use Rattle.snl_rules.specs.Tests.{all_broken, all_facts, seen_facts, together}
 
+-- a place by its offset
 abbrev pub at : ℕ → Pos
 at offset = record { offset = offset; file = 0; line = 1 }
 
+-- a name at an offset
 abbrev pub name : ℕ → Token
 name offset = record { kind = kind.Name; text = record { ref_ptr = (0, 0); now = codes "x" }; pos = at offset }
 
@@ -32,6 +34,7 @@ array = Variable (at 4) (Array 3)
 abbrev pub all_of : Sort → Extent → Site
 all_of sort extent = Defined sort (name 20) (name 20) array false false (Some (record { variable = at 4; extent = extent }))
 
+-- a definition of one element
 abbrev pub one_of : Sort → ℕ → Site
 one_of sort k = Defined sort (name 20) (name 20) array true false (Some (record { variable = at 4; extent = Element k }))
 
@@ -39,6 +42,7 @@ one_of sort k = Defined sort (name 20) (name 20) array true false (Some (record 
 abbrev pub wrong_one : Sort → Site
 wrong_one sort = Defined sort (name 20) (name 20) array true true None
 
+-- a name in an expression
 abbrev pub named_for : Purpose → Meaning → Bool → Site
 named_for p m sub = Use p (name 30) m sub
 
@@ -88,14 +92,15 @@ UseExamples =
     × (rules_in (named_for Queued array false ∷ []) ≡ r.Unassigned ∷ r.NoQueue ∷ [])
     × (rules_in (Declaration (name 4) false false 3 ∷ Declaration (name 9) true false 0 ∷ named_for Ignored array false ∷ []) ≡ r.UnusedFlag ∷ [])
 
--- ---- limits: 64 state sets, 1,024 states, 1,024 channels, and one more; said once
 abbrev pub copies : ℕ → Site → List Site
 copies zero s = []
 copies (suc n) s = s ∷ copies n s
 
+-- a state set
 abbrev pub a_set : Site
 a_set = StateSet (name 40) (name 43) false
 
+-- a state with clauses
 abbrev pub a_state : Site
 a_state = State (name 50) (name 56) false true
 
@@ -103,6 +108,7 @@ a_state = State (name 50) (name 56) false true
 abbrev pub after : List Site → Site → List Rule
 after before s = together (seen_facts before) (all_facts []) s
 
+-- ---- limits: 64 state sets, 1,024 states, 1,024 channels, and one more; said once
 abbrev pub LimitExamples : Type 0
 LimitExamples =
     (after (copies 63 a_set) a_set ≡ [])

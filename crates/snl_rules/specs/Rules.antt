@@ -50,10 +50,12 @@ is_no_flag Flagged (Variable d size) = true
 is_no_flag Flagged Number = true
 is_no_flag p m = false
 
+-- An array of more than 1,024 elements.
 abbrev pub is_too_long : Size → Bool
 is_too_long TooLong = true
 is_too_long size = false
 
+-- Two or more dimensions, or a size that is no constant, faults or is below 1.
 abbrev pub is_wrong_size : Size → Bool
 is_wrong_size Wrong = true
 is_wrong_size size = false
@@ -101,10 +103,12 @@ alone (StateSet word t later) = when later r.StateSetTwice
 abbrev pub Passes : ℕ → (Site → ℕ) → List Site → Site → Type 0
 Passes limit count before s = (sum_by count before ≤ limit) × (limit < sum_by count before + count s)
 
+-- One where a state set begins.
 abbrev pub sets_at : Site → ℕ
 sets_at (StateSet word t later) = 1
 sets_at s = 0
 
+-- One where a state begins.
 abbrev pub states_at : Site → ℕ
 states_at (State word t later clauses) = 1
 states_at s = 0
@@ -115,10 +119,12 @@ channels_in (Whole n) = 1
 channels_in (Front n) = n
 channels_in (Element k) = 1
 
+-- The channels of what is assigned.
 abbrev pub channels_by : Option Part → ℕ
 channels_by None = 0
 channels_by (Some p) = channels_in p.extent
 
+-- The channels that a site makes.
 abbrev pub channels_at : Site → ℕ
 channels_at s = channels_by (part_at is_assign s)
 
@@ -143,6 +149,7 @@ abbrev pub UnassignedExtent : List Site → ℕ → Extent → Type 0
 UnassignedExtent all variable (Element k) = Any (NamesElement is_assign variable k) all → ⊥
 UnassignedExtent all variable extent = Any (NamesVariable is_assign variable) all → ⊥
 
+-- The same of what a definition names.
 abbrev pub Unassigned : List Site → Option Part → Type 0
 Unassigned all None = ⊥
 Unassigned all (Some p) = UnassignedExtent all p.variable.offset p.extent
@@ -216,6 +223,7 @@ UsesDeclared offset s = ⊥
 abbrev pub Unused : List Site → Token → Type 0
 Unused all t = Any (UsesDeclared t.pos.offset) all → ⊥
 
+-- W6 of an event flag, W5 of a variable.
 abbrev pub unused : Bool → Rule
 unused true = r.UnusedFlag
 unused false = r.UnusedVariable

@@ -1,6 +1,6 @@
 //! The rules that a site breaks by itself: its fields tell them.
 
-ghost use Rattle.std.specs.Prelude.{◌≡◌, ◌++◌, OnOk};
+ghost use Rattle.std.specs.Prelude.{◌≡◌, ◌++◌, not, OnOk};
 ghost use Rattle.snl_rules.specs.Rules as spec;
 
 use crate::rules::Rule;
@@ -53,8 +53,60 @@ fn tell_name(purpose: Purpose, meaning: Meaning, found: &mut Vec<Rule>) -> Resul
         ++ spec.when (spec.is_no_variable purpose meaning) Rule.NoVariable)) }
 {
     tell_when(is_undeclared(purpose, meaning), Rule::Undeclared, found)?;
-    tell_when(is_no_variable(purpose, meaning), Rule::NoVariable, found)?;
-    Ok(())
+    tell_when(is_no_variable(purpose, meaning), Rule::NoVariable, found)
+}
+
+/// Adds what is wrong with a name in an expression.
+fn tell_use(purpose: Purpose, meaning: Meaning, found: &mut Vec<Rule>) -> Result<(), AllocError>
+    ensures { OnOk result (found.new.items ≡ found.old.items
+        ++ (spec.when (spec.is_undeclared purpose meaning) Rule.Undeclared
+        ++ spec.when (spec.is_no_variable purpose meaning) Rule.NoVariable
+        ++ spec.when (spec.is_no_flag purpose meaning) Rule.NoFlag)) }
+{
+    tell_name(purpose, meaning, found)?;
+    tell_when(is_no_flag(purpose, meaning), Rule::NoFlag, found)
+}
+
+/// Adds what is wrong with a declared name.
+fn tell_declarator(
+    size: Size,
+    has_good_initialiser: bool,
+    found: &mut Vec<Rule>,
+) -> Result<(), AllocError>
+    ensures { OnOk result (found.new.items ≡ found.old.items
+        ++ (spec.when (spec.is_too_long size) Rule.TooManyElements
+        ++ spec.when (spec.is_wrong_size size) Rule.WrongArray
+        ++ spec.when (not has_good_initialiser) Rule.BadInitialiser)) }
+{
+    tell_when(matches!(size, Size::TooLong), Rule::TooManyElements, found)?;
+    tell_when(matches!(size, Size::Wrong), Rule::WrongArray, found)?;
+    tell_when(!has_good_initialiser, Rule::BadInitialiser, found)
+}
+
+/// Adds what is wrong with a call.
+fn tell_call(
+    is_known: bool,
+    is_fitting: bool,
+    may_stand: bool,
+    found: &mut Vec<Rule>,
+) -> Result<(), AllocError>
+    ensures { OnOk result (found.new.items ≡ found.old.items
+        ++ (spec.when (not is_known) Rule.UnknownFunction
+        ++ spec.when (not is_fitting) Rule.WrongArguments
+        ++ spec.when (not may_stand) Rule.DelayElsewhere)) }
+{
+    tell_when(!is_known, Rule::UnknownFunction, found)?;
+    tell_when(!is_fitting, Rule::WrongArguments, found)?;
+    tell_when(!may_stand, Rule::DelayElsewhere, found)
+}
+
+/// Adds what is wrong with a state.
+fn tell_state(is_later: bool, has_clauses: bool, found: &mut Vec<Rule>) -> Result<(), AllocError>
+    ensures { OnOk result (found.new.items ≡ found.old.items
+        ++ (spec.when is_later Rule.StateTwice ++ spec.when (not has_clauses) Rule.NoClauses)) }
+{
+    tell_when(is_later, Rule::StateTwice, found)?;
+    tell_when(!has_clauses, Rule::NoClauses, found)
 }
 
 /// Adds the rules that a site breaks by itself (SNL Reference: each rule in the section of its
@@ -63,62 +115,43 @@ pub fn tell_alone(site: &Site, found: &mut Vec<Rule>) -> Result<(), AllocError>
     ensures { OnOk result (found.new.items ≡ found.old.items ++ spec.alone site.now) }
 {
     match site {
-        Site::Declaration { is_later, .. } => tell_when(*is_later, Rule::DeclaredTwice, found)?,
-        Site::Typed { is_supported, .. } => tell_when(!*is_supported, Rule::WrongType, found)?,
+        Site::Declaration { is_later, .. } => tell_when(*is_later, Rule::DeclaredTwice, found),
+        Site::Typed { is_supported, .. } => tell_when(!*is_supported, Rule::WrongType, found),
         Site::Declarator {
             size,
             has_good_initialiser,
             ..
-        } => {
-            tell_when(matches!(size, Size::TooLong), Rule::TooManyElements, found)?;
-            tell_when(matches!(size, Size::Wrong), Rule::WrongArray, found)?;
-            tell_when(!*has_good_initialiser, Rule::BadInitialiser, found)?;
-        }
-        Site::Defined { meaning, .. } => tell_name(Purpose::Changed, *meaning, found)?,
-        Site::QueueSize { is_good, .. } => tell_when(!*is_good, Rule::QueueSize, found)?,
-        Site::Setting { refused, .. } => {
-            tell_when(refused.is_some(), Rule::UnknownOption, found)?;
-        }
+        } => tell_declarator(*size, *has_good_initialiser, found),
+        Site::Defined { meaning, .. } => tell_name(Purpose::Changed, *meaning, found),
+        Site::QueueSize { is_good, .. } => tell_when(!*is_good, Rule::QueueSize, found),
+        Site::Setting { refused, .. } => tell_when(refused.is_some(), Rule::UnknownOption, found),
         Site::Use {
             purpose,
             meaning,
             ..
-        } => {
-            tell_name(*purpose, *meaning, found)?;
-            tell_when(is_no_flag(*purpose, *meaning), Rule::NoFlag, found)?;
-        }
-        Site::Decimal { is_good, .. } => tell_when(!*is_good, Rule::WrongDecimal, found)?,
+        } => tell_use(*purpose, *meaning, found),
+        Site::Decimal { is_good, .. } => tell_when(!*is_good, Rule::WrongDecimal, found),
         Site::Call {
             is_known,
             is_fitting,
             may_stand,
             ..
-        } => {
-            tell_when(!*is_known, Rule::UnknownFunction, found)?;
-            tell_when(!*is_fitting, Rule::WrongArguments, found)?;
-            tell_when(!*may_stand, Rule::DelayElsewhere, found)?;
-        }
-        Site::Format { is_good, .. } => tell_when(!*is_good, Rule::BadFormat, found)?,
-        Site::Change { is_good, .. } => tell_when(!*is_good, Rule::NotAssignable, found)?,
-        Site::Leave { is_in_loop, .. } => tell_when(!*is_in_loop, Rule::OutsideLoop, found)?,
-        Site::Move { is_in_clause, .. } => {
-            tell_when(!*is_in_clause, Rule::StateElsewhere, found)?;
-        }
+        } => tell_call(*is_known, *is_fitting, *may_stand, found),
+        Site::Format { is_good, .. } => tell_when(!*is_good, Rule::BadFormat, found),
+        Site::Change { is_good, .. } => tell_when(!*is_good, Rule::NotAssignable, found),
+        Site::Leave { is_in_loop, .. } => tell_when(!*is_in_loop, Rule::OutsideLoop, found),
+        Site::Move { is_in_clause, .. } => tell_when(!*is_in_clause, Rule::StateElsewhere, found),
         Site::Target {
             state,
             may_stand,
             ..
-        } => tell_when(*may_stand && state.is_none(), Rule::NoState, found)?,
-        Site::Clause { is_blocked, .. } => tell_when(*is_blocked, Rule::NeverReached, found)?,
+        } => tell_when(*may_stand && state.is_none(), Rule::NoState, found),
+        Site::Clause { is_blocked, .. } => tell_when(*is_blocked, Rule::NeverReached, found),
         Site::State {
             is_later,
             has_clauses,
             ..
-        } => {
-            tell_when(*is_later, Rule::StateTwice, found)?;
-            tell_when(!*has_clauses, Rule::NoClauses, found)?;
-        }
-        Site::StateSet { is_later, .. } => tell_when(*is_later, Rule::StateSetTwice, found)?,
+        } => tell_state(*is_later, *has_clauses, found),
+        Site::StateSet { is_later, .. } => tell_when(*is_later, Rule::StateSetTwice, found),
     }
-    Ok(())
 }

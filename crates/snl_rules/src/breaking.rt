@@ -51,8 +51,10 @@ fn note_site<'a>(
     found: &mut Vec<Broken<'a>>,
 ) -> Result<(), AllocError>
     ensures found { OnOk result (found.new.items ≡ found.old.items
-        ++ map (tests.broken_at site.now) (tests.rules_at (spec.seen_in seen.old) (spec.known_in known.now) site.now)) }
-    ensures seen { OnOk result (spec.seen_in seen.new ≡ tests.seen_after (spec.seen_in seen.old) site.now) }
+        ++ map (tests.broken_at site.now)
+        (tests.rules_at (spec.seen_in seen.old) (spec.known_in known.now) site.now)) }
+    ensures seen { OnOk result (spec.seen_in seen.new
+        ≡ tests.seen_after (spec.seen_in seen.old) site.now) }
 {
     let rules = rules_at(alloc, seen, known, site)?;
     push_broken(site, &rules, found)?;
@@ -107,7 +109,10 @@ fn tell_by_tables<'a>(
 {
     let mut known = Known::new(alloc);
     let mut seen = Seen::new(alloc);
-    tell_all(alloc, sites, &mut known, &mut seen, found)
+    let told = tell_all(alloc, sites, &mut known, &mut seen, found);
+    drop(known);
+    drop(seen);
+    told
 }
 
 /// Each rule that a site of a program breaks, with the site (SNL Reference; docs/MESSAGES.md has the

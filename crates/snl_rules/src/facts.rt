@@ -24,8 +24,11 @@ const MOST_CHANNELS: usize = 1024;
 /// What is known of all sites. Variables and flags are told by the offsets of their declarations.
 #[derive(Drop)]
 pub struct Known {
+    /// What `assign` names.
     pub assigned: Elements,
+    /// What `monitor` names.
     pub monitored: Elements,
+    /// What `syncQ` names.
     pub queued: Elements,
     /// Of each variable that is assigned, whether the first `assign` is of its whole.
     firsts: IndexMap<usize, bool>,
@@ -36,7 +39,9 @@ pub struct Known {
 /// What is known of the sites before a site.
 #[derive(Drop)]
 pub struct Seen {
+    /// What `assign` names.
     pub assigned: Elements,
+    /// What `sync` and `syncQ` name.
     pub synced: Elements,
     /// How many more state sets may come; None once there are too many.
     pub sets: Option<usize>,
@@ -220,7 +225,8 @@ impl Seen {
 
     /// Notes a site.
     pub fn note(&mut self, site: &Site) -> Result<(), AllocError>
-        ensures { OnOk result (spec.seen_in self.new ≡ tests.seen_after (spec.seen_in self.old) site.now) }
+        ensures { OnOk result (spec.seen_in self.new
+            ≡ tests.seen_after (spec.seen_in self.old) site.now) }
     {
         self.assigned.note_site(Naming::Assigning, site)?;
         self.synced.note_site(Naming::Syncing, site)?;

@@ -60,7 +60,8 @@ fn is_wrong_definition(
     has_subscript: bool,
     is_wrong: bool,
 ) -> bool
-    ensures { result ≡ tests.is_wrong_definition (spec.known_in known.now) sort meaning has_subscript is_wrong }
+    ensures { result
+        ≡ tests.is_wrong_definition (spec.known_in known.now) sort meaning has_subscript is_wrong }
 {
     let Meaning::Variable(declared, size) = meaning else {
         return false;
