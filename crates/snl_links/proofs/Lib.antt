@@ -1,3 +1,3 @@
-pub mod TextLaws
 pub mod MacroLaws
 pub mod LinkLaws
+pub mod AppendLaws

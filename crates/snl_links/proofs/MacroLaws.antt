@@ -1,5 +1,5 @@
 -- Laws of macros: a text and its first piece, the last of more definitions, a name and its first brackets.
-use Rattle.std.proofs.Common.{◌≡◌, ℕ, Bool, true, false, cond, eqb, List, [], ◌∷◌, ◌++◌, Option, None, Some, option_map, unwrap_or, refl, sym, ap, ◌∙◌, append_assoc, append-nil, Bor, Result, Ok, Err, IfOk, IfSome, length, suc, ◌<◌, subst, arith}
+use Rattle.std.proofs.Common.{◌≡◌, ℕ, true, false, cond, eqb, List, [], ◌∷◌, ◌++◌, Option, None, Some, option_map, unwrap_or, refl, sym, ap, ◌∙◌, append_assoc, append-nil, Bor, Result, Ok, Err, IfOk, IfSome, length, suc, ◌<◌, subst, arith}
 use Rattle.std.specs.Prelude.{bytes_eq}
 use Rattle.std.specs.List.{flat_map}
 use Rattle.std.specs.HashMap.{HashMap, get_by}

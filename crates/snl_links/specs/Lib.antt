@@ -4,4 +4,6 @@ pub mod MacroTables
 pub mod MacroViews
 pub mod Links
 pub mod LinkViews
+pub mod Tables
+pub mod Appended
 pub mod Examples

@@ -1,5 +1,5 @@
 -- What a table of macros stands for.
-use Rattle.std.specs.Prelude.{◌≡◌, ℕ, List, [], Option, option_map, unwrap_or, bytes_eq}
+use Rattle.std.specs.Prelude.{ℕ, List, [], Option, option_map, unwrap_or, bytes_eq}
 use Rattle.std.specs.Borrow.{Bor}
 use Rattle.std.specs.HashMap.{HashMap, get_by}
 use Rattle.snl_links.specs.declared.macros.MacroTable.{MacroTable}

@@ -1,12 +1,15 @@
 //! The links of a program, the macros in the names of its channels, and its tables as text.
 #![tactic(auto)]
 
+mod appending;
 pub mod laws;
 mod links;
 mod macros;
 mod said;
 mod scoping;
+mod tables;
 mod texts;
 mod ties;
 
 pub use links::{Link, Macros, links_of};
+pub use tables::tables_of;

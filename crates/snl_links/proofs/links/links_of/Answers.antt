@@ -1,4 +1,4 @@
-use Rattle.std.proofs.Common.{map, ap, ◌∙◌}
+use Rattle.std.proofs.Common.{ap, ◌∙◌}
 use Rattle.snl_tree.specs.view.Programs.{program_view}
 use Rattle.snl_links.specs.Links.{spelled, ties}
 use Rattle.snl_links.specs.Macros.{macros_of, value_of}
