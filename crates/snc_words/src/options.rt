@@ -53,7 +53,7 @@ fn refused_letter(option: OptionWord<'_>) -> Option<char>
 pub(crate) fn first_refused(words: &[String]) -> Option<(char, char)>
     ensures { result ≡ spec.first_refused (spec.options_among (map string_bytes words.now)) }
 {
-    for word in words.iter() {
+    for word in words {
         if let Some(option) = option_of(word.as_str()) {
             if let Some(character) = refused_letter(option) {
                 let sign = if option.on { '+' } else { '-' };
