@@ -1,5 +1,5 @@
 -- A loop has turns enough, whatever number above its ticks they are.
-use Rattle.std.proofs.Common.{◌≡◌, ◌<◌, ◌≤◌, ℕ, zero, suc, Bool, true, false, List, refl, ap, arith}
+use Rattle.std.proofs.Common.{◌≡◌, ◌<◌, ◌≤◌, ℕ, zero, suc, Bool, true, false, refl, ap, arith}
 use Rattle.snl_code.specs.Effect.{Way, Done, Broken, Continued, Left, unless_broken, turned, turns, held_by, evaluated, effect_of}
 use Rattle.snl_code.specs.Laws.{TurnsAreEnough}
 use Rattle.snl_code.specs.Ran.{Ran, Gives, Faults, also, then_do}
@@ -52,4 +52,4 @@ module _ (line : ℕ) (condition : World → Ran Bool) (body : World → Ran Way
 pub turns-enough : TurnsAreEnough
 turns-enough h line condition step s w n more =
     same-turns line (held_by h condition) (effect_of h s) (evaluated h step) (held-keeps h condition) (effect-keeps h s) (evaluated-keeps h step)
-      (suc w.ticks) n (suc w.ticks) (omega (arith, more)) (omega arith) w (omega arith)
+    (suc w.ticks) n (suc w.ticks) (omega (arith, more)) (omega arith) w (omega arith)
