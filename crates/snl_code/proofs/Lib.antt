@@ -14,3 +14,5 @@ pub mod Nearer
 pub mod Ends
 pub mod Pieces
 pub mod DepthWithin
+pub mod Turns
+pub mod Texts

@@ -12,3 +12,4 @@ pub mod Right
 pub mod Examples
 pub mod Known
 pub mod Stack
+pub mod Laws

@@ -1,6 +1,7 @@
 //! Laws of the flat code. Each is a function without code, whose contract is the law.
 
 ghost use Rattle.snl_code.specs.Examples.{ExpressionExamples, StatementExamples};
+ghost use Rattle.snl_code.specs.Laws.{TextsAreFound, TurnsAreEnough};
 ghost use Rattle.snl_code.specs.Right.{BlocksAreRight, ConditionsAreRight, DepthIsWithinTokens, OnlyTicksLeadBack};
 
 /// The code of a condition is right for it, wherever it stands.
@@ -31,4 +32,14 @@ pub fn examples_of_expressions()
 /// What some statements do: loops, ticks, `break`, `continue`, the variables of a block, `state`.
 pub fn examples_of_statements()
     ensures { StatementExamples }
+{}
+
+/// A loop has turns enough: with any number of them above the ticks that are left it does the same.
+pub fn turns_are_enough()
+    ensures { TurnsAreEnough }
+{}
+
+/// A text among some is found by its number.
+pub fn texts_are_found()
+    ensures { TextsAreFound }
 {}

@@ -2,6 +2,7 @@
 
 ghost use Rattle.std.specs.Prelude.{◌≡◌, map};
 ghost use Rattle.snl_sites.specs.Held.{held_view};
+ghost use Rattle.snl_sites.specs.Numbered.{number_of};
 ghost use Rattle.snl_code.specs.Names as spec;
 ghost use Rattle.snl_code.specs.Known.{here_of};
 
@@ -55,6 +56,18 @@ fn variable_at(variables: &[Held], offset: usize) -> Option<Variable>
     None
 }
 
+/// The number of the first of some names that is spelled so.
+fn number_in(names: &[Token], name: &[u8]) -> Option<usize>
+    ensures { result ≡ number_of names.now name.now }
+{
+    for number in 0..names.len() {
+        if name == names[number].text {
+            return Some(number);
+        }
+    }
+    None
+}
+
 impl<'s, 'p, 'a> Known<'s, 'p, 'a> {
     /// The variable that a name's declaration makes, or else the number that its text is predefined
     /// to be. A name that is neither stands for 0.
@@ -70,5 +83,11 @@ impl<'s, 'p, 'a> Known<'s, 'p, 'a> {
             Some(variable) => Sense::Varies(variable),
             None => Sense::Stands(predefined(name.text).unwrap_or(0)),
         }
+    }
+    /// The number of the state that is named, in the state set; 0 for an unknown name.
+    pub fn state(&self, name: Token<'a>) -> usize
+        ensures { result ≡ spec.state_number (here_of self.now) name.entry }
+    {
+        number_in(self.states, name.text).unwrap_or(0)
     }
 }
