@@ -7,8 +7,8 @@ ghost use Rattle.snl_sites.specs.Options as spec;
 use snl_text::Kind;
 use snl_tree::Setting;
 
-/// The signs in force of the letters that change what is said of a program or how it starts: `true` for `+`, None where no
-/// option has the letter.
+/// The signs in force of the letters that change what is said of a program or how it starts:
+/// `true` for `+`, None where no option has the letter (SNL Reference, "Option").
 #[derive(Clone, Copy)]
 pub struct Options {
     /// Safe mode is asked for.
@@ -33,7 +33,8 @@ fn has_letter(letters: &[u8], letter: u8) -> bool
     false
 }
 
-/// The sign of a letter after an option with this sign and these letters, where `before` was in force.
+/// The sign of a letter after an option with this sign and these letters, where `before` was in
+/// force.
 fn sign_after(on: bool, letters: &[u8], letter: u8, before: Option<bool>) -> Option<bool>
     ensures { result ≡ spec.sign_after on letters.now letter before }
 {
@@ -57,8 +58,8 @@ impl Options {
         }
     }
 
-    /// The signs after one more option with this sign, `true` for `+`, and these letters: of each letter the last sign
-    /// is in force.
+    /// The signs after one more option with this sign, `true` for `+`, and these letters: of each
+    /// letter the last sign is in force.
     pub fn after(self, on: bool, letters: &[u8]) -> Options
         ensures { result ≡ spec.after_option on letters.now self }
     {
