@@ -143,7 +143,8 @@ pub named_nothing : (sorts : Sort → Bool) (n : Named) → ((v k : ℕ) → n.e
 named_nothing sorts n element below some = named_same n (named_of sorts []) element (λ v m. below v m ∙ sym (below_none m)) some
 
 -- one more site
-pub named_step : (sorts : Sort → Bool) (all : List Site) (i : ℕ) (s : Site) → i < length all → named_of sorts (take (i + 1) all) ≡ with_part (named_of sorts (take i all)) (part_at sorts (get_or all i s))
+pub named_step : (sorts : Sort → Bool) (all : List Site) (i : ℕ) (s : Site) → i < length all
+    → named_of sorts (take (i + 1) all) ≡ with_part (named_of sorts (take i all)) (part_at sorts (get_or all i s))
 named_step sorts all i s h =
     named_same (named_of sorts (take (i + 1) all)) (with_part (named_of sorts (take i all)) (part_at sorts (get_or all i s)))
     (λ v k. list_any_more (names_element sorts v k) all i s h)

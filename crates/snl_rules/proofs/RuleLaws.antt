@@ -297,6 +297,7 @@ meant_decides v (Variable d size) = Decides-eqb d.offset v
 meant_decides v (Flag d) = Decides-eqb d.offset v
 meant_decides v m = never
 
+-- a site uses a declaration
 uses_decides : (v : ℕ) (s : Site) → Decides (uses_declared v s) (UsesDeclared v s)
 uses_decides v (Use p t m sub) = meant_decides v m
 uses_decides v (Defined sort word t m sub wrong part) = meant_decides v m

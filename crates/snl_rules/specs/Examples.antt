@@ -92,6 +92,7 @@ UseExamples =
     × (rules_in (named_for Queued array false ∷ []) ≡ r.Unassigned ∷ r.NoQueue ∷ [])
     × (rules_in (Declaration (name 4) false false 3 ∷ Declaration (name 9) true false 0 ∷ named_for Ignored array false ∷ []) ≡ r.UnusedFlag ∷ [])
 
+-- n times the same site
 abbrev pub copies : ℕ → Site → List Site
 copies zero s = []
 copies (suc n) s = s ∷ copies n s

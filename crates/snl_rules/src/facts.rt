@@ -66,7 +66,8 @@ fn note_first(firsts: &mut IndexMap<usize, bool>, part: Part) -> Result<(), Allo
 /// Notes the `assign` at a site.
 fn note_first_at(firsts: &mut IndexMap<usize, bool>, site: &Site) -> Result<(), AllocError>
     ensures { OnOk result ((v : ℕ) → get nat_eq firsts.new v
-        ≡ tests.first_or (get nat_eq firsts.old v) (tests.whole_by v (part_at is_assign site.now))) }
+        ≡ tests.first_or (get nat_eq firsts.old v)
+        (tests.whole_by v (part_at is_assign site.now))) }
 {
     if let Some(part) = part_at(Naming::Assigning, site) {
         note_first(firsts, part)?;

@@ -118,7 +118,8 @@ fn tell_part(
 
 /// E29 where the channel or the queue of a variable is used.
 fn is_wrong_channel(known: &Known, variable: usize, size: Size, has_subscript: bool) -> bool
-    ensures { result ≡ tests.is_wrong_channel (spec.known_in known.now) variable size has_subscript }
+    ensures { result
+        ≡ tests.is_wrong_channel (spec.known_in known.now) variable size has_subscript }
 {
     if is_array(size) {
         known.first_is_whole(variable) == Some(has_subscript)
