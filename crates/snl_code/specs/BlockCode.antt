@@ -26,6 +26,7 @@ abbrev pub test_code : Here → Option ExprTree → List Instr
 test_code h None = []
 test_code h (Some e) = expression_code h e ++ JumpIfZero 1 ∷ []
 
+-- The depth of an expression that may be missing.
 abbrev pub maybe_depth : Option ExprTree → ℕ
 maybe_depth None = 0
 maybe_depth (Some e) = expression_depth e
@@ -37,33 +38,41 @@ loop_code line body step test =
 
 -- ---- the variables of a block
 
+-- The code that sets a variable of a block to 0.
 abbrev pub cleared_code : Option Variable → List Instr
 cleared_code None = []
 cleared_code (Some v) = Clear v ∷ []
 
+-- The same of all variables of a block.
 abbrev pub all_cleared_code : Here → List DeclaratorTree → List Instr
 all_cleared_code h [] = []
 all_cleared_code h (d ∷ ds) = cleared_code (variable_for h d) ++ all_cleared_code h ds
 
+-- The instruction that stores what an element begins with.
 abbrev pub begun_code : Option Variable → ℕ → ℕ → Instr
 begun_code None line k = Drop
 begun_code (Some v) line k = Begin v k line
 
+-- The code of what a variable begins with, from an element on.
 abbrev pub begun_with_code : Here → DeclaratorTree → ℕ → List ExprTree → List Instr
 begun_with_code h d k [] = []
 begun_with_code h d k (e ∷ es) = (expression_code h e ++ begun_code (variable_for h d) d.name.pos.line k ∷ []) ++ begun_with_code h d (suc k) es
 
+-- The same of all variables of a block.
 abbrev pub all_begun_code : Here → List DeclaratorTree → List Instr
 all_begun_code h [] = []
 all_begun_code h (d ∷ ds) = begun_with_code h d 0 (values_of d.initial) ++ all_begun_code h ds
 
+-- The code of the entry of a block.
 abbrev pub entered_code : Here → List DeclaratorTree → List Instr
 entered_code h ds = all_cleared_code h ds ++ all_begun_code h ds
 
+-- The greatest depth of some values.
 abbrev pub values_depth : List ExprTree → ℕ
 values_depth [] = 0
 values_depth (e ∷ es) = max (expression_depth e) (values_depth es)
 
+-- The greatest depth of what the variables of a block begin with.
 abbrev pub entered_depth : List DeclaratorTree → ℕ
 entered_depth [] = 0
 entered_depth (d ∷ ds) = max (values_depth (values_of d.initial)) (entered_depth ds)
@@ -122,8 +131,10 @@ abbrev mutual
 
 -- ---- pieces
 
+-- The piece of a condition.
 abbrev pub condition_piece : Here → ExprTree → List Instr
 condition_piece h e = expression_code h e ++ End ∷ []
 
+-- The piece of a block.
 abbrev pub block_piece : Here → BlockTree → List Instr
 block_piece h b = block_code h 0 0 b ++ End ∷ []

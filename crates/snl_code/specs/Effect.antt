@@ -23,6 +23,7 @@ pub data Way : Type 0 where
 
 -- ---- one statement and then another
 
+-- An end of this kind, and nothing else happens.
 abbrev pub ends : Way → World → Ran Way
 ends way w = Gives way w []
 
@@ -44,6 +45,7 @@ unless_broken go Broken w = Gives Done w []
 unless_broken go Continued w = go w
 unless_broken go (Left state) w = Gives (Left state) w []
 
+-- A number other than 0 holds.
 abbrev pub holds : ℤ → World → Ran Bool
 holds z w = Gives (if is_zero z then false else true) w []
 
@@ -52,6 +54,7 @@ abbrev pub held_by : Here → Option ExprTree → World → Ran Bool
 held_by h None w = Gives true w []
 held_by h (Some e) w = then_do (value_of h e w) holds
 
+-- A number that is not used.
 abbrev pub dropped : ℤ → World → Ran (Unit {0})
 dropped _ w = Gives tt w []
 
@@ -81,6 +84,7 @@ looped line condition body step w = turns (suc w.ticks) line condition body step
 abbrev pub variable_for : Here → DeclaratorTree → Option Variable
 variable_for h d = variable_at h d.name.pos.offset
 
+-- A variable is 0, where there is one.
 abbrev pub cleared_maybe : ℕ → Option Variable → World → Ran (Unit {0})
 cleared_maybe set None w = Gives tt w []
 cleared_maybe set (Some v) w = cleared set v w
@@ -90,6 +94,7 @@ abbrev pub all_cleared : Here → List DeclaratorTree → World → Ran (Unit {0
 all_cleared h [] w = Gives tt w []
 all_cleared h (d ∷ ds) w = then_do (cleared_maybe h.set (variable_for h d) w) (λ _ u. all_cleared h ds u)
 
+-- An element begins with a number, where there is a variable.
 abbrev pub begun : ℕ → Option Variable → ℕ → ℕ → ℤ → World → Ran ℤ
 begun set None line k z w = Gives z w []
 begun set (Some v) line k z w = stored set v line (pos k) z w
@@ -100,15 +105,18 @@ begun_with h d k [] w = Gives tt w []
 begun_with h d k (e ∷ es) w =
     then_do (then_do (value_of h e w) (begun h.set (variable_for h d) d.name.pos.line k)) (λ _ u. begun_with h d (suc k) es u)
 
+-- The values that a variable begins with, in their order.
 abbrev pub values_of : Option InitialiserTree → List ExprTree
 values_of None = []
 values_of (Some (single e)) = e ∷ []
 values_of (Some (listed all)) = listed_values all
 
+-- The same of all variables of a block.
 abbrev pub all_begun : Here → List DeclaratorTree → World → Ran (Unit {0})
 all_begun h [] w = Gives tt w []
 all_begun h (d ∷ ds) w = then_do (begun_with h d 0 (values_of d.initial) w) (λ _ u. all_begun h ds u)
 
+-- The names that declarations declare.
 abbrev pub names_of : List DeclarationTree → List DeclaratorTree
 names_of ds = flat_map (λ d. d.names) ds
 

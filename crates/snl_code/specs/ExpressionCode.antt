@@ -18,6 +18,7 @@ joint_code Or line right = JumpIfZero 2 ∷ Push (pos 1) ∷ Jump (length right 
 joint_code Sequel line right = Drop ∷ right
 joint_code (Operation op) line right = right ++ Apply op line ∷ []
 
+-- How much room an operator needs beside its operand.
 abbrev pub joint_depth : Joint → ℕ → ℕ
 joint_depth (Operation op) depth = depth + 1
 joint_depth _ depth = depth
@@ -26,6 +27,7 @@ joint_depth _ depth = depth
 abbrev pub if_code : List Instr → List Instr → List Instr → List Instr
 if_code condition held failed = condition ++ (JumpIfZero (length held + 1) ∷ (held ++ Jump (length failed) ∷ failed))
 
+-- The instruction of a name that is read.
 abbrev pub name_code : Sense → Instr
 name_code (Varies v) = Load v
 name_code (Stands z) = Push z
@@ -35,6 +37,7 @@ abbrev pub at_code : Sense → ℕ → (Variable → List Instr) → List Instr 
 at_code (Varies v) line go other = Check v line ∷ go v
 at_code (Stands z) line go other = Drop ∷ other
 
+-- The code that reads an element by the subscript on top.
 abbrev pub get_code : Variable → List Instr
 get_code v = Get v ∷ []
 
@@ -53,26 +56,32 @@ abbrev pub held_depth : Option Kind → ℕ
 held_depth None = 0
 held_depth (Some op) = 1
 
+-- The code of what is done to a variable, with the use of its name.
 abbrev pub CodeOn : Type 0
 CodeOn = Variable → Token → List Instr
 
+-- The code of what is done to a name, or for a name that is no variable of something else.
 abbrev pub at_name_code : Sense → Token → CodeOn → List Instr → List Instr
 at_name_code (Varies v) x alone other = alone v x
 at_name_code (Stands z) x alone other = other
 
+-- The code of a sign before or after an operand.
 abbrev pub signed_code : Sign → (Kind → List Instr) → List Instr → ℕ → List Instr
 signed_code (Steps op) stepping operand line = stepping op
 signed_code (Alone op) stepping operand line = operand ++ ApplyPrefix op line ∷ []
 
+-- How much room a sign needs.
 abbrev pub signed_depth : Sign → ℕ → ℕ → ℕ
 signed_depth (Steps op) stepping operand = stepping
 signed_depth (Alone op) stepping operand = operand
 
+-- The code of a call.
 abbrev pub called_code : Function → (print wait : List Instr) → List Instr
 called_code Prints print wait = print
 called_code Delays print wait = wait
 called_code Others print wait = Push (pos 0) ∷ []
 
+-- How much room a call needs.
 abbrev pub called_depth : Function → (print wait : ℕ) → ℕ
 called_depth Prints print wait = print
 called_depth Delays print wait = wait

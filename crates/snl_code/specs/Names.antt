@@ -27,10 +27,12 @@ pub record Here : Type 0 where
   -- the variables of the copy
   pub variables : List Held
 
+-- The name of a state set, if there is one.
 abbrev pub name_by : Option StateSetTree → List ℕ
 name_by None = []
 name_by (Some g) = g.name.text.now
 
+-- The names of its states.
 abbrev pub states_by : Option StateSetTree → List Token
 states_by None = []
 states_by (Some g) = map (λ s. s.name) g.states
@@ -47,6 +49,7 @@ here_in p set = record {
 
 -- ---- variables
 
+-- A variable with its number.
 abbrev pub numbered : ℕ → Held → Variable
 numbered n v = record { number = n; size = elements v.size; least = v.range.0; greatest = v.range.1 }
 
@@ -59,16 +62,19 @@ variable_from n (v ∷ vs) offset = if v.name.pos.offset == offset then Some (nu
 abbrev pub variable_at : Here → ℕ → Option Variable
 variable_at h offset = variable_from 0 h.variables offset
 
+-- The same of a place, if there is one.
 abbrev pub variable_by : Here → Option Pos → Option Variable
 variable_by h None = None
 variable_by h (Some declared) = variable_at h declared.offset
 
 -- ---- names in expressions
 
+-- A number, or 0.
 abbrev pub or_zero : Option ℤ → ℤ
 or_zero None = pos 0
 or_zero (Some z) = z
 
+-- A variable where there is one, and otherwise a number.
 abbrev pub sense_by : Option Variable → Option ℤ → Sense
 sense_by (Some v) number = Varies v
 sense_by None number = Stands (or_zero number)
@@ -80,6 +86,7 @@ sense_of h x = sense_by (variable_by h (declared_in x.pos.offset h.sites)) (pred
 
 -- ---- states
 
+-- A number, or that of the first.
 abbrev pub or_first : Option ℕ → ℕ
 or_first None = 0
 or_first (Some n) = n
@@ -91,6 +98,7 @@ state_number h x = or_first (number_of h.states x.text.now)
 
 -- ---- formats
 
+-- The string of a site, if it has one.
 abbrev pub format_at : Site → List (List ℕ)
 format_at (Format t is_good) = t.text.now ∷ []
 format_at _ = []

@@ -5,6 +5,7 @@ use Rattle.snl_sites.specs.declared.formats.Place.{Place}
 use Rattle.snl_sites.specs.declared.formats.Place.TheVariants.{Plain, Escaped, Percent, Long}
 use Rattle.snl_sites.specs.Formats.{next, converts}
 
+-- The first of some numbers, in decimals.
 abbrev pub first_shown : List ℤ → List ℕ
 first_shown [] = []
 first_shown (z ∷ zs) = signed_decimal z

@@ -22,6 +22,7 @@ use Rattle.snl_code.specs.World.{World}
 
 -- ---- constants
 
+-- A number, or 0.
 abbrev pub or_none : Option ℕ → ℤ
 or_none None = pos 0
 or_none (Some n) = pos n
@@ -43,6 +44,7 @@ either held failed z w = if is_zero z then failed w else held w
 abbrev pub both : (World → Ran ℤ) → ℤ → World → Ran ℤ
 both right z w = if is_zero z then Gives (pos 0) w [] else then_do (right w) settled
 
+-- The same of `||`.
 abbrev pub one_of : (World → Ran ℤ) → ℤ → World → Ran ℤ
 one_of right z w = if is_zero z then then_do (right w) settled else Gives (pos 1) w []
 
@@ -55,6 +57,7 @@ joint_of kind.BarBar = Or
 joint_of kind.Comma = Sequel
 joint_of op = Operation op
 
+-- An operator with its operand, after what stands left of it.
 abbrev pub joined_by : Joint → ℕ → (World → Ran ℤ) → ℤ → World → Ran ℤ
 joined_by And line right left w = both right left w
 joined_by Or line right left w = one_of right left w
@@ -81,12 +84,14 @@ sign_of kind.PlusPlus = Steps kind.Plus
 sign_of kind.MinusMinus = Steps kind.Minus
 sign_of op = Alone op
 
+-- A sign with its operand.
 abbrev pub signed : Sign → (Kind → World → Ran ℤ) → (World → Ran ℤ) → ℕ → World → Ran ℤ
 signed (Steps op) stepping operand line w = stepping op w
 signed (Alone op) stepping operand line w = then_do (operand w) (operated_prefix op line)
 
 -- ---- variables
 
+-- The value of a name.
 abbrev pub named_value : ℕ → Sense → World → Ran ℤ
 named_value set (Varies v) w = read set v (pos 0) w
 named_value set (Stands z) w = Gives z w []
@@ -100,9 +105,11 @@ at_subscript (Stands z) line go other k w = other w
 abbrev pub OnVariable : Type 0
 OnVariable = Variable → Token → World → Ran ℤ
 
+-- The same of an element, by its subscript.
 abbrev pub OnElement : Type 0
 OnElement = Variable → Token → ℤ → World → Ran ℤ
 
+-- What is done to a name, or for a name that is no variable something else.
 abbrev pub at_name : Sense → Token → OnVariable → (World → Ran ℤ) → World → Ran ℤ
 at_name (Varies v) x alone other w = alone v x w
 at_name (Stands z) x alone other w = other w
@@ -113,6 +120,7 @@ abbrev pub renewed : Option Kind → ℕ → (World → Ran ℤ) → ℕ → Var
 renewed None op_line right set v k w = right w
 renewed (Some op) op_line right set v k w = then_do (read set v k w) (λ old u. then_do (right u) (operated op op_line old))
 
+-- An assignment to an element.
 abbrev pub put_at : Option Kind → ℕ → (World → Ran ℤ) → ℕ → Variable → ℕ → ℤ → World → Ran ℤ
 put_at op op_line right set v line k w = then_do (renewed op op_line right set v k w) (stored set v line k)
 
@@ -122,11 +130,13 @@ put_at op op_line right set v line k w = then_do (renewed op op_line right set v
 abbrev pub function_of : List ℕ → Function
 function_of name = if bytes_eq name (codes "printf") then Prints else (if bytes_eq name (codes "delay") then Delays else Others)
 
+-- A call.
 abbrev pub called : Function → (print wait : World → Ran ℤ) → World → Ran ℤ
 called Prints print wait w = print w
 called Delays print wait w = wait w
 called Others print wait w = Gives (pos 0) w []
 
+-- A decimal constant, also in parentheses.
 abbrev pub is_decimal : ExprTree → Bool
 is_decimal (parenthesized e) = is_decimal e
 is_decimal (constant t) = is kind.Decimal t.kind

@@ -23,6 +23,7 @@ pub enum Sense {
 pub struct Known<'s, 'p, 'a> {
     /// The number of the state set on whose copy the piece runs.
     pub set: usize,
+    /// Its name.
     pub set_name: &'a [u8],
     /// The names of its states.
     pub states: &'s [Token<'a>],

@@ -15,6 +15,7 @@ use std::alloc::{AllocError, Global};
 /// The macros of a run, as a text like that after the name of a program: `NAME=VALUE`, with commas between the definitions.
 #[derive(Clone, Copy)]
 pub struct Macros<'a> {
+    /// As it was given, with its commas and blanks.
     pub text: &'a [u8],
 }
 
@@ -29,6 +30,7 @@ pub struct Link {
     pub count: usize,
     /// The channel's name after macros. It is empty where the link has no channel.
     pub name: Vec<u8>,
+    /// Whether a `monitor` names its elements.
     pub monitored: bool,
     /// The place of the declaration of the event flag.
     pub flag: Option<Pos>,

@@ -17,26 +17,35 @@ use std::alloc::{AllocError, Global};
 /// A declared name, with the place of its declaration.
 #[derive(Clone, Copy)]
 pub struct Named<'a> {
+    /// As it is spelled.
     pub name: &'a [u8],
+    /// Where it is declared.
     pub place: Pos,
 }
 
 /// The event flag of an element, and the items of its queue or 0.
 #[derive(Clone, Copy)]
 pub struct Synced<'a> {
+    /// The event flag, if there is one.
     pub flag: Option<Named<'a>>,
+    /// The items of the queue; 0 where there is none.
     pub queue: u64,
 }
 
 /// A link of so many elements of a variable, from the first on.
 #[derive(Clone, Copy)]
 pub struct Tie<'a> {
+    /// The variable of the link.
     pub variable: Named<'a>,
+    /// The number of its first element.
     pub first: usize,
+    /// How many elements it has.
     pub count: usize,
     /// With its quotes; None where no channel is written.
     pub channel: Option<Token<'a>>,
+    /// Whether a `monitor` names it.
     pub monitored: bool,
+    /// Its event flag, if there is one.
     pub flag: Option<Named<'a>>,
     /// 0 where there is none.
     pub queue: u64,

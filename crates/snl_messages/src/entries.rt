@@ -13,7 +13,9 @@ use std::alloc::{AllocError, Global};
 /// What messages are ordered by: the place, then errors before warnings, then the number.
 #[derive(Clone, Copy, PartialEq, Eq, PartialOrd, Ord)]
 pub struct Key {
+    /// The byte at which it stands.
     pub offset: usize,
+    /// Errors come first.
     pub is_warning: bool,
     pub number: u8, // after E or W
 }
@@ -22,6 +24,7 @@ pub struct Key {
 /// list comes first. What comes after only tells messages apart that no source has at one place.
 #[derive(PartialEq, Eq, PartialOrd, Ord, Drop)]
 pub struct Entry {
+    /// What it is sorted by first.
     pub key: Key,
     rank: u8,
     file: usize,

@@ -76,6 +76,8 @@ pub enum Rule {
 /// A rule, and a site that breaks it.
 #[derive(Clone, Copy)]
 pub struct Broken<'a> {
+    /// Which rule it is.
     pub rule: Rule,
+    /// What breaks it.
     pub site: Site<'a>,
 }
