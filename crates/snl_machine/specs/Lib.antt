@@ -1,3 +1,4 @@
+pub mod Declared
 pub mod Devices
 pub mod Does
 pub mod Effect
