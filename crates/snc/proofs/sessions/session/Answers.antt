@@ -1,4 +1,6 @@
-use Rattle.std.proofs.Common.{◌≡◌, sym, subst, List, ℕ, Some, string_bytes}
+use Rattle.std.proofs.Common.{◌≡◌, sym, subst, List, ℕ, IfSome, Some, string_bytes}
+use Rattle.snl_tree.specs.view.Programs.{program_view}
+use Rattle.snl_messages.specs.Silence.{options_in_force}
 use Rattle.snc.specs.declared.jobs.Status.{Status}
 use Rattle.snc.specs.Judging.{IsJudged}
 use Rattle.snl_machine.specs.MachineOf.{world_held}
