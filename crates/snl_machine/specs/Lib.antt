@@ -1,4 +1,4 @@
-pub mod Declared
+pub mod Scopes
 pub mod Devices
 pub mod Does
 pub mod Effect

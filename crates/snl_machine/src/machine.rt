@@ -21,7 +21,7 @@ use std::alloc::{AllocError, Global};
 
 /// The tree of the first language that stands for a program that runs.
 fn smaller<'a>(alloc: Global, checked: Checked<'a>) -> Result<Program<'a>, AllocError>
-    requires { does_run checked.entry.options (program_view checked.entry.program) ≡ true }
+    requires { does_run checked.options (program_view checked.program) ≡ true }
     ensures { IfOk result (StandsFor (program_view checked.entry.program)) }
 {
     match narrow(alloc, checked.into_program())? {
@@ -50,8 +50,7 @@ impl<'a> Machine<'a> {
     ///
     /// Fails only where that room was not to be had; the program is dropped then.
     pub fn load(alloc: Global, checked: Checked<'a>, budget: u32) -> Result<Self, AllocError>
-        requires runs { does_run checked.entry.options
-            (program_view checked.entry.program) ≡ true }
+        requires runs { does_run checked.options (program_view checked.program) ≡ true }
         ensures made { IfOk result (IsMachineOf (program_view checked.entry.program) budget) }
         ensures first { IfOk result (λ machine. world_held machine
             ≡ first_world (program_held machine)) }
