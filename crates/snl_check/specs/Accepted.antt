@@ -1,5 +1,5 @@
 -- A program of which no error is said.
-use Rattle.std.specs.Prelude.{◌≡◌, Bool, List, Contains}
+use Rattle.std.specs.Prelude.{◌≡◌, Bool, List}
 use Rattle.std.specs.List.{list_all}
 use Rattle.snl_tree.specs.declared.trees.programs.Program.{Program}
 use Rattle.snl_tree.specs.view.Programs.{program_view}

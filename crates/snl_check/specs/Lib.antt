@@ -1,4 +1,5 @@
 pub mod Accepted
+pub mod Examples
 pub mod Findings
 pub mod Runs
 pub mod Tables

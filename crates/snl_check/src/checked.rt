@@ -1,6 +1,6 @@
 //! The check of a program, and a program that passed it.
 
-ghost use Rattle.std.specs.Prelude.{◌≡◌, ◌↔◌, ◌++◌, map, Contains, IfOk, IfSome, IsSome};
+ghost use Rattle.std.specs.Prelude.{◌≡◌, ◌↔◌, map, Contains, IfOk, IfSome, IsSome};
 ghost use Rattle.std.proofs.Props.{props};
 ghost use Rattle.snl_tree.specs.view.Programs.{program_view};
 ghost use Rattle.snl_sites.specs.Uses.{declared_of};

@@ -5,6 +5,7 @@
 
 mod checked;
 mod findings;
+pub mod laws;
 mod runs;
 mod thin;
 mod uses;
