@@ -3,6 +3,7 @@
 ghost use Rattle.std.specs.Prelude.{◌≡◌, ◌↔◌, map, Contains, IfOk, IfSome, IsSome};
 ghost use Rattle.std.proofs.Props.{props};
 ghost use Rattle.snl_tree.specs.view.Programs.{program_view};
+ghost use Rattle.snl_sites.specs.Programs.{sites};
 ghost use Rattle.snl_sites.specs.Uses.{declared_of};
 ghost use Rattle.snl_messages.specs.Messages.{Said, IsInOrder, said};
 ghost use Rattle.snl_messages.specs.Says.{IsSaid};
@@ -28,8 +29,11 @@ pub struct Checked<'a> {
     options: Options,
     /// What the names of the program mean.
     places: Places,
+    /// Whether no name of the program is a predefined one.
+    are_declared: bool,
     pub ghost accepted: { IsAccepted options program },
     ghost bound: { IsTableOf places program } by { Prim.hlevel props },
+    ghost declared: { are_declared ≡ runs.are_declared (sites (program_view program)) } by { Prim.hlevel props },
 }
 
 impl<'a> Checked<'a> {
@@ -59,12 +63,12 @@ impl<'a> Checked<'a> {
         declared_at(&self.places, offset)
     }
 
-    /// Whether the program runs: it keeps to the first language, and waits for its channels before it
-    /// starts.
+    /// Whether the program runs: it keeps to the first language, uses no predefined name, and waits for
+    /// its channels before it starts.
     pub fn runs(&self) -> bool
         ensures { result ≡ runs.does_run self.now.options (program_view self.now.program) }
     {
-        does_run(self.options, &self.program)
+        does_run(self.options, &self.program, self.are_declared)
     }
 
     /// The program alone.
@@ -110,12 +114,14 @@ pub fn check<'a>(
         messages,
         options,
         places,
+        are_declared,
     } = findings;
     let checked = if is_accepted {
         Some(Checked {
             program,
             options,
             places,
+            are_declared,
         })
     } else {
         None

@@ -1,5 +1,5 @@
 use Rattle.std.proofs.Common.{◌≡◌, Bool, true, false, ◌&&◌, refl, ap, ◌∙◌}
-use Rattle.snl_tree.specs.Thin.{is_thin}
+use Rattle.snl_check.specs.Runs.{is_first}
 use Rattle.snl_check.proofs.laws.none_runs_without_waiting.Goals as goal
 
 -- What fails the second of two tests fails both.
@@ -8,4 +8,4 @@ fails true = refl
 fails false = refl
 
 pub returns : goal.returns
-returns c o p e = ap (λ b. is_thin p && b) e ∙ fails (is_thin p)
+returns c o p e = ap (λ b. is_first p && b) e ∙ fails (is_first p)
