@@ -1,5 +1,5 @@
 -- What the steps of `report` answer: texts, with the messages whose text they are. No reader of the theorem needs them.
-use Rattle.std.specs.Prelude.{◌≡◌, ◌≤◌, ◌↔◌, ℕ, Bool, true, List, [], ◌∷◌, length, take, Option, Some, IsSome, IfSome}
+use Rattle.std.specs.Prelude.{◌≡◌, ◌≤◌, ◌↔◌, ℕ, Bool, true, false, List, [], ◌∷◌, length, take, Option, None, Some, IsSome, IfSome}
 use Rattle.snl_text.specs.Cut.{Reading}
 use Rattle.snl_text.specs.Lexing.{IsCut}
 use Rattle.snl_text.specs.declared.faults.LexFault.{LexFault}
@@ -44,6 +44,11 @@ pub record IsTreeTold (given : Options) (word : List ℕ) (names : List (List �
   pub accepted : IsSome checked ↔ NoErrors messages
   pub same : IfSome checked (λ p. p ≡ whole)
   pub late_is : late ≡ text_of word names (not_yet whole ∷ [])
+
+-- a thing is given back where it runs, and else nothing
+abbrev pub RunsOrNot : {A : Type 0} → (A → Bool) → A → Option A → Type 0
+RunsOrNot runs a (Some b) = (b ≡ a) × (runs a ≡ true)
+RunsOrNot runs a None = runs a ≡ false
 
 -- the tables of a tree that is there, where they are asked for
 abbrev pub asked_tables : Bool → Option ProgramTree → List ℕ

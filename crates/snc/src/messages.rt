@@ -1,6 +1,6 @@
 //! What the rules say of a source.
 
-ghost use Rattle.std.specs.Prelude.{◌≡◌, ◌<◌, [], ◌∷◌, ◌++◌, map, take, length, codes, IfOk, Some, slice_get};
+ghost use Rattle.std.specs.Prelude.{◌≡◌, ◌<◌, [], ◌∷◌, ◌++◌, map, take, length, codes, IfOk, IfSome, Some, slice_get};
 ghost use Rattle.std.specs.Option.{option_map};
 ghost use Rattle.snl_tree.specs.view.Programs.{program_view};
 ghost use Rattle.snl_messages.specs.Silence.{options_in_force};

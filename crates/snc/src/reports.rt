@@ -3,6 +3,7 @@
 ghost use Rattle.std.specs.Prelude.{◌≡◌, if◌then◌else◌, IfOk, string_bytes};
 ghost use Rattle.std.specs.Option.{option_map};
 ghost use Rattle.snl_tree.specs.view.Programs.{program_view};
+ghost use Rattle.snl_links.specs.Tables.{tables};
 ghost use Rattle.snc.specs.Outcomes.{IsReport};
 ghost use Rattle.snc.specs.ReportSteps.{asked_tables};
 
@@ -11,6 +12,7 @@ use crate::messages::judged;
 use snc_words::Job;
 use snl_check::Checked;
 use snl_links::tables_of;
+use snl_tree::Program;
 use std::alloc::{AllocError, Global};
 
 /// Reads and checks a program: all messages of the language, and the tables of its links and states where the job asks
@@ -40,13 +42,22 @@ fn tables_if_asked(
     ensures { IfOk result (λ text. text.items
         ≡ asked_tables asked (option_map (λ c. program_view c.program) checked.now)) }
 {
-    let mut tables = Vec::new(alloc);
-    if asked {
-        if let Some(checked) = checked {
-            tables_of(alloc, checked.program(), &mut tables)?;
-        }
+    if !asked {
+        return Ok(Vec::new(alloc));
     }
-    Ok(tables)
+    match checked {
+        Some(checked) => text_of_tables(alloc, checked.program()),
+        None => Ok(Vec::new(alloc)),
+    }
+}
+
+/// The tables of a program as text.
+fn text_of_tables(alloc: Global, program: &Program) -> Result<Vec<u8>, AllocError>
+    ensures { IfOk result (λ text. text.items ≡ tables (program_view program.now)) }
+{
+    let mut text = Vec::new(alloc);
+    tables_of(alloc, program, &mut text)?;
+    Ok(text)
 }
 
 /// The status of a source, by whether it is accepted.

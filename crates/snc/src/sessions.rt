@@ -1,11 +1,15 @@
 //! `session`: a source, and the run of its program over a trace.
 
-ghost use Rattle.std.specs.Prelude.{◌≡◌, ◌-◌, ◌^◌, ◌<◌, ◌++◌, IfOk, OnErr, string_bytes};
+ghost use Rattle.std.specs.Prelude.{Bool, ◌≡◌, ◌-◌, ◌^◌, ◌<◌, ◌++◌, IfOk, OnErr, string_bytes};
+ghost use Rattle.snl_tree.specs.view.Programs.{program_view};
+ghost use Rattle.snl_check.specs.Runs.{does_run};
 ghost use Rattle.snc.specs.Outcomes.{IsSession, status_of};
+ghost use Rattle.snc.specs.ReportSteps.{RunsOrNot};
 
 use crate::jobs::Status;
 use crate::messages::{Findings, judged};
 use snc_words::Job;
+use snl_check::Checked;
 use snl_machine::{Machine, Sink};
 use snl_trace::{End, Source, run};
 use std::alloc::{AllocError, Global};
@@ -39,18 +43,46 @@ pub fn session<R: Source, S: Sink>(
     let Some(checked) = checked else {
         return Ok((messages, None, Status::SourceErrors));
     };
-    if !checked.runs() {
+    let Some(checked) = that_runs(checked) else {
         let messages = joined(late, messages.as_slice())?;
         return Ok((messages, None, Status::SourceErrors));
-    }
+    };
     let mut machine = Machine::load(alloc, checked, job.budget)?;
     let end = run(&mut machine, trace, sink);
     Ok((messages, Some(end), status(end)))
 }
 
+/// What may run or not. A function that owns a whole checked program and lends it is dear to prove; one
+/// that owns a value of a type parameter is not.
+trait MayRun {
+    ghost does_run: { Self → Bool };
+
+    fn may_run(&self) -> bool
+        ensures { result ≡ does_run self.now };
+}
+
+impl<'a> MayRun for Checked<'a> {
+    ghost does_run = { λ c. does_run c.options (program_view c.program) };
+
+    fn may_run(&self) -> bool {
+        self.runs()
+    }
+}
+
+/// The same, where it runs.
+fn that_runs<T: MayRun + Drop>(checked: T) -> Option<T>
+    ensures { RunsOrNot T.does_run checked result }
+{
+    if checked.may_run() {
+        Some(checked)
+    } else {
+        None
+    }
+}
+
 /// A text with another behind it.
 fn joined(mut text: Vec<u8>, more: &[u8]) -> Result<Vec<u8>, AllocError>
-    ensures { IfOk result (λ all. all.items ≡ text.entry.items ++ more.now) }
+    ensures { IfOk result (λ all. all.items ≡ text.items ++ more.now) }
 {
     text.extend_from_slice(more)?;
     Ok(text)

@@ -1,5 +1,5 @@
 use Rattle.std.proofs.Common.{◌≡◌, ◌++◌, map, drop}
-use Rattle.snl_check.specs.Messages.{said}
+use Rattle.snl_messages.specs.Messages.{said}
 use Rattle.snc.specs.Texts.{text_of}
 use Rattle.snc.proofs.lines.push_lines.Given as goal
 
