@@ -18,7 +18,8 @@ use crate::readers::boxes::definitions::{
     boxed_sync, boxed_sync_queue,
 };
 use crate::readers::cursor::{Cursor, Halt, at, sign, token};
-use crate::readers::declarations::{at_declaration, bracket, declaration, is_type};
+use crate::readers::declarations::{at_declaration, bracket, declaration};
+use crate::readers::parts::{at_definition, at_part};
 use crate::readers::room::{added, pushed};
 use crate::trees::{ChannelNames, Channels, Def, Expr, Flag, Place, Setting};
 use snl_text::{Kind, Token};
@@ -302,46 +303,6 @@ fn setting<'t, 'a>(alloc: Global, cursor: &mut Cursor<'t, 'a>) -> Result<Box<Def
         name,
     };
     boxed_setting(alloc, setting)
-}
-
-/// Whether a definition is here.
-fn at_definition(cursor: &Cursor) -> bool
-    ensures { result ≡ readers.starts kinds.starts_definition cursor.now.left.now }
-{
-    match cursor.left {
-        [first, ..] => starts_definition(first.kind),
-        [] => false,
-    }
-}
-
-/// Whether a token of this kind begins a definition.
-fn starts_definition(kind: Kind) -> bool
-    ensures { result ≡ kinds.starts_definition kind }
-{
-    match kind {
-        Kind::Assign | Kind::Monitor | Kind::Sync | Kind::SyncQueue | Kind::EventFlag => true,
-        _ => is_type(kind),
-    }
-}
-
-/// Whether a definition or an option is here.
-fn at_part(cursor: &Cursor) -> bool
-    ensures { result ≡ readers.starts kinds.starts_part cursor.now.left.now }
-{
-    match cursor.left {
-        [first, ..] => starts_part(first.kind),
-        [] => false,
-    }
-}
-
-/// Whether a token of this kind begins a definition or an option.
-fn starts_part(kind: Kind) -> bool
-    ensures { result ≡ kinds.starts_part kind }
-{
-    match kind {
-        Kind::OptionWord => true,
-        _ => starts_definition(kind),
-    }
 }
 
 /// Reads a definition.

@@ -141,7 +141,6 @@ fn declarations<'t, 'a>(
 }
 
 /// Reads a statement that nests no other: `break`, `continue`, a state statement or an expression.
-#[tactic(auto, using(crate::proofs::code::StatementForms::word_statement_form))]
 fn word_statement<'t, 'a>(
     alloc: Global,
     cursor: &mut Cursor<'t, 'a>,
