@@ -9,6 +9,7 @@ pub mod Climbing
 pub mod DefinitionForms
 pub mod StatementForms
 pub mod StatementRows
+pub mod ProgramForms
 pub mod ProgramLess
 pub mod ProgramWithin
 pub mod Narrowing

@@ -107,10 +107,6 @@ abbrev mutual
   pub IsWellBlock : ℕ → BlockTree → ℕ → Type 0
   IsWellBlock limit (block declared all) n = Under n (λ m. Each (IsDeclaration limit) declared × AreWellStatements limit all m)
 
--- A statement, its expressions and statements nested at most n deep.
-abbrev pub IsStatement : ℕ → StatementTree → Type 0
-IsStatement n s = IsWellStatement n s n
-
 -- A block that stands in no other, its expressions and statements nested at most n deep.
 abbrev pub IsBlock : ℕ → BlockTree → Type 0
 IsBlock n b = IsWellBlock n b n

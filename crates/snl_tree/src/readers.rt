@@ -7,6 +7,7 @@ pub mod declarations;
 pub mod definitions;
 pub mod expressions;
 pub mod kinds;
+pub mod parts;
 pub mod programs;
 pub mod room;
 pub mod statements;

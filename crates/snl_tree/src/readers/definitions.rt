@@ -9,17 +9,18 @@ ghost use Rattle.snl_tree.specs.reading.Definitions as specs;
 ghost use Rattle.snl_tree.specs.reading.Readers as readers;
 ghost use Rattle.snl_tree.specs.reading.Readers.{made};
 ghost use Rattle.snl_tree.specs.Kinds.{is};
-ghost use Rattle.snl_tree.specs.reading.Moves.{Moves, MovesToken};
+ghost use Rattle.snl_tree.specs.reading.Moves.{Adds, Moves, MovesToken};
 ghost use Rattle.snl_tree.specs.view.Expressions.{boxed};
 ghost use Rattle.snl_tree.specs.view.Definitions.{place_view, token_list, names_view, channels_view, flag_view, definition_view, definition_views};
 
 use crate::readers::boxes::definitions::{
-    boxed_assign, boxed_declared, boxed_event_flags, boxed_monitor, boxed_place, boxed_setting,
-    boxed_sync, boxed_sync_queue,
+    boxed_place, push_assign, push_declared, push_event_flags, push_monitor, push_setting,
+    push_sync, push_sync_queue,
 };
 use crate::readers::cursor::{Cursor, Halt, at, sign, token};
-use crate::readers::declarations::{at_declaration, bracket, declaration, is_type};
-use crate::readers::room::{added, pushed};
+use crate::readers::declarations::{at_declaration, bracket, declaration};
+use crate::readers::parts::{at_definition, at_part};
+use crate::readers::room::pushed;
 use crate::trees::{ChannelNames, Channels, Def, Expr, Flag, Place, Setting};
 use snl_text::{Kind, Token};
 use std::alloc::Global;
@@ -147,37 +148,39 @@ fn maybe_channels<'t, 'a>(
     Ok(Some(channels))
 }
 
-/// Reads an assign.
+/// Reads an assign, and puts it at the end of a row.
 #[tactic(auto, unfolding(crate::specs::reading::Definitions::assign_at))]
 fn assign<'t, 'a>(
     alloc: Global,
     cursor: &mut Cursor<'t, 'a>,
     depth: usize,
-) -> Result<Box<Def<'a>>, Halt>
-    ensures { Moves (held definition_view) result cursor.new.left.now
+    row: &mut Vec<Def<'a>>,
+) -> Result<(), Halt>
+    ensures { Adds definition_view row.old.items result row.new.items cursor.new.left.now
         (made kinds.assign (specs.assign_at depth) cursor.old.left.now) }
 {
     let word = token(cursor, Kind::Assign)?;
     let place = place(alloc, cursor, depth)?;
     let channels = maybe_channels(alloc, cursor)?;
     sign(cursor, Kind::Semicolon)?;
-    boxed_assign(alloc, word, place, channels)
+    push_assign(row, word, place, channels)
 }
 
-/// Reads a monitor.
+/// Reads a monitor, and puts it at the end of a row.
 #[tactic(auto, unfolding(crate::specs::reading::Definitions::monitor_at))]
 fn monitor<'t, 'a>(
     alloc: Global,
     cursor: &mut Cursor<'t, 'a>,
     depth: usize,
-) -> Result<Box<Def<'a>>, Halt>
-    ensures { Moves (held definition_view) result cursor.new.left.now
+    row: &mut Vec<Def<'a>>,
+) -> Result<(), Halt>
+    ensures { Adds definition_view row.old.items result row.new.items cursor.new.left.now
         (made kinds.monitor (specs.monitor_at depth) cursor.old.left.now) }
 {
     sign(cursor, Kind::Monitor)?;
     let place = place(alloc, cursor, depth)?;
     sign(cursor, Kind::Semicolon)?;
-    boxed_monitor(alloc, place)
+    push_monitor(row, place)
 }
 
 /// Reads the event flag of a sync.
@@ -190,21 +193,22 @@ fn flag<'t, 'a>(cursor: &mut Cursor<'t, 'a>) -> Result<Flag<'a>, Halt>
     Ok(Flag { to, name })
 }
 
-/// Reads a sync.
+/// Reads a sync, and puts it at the end of a row.
 #[tactic(auto, unfolding(crate::specs::reading::Definitions::sync_at))]
 fn sync<'t, 'a>(
     alloc: Global,
     cursor: &mut Cursor<'t, 'a>,
     depth: usize,
-) -> Result<Box<Def<'a>>, Halt>
-    ensures { Moves (held definition_view) result cursor.new.left.now
+    row: &mut Vec<Def<'a>>,
+) -> Result<(), Halt>
+    ensures { Adds definition_view row.old.items result row.new.items cursor.new.left.now
         (made kinds.sync (specs.sync_at depth) cursor.old.left.now) }
 {
     sign(cursor, Kind::Sync)?;
     let place = place(alloc, cursor, depth)?;
     let flag = flag(cursor)?;
     sign(cursor, Kind::Semicolon)?;
-    boxed_sync(alloc, place, flag)
+    push_sync(row, place, flag)
 }
 
 /// Whether the event flag of a queue is here.
@@ -243,14 +247,15 @@ fn maybe_size<'t, 'a>(cursor: &mut Cursor<'t, 'a>) -> Option<Token<'a>>
     }
 }
 
-/// Reads a queue.
+/// Reads a queue, and puts it at the end of a row.
 #[tactic(auto, unfolding(crate::specs::reading::Definitions::queue_at))]
 fn sync_queue<'t, 'a>(
     alloc: Global,
     cursor: &mut Cursor<'t, 'a>,
     depth: usize,
-) -> Result<Box<Def<'a>>, Halt>
-    ensures { Moves (held definition_view) result cursor.new.left.now
+    row: &mut Vec<Def<'a>>,
+) -> Result<(), Halt>
+    ensures { Adds definition_view row.old.items result row.new.items cursor.new.left.now
         (made kinds.sync_queue (specs.queue_at depth) cursor.old.left.now) }
 {
     let word = token(cursor, Kind::SyncQueue)?;
@@ -258,19 +263,23 @@ fn sync_queue<'t, 'a>(
     let flag = maybe_flag(cursor)?;
     let size = maybe_size(cursor);
     sign(cursor, Kind::Semicolon)?;
-    boxed_sync_queue(alloc, word, place, flag, size)
+    push_sync_queue(row, word, place, flag, size)
 }
 
-/// Reads the declaration of event flags.
+/// Reads the declaration of event flags, and puts it at the end of a row.
 #[tactic(auto, unfolding(crate::specs::reading::Definitions::event_flags_at, crate::specs::reading::Definitions::flags_at))]
-fn event_flags<'t, 'a>(alloc: Global, cursor: &mut Cursor<'t, 'a>) -> Result<Box<Def<'a>>, Halt>
-    ensures { Moves (held definition_view) result cursor.new.left.now
+fn event_flags<'t, 'a>(
+    alloc: Global,
+    cursor: &mut Cursor<'t, 'a>,
+    row: &mut Vec<Def<'a>>,
+) -> Result<(), Halt>
+    ensures { Adds definition_view row.old.items result row.new.items cursor.new.left.now
         (made kinds.event_flags specs.event_flags_at cursor.old.left.now) }
 {
     sign(cursor, Kind::EventFlag)?;
     let names = tokens(alloc, cursor, Kind::Name)?;
     sign(cursor, Kind::Semicolon)?;
-    boxed_event_flags(alloc, names)
+    push_event_flags(row, names)
 }
 
 /// Reads the sign of an option.
@@ -287,10 +296,10 @@ fn option_sign<'t, 'a>(cursor: &mut Cursor<'t, 'a>) -> Result<Token<'a>, Halt>
     }
 }
 
-/// Reads an option.
+/// Reads an option, and puts it at the end of a row.
 #[tactic(auto, unfolding(crate::specs::reading::Definitions::setting_at))]
-fn setting<'t, 'a>(alloc: Global, cursor: &mut Cursor<'t, 'a>) -> Result<Box<Def<'a>>, Halt>
-    ensures { Moves (held definition_view) result cursor.new.left.now
+fn setting<'t, 'a>(cursor: &mut Cursor<'t, 'a>, row: &mut Vec<Def<'a>>) -> Result<(), Halt>
+    ensures { Adds definition_view row.old.items result row.new.items cursor.new.left.now
         (made kinds.setting specs.setting_at cursor.old.left.now) }
 {
     sign(cursor, Kind::OptionWord)?;
@@ -301,92 +310,54 @@ fn setting<'t, 'a>(alloc: Global, cursor: &mut Cursor<'t, 'a>) -> Result<Box<Def
         sign: sign_token,
         name,
     };
-    boxed_setting(alloc, setting)
+    push_setting(row, setting)
 }
 
-/// Whether a definition is here.
-fn at_definition(cursor: &Cursor) -> bool
-    ensures { result ≡ readers.starts kinds.starts_definition cursor.now.left.now }
-{
-    match cursor.left {
-        [first, ..] => starts_definition(first.kind),
-        [] => false,
-    }
-}
-
-/// Whether a token of this kind begins a definition.
-fn starts_definition(kind: Kind) -> bool
-    ensures { result ≡ kinds.starts_definition kind }
-{
-    match kind {
-        Kind::Assign | Kind::Monitor | Kind::Sync | Kind::SyncQueue | Kind::EventFlag => true,
-        _ => is_type(kind),
-    }
-}
-
-/// Whether a definition or an option is here.
-fn at_part(cursor: &Cursor) -> bool
-    ensures { result ≡ readers.starts kinds.starts_part cursor.now.left.now }
-{
-    match cursor.left {
-        [first, ..] => starts_part(first.kind),
-        [] => false,
-    }
-}
-
-/// Whether a token of this kind begins a definition or an option.
-fn starts_part(kind: Kind) -> bool
-    ensures { result ≡ kinds.starts_part kind }
-{
-    match kind {
-        Kind::OptionWord => true,
-        _ => starts_definition(kind),
-    }
-}
-
-/// Reads a definition.
+/// Reads a definition, and puts it at the end of a row.
 #[tactic(auto, using(crate::proofs::code::DefinitionForms::definition_cases))]
 fn definition<'t, 'a>(
     alloc: Global,
     cursor: &mut Cursor<'t, 'a>,
     depth: usize,
-) -> Result<Box<Def<'a>>, Halt>
-    ensures { Moves (held definition_view) result cursor.new.left.now
+    row: &mut Vec<Def<'a>>,
+) -> Result<(), Halt>
+    ensures { Adds definition_view row.old.items result row.new.items cursor.new.left.now
         (specs.definition_at depth cursor.old.left.now) }
 {
     if at_declaration(cursor) {
         let declaration = declaration(alloc, cursor, depth)?;
-        return boxed_declared(alloc, declaration);
+        return push_declared(row, declaration);
     }
     if at(cursor, Kind::Assign) {
-        return assign(alloc, cursor, depth);
+        return assign(alloc, cursor, depth, row);
     }
     if at(cursor, Kind::Monitor) {
-        return monitor(alloc, cursor, depth);
+        return monitor(alloc, cursor, depth, row);
     }
     if at(cursor, Kind::Sync) {
-        return sync(alloc, cursor, depth);
+        return sync(alloc, cursor, depth, row);
     }
     if at(cursor, Kind::SyncQueue) {
-        return sync_queue(alloc, cursor, depth);
+        return sync_queue(alloc, cursor, depth, row);
     }
-    event_flags(alloc, cursor)
+    event_flags(alloc, cursor, row)
 }
 
-/// Reads a definition or an option.
+/// Reads a definition or an option, and puts it at the end of a row.
 #[tactic(auto, using(crate::proofs::code::DefinitionForms::part_cases))]
 fn part<'t, 'a>(
     alloc: Global,
     cursor: &mut Cursor<'t, 'a>,
     depth: usize,
-) -> Result<Box<Def<'a>>, Halt>
-    ensures { Moves (held definition_view) result cursor.new.left.now
+    row: &mut Vec<Def<'a>>,
+) -> Result<(), Halt>
+    ensures { Adds definition_view row.old.items result row.new.items cursor.new.left.now
         (specs.part_at depth cursor.old.left.now) }
 {
     if at(cursor, Kind::OptionWord) {
-        return setting(alloc, cursor);
+        return setting(cursor, row);
     }
-    definition(alloc, cursor, depth)
+    definition(alloc, cursor, depth, row)
 }
 
 /// Reads the definitions of a state set.
@@ -400,8 +371,7 @@ pub fn definitions<'t, 'a>(
 {
     let mut found = Vec::new(alloc);
     while at_definition(cursor) {
-        let next = definition(alloc, cursor, depth)?;
-        added(&mut found, next)?;
+        definition(alloc, cursor, depth, &mut found)?;
     }
     Ok(found)
 }
@@ -417,8 +387,7 @@ pub fn parts<'t, 'a>(
 {
     let mut found = Vec::new(alloc);
     while at_part(cursor) {
-        let next = part(alloc, cursor, depth)?;
-        added(&mut found, next)?;
+        part(alloc, cursor, depth, &mut found)?;
     }
     Ok(found)
 }

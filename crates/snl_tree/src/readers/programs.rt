@@ -7,17 +7,16 @@ ghost use Rattle.snl_tree.specs.Kinds.{is};
 ghost use Rattle.snl_tree.specs.reading.Readers as readers;
 ghost use Rattle.snl_tree.specs.reading.Expressions.{inside, level_at, is_no_close};
 ghost use Rattle.snl_tree.specs.reading.Programs as specs;
-ghost use Rattle.snl_tree.specs.reading.Moves.{Moves, MovesToken};
+ghost use Rattle.snl_tree.specs.reading.Moves.{Adds, Moves, MovesToken};
 ghost use Rattle.snl_tree.specs.view.Expressions.{boxed};
 ghost use Rattle.snl_tree.specs.view.Statements.{block_view};
 ghost use Rattle.snl_tree.specs.view.Programs.{Carries, target_view, clause_view, clause_views, state_view, state_views, state_set_view, state_set_views, program_view};
 
-use crate::readers::boxes::programs::{boxed_clause, boxed_program, boxed_state, boxed_state_set};
+use crate::readers::boxes::programs::{boxed_program, push_clause, push_state, push_state_set};
 use crate::readers::cursor::{Cursor, Halt, at, before, sign, token};
 use crate::readers::definitions::{definitions, parts};
 use crate::readers::expressions::level;
 use crate::readers::kinds::COMMA;
-use crate::readers::room::added;
 use crate::readers::statements::block;
 use crate::trees::{Block, Clause, Expr, Program, State, StateSet, Target};
 use snl_text::{Kind, Lexed, Token};
@@ -69,21 +68,21 @@ fn condition<'t, 'a>(
     Ok(condition)
 }
 
-/// Reads a clause.
-#[tactic(auto, unfolding(crate::specs::reading::Programs::clause_at))]
+/// Reads a clause, and puts it at the end of a row.
 fn clause<'t, 'a>(
     alloc: Global,
     cursor: &mut Cursor<'t, 'a>,
     depth: usize,
-) -> Result<Box<Clause<'a>>, Halt>
-    ensures { Moves (held clause_view) result cursor.new.left.now
+    row: &mut Vec<Clause<'a>>,
+) -> Result<(), Halt>
+    ensures { Adds clause_view row.old.items result row.new.items cursor.new.left.now
         (specs.clause_at depth cursor.old.left.now) }
 {
     let word = token(cursor, Kind::When)?;
     let condition = condition(alloc, cursor, depth)?;
     let block = block(alloc, cursor, depth, depth)?;
     let target = target(cursor)?;
-    boxed_clause(alloc, word, condition, block, target)
+    push_clause(row, word, condition, block, target)
 }
 
 /// Reads the clauses of a state.
@@ -98,8 +97,7 @@ fn clauses<'t, 'a>(
 {
     let mut found = Vec::new(alloc);
     while at(cursor, Kind::When) {
-        let next = clause(alloc, cursor, depth)?;
-        added(&mut found, next)?;
+        clause(alloc, cursor, depth, &mut found)?;
     }
     Ok(found)
 }
@@ -140,15 +138,15 @@ fn exit<'t, 'a>(
     Ok(Some(body))
 }
 
-/// Reads a state.
-#[tactic(auto, unfolding(crate::specs::reading::Programs::state_at))]
+/// Reads a state, and puts it at the end of a row.
 fn state<'t, 'a>(
     alloc: Global,
     cursor: &mut Cursor<'t, 'a>,
     depth: usize,
-) -> Result<Box<State<'a>>, Halt>
+    row: &mut Vec<State<'a>>,
+) -> Result<(), Halt>
     requires { 0 < depth }
-    ensures { Moves (held state_view) result cursor.new.left.now
+    ensures { Adds state_view row.old.items result row.new.items cursor.new.left.now
         (specs.state_at depth cursor.old.left.now) }
 {
     let word = token(cursor, Kind::State)?;
@@ -159,7 +157,7 @@ fn state<'t, 'a>(
     let clauses = clauses(alloc, cursor, depth)?;
     let exit = exit(alloc, cursor, depth)?;
     sign(cursor, Kind::CloseBrace)?;
-    boxed_state(alloc, word, name, definitions, entry, clauses, exit)
+    push_state(row, word, name, definitions, entry, clauses, exit)
 }
 
 /// Reads the states of a state set.
@@ -173,24 +171,22 @@ fn states<'t, 'a>(
         (specs.states_at depth cursor.old.left.now) }
 {
     let mut found = Vec::new(alloc);
-    let first = state(alloc, cursor, depth)?;
-    added(&mut found, first)?;
+    state(alloc, cursor, depth, &mut found)?;
     while at(cursor, Kind::State) {
-        let next = state(alloc, cursor, depth)?;
-        added(&mut found, next)?;
+        state(alloc, cursor, depth, &mut found)?;
     }
     Ok(found)
 }
 
-/// Reads a state set.
-#[tactic(auto, unfolding(crate::specs::reading::Programs::state_set_at))]
+/// Reads a state set, and puts it at the end of a row.
 fn state_set<'t, 'a>(
     alloc: Global,
     cursor: &mut Cursor<'t, 'a>,
     depth: usize,
-) -> Result<Box<StateSet<'a>>, Halt>
+    row: &mut Vec<StateSet<'a>>,
+) -> Result<(), Halt>
     requires { 0 < depth }
-    ensures { Moves (held state_set_view) result cursor.new.left.now
+    ensures { Adds state_set_view row.old.items result row.new.items cursor.new.left.now
         (specs.state_set_at depth cursor.old.left.now) }
 {
     let word = token(cursor, Kind::StateSet)?;
@@ -199,7 +195,7 @@ fn state_set<'t, 'a>(
     let definitions = definitions(alloc, cursor, depth)?;
     let states = states(alloc, cursor, depth)?;
     sign(cursor, Kind::CloseBrace)?;
-    boxed_state_set(alloc, word, name, definitions, states)
+    push_state_set(row, word, name, definitions, states)
 }
 
 /// Reads the state sets of a program.
@@ -213,11 +209,9 @@ fn state_sets<'t, 'a>(
         (specs.state_sets_at depth cursor.old.left.now) }
 {
     let mut found = Vec::new(alloc);
-    let first = state_set(alloc, cursor, depth)?;
-    added(&mut found, first)?;
+    state_set(alloc, cursor, depth, &mut found)?;
     while at(cursor, Kind::StateSet) {
-        let next = state_set(alloc, cursor, depth)?;
-        added(&mut found, next)?;
+        state_set(alloc, cursor, depth, &mut found)?;
     }
     Ok(found)
 }
@@ -237,7 +231,6 @@ fn macros<'t, 'a>(cursor: &mut Cursor<'t, 'a>) -> Result<Option<Token<'a>>, Halt
 }
 
 /// Reads a program, of a source with these embedded pieces and files.
-#[tactic(auto, unfolding(crate::specs::reading::Programs::program_at))]
 pub fn program<'t, 'a>(
     alloc: Global,
     cursor: &mut Cursor<'t, 'a>,

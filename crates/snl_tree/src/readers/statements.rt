@@ -141,7 +141,6 @@ fn declarations<'t, 'a>(
 }
 
 /// Reads a statement that nests no other: `break`, `continue`, a state statement or an expression.
-#[tactic(auto, using(crate::proofs::code::StatementForms::word_statement_form))]
 fn word_statement<'t, 'a>(
     alloc: Global,
     cursor: &mut Cursor<'t, 'a>,
@@ -171,7 +170,6 @@ fn word_statement<'t, 'a>(
 /// Reads a statement. Its expressions may be nested as deep as the limit, and `depth` is left for blocks,
 /// `if`, `else` and loops.
 #[cycle(nesting)]
-#[tactic(auto, using(crate::proofs::code::StatementForms::statement_form))]
 fn statement<'t, 'a>(
     alloc: Global,
     cursor: &mut Cursor<'t, 'a>,
@@ -204,7 +202,6 @@ fn statement<'t, 'a>(
 /// Reads a block. Its expressions may be nested as deep as the limit, and `depth` is left for its brace
 /// and what is nested in it.
 #[cycle(nesting)]
-#[tactic(auto, using(crate::proofs::code::StatementForms::block_form))]
 pub fn block<'t, 'a>(
     alloc: Global,
     cursor: &mut Cursor<'t, 'a>,
@@ -242,7 +239,6 @@ fn statements<'t, 'a>(
 
 /// Reads an `if`, with the `else` that belongs to it.
 #[cycle(nesting)]
-#[tactic(auto, using(crate::proofs::code::StatementForms::if_form))]
 fn if_statement<'t, 'a>(
     alloc: Global,
     cursor: &mut Cursor<'t, 'a>,
@@ -284,7 +280,6 @@ fn otherwise<'t, 'a>(
 
 /// Reads a `while`.
 #[cycle(nesting)]
-#[tactic(auto, using(crate::proofs::code::StatementForms::while_form))]
 fn while_loop<'t, 'a>(
     alloc: Global,
     cursor: &mut Cursor<'t, 'a>,
@@ -302,7 +297,6 @@ fn while_loop<'t, 'a>(
 
 /// Reads a `for`.
 #[cycle(nesting)]
-#[tactic(auto, using(crate::proofs::code::StatementForms::for_form))]
 fn for_loop<'t, 'a>(
     alloc: Global,
     cursor: &mut Cursor<'t, 'a>,

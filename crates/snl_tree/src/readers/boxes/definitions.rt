@@ -1,14 +1,14 @@
-//! Definitions in their boxes.
+//! Places in their boxes, and definitions in rows.
 
 ghost use Rattle.snl_tree.specs.Definitions as kinds;
-ghost use Rattle.snl_tree.specs.reading.Moves.{Builds};
+ghost use Rattle.snl_tree.specs.reading.Moves.{Appends, Builds};
 ghost use Rattle.snl_tree.specs.view.Shown.{shown, held};
 ghost use Rattle.snl_tree.specs.view.Expressions.{boxed};
 ghost use Rattle.snl_tree.specs.view.Declarations.{declaration_view};
 ghost use Rattle.snl_tree.specs.view.Definitions.{place_view, token_list, channels_view, flag_view, setting_view, definition_view};
 
 use crate::readers::cursor::Halt;
-use crate::readers::room::in_box;
+use crate::readers::room::{in_box, pushed};
 use crate::trees::{
     Assign, Channels, Declaration, Def, Expr, Flag, Place, Setting, Sync, SyncQueue,
 };
@@ -28,27 +28,27 @@ pub fn boxed_place<'a>(
     in_box(alloc, Place { name, subscript })
 }
 
-/// The definition that is a declaration.
-#[tactic(auto, using(crate::proofs::code::Building::in_a_box))]
-pub fn boxed_declared<'a>(
-    alloc: Global,
+/// Puts the definition that is a declaration at the end of a row.
+#[tactic(auto, using(crate::proofs::code::Building::in_a_row))]
+pub fn push_declared<'a>(
+    row: &mut Vec<Def<'a>>,
     declaration: Box<Declaration<'a>>,
-) -> Result<Box<Def<'a>>, Halt>
-    ensures { Builds (held definition_view) result
+) -> Result<(), Halt>
+    ensures { Appends definition_view row.old.items result row.new.items
         (kinds.declaration (held declaration_view declaration.entry)) }
 {
-    in_box(alloc, Def::Declaration(Box::into_inner(declaration)))
+    pushed(row, Def::Declaration(Box::into_inner(declaration)))
 }
 
-/// An assign.
-#[tactic(auto, using(crate::proofs::code::Building::in_a_box))]
-pub fn boxed_assign<'a>(
-    alloc: Global,
+/// Puts an assign at the end of a row.
+#[tactic(auto, using(crate::proofs::code::Building::in_a_row))]
+pub fn push_assign<'a>(
+    row: &mut Vec<Def<'a>>,
     word: Token<'a>,
     place: Box<Place<'a>>,
     channels: Option<Channels<'a>>,
-) -> Result<Box<Def<'a>>, Halt>
-    ensures { Builds (held definition_view) result (kinds.assign record {
+) -> Result<(), Halt>
+    ensures { Appends definition_view row.old.items result row.new.items (kinds.assign record {
       word = word.entry;
       place = held place_view place.entry;
       channels = shown channels_view channels.entry;
@@ -59,44 +59,44 @@ pub fn boxed_assign<'a>(
         place: Box::into_inner(place),
         channels,
     };
-    in_box(alloc, Def::Assign(assign))
+    pushed(row, Def::Assign(assign))
 }
 
-/// A monitor.
-#[tactic(auto, using(crate::proofs::code::Building::in_a_box))]
-pub fn boxed_monitor<'a>(alloc: Global, place: Box<Place<'a>>) -> Result<Box<Def<'a>>, Halt>
-    ensures { Builds (held definition_view) result (kinds.monitor (held place_view place.entry)) }
+/// Puts a monitor at the end of a row.
+#[tactic(auto, using(crate::proofs::code::Building::in_a_row))]
+pub fn push_monitor<'a>(row: &mut Vec<Def<'a>>, place: Box<Place<'a>>) -> Result<(), Halt>
+    ensures { Appends definition_view row.old.items result row.new.items (kinds.monitor (held place_view place.entry)) }
 {
-    in_box(alloc, Def::Monitor(Box::into_inner(place)))
+    pushed(row, Def::Monitor(Box::into_inner(place)))
 }
 
-/// A sync.
-#[tactic(auto, using(crate::proofs::code::Building::in_a_box))]
-pub fn boxed_sync<'a>(
-    alloc: Global,
+/// Puts a sync at the end of a row.
+#[tactic(auto, using(crate::proofs::code::Building::in_a_row))]
+pub fn push_sync<'a>(
+    row: &mut Vec<Def<'a>>,
     place: Box<Place<'a>>,
     flag: Flag<'a>,
-) -> Result<Box<Def<'a>>, Halt>
-    ensures { Builds (held definition_view) result (kinds.sync
+) -> Result<(), Halt>
+    ensures { Appends definition_view row.old.items result row.new.items (kinds.sync
         record { place = held place_view place.entry; flag = flag_view flag.entry }) }
 {
     let sync = Sync {
         place: Box::into_inner(place),
         flag,
     };
-    in_box(alloc, Def::Sync(sync))
+    pushed(row, Def::Sync(sync))
 }
 
-/// A queue.
-#[tactic(auto, using(crate::proofs::code::Building::in_a_box))]
-pub fn boxed_sync_queue<'a>(
-    alloc: Global,
+/// Puts a queue at the end of a row.
+#[tactic(auto, using(crate::proofs::code::Building::in_a_row))]
+pub fn push_sync_queue<'a>(
+    row: &mut Vec<Def<'a>>,
     word: Token<'a>,
     place: Box<Place<'a>>,
     flag: Option<Flag<'a>>,
     size: Option<Token<'a>>,
-) -> Result<Box<Def<'a>>, Halt>
-    ensures { Builds (held definition_view) result (kinds.sync_queue record {
+) -> Result<(), Halt>
+    ensures { Appends definition_view row.old.items result row.new.items (kinds.sync_queue record {
       word = word.entry;
       place = held place_view place.entry;
       flag = shown flag_view flag.entry;
@@ -109,21 +109,21 @@ pub fn boxed_sync_queue<'a>(
         flag,
         size,
     };
-    in_box(alloc, Def::SyncQueue(queue))
+    pushed(row, Def::SyncQueue(queue))
 }
 
-/// The declaration of event flags.
-#[tactic(auto, using(crate::proofs::code::Building::in_a_box))]
-pub fn boxed_event_flags<'a>(alloc: Global, names: Vec<Token<'a>>) -> Result<Box<Def<'a>>, Halt>
-    ensures { Builds (held definition_view) result (kinds.event_flags (token_list names.entry)) }
+/// Puts the declaration of event flags at the end of a row.
+#[tactic(auto, using(crate::proofs::code::Building::in_a_row))]
+pub fn push_event_flags<'a>(row: &mut Vec<Def<'a>>, names: Vec<Token<'a>>) -> Result<(), Halt>
+    ensures { Appends definition_view row.old.items result row.new.items (kinds.event_flags (token_list names.entry)) }
 {
-    in_box(alloc, Def::EventFlags(names))
+    pushed(row, Def::EventFlags(names))
 }
 
-/// An option.
-#[tactic(auto, using(crate::proofs::code::Building::in_a_box))]
-pub fn boxed_setting<'a>(alloc: Global, setting: Setting<'a>) -> Result<Box<Def<'a>>, Halt>
-    ensures { Builds (held definition_view) result (kinds.setting (setting_view setting.entry)) }
+/// Puts an option at the end of a row.
+#[tactic(auto, using(crate::proofs::code::Building::in_a_row))]
+pub fn push_setting<'a>(row: &mut Vec<Def<'a>>, setting: Setting<'a>) -> Result<(), Halt>
+    ensures { Appends definition_view row.old.items result row.new.items (kinds.setting (setting_view setting.entry)) }
 {
-    in_box(alloc, Def::Setting(setting))
+    pushed(row, Def::Setting(setting))
 }

@@ -1,7 +1,7 @@
-//! Clauses, states, state sets and programs in their boxes.
+//! Programs in their boxes, and clauses, states and state sets in rows.
 
 ghost use Rattle.std.specs.Prelude.{◌≡◌, IfOk, drop};
-ghost use Rattle.snl_tree.specs.reading.Moves.{Builds};
+ghost use Rattle.snl_tree.specs.reading.Moves.{Appends, Builds};
 ghost use Rattle.snl_tree.specs.view.Shown.{shown, held};
 ghost use Rattle.snl_tree.specs.view.Expressions.{boxed};
 ghost use Rattle.snl_tree.specs.view.Definitions.{definition_views};
@@ -10,21 +10,21 @@ ghost use Rattle.snl_tree.specs.view.Programs.{Carries, first_place, target_view
 
 use crate::parsing::TOKEN_LIMIT;
 use crate::readers::cursor::Halt;
-use crate::readers::room::in_box;
+use crate::readers::room::{in_box, pushed};
 use crate::trees::{Block, Clause, Def, Expr, Program, State, StateSet, Target};
 use snl_text::{Lexed, Pos, Token};
 use std::alloc::Global;
 
-/// A clause.
-#[tactic(auto, using(crate::proofs::code::Building::in_a_box))]
-pub fn boxed_clause<'a>(
-    alloc: Global,
+/// Puts a clause at the end of a row.
+#[tactic(auto, using(crate::proofs::code::Building::in_a_row))]
+pub fn push_clause<'a>(
+    row: &mut Vec<Clause<'a>>,
     word: Token<'a>,
     condition: Option<Box<Expr<'a>>>,
     block: Box<Block<'a>>,
     target: Target<'a>,
-) -> Result<Box<Clause<'a>>, Halt>
-    ensures { Builds (held clause_view) result record {
+) -> Result<(), Halt>
+    ensures { Appends clause_view row.old.items result row.new.items record {
       word = word.entry;
       condition = shown boxed condition.entry;
       block = held block_view block.entry;
@@ -37,21 +37,21 @@ pub fn boxed_clause<'a>(
         block,
         target,
     };
-    in_box(alloc, clause)
+    pushed(row, clause)
 }
 
-/// A state.
-#[tactic(auto, using(crate::proofs::code::Building::in_a_box))]
-pub fn boxed_state<'a>(
-    alloc: Global,
+/// Puts a state at the end of a row.
+#[tactic(auto, using(crate::proofs::code::Building::in_a_row))]
+pub fn push_state<'a>(
+    row: &mut Vec<State<'a>>,
     word: Token<'a>,
     name: Token<'a>,
     definitions: Vec<Def<'a>>,
     entry: Option<Box<Block<'a>>>,
     clauses: Vec<Clause<'a>>,
     exit: Option<Box<Block<'a>>>,
-) -> Result<Box<State<'a>>, Halt>
-    ensures { Builds (held state_view) result record {
+) -> Result<(), Halt>
+    ensures { Appends state_view row.old.items result row.new.items record {
       word = word.entry;
       name = name.entry;
       definitions = definition_views definitions.entry;
@@ -68,19 +68,19 @@ pub fn boxed_state<'a>(
         clauses,
         exit,
     };
-    in_box(alloc, state)
+    pushed(row, state)
 }
 
-/// A state set.
-#[tactic(auto, using(crate::proofs::code::Building::in_a_box))]
-pub fn boxed_state_set<'a>(
-    alloc: Global,
+/// Puts a state set at the end of a row.
+#[tactic(auto, using(crate::proofs::code::Building::in_a_row))]
+pub fn push_state_set<'a>(
+    row: &mut Vec<StateSet<'a>>,
     word: Token<'a>,
     name: Token<'a>,
     definitions: Vec<Def<'a>>,
     states: Vec<State<'a>>,
-) -> Result<Box<StateSet<'a>>, Halt>
-    ensures { Builds (held state_set_view) result record {
+) -> Result<(), Halt>
+    ensures { Appends state_set_view row.old.items result row.new.items record {
       word = word.entry;
       name = name.entry;
       definitions = definition_views definitions.entry;
@@ -93,7 +93,7 @@ pub fn boxed_state_set<'a>(
         definitions,
         states,
     };
-    in_box(alloc, state_set)
+    pushed(row, state_set)
 }
 
 /// The place of the first token after the first [`TOKEN_LIMIT`].

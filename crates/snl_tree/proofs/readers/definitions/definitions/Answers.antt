@@ -15,13 +15,15 @@ loop-alloc-init c = found_none starts_definition (definition_at c.args.depth) de
 -- with one more definition found, the others are left to read
 pub loop-alloc-preserved : goal.loop-alloc-preserved
 loop-alloc-preserved c =
+    let next = c.in_ok-definition.ensures in
     found_more starts_definition (definition_at c.args.depth) (definition_less c.args.depth) definition_view (definitions_at c.args.depth c.args.cursor.now.left.now) c.loop-alloc.found.items
-    c.loop-alloc.cursor.left.now c.in_ok-next.next.value c.definition.new.cursor.left.now _
-    c.in_ok-added.ensures.items c.loop-alloc.invariant (sym c.loop-alloc-test.ensures) c.in_ok-next.ensures
+    c.loop-alloc.cursor.left.now next.0 c.definition.new.cursor.left.now _ next.1 c.loop-alloc.invariant (sym c.loop-alloc-test.ensures) next.2
 
 -- fewer tokens are left after a definition
 pub loop-alloc-smaller : goal.loop-alloc-smaller
-loop-alloc-smaller c = definition_less c.args.depth c.loop-alloc.cursor.left.now c.definition.new.cursor.left.now (definition_view c.in_ok-next.next.value) c.in_ok-next.ensures
+loop-alloc-smaller c =
+    let next = c.in_ok-definition.ensures in
+    definition_less c.args.depth c.loop-alloc.cursor.left.now c.definition.new.cursor.left.now (definition_view next.0) next.2
 
 -- where no definition begins, those found are all of them
 pub returns : goal.returns
@@ -30,9 +32,9 @@ returns c =
     c.loop-alloc.invariant (sym c.loop-alloc-test.ensures)
 
 -- a fault in a definition is a fault of them all
-pub returns-in_err-next : goal.returns-in_err-next
-returns-in_err-next c =
+pub returns-in_err-definition : goal.returns-in_err-definition
+returns-in_err-definition c =
     let p = err_from_is_err_and c.from_residual.result c.from_residual.ensures.1 in
-    rw (p.1, p.2) (found_fails starts_definition (definition_at c.args.depth) (definition_less c.args.depth) definition_view (definitions_at c.args.depth c.args.cursor.now.left.now)
-    c.loop-alloc.found.items c.loop-alloc.cursor.left.now c.in_err-next.field-0.0 c.definition.new.cursor.left.now
-    c.loop-alloc.invariant (sym c.loop-alloc-test.ensures) c.in_err-next.ensures)
+    rw (p.1, p.2) (found_fails starts_definition (definition_at c.args.depth) (definition_less c.args.depth) definition_view (definitions_at c.args.depth c.args.cursor.now.left.now) c.loop-alloc.found.items
+    c.loop-alloc.cursor.left.now c.in_err-definition.field-0.0 c.definition.new.cursor.left.now
+    c.loop-alloc.invariant (sym c.loop-alloc-test.ensures) c.in_err-definition.ensures)

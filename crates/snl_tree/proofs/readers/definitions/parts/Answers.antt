@@ -15,13 +15,15 @@ loop-alloc-init c = found_none starts_part (part_at c.args.depth) definition_vie
 -- with one more definition or option found, the others are left to read
 pub loop-alloc-preserved : goal.loop-alloc-preserved
 loop-alloc-preserved c =
-    found_more starts_part (part_at c.args.depth) (part_less c.args.depth) definition_view (parts_at c.args.depth c.args.cursor.now.left.now) c.loop-alloc.found.items c.loop-alloc.cursor.left.now
-    c.in_ok-next.next.value c.part.new.cursor.left.now _
-    c.in_ok-added.ensures.items c.loop-alloc.invariant (sym c.loop-alloc-test.ensures) c.in_ok-next.ensures
+    let next = c.in_ok-part.ensures in
+    found_more starts_part (part_at c.args.depth) (part_less c.args.depth) definition_view (parts_at c.args.depth c.args.cursor.now.left.now) c.loop-alloc.found.items
+    c.loop-alloc.cursor.left.now next.0 c.part.new.cursor.left.now _ next.1 c.loop-alloc.invariant (sym c.loop-alloc-test.ensures) next.2
 
 -- fewer tokens are left after a definition or an option
 pub loop-alloc-smaller : goal.loop-alloc-smaller
-loop-alloc-smaller c = part_less c.args.depth c.loop-alloc.cursor.left.now c.part.new.cursor.left.now (definition_view c.in_ok-next.next.value) c.in_ok-next.ensures
+loop-alloc-smaller c =
+    let next = c.in_ok-part.ensures in
+    part_less c.args.depth c.loop-alloc.cursor.left.now c.part.new.cursor.left.now (definition_view next.0) next.2
 
 -- where no definition or option begins, those found are all of them
 pub returns : goal.returns
@@ -30,9 +32,9 @@ returns c =
     c.loop-alloc.invariant (sym c.loop-alloc-test.ensures)
 
 -- a fault in a definition or an option is a fault of them all
-pub returns-in_err-next : goal.returns-in_err-next
-returns-in_err-next c =
+pub returns-in_err-part : goal.returns-in_err-part
+returns-in_err-part c =
     let p = err_from_is_err_and c.from_residual.result c.from_residual.ensures.1 in
     rw (p.1, p.2) (found_fails starts_part (part_at c.args.depth) (part_less c.args.depth) definition_view (parts_at c.args.depth c.args.cursor.now.left.now) c.loop-alloc.found.items
-    c.loop-alloc.cursor.left.now c.in_err-next.field-0.0 c.part.new.cursor.left.now
-    c.loop-alloc.invariant (sym c.loop-alloc-test.ensures) c.in_err-next.ensures)
+    c.loop-alloc.cursor.left.now c.in_err-part.field-0.0 c.part.new.cursor.left.now
+    c.loop-alloc.invariant (sym c.loop-alloc-test.ensures) c.in_err-part.ensures)

@@ -11,13 +11,15 @@ use Rattle.snl_tree.proofs.readers.programs.clauses.Goals as goal
 -- with one more clause found, the others are left to read
 pub loop-alloc-preserved : goal.loop-alloc-preserved
 loop-alloc-preserved c =
+    let next = c.in_ok-clause.ensures in
     found_more (is When) (clause_at c.args.depth) (clause_less c.args.depth c.requires) clause_view (clauses_at c.args.depth c.args.cursor.now.left.now) c.loop-alloc.found.items
-    c.loop-alloc.cursor.left.now c.in_ok-next.next.value c.clause.new.cursor.left.now _
-    c.in_ok-added.ensures.items c.loop-alloc.invariant (sym c.loop-alloc-test.ensures) c.in_ok-next.ensures
+    c.loop-alloc.cursor.left.now next.0 c.clause.new.cursor.left.now _ next.1 c.loop-alloc.invariant (sym c.loop-alloc-test.ensures) next.2
 
 -- fewer tokens are left after a clause
 pub loop-alloc-smaller : goal.loop-alloc-smaller
-loop-alloc-smaller c = clause_less c.args.depth c.requires c.loop-alloc.cursor.left.now c.clause.new.cursor.left.now (clause_view c.in_ok-next.next.value) c.in_ok-next.ensures
+loop-alloc-smaller c =
+    let next = c.in_ok-clause.ensures in
+    clause_less c.args.depth c.requires c.loop-alloc.cursor.left.now c.clause.new.cursor.left.now (clause_view next.0) next.2
 
 -- where no clause begins, those found are all of them
 pub returns : goal.returns
@@ -26,12 +28,12 @@ returns c =
     c.loop-alloc.invariant (sym c.loop-alloc-test.ensures)
 
 -- a fault in a clause is a fault of them all
-pub returns-in_err-next : goal.returns-in_err-next
-returns-in_err-next c =
+pub returns-in_err-clause : goal.returns-in_err-clause
+returns-in_err-clause c =
     let p = err_from_is_err_and c.from_residual.result c.from_residual.ensures.1 in
     rw (p.1, p.2) (found_fails (is When) (clause_at c.args.depth) (clause_less c.args.depth c.requires) clause_view (clauses_at c.args.depth c.args.cursor.now.left.now) c.loop-alloc.found.items
-    c.loop-alloc.cursor.left.now c.in_err-next.field-0.0 c.clause.new.cursor.left.now
-    c.loop-alloc.invariant (sym c.loop-alloc-test.ensures) c.in_err-next.ensures)
+    c.loop-alloc.cursor.left.now c.in_err-clause.field-0.0 c.clause.new.cursor.left.now
+    c.loop-alloc.invariant (sym c.loop-alloc-test.ensures) c.in_err-clause.ensures)
 
 -- at first no clause is found, and all are left to read
 pub loop-alloc-init : goal.loop-alloc-init

@@ -11,13 +11,15 @@ use Rattle.snl_tree.proofs.readers.programs.states.Goals as goal
 -- with one more state found, the others are left to read
 pub loop-alloc-preserved : goal.loop-alloc-preserved
 loop-alloc-preserved c =
+    let next = c.in_ok-state-2.ensures in
     found_more (is State) (state_at c.args.depth) (state_less c.args.depth c.requires) state_view (states_at c.args.depth c.args.cursor.now.left.now) c.loop-alloc.found.items
-    c.loop-alloc.cursor.left.now c.in_ok-next.next.value c.state-in-loop-alloc.new.cursor.left.now _
-    c.in_ok-added-2.ensures.items c.loop-alloc.invariant (sym c.loop-alloc-test.ensures) c.in_ok-next.ensures
+    c.loop-alloc.cursor.left.now next.0 c.state-in-loop-alloc.new.cursor.left.now _ next.1 c.loop-alloc.invariant (sym c.loop-alloc-test.ensures) next.2
 
 -- fewer tokens are left after a state
 pub loop-alloc-smaller : goal.loop-alloc-smaller
-loop-alloc-smaller c = state_less c.args.depth c.requires c.loop-alloc.cursor.left.now c.state-in-loop-alloc.new.cursor.left.now (state_view c.in_ok-next.next.value) c.in_ok-next.ensures
+loop-alloc-smaller c =
+    let next = c.in_ok-state-2.ensures in
+    state_less c.args.depth c.requires c.loop-alloc.cursor.left.now c.state-in-loop-alloc.new.cursor.left.now (state_view next.0) next.2
 
 -- where no state begins, those found are all of them
 pub returns : goal.returns
@@ -26,23 +28,24 @@ returns c =
     c.loop-alloc.invariant (sym c.loop-alloc-test.ensures)
 
 -- a fault in a further state is a fault of them all
-pub returns-in_err-next : goal.returns-in_err-next
-returns-in_err-next c =
-    let p = err_from_is_err_and c.from_residual-in_err-next.result c.from_residual-in_err-next.ensures.1 in
+pub returns-in_err-state-2 : goal.returns-in_err-state-2
+returns-in_err-state-2 c =
+    let p = err_from_is_err_and c.from_residual-in_err-state-2.result c.from_residual-in_err-state-2.ensures.1 in
     rw (p.1, p.2) (found_fails (is State) (state_at c.args.depth) (state_less c.args.depth c.requires) state_view (states_at c.args.depth c.args.cursor.now.left.now) c.loop-alloc.found.items
-    c.loop-alloc.cursor.left.now c.in_err-next.field-0.0 c.state-in-loop-alloc.new.cursor.left.now
-    c.loop-alloc.invariant (sym c.loop-alloc-test.ensures) c.in_err-next.ensures)
+    c.loop-alloc.cursor.left.now c.in_err-state-2.field-0.0 c.state-in-loop-alloc.new.cursor.left.now
+    c.loop-alloc.invariant (sym c.loop-alloc-test.ensures) c.in_err-state-2.ensures)
 
 -- a fault in the first state is a fault of them all
-pub returns-in_err-first : goal.returns-in_err-first
+pub returns-in_err-state : goal.returns-in_err-state
 unfolding states_at
-returns-in_err-first c =
+returns-in_err-state c =
     let p = err_from_is_err_and c.from_residual.result c.from_residual.ensures.1 in
-    rw (p.1, p.2) (some_fails (is State) (state_at c.args.depth) c.args.cursor.now.left.now c.in_err-first.field-0.0 c.state.new.cursor.left.now c.in_err-first.ensures)
+    rw (p.1, p.2) (some_fails (is State) (state_at c.args.depth) c.args.cursor.now.left.now c.in_err-state.field-0.0 c.state.new.cursor.left.now c.in_err-state.ensures)
 
 -- with the first state found, the others are left to read
 pub loop-alloc-init : goal.loop-alloc-init
 unfolding states_at
 loop-alloc-init c =
-    found_some (is State) (state_at c.args.depth) state_view c.args.cursor.now.left.now c.state.new.cursor.left.now c.in_ok-first.first.value c.added.new.row.items c.new-found.result.items
-    c.new-found.ensures.items c.in_ok-added.ensures.items c.in_ok-first.ensures
+    let next = c.in_ok-state.ensures in
+    found_some (is State) (state_at c.args.depth) state_view c.args.cursor.now.left.now c.state.new.cursor.left.now next.0 c.state.new.row.items
+    c.new-found.result.items c.new-found.ensures.items next.1 next.2

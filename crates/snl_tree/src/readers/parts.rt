@@ -1,0 +1,49 @@
+//! Whether a definition or an option begins here.
+
+ghost use Rattle.std.specs.Prelude.{◌≡◌};
+ghost use Rattle.snl_tree.specs.Definitions as kinds;
+ghost use Rattle.snl_tree.specs.reading.Readers as readers;
+
+use crate::readers::cursor::Cursor;
+use crate::readers::declarations::is_type;
+use snl_text::Kind;
+
+/// Whether a definition is here.
+pub fn at_definition(cursor: &Cursor) -> bool
+    ensures { result ≡ readers.starts kinds.starts_definition cursor.now.left.now }
+{
+    match cursor.left {
+        [first, ..] => starts_definition(first.kind),
+        [] => false,
+    }
+}
+
+/// Whether a token of this kind begins a definition.
+fn starts_definition(kind: Kind) -> bool
+    ensures { result ≡ kinds.starts_definition kind }
+{
+    match kind {
+        Kind::Assign | Kind::Monitor | Kind::Sync | Kind::SyncQueue | Kind::EventFlag => true,
+        _ => is_type(kind),
+    }
+}
+
+/// Whether a definition or an option is here.
+pub fn at_part(cursor: &Cursor) -> bool
+    ensures { result ≡ readers.starts kinds.starts_part cursor.now.left.now }
+{
+    match cursor.left {
+        [first, ..] => starts_part(first.kind),
+        [] => false,
+    }
+}
+
+/// Whether a token of this kind begins a definition or an option.
+fn starts_part(kind: Kind) -> bool
+    ensures { result ≡ kinds.starts_part kind }
+{
+    match kind {
+        Kind::OptionWord => true,
+        _ => starts_definition(kind),
+    }
+}
