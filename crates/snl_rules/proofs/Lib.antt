@@ -8,6 +8,7 @@ pub mod UnmarkedLaws
 pub mod TargetLaws
 pub mod StateLaws
 pub mod CountLaws
+pub mod SharedLaws
 pub mod QueueLaws
 pub mod OverfullLaws
 pub mod WayExampleLaws

@@ -1,16 +1,16 @@
 //! How many words the stores of the state sets take, and with them all buffers and queues.
 
-ghost use Rattle.std.specs.Prelude.{◌≡◌, ◌++◌, ◌+◌, ◌↔◌, true, nat_lt, map, OnOk, IfOk};
+ghost use Rattle.std.specs.Prelude.{◌≡◌, ◌++◌, ◌+◌, ◌↔◌, [], ◌∷◌, true, nat_lt, map, OnOk, IfOk};
 ghost use Rattle.std.specs.List.{Contains, sum_by};
 ghost use Rattle.snl_text.specs.declared.tokens.Token.{Token};
 ghost use Rattle.snl_tree.specs.view.Programs.{state_set_view, program_view};
 ghost use Rattle.snl_sites.specs.Held.{held_view};
 ghost use Rattle.snl_sites.specs.Programs as program_sites;
 ghost use Rattle.snl_rules.specs.Words as spec;
-ghost use Rattle.snl_rules.specs.Counts.{capped, overfull_at, overfull_from};
+ghost use Rattle.snl_rules.specs.Counts.{IsSharedIn, capped, own_words_in, overfull_at, overfull_from};
 
 use crate::link_words::words_of_all_links;
-use snl_sites::{Held, Site, variables_of};
+use snl_sites::{Held, Scope, Scopes, Site, push_definitions, push_parts};
 use snl_text::Token;
 use snl_tree::{Program, StateSet};
 use std::alloc::{AllocError, Global};
@@ -26,37 +26,95 @@ fn words_of_variables(held: &[Held]) -> u64
     words
 }
 
+/// What the stores of all state sets have in common.
+#[derive(Drop)]
+pub struct Shared<'a> {
+    /// The scope that the program's definitions make.
+    pub scope: Scope<'a>,
+    /// The words of their variables, at most 2^64 - 1.
+    pub words: u64,
+}
+
+/// What the stores of all state sets of a program have in common.
+fn shared_in<'a>(alloc: Global, program: &Program<'a>) -> Result<Shared<'a>, AllocError>
+    ensures { IfOk result (IsSharedIn (program_view program.now)) }
+{
+    let mut held = Vec::new(alloc);
+    let definitions = program.definitions.as_slice();
+    let scope = push_definitions(alloc, &Scopes::Outside, definitions, &mut held)?;
+    let words = words_of_variables(held.as_slice());
+    Ok(Shared { scope, words })
+}
+
+/// The words that one state set holds beside the shared ones, at most 2^64 - 1.
+fn own_words<'a>(
+    alloc: Global,
+    scope: &Scope<'a>,
+    program: &Program<'a>,
+    number: usize,
+) -> Result<u64, AllocError>
+    ensures { IfOk result (λ words. words
+        ≡ capped (own_words_in (scope.now ∷ []) (program_view program.now) number)) }
+{
+    let mut held = Vec::new(alloc);
+    let sets = program.state_sets.as_slice();
+    let scopes = Scopes::Within(scope, &Scopes::Outside);
+    push_parts(
+        alloc,
+        &scopes,
+        number,
+        &program.entry,
+        sets,
+        &program.exit,
+        &mut held,
+    )?;
+    Ok(words_of_variables(held.as_slice()))
+}
+
 /// The words of the store of a state set, at most 2^64 - 1.
-fn words_of_set(alloc: Global, program: &Program, number: usize) -> Result<u64, AllocError>
+fn words_of_set<'a>(
+    alloc: Global,
+    shared: &Shared<'a>,
+    program: &Program<'a>,
+    number: usize,
+) -> Result<u64, AllocError>
+    requires { IsSharedIn (program_view program.now) shared.now }
     ensures { IfOk result (λ words. words
         ≡ capped (spec.set_words (program_view program.now) number)) }
 {
-    let held = variables_of(alloc, program, number)?;
-    let words = words_of_variables(held.as_slice());
-    Ok(words)
+    let own = own_words(alloc, &shared.scope, program, number)?;
+    Ok(shared.words.saturating_add(own))
 }
 
 /// Whether the store of a state set takes more than 65,536 words.
-fn is_overfull_set(alloc: Global, program: &Program, number: usize) -> Result<bool, AllocError>
+fn is_overfull_set<'a>(
+    alloc: Global,
+    shared: &Shared<'a>,
+    program: &Program<'a>,
+    number: usize,
+) -> Result<bool, AllocError>
+    requires { IsSharedIn (program_view program.now) shared.now }
     ensures { IfOk result (λ b. b
         ≡ nat_lt 65536 (spec.set_words (program_view program.now) number)) }
 {
-    let words = words_of_set(alloc, program, number)?;
+    let words = words_of_set(alloc, shared, program, number)?;
     Ok(65_536 < words)
 }
 
 /// Adds the `ss` of the state set of a number, if its store is overfull.
 fn push_if_overfull<'a>(
     alloc: Global,
+    shared: &Shared<'a>,
     program: &Program<'a>,
     number: usize,
     set: &StateSet<'a>,
     found: &mut Vec<Token<'a>>,
 ) -> Result<(), AllocError>
+    requires { IsSharedIn (program_view program.now) shared.now }
     ensures { OnOk result (found.new.items ≡ found.old.items
         ++ overfull_at (program_view program.now) number (state_set_view set.now)) }
 {
-    if is_overfull_set(alloc, program, number)? {
+    if is_overfull_set(alloc, shared, program, number)? {
         found.push(set.word)?;
     }
     Ok(())
@@ -65,17 +123,40 @@ fn push_if_overfull<'a>(
 /// Adds the `ss` of each state set whose store is overfull.
 fn push_overfull<'a>(
     alloc: Global,
+    shared: &Shared<'a>,
     program: &Program<'a>,
     sets: &[StateSet<'a>],
     found: &mut Vec<Token<'a>>,
 ) -> Result<(), AllocError>
+    requires { IsSharedIn (program_view program.now) shared.now }
     ensures { OnOk result (found.new.items ≡ found.old.items
         ++ overfull_from (program_view program.now) 0 (map state_set_view sets.now)) }
 {
     for (number, set) in sets.iter().enumerate() {
-        push_if_overfull(alloc, program, number, set, found)?;
+        push_if_overfull(alloc, shared, program, number, set, found)?;
     }
     Ok(())
+}
+
+/// The `ss` of each state set whose store is overfull, in the order of the source.
+fn overfull_in<'a>(
+    alloc: Global,
+    shared: &Shared<'a>,
+    program: &Program<'a>,
+) -> Result<Vec<Token<'a>>, AllocError>
+    requires { IsSharedIn (program_view program.now) shared.now }
+    ensures { IfOk result (λ found. (t : Token) → Contains found.items t
+        ↔ spec.IsOverfullSet (program_view program.now) t) }
+{
+    let mut found = Vec::new(alloc);
+    push_overfull(
+        alloc,
+        shared,
+        program,
+        program.state_sets.as_slice(),
+        &mut found,
+    )?;
+    Ok(found)
 }
 
 /// The `ss` of each state set whose store takes more than 65,536 words, in the order of the source.
@@ -84,21 +165,51 @@ pub fn overfull_sets<'a>(alloc: Global, program: &Program<'a>) -> Result<Vec<Tok
     ensures { IfOk result (λ found. (t : Token) → Contains found.items t
         ↔ spec.IsOverfullSet (program_view program.now) t) }
 {
-    let mut found = Vec::new(alloc);
-    push_overfull(alloc, program, program.state_sets.as_slice(), &mut found)?;
+    let shared = shared_in(alloc, program)?;
+    let found = overfull_in(alloc, &shared, program)?;
     Ok(found)
 }
 
 /// The words of the stores of state sets, at most 2^64 - 1.
-fn words_of_sets(alloc: Global, program: &Program, sets: &[StateSet]) -> Result<u64, AllocError>
+fn words_of_sets<'a>(
+    alloc: Global,
+    shared: &Shared<'a>,
+    program: &Program<'a>,
+    sets: &[StateSet<'a>],
+) -> Result<u64, AllocError>
+    requires { IsSharedIn (program_view program.now) shared.now }
     ensures { IfOk result (λ words. words
         ≡ capped (spec.sets_words (program_view program.now) 0 (map state_set_view sets.now))) }
 {
     let mut words: u64 = 0;
     for (number, _set) in sets.iter().enumerate() {
-        let more = words_of_set(alloc, program, number)?;
+        let more = words_of_set(alloc, shared, program, number)?;
         words = words.saturating_add(more);
     }
+    Ok(words)
+}
+
+/// The words of the stores of all state sets, at most 2^64 - 1.
+fn words_in<'a>(
+    alloc: Global,
+    shared: &Shared<'a>,
+    program: &Program<'a>,
+) -> Result<u64, AllocError>
+    requires { IsSharedIn (program_view program.now) shared.now }
+    ensures { IfOk result (λ words. words ≡ capped (spec.sets_words (program_view program.now) 0
+        (program_view program.now).state_sets)) }
+{
+    let words = words_of_sets(alloc, shared, program, program.state_sets.as_slice())?;
+    Ok(words)
+}
+
+/// The words of the stores of all state sets of a program, at most 2^64 - 1.
+fn words_of_stores(alloc: Global, program: &Program) -> Result<u64, AllocError>
+    ensures { IfOk result (λ words. words ≡ capped (spec.sets_words (program_view program.now) 0
+        (program_view program.now).state_sets)) }
+{
+    let shared = shared_in(alloc, program)?;
+    let words = words_in(alloc, &shared, program)?;
     Ok(words)
 }
 
@@ -115,7 +226,7 @@ pub fn is_overfull(alloc: Global, program: &Program, sites: &[Site]) -> Result<b
     requires { sites.now ≡ program_sites.sites (program_view program.now) }
     ensures { IfOk result (λ b. (b ≡ true) ↔ spec.IsOverfull (program_view program.now)) }
 {
-    let stores = words_of_sets(alloc, program, program.state_sets.as_slice())?;
+    let stores = words_of_stores(alloc, program)?;
     let links = words_of_all_links(alloc, sites)?;
     Ok(is_above(stores, links))
 }

@@ -134,8 +134,10 @@ fn push_for_first<'p, 'a>(
     Ok(())
 }
 
-/// Adds the variables of a program's blocks and of one state set, within the program's scope.
-fn push_parts<'p, 'a>(
+/// Adds the variables that the copy of one state set holds beside those of the program's definitions, in
+/// the order of the source: its own, and for the first one those of the program's blocks. `scopes` is the
+/// program's scope; a number past the last state set adds nothing. The only error is that memory ends.
+pub fn push_parts<'p, 'a>(
     alloc: Global,
     scopes: &Scopes<'_, 'a>,
     set: usize,

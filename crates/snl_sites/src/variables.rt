@@ -97,7 +97,8 @@ fn push_each<'p, 'a>(
     Ok(())
 }
 
-/// Adds the variables of definitions; gives the scope that they make within others.
+/// Adds the variables of definitions, in the order of the source; gives the scope that they make within
+/// others. The only error is that memory ends.
 pub fn push_definitions<'p, 'a>(
     alloc: Global,
     outer: &Scopes<'_, 'a>,

@@ -1,5 +1,5 @@
-use Rattle.std.proofs.Common.{map, ap, ◌∙◌}
-use Rattle.snl_tree.specs.view.Programs.{state_set_view, program_view}
+use Rattle.std.proofs.Common.{ap, ◌∙◌}
+use Rattle.snl_tree.specs.view.Programs.{program_view}
 use Rattle.snl_sites.specs.Programs.{sites}
 use Rattle.snl_rules.specs.Words.{sets_words, links_words}
 use Rattle.snl_rules.specs.Counts.{capped}
@@ -10,5 +10,5 @@ pub returns : goal.returns
 returns c =
     let p = program_view c.args.program.now in
     is_above_all c.is_above.result c.in_ok-stores.stores c.in_ok-links.links (sets_words p 0 p.state_sets) (links_words (sites p)) c.is_above.ensures
-    (c.in_ok-stores.ensures ∙ ap (λ l. capped (sets_words p 0 (map state_set_view l))) c.as_slice.ensures.value)
+    c.in_ok-stores.ensures
     (c.in_ok-links.ensures ∙ ap (λ l. capped (links_words l)) c.requires)

@@ -1,5 +1,5 @@
 use Rattle.snl_rules.proofs.OverfullLaws.{found_all}
-use Rattle.snl_rules.proofs.words.overfull_sets.Goals as goal
+use Rattle.snl_rules.proofs.words.overfull_in.Goals as goal
 
 pub returns : goal.returns
 returns c =
