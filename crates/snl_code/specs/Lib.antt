@@ -7,6 +7,7 @@ pub mod Value
 pub mod Effect
 pub mod ExpressionCode
 pub mod Targets
+pub mod Emission
 pub mod BlockCode
 pub mod Run
 pub mod Right
