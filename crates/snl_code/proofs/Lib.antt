@@ -16,3 +16,5 @@ pub mod Pieces
 pub mod DepthWithin
 pub mod Turns
 pub mod Texts
+pub mod TargetCode
+pub mod Emitting

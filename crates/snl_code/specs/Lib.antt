@@ -6,6 +6,8 @@ pub mod Words
 pub mod Value
 pub mod Effect
 pub mod ExpressionCode
+pub mod Targets
+pub mod Emission
 pub mod BlockCode
 pub mod Run
 pub mod Right

@@ -7,6 +7,9 @@ pub mod laws;
 mod names;
 mod operands;
 mod operators;
+mod parts;
+mod rows;
+mod targets;
 
 pub use faults::Fault;
 pub use instrs::{Instr, Variable};
