@@ -1,5 +1,5 @@
 -- What the steps answer is what the source means.
-use Rattle.std.proofs.Common.{◌≡◌, ◌<◌, ◌≤◌, ◌↔◌, inl, inr, ℕ, List, [], ◌∷◌, Option, None, Some, IsSome, IfSome, is_some, if◌then◌else◌, Contains, Result, Ok, Err, length, take, slice_get, true, false, refl, sym, ap, subst, ◌∙◌, arith, zero, suc, lit≤}
+use Rattle.std.proofs.Common.{◌≡◌, ◌<◌, ◌≤◌, ◌↔◌, inl, inr, ℕ, Bool, List, [], ◌∷◌, ◌++◌, Option, None, Some, IsSome, IfSome, is_some, if◌then◌else◌, Contains, Result, Ok, Err, length, take, drop, slice_get, append-nil, true, false, refl, sym, ap, subst, ◌∙◌, arith, zero, suc, lit≤}
 use Rattle.std.specs.Option.{option_map}
 use Rattle.std.proofs.lemmas.Bool.{false≢true}
 use Rattle.std.proofs.lemmas.List.Elements.{Contains-push}
@@ -16,14 +16,20 @@ use Rattle.snl_text.specs.Cut.{Cuts, Reading, nothing_read, start}
 use Rattle.snl_text.specs.Faults.{fault_pos, fault_text}
 use Rattle.snl_text.specs.Lexing.{FaultHolds, GivesOnly, IsLexed}
 use Rattle.snl_text.proofs.Parts.{before_fault}
-use Rattle.snl_check.specs.declared.messages.Severity.TheVariants.{Error}
-use Rattle.snl_tree.specs.declared.thin.trees.Program.{Program}
+use Rattle.snl_messages.specs.declared.messages.Severity.TheVariants.{Error}
+use Rattle.snl_tree.specs.declared.thin.trees.Program.{Program as Thin}
+use Rattle.snl_tree.specs.declared.trees.programs.Program.{Program}
 use Rattle.snl_tree.specs.Begins.{Spells, IsUnexpected, IsTooDeep}
 use Rattle.snl_tree.specs.Programs.{ProgramTree, IsProgram, programs}
-use Rattle.snl_tree.specs.Thin.{is_thin, StandsFor}
+use Rattle.snl_tree.specs.Thin.{StandsFor}
+use Rattle.snl_tree.specs.view.Programs.{first_place, program_view}
+use Rattle.snl_sites.specs.declared.options.Options.{Options}
+use Rattle.snl_messages.specs.Messages.{Said, IsInOrder}
+use Rattle.snl_messages.specs.Says.{IsSaid}
+use Rattle.snl_messages.specs.Silence.{options_in_force}
 use Rattle.snl_check.specs.declared.checked.Checked.{Checked}
-use Rattle.snl_check.specs.Messages.{Said, IsInOrder}
-use Rattle.snl_check.specs.Rules.{IsSaid, IsAccepted}
+use Rattle.snl_check.specs.Accepted.{IsAccepted}
+use Rattle.snl_check.specs.Runs.{does_run}
 use Rattle.snl_machine.specs.declared.machine.Machine.{Machine}
 use Rattle.snl_machine.specs.First.{first_world}
 use Rattle.snl_machine.specs.MachineOf.{IsMachineOf, program_held, world_held}
@@ -35,17 +41,18 @@ use Rattle.snl_trace.specs.RunOver.{RunsOver, standing}
 use Rattle.snl_trace.specs.declared.runner.End.{End}
 use Rattle.snc.specs.declared.jobs.Status.TheVariants.{Well, SourceErrors}
 use Rattle.snc.specs.Judging.{AreNamesBefore, ReadsNames, HasFault, HasTokens, IsJudged, IsSaidOf, IsTreeSaid, NoErrors, error_at, names_of, nesting_error, not_yet, syntax_error}
-use Rattle.snc.specs.Outcomes.{IsReport, IsRunOf, IsSession, at_first, status_of}
-use Rattle.snc.specs.Texts.{text_of}
-use Rattle.snc.specs.ReportSteps.{AreNamesOf, AreTokensTold, IsFaultTold, IsProgramTold, IsTreeTold}
+use Rattle.snc.specs.Outcomes.{IsReport, IsRunOf, IsSession, at_first, status_of, tables_text}
+use Rattle.snc.specs.Texts.{line_of, text_of}
+use Rattle.snc.specs.ReportSteps.{AreNamesOf, AreTokensTold, IsFaultTold, IsTreeTold, asked_tables}
 
 -- an error alone
 lone_error : (messages : List Said) (pos : Pos) (number : ℕ) (text : List ℕ) → messages ≡ error_at pos number text ∷ [] → NoErrors messages → ⊥
 lone_error messages pos number text is none =
     none (error_at pos number text) (subst (λ l. Contains l (error_at pos number text)) (sym is) (Contains-push [] (error_at pos number text))) refl
 
-abbrev pub tree_of : Option Checked → Option Program
-tree_of checked = option_map (λ c. c.program) checked
+-- the tree of a checked program
+abbrev pub tree_of : Option Checked → Option ProgramTree
+tree_of checked = option_map (λ c. program_view c.program) checked
 
 -- two results that are one fault have one fault
 same_err : (a b : LexFault) → ◌≡◌ {A = Result Lexed LexFault} (Err a) (Err b) → a ≡ b
@@ -134,9 +141,9 @@ names_before source (faults.SourceTooLong p) pos names has at given =
 names_before source faults.Memory pos names has at given = tt
 
 -- a source without tokens
-pub judged_fault : (word source text : List ℕ) (fault : LexFault) (checked : Option Checked) → HasFault source fault → IsFaultTold word source fault text → checked ≡ None
-    → IsJudged word source text (tree_of checked)
-judged_fault word source text fault checked has w none = subst (λ o. IsJudged word source text (tree_of o)) (sym none) record {
+pub judged_fault : (given : Options) (word source text late : List ℕ) (fault : LexFault) (checked : Option Checked) → HasFault source fault → IsFaultTold word source fault text → checked ≡ None
+    → IsJudged given word source text late (tree_of checked)
+judged_fault given word source text late fault checked has w none = subst (λ o. IsJudged given word source text late (tree_of o)) (sym none) record {
   names = w.names;
   messages = w.messages;
   tree = None;
@@ -144,11 +151,13 @@ judged_fault word source text fault checked has w none = subst (λ o. IsJudged w
   text_is = w.text_is;
   accepted = (λ h. absurd (false≢true h), λ h. absurd (lone_error w.messages w.said.pos 3 w.said.words w.said.messages_are h));
   same = tt;
+  late_is = tt;
 }
 
 -- a source with tokens
-pub judged_tokens : (word source text : List ℕ) (lexed : Lexed) (checked : Option Program) → HasTokens source lexed → AreTokensTold word lexed text checked → IsJudged word source text checked
-judged_tokens word source text lexed checked has w = record {
+pub judged_tokens : (given : Options) (word source text late : List ℕ) (lexed : Lexed) (checked : Option ProgramTree) → HasTokens source lexed
+    → AreTokensTold given word lexed text late checked → IsJudged given word source text late checked
+judged_tokens given word source text late lexed checked has w = record {
   names = names_of lexed;
   messages = w.messages;
   tree = w.tree;
@@ -156,6 +165,7 @@ judged_tokens word source text lexed checked has w = record {
   text_is = w.text_is;
   accepted = w.accepted;
   same = w.same;
+  late_is = w.late_is;
 }
 
 -- E01 is an error, wherever it stands
@@ -168,79 +178,65 @@ error_alone : (message : Said) → message.severity ≡ Error → NoErrors (mess
 error_alone message is none = none message (Contains-push [] message) is
 
 -- tokens with one message, which is an error
-told_alone : (word text : List ℕ) (names : List (List ℕ)) (lexed : Lexed) (message : Said) (checked : Option Checked) → names ≡ names_of lexed
-    → message.severity ≡ Error → IsSaidOf lexed (message ∷ []) None → text ≡ text_of word names (message ∷ []) → checked ≡ None → AreTokensTold word lexed text (tree_of checked)
-told_alone word text names lexed message checked named error said is none = subst (λ o. AreTokensTold word lexed text (tree_of o)) (sym none) record {
+told_alone : (given : Options) (word text late : List ℕ) (names : List (List ℕ)) (lexed : Lexed) (message : Said) (checked : Option Checked) → names ≡ names_of lexed
+    → message.severity ≡ Error → IsSaidOf given lexed (message ∷ []) None → text ≡ text_of word names (message ∷ []) → checked ≡ None
+    → AreTokensTold given word lexed text late (tree_of checked)
+told_alone given word text late names lexed message checked named error said is none = subst (λ o. AreTokensTold given word lexed text late (tree_of o)) (sym none) record {
   messages = message ∷ [];
   tree = None;
   said = said;
   text_is = is ∙ ap (λ n. text_of word n (message ∷ [])) named;
   accepted = (λ h. absurd (false≢true h), λ h. absurd (error_alone message error h));
   same = tt;
+  late_is = tt;
 }
 
 -- tokens that are no program
-pub told_stuck : (word text : List ℕ) (names : List (List ℕ)) (lexed : Lexed) (k : ℕ) (checked : Option Checked) → names ≡ names_of lexed
+pub told_stuck : (given : Options) (word text late : List ℕ) (names : List (List ℕ)) (lexed : Lexed) (k : ℕ) (checked : Option Checked) → names ≡ names_of lexed
     → IsUnexpected programs 64 lexed.tokens.items k → text ≡ text_of word names (syntax_error lexed (slice_get lexed.tokens.items k) ∷ []) → checked ≡ None
-    → AreTokensTold word lexed text (tree_of checked)
-told_stuck word text names lexed k checked named read is none =
-    told_alone word text names lexed (syntax_error lexed (slice_get lexed.tokens.items k)) checked named (is_error lexed (slice_get lexed.tokens.items k))
+    → AreTokensTold given word lexed text late (tree_of checked)
+told_stuck given word text late names lexed k checked named read is none =
+    told_alone given word text late names lexed (syntax_error lexed (slice_get lexed.tokens.items k)) checked named (is_error lexed (slice_get lexed.tokens.items k))
     (inr (inl record { k = k; read = read; messages_are = refl; tree_is = refl })) is none
 
 -- tokens that are nested too deep
-pub told_deep : (word text : List ℕ) (names : List (List ℕ)) (lexed : Lexed) (k : ℕ) (token : Token) (checked : Option Checked) → names ≡ names_of lexed
+pub told_deep : (given : Options) (word text late : List ℕ) (names : List (List ℕ)) (lexed : Lexed) (k : ℕ) (token : Token) (checked : Option Checked) → names ≡ names_of lexed
     → IsTooDeep programs 64 lexed.tokens.items k → slice_get lexed.tokens.items k ≡ Some token → text ≡ text_of word names (nesting_error token ∷ []) → checked ≡ None
-    → AreTokensTold word lexed text (tree_of checked)
-told_deep word text names lexed k token checked named read at is none =
-    told_alone word text names lexed (nesting_error token) checked named refl
+    → AreTokensTold given word lexed text late (tree_of checked)
+told_deep given word text late names lexed k token checked named read at is none =
+    told_alone given word text late names lexed (nesting_error token) checked named refl
     (inr (inr record { k = k; read = read; token = token; at = at; messages_are = refl; tree_is = refl })) is none
 
 -- a tree that is given as this one is this one
-some_tree : (o : Option Program) (p : Program) → IfSome o (λ q. q ≡ p) → IfSome o (λ q. Some p ≡ Some q)
+some_tree : (o : Option ProgramTree) (p : ProgramTree) → IfSome o (λ q. q ≡ p) → IfSome o (λ q. Some p ≡ Some q)
 some_tree None p h = tt
 some_tree (Some q) p h = ap Some (sym h)
 
--- a tree of the whole language that is one of the first
-pub told_thin : (word text : List ℕ) (names : List (List ℕ)) (whole : ProgramTree) (p : Program) (embedded : List Pos) (checked : Option Program) → is_thin whole ≡ true → StandsFor whole p
-    → p.embedded.items ≡ embedded
-    → IsProgramTold word names p text checked → IsTreeTold word names whole embedded text checked
-told_thin word text names whole p embedded checked thin stands pieces w = record {
-  messages = w.messages;
-  tree = Some p;
-  said = record { thin = thin; stands = stands; pieces = pieces; exactly = w.exactly; in_order = w.in_order };
-  text_is = w.text_is;
-  accepted = w.accepted;
-  same = some_tree checked p w.same;
-}
-
--- and one that is not
-pub told_not_yet : (word text : List ℕ) (names : List (List ℕ)) (whole : ProgramTree) (embedded : List Pos) (checked : Option Checked) → is_thin whole ≡ false
-    → text ≡ text_of word names (not_yet whole ∷ []) → checked ≡ None → IsTreeTold word names whole embedded text (tree_of checked)
-told_not_yet word text names whole embedded checked thin is none = subst (λ o. IsTreeTold word names whole embedded text (tree_of o)) (sym none) record {
-  messages = not_yet whole ∷ [];
-  tree = None;
-  said = (thin, refl);
-  text_is = is;
-  accepted = (λ h. absurd (false≢true h), λ h. absurd (error_alone (not_yet whole) refl h));
-  same = tt;
-}
+-- the message that it does not run yet is that of the tree
+late_tree : (word late : List ℕ) (names listed : List (List ℕ)) (o : Option ProgramTree) (p : ProgramTree) → names ≡ listed → IfSome o (λ q. q ≡ p) → late ≡ text_of word names (not_yet p ∷ [])
+    → IfSome o (λ q. late ≡ text_of word listed (not_yet q ∷ []))
+late_tree word late names listed None p named h is = tt
+late_tree word late names listed (Some q) p named h is = is ∙ (λ i. text_of word (named i) (not_yet (sym h i) ∷ []))
 
 -- tokens that are a program
-pub told_program : (word text : List ℕ) (names : List (List ℕ)) (lexed : Lexed) (whole : ProgramTree) (embedded : List Pos) (checked : Option Program) → names ≡ names_of lexed
-    → embedded ≡ lexed.embedded.items → IsProgram 64 whole → Spells programs whole lexed.tokens.items → IsTreeTold word names whole embedded text checked
-    → AreTokensTold word lexed text checked
-told_program word text names lexed whole embedded checked named pieces is spelled w = record {
+pub told_program : (given : Options) (word text late : List ℕ) (names : List (List ℕ)) (lexed : Lexed) (whole : ProgramTree) (embedded : List Pos) (beyond : Option Pos)
+    (checked : Option ProgramTree) → names ≡ names_of lexed → embedded ≡ lexed.embedded.items → beyond ≡ first_place (drop 65536 lexed.tokens.items)
+    → IsProgram 64 whole → Spells programs whole lexed.tokens.items → IsTreeTold given word names whole embedded beyond text late checked
+    → AreTokensTold given word lexed text late checked
+told_program given word text late names lexed whole embedded beyond checked named pieces past is spelled w = record {
   messages = w.messages;
-  tree = w.tree;
+  tree = Some whole;
   said = inl record {
     whole = whole;
     is = is;
     spelled = spelled;
-    said = subst (λ (e : List Pos). IsTreeSaid whole e w.messages w.tree) pieces w.said;
+    tree_is = refl;
+    said = subst (λ (b : Option Pos). IsTreeSaid given whole lexed.embedded.items b w.messages) past (subst (λ (e : List Pos). IsTreeSaid given whole e beyond w.messages) pieces w.said);
   };
   text_is = w.text_is ∙ ap (λ n. text_of word n w.messages) named;
   accepted = w.accepted;
-  same = w.same;
+  same = some_tree checked whole w.same;
+  late_is = late_tree word late names (names_of lexed) checked whole named w.same w.late_is;
 }
 
 -- a tree is there where a checked program is
@@ -249,65 +245,141 @@ is_some_tree None = (λ h. h, λ h. h)
 is_some_tree (Some c) = (λ h. h, λ h. h)
 
 -- the tree of a checked program is its own
-if_some_tree : (o : Option Checked) (p : Program) → IfSome o (λ c. c.program ≡ p) → IfSome (tree_of o) (λ q. q ≡ p)
+if_some_tree : (o : Option Checked) (p : Program) → IfSome o (λ c. c.program ≡ p) → IfSome (tree_of o) (λ q. q ≡ program_view p)
 if_some_tree None p h = tt
-if_some_tree (Some c) p h = h
+if_some_tree (Some c) p h = ap program_view h
+
+-- the options in force are those of the program's own tree
+pub checked_options : (given : Options) (p : Program) (o : Option Checked) → IfSome o (λ c. c.program ≡ p) → IfSome o (λ c. c.options ≡ options_in_force (program_view p) given)
+    → IfSome o (λ c. c.options ≡ options_in_force (program_view c.program) given)
+checked_options given p None same are = tt
+checked_options given p (Some c) same are = are ∙ ap (λ q. options_in_force (program_view q) given) (sym same)
 
 -- what is said of a program, by the messages of its check
-pub told_checked : (word text : List ℕ) (names : List (List ℕ)) (p : Program) (messages : List Said) (checked : Option Checked)
-    → ((m : Said) → Contains messages m ↔ IsSaid p m) → IsInOrder messages → (IsSome checked ↔ IsAccepted p) → IfSome checked (λ c. c.program ≡ p)
-    → text ≡ text_of word names messages → IsProgramTold word names p text (tree_of checked)
-told_checked word text names p messages checked exactly in_order accepted same is =
+pub told_checked : (given : Options) (word text late : List ℕ) (names : List (List ℕ)) (p : Program) (messages : List Said) (checked : Option Checked)
+    → ((m : Said) → Contains messages m ↔ IsSaid given (program_view p) p.embedded.items p.beyond m) → IsInOrder messages
+    → (IsSome checked ↔ IsAccepted (options_in_force (program_view p) given) p) → IfSome checked (λ c. c.program ≡ p)
+    → text ≡ text_of word names messages → late ≡ text_of word names (not_yet (program_view p) ∷ [])
+    → IsTreeTold given word names (program_view p) p.embedded.items p.beyond text late (tree_of checked)
+told_checked given word text late names p messages checked exactly in_order accepted same is after =
     let some = is_some_tree checked in
     record {
       messages = messages;
-      exactly = exactly;
-      in_order = in_order;
+      said = record { exactly = exactly; in_order = in_order };
       text_is = is;
       accepted = (λ h m k. accepted.0 (some.0 h) m ((exactly m).0 k), λ none. some.1 (accepted.1 (λ m said. none m ((exactly m).1 said))));
       same = if_some_tree checked p same;
+      late_is = after;
     }
 
+-- a tree that is given is the one that was found
+same_some : (tree : Option ProgramTree) (p : ProgramTree) (asked : Bool) → tree ≡ Some p → asked_tables asked (Some p) ≡ tables_text asked Well tree
+same_some tree p true e = ap (λ t. tables_text true Well t) (sym e)
+same_some tree p false e = refl
+
+-- no tables are asked for, or there are none
+no_tables : (asked : Bool) (tree : Option ProgramTree) → asked_tables asked None ≡ tables_text asked SourceErrors tree
+no_tables true None = refl
+no_tables true (Some p) = refl
+no_tables false tree = refl
+
 -- what `report` answers
-pub reported : (word source text : List ℕ) (checked : Option Checked) → IsJudged word source text (tree_of checked) → IsReport word source text (if is_some checked then Well else SourceErrors)
-reported word source text None w = record { names = w.names; messages = w.messages; tree = w.tree; finds = w.finds; text_is = w.text_is; status_is = λ none. false≢true (w.accepted.1 none) }
-reported word source text (Some c) w = record { names = w.names; messages = w.messages; tree = w.tree; finds = w.finds; text_is = w.text_is; status_is = w.accepted.0 refl }
+pub reported : (given : Options) (asked : Bool) (word source text late shown : List ℕ) (checked : Option Checked) → IsJudged given word source text late (tree_of checked)
+    → shown ≡ asked_tables asked (tree_of checked) → IsReport given asked word source text shown (if is_some checked then Well else SourceErrors)
+reported given asked word source text late shown None w e = record {
+  names = w.names;
+  messages = w.messages;
+  tree = w.tree;
+  finds = w.finds;
+  text_is = w.text_is;
+  status_is = λ none. false≢true (w.accepted.1 none);
+  shown_is = e ∙ no_tables asked w.tree;
+}
+reported given asked word source text late shown (Some c) w e = record {
+  names = w.names;
+  messages = w.messages;
+  tree = w.tree;
+  finds = w.finds;
+  text_is = w.text_is;
+  status_is = w.accepted.0 refl;
+  shown_is = e ∙ same_some w.tree (program_view c.program) asked w.same;
+}
 
 -- a machine that was loaded runs as its program does, from the first world on
-pub ran_by : (m : Machine) (p : Program) (budget : ℕ) (end : End) (bytes : List ℕ) (left told told' : Option (List ℕ)) (w : World) → IsMachineOf p budget m
+pub ran_by : (m : Machine) (whole : ProgramTree) (budget : ℕ) (made : IsMachineOf whole budget m) (end : End) (bytes : List ℕ) (left told told' : Option (List ℕ)) (w : World)
     → world_held m ≡ first_world (program_held m)
-    → RunsOver (rules_of m) end bytes left (standing [] 1 m told) w told' → RunsOver (rules_by (numbered p) budget) end bytes left (at_first (first_world (numbered p)) told) w told'
-ran_by m p budget end bytes left told told' w made first ran =
+    → RunsOver (rules_of m) end bytes left (standing [] 1 m told) w told'
+    → RunsOver (rules_by (numbered made.thin) budget) end bytes left (at_first (first_world (numbered made.thin)) told) w told'
+ran_by m whole budget made end bytes left told told' w first ran =
+    let p = made.thin in
     let begins : world_held m ≡ first_world (numbered p) = first ∙ ap first_world made.program in
     let there = subst (λ (v : World). RunsOver (rules_by (program_held m) m.budget) end bytes left (at_first v told) w told') begins ran in
     let named = subst (λ (q : Numbered). RunsOver (rules_by q m.budget) end bytes left (at_first (first_world (numbered p)) told) w told') made.program there in
     subst (λ (b : ℕ). RunsOver (rules_by (numbered p) b) end bytes left (at_first (first_world (numbered p)) told) w told') made.budget_is named
 
+-- one text of two is the first line and the others
+late_first : (word text late both : List ℕ) (names : List (List ℕ)) (whole : ProgramTree) (messages : List Said) → text ≡ text_of word names messages
+    → late ≡ text_of word names (not_yet whole ∷ []) → both ≡ late ++ text → both ≡ text_of word names (not_yet whole ∷ messages)
+late_first word text late both names whole messages et el eb =
+    eb ∙ (λ i. (el ∙ append-nil (line_of word names (not_yet whole))) i ++ et i)
+
 module _ {R S : Type 0} (source_rest : R → Option (List ℕ)) (source_failures : R → ℕ) (sink_told : S → Option (List ℕ)) (sink_failures : S → ℕ)
-    (word source text : List ℕ) (budget : ℕ) (trace trace' : R) (sink sink' : S) where
+    (given : Options) (word source text late : List ℕ) (budget : ℕ) (trace trace' : R) (sink sink' : S) where
   -- a session on a source with an error
-  pub session_refused : (checked : Option Checked) → checked ≡ None → IsJudged word source text (tree_of checked) → trace' ≡ trace → sink' ≡ sink
-      → IsSession source_rest source_failures sink_told sink_failures word source budget trace trace' sink sink' text None SourceErrors
+  pub session_refused : (checked : Option Checked) → checked ≡ None → IsJudged given word source text late (tree_of checked) → trace' ≡ trace → sink' ≡ sink
+      → IsSession source_rest source_failures sink_told sink_failures given word source budget trace trace' sink sink' text None SourceErrors
   session_refused checked none w unread unwritten = record {
     names = w.names;
     messages = w.messages;
     tree = w.tree;
+    told = w.messages;
     finds = w.finds;
     text_is = w.text_is;
-    goes_on = (λ h. false≢true (subst (λ o. IsSome (tree_of o)) none (w.accepted.1 h)), refl, unread, unwritten);
+    goes_on = (inl ((λ h. false≢true (subst (λ o. IsSome (tree_of o)) none (w.accepted.1 h))), refl), refl, unread, unwritten);
   }
 
-  -- a session that ran the program
-  pub session_ran : (checked : Option Checked) (c : Checked) (end : End) → checked ≡ Some c → IsJudged word source text (tree_of checked)
-      → IsRunOf source_rest source_failures sink_told sink_failures c.program budget trace trace' sink sink' end
-      → IsSession source_rest source_failures sink_told sink_failures word source budget trace trace' sink sink' text (Some end) (status_of end)
-  session_ran checked c end some w run =
-      let v = subst (λ o. IsJudged word source text (tree_of o)) some w in
+  -- a session on a program that does not run yet
+  pub session_waits : (checked : Option Checked) (c : Checked) (both : List ℕ) → checked ≡ Some c → IsJudged given word source text late (tree_of checked)
+      → c.options ≡ options_in_force (program_view c.program) given → does_run c.options (program_view c.program) ≡ false → both ≡ late ++ text
+      → trace' ≡ trace → sink' ≡ sink
+      → IsSession source_rest source_failures sink_told sink_failures given word source budget trace trace' sink sink' both None SourceErrors
+  session_waits checked c both some w are not joined unread unwritten =
+      let v = subst (λ o. IsJudged given word source text late (tree_of o)) some w in
+      let whole = program_view c.program in
       record {
         names = v.names;
         messages = v.messages;
         tree = v.tree;
+        told = not_yet whole ∷ v.messages;
+        finds = v.finds;
+        text_is = late_first word text late both v.names whole v.messages v.text_is v.late_is joined;
+        goes_on = (
+          inr record { accepted = v.accepted.0 refl; whole = whole; tree_is = v.same; waits = ap (λ o. does_run o whole) (sym are) ∙ not; told_is = refl },
+          refl,
+          unread,
+          unwritten,
+        );
+      }
+
+  -- a session that ran the program
+  pub session_ran : (checked : Option Checked) (c : Checked) (thin : Thin) (end : End) → checked ≡ Some c → IsJudged given word source text late (tree_of checked)
+      → c.options ≡ options_in_force (program_view c.program) given → does_run c.options (program_view c.program) ≡ true → StandsFor (program_view c.program) thin
+      → IsRunOf source_rest source_failures sink_told sink_failures thin budget trace trace' sink sink' end
+      → IsSession source_rest source_failures sink_told sink_failures given word source budget trace trace' sink sink' text (Some end) (status_of end)
+  session_ran checked c thin end some w are runs stands run =
+      let v = subst (λ o. IsJudged given word source text late (tree_of o)) some w in
+      let whole = program_view c.program in
+      record {
+        names = v.names;
+        messages = v.messages;
+        tree = v.tree;
+        told = v.messages;
         finds = v.finds;
         text_is = v.text_is;
-        goes_on = (v.accepted.0 refl, refl, record { program = c.program; tree_is = v.same; run = run });
+        goes_on = (
+          v.accepted.0 refl,
+          refl,
+          refl,
+          record { whole = whole; tree_is = v.same; runs = ap (λ o. does_run o whole) (sym are) ∙ runs; program = thin; stands = stands; run = run },
+        );
       }

@@ -1,5 +1,5 @@
 -- What the rules say of a source: its messages, and its tree, if its tokens spell one.
-use Rattle.std.specs.Prelude.{◌≡◌, ◌⊎◌, ◌↔◌, ℕ, true, false, ◌<◌, ◌≤◌, List, [], ◌∷◌, ◌++◌, length, map, Option, None, Some, IsSome, IfSome, slice_get, Contains, codes}
+use Rattle.std.specs.Prelude.{◌≡◌, ◌⊎◌, ◌↔◌, ℕ, true, false, ◌<◌, ◌≤◌, List, [], ◌∷◌, ◌++◌, length, map, drop, Option, None, Some, IsSome, IfSome, slice_get, Contains, codes}
 use Rattle.snl_text.specs.Cut.{start}
 use Rattle.snl_text.specs.Faults.{fault_text, fault_pos}
 use Rattle.snl_text.specs.Lexing.{FaultHolds, IsFault, IsLexed}
@@ -11,13 +11,13 @@ use Rattle.snl_text.specs.declared.faults.Flaw.TheVariants as flaw
 use Rattle.snl_text.specs.declared.tokens.Lexed.{Lexed}
 use Rattle.snl_text.specs.declared.tokens.Pos.{Pos}
 use Rattle.snl_text.specs.declared.tokens.Token.{Token}
-use Rattle.snl_tree.specs.declared.thin.trees.Program.{Program}
 use Rattle.snl_tree.specs.Begins.{Spells, IsUnexpected, IsTooDeep}
 use Rattle.snl_tree.specs.Programs.{ProgramTree, IsProgram, programs}
-use Rattle.snl_tree.specs.Thin.{is_thin, StandsFor}
-use Rattle.snl_check.specs.declared.messages.Severity.TheVariants.{Error}
-use Rattle.snl_check.specs.Messages.{Said, IsInOrder}
-use Rattle.snl_check.specs.Rules.{IsSaid}
+use Rattle.snl_tree.specs.view.Programs.{first_place}
+use Rattle.snl_sites.specs.declared.options.Options.{Options}
+use Rattle.snl_messages.specs.declared.messages.Severity.TheVariants.{Error}
+use Rattle.snl_messages.specs.Messages.{Said, IsInOrder}
+use Rattle.snl_messages.specs.Says.{IsSaid}
 use Rattle.snc.specs.Texts.{text_of}
 
 -- an error at a place
@@ -73,19 +73,19 @@ syntax_error lexed (Some t) = token_error 1 (codes "syntax error at '") t
 abbrev pub nesting_error : Token → Said
 nesting_error t = token_error 2 (codes "nesting deeper than 64 at '") t
 
--- E05, at the word `program`
+-- E05, at the word `program`: the program is right, and does not run yet
 abbrev pub not_yet : ProgramTree → Said
 not_yet whole = error_at whole.word.pos 5 (codes "not run yet")
 
 -- E01, alone: no program goes on with one of the tokens, or they end too early
-pub record IsStuck (lexed : Lexed) (messages : List Said) (tree : Option Program) : Type 0 where
+pub record IsStuck (lexed : Lexed) (messages : List Said) (tree : Option ProgramTree) : Type 0 where
   pub k : ℕ
   pub read : IsUnexpected programs 64 lexed.tokens.items k
   pub messages_are : messages ≡ syntax_error lexed (slice_get lexed.tokens.items k) ∷ []
   pub tree_is : tree ≡ None
 
 -- E02, alone: with one of the tokens go on only programs that are nested deeper than 64
-pub record IsNestedDeeper (lexed : Lexed) (messages : List Said) (tree : Option Program) : Type 0 where
+pub record IsNestedDeeper (lexed : Lexed) (messages : List Said) (tree : Option ProgramTree) : Type 0 where
   pub k : ℕ
   pub read : IsTooDeep programs 64 lexed.tokens.items k
   pub token : Token
@@ -93,36 +93,29 @@ pub record IsNestedDeeper (lexed : Lexed) (messages : List Said) (tree : Option 
   pub messages_are : messages ≡ nesting_error token ∷ []
   pub tree_is : tree ≡ None
 
--- all that is said of a program of the first language, which is the tree of the checks
-pub record IsThinSaid (whole : ProgramTree) (embedded : List Pos) (messages : List Said) (p : Program) : Type 0 where
-  pub thin : is_thin whole ≡ true
-  pub stands : StandsFor whole p
-  pub pieces : p.embedded.items ≡ embedded
-  pub exactly : (m : Said) → Contains messages m ↔ IsSaid p m
+-- All that is said of a program, and in order: the options given with it count before its own.
+pub record IsTreeSaid (given : Options) (whole : ProgramTree) (embedded : List Pos) (beyond : Option Pos) (messages : List Said) : Type 0 where
+  pub exactly : (m : Said) → Contains messages m ↔ IsSaid given whole embedded beyond m
   pub in_order : IsInOrder messages
 
--- what is said of a program of the whole language: E05, alone, where it is none of the first language
-abbrev pub IsTreeSaid : ProgramTree → List Pos → List Said → Option Program → Type 0
-IsTreeSaid whole embedded messages None = (is_thin whole ≡ false) × (messages ≡ not_yet whole ∷ [])
-IsTreeSaid whole embedded messages (Some p) = IsThinSaid whole embedded messages p
-
--- the tokens spell a program
-pub record IsProgramSaid (lexed : Lexed) (messages : List Said) (tree : Option Program) : Type 0 where
+-- the tokens spell a program, and all is said of it
+pub record IsProgramSaid (given : Options) (lexed : Lexed) (messages : List Said) (tree : Option ProgramTree) : Type 0 where
   pub whole : ProgramTree
   pub is : IsProgram 64 whole
   pub spelled : Spells programs whole lexed.tokens.items
-  pub said : IsTreeSaid whole lexed.embedded.items messages tree
+  pub tree_is : tree ≡ Some whole
+  pub said : IsTreeSaid given whole lexed.embedded.items (first_place (drop 65536 lexed.tokens.items)) messages
 
--- what is said of tokens, and the tree of the checks, if they spell a program of the first language
-abbrev pub IsSaidOf : Lexed → List Said → Option Program → Type 0
-IsSaidOf lexed messages tree = IsProgramSaid lexed messages tree ⊎ (IsStuck lexed messages tree ⊎ IsNestedDeeper lexed messages tree)
+-- what is said of tokens, and their tree, if they spell a program
+abbrev pub IsSaidOf : Options → Lexed → List Said → Option ProgramTree → Type 0
+IsSaidOf given lexed messages tree = IsProgramSaid given lexed messages tree ⊎ (IsStuck lexed messages tree ⊎ IsNestedDeeper lexed messages tree)
 
 -- the names that markers give to files
 abbrev pub names_of : Lexed → List (List ℕ)
 names_of lexed = map (λ name. name.now) lexed.files.items
 
 -- a source without tokens
-pub record OfFault (source : List ℕ) (names : List (List ℕ)) (messages : List Said) (tree : Option Program) : Type 0 where
+pub record OfFault (source : List ℕ) (names : List (List ℕ)) (messages : List Said) (tree : Option ProgramTree) : Type 0 where
   pub fault : LexFault
   pub has : HasFault source fault
   pub named : AreNamesBefore source fault names
@@ -130,23 +123,24 @@ pub record OfFault (source : List ℕ) (names : List (List ℕ)) (messages : Lis
   pub tree_is : tree ≡ None
 
 -- a source with tokens
-pub record OfTokens (source : List ℕ) (names : List (List ℕ)) (messages : List Said) (tree : Option Program) : Type 0 where
+pub record OfTokens (given : Options) (source : List ℕ) (names : List (List ℕ)) (messages : List Said) (tree : Option ProgramTree) : Type 0 where
   pub lexed : Lexed
   pub has : HasTokens source lexed
   pub names_are : names ≡ names_of lexed
-  pub said : IsSaidOf lexed messages tree
+  pub said : IsSaidOf given lexed messages tree
 
 -- The messages about a source, the names of its files, and its tree, if it has one.
-abbrev pub Finds : List ℕ → List (List ℕ) → List Said → Option Program → Type 0
-Finds source names messages tree = OfFault source names messages tree ⊎ OfTokens source names messages tree
+abbrev pub Finds : Options → List ℕ → List (List ℕ) → List Said → Option ProgramTree → Type 0
+Finds given source names messages tree = OfFault source names messages tree ⊎ OfTokens given source names messages tree
 
 -- What is answered of a source whose file is called by a word: the text of its messages, and its tree, if none is an
--- error.
-pub record IsJudged (word source text : List ℕ) (checked : Option Program) : Type 0 where
+-- error; then also the text of the message that it does not run yet.
+pub record IsJudged (given : Options) (word source text late : List ℕ) (checked : Option ProgramTree) : Type 0 where
   pub names : List (List ℕ)
   pub messages : List Said
-  pub tree : Option Program
-  pub finds : Finds source names messages tree
+  pub tree : Option ProgramTree
+  pub finds : Finds given source names messages tree
   pub text_is : text ≡ text_of word names messages
   pub accepted : IsSome checked ↔ NoErrors messages
   pub same : IfSome checked (λ p. tree ≡ Some p)
+  pub late_is : IfSome checked (λ p. late ≡ text_of word names (not_yet p ∷ []))

@@ -1,7 +1,13 @@
 -- What `report` and `session` answer.
-use Rattle.std.specs.Prelude.{◌≡◌, ℕ, List, [], Option, None, Some}
+use Rattle.std.specs.Prelude.{◌≡◌, ◌⊎◌, ℕ, Bool, true, false, List, [], ◌∷◌, Option, None, Some}
 use Rattle.snl_tree.specs.declared.thin.trees.Program.{Program}
-use Rattle.snl_check.specs.Messages.{Said}
+use Rattle.snl_tree.specs.Programs.{ProgramTree}
+use Rattle.snl_tree.specs.Thin.{StandsFor}
+use Rattle.snl_sites.specs.declared.options.Options.{Options}
+use Rattle.snl_messages.specs.Messages.{Said}
+use Rattle.snl_messages.specs.Silence.{options_in_force}
+use Rattle.snl_check.specs.Runs.{does_run}
+use Rattle.snl_links.specs.Tables.{tables}
 use Rattle.snl_machine.specs.Devices.{counted}
 use Rattle.snl_machine.specs.First.{first_world}
 use Rattle.snl_machine.specs.Numbering.{numbered}
@@ -11,7 +17,7 @@ use Rattle.snl_trace.specs.Run.{rules_by}
 use Rattle.snl_trace.specs.RunOver.{Place, RunsOver}
 use Rattle.snl_trace.specs.declared.runner.End.{End}
 use Rattle.snl_trace.specs.declared.runner.End.TheVariants as end
-use Rattle.snc.specs.Judging.{Finds, NoErrors}
+use Rattle.snc.specs.Judging.{Finds, NoErrors, not_yet}
 use Rattle.snc.specs.Texts.{text_of}
 use Rattle.snc.specs.declared.jobs.Status.{Status}
 use Rattle.snc.specs.declared.jobs.Status.TheVariants.{Well, SourceErrors, Usage, InputOutput, Memory, ProgramFault, TraceFault}
@@ -41,14 +47,21 @@ status_of (end.TraceFault line fault) = TraceFault
 status_of end.SourceFailed = InputOutput
 status_of end.SinkFailed = InputOutput
 
--- What `report` answers of a source whose file is called by a word: the text of all messages, and the status.
-pub record IsReport (word source text : List ℕ) (status : Status) : Type 0 where
+-- the tables of a program, where they were asked for and no message is an error; else nothing
+abbrev pub tables_text : Bool → Status → Option ProgramTree → List ℕ
+tables_text true Well (Some whole) = tables whole
+tables_text _ _ _ = []
+
+-- What `report` answers of a source whose file is called by a word, with the options of the call, and whether tables were
+-- asked for: the text of all messages, the text of the tables, and the status.
+pub record IsReport (given : Options) (asked : Bool) (word source text shown : List ℕ) (status : Status) : Type 0 where
   pub names : List (List ℕ)
   pub messages : List Said
-  pub tree : Option Program
-  pub finds : Finds source names messages tree
+  pub tree : Option ProgramTree
+  pub finds : Finds given source names messages tree
   pub text_is : text ≡ text_of word names messages
   pub status_is : IsStatusOf messages status
+  pub shown_is : shown ≡ tables_text asked status tree
 
 -- the run begins with the first line, in the first world of a program
 abbrev pub at_first : World → Option (List ℕ) → Place
@@ -66,27 +79,43 @@ pub record IsRunOf {R S : Type 0} (source_rest : R → Option (List ℕ)) (sourc
   pub source_counted : source_failures trace' ≡ counted (source_failed end) (source_failures trace)
   pub sink_counted : sink_failures sink' ≡ counted (sink_failed end) (sink_failures sink)
 
--- the accepted program was run
+-- the accepted program runs: the tree of the first language that stands for it was run
 pub record IsRun {R S : Type 0} (source_rest : R → Option (List ℕ)) (source_failures : R → ℕ) (sink_told : S → Option (List ℕ)) (sink_failures : S → ℕ)
-    (tree : Option Program) (budget : ℕ) (trace trace' : R) (sink sink' : S) (end : End) : Type 0 where
+    (given : Options) (tree : Option ProgramTree) (budget : ℕ) (trace trace' : R) (sink sink' : S) (end : End) : Type 0 where
+  pub whole : ProgramTree
+  pub tree_is : tree ≡ Some whole
+  pub runs : does_run (options_in_force whole given) whole ≡ true
   pub program : Program
-  pub tree_is : tree ≡ Some program
+  pub stands : StandsFor whole program
   pub run : IsRunOf source_rest source_failures sink_told sink_failures program budget trace trace' sink sink' end
 
--- how a session goes on behind the messages: with an error among them neither device is touched
-abbrev pub GoesOn : {R S : Type 0} → (R → Option (List ℕ)) → (R → ℕ) → (S → Option (List ℕ)) → (S → ℕ) → List Said → Option Program → ℕ → R → R → S → S → Option End → Status → Type 0
-GoesOn source_rest source_failures sink_told sink_failures messages tree budget trace trace' sink sink' None status =
-    (NoErrors messages → ⊥) × (status ≡ SourceErrors) × (trace' ≡ trace) × (sink' ≡ sink)
-GoesOn source_rest source_failures sink_told sink_failures messages tree budget trace trace' sink sink' (Some end) status =
-    NoErrors messages × (status ≡ status_of end) × IsRun source_rest source_failures sink_told sink_failures tree budget trace trace' sink sink' end
+-- the accepted program does not run yet: E05 goes out before the warnings
+pub record IsNotYet (given : Options) (messages : List Said) (tree : Option ProgramTree) (told : List Said) : Type 0 where
+  pub accepted : NoErrors messages
+  pub whole : ProgramTree
+  pub tree_is : tree ≡ Some whole
+  pub waits : does_run (options_in_force whole given) whole ≡ false
+  pub told_is : told ≡ not_yet whole ∷ messages
 
--- What `session` answers: the text of all messages, how the run ended, if there was one, and the status; and what became
--- of the two devices.
+-- nothing is run: with an error all messages go out and no other; and where the program does not run yet
+abbrev pub IsNotRun : Options → List Said → Option ProgramTree → List Said → Type 0
+IsNotRun given messages tree told = ((NoErrors messages → ⊥) × (told ≡ messages)) ⊎ IsNotYet given messages tree told
+
+-- how a session goes on: which messages go out, and where nothing is run neither device is touched
+abbrev pub GoesOn : {R S : Type 0} → (R → Option (List ℕ)) → (R → ℕ) → (S → Option (List ℕ)) → (S → ℕ) → Options → List Said → Option ProgramTree → List Said → ℕ → R → R → S → S → Option End → Status → Type 0
+GoesOn source_rest source_failures sink_told sink_failures given messages tree told budget trace trace' sink sink' None status =
+    IsNotRun given messages tree told × (status ≡ SourceErrors) × (trace' ≡ trace) × (sink' ≡ sink)
+GoesOn source_rest source_failures sink_told sink_failures given messages tree told budget trace trace' sink sink' (Some end) status =
+    NoErrors messages × (told ≡ messages) × (status ≡ status_of end) × IsRun source_rest source_failures sink_told sink_failures given tree budget trace trace' sink sink' end
+
+-- What `session` answers: the text of the messages that go out, how the run ended, if there was one, and the status; and
+-- what became of the two devices.
 pub record IsSession {R S : Type 0} (source_rest : R → Option (List ℕ)) (source_failures : R → ℕ) (sink_told : S → Option (List ℕ)) (sink_failures : S → ℕ)
-    (word source : List ℕ) (budget : ℕ) (trace trace' : R) (sink sink' : S) (text : List ℕ) (end : Option End) (status : Status) : Type 0 where
+    (given : Options) (word source : List ℕ) (budget : ℕ) (trace trace' : R) (sink sink' : S) (text : List ℕ) (end : Option End) (status : Status) : Type 0 where
   pub names : List (List ℕ)
   pub messages : List Said
-  pub tree : Option Program
-  pub finds : Finds source names messages tree
-  pub text_is : text ≡ text_of word names messages
-  pub goes_on : GoesOn source_rest source_failures sink_told sink_failures messages tree budget trace trace' sink sink' end status
+  pub tree : Option ProgramTree
+  pub told : List Said
+  pub finds : Finds given source names messages tree
+  pub text_is : text ≡ text_of word names told
+  pub goes_on : GoesOn source_rest source_failures sink_told sink_failures given messages tree told budget trace trace' sink sink' end status

@@ -1,9 +1,9 @@
 -- The text of messages: a line for each.
 use Rattle.std.specs.Prelude.{◌==◌, ◌-◌, ℕ, List, [], ◌∷◌, slice_index_or, nat_lt, if◌then◌else◌, codes, decimal}
 use Rattle.std.specs.List.{concat, flat_map}
-use Rattle.snl_check.specs.declared.messages.Severity.{Severity}
-use Rattle.snl_check.specs.declared.messages.Severity.TheVariants.{Error, Warning}
-use Rattle.snl_check.specs.Messages.{Said}
+use Rattle.snl_messages.specs.declared.messages.Severity.{Severity}
+use Rattle.snl_messages.specs.declared.messages.Severity.TheVariants.{Error, Warning}
+use Rattle.snl_messages.specs.Messages.{Said}
 
 -- What a file is called: the one that was read by the word of the call, and one that markers named, from 1 on, by its name.
 abbrev pub file_name : List ℕ → List (List ℕ) → ℕ → List ℕ

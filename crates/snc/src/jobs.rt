@@ -1,16 +1,4 @@
-//! What a call asks for, and what it answers.
-
-/// How many steps an instant may take, where nothing else is said.
-pub const DEFAULT_BUDGET: u32 = 100_000;
-
-/// What is to be done with a program.
-#[derive(Debug, Drop)]
-pub struct Job {
-    /// What messages call the file of the program.
-    pub file: String,
-    /// How many steps an instant may take, from 1 to 1,000,000,000.
-    pub budget: u32,
-}
+//! What a call answers.
 
 /// What a program of ours answers to the shell.
 #[derive(Clone, Copy, Debug, PartialEq, Eq)]
@@ -55,6 +43,8 @@ impl Status {
 pub struct Report {
     /// A line for each message, in the order of the source.
     pub messages: Vec<u8>,
+    /// The tables as text, where they were asked for and no message is an error; else empty.
+    pub tables: Vec<u8>,
     /// `Well`, or `SourceErrors` where a message is an error.
     pub status: Status,
 }

@@ -1,6 +1,7 @@
 //! From the bytes of a program to its messages, and from those of a trace to the lines of its run.
 //!
-//! `report` checks a program; `session` checks it and, if it has no error, runs it over a trace.
+//! `read_words` reads the words of a call. `report` checks a program; `session` checks it and, if it has no error and
+//! runs, runs it over a trace.
 #![tactic(auto)]
 
 mod jobs;
@@ -11,6 +12,8 @@ mod sessions;
 #[cfg(test)]
 mod tests;
 
-pub use jobs::{DEFAULT_BUDGET, Job, Report, Status};
+pub use jobs::{Report, Status};
 pub use reports::report;
 pub use sessions::session;
+pub use snc_words::{DEFAULT_BUDGET, Job, Tool, WordsFault, read_words};
+pub use snl_check::Options;

@@ -2,7 +2,7 @@
 
 ghost use Rattle.std.specs.Prelude.{◌≡◌, [], ◌∷◌, ◌++◌, map, OnOk, codes, decimal};
 ghost use Rattle.std.specs.List.{concat};
-ghost use Rattle.snl_check.specs.Messages.{said};
+ghost use Rattle.snl_messages.specs.Messages.{said};
 ghost use Rattle.snc.specs.Texts.{file_name, head_of, line_of, text_of};
 
 use itoa::Buffer;

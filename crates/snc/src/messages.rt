@@ -2,15 +2,15 @@
 
 ghost use Rattle.std.specs.Prelude.{◌≡◌, ◌<◌, [], ◌∷◌, ◌++◌, map, take, length, codes, IfOk, Some, slice_get};
 ghost use Rattle.std.specs.Option.{option_map};
+ghost use Rattle.snl_tree.specs.view.Programs.{program_view};
+ghost use Rattle.snl_messages.specs.Silence.{options_in_force};
 ghost use Rattle.snc.specs.Judging.{IsJudged, error_at, nesting_error, syntax_error, token_error};
 ghost use Rattle.snc.specs.Texts.{text_of};
-ghost use Rattle.snc.specs.ReportSteps.{AreNamesOf, AreTokensTold, IsFaultTold, IsProgramTold, IsTreeTold};
-ghost use Rattle.snl_tree.specs.view.Programs.{program_view};
+ghost use Rattle.snc.specs.ReportSteps.{AreNamesOf, AreTokensTold, IsFaultTold, IsTreeTold};
 
 use crate::lines::{Names, push_line, push_lines};
-use snl_check::{Checked, Outcome, Severity, check};
+use snl_check::{Checked, Options, Outcome, Severity, check};
 use snl_text::{LexFault, Lexed, Pos, Token, lex};
-use snl_tree::thin::{self, narrow};
 use snl_tree::{ParseFault, Program, parse};
 use std::alloc::{AllocError, Global};
 
@@ -18,17 +18,26 @@ use std::alloc::{AllocError, Global};
 #[derive(Drop)]
 pub struct Findings<'a> {
     pub messages: Vec<u8>,
+    /// The message that the program does not run yet; empty where a message is an error.
+    pub late: Vec<u8>,
     pub checked: Option<Checked<'a>>,
 }
 
 /// Reads and checks a source. A lexical fault has its one message alone, and so has a syntax fault.
-pub fn judged<'a>(alloc: Global, source: &'a [u8], file: &[u8]) -> Result<Findings<'a>, AllocError>
-    ensures { IfOk result (λ f. IsJudged file.now source.now f.messages.items
-        (option_map (λ c. c.program) f.checked)) }
+pub fn judged<'a>(
+    alloc: Global,
+    source: &'a [u8],
+    file: &[u8],
+    given: Options,
+) -> Result<Findings<'a>, AllocError>
+    ensures judged { IfOk result (λ f. IsJudged given file.now source.now f.messages.items
+        f.late.items (option_map (λ c. program_view c.program) f.checked)) }
+    ensures options { IfOk result (λ f. IfSome f.checked (λ c. c.options
+        ≡ options_in_force (program_view c.program) given)) }
 {
     match lex(alloc, source) {
         Ok(lexed) => {
-            let found = tokens_judged(alloc, &lexed, file)?;
+            let found = tokens_judged(alloc, &lexed, file, given)?;
             Ok(found)
         }
         Err(fault) => {
@@ -87,9 +96,12 @@ fn tokens_judged<'a>(
     alloc: Global,
     lexed: &Lexed<'a>,
     file: &[u8],
+    given: Options,
 ) -> Result<Findings<'a>, AllocError>
-    ensures { IfOk result (λ f. AreTokensTold file.now lexed.now f.messages.items
-        (option_map (λ c. c.program) f.checked)) }
+    ensures told { IfOk result (λ f. AreTokensTold given file.now lexed.now f.messages.items
+        f.late.items (option_map (λ c. program_view c.program) f.checked)) }
+    ensures options { IfOk result (λ f. IfSome f.checked (λ c. c.options
+        ≡ options_in_force (program_view c.program) given)) }
 {
     let names = Names {
         read: file,
@@ -97,7 +109,7 @@ fn tokens_judged<'a>(
     };
     match parse(alloc, lexed) {
         Ok(program) => {
-            let found = tree_judged(alloc, program, names)?;
+            let found = tree_judged(alloc, program, names, given)?;
             Ok(found)
         }
         Err(ParseFault::Memory) => Err(AllocError),
@@ -113,48 +125,32 @@ fn tokens_judged<'a>(
     }
 }
 
-/// All messages of a program of the whole language: where it is none of the first language, the one that it
-/// isn't run yet.
+/// All messages of a program.
 fn tree_judged<'a>(
     alloc: Global,
     program: Program<'a>,
     names: Names,
+    given: Options,
 ) -> Result<Findings<'a>, AllocError>
-    ensures { IfOk result (λ f. IsTreeTold names.entry.read.now
-        (map (λ name. name.now) names.entry.marked.now)
-        (program_view program.entry) program.entry.embedded.items
-        f.messages.items (option_map (λ c. c.program) f.checked)) }
+    ensures told { IfOk result (λ f. IsTreeTold given names.entry.read.now
+        (map (λ name. name.now) names.entry.marked.now) (program_view program.entry)
+        program.entry.embedded.items program.entry.beyond f.messages.items f.late.items
+        (option_map (λ c. program_view c.program) f.checked)) }
+    ensures options { IfOk result (λ f. IfSome f.checked (λ c. c.options
+        ≡ options_in_force (program_view c.program) given)) }
 {
-    let word = program.word;
-    match narrow(alloc, program)? {
-        Some(thin) => {
-            let found = program_judged(alloc, thin, names)?;
-            Ok(found)
-        }
-        None => {
-            let found = refused(alloc, names, word.pos, 5, b"not run yet")?;
-            Ok(found)
-        }
-    }
-}
-
-/// All messages of a program.
-fn program_judged<'a>(
-    alloc: Global,
-    program: thin::Program<'a>,
-    names: Names,
-) -> Result<Findings<'a>, AllocError>
-    ensures { IfOk result (λ f. IsProgramTold names.entry.read.now
-        (map (λ name. name.now) names.entry.marked.now) program.entry
-        f.messages.items (option_map (λ c. c.program) f.checked)) }
-{
+    let late = refused_text(alloc, names, program.word.pos, 5, b"not run yet")?;
     let Outcome {
         messages: said,
         checked,
-    } = check(alloc, program)?;
+    } = check(alloc, program, given)?;
     let mut messages = Vec::new(alloc);
     push_lines(&mut messages, names, said.as_slice())?;
-    Ok(Findings { messages, checked })
+    Ok(Findings {
+        messages,
+        late,
+        checked,
+    })
 }
 
 /// The one message of tokens that are no program, at the first that can't stand where it does.
@@ -235,6 +231,23 @@ fn words_at(alloc: Global, words: &[u8], token: &[u8]) -> Result<Vec<u8>, AllocE
     Ok(text)
 }
 
+/// The text of an error.
+fn refused_text(
+    alloc: Global,
+    names: Names,
+    pos: Pos,
+    number: u8,
+    text: &[u8],
+) -> Result<Vec<u8>, AllocError>
+    ensures { IfOk result (λ line. line.items
+        ≡ text_of names.entry.read.now (map (λ name. name.now) names.entry.marked.now)
+        (error_at pos number text.now ∷ [])) }
+{
+    let mut line = Vec::new(alloc);
+    push_line(&mut line, names, pos, Severity::Error, number, text)?;
+    Ok(line)
+}
+
 /// An error that is the one message of its source.
 fn refused<'a>(
     alloc: Global,
@@ -248,10 +261,10 @@ fn refused<'a>(
         (error_at pos number text.now ∷ [])) }
     ensures none { IfOk result (λ f. f.checked ≡ None) }
 {
-    let mut messages = Vec::new(alloc);
-    push_line(&mut messages, names, pos, Severity::Error, number, text)?;
+    let messages = refused_text(alloc, names, pos, number, text)?;
     Ok(Findings {
         messages,
+        late: Vec::new(alloc),
         checked: None,
     })
 }

@@ -1,10 +1,11 @@
 //! `session`: a source, and the run of its program over a trace.
 
-ghost use Rattle.std.specs.Prelude.{◌≡◌, ◌-◌, ◌^◌, ◌<◌, IfOk, OnErr, string_bytes};
+ghost use Rattle.std.specs.Prelude.{◌≡◌, ◌-◌, ◌^◌, ◌<◌, ◌++◌, IfOk, OnErr, string_bytes};
 ghost use Rattle.snc.specs.Outcomes.{IsSession, status_of};
 
-use crate::jobs::{Job, Status};
+use crate::jobs::Status;
 use crate::messages::{Findings, judged};
+use snc_words::Job;
 use snl_machine::{Machine, Sink};
 use snl_trace::{End, Source, run};
 use std::alloc::{AllocError, Global};
@@ -12,7 +13,8 @@ use std::alloc::{AllocError, Global};
 /// Reads and checks a program and, if it has no error, runs it over a trace: the messages, how the run
 /// ended, and the status.
 ///
-/// With an error in the program neither the trace nor the sink is touched, and there is no end. The
+/// With an error in the program neither the trace nor the sink is touched, and there is no end. So it is
+/// with a program that is right and does not run yet: its first message is `E05 not run yet`. The
 /// same holds where memory ran out, which is the only failure: a run takes no memory.
 pub fn session<R: Source, S: Sink>(
     alloc: Global,
@@ -24,18 +26,34 @@ pub fn session<R: Source, S: Sink>(
     requires trace { R.failures trace.old < 2 ^ 64 - 1 }
     requires sink { S.failures sink.old < 2 ^ 64 - 1 }
     ensures answer { IfOk result (λ r. IsSession R.rest R.failures S.told S.failures
-        (string_bytes job.now.file) source.now job.now.budget
+        job.now.options (string_bytes job.now.file) source.now job.now.budget
         trace.old trace.new sink.old sink.new r.0.items r.1 r.2) }
     ensures unread { OnErr result (trace.new ≡ trace.old) }
     ensures unwritten { OnErr result (sink.new ≡ sink.old) }
 {
-    let Findings { messages, checked } = judged(alloc, source, job.file.as_bytes())?;
+    let Findings {
+        messages,
+        late,
+        checked,
+    } = judged(alloc, source, job.file.as_bytes(), job.options)?;
     let Some(checked) = checked else {
         return Ok((messages, None, Status::SourceErrors));
     };
+    if !checked.runs() {
+        let messages = joined(late, messages.as_slice())?;
+        return Ok((messages, None, Status::SourceErrors));
+    }
     let mut machine = Machine::load(alloc, checked, job.budget)?;
     let end = run(&mut machine, trace, sink);
     Ok((messages, Some(end), status(end)))
+}
+
+/// A text with another behind it.
+fn joined(mut text: Vec<u8>, more: &[u8]) -> Result<Vec<u8>, AllocError>
+    ensures { IfOk result (λ all. all.items ≡ text.entry.items ++ more.now) }
+{
+    text.extend_from_slice(more)?;
+    Ok(text)
 }
 
 /// The status of a run that ended so.

@@ -2,7 +2,7 @@
 //!
 //! What a program's text shows stands in the folder `cases/` at the root, and runs on the built program.
 
-use crate::Job;
+use crate::{Job, Options};
 use std::alloc::{AllocError, Global};
 
 mod calls;
@@ -33,6 +33,9 @@ pub const WARNING: &[u8] = b"p.st:12: warning: W7 state 'hi' has no clauses\n";
 pub fn job(alloc: Global, budget: u32) -> Result<Job, AllocError> {
     Ok(Job {
         file: String::from_str(alloc, "p.st")?,
+        options: Options::none(),
+        tables: false,
         budget,
+        macros: None,
     })
 }

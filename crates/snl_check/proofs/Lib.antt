@@ -1,9 +1,2 @@
 pub mod AcceptedLaws
-pub mod BindingLaws
-pub mod EntryLaws
-pub mod OrderLaws
-pub mod SaidLaws
-pub mod SiteLaws
-pub mod TableLaws
-pub mod UseLaws
-pub mod WalkLaws
+pub mod ThinLaws

@@ -1,9 +1,4 @@
-pub mod Entries
-pub mod Facts
-pub mod Messages
-pub mod Rules
-pub mod Scopes
-pub mod Sites
+pub mod Accepted
+pub mod Findings
+pub mod Runs
 pub mod Tables
-pub mod Told
-pub mod Uses

@@ -1,50 +1,77 @@
 //! The check of a program, and a program that passed it.
 
-ghost use Rattle.std.specs.Prelude.{◌≡◌, ◌↔◌, ◌++◌, map, Contains, IfOk, IfSome, IsSome, Some};
+ghost use Rattle.std.specs.Prelude.{◌≡◌, ◌↔◌, ◌++◌, map, Contains, IfOk, IfSome, IsSome};
 ghost use Rattle.std.proofs.Props.{props};
-ghost use Rattle.snl_text.specs.declared.tokens.Pos.{Pos};
-ghost use Rattle.snl_check.specs.Messages.{Said, IsInOrder, said};
-ghost use Rattle.snl_check.specs.Rules.{IsAccepted, IsSaid};
+ghost use Rattle.snl_tree.specs.view.Programs.{program_view};
+ghost use Rattle.snl_sites.specs.Uses.{declared_of};
+ghost use Rattle.snl_messages.specs.Messages.{Said, IsInOrder, said};
+ghost use Rattle.snl_messages.specs.Says.{IsSaid};
+ghost use Rattle.snl_messages.specs.Silence as silence;
+ghost use Rattle.snl_check.specs.Accepted.{IsAccepted};
+ghost use Rattle.snl_check.specs.Runs as runs;
 ghost use Rattle.snl_check.specs.Tables.{IsTableOf};
-ghost use Rattle.snl_check.specs.Told.{accepted};
-ghost use Rattle.snl_check.specs.Uses.{IsDeclared, IsUsed};
 
-use crate::entries::{in_order, push_embedded};
-use crate::gather::sites_of;
-use crate::messages::{Message, Severity};
-use crate::telling::entries_of;
-use crate::uses::uses_of;
-use indexmap::IndexMap;
+use crate::findings::{Examined, Findings, examine_owned};
+use crate::runs::does_run;
+use crate::uses::{Places, declared_at};
+use snl_messages::Message;
+use snl_sites::Options;
 use snl_text::Pos;
-use snl_tree::thin::Program;
+use snl_tree::Program;
 use std::alloc::{AllocError, Global};
 
 /// A program of which no error is said.
 #[derive(Drop)]
 pub struct Checked<'a> {
     program: Program<'a>,
-    /// The places of the declarations that uses mean, by the offsets of the uses.
-    uses: IndexMap<usize, Pos>,
-    pub ghost accepted: { IsAccepted program },
-    ghost bound: { IsTableOf uses program } by { Prim.hlevel props },
+    /// Those in force.
+    options: Options,
+    /// What the names of the program mean.
+    places: Places,
+    pub ghost accepted: { IsAccepted options program },
+    ghost bound: { IsTableOf places program } by { Prim.hlevel props },
 }
 
 impl<'a> Checked<'a> {
+    /// The program, of which no error is said under the options in force.
     pub fn program(&self) -> &Program<'a>
         ensures tree { result.now ≡ self.now.program }
-        ensures accepted { IsAccepted result.now }
+        ensures accepted { IsAccepted self.now.options result.now }
     {
         &self.program
     }
 
-    /// Where the variable is declared that a use at a byte offset of the source means.
-    ///
-    /// None where no use of a variable begins at the offset.
-    pub fn declared(&self, offset: usize) -> Option<Pos>
-        ensures means { (place : Pos) → (result ≡ Some place) ↔ IsDeclared self.now.program offset place }
-        ensures used { IsSome result ↔ IsUsed self.now.program offset }
+    /// The options in force: of each letter the last sign, and those of the program come after those
+    /// given with it (Compiling SNL Programs, "Options").
+    pub fn options(&self) -> Options
+        ensures { result ≡ self.now.options }
     {
-        self.uses.get(&offset).copied()
+        self.options
+    }
+
+    /// Where the variable or the event flag is declared that the name at a byte offset of the source
+    /// means (SNL Reference, "Variable Scope").
+    ///
+    /// None where no name is used at the offset, and where it is a predefined one.
+    pub fn declared(&self, offset: usize) -> Option<Pos>
+        ensures { result ≡ declared_of (program_view self.now.program) offset }
+    {
+        declared_at(&self.places, offset)
+    }
+
+    /// Whether the program runs: it keeps to the first language, and waits for its channels before it
+    /// starts.
+    pub fn runs(&self) -> bool
+        ensures { result ≡ runs.does_run self.now.options (program_view self.now.program) }
+    {
+        does_run(self.options, &self.program)
+    }
+
+    /// The program alone.
+    pub fn into_program(self) -> Program<'a>
+        ensures { result ≡ self.entry.program }
+    {
+        self.program
     }
 }
 
@@ -53,57 +80,43 @@ impl<'a> Checked<'a> {
 pub struct Outcome<'a> {
     /// By place in the source, at one place errors before warnings, then by number.
     pub messages: Vec<Message>,
-    /// There exactly when no message is an error.
+    /// There exactly when no error is said.
     pub checked: Option<Checked<'a>>,
 }
 
-/// What holds of a program.
-#[derive(Drop)]
-struct Findings {
-    messages: Vec<Message>,
-    /// The places of the declarations that uses mean, by the offsets of the uses.
-    uses: IndexMap<usize, Pos>,
-}
-
-/// Finds the messages of a program, and what its names mean.
-fn examine(alloc: Global, program: &Program) -> Result<Findings, AllocError>
-    ensures exactly { IfOk result (λ f. (m : Said) → Contains (map said f.messages.items) m ↔ IsSaid program.now m) }
-    ensures in_order { IfOk result (λ f. IsInOrder (map said f.messages.items)) }
-    ensures uses { IfOk result (λ f. IsTableOf f.uses program.now) }
-{
-    let sites = sites_of(alloc, program)?;
-    let mut entries = entries_of(alloc, sites.as_slice())?;
-    push_embedded(alloc, program.embedded.as_slice(), &mut entries)?;
-    let messages = in_order(alloc, entries)?;
-    let uses = uses_of(alloc, sites.as_slice())?;
-    Ok(Findings { messages, uses })
-}
-
-/// Whether none of the messages is an error.
-fn is_accepted(messages: &[Message]) -> bool
-    ensures { result ≡ accepted (map said messages.now) }
-{
-    for message in messages {
-        if let Severity::Error = message.severity {
-            return false;
-        }
-    }
-    true
-}
-
-/// Gives all messages that hold of a program (SNL Reference, on declarations, assignments and states).
+/// Gives all messages of a program where these options are given with it, and the program itself
+/// where none of them is an error (SNL Reference; Compiling SNL Programs, "Options").
 ///
 /// Fails only where the messages, or the tables that find them, found no room in memory; the program
 /// is dropped then.
-pub fn check<'a>(alloc: Global, program: Program<'a>) -> Result<Outcome<'a>, AllocError>
-    ensures exactly { IfOk result (λ o. (m : Said) → Contains (map said o.messages.items) m ↔ IsSaid program.entry m) }
+pub fn check<'a>(
+    alloc: Global,
+    program: Program<'a>,
+    given: Options,
+) -> Result<Outcome<'a>, AllocError>
+    ensures exactly { IfOk result (λ o. (m : Said) → Contains (map said o.messages.items) m
+        ↔ IsSaid given (program_view program.entry) program.entry.embedded.items
+        program.entry.beyond m) }
     ensures in_order { IfOk result (λ o. IsInOrder (map said o.messages.items)) }
-    ensures accepted { IfOk result (λ o. IsSome o.checked ↔ IsAccepted program.entry) }
+    ensures accepted { IfOk result (λ o. IsSome o.checked ↔ IsAccepted
+        (silence.options_in_force (program_view program.entry) given) program.entry) }
     ensures same { IfOk result (λ o. IfSome o.checked (λ c. c.program ≡ program.entry)) }
+    ensures options { IfOk result (λ o. IfSome o.checked (λ c. c.options
+        ≡ silence.options_in_force (program_view program.entry) given)) }
 {
-    let Findings { messages, uses } = examine(alloc, &program)?;
-    let checked = if is_accepted(messages.as_slice()) {
-        Some(Checked { program, uses })
+    let Examined { program, findings } = examine_owned(alloc, program, given)?;
+    let is_accepted = findings.are_accepted();
+    let Findings {
+        messages,
+        options,
+        places,
+    } = findings;
+    let checked = if is_accepted {
+        Some(Checked {
+            program,
+            options,
+            places,
+        })
     } else {
         None
     };

@@ -1,18 +1,14 @@
-//! The checks on a program that the grammar does not make, and their messages.
+//! The check of a program: all its messages, and the program itself where none of them is an error.
 //!
-//! `check` gives every message that holds of a program, in the order of the source, and the program
-//! itself where none of them is an error. The rules are told in `docs/MESSAGES.md`.
+//! The rules are told in `docs/MESSAGES.md`, and stand in the crates below.
 #![tactic(auto)]
 
 mod checked;
-mod entries;
-mod gather;
-mod messages;
-mod scopes;
-mod sites;
-mod telling;
+mod findings;
+mod runs;
+mod thin;
 mod uses;
-mod walk;
 
 pub use checked::{Checked, Outcome, check};
-pub use messages::{Message, Severity};
+pub use snl_messages::{Message, Severity};
+pub use snl_sites::Options;

@@ -1,39 +1,71 @@
-//! Which declaration each use of a variable means.
+//! Which declaration the name at each place of a program means.
 
-ghost use Rattle.std.specs.Prelude.{◌≡◌, ℕ, nat_eq, OnOk, IfOk};
-ghost use Rattle.indexmap.specs.IndexMap.{get};
-ghost use Rattle.snl_check.specs.Scopes.{or_in};
-ghost use Rattle.snl_check.specs.Tables.{IsUseTable, declared_at};
+ghost use Rattle.std.specs.Prelude.{◌≡◌, ℕ, Option, None, OnOk, IfOk};
+ghost use Rattle.snl_text.specs.declared.tokens.Pos.{Pos};
+ghost use Rattle.snl_sites.specs.Uses as spec;
+ghost use Rattle.snl_check.specs.Tables.{IsUseTable, place_in};
 
-use crate::sites::Site;
 use indexmap::IndexMap;
-use snl_text::Pos;
+use snl_sites::{Meaning, Site};
+use snl_text::{Pos, Token};
 use std::alloc::{AllocError, Global};
 
-/// Notes where the variable is declared that a site uses; of two uses at one offset the first.
-fn note_declared(site: &Site, uses: &mut IndexMap<usize, Pos>) -> Result<(), AllocError>
-    ensures { OnOk result ((q : ℕ) → get nat_eq uses.new q ≡ or_in (get nat_eq uses.old q) (declared_at q site.now)) }
+/// The places of the declarations that names mean, by the offsets of the names; None for a
+/// predefined name and for one that is not declared.
+pub type Places = IndexMap<usize, Option<Pos>>;
+
+/// The place of the declaration that a name means.
+fn place_of(meaning: Meaning) -> Option<Pos>
+    ensures { result ≡ spec.place_of meaning }
 {
-    if let Site::Use {
-        name,
-        declared: Some(variable),
-        ..
-    } = site
-    {
-        if !uses.contains_key(&name.pos.offset) {
-            uses.insert(name.pos.offset, variable.pos)?;
+    match meaning {
+        Meaning::Variable(declared, _) | Meaning::Flag(declared) => Some(declared),
+        Meaning::Number | Meaning::Nothing => None,
+    }
+}
+
+/// The name that a site uses, with what it means there.
+fn use_at<'a>(site: &Site<'a>) -> Option<(Token<'a>, Meaning)>
+    ensures { result ≡ spec.use_at site.now }
+{
+    match site {
+        Site::Use { name, meaning, .. } | Site::Defined { name, meaning, .. } => {
+            Some((*name, *meaning))
+        }
+        _ => None,
+    }
+}
+
+/// Notes what the name means that a site uses; of two names at one offset the first.
+fn note_use(site: &Site, places: &mut Places) -> Result<(), AllocError>
+    ensures { OnOk result ((q : ℕ) (later : Option Pos) → place_in places.new q later
+        ≡ place_in places.old q (spec.declared_by q (spec.use_at site.now) later)) }
+{
+    if let Some((name, meaning)) = use_at(site) {
+        if !places.contains_key(&name.pos.offset) {
+            places.insert(name.pos.offset, place_of(meaning))?;
         }
     }
     Ok(())
 }
 
-/// The places of the declarations that the uses among some sites mean, by the offsets of the uses.
-pub fn uses_of(alloc: Global, sites: &[Site]) -> Result<IndexMap<usize, Pos>, AllocError>
-    ensures { IfOk result (λ uses. IsUseTable uses sites.now) }
+/// What the names mean that these sites use. The only error is that memory ends.
+pub fn places_of(alloc: Global, sites: &[Site]) -> Result<Places, AllocError>
+    ensures { IfOk result (λ places. IsUseTable places sites.now) }
 {
-    let mut uses = IndexMap::new(alloc);
+    let mut places = IndexMap::new(alloc);
     for site in sites {
-        note_declared(site, &mut uses)?;
+        note_use(site, &mut places)?;
     }
-    Ok(uses)
+    Ok(places)
+}
+
+/// What the name at an offset means.
+pub fn declared_at(places: &Places, offset: usize) -> Option<Pos>
+    ensures { result ≡ place_in places.now offset None }
+{
+    match places.get(&offset) {
+        Some(place) => *place,
+        None => None,
+    }
 }

@@ -6,7 +6,7 @@ use Rattle.std.proofs.lemmas.Bool.Decides.{Decides-ltb}
 use Rattle.std.proofs.lemmas.Cmp.{nat_list_eq_equiv}
 use Rattle.std.proofs.lemmas.Slice.Eq.{bytes_eq-Decides}
 use Rattle.snl_text.specs.declared.tokens.Token.{Token}
-use Rattle.snl_check.specs.Scopes.{first_of}
+use Rattle.snl_machine.specs.Scopes.{first_of}
 use Rattle.snl_machine.specs.Laws.{NumbersLeadToDeclarations}
 use Rattle.snl_machine.specs.Names.{number_of, is_in, without, once}
 use Rattle.snl_machine.specs.Numbering.{spelled}

@@ -1,7 +1,7 @@
 -- Laws of the definitions of a run: that they mean what the rules say, and that none of them leans on a bound of its own.
 use Rattle.std.specs.Prelude.{◌≡◌, ◌≤◌, ℕ, List, [], true, false, Option, Some, Result, Ok, map, slice_get}
 use Rattle.snl_text.specs.declared.tokens.Token.{Token}
-use Rattle.snl_check.specs.Scopes.{first_of}
+use Rattle.snl_machine.specs.Scopes.{first_of}
 use Rattle.snl_machine.specs.declared.events.Event.{Event}
 use Rattle.snl_machine.specs.declared.events.Live.{Live}
 use Rattle.snl_machine.specs.declared.events.Live.TheVariants.{Ended}

@@ -1,3 +1,4 @@
+pub mod Scopes
 pub mod Devices
 pub mod Does
 pub mod Effect

@@ -1,5 +1,7 @@
 -- What a machine holds: its program, and the world that its run has come to.
 use Rattle.std.specs.Prelude.{◌≡◌, ℕ}
+use Rattle.snl_tree.specs.Programs.{ProgramTree}
+use Rattle.snl_tree.specs.Thin.{StandsFor}
 use Rattle.snl_tree.specs.declared.thin.trees.Program.{Program as TreeProgram}
 use Rattle.snl_machine.specs.declared.machine.Machine.{Machine}
 use Rattle.snl_machine.specs.Numbering.{numbered}
@@ -13,7 +15,10 @@ program_held m = program_of m.program
 abbrev pub world_held : Machine → World
 world_held m = world_of m.store
 
--- a machine is one of a checked program and a budget: it holds the program with its names numbered, and that budget
-pub record IsMachineOf (p : TreeProgram) (budget : ℕ) (m : Machine) : Type 0 where
-  pub program : program_held m ≡ numbered p
+-- A machine is one of a checked program and a budget: it holds the smaller tree that stands for the program, with its
+-- names numbered, and that budget.
+pub record IsMachineOf (whole : ProgramTree) (budget : ℕ) (m : Machine) : Type 0 where
+  pub thin : TreeProgram
+  pub stands : StandsFor whole thin
+  pub program : program_held m ≡ numbered thin
   pub budget_is : m.budget ≡ budget

@@ -15,7 +15,7 @@ use Rattle.snl_tree.specs.declared.thin.trees.Program.{Program as TreeProgram}
 use Rattle.snl_tree.specs.declared.thin.trees.State.{State as TreeState}
 use Rattle.snl_tree.specs.declared.thin.trees.Stmt.{Stmt}
 use Rattle.snl_tree.specs.declared.thin.trees.Stmt.TheVariants as stmt
-use Rattle.snl_check.specs.Sites.{variables_of, states_of}
+use Rattle.snl_machine.specs.Scopes.{variables_of, states_of}
 use Rattle.snl_machine.specs.declared.programs.Link.{Link}
 use Rattle.snl_machine.specs.declared.programs.Operator.{Operator}
 use Rattle.snl_machine.specs.declared.programs.Operator.TheVariants.{Add, Multiply, Less, LessEqual, Greater, GreaterEqual, Equal, NotEqual}

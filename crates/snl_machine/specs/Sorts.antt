@@ -2,7 +2,7 @@
 use Rattle.std.specs.Prelude.{ℕ, List, map}
 use Rattle.snl_tree.specs.declared.thin.trees.Def.{Def}
 use Rattle.snl_tree.specs.declared.thin.trees.Term.{Term as TreeTerm}
-use Rattle.snl_check.specs.Sites.{declared_by}
+use Rattle.snl_machine.specs.Scopes.{declared_by}
 use Rattle.snl_machine.specs.declared.numbering.Names.{Names as Tables}
 use Rattle.snl_machine.specs.declared.numbering.Sort.{Sort}
 use Rattle.snl_machine.specs.declared.numbering.Sort.TheVariants.{Variables, Linked, Channels, Monitored}

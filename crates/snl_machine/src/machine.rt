@@ -1,6 +1,9 @@
 //! `Machine`: a program with its store, and the events that it takes.
 
-ghost use Rattle.std.specs.Prelude.{◌≡◌, ◌-◌, ◌^◌, ◌<◌, IfOk, OnErr};
+ghost use Rattle.std.specs.Prelude.{◌≡◌, ◌-◌, ◌^◌, ◌<◌, true, IfOk, OnErr};
+ghost use Rattle.snl_tree.specs.Thin.{StandsFor};
+ghost use Rattle.snl_tree.specs.view.Programs.{program_view};
+ghost use Rattle.snl_check.specs.Runs.{does_run};
 ghost use Rattle.snl_machine.specs.Devices.{counted, stopped_by_sink};
 ghost use Rattle.snl_machine.specs.Does.{Does};
 
@@ -13,7 +16,19 @@ use crate::programs::Numbered;
 use crate::sinks::Sink;
 use crate::stores::Store;
 use snl_check::Checked;
+use snl_tree::thin::{Program, narrow};
 use std::alloc::{AllocError, Global};
+
+/// The tree of the first language that stands for a program that runs.
+fn smaller<'a>(alloc: Global, checked: Checked<'a>) -> Result<Program<'a>, AllocError>
+    requires { does_run checked.options (program_view checked.program) ≡ true }
+    ensures { IfOk result (StandsFor (program_view checked.entry.program)) }
+{
+    match narrow(alloc, checked.into_program())? {
+        Some(program) => Ok(program),
+        None => unreachable!(),
+    }
+}
 
 /// A program with its store.
 #[derive(Drop)]
@@ -29,17 +44,19 @@ impl<'a> Machine<'a> {
     ghost use Rattle.snl_machine.specs.MachineOf.{IsMachineOf, program_held, world_held};
     ghost use Rattle.snl_machine.specs.Lookup.{channel_of, fits_of};
 
-    /// Makes the machine of a program, which waits for its start: variables, links, channels and states go
+    /// Makes the machine of a program that runs, which waits for its start: variables, links, channels and states go
     /// by number from then on, in the order in which the source first names them. All the room that a run takes is
     /// made here. The budget is the number of steps that one instant may take.
     ///
     /// Fails only where that room was not to be had; the program is dropped then.
     pub fn load(alloc: Global, checked: Checked<'a>, budget: u32) -> Result<Self, AllocError>
-        ensures made { IfOk result (IsMachineOf checked.entry.program budget) }
+        requires runs { does_run checked.options (program_view checked.program) ≡ true }
+        ensures made { IfOk result (IsMachineOf (program_view checked.entry.program) budget) }
         ensures first { IfOk result (λ machine. world_held machine
             ≡ first_world (program_held machine)) }
     {
-        let program = numbered(alloc, checked.program())?;
+        let thin = smaller(alloc, checked)?;
+        let program = numbered(alloc, &thin)?;
         let store = Store::new(alloc, &program)?;
         Ok(Machine {
             program,

@@ -2,28 +2,29 @@
 
 use crate::tests::PROGRAM;
 use arrayvec::ArrayVec;
-use snl_check::{Checked, Severity, check};
+use snl_check::{Checked, Options, Severity, check};
 use snl_machine::{Event, Live, Machine, laws as machine};
 use snl_text::{Kind, Lexed, lex};
 use snl_trace::{End, Feed, Sheet, TraceFault, laws as trace, read_line, run};
-use snl_tree::thin::{Program, narrow};
 use snl_tree::{ParseFault, laws as tree, parse};
 use std::alloc::Global;
 use std::process::Abort;
 use std::test::Fail;
 
-/// The program of the first language that tokens spell.
-fn program<'a>(alloc: Global, lexed: &Lexed<'a>) -> Result<Program<'a>, Fail> {
+/// The program that tokens spell, checked.
+fn checked<'a>(alloc: Global, lexed: &Lexed<'a>) -> Result<Checked<'a>, Fail> {
     let program = parse(alloc, lexed)?;
-    let thin = narrow(alloc, program)?;
-    Ok(thin.ok_or("not of the first language")?)
+    let outcome = check(alloc, program, Options::none())?;
+    Ok(outcome.checked.ok_or("not accepted")?)
 }
 
 /// The machine of [`PROGRAM`] with a budget of 10.
 fn loaded(alloc: Global) -> Result<Box<Machine<'static>>, Fail> {
     let lexed = lex(alloc, PROGRAM)?;
-    let outcome = check(alloc, program(alloc, &lexed)?)?;
-    let checked = outcome.checked.ok_or("not accepted")?;
+    let checked = checked(alloc, &lexed)?;
+    if !checked.runs() {
+        return Err("does not run".into());
+    }
     let machine = Machine::load(alloc, checked, 10)?;
     Ok(Box::new(alloc, machine)?)
 }
@@ -42,7 +43,8 @@ fn tokens_of_a_program(rt: HostRuntime) -> Result<(), Fail> {
 #[test]
 fn messages_of_a_program(rt: HostRuntime) -> Result<(), Fail> {
     let lexed = lex(rt.alloc(), PROGRAM)?;
-    let outcome = check(rt.alloc(), program(rt.alloc(), &lexed)?)?;
+    let program = parse(rt.alloc(), &lexed)?;
+    let outcome = check(rt.alloc(), program, Options::none())?;
     let message = outcome.messages.get(0).ok_or("no message")?;
     assert!(rt; message.severity == Severity::Warning && message.number == 7);
     assert_eq!(rt;
@@ -50,7 +52,14 @@ fn messages_of_a_program(rt: HostRuntime) -> Result<(), Fail> {
         b"state 'hi' has no clauses".as_slice()
     );
     assert_eq!(rt; outcome.messages.len(), 1);
-    declarations(&rt, &outcome.checked.ok_or("not accepted")?)
+    Ok(())
+}
+
+#[test]
+fn names_of_a_program(rt: HostRuntime) -> Result<(), Fail> {
+    let lexed = lex(rt.alloc(), PROGRAM)?;
+    let checked = checked(rt.alloc(), &lexed)?;
+    declarations(&rt, &checked)
 }
 
 /// `assign x` means the `x` after `int`, which is no use itself.
@@ -59,6 +68,8 @@ fn declarations(rt: &impl Abort, checked: &Checked) -> Result<(), Fail> {
     let declared = checked.declared(35).ok_or("no declaration")?;
     assert!(rt; declared.offset == 25 && declared.file == 0 && declared.line == 3);
     assert!(rt; checked.declared(25).is_none() && checked.declared(36).is_none());
+    let options = checked.options();
+    assert!(rt; options.s == Some(true) && options.c.is_none() && checked.runs());
     Ok(())
 }
 
@@ -148,11 +159,7 @@ const BAD_LINES: [(&[u8], TraceFault); 24] = [
 
 #[test]
 fn read_each_line_or_name_its_fault(rt: HostRuntime) -> Result<(), Fail> {
-    let lexed = lex(rt.alloc(), PROGRAM)?;
-    let checked = check(rt.alloc(), program(rt.alloc(), &lexed)?)?
-        .checked
-        .ok_or("not accepted")?;
-    let machine = Machine::load(rt.alloc(), checked, 10)?;
+    let machine = loaded(rt.alloc())?;
     for (line, fault) in &BAD_LINES {
         assert_eq!(rt; read_line(line, &machine, 5).err(), Some(*fault));
     }

@@ -3,17 +3,19 @@ use Rattle.snl_tree.specs.view.Programs.{program_view}
 use Rattle.snc.proofs.Answering.{told_deep, told_program, told_stuck, tree_of}
 use Rattle.snc.proofs.messages.tokens_judged.Goals as goal
 
-pub returns-in_ok-found-in-Ok : goal.returns-in_ok-found-in-Ok
-returns-in_ok-found-in-Ok c =
+pub returns-in_ok-found-in-Ok-clause-told : goal.returns-in_ok-found-in-Ok-clause-told
+returns-in_ok-found-in-Ok-clause-told c =
     let found = c.in_ok-found-in-Ok.found in
     let program = c.in-Ok.program in
-    told_program c.args.file.now found.messages.items (map (λ name. name.now) c.as_slice.result.now) c.args.lexed.now (program_view program) program.embedded.items (tree_of found.checked)
-    (ap (map (λ name. name.now)) c.as_slice.ensures.value) c.in-Ok.ensures.carried.embedded c.in-Ok.ensures.found.0 c.in-Ok.ensures.found.1 c.in_ok-found-in-Ok.ensures
+    told_program c.args.given c.args.file.now found.messages.items found.late.items (map (λ name. name.now) c.as_slice.result.now) c.args.lexed.now
+    (program_view program) program.embedded.items program.beyond (tree_of found.checked)
+    (ap (map (λ name. name.now)) c.as_slice.ensures.value) c.in-Ok.ensures.carried.embedded c.in-Ok.ensures.carried.beyond
+    c.in-Ok.ensures.found.0 c.in-Ok.ensures.found.1 c.in_ok-found-in-Ok.ensures.told
 
-pub returns-in_ok-found-in-Err-Unexpected : goal.returns-in_ok-found-in-Err-Unexpected
-returns-in_ok-found-in-Err-Unexpected c =
+pub returns-in_ok-found-in-Err-Unexpected-clause-told : goal.returns-in_ok-found-in-Err-Unexpected-clause-told
+returns-in_ok-found-in-Err-Unexpected-clause-told c =
     let found = c.in_ok-found-in-Err-Unexpected.found in
-    told_stuck c.args.file.now found.messages.items (map (λ name. name.now) c.as_slice.result.now) c.args.lexed.now c.in-Err-Unexpected.k found.checked
+    told_stuck c.args.given c.args.file.now found.messages.items found.late.items (map (λ name. name.now) c.as_slice.result.now) c.args.lexed.now c.in-Err-Unexpected.k found.checked
     (ap (map (λ name. name.now)) c.as_slice.ensures.value)
     (c.parse.ensures.unexpected c.in-Err-Unexpected.k cc) c.in_ok-found-in-Err-Unexpected.ensures.text c.in_ok-found-in-Err-Unexpected.ensures.none
 
@@ -21,11 +23,11 @@ pub token_of-token-requires : goal.token_of-token-requires
 token_of-token-requires c =
     subst (λ ts. c.in-Err-TooDeep.k < length ts) (sym c.as_slice-in-Err-TooDeep.ensures.value) (c.parse.ensures.too_deep c.in-Err-TooDeep.k cc).within
 
-pub returns-in_ok-found-in-Err-TooDeep : goal.returns-in_ok-found-in-Err-TooDeep
-returns-in_ok-found-in-Err-TooDeep c =
+pub returns-in_ok-found-in-Err-TooDeep-clause-told : goal.returns-in_ok-found-in-Err-TooDeep-clause-told
+returns-in_ok-found-in-Err-TooDeep-clause-told c =
     let k = c.in-Err-TooDeep.k in
     let found = c.in_ok-found-in-Err-TooDeep.found in
     let token = c.token_of-token.result in
     let at : slice_get c.args.lexed.now.tokens.items k ≡ Some token = subst (λ ts. slice_get ts k ≡ Some token) c.as_slice-in-Err-TooDeep.ensures.value c.token_of-token.ensures in
-    told_deep c.args.file.now found.messages.items (map (λ name. name.now) c.as_slice.result.now) c.args.lexed.now k token found.checked
+    told_deep c.args.given c.args.file.now found.messages.items found.late.items (map (λ name. name.now) c.as_slice.result.now) c.args.lexed.now k token found.checked
     (ap (map (λ name. name.now)) c.as_slice.ensures.value) (c.parse.ensures.too_deep k cc) at c.in_ok-found-in-Err-TooDeep.ensures.text c.in_ok-found-in-Err-TooDeep.ensures.none

@@ -1,12 +1,19 @@
-use Rattle.std.proofs.Common.{map, subst}
-use Rattle.snl_tree.specs.view.Programs.{program_view}
-use Rattle.snl_tree.specs.Thin.{Finds, StandsFor, is_thin}
-use Rattle.snc.proofs.Answering.{told_not_yet}
+use Rattle.std.proofs.Common.{◌≡◌, ◌∙◌, ◌++◌, map}
+use Rattle.snl_messages.specs.Messages.{said}
+use Rattle.snc.specs.Texts.{text_of}
+use Rattle.snc.proofs.Answering.{checked_options, told_checked}
 use Rattle.snc.proofs.messages.tree_judged.Goals as goal
 
-pub returns-in_ok-found-in-None : goal.returns-in_ok-found-in-None
-returns-in_ok-found-in-None c =
-    let found = c.in_ok-found-in-None.found in
-    let whole = program_view c.args.program in
-    told_not_yet c.args.names.read.now found.messages.items (map (λ name. name.now) c.args.names.marked.now) whole c.args.program.embedded.items found.checked
-    (subst (λ o. Finds (is_thin whole) (StandsFor whole) o) c.in-None.is c.in_ok-thin.ensures.tree) c.in_ok-found-in-None.ensures.text c.in_ok-found-in-None.ensures.none
+pub returns-clause-told : goal.returns-clause-told
+returns-clause-told c =
+    let word = c.args.names.read.now in
+    let names = map (λ name. name.now) c.args.names.marked.now in
+    let found = c.in_ok-said.field-0 in
+    let is : c.push_lines.new.out.items ≡ text_of word names (map said found.messages.items) =
+    c.in_ok-push_lines.ensures ∙ (λ i. c.new-messages.ensures.items i ++ text_of word names (map said (c.as_slice.ensures.value i))) in
+    told_checked c.args.given word c.push_lines.new.out.items c.in_ok-late.late.items names c.args.program (map said found.messages.items) found.checked
+    c.in_ok-said.ensures.exactly c.in_ok-said.ensures.in_order c.in_ok-said.ensures.accepted c.in_ok-said.ensures.same is c.in_ok-late.ensures
+
+pub returns-clause-options : goal.returns-clause-options
+returns-clause-options c =
+    checked_options c.args.given c.args.program c.in_ok-said.field-0.checked c.in_ok-said.ensures.same c.in_ok-said.ensures.options

@@ -9,8 +9,13 @@ use Rattle.snc.proofs.reports.report.Goals as goal
 pub returns : goal.returns
 returns c =
     let source = c.args.source.now in
-    let text = c.in_ok-found.found.messages.items in
-    let checked = c.in_ok-found.found.checked in
+    let given = c.args.job.now.options in
+    let asked = c.args.job.now.tables in
+    let found = c.in_ok-found.found in
+    let text = found.messages.items in
+    let shown = c.in_ok-tables.tables.items in
     let word = string_bytes c.args.job.now.file in
-    let judged : IsJudged word source text (tree_of checked) = subst (λ (w : List ℕ). IsJudged w source text (tree_of checked)) c.as_bytes.ensures.value c.in_ok-found.ensures in
-    subst (λ (s : Status). IsReport word source text s) (sym (c.source_status-status.ensures ∙ ap (λ b. if b then Well else SourceErrors) c.is_some.ensures)) (reported word source text checked judged)
+    let judged : IsJudged given word source text found.late.items (tree_of found.checked) =
+    subst (λ (w : List ℕ). IsJudged given w source text found.late.items (tree_of found.checked)) c.as_bytes.ensures.value c.in_ok-found.ensures.judged in
+    subst (λ (s : Status). IsReport given asked word source text shown s) (sym (c.source_status-status.ensures ∙ ap (λ b. if b then Well else SourceErrors) c.is_some.ensures))
+    (reported given asked word source text found.late.items shown found.checked judged c.in_ok-tables.ensures)

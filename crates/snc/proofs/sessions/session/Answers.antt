@@ -1,4 +1,6 @@
-use Rattle.std.proofs.Common.{◌≡◌, sym, subst, List, ℕ, Some, string_bytes}
+use Rattle.std.proofs.Common.{◌≡◌, sym, subst, List, ℕ, IfSome, Some, string_bytes}
+use Rattle.snl_tree.specs.view.Programs.{program_view}
+use Rattle.snl_messages.specs.Silence.{options_in_force}
 use Rattle.snc.specs.declared.jobs.Status.{Status}
 use Rattle.snc.specs.Judging.{IsJudged}
 use Rattle.snl_machine.specs.MachineOf.{world_held}
@@ -9,27 +11,32 @@ use Rattle.snc.proofs.sessions.session.Goals as goal
 pub returns-clause-answer : goal.returns-clause-answer
 returns-clause-answer g c =
     let source = c.args.source.now in
+    let given = c.args.job.now.options in
     let budget = c.args.job.now.budget in
-    let text = c.in_ok-messages.field-0.messages.items in
-    let checked = c.in_ok-messages.field-0.checked in
+    let found = c.in_ok-messages.field-0 in
+    let text = found.messages.items in
+    let late = found.late.items in
+    let checked = found.checked in
     let word = string_bytes c.args.job.now.file in
-    let judged : IsJudged word source text (tree_of checked) = subst (λ (w : List ℕ). IsJudged w source text (tree_of checked)) c.as_bytes.ensures.value c.in_ok-messages.ensures in
+    let judged : IsJudged given word source text late (tree_of checked) = subst (λ (w : List ℕ). IsJudged given w source text late (tree_of checked)) c.as_bytes.ensures.value c.in_ok-messages.ensures.judged in
     let some : checked ≡ Some c.in-Some.checked = cc in
     let machine = c.in_ok-machine.machine in
+    let made = c.in_ok-machine.ensures.made in
     let end = c.run-end.result in
-    let tree = c.in-Some.checked.program in
     let left = g.R.Source.rest c.run-end.new.source in
     let told = g.S.Sink.told c.args.sink.now in
     let told_then = g.S.Sink.told c.run-end.new.sink in
     let world = world_held c.run-end.new.machine in
-    let run : IsRunOf g.R.Source.rest g.R.Source.failures g.S.Sink.told g.S.Sink.failures tree budget c.args.trace.now c.run-end.new.source c.args.sink.now c.run-end.new.sink end = record {
+    let run : IsRunOf g.R.Source.rest g.R.Source.failures g.S.Sink.told g.S.Sink.failures made.thin budget c.args.trace.now c.run-end.new.source c.args.sink.now c.run-end.new.sink end = record {
       world = world;
-      ran = λ bytes are. ran_by machine tree budget end bytes left told told_then world c.in_ok-machine.ensures.made c.in_ok-machine.ensures.first (c.run-end.ensures.does bytes are);
+      ran = λ bytes are. ran_by machine _ budget made end bytes left told told_then world c.in_ok-machine.ensures.first (c.run-end.ensures.does bytes are);
       source_counted = c.run-end.ensures.source;
       sink_counted = c.run-end.ensures.sink;
     } in
-    let session = session_ran g.R.Source.rest g.R.Source.failures g.S.Sink.told g.S.Sink.failures word source text budget
-    c.args.trace.now c.run-end.new.source c.args.sink.now c.run-end.new.sink checked c.in-Some.checked end some judged run in
+    let session = session_ran g.R.Source.rest g.R.Source.failures g.S.Sink.told g.S.Sink.failures given word source text late budget
+    c.args.trace.now c.run-end.new.source c.args.sink.now c.run-end.new.sink checked c.in-Some.checked made.thin end some judged
+    (subst (λ o. IfSome o (λ k. k.options ≡ options_in_force (program_view k.program) given)) some c.in_ok-messages.ensures.options)
+    c.runs.ensures made.stands run in
     subst (λ (s : Status).
-    IsSession g.R.Source.rest g.R.Source.failures g.S.Sink.told g.S.Sink.failures word source budget
+    IsSession g.R.Source.rest g.R.Source.failures g.S.Sink.told g.S.Sink.failures given word source budget
     c.args.trace.now c.run-end.new.source c.args.sink.now c.run-end.new.sink text (Some end) s) (sym c.status.ensures) session

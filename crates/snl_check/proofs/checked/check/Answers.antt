@@ -1,30 +1,33 @@
-use Rattle.std.proofs.Common.{◌≡◌, ◌∙◌, ap, sym, map, true, false, refl}
+use Rattle.std.proofs.Common.{◌≡◌, ◌∙◌, sym, map, true, false, refl}
 use Rattle.std.proofs.lemmas.Bool.{false≢true}
-use Rattle.snl_check.specs.Messages.{said}
-use Rattle.snl_check.specs.Told.{accepted}
-use Rattle.snl_check.proofs.AcceptedLaws.{no_error, accepted_all}
+use Rattle.snl_messages.specs.Messages.{said}
+use Rattle.snl_check.specs.Accepted.{has_no_error}
+use Rattle.snl_check.proofs.AcceptedLaws.{accepted_by_warnings, warnings_by_accepted, accepted_found, places_found}
 use Rattle.snl_check.proofs.checked.check.Goals as goal
 use Rattle.snl_check.proofs.checked.check.Goals.{then-is_accepted, else-is_accepted}
 
-pub invariant_of-checked-clause-accepted : goal.invariant_of-checked-clause-accepted
-invariant_of-checked-clause-accepted c m says =
-    let found = c.in_ok-messages.field-0.messages.items in
-    let listed = ap (λ l. accepted (map said l)) c.as_slice.ensures.value in
-    let all : accepted (map said found) ≡ true = sym listed ∙ sym c.is_accepted.ensures ∙ c.if-is_accepted.true in
-    no_error (map said found) all m ((c.in_ok-messages.ensures.exactly m).1 says)
+pub invariant_of-checked : goal.invariant_of-checked
+invariant_of-checked c =
+    let e = c.in_ok-program.field-0 in
+    let found = c.in_ok-program.ensures.found in
+    let same = c.in_ok-program.ensures.same in
+    let all : has_no_error (map said e.findings.messages.items) ≡ true = sym c.are_accepted-is_accepted.ensures ∙ c.if-is_accepted.true in
+    record {
+      accepted = accepted_found c.args.program c.args.given e.findings found e.program same all;
+      bound = places_found c.args.program c.args.given e.findings found e.program same;
+    }
 
 pub returns-clause-accepted : goal.returns-clause-accepted
 returns-clause-accepted c =
-    let found = c.in_ok-messages.field-0.messages.items in
-    let exactly = c.in_ok-messages.ensures.exactly in
-    let listed = ap (λ l. accepted (map said l)) c.as_slice.ensures.value in
+    let f = c.in_ok-program.field-0.findings in
+    let found = c.in_ok-program.ensures.found in
     elim c.if-is_accepted.branch [
       | then-is_accepted w ↦
-          let all : accepted (map said found) ≡ true = sym listed ∙ sym c.is_accepted.ensures ∙ w.if-is_accepted.true in
-          (λ _ m says. no_error (map said found) all m ((exactly m).1 says), λ _. rw w.checked-is refl)
+          let all : has_no_error (map said f.messages.items) ≡ true = sym c.are_accepted-is_accepted.ensures ∙ w.if-is_accepted.true in
+          (λ _. accepted_by_warnings c.args.program c.args.given f found all, λ _. rw w.checked-is refl)
       | else-is_accepted w ↦
-          let some_error : accepted (map said found) ≡ false = sym listed ∙ sym c.is_accepted.ensures ∙ w.if-is_accepted.false in (
+          let some_error : has_no_error (map said f.messages.items) ≡ false = sym c.are_accepted-is_accepted.ensures ∙ w.if-is_accepted.false in (
             λ some. absurd (false≢true (rw w.checked-is at some)),
-            λ none. absurd (false≢true (sym some_error ∙ accepted_all (map said found) (λ m k. none m ((exactly m).0 k)))),
+            λ none. absurd (false≢true (sym some_error ∙ warnings_by_accepted c.args.program c.args.given f found none)),
           )
     ]

@@ -1,7 +1,7 @@
 use Rattle.std.proofs.Common.{◌≡◌, ◌∙◌, ap, sym, map}
 use Rattle.std.specs.List.{flat_map}
 use Rattle.std.proofs.lemmas.Simd.{map-map}
-use Rattle.snl_check.specs.Sites.{declared_by}
+use Rattle.snl_machine.specs.Scopes.{declared_by}
 use Rattle.snl_machine.specs.declared.numbering.Sort.TheVariants.{Variables}
 use Rattle.snl_machine.specs.Names.{once}
 use Rattle.snl_machine.specs.Numbering.{spelled, assigned_in, channel_in, monitored_in}

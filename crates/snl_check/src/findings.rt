@@ -1,0 +1,102 @@
+//! What is found of a program.
+
+ghost use Rattle.std.specs.Prelude.{◌≡◌, map, IfOk};
+ghost use Rattle.snl_messages.specs.Messages.{said};
+ghost use Rattle.snl_check.specs.Accepted.{has_no_error};
+ghost use Rattle.snl_check.specs.Findings.{AreFindings};
+ghost use Rattle.snl_check.specs.declared.findings.Findings as declared;
+ghost use Rattle.snl_sites.specs.declared.options.Options as sites;
+
+use crate::uses::{Places, places_of};
+use snl_messages::{Message, Severity, messages_of, options_in_force};
+use snl_sites::{Options, sites_of};
+use snl_tree::Program;
+use std::alloc::{AllocError, Global};
+
+/// What is found of a program.
+#[derive(Drop)]
+pub struct Findings {
+    /// In order.
+    pub messages: Vec<Message>,
+    /// Those in force.
+    pub options: Options,
+    /// What the names of the program mean.
+    pub places: Places,
+}
+
+impl Findings {
+    /// Whether none of the messages is an error.
+    pub fn are_accepted(&self) -> bool
+        ensures { result ≡ has_no_error (map said self.now.messages.items) }
+    {
+        has_no_error(self.messages.as_slice())
+    }
+}
+
+/// Whether none of the messages is an error.
+fn has_no_error(messages: &[Message]) -> bool
+    ensures { result ≡ has_no_error (map said messages.now) }
+{
+    for message in messages {
+        if let Severity::Error = message.severity {
+            return false;
+        }
+    }
+    true
+}
+
+/// Finds the messages of a program where these options are given with it, and what its names mean.
+fn findings_of(alloc: Global, program: &Program, given: Options) -> Result<Findings, AllocError>
+    ensures { IfOk result (AreFindings program.now given) }
+{
+    let messages = messages_of(alloc, program, given)?;
+    let sites = sites_of(alloc, program)?;
+    let places = places_of(alloc, sites.as_slice())?;
+    let options = options_in_force(program, given);
+    Ok(Findings {
+        messages,
+        options,
+        places,
+    })
+}
+
+/// What findings can be made of while it is lent. A function that owns a whole program and lends it
+/// is dear to prove; one that owns a value of a type parameter is not.
+pub trait HasFindings {
+    ghost found: { Self → sites.Options → declared.Findings → Type 0 };
+
+    /// The findings, where these options are given.
+    fn examine(&self, alloc: Global, given: Options) -> Result<Findings, AllocError>
+        ensures { IfOk result (found self.now given) };
+}
+
+impl<'a> HasFindings for Program<'a> {
+    ghost found = { AreFindings };
+
+    fn examine(&self, alloc: Global, given: Options) -> Result<Findings, AllocError> {
+        findings_of(alloc, self, given)
+    }
+}
+
+/// A program with what is found of it.
+#[derive(Drop)]
+pub struct Examined<T> {
+    /// The program.
+    pub program: T,
+    /// What is found of it.
+    pub findings: Findings,
+}
+
+/// Finds what there is of a program where these options are given with it, and hands the program on.
+/// The only error is that memory ends; the program is dropped then.
+pub fn examine_owned<T: HasFindings + Drop>(
+    alloc: Global,
+    program: T,
+    given: Options,
+) -> Result<Examined<T>, AllocError>
+    ensures same { IfOk result (λ e. e.program ≡ program) }
+    ensures found { IfOk result (λ e. T.found program given e.findings) }
+{
+    let findings = program.examine(alloc, given)?;
+    Ok(Examined { program, findings })
+}
