@@ -75,12 +75,44 @@ fn bare_command<'a>(alloc: Global, name: &'a str) -> Command<'a>
         .disable_help_flag(true)
 }
 
+/// What stands at the top of `snc --help`, and at its end.
+const SNC_ABOUT: &str =
+    "Checks a program in the State Notation Language, and says all that is wrong with it.";
+
+const SNC_MORE: &str = "\
+Options of the language: a sign and letters, as +u (more warnings) or -w (no warnings).
+
+Messages go to standard error, the tables to standard output. Standard input is not read.
+
+Example: snc --tables interlock.st
+
+Status: 0 well, 1 errors in the program, 2 the words of the call are wrong,
+3 the file or the output failed, 4 memory ran out.";
+
+/// What stands at the top of `snlrun --help`, and at its end.
+const SNLRUN_ABOUT: &str =
+    "Runs a program in the State Notation Language over a trace, which is read from standard input.";
+
+const SNLRUN_MORE: &str = "\
+Options of the language: a sign and letters, as +u (more warnings) or -w (no warnings).
+
+The trace has a line for each event, as \"0 up a\", \"5 val a 7\", \"9 tick\": milliseconds, what
+happened, the channel, its values. The lines of the run go to standard output, messages to standard error.
+
+Example: snlrun interlock.st < interlock.trace
+
+Status: 0 well, 1 errors in the program, or it does not run yet, 2 the words of the call are wrong,
+3 the file, the input or the output failed, 4 memory ran out, 5 the program faulted,
+6 a line of the trace is bad.";
+
 /// The command of `snc`.
 pub(crate) fn snc_command<'a>(alloc: Global) -> Result<Command<'a>, AllocError>
     ensures { IfOk result (λ c. app_of c ≡ spec.snc_app) }
 {
     bare_command(alloc, "snc")
         .override_usage("snc [±X..] [--tables] FILE")
+        .about(SNC_ABOUT)
+        .after_help(SNC_MORE)
         .arg(file_argument(alloc))?
         .arg(tables_argument(alloc))?
         .arg(help_argument(alloc))
@@ -92,6 +124,8 @@ pub(crate) fn snlrun_command<'a>(alloc: Global) -> Result<Command<'a>, AllocErro
 {
     bare_command(alloc, "snlrun")
         .override_usage("snlrun [±X..] [--budget N] FILE [MACROS]")
+        .about(SNLRUN_ABOUT)
+        .after_help(SNLRUN_MORE)
         .arg(file_argument(alloc))?
         .arg(macros_argument(alloc))?
         .arg(budget_argument(alloc))?

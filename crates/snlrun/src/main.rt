@@ -1,74 +1,39 @@
-//! `snlrun FILE`: runs the program in FILE over the trace on standard input.
+//! `snlrun [±X..] [--budget N] FILE [MACROS]`: runs the program in FILE over the trace on standard input.
 //!
-//! Messages go to standard error, the lines of the run to standard output.
+//! The lines of the run go to standard output, messages to standard error.
 #![tactic(auto)]
 
 mod devices;
-mod files;
 
 use devices::{Lines, Output, Trace};
-use files::{FileFault, source_of};
-use snc::{DEFAULT_BUDGET, Job, Status, report, session};
+use snc::{Job, Status, Tool, session};
+use snc_shell::{job_of, source_of, tell};
 use snl_trace::End;
-use std::alloc::Global;
 use std::cell::RefCell;
-use std::env;
-use std::io::{BufWriter, Stdout};
+use std::io::BufWriter;
 use std::process::ExitCode;
 
 /// How many bytes of output are held back at most.
 const OUTPUT_HELD: usize = 65_536;
 
 fn main(rt: HostRuntime) -> ExitCode {
-    let status = match words(&rt) {
-        Ok(Some(file)) => checked_run(&rt, file),
-        Ok(None) => {
-            let _ = eprintln!(rt; "usage: snlrun FILE");
-            Status::Usage
-        }
+    let status = match job_of(&rt, Tool::Snlrun) {
+        Ok(job) => run_file(&rt, &job),
         Err(status) => status,
     };
     ExitCode::from(status.code())
 }
 
-/// The one word of the call; None where there is not one.
-fn words(rt: &HostRuntime) -> Result<Option<String>, Status> {
-    let Ok(mut words) = env::args(rt) else {
-        return Ok(None);
-    };
-    let _program = words.next();
-    let file = words.next();
-    match words.next() {
-        None => Ok(file),
-        Some(_) => Ok(None),
+/// Runs the program in the file of a job.
+fn run_file(rt: &HostRuntime, job: &Job) -> Status {
+    match source_of(rt, "snlrun", job.file.as_str()) {
+        Ok(source) => run_over_input(rt, source.as_slice(), job),
+        Err(status) => status,
     }
 }
 
-/// Says what is to be said of the program in a file, and runs it if it has no error.
-fn checked_run(rt: &HostRuntime, file: String) -> Status {
-    let source = match source_of(rt, file.as_str()) {
-        Ok(source) => source,
-        Err(FileFault::Memory) => return Status::Memory,
-        Err(FileFault::Unreadable) => {
-            let _ = eprintln!(rt; "snlrun: cannot read {file}");
-            return Status::InputOutput;
-        }
-    };
-    let job = Job {
-        file,
-        budget: DEFAULT_BUDGET,
-    };
-    let Ok(report) = report(rt.alloc(), source.as_slice(), &job) else {
-        return Status::Memory;
-    };
-    let _ = rt.stderr().write_all(report.messages.as_slice());
-    if report.status != Status::Well {
-        return report.status;
-    }
-    run_over_input(rt, source.as_slice(), &job)
-}
-
-/// Runs a program over standard input.
+/// Runs a program over standard input, and says what is to be said of it. The messages come behind the run, and the line
+/// that tells of a bad line of the trace comes last.
 fn run_over_input(rt: &HostRuntime, source: &[u8], job: &Job) -> Status {
     let Ok(writer) = BufWriter::with_capacity(rt.alloc(), OUTPUT_HELD, rt.stdout()) else {
         return Status::Memory;
@@ -76,11 +41,13 @@ fn run_over_input(rt: &HostRuntime, source: &[u8], job: &Job) -> Status {
     let output = RefCell::new(Output::new(writer));
     let mut trace = Trace::new(rt.stdin(), &output);
     let mut lines = Lines::new(&output);
-    let Ok((_messages, end, status)) = session(rt.alloc(), source, job, &mut trace, &mut lines)
+    let Ok((messages, end, status)) = session(rt.alloc(), source, job, &mut trace, &mut lines)
     else {
         return Status::Memory;
     };
-    if lines.finish().is_err() {
+    let finished = lines.finish();
+    tell(rt, messages.as_slice());
+    if finished.is_err() {
         return Status::InputOutput;
     }
     if let Some(End::TraceFault(number, fault)) = end {
