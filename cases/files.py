@@ -29,7 +29,7 @@ def cases(file):
         for words, text in parted(body, b"--"):
             name, _, more = words.partition(" ")
             sections[name] = (more, text.rstrip(b"\n") + b"\n" if text.strip() else b"")
-        unknown = set(sections) - {"p.st", "trace", "stdout", "stderr", "status", "args", "rows"}
+        unknown = set(sections) - {"p.st", "trace", "stdout", "stderr", "status", "args", "rows", "tool"}
         if unknown:
             raise SystemExit(f"{file.name}: {title}: no section is called {', '.join(sorted(unknown))}")
         source = sections.get("p.st", ("", source))[1]
@@ -46,6 +46,8 @@ def cases_of_sections(name, source, sections):
         "stderr": plain(sections.get("stderr", ("", b""))[1]),
         "statuses": (int(sections.get("status", ("0", b""))[0]),),
     }
+    if "tool" in sections:
+        made["tool"] = sections["tool"][0].decode()
     if "args" in sections:
         made["words"] = plain(sections["args"][1]).splitlines()
     if "rows" not in sections:
