@@ -49,7 +49,7 @@ def cases_of_sections(name, source, sections):
         "statuses": (int(sections.get("status", ("0", b""))[0]),),
     }
     if "tool" in sections:
-        made["tool"] = sections["tool"][0].decode()
+        made["tool"] = sections["tool"][0]
     if "args" in sections:
         made["words"] = plain(sections["args"][1]).splitlines()
     if "rows" not in sections:
