@@ -7,6 +7,8 @@ from case import Case
 REPEATED = re.compile(rb"`\[(\d+) (.*?)`\]", re.DOTALL)
 ESCAPE = re.compile(rb"`(\n|[0-9A-F]{2})")
 NOT_YET = b"p.st:1: error: E05 not run yet\n"
+# Lines of a text for the user of a call.
+ANY = re.compile(rb"[^\n]*\n?")
 # Lines that may be said of a program that is read to its end.
 READ = re.compile(rb"[^:\n]+:\d+: (error: E(04|[123]\d)|warning: W\d) [^\n]+\n")
 
@@ -44,10 +46,13 @@ def cases_of_sections(name, source, sections):
     made = {
         "source": plain(source),
         "trace": Path(path[len("from ") :]) if path else plain(trace),
-        "stdout": Path(out[len("to ") :]) if out else plain(stdout),
+        "stdout": Path(out[len("to ") :]) if out.startswith("to ") else plain(stdout),
         "stderr": plain(sections.get("stderr", ("", b""))[1]),
         "statuses": (int(sections.get("status", ("0", b""))[0]),),
     }
+    for stream in ("stdout", "stderr"):
+        if sections.get(stream, ("",))[0] == "any":
+            made[stream] = ANY
     if "tool" in sections:
         made["tool"] = sections["tool"][0]
     if "args" in sections:
