@@ -1,4 +1,4 @@
-"""A case: what snlrun is called with, and what it has to answer."""
+"""A case: which program is called, with what, and what it has to answer."""
 import contextlib
 import difflib
 import os
@@ -22,11 +22,13 @@ class Case:
     stdout: "bytes | re.Pattern | Path" = b""
     stderr: "bytes | re.Pattern" = b""
     statuses: tuple = (0,)
+    # The program that is called: `snlrun` or `snc`.
+    tool: str = "snlrun"
 
-    def failure(self, program):
+    def failure(self, programs):
         """Runs the case; None where all is as it has to be, else what is not."""
         try:
-            status, stdout, stderr = self.run(program)
+            status, stdout, stderr = self.run(programs[self.tool])
         except subprocess.TimeoutExpired:
             return f"FAILED {self.name}\n  no end within {SECONDS} seconds"
         said = [] if status in self.statuses else [f"status {status}, not {' or '.join(map(str, self.statuses))}"]

@@ -7,6 +7,10 @@ from case import Case
 REPEATED = re.compile(rb"`\[(\d+) (.*?)`\]", re.DOTALL)
 ESCAPE = re.compile(rb"`(\n|[0-9A-F]{2})")
 NOT_YET = b"p.st:1: error: E05 not run yet\n"
+# Lines of a text for the user of a call.
+ANY = re.compile(rb"[^\n]*\n?")
+# Lines that may be said of a program that is read to its end.
+READ = re.compile(rb"[^:\n]+:\d+: (error: E(04|[123]\d)|warning: W\d) [^\n]+\n")
 
 
 def plain(text):
@@ -29,7 +33,7 @@ def cases(file):
         for words, text in parted(body, b"--"):
             name, _, more = words.partition(" ")
             sections[name] = (more, text.rstrip(b"\n") + b"\n" if text.strip() else b"")
-        unknown = set(sections) - {"p.st", "trace", "stdout", "stderr", "status", "args", "rows"}
+        unknown = set(sections) - {"p.st", "trace", "stdout", "stderr", "status", "args", "rows", "tool"}
         if unknown:
             raise SystemExit(f"{file.name}: {title}: no section is called {', '.join(sorted(unknown))}")
         source = sections.get("p.st", ("", source))[1]
@@ -42,10 +46,15 @@ def cases_of_sections(name, source, sections):
     made = {
         "source": plain(source),
         "trace": Path(path[len("from ") :]) if path else plain(trace),
-        "stdout": Path(out[len("to ") :]) if out else plain(stdout),
+        "stdout": Path(out[len("to ") :]) if out.startswith("to ") else plain(stdout),
         "stderr": plain(sections.get("stderr", ("", b""))[1]),
         "statuses": (int(sections.get("status", ("0", b""))[0]),),
     }
+    for stream in ("stdout", "stderr"):
+        if sections.get(stream, ("",))[0] == "any":
+            made[stream] = ANY
+    if "tool" in sections:
+        made["tool"] = sections["tool"][0]
     if "args" in sections:
         made["words"] = plain(sections["args"][1]).splitlines()
     if "rows" not in sections:
@@ -67,28 +76,38 @@ def of_row(name, made, trace, row):
 
 def forms(file):
     """Small sources, a line each: a form, which takes the place of `@` in each line in front that begins with `in:`."""
+    tool = "snlrun" if file.stem == "notyet" else "snc"
     for title, body in parted(file.read_bytes(), b"=="):
         rows = [it for it in body.splitlines() if it]
         places = [it[len(b"in: ") :] for it in rows if it.startswith(b"in: ")] or [b"@"]
         for row in (it for it in rows if not it.startswith(b"in: ")):
             source, answer = form(row)
+            if answer is None:
+                made = {"stderr": NOT_YET} if tool == "snlrun" else {"stderr": READ, "statuses": (0, 1)}
+            else:
+                made = {"stderr": plain(answer)}
             for place in places:
                 name = f"{file.name}: {title}: {row.decode()[:100]}, in {place.decode()}"
                 whole = plain(place.replace(b"@", source))
-                yield Case(name, whole, b"0 bad line", stderr=plain(answer), statuses=(1,))
+                yield Case(name, whole, b"0 bad line", tool=tool, **{"statuses": (1,), **made})
 
 
 def form(row):
-    """The source of a form, and what is to be said of it."""
+    """The source of a form, and what is to be said of it; None where the row doesn't tell."""
     source, arrow, answer = row.partition(b" => ")
     if arrow:
-        file, line, text = re.fullmatch(rb"(?:([^ :]*):)?(\d+): (.*)", answer).groups(b"p.st")
-        return source, b"%s:%s: error: %s\n" % (file, line, text)
+        return source, b"".join(message(it) for it in answer.split(b" | "))
     front, *refused = source.split(b"$")
     if not refused:
-        return source, NOT_YET
+        return source, None
     token, behind = refused
     return b"%s\n%s\n%s" % (front, token, behind), b"p.st:2: error: E01 syntax error at '%s'\n" % token
+
+
+def message(text):
+    """The line of a message that is told in short."""
+    file, line, said = re.fullmatch(rb"(?:([^ :]*):)?(\d+): (.*)", text).groups(b"p.st")
+    return b"%s:%s: %s: %s\n" % (file, line, b"warning" if said.startswith(b"W") else b"error", said)
 
 
 def examples(root):
