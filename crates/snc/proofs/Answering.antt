@@ -40,6 +40,7 @@ use Rattle.snl_trace.specs.Run.{rules_by, rules_of}
 use Rattle.snl_trace.specs.RunOver.{RunsOver, standing}
 use Rattle.snl_trace.specs.declared.runner.End.{End}
 use Rattle.snc.specs.declared.jobs.Status.TheVariants.{Well, SourceErrors}
+use Rattle.snl_links.specs.Tables.{tables}
 use Rattle.snc.specs.Judging.{AreNamesBefore, ReadsNames, HasFault, HasTokens, IsJudged, IsSaidOf, IsTreeSaid, NoErrors, error_at, names_of, nesting_error, not_yet, syntax_error}
 use Rattle.snc.specs.Outcomes.{IsReport, IsRunOf, IsSession, at_first, status_of, tables_text}
 use Rattle.snc.specs.Texts.{line_of, text_of}
@@ -276,6 +277,11 @@ told_checked given word text late names p messages checked exactly in_order acce
 same_some : (tree : Option ProgramTree) (p : ProgramTree) (asked : Bool) → tree ≡ Some p → asked_tables asked (Some p) ≡ tables_text asked Well tree
 same_some tree p true e = ap (λ t. tables_text true Well t) (sym e)
 same_some tree p false e = refl
+
+-- the tables that are asked for, of a checked program that is there
+pub asked_are : (asked : Bool) (checked : Option Checked) (c : Checked) (text : List ℕ) → asked ≡ true → checked ≡ Some c → text ≡ tables (program_view c.program)
+    → text ≡ asked_tables asked (tree_of checked)
+asked_are asked checked c text ea ec et = et ∙ (λ i. asked_tables (sym ea i) (tree_of (sym ec i)))
 
 -- no tables are asked for, or there are none
 no_tables : (asked : Bool) (tree : Option ProgramTree) → asked_tables asked None ≡ tables_text asked SourceErrors tree

@@ -1,5 +1,5 @@
 -- What the rules say of a source: its messages, and its tree, if its tokens spell one.
-use Rattle.std.specs.Prelude.{◌≡◌, ◌⊎◌, ◌↔◌, ℕ, true, false, ◌<◌, ◌≤◌, List, [], ◌∷◌, ◌++◌, length, map, drop, Option, None, Some, IsSome, IfSome, slice_get, Contains, codes}
+use Rattle.std.specs.Prelude.{◌≡◌, ◌⊎◌, ◌↔◌, ℕ, ◌<◌, ◌≤◌, List, [], ◌∷◌, ◌++◌, length, map, drop, Option, None, Some, IsSome, IfSome, slice_get, Contains, codes}
 use Rattle.snl_text.specs.Cut.{start}
 use Rattle.snl_text.specs.Faults.{fault_text, fault_pos}
 use Rattle.snl_text.specs.Lexing.{FaultHolds, IsFault, IsLexed}

@@ -42,12 +42,12 @@ fn tables_if_asked(
     ensures { IfOk result (λ text. text.items
         ≡ asked_tables asked (option_map (λ c. program_view c.program) checked.now)) }
 {
-    if !asked {
-        return Ok(Vec::new(alloc));
-    }
     match checked {
-        Some(checked) => text_of_tables(alloc, checked.program()),
-        None => Ok(Vec::new(alloc)),
+        Some(checked) if asked => {
+            let text = text_of_tables(alloc, checked.program())?;
+            Ok(text)
+        }
+        _ => Ok(Vec::new(alloc)),
     }
 }
 

@@ -1,5 +1,7 @@
-use Rattle.std.proofs.Common.{◌≡◌, ◌<◌, ap, sym, subst, map, length, slice_get, Some}
+use Rattle.std.proofs.Common.{◌≡◌, ◌<◌, ap, sym, subst, map, length, slice_get, Some, [], ◌∷◌}
 use Rattle.snl_tree.specs.view.Programs.{program_view}
+use Rattle.snc.specs.Judging.{syntax_error}
+use Rattle.snc.specs.Texts.{text_of}
 use Rattle.snc.proofs.Answering.{told_deep, told_program, told_stuck, tree_of}
 use Rattle.snc.proofs.messages.tokens_judged.Goals as goal
 
@@ -17,17 +19,22 @@ returns-in_ok-found-in-Err-Unexpected-clause-told c =
     let found = c.in_ok-found-in-Err-Unexpected.found in
     told_stuck c.args.given c.args.file.now found.messages.items found.late.items (map (λ name. name.now) c.as_slice.result.now) c.args.lexed.now c.in-Err-Unexpected.k found.checked
     (ap (map (λ name. name.now)) c.as_slice.ensures.value)
-    (c.parse.ensures.unexpected c.in-Err-Unexpected.k cc) c.in_ok-found-in-Err-Unexpected.ensures.text c.in_ok-found-in-Err-Unexpected.ensures.none
+    (c.parse.ensures.unexpected c.in-Err-Unexpected.k cc)
+    (subst (λ k. found.messages.items ≡ text_of c.args.file.now (map (λ name. name.now) c.as_slice.result.now) (syntax_error c.args.lexed.now (slice_get c.args.lexed.now.tokens.items k) ∷ []))
+    c.in-Err-Unexpected.k-is c.in_ok-found-in-Err-Unexpected.ensures.text)
+    c.in_ok-found-in-Err-Unexpected.ensures.none
 
 pub token_of-token-requires : goal.token_of-token-requires
 token_of-token-requires c =
-    subst (λ ts. c.in-Err-TooDeep.k < length ts) (sym c.as_slice-in-Err-TooDeep.ensures.value) (c.parse.ensures.too_deep c.in-Err-TooDeep.k cc).within
+    subst (λ k. k < length c.as_slice-in-Err-TooDeep.result.now) (sym c.in-Err-TooDeep.k-is)
+    (subst (λ ts. c.in-Err-TooDeep.k < length ts) (sym c.as_slice-in-Err-TooDeep.ensures.value) (c.parse.ensures.too_deep c.in-Err-TooDeep.k cc).within)
 
 pub returns-in_ok-found-in-Err-TooDeep-clause-told : goal.returns-in_ok-found-in-Err-TooDeep-clause-told
 returns-in_ok-found-in-Err-TooDeep-clause-told c =
     let k = c.in-Err-TooDeep.k in
     let found = c.in_ok-found-in-Err-TooDeep.found in
     let token = c.token_of-token.result in
-    let at : slice_get c.args.lexed.now.tokens.items k ≡ Some token = subst (λ ts. slice_get ts k ≡ Some token) c.as_slice-in-Err-TooDeep.ensures.value c.token_of-token.ensures in
+    let at : slice_get c.args.lexed.now.tokens.items k ≡ Some token = subst (λ ts. slice_get ts k ≡ Some token) c.as_slice-in-Err-TooDeep.ensures.value
+    (subst (λ n. slice_get c.as_slice-in-Err-TooDeep.result.now n ≡ Some token) c.in-Err-TooDeep.k-is c.token_of-token.ensures) in
     told_deep c.args.given c.args.file.now found.messages.items found.late.items (map (λ name. name.now) c.as_slice.result.now) c.args.lexed.now k token found.checked
     (ap (map (λ name. name.now)) c.as_slice.ensures.value) (c.parse.ensures.too_deep k cc) at c.in_ok-found-in-Err-TooDeep.ensures.text c.in_ok-found-in-Err-TooDeep.ensures.none
