@@ -54,7 +54,7 @@ pub fn session<R: Source, S: Sink>(
 
 /// What may run or not. A function that owns a whole checked program and lends it is dear to prove; one
 /// that owns a value of a type parameter is not.
-trait MayRun {
+pub trait MayRun {
     ghost does_run: { Self → Bool };
 
     fn may_run(&self) -> bool
@@ -70,7 +70,7 @@ impl<'a> MayRun for Checked<'a> {
 }
 
 /// The same, where it runs.
-fn that_runs<T: MayRun + Drop>(checked: T) -> Option<T>
+pub fn that_runs<T: MayRun + Drop>(checked: T) -> Option<T>
     ensures { RunsOrNot T.does_run checked result }
 {
     if checked.may_run() {

@@ -1,5 +1,6 @@
 //! Each public call of the crates below, once.
 
+use crate::sessions::that_runs;
 use crate::tests::PROGRAM;
 use arrayvec::ArrayVec;
 use snl_check::{Checked, Options, Severity, check};
@@ -22,9 +23,7 @@ fn checked<'a>(alloc: Global, lexed: &Lexed<'a>) -> Result<Checked<'a>, Fail> {
 fn loaded(alloc: Global) -> Result<Box<Machine<'static>>, Fail> {
     let lexed = lex(alloc, PROGRAM)?;
     let checked = checked(alloc, &lexed)?;
-    if !checked.runs() {
-        return Err("does not run".into());
-    }
+    let checked = that_runs(checked).ok_or("does not run")?;
     let machine = Machine::load(alloc, checked, 10)?;
     Ok(Box::new(alloc, machine)?)
 }
@@ -52,24 +51,6 @@ fn messages_of_a_program(rt: HostRuntime) -> Result<(), Fail> {
         b"state 'hi' has no clauses".as_slice()
     );
     assert_eq!(rt; outcome.messages.len(), 1);
-    Ok(())
-}
-
-#[test]
-fn names_of_a_program(rt: HostRuntime) -> Result<(), Fail> {
-    let lexed = lex(rt.alloc(), PROGRAM)?;
-    let checked = checked(rt.alloc(), &lexed)?;
-    declarations(&rt, &checked)
-}
-
-/// `assign x` means the `x` after `int`, which is no use itself.
-fn declarations(rt: &impl Abort, checked: &Checked) -> Result<(), Fail> {
-    assert_eq!(rt; checked.program().name.text, b"p".as_slice());
-    let declared = checked.declared(35).ok_or("no declaration")?;
-    assert!(rt; declared.offset == 25 && declared.file == 0 && declared.line == 3);
-    assert!(rt; checked.declared(25).is_none() && checked.declared(36).is_none());
-    let options = checked.options();
-    assert!(rt; options.s == Some(true) && options.c.is_none() && checked.runs());
     Ok(())
 }
 
