@@ -114,6 +114,16 @@ def examples(root):
     for file in sorted(root.glob("examples/*.st")):
         trace, lines = (file.with_suffix(it).read_bytes() for it in (".trace", ".out"))
         yield Case(f"examples/{file.name}", file.read_bytes(), trace, stdout=lines)
+    for file in sorted(root.glob("examples/*/*.st")):
+        yield of_tables(f"examples/{file.name}", file.read_bytes(), file.with_suffix(".tables").read_bytes())
+    page = root / "docs/TABLES.md"
+    source, tables, *_ = re.findall(rb"^```\n(.*?)^```$", page.read_bytes(), re.DOTALL | re.MULTILINE)
+    yield of_tables("docs/TABLES.md", source, tables, ANY)
+
+
+def of_tables(name, source, tables, stderr=b""):
+    """A case for the tables of a program."""
+    return Case(name, source, words=[b"--tables", b"p.st"], tool="snc", stdout=tables, stderr=stderr)
 
 
 def not_in_readme(root):
