@@ -18,11 +18,11 @@ use Rattle.snl_text.specs.Lexing.{FaultHolds, GivesOnly, IsLexed}
 use Rattle.snl_text.proofs.Parts.{before_fault}
 use Rattle.snl_messages.specs.declared.messages.Severity.TheVariants.{Error}
 use Rattle.snl_tree.specs.declared.thin.trees.Program.{Program as Thin}
-use Rattle.snl_tree.specs.declared.trees.programs.Program.{Program}
-use Rattle.snl_tree.specs.Begins.{Spells, IsUnexpected, IsTooDeep}
-use Rattle.snl_tree.specs.Programs.{ProgramTree, IsProgram, programs}
+use Rattle.snl_syntax.specs.declared.programs.Program.{Program}
+use Rattle.snl_syntax.specs.Begins.{Spells, IsUnexpected, IsTooDeep}
+use Rattle.snl_syntax.specs.Programs.{ProgramTree, IsProgram, programs}
 use Rattle.snl_tree.specs.Thin.{StandsFor}
-use Rattle.snl_tree.specs.view.Programs.{first_place, program_view}
+use Rattle.snl_syntax.specs.view.Programs.{first_place, program_view}
 use Rattle.snl_sites.specs.declared.options.Options.{Options}
 use Rattle.snl_messages.specs.Messages.{Said, IsInOrder}
 use Rattle.snl_messages.specs.Says.{IsSaid}

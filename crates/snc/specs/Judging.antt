@@ -11,9 +11,9 @@ use Rattle.snl_text.specs.declared.faults.Flaw.TheVariants as flaw
 use Rattle.snl_text.specs.declared.tokens.Lexed.{Lexed}
 use Rattle.snl_text.specs.declared.tokens.Pos.{Pos}
 use Rattle.snl_text.specs.declared.tokens.Token.{Token}
-use Rattle.snl_tree.specs.Begins.{Spells, IsUnexpected, IsTooDeep}
-use Rattle.snl_tree.specs.Programs.{ProgramTree, IsProgram, programs}
-use Rattle.snl_tree.specs.view.Programs.{first_place}
+use Rattle.snl_syntax.specs.Begins.{Spells, IsUnexpected, IsTooDeep}
+use Rattle.snl_syntax.specs.Programs.{ProgramTree, IsProgram, programs}
+use Rattle.snl_syntax.specs.view.Programs.{first_place}
 use Rattle.snl_sites.specs.declared.options.Options.{Options}
 use Rattle.snl_messages.specs.declared.messages.Severity.TheVariants.{Error}
 use Rattle.snl_messages.specs.Messages.{Said, IsInOrder}

@@ -1,7 +1,7 @@
 -- What `report` and `session` answer.
 use Rattle.std.specs.Prelude.{◌≡◌, ◌⊎◌, ℕ, Bool, true, false, List, [], ◌∷◌, Option, None, Some}
 use Rattle.snl_tree.specs.declared.thin.trees.Program.{Program}
-use Rattle.snl_tree.specs.Programs.{ProgramTree}
+use Rattle.snl_syntax.specs.Programs.{ProgramTree}
 use Rattle.snl_tree.specs.Thin.{StandsFor}
 use Rattle.snl_sites.specs.declared.options.Options.{Options}
 use Rattle.snl_messages.specs.Messages.{Said}

@@ -2,7 +2,7 @@
 
 ghost use Rattle.std.specs.Prelude.{◌≡◌, ◌<◌, [], ◌∷◌, ◌++◌, map, take, length, codes, IfOk, IfSome, Some, slice_get};
 ghost use Rattle.std.specs.Option.{option_map};
-ghost use Rattle.snl_tree.specs.view.Programs.{program_view};
+ghost use Rattle.snl_syntax.specs.view.Programs.{program_view};
 ghost use Rattle.snl_messages.specs.Silence.{options_in_force};
 ghost use Rattle.snc.specs.Judging.{IsJudged, error_at, nesting_error, syntax_error, token_error};
 ghost use Rattle.snc.specs.Texts.{text_of};
@@ -10,8 +10,9 @@ ghost use Rattle.snc.specs.ReportSteps.{AreNamesOf, AreTokensTold, IsFaultTold, 
 
 use crate::lines::{Names, push_line, push_lines};
 use snl_check::{Checked, Options, Outcome, Severity, check};
+use snl_syntax::Program;
 use snl_text::{LexFault, Lexed, Pos, Token, lex};
-use snl_tree::{ParseFault, Program, parse};
+use snl_tree::{ParseFault, parse};
 use std::alloc::{AllocError, Global};
 
 /// What the rules say of a source: its messages as text, and the program if none is an error.

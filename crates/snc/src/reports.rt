@@ -2,7 +2,7 @@
 
 ghost use Rattle.std.specs.Prelude.{◌≡◌, if◌then◌else◌, IfOk, string_bytes};
 ghost use Rattle.std.specs.Option.{option_map};
-ghost use Rattle.snl_tree.specs.view.Programs.{program_view};
+ghost use Rattle.snl_syntax.specs.view.Programs.{program_view};
 ghost use Rattle.snl_links.specs.Tables.{tables};
 ghost use Rattle.snc.specs.Outcomes.{IsReport};
 ghost use Rattle.snc.specs.ReportSteps.{asked_tables};
@@ -12,7 +12,7 @@ use crate::messages::judged;
 use snc_words::Job;
 use snl_check::Checked;
 use snl_links::tables_of;
-use snl_tree::Program;
+use snl_syntax::Program;
 use std::alloc::{AllocError, Global};
 
 /// Reads and checks a program: all messages of the language, and the tables of its links and states where the job asks

@@ -1,7 +1,7 @@
 //! `session`: a source, and the run of its program over a trace.
 
 ghost use Rattle.std.specs.Prelude.{Bool, ◌≡◌, ◌-◌, ◌^◌, ◌<◌, ◌++◌, IfOk, OnErr, string_bytes};
-ghost use Rattle.snl_tree.specs.view.Programs.{program_view};
+ghost use Rattle.snl_syntax.specs.view.Programs.{program_view};
 ghost use Rattle.snl_check.specs.Runs.{does_run};
 ghost use Rattle.snc.specs.Outcomes.{IsSession, status_of};
 ghost use Rattle.snc.specs.ReportSteps.{RunsOrNot};

@@ -2,20 +2,20 @@
 use Rattle.std.proofs.Common.{◌≡◌, ℕ, ◌<◌, nat_eq, Bool, true, false, ◌&&◌, List, [], ◌∷◌, length, vec_len, map, Vec, Box, Global, refl, sym, ap, ◌∙◌, arith, eqb-true}
 use Rattle.std.specs.List.{list_all}
 use Rattle.snl_text.specs.declared.tokens.Token.{Token}
-use Rattle.snl_tree.specs.declared.trees.expressions.Expr.{Expr, Chain, Call}
-use Rattle.snl_tree.specs.declared.trees.expressions.Term.{Term}
-use Rattle.snl_tree.specs.declared.trees.expressions.Argument.{Argument, Value', Text}
-use Rattle.snl_tree.specs.declared.trees.statements.Block.{Block}
-use Rattle.snl_tree.specs.declared.trees.statements.Stmt.{Stmt}
-use Rattle.snl_tree.specs.Expressions.{ExprTree, chain, call, no_arguments}
-use Rattle.snl_tree.specs.Statements.{StatementTree, expression}
-use Rattle.snl_tree.specs.reading.Expressions.{term_list}
-use Rattle.snl_tree.specs.reading.Statements.{statement_list}
-use Rattle.snl_tree.specs.view.Expressions.{view, pair_of, list_before}
-use Rattle.snl_tree.specs.view.Declarations.{declaration_view}
-use Rattle.snl_tree.specs.view.Statements.{statement_view, statement_views, block_view}
+use Rattle.snl_syntax.specs.declared.expressions.Expr.{Expr, Chain, Call}
+use Rattle.snl_syntax.specs.declared.expressions.Term.{Term}
+use Rattle.snl_syntax.specs.declared.expressions.Argument.{Argument, Value', Text}
+use Rattle.snl_syntax.specs.declared.statements.Block.{Block}
+use Rattle.snl_syntax.specs.declared.statements.Stmt.{Stmt}
+use Rattle.snl_syntax.specs.Expressions.{ExprTree, chain, call, no_arguments}
+use Rattle.snl_syntax.specs.Statements.{StatementTree, expression}
+use Rattle.snl_syntax.specs.view.Lists.{term_list}
+use Rattle.snl_syntax.specs.view.Lists.{statement_list}
+use Rattle.snl_syntax.specs.view.Expressions.{view, pair_of, list_before}
+use Rattle.snl_syntax.specs.view.Declarations.{declaration_view}
+use Rattle.snl_syntax.specs.view.Statements.{statement_view, statement_views, block_view}
 use Rattle.snl_tree.specs.Thin.{is_one_name, is_thin_block, is_sum, are_joined, is_comparison, is_none_of, statements_of, is_thin_statement}
-use Rattle.snl_tree.proofs.code.Rows.{view_chain, view_call}
+use Rattle.snl_syntax.proofs.Rows.{view_chain, view_call}
 
 -- A chain is a sum where its first operand is one and the others are joined to it.
 pub chain_sum : (e : Expr) (b : Box Expr Global) (v : Vec Term Global) (items : List Term) → e ≡ Chain b v → items ≡ v.items

@@ -3,7 +3,7 @@ use Rattle.std.specs.Prelude.{◌≡◌, ℕ, true, false, List, [], ◌∷◌, 
 use Rattle.snl_text.specs.declared.kinds.Kind.TheVariants.{Name}
 use Rattle.snl_text.specs.declared.tokens.Pos.{Pos}
 use Rattle.snl_text.specs.declared.tokens.Token.{Token}
-use Rattle.snl_tree.specs.Programs.{ProgramTree}
+use Rattle.snl_syntax.specs.Programs.{ProgramTree}
 use Rattle.snl_sites.specs.declared.options.Options.{Options}
 use Rattle.snl_sites.specs.declared.sites.Meaning.{Meaning}
 use Rattle.snl_sites.specs.declared.sites.Meaning.TheVariants.{Variable, Flag, Number, Nothing}

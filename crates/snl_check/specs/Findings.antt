@@ -1,7 +1,7 @@
 -- What is found of a program.
 use Rattle.std.specs.Prelude.{◌≡◌, ◌↔◌, map, Contains}
-use Rattle.snl_tree.specs.declared.trees.programs.Program.{Program}
-use Rattle.snl_tree.specs.view.Programs.{program_view}
+use Rattle.snl_syntax.specs.declared.programs.Program.{Program}
+use Rattle.snl_syntax.specs.view.Programs.{program_view}
 use Rattle.snl_sites.specs.declared.options.Options.{Options}
 use Rattle.snl_messages.specs.Messages.{Said, IsInOrder, said}
 use Rattle.snl_messages.specs.Says.{IsSaid}

@@ -2,7 +2,7 @@
 use Rattle.std.specs.Prelude.{Bool, true, ◌&&◌, List, Option, None, Some, is_some, unwrap_or}
 use Rattle.std.specs.List.{list_all}
 use Rattle.snl_text.specs.declared.tokens.Token.{Token}
-use Rattle.snl_tree.specs.Programs.{ProgramTree}
+use Rattle.snl_syntax.specs.Programs.{ProgramTree}
 use Rattle.snl_tree.specs.Thin.{is_thin}
 use Rattle.snl_sites.specs.declared.options.Options.{Options}
 use Rattle.snl_sites.specs.declared.sites.Meaning.{Meaning}

@@ -3,8 +3,8 @@ use Rattle.std.specs.Prelude.{◌≡◌, ℕ, List, Option, None, Some, nat_eq}
 use Rattle.indexmap.specs.IndexMap.{get}
 use Rattle.std.specs.HashMap.{HashMap}
 use Rattle.snl_text.specs.declared.tokens.Pos.{Pos}
-use Rattle.snl_tree.specs.declared.trees.programs.Program.{Program}
-use Rattle.snl_tree.specs.view.Programs.{program_view}
+use Rattle.snl_syntax.specs.declared.programs.Program.{Program}
+use Rattle.snl_syntax.specs.view.Programs.{program_view}
 use Rattle.snl_sites.specs.declared.sites.Site.{Site}
 use Rattle.snl_sites.specs.Uses.{declared_in, declared_of}
 

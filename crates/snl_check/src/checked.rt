@@ -2,7 +2,7 @@
 
 ghost use Rattle.std.specs.Prelude.{◌≡◌, ◌↔◌, map, Contains, IfOk, IfSome, IsSome};
 ghost use Rattle.std.proofs.Props.{props};
-ghost use Rattle.snl_tree.specs.view.Programs.{program_view};
+ghost use Rattle.snl_syntax.specs.view.Programs.{program_view};
 ghost use Rattle.snl_sites.specs.Programs.{sites};
 ghost use Rattle.snl_sites.specs.Uses.{declared_of};
 ghost use Rattle.snl_messages.specs.Messages.{Said, IsInOrder, said};
@@ -17,8 +17,8 @@ use crate::runs::does_run;
 use crate::uses::{Places, declared_at};
 use snl_messages::Message;
 use snl_sites::Options;
+use snl_syntax::Program;
 use snl_text::Pos;
-use snl_tree::Program;
 use std::alloc::{AllocError, Global};
 
 /// A program of which no error is said.

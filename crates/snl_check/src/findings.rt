@@ -10,7 +10,7 @@ ghost use Rattle.snl_sites.specs.declared.options.Options as sites;
 use crate::uses::{Places, are_declared, places_of};
 use snl_messages::{Message, Severity, messages_of, options_in_force};
 use snl_sites::{Options, sites_of};
-use snl_tree::Program;
+use snl_syntax::Program;
 use std::alloc::{AllocError, Global};
 
 /// What is found of a program.

@@ -1,13 +1,13 @@
 //! Which programs run.
 
 ghost use Rattle.std.specs.Prelude.{◌≡◌};
-ghost use Rattle.snl_tree.specs.view.Programs.{program_view};
+ghost use Rattle.snl_syntax.specs.view.Programs.{program_view};
 ghost use Rattle.snl_sites.specs.Programs.{sites};
 ghost use Rattle.snl_check.specs.Runs as spec;
 
 use crate::thin::is_thin;
 use snl_sites::Options;
-use snl_tree::Program;
+use snl_syntax::Program;
 
 /// Whether a program waits for its channels before it starts (Compiling SNL Programs, "Options").
 fn waits(options: Options) -> bool

@@ -1,6 +1,6 @@
 -- A value needs room for one operand at least.
 use Rattle.std.proofs.Common.{◌≤◌, ◌+◌, ℕ, arith}
-use Rattle.snl_tree.specs.Expressions.{ExprTree, ArgumentList, constant, parenthesized, named, element, call, postfix, prefix, chain, conditional, assignment, no_arguments, value, text}
+use Rattle.snl_syntax.specs.Expressions.{ExprTree, ArgumentList, constant, parenthesized, named, element, call, postfix, prefix, chain, conditional, assignment, no_arguments, value, text}
 use Rattle.snl_code.specs.ExpressionCode.{expression_depth, target_depth, print_depth, wait_depth, called_depth, signed_depth, held_depth}
 use Rattle.snl_code.specs.Value.{Sign, Steps, Alone, Function, Prints, Delays, Others, function_of, compound_of, sign_of}
 

@@ -2,9 +2,9 @@
 use Rattle.std.proofs.Common.{◌≡◌, ◌+◌, ◌≤◌, ℕ, suc, [], ◌∷◌, ◌++◌, Option, None, Some, refl, arith, length, length-append}
 use Rattle.snl_text.specs.declared.kinds.Kind.{Kind}
 use Rattle.snl_text.specs.declared.kinds.Kind.TheVariants.{CloseParenthesis, CloseBracket, Colon, Question}
-use Rattle.snl_tree.specs.Slots.{The}
-use Rattle.snl_tree.specs.Slots.{Sign as Mark}
-use Rattle.snl_tree.specs.Expressions.{ExprTree, TermList, ArgumentList, constant, parenthesized, named, element, call, postfix, prefix, chain, conditional, assignment, no_terms, term, no_arguments, value, text, slots, term_slots, argument_slots, more_slots}
+use Rattle.snl_syntax.specs.Slots.{The}
+use Rattle.snl_syntax.specs.Slots.{Sign as Mark}
+use Rattle.snl_syntax.specs.Expressions.{ExprTree, TermList, ArgumentList, constant, parenthesized, named, element, call, postfix, prefix, chain, conditional, assignment, no_terms, term, no_arguments, value, text, slots, term_slots, argument_slots, more_slots}
 use Rattle.snl_code.specs.ExpressionCode.{expression_depth, terms_depth, target_depth, print_depth, values_depth, wait_depth, called_depth, joint_depth, signed_depth, held_depth}
 use Rattle.snl_code.specs.Value.{Sign, Steps, Alone, Joint, And, Or, Sequel, Operation, Function, Prints, Delays, Others, function_of, joint_of, compound_of, sign_of}
 

@@ -1,8 +1,8 @@
 -- No statement gives ticks back.
 use Rattle.std.proofs.Common.{ℕ, zero, suc, pos, Bool, true, false, List, [], ◌∷◌, Option, None, Some}
-use Rattle.snl_tree.specs.Expressions.{ExprTree}
-use Rattle.snl_tree.specs.Declarations.{DeclaratorTree}
-use Rattle.snl_tree.specs.Statements.{StatementTree, StatementList, BlockTree, nested, empty, expression, break_loop, continue_loop, change_state, if_then, if_else, while_loop, for_loop, no_statements, statement, block}
+use Rattle.snl_syntax.specs.Expressions.{ExprTree}
+use Rattle.snl_syntax.specs.Declarations.{DeclaratorTree}
+use Rattle.snl_syntax.specs.Statements.{StatementTree, StatementList, BlockTree, nested, empty, expression, break_loop, continue_loop, change_state, if_then, if_else, while_loop, for_loop, no_statements, statement, block}
 use Rattle.snl_sites.specs.Arithmetic.{is_zero}
 use Rattle.snl_code.specs.declared.instrs.Variable.{Variable}
 use Rattle.snl_code.specs.Effect.{Way, Done, Broken, Continued, Left, ends, done, if_done, unless_broken, holds, held_by, dropped, evaluated, turned, turns, looped, variable_for, cleared_maybe, all_cleared, begun, begun_with, values_of, all_begun, names_of, entered, effect_of, effects_of, block_effect}

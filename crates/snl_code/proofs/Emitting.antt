@@ -2,13 +2,13 @@
 use Rattle.std.proofs.Common.{◌≡◌, ◌∙◌, ℕ, ◌+◌, ◌-◌, ◌≤◌, Bool, true, false, List, [], ◌∷◌, ◌++◌, refl, sym, ap, arith, append_assoc, map, length, drop, Vec, Box, Global, None}
 use Rattle.snl_text.specs.declared.kinds.Kind.{Kind}
 use Rattle.snl_text.specs.declared.tokens.Token.{Token}
-use Rattle.snl_tree.specs.Expressions.{ExprTree, ArgumentList, assignment, postfix, prefix, no_arguments}
-use Rattle.snl_tree.specs.declared.trees.expressions.Expr.{Expr, Chain, Call}
-use Rattle.snl_tree.specs.declared.trees.expressions.Term.{Term}
-use Rattle.snl_tree.specs.declared.trees.expressions.Argument.{Argument}
-use Rattle.snl_tree.specs.reading.Expressions.{term_list}
-use Rattle.snl_tree.specs.view.Expressions.{view, pair_of, list_before}
-use Rattle.snl_tree.proofs.code.Rows.{view_chain, view_call}
+use Rattle.snl_syntax.specs.Expressions.{ExprTree, ArgumentList, assignment, postfix, prefix, no_arguments}
+use Rattle.snl_syntax.specs.declared.expressions.Expr.{Expr, Chain, Call}
+use Rattle.snl_syntax.specs.declared.expressions.Term.{Term}
+use Rattle.snl_syntax.specs.declared.expressions.Argument.{Argument}
+use Rattle.snl_syntax.specs.view.Lists.{term_list}
+use Rattle.snl_syntax.specs.view.Expressions.{view, pair_of, list_before}
+use Rattle.snl_syntax.proofs.Rows.{view_chain, view_call}
 use Rattle.snl_code.specs.declared.instrs.Instr.{Instr}
 use Rattle.snl_code.specs.declared.instrs.Instr.TheVariants.{Adjust, AdjustAt, Push}
 use Rattle.std.specs.Prelude.{pos}

@@ -1,7 +1,7 @@
 -- The code of a block's variables does what the entry of the block does.
 use Rattle.std.proofs.Common.{◌≡◌, ◌+◌, ◌≤◌, ℕ, suc, ℤ, List, [], ◌∷◌, ◌++◌, Option, None, Some, refl, arith, length, length-append}
-use Rattle.snl_tree.specs.Expressions.{ExprTree}
-use Rattle.snl_tree.specs.Declarations.{DeclaratorTree}
+use Rattle.snl_syntax.specs.Expressions.{ExprTree}
+use Rattle.snl_syntax.specs.Declarations.{DeclaratorTree}
 use Rattle.snl_code.specs.declared.instrs.Instr.{Instr}
 use Rattle.snl_code.specs.declared.instrs.Instr.TheVariants.{Clear}
 use Rattle.snl_code.specs.declared.instrs.Variable.{Variable}

@@ -1,6 +1,6 @@
 -- Code of a statement: where it leads, and how such facts are joined.
 use Rattle.std.proofs.Common.{◌≡◌, ◌∙◌, ◌+◌, ◌≤◌, ℕ, ℤ, Bool, true, false, List, [], ◌∷◌, ◌++◌, Option, None, Some, refl, sym, ap, subst, arith, length, length-append, if◌then◌else◌}
-use Rattle.snl_tree.specs.Expressions.{ExprTree}
+use Rattle.snl_syntax.specs.Expressions.{ExprTree}
 use Rattle.snl_sites.specs.Arithmetic.{is_zero}
 use Rattle.snl_code.specs.declared.instrs.Instr.{Instr}
 use Rattle.snl_code.specs.declared.instrs.Instr.TheVariants.{Drop, JumpIfZero}

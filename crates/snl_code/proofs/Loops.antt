@@ -1,7 +1,7 @@
 -- The code of a loop does what the loop does.
 use Rattle.std.proofs.Common.{◌≡◌, ◌+◌, ◌-◌, ◌<◌, ◌≤◌, ℕ, zero, suc, Bool, true, false, List, [], ◌∷◌, ◌++◌, Option, refl, arith, length, length-append, if◌then◌else◌}
 use Rattle.std.specs.Prelude.{max}
-use Rattle.snl_tree.specs.Expressions.{ExprTree}
+use Rattle.snl_syntax.specs.Expressions.{ExprTree}
 use Rattle.snl_code.specs.declared.instrs.Instr.{Instr}
 use Rattle.snl_code.specs.declared.instrs.Instr.TheVariants.{Tick}
 use Rattle.snl_code.specs.BlockCode.{dropped_code, test_code, maybe_depth, loop_code}

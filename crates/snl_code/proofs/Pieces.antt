@@ -1,7 +1,7 @@
 -- The code of a piece is right for it, wherever it stands.
 use Rattle.std.proofs.Common.{◌≡◌, ◌∙◌, ◌+◌, ◌*◌, ◌≤◌, ℕ, suc, ℤ, List, [], ◌∷◌, Some, refl, sym, ap, subst, arith, length, slice_get}
-use Rattle.snl_tree.specs.Expressions.{ExprTree}
-use Rattle.snl_tree.specs.Statements.{BlockTree}
+use Rattle.snl_syntax.specs.Expressions.{ExprTree}
+use Rattle.snl_syntax.specs.Statements.{BlockTree}
 use Rattle.snl_code.specs.declared.instrs.Instr.{Instr}
 use Rattle.snl_code.specs.declared.instrs.Instr.TheVariants.{End}
 use Rattle.snl_code.specs.BlockCode.{block_code, block_depth, condition_piece, block_piece}

@@ -1,6 +1,6 @@
 -- The code of a statement and of a block does what they do.
 use Rattle.std.proofs.Common.{◌≡◌, ◌+◌, ◌≤◌, ℕ, List, [], ◌∷◌, ◌++◌, None, Some, refl, ap, arith, length, length-append}
-use Rattle.snl_tree.specs.Statements.{StatementTree, StatementList, BlockTree, nested, empty, expression, break_loop, continue_loop, change_state, if_then, if_else, while_loop, for_loop, no_statements, statement, block}
+use Rattle.snl_syntax.specs.Statements.{StatementTree, StatementList, BlockTree, nested, empty, expression, break_loop, continue_loop, change_state, if_then, if_else, while_loop, for_loop, no_statements, statement, block}
 use Rattle.snl_code.specs.declared.instrs.Instr.{Instr}
 use Rattle.snl_code.specs.declared.instrs.Instr.TheVariants.{Drop, Jump, JumpIfZero}
 use Rattle.snl_code.specs.BlockCode.{dropped_code, test_code, loop_code, when_code, entered_code, statement_code, statements_code, block_code, statement_depth, statements_depth, block_depth}

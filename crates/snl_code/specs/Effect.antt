@@ -1,9 +1,9 @@
 -- What a statement or a block does, for a state set in a world.
 use Rattle.std.specs.Prelude.{ℕ, zero, suc, ℤ, pos, Bool, true, false, List, [], ◌∷◌, Option, None, Some, if◌then◌else◌}
 use Rattle.std.specs.List.{flat_map}
-use Rattle.snl_tree.specs.Expressions.{ExprTree}
-use Rattle.snl_tree.specs.Declarations.{InitialiserTree, DeclaratorTree, DeclarationTree, single, listed}
-use Rattle.snl_tree.specs.Statements.{StatementTree, StatementList, BlockTree, nested, empty, expression, break_loop, continue_loop, change_state, if_then, if_else, while_loop, for_loop, no_statements, statement, block}
+use Rattle.snl_syntax.specs.Expressions.{ExprTree}
+use Rattle.snl_syntax.specs.Declarations.{InitialiserTree, DeclaratorTree, DeclarationTree, single, listed}
+use Rattle.snl_syntax.specs.Statements.{StatementTree, StatementList, BlockTree, nested, empty, expression, break_loop, continue_loop, change_state, if_then, if_else, while_loop, for_loop, no_statements, statement, block}
 use Rattle.snl_sites.specs.Arithmetic.{is_zero}
 use Rattle.snl_sites.specs.Types.{listed_values}
 use Rattle.snl_code.specs.declared.faults.Fault.TheVariants.{BudgetSpent}

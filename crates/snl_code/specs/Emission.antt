@@ -2,9 +2,9 @@
 use Rattle.std.specs.Prelude.{ℕ, List, [], ◌∷◌, ◌++◌, pos, Bool, None}
 use Rattle.std.proofs.Common.{inl, inr}
 use Rattle.snl_text.specs.declared.tokens.Token.{Token}
-use Rattle.snl_tree.specs.declared.trees.expressions.Argument.{Argument, Value', Text}
-use Rattle.snl_tree.specs.view.Expressions.{view}
-use Rattle.snl_tree.specs.Expressions.{ExprTree, ArgumentList}
+use Rattle.snl_syntax.specs.declared.expressions.Argument.{Argument, Value', Text}
+use Rattle.snl_syntax.specs.view.Expressions.{view}
+use Rattle.snl_syntax.specs.Expressions.{ExprTree, ArgumentList}
 use Rattle.snl_code.specs.declared.instrs.Instr.{Instr}
 use Rattle.snl_code.specs.declared.instrs.Instr.TheVariants.{Push}
 use Rattle.snl_code.specs.ExpressionCode.{expression_code, joint_code, signed_code, at_code, get_code, called_code, print_code, wait_code}

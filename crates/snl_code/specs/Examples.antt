@@ -4,8 +4,8 @@ use Rattle.std.specs.Fmt.{signed_decimal}
 use Rattle.snl_text.specs.declared.kinds.Kind.{Kind}
 use Rattle.snl_text.specs.declared.kinds.Kind.TheVariants as kind
 use Rattle.snl_text.specs.declared.tokens.Token.{Token}
-use Rattle.snl_tree.specs.Expressions.{ExprTree, constant, named, element, call, postfix, chain, assignment, no_terms, term, no_arguments, value, text}
-use Rattle.snl_tree.specs.Statements.{StatementTree, StatementList, nested, expression, break_loop, continue_loop, change_state, if_then, while_loop, for_loop, no_statements, statement, block}
+use Rattle.snl_syntax.specs.Expressions.{ExprTree, constant, named, element, call, postfix, chain, assignment, no_terms, term, no_arguments, value, text}
+use Rattle.snl_syntax.specs.Statements.{StatementTree, StatementList, nested, expression, break_loop, continue_loop, change_state, if_then, while_loop, for_loop, no_statements, statement, block}
 use Rattle.snl_sites.specs.declared.sites.Meaning.TheVariants.{Variable}
 use Rattle.snl_sites.specs.declared.sites.Purpose.TheVariants.{Read}
 use Rattle.snl_sites.specs.declared.sites.Site.TheVariants.{Use, Format}

@@ -2,7 +2,7 @@
 use Rattle.std.specs.Prelude.{ℕ, suc, ◌+◌, pos, true, false, not, List, [], ◌∷◌, ◌++◌, Option, None, Some, length, max}
 use Rattle.snl_text.specs.declared.kinds.Kind.{Kind}
 use Rattle.snl_text.specs.declared.tokens.Token.{Token}
-use Rattle.snl_tree.specs.Expressions.{ExprTree, TermList, ArgumentList, constant, parenthesized, named, element, call, postfix, prefix, chain, conditional, assignment, no_terms, term, no_arguments, value, text}
+use Rattle.snl_syntax.specs.Expressions.{ExprTree, TermList, ArgumentList, constant, parenthesized, named, element, call, postfix, prefix, chain, conditional, assignment, no_terms, term, no_arguments, value, text}
 use Rattle.snl_code.specs.declared.instrs.Instr.{Instr}
 use Rattle.snl_code.specs.declared.instrs.Instr.TheVariants.{Push, Load, Check, Get, Peek, Store, StoreAt, Adjust, AdjustAt, Apply, ApplyPrefix, Settle, Drop, Jump, JumpIfZero, Print, Wait}
 use Rattle.snl_code.specs.declared.instrs.Variable.{Variable}

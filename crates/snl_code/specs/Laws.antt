@@ -1,7 +1,7 @@
 -- Laws of the meaning.
 use Rattle.std.specs.Prelude.{◌≡◌, ◌<◌, ℕ, List, ◌∷◌, ◌++◌, Option}
-use Rattle.snl_tree.specs.Expressions.{ExprTree}
-use Rattle.snl_tree.specs.Statements.{StatementTree}
+use Rattle.snl_syntax.specs.Expressions.{ExprTree}
+use Rattle.snl_syntax.specs.Statements.{StatementTree}
 use Rattle.snl_code.specs.Effect.{held_by, evaluated, turns, looped, effect_of}
 use Rattle.snl_code.specs.Names.{Here, text_number, text_of}
 use Rattle.snl_code.specs.World.{World}

@@ -3,7 +3,7 @@ use Rattle.std.specs.Prelude.{ℕ, suc, ℤ, pos, ◌==◌, bytes_eq, List, [], 
 use Rattle.std.specs.List.{flat_map}
 use Rattle.snl_text.specs.declared.tokens.Pos.{Pos}
 use Rattle.snl_text.specs.declared.tokens.Token.{Token}
-use Rattle.snl_tree.specs.Programs.{ProgramTree, StateSetTree}
+use Rattle.snl_syntax.specs.Programs.{ProgramTree, StateSetTree}
 use Rattle.snl_sites.specs.declared.sites.Site.{Site}
 use Rattle.snl_sites.specs.declared.sites.Site.TheVariants.{Format}
 use Rattle.snl_sites.specs.Constants.{predefined}

@@ -1,11 +1,11 @@
 //! How operators, signs and calls are told apart.
 
 ghost use Rattle.std.specs.Prelude.{◌≡◌};
-ghost use Rattle.snl_tree.specs.view.Expressions.{view};
+ghost use Rattle.snl_syntax.specs.view.Expressions.{view};
 ghost use Rattle.snl_code.specs.Value as spec;
 
+use snl_syntax::Expr;
 use snl_text::Kind;
-use snl_tree::Expr;
 
 /// How an operator joins what stands left of it and its operand.
 #[derive(Clone, Copy)]

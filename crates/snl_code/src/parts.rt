@@ -2,8 +2,8 @@
 
 ghost use Rattle.std.specs.Prelude.{◌≡◌, ◌++◌, reverse, OnOk};
 ghost use Rattle.std.specs.List.{flat_map};
-ghost use Rattle.snl_tree.specs.view.Expressions.{list_before};
-ghost use Rattle.snl_tree.specs.Expressions.{no_arguments};
+ghost use Rattle.snl_syntax.specs.view.Expressions.{list_before};
+ghost use Rattle.snl_syntax.specs.Expressions.{no_arguments};
 ghost use Rattle.snl_code.specs.ExpressionCode.{name_code, count_values};
 ghost use Rattle.snl_code.specs.Names.{format_at, text_number};
 ghost use Rattle.snl_code.specs.Targets as spec;
@@ -12,8 +12,8 @@ use crate::instrs::Instr;
 use crate::names::Sense;
 use crate::rows::put;
 use snl_sites::Site;
+use snl_syntax::Argument;
 use snl_text::Kind;
-use snl_tree::Argument;
 use std::alloc::AllocError;
 
 /// The instruction of a name that is read.

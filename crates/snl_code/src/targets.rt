@@ -1,15 +1,15 @@
 //! The code of what is done at a target, after its subscript and the right side.
 
 ghost use Rattle.std.specs.Prelude.{◌≡◌, ◌∷◌, ◌++◌, reverse, OnOk};
-ghost use Rattle.snl_tree.specs.view.Expressions.{view};
+ghost use Rattle.snl_syntax.specs.view.Expressions.{view};
 ghost use Rattle.snl_code.specs.Known.{here_of};
 ghost use Rattle.snl_code.specs.Targets as spec;
 
 use crate::instrs::Instr;
 use crate::names::{Known, Sense};
 use crate::rows::put;
+use snl_syntax::Expr;
 use snl_text::Kind;
-use snl_tree::Expr;
 use std::alloc::AllocError;
 
 /// A store, and before it the operator of a compound assignment.

@@ -1,12 +1,12 @@
 -- Laws of links.
 use Rattle.std.proofs.Common.{◌≡◌, ℕ, List, [], ◌∷◌, ◌++◌, map, ap, ◌∙◌, append_assoc}
 use Rattle.std.specs.List.{flat_map}
-use Rattle.snl_tree.specs.declared.trees.definitions.Def.{Def}
-use Rattle.snl_tree.specs.declared.trees.programs.Program.{Program}
-use Rattle.snl_tree.specs.declared.trees.programs.State.{State}
-use Rattle.snl_tree.specs.declared.trees.programs.StateSet.{StateSet}
-use Rattle.snl_tree.specs.view.Definitions.{definition_view}
-use Rattle.snl_tree.specs.view.Programs.{state_view, state_set_view, program_view}
+use Rattle.snl_syntax.specs.declared.definitions.Def.{Def}
+use Rattle.snl_syntax.specs.declared.programs.Program.{Program}
+use Rattle.snl_syntax.specs.declared.programs.State.{State}
+use Rattle.snl_syntax.specs.declared.programs.StateSet.{StateSet}
+use Rattle.snl_syntax.specs.view.Definitions.{definition_view}
+use Rattle.snl_syntax.specs.view.Programs.{state_view, state_set_view, program_view}
 use Rattle.snl_sites.specs.Scopes.{Scope, scope_of}
 use Rattle.snl_links.specs.declared.ties.Tie.{Tie}
 use Rattle.snl_links.specs.Links.{Said, said_in, said_in_state, said_in_set, said_in_program, link_by}

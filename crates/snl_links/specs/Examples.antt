@@ -3,11 +3,11 @@ use Rattle.std.specs.Prelude.{◌≡◌, true, false, List, [], ◌∷◌, ◌++
 use Rattle.snl_text.specs.declared.tokens.Token.{Token}
 use Rattle.snl_text.specs.declared.kinds.Kind.{Kind}
 use Rattle.snl_text.specs.declared.kinds.Kind.TheVariants as kind
-use Rattle.snl_tree.specs.Statements.{no_statements, block}
-use Rattle.snl_tree.specs.Expressions.{ExprTree, constant}
-use Rattle.snl_tree.specs.Declarations.{DeclaratorTree}
-use Rattle.snl_tree.specs.Definitions.{DefinitionTree, PlaceTree, NamesTree, one_name, name_list, declaration, assign, monitor, sync_queue, event_flags, setting}
-use Rattle.snl_tree.specs.Programs.{TargetTree, to_state, to_exit, ClauseTree, StateTree, ProgramTree}
+use Rattle.snl_syntax.specs.Statements.{no_statements, block}
+use Rattle.snl_syntax.specs.Expressions.{ExprTree, constant}
+use Rattle.snl_syntax.specs.Declarations.{DeclaratorTree}
+use Rattle.snl_syntax.specs.Definitions.{DefinitionTree, PlaceTree, NamesTree, one_name, name_list, declaration, assign, monitor, sync_queue, event_flags, setting}
+use Rattle.snl_syntax.specs.Programs.{TargetTree, to_state, to_exit, ClauseTree, StateTree, ProgramTree}
 use Rattle.snl_links.specs.Links.{links}
 use Rattle.snl_links.specs.Macros.{macros_of, after_macros}
 use Rattle.snl_links.specs.Tables.{tables}

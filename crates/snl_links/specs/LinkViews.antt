@@ -1,7 +1,7 @@
 -- Plain forms of what the code hands on while it makes links.
 use Rattle.std.specs.Prelude.{List, [], ◌∷◌, Option, None, Some}
-use Rattle.snl_tree.specs.view.Shown.{shown}
-use Rattle.snl_tree.specs.view.Definitions.{channels_view}
+use Rattle.snl_syntax.specs.view.Shown.{shown}
+use Rattle.snl_syntax.specs.view.Definitions.{channels_view}
 use Rattle.snl_links.specs.declared.said.Said.{Said}
 use Rattle.snl_links.specs.declared.said.Said.TheVariants as declared
 use Rattle.snl_links.specs.declared.ties.Synced.{Synced}

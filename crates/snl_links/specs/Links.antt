@@ -4,8 +4,8 @@ use Rattle.std.specs.List.{flat_map, list_any}
 use Rattle.std.specs.Option.{option_or}
 use Rattle.snl_text.specs.declared.tokens.Pos.{Pos}
 use Rattle.snl_text.specs.declared.tokens.Token.{Token}
-use Rattle.snl_tree.specs.Definitions.{PlaceTree, one_name, name_list, ChannelsTree, FlagTree, DefinitionTree, assign, monitor, sync, sync_queue}
-use Rattle.snl_tree.specs.Programs.{StateTree, StateSetTree, ProgramTree}
+use Rattle.snl_syntax.specs.Definitions.{PlaceTree, one_name, name_list, ChannelsTree, FlagTree, DefinitionTree, assign, monitor, sync, sync_queue}
+use Rattle.snl_syntax.specs.Programs.{StateTree, StateSetTree, ProgramTree}
 use Rattle.snl_sites.specs.declared.sites.Extent.{Extent}
 use Rattle.snl_sites.specs.declared.sites.Extent.TheVariants.{Whole, Front, Element}
 use Rattle.snl_sites.specs.declared.sites.Meaning.{Meaning}

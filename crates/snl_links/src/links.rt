@@ -1,15 +1,15 @@
 //! The links of a program, with the names of channels after macros.
 
 ghost use Rattle.std.specs.Prelude.{◌≡◌, ◌++◌, map, option_map, [], ◌∷◌, IfOk, OnOk};
-ghost use Rattle.snl_tree.specs.view.Programs.{program_view};
+ghost use Rattle.snl_syntax.specs.view.Programs.{program_view};
 ghost use Rattle.snl_links.specs.Links as spec;
 ghost use Rattle.snl_links.specs.LinkViews.{link_view};
 ghost use Rattle.snl_links.specs.MacroTables.{value_in};
 
 use crate::macros::MacroTable;
 use crate::ties::{Named, Tie, ties_of};
+use snl_syntax::Program;
 use snl_text::{Pos, Token};
-use snl_tree::Program;
 use std::alloc::{AllocError, Global};
 
 /// The macros of a run, as a text like that after the name of a program: `NAME=VALUE`, with commas between the definitions.

@@ -2,9 +2,9 @@
 
 ghost use Rattle.std.specs.Prelude.{◌≡◌, ◌++◌, map, OnOk, IfOk};
 ghost use Rattle.std.specs.List.{flat_map};
-ghost use Rattle.snl_tree.specs.view.Shown.{shown};
-ghost use Rattle.snl_tree.specs.view.Definitions.{place_view, flag_view, definition_view};
-ghost use Rattle.snl_tree.specs.view.Programs.{state_view, state_set_view, program_view};
+ghost use Rattle.snl_syntax.specs.view.Shown.{shown};
+ghost use Rattle.snl_syntax.specs.view.Definitions.{place_view, flag_view, definition_view};
+ghost use Rattle.snl_syntax.specs.view.Programs.{state_view, state_set_view, program_view};
 ghost use Rattle.snl_sites.specs.Chains.{scopes_of};
 ghost use Rattle.snl_sites.specs.Parts.{element_by};
 ghost use Rattle.snl_sites.specs.Scopes as scopes;
@@ -15,8 +15,8 @@ ghost use Rattle.snl_links.specs.LinkViews.{said_view, said_views};
 use crate::scoping::scope_of;
 use crate::ties::Named;
 use snl_sites::{Constant, Extent, Meaning, Part, Scope, Scopes, constant_of};
+use snl_syntax::{Channels, Def, Flag, Place, Program, State, StateSet};
 use snl_text::{Token, whole_value};
-use snl_tree::{Channels, Def, Flag, Place, Program, State, StateSet};
 use std::alloc::{AllocError, Global};
 
 /// What a definition says of some elements.

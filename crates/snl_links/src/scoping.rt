@@ -2,16 +2,16 @@
 
 ghost use Rattle.std.specs.Prelude.{◌≡◌, ◌++◌, map, OnOk, IfOk};
 ghost use Rattle.std.specs.List.{flat_map};
-ghost use Rattle.snl_tree.specs.view.Expressions.{boxed};
-ghost use Rattle.snl_tree.specs.view.Declarations.{declaration_view};
-ghost use Rattle.snl_tree.specs.view.Definitions.{definition_view};
-ghost use Rattle.snl_tree.specs.Definitions.{declaration};
+ghost use Rattle.snl_syntax.specs.view.Expressions.{boxed};
+ghost use Rattle.snl_syntax.specs.view.Declarations.{declaration_view};
+ghost use Rattle.snl_syntax.specs.view.Definitions.{definition_view};
+ghost use Rattle.snl_syntax.specs.Definitions.{declaration};
 ghost use Rattle.snl_sites.specs.Chains.{scopes_of};
 ghost use Rattle.snl_sites.specs.Scopes as spec;
 
 use snl_sites::{Constant, Declared, Scope, Scopes, Size, constant_of};
+use snl_syntax::{Declaration, Def, Expr};
 use snl_text::Token;
-use snl_tree::{Declaration, Def, Expr};
 use std::alloc::{AllocError, Global};
 
 /// What a constant says as the size of an array.

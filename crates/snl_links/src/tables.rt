@@ -2,8 +2,8 @@
 
 ghost use Rattle.std.specs.Prelude.{◌≡◌, ◌++◌, map, codes, OnOk, OnErr};
 ghost use Rattle.std.specs.List.{flat_map};
-ghost use Rattle.snl_tree.specs.view.Definitions.{definition_view};
-ghost use Rattle.snl_tree.specs.view.Programs.{target_view, clause_view, state_view, state_set_view, program_view};
+ghost use Rattle.snl_syntax.specs.view.Definitions.{definition_view};
+ghost use Rattle.snl_syntax.specs.view.Programs.{target_view, clause_view, state_view, state_set_view, program_view};
 ghost use Rattle.snl_sites.specs.Options.{is_among};
 ghost use Rattle.snl_links.specs.Appended.{Begun};
 ghost use Rattle.snl_links.specs.Tables as spec;
@@ -12,8 +12,8 @@ use crate::appending::put_pieces;
 use crate::links::spelled;
 use crate::ties::{Named, Tie, ties_of};
 use itoa::Buffer;
+use snl_syntax::{Clause, Def, Program, State, StateSet, Target};
 use snl_text::Kind;
-use snl_tree::{Clause, Def, Program, State, StateSet, Target};
 use std::alloc::{AllocError, Global};
 
 /// The name of an event flag, or `-`.

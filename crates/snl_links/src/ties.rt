@@ -2,16 +2,16 @@
 
 ghost use Rattle.std.specs.Prelude.{◌≡◌, ◌++◌, map, IfOk, OnOk};
 ghost use Rattle.std.specs.List.{flat_map};
-ghost use Rattle.snl_tree.specs.view.Shown.{shown};
-ghost use Rattle.snl_tree.specs.view.Definitions.{channels_view};
-ghost use Rattle.snl_tree.specs.view.Programs.{program_view};
+ghost use Rattle.snl_syntax.specs.view.Shown.{shown};
+ghost use Rattle.snl_syntax.specs.view.Definitions.{channels_view};
+ghost use Rattle.snl_syntax.specs.view.Programs.{program_view};
 ghost use Rattle.snl_links.specs.Links as spec;
 ghost use Rattle.snl_links.specs.LinkViews.{said_view, synced_view};
 
 use crate::said::{Said, push_said};
 use snl_sites::{Extent, Part};
+use snl_syntax::{ChannelNames, Channels, Program};
 use snl_text::{Pos, Token};
-use snl_tree::{ChannelNames, Channels, Program};
 use std::alloc::{AllocError, Global};
 
 /// A declared name, with the place of its declaration.

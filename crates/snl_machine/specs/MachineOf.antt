@@ -1,6 +1,6 @@
 -- What a machine holds: its program, and the world that its run has come to.
 use Rattle.std.specs.Prelude.{◌≡◌, ℕ}
-use Rattle.snl_tree.specs.Programs.{ProgramTree}
+use Rattle.snl_syntax.specs.Programs.{ProgramTree}
 use Rattle.snl_tree.specs.Thin.{StandsFor}
 use Rattle.snl_tree.specs.declared.thin.trees.Program.{Program as TreeProgram}
 use Rattle.snl_machine.specs.declared.machine.Machine.{Machine}

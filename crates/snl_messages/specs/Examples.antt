@@ -4,7 +4,7 @@ use Rattle.snl_text.specs.declared.kinds.Kind.TheVariants.{Name, Plus, Minus}
 use Rattle.snl_text.specs.declared.kinds.Kind.{Kind}
 use Rattle.snl_text.specs.declared.tokens.Pos.{Pos}
 use Rattle.snl_text.specs.declared.tokens.Token.{Token}
-use Rattle.snl_tree.specs.Definitions.{DefinitionTree, setting}
+use Rattle.snl_syntax.specs.Definitions.{DefinitionTree, setting}
 use Rattle.snl_sites.specs.declared.options.Options.{Options}
 use Rattle.snl_sites.specs.Options.{no_options}
 use Rattle.snl_sites.specs.declared.sites.Meaning.{Meaning}

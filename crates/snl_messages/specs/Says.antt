@@ -2,7 +2,7 @@
 use Rattle.std.specs.Prelude.{◌≡◌, ◌⊎◌, true, false, List, [], Option, Some, Contains}
 use Rattle.snl_text.specs.declared.tokens.Pos.{Pos}
 use Rattle.snl_text.specs.declared.tokens.Token.{Token}
-use Rattle.snl_tree.specs.Programs.{ProgramTree}
+use Rattle.snl_syntax.specs.Programs.{ProgramTree}
 use Rattle.snl_sites.specs.declared.options.Options.{Options}
 use Rattle.snl_sites.specs.Programs.{sites}
 use Rattle.snl_rules.specs.declared.rules.Broken.{Broken}

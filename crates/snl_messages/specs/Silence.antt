@@ -1,7 +1,7 @@
 -- The options in force, and the messages that they let through.
 use Rattle.std.specs.Prelude.{ℕ, Bool, true, false, not, ◌&&◌, ◌||◌, ◌==◌, List, [], ◌∷◌, unwrap_or}
-use Rattle.snl_tree.specs.Definitions.{DefinitionTree, setting}
-use Rattle.snl_tree.specs.Programs.{ProgramTree}
+use Rattle.snl_syntax.specs.Definitions.{DefinitionTree, setting}
+use Rattle.snl_syntax.specs.Programs.{ProgramTree}
 use Rattle.snl_sites.specs.declared.options.Options.{Options}
 use Rattle.snl_sites.specs.Options.{is_on, after_option}
 use Rattle.snl_messages.specs.declared.messages.Severity.{Severity}

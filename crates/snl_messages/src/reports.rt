@@ -1,7 +1,7 @@
 //! All messages of a program.
 
 ghost use Rattle.std.specs.Prelude.{◌≡◌, ◌↔◌, ◌⊎◌, true, map, Contains, OnOk, IfOk};
-ghost use Rattle.snl_tree.specs.view.Programs.{program_view};
+ghost use Rattle.snl_syntax.specs.view.Programs.{program_view};
 ghost use Rattle.snl_sites.specs.Programs as spec;
 ghost use Rattle.snl_messages.specs.Findings.{Finding};
 ghost use Rattle.snl_messages.specs.Entries.{finding_in};
@@ -20,8 +20,8 @@ use crate::ordering::in_order;
 use crate::silence::{options_in_force, silence};
 use snl_rules::{Broken, broken_rules, is_overfull, overfull_sets, unreached};
 use snl_sites::{Options, Site, sites_of};
+use snl_syntax::Program;
 use snl_text::Token;
-use snl_tree::Program;
 use std::alloc::{AllocError, Global};
 
 /// All that is found of a program but for the limits of words, from the rules that are broken and

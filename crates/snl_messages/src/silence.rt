@@ -1,15 +1,15 @@
 //! The options in force, and the messages that they let through.
 
 ghost use Rattle.std.specs.Prelude.{◌≡◌, filter};
-ghost use Rattle.snl_tree.specs.view.Definitions.{definition_view};
-ghost use Rattle.snl_tree.specs.view.Programs.{program_view};
+ghost use Rattle.snl_syntax.specs.view.Definitions.{definition_view};
+ghost use Rattle.snl_syntax.specs.view.Programs.{program_view};
 ghost use Rattle.snl_messages.specs.Entries.{finding_in, severity_by};
 ghost use Rattle.snl_messages.specs.Silence as spec;
 
 use crate::entries::Entry;
 use snl_sites::Options;
+use snl_syntax::{Def, Program};
 use snl_text::Kind;
-use snl_tree::{Def, Program};
 
 /// The options in force after a definition, where `before` were.
 fn after_definition(before: Options, definition: &Def) -> Options

@@ -4,10 +4,10 @@ use Rattle.std.proofs.lemmas.Bool.{lt-ltb, le-ltb, ltb-true, cases_lt}
 use Rattle.std.proofs.lemmas.List.Elements.{Contains-append_cases, Contains-append_left, Contains-append_right, Contains-push, Contains-push_cases}
 use Rattle.std.proofs.lemmas.Option.{none-some, same_Some}
 use Rattle.snl_text.specs.declared.tokens.Token.{Token}
-use Rattle.snl_tree.specs.declared.trees.programs.StateSet.{StateSet}
-use Rattle.snl_tree.specs.declared.trees.programs.Program.{Program}
-use Rattle.snl_tree.specs.view.Programs.{state_set_view, program_view}
-use Rattle.snl_tree.specs.Programs.{StateSetTree, ProgramTree}
+use Rattle.snl_syntax.specs.declared.programs.StateSet.{StateSet}
+use Rattle.snl_syntax.specs.declared.programs.Program.{Program}
+use Rattle.snl_syntax.specs.view.Programs.{state_set_view, program_view}
+use Rattle.snl_syntax.specs.Programs.{StateSetTree, ProgramTree}
 use Rattle.snl_rules.specs.Words.{set_words, IsOverfullSet}
 use Rattle.snl_rules.specs.Counts.{capped, overfull_at, overfull_from}
 use Rattle.snl_rules.proofs.CountLaws.{row_from}

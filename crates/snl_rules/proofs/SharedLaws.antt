@@ -1,7 +1,7 @@
 -- The words of a state set's store in two shares: what all state sets hold, and what one holds alone.
 use Rattle.std.proofs.Common.{◌≡◌, ℕ, ◌+◌, ◌-◌, ◌^◌, min, List, [], ◌∷◌, ◌++◌, ap, ◌∙◌, append_assoc, sum_by, arith}
 use Rattle.std.proofs.lemmas.List.Sums.{sum_by-append}
-use Rattle.snl_tree.specs.Programs.{ProgramTree}
+use Rattle.snl_syntax.specs.Programs.{ProgramTree}
 use Rattle.snl_sites.specs.Programs.{program_scopes}
 use Rattle.snl_sites.specs.Variables.{Held, by_definitions, by_parts}
 use Rattle.snl_rules.specs.declared.words.Shared.{Shared}

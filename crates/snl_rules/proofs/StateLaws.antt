@@ -1,7 +1,7 @@
 -- The names of states, in a list of declared states.
 use Rattle.std.proofs.Common.{◌≡◌, ℕ, ◌+◌, ◌<◌, suc, zero, List, [], ◌∷◌, length, get_or, take, map, Option, refl, sym, ap, ◌∙◌, arith}
-use Rattle.snl_tree.specs.declared.trees.programs.State.{State}
-use Rattle.snl_tree.specs.view.Programs.{state_view}
+use Rattle.snl_syntax.specs.declared.programs.State.{State}
+use Rattle.snl_syntax.specs.view.Programs.{state_view}
 use Rattle.snl_sites.specs.Numbered.{number_of}
 use Rattle.snl_sites.specs.NumberTables.{only_number}
 use Rattle.snl_sites.specs.Scopes.{or_in}

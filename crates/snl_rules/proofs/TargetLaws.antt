@@ -1,10 +1,10 @@
 -- The targets in a statement that is a block.
 use Rattle.std.proofs.Common.{◌≡◌, List, ◌++◌, sym, ap, ◌∙◌}
 use Rattle.snl_text.specs.declared.tokens.Token.{Token}
-use Rattle.snl_tree.specs.declared.trees.statements.Block.{Block as DeclaredBlock}
-use Rattle.snl_tree.specs.declared.trees.statements.Stmt.{Stmt, Block}
-use Rattle.snl_tree.specs.view.Statements.{statement_view, block_view}
-use Rattle.snl_tree.proofs.code.StatementRows.{view_block}
+use Rattle.snl_syntax.specs.declared.statements.Block.{Block as DeclaredBlock}
+use Rattle.snl_syntax.specs.declared.statements.Stmt.{Stmt, Block}
+use Rattle.snl_syntax.specs.view.Statements.{statement_view, block_view}
+use Rattle.snl_syntax.proofs.StatementRows.{view_block}
 use Rattle.snl_rules.specs.Reach.{targets_in_statement, targets_in_block}
 
 -- a block that stands among statements

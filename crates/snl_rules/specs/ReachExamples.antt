@@ -2,10 +2,10 @@
 use Rattle.std.specs.Prelude.{◌≡◌, ℕ, false, List, [], ◌∷◌, Option, Some, None, codes}
 use Rattle.snl_text.specs.declared.tokens.Token.{Token}
 use Rattle.snl_text.specs.declared.kinds.Kind.TheVariants as kind
-use Rattle.snl_tree.specs.Declarations.{DeclaratorTree, DeclarationTree}
-use Rattle.snl_tree.specs.Definitions.{DefinitionTree}
-use Rattle.snl_tree.specs.Statements.{StatementTree, BlockTree, nested, change_state, if_then, while_loop, no_statements, statement, block}
-use Rattle.snl_tree.specs.Programs.{TargetTree, to_state, to_exit, ClauseTree, StateTree, StateSetTree, ProgramTree}
+use Rattle.snl_syntax.specs.Declarations.{DeclaratorTree, DeclarationTree}
+use Rattle.snl_syntax.specs.Definitions.{DefinitionTree}
+use Rattle.snl_syntax.specs.Statements.{StatementTree, BlockTree, nested, change_state, if_then, while_loop, no_statements, statement, block}
+use Rattle.snl_syntax.specs.Programs.{TargetTree, to_state, to_exit, ClauseTree, StateTree, StateSetTree, ProgramTree}
 use Rattle.snl_sites.specs.declared.sites.Extent.{Extent}
 use Rattle.snl_sites.specs.declared.sites.Extent.TheVariants.{Whole, Front, Element}
 use Rattle.snl_sites.specs.declared.sites.Meaning.TheVariants.{Nothing}

@@ -3,7 +3,7 @@ use Rattle.std.specs.Prelude.{◌≡◌, ℕ, suc, ◌+◌, ◌*◌, ◌<◌, �
 use Rattle.std.specs.List.{sum_by}
 use Rattle.std.specs.Option.{unwrap_or}
 use Rattle.snl_text.specs.declared.tokens.Token.{Token}
-use Rattle.snl_tree.specs.Programs.{StateSetTree, ProgramTree}
+use Rattle.snl_syntax.specs.Programs.{StateSetTree, ProgramTree}
 use Rattle.snl_sites.specs.declared.sites.Extent.{Extent}
 use Rattle.snl_sites.specs.declared.sites.Extent.TheVariants.{Whole, Front, Element}
 use Rattle.snl_sites.specs.declared.sites.Part.{Part}

@@ -1,14 +1,14 @@
 //! The numbers of the states of a state set, by their names.
 
 ghost use Rattle.std.specs.Prelude.{◌≡◌, ℕ, List, map, OnOk, IfOk};
-ghost use Rattle.snl_tree.specs.view.Programs.{state_view};
+ghost use Rattle.snl_syntax.specs.view.Programs.{state_view};
 ghost use Rattle.snl_sites.specs.NumberTables.{number_in, only_number, IsNumberTable};
 ghost use Rattle.snl_sites.specs.Scopes.{or_in};
 ghost use Rattle.snl_rules.specs.Reach.{state_names};
 
 use indexmap::IndexMap;
+use snl_syntax::State;
 use snl_text::Token;
-use snl_tree::State;
 use std::alloc::{AllocError, Global};
 
 /// Adds a name's number to a table, if it is the first of its name.

@@ -2,14 +2,14 @@
 
 ghost use Rattle.std.specs.Prelude.{◌≡◌, ◌++◌, map, OnOk};
 ghost use Rattle.std.specs.List.{flat_map};
-ghost use Rattle.snl_tree.specs.reading.Statements.{statement_list};
-ghost use Rattle.snl_tree.specs.view.Shown.{shown, held};
-ghost use Rattle.snl_tree.specs.view.Statements.{statement_view, block_view};
-ghost use Rattle.snl_tree.specs.view.Programs.{target_view, clause_view, state_view};
+ghost use Rattle.snl_syntax.specs.view.Lists.{statement_list};
+ghost use Rattle.snl_syntax.specs.view.Shown.{shown, held};
+ghost use Rattle.snl_syntax.specs.view.Statements.{statement_view, block_view};
+ghost use Rattle.snl_syntax.specs.view.Programs.{target_view, clause_view, state_view};
 ghost use Rattle.snl_rules.specs.Reach as spec;
 
+use snl_syntax::{Block, Clause, State, Stmt, Target};
 use snl_text::Token;
-use snl_tree::{Block, Clause, State, Stmt, Target};
 use std::alloc::AllocError;
 
 /// Adds the targets of the state statements in a statement.

@@ -3,7 +3,7 @@
 ghost use Rattle.std.specs.Prelude.{◌≡◌, ◌++◌, ◌+◌, ◌↔◌, [], ◌∷◌, true, nat_lt, map, OnOk, IfOk};
 ghost use Rattle.std.specs.List.{Contains, sum_by};
 ghost use Rattle.snl_text.specs.declared.tokens.Token.{Token};
-ghost use Rattle.snl_tree.specs.view.Programs.{state_set_view, program_view};
+ghost use Rattle.snl_syntax.specs.view.Programs.{state_set_view, program_view};
 ghost use Rattle.snl_sites.specs.Held.{held_view};
 ghost use Rattle.snl_sites.specs.Programs as program_sites;
 ghost use Rattle.snl_rules.specs.Words as spec;
@@ -11,8 +11,8 @@ ghost use Rattle.snl_rules.specs.Counts.{IsSharedIn, capped, own_words_in, overf
 
 use crate::link_words::words_of_all_links;
 use snl_sites::{Held, Scope, Scopes, Site, push_definitions, push_parts};
+use snl_syntax::{Program, StateSet};
 use snl_text::Token;
-use snl_tree::{Program, StateSet};
 use std::alloc::{AllocError, Global};
 
 /// The words of variables, at most 2^64 - 1.

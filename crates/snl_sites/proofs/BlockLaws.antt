@@ -2,17 +2,17 @@
 use Rattle.std.proofs.Common.{◌≡◌, Bool, true, List, [], ◌∷◌, ◌++◌, map, sym, ap, ◌∙◌, append_assoc}
 use Rattle.std.specs.List.{flat_map}
 use Rattle.snl_text.specs.declared.tokens.Token.{Token}
-use Rattle.snl_tree.specs.declared.trees.declarations.Declaration.{Declaration}
-use Rattle.snl_tree.specs.declared.trees.statements.Block.{Block as DeclaredBlock}
-use Rattle.snl_tree.specs.declared.trees.statements.Stmt.{Stmt, Block}
-use Rattle.snl_tree.specs.view.Declarations.{declaration_view}
-use Rattle.snl_tree.specs.Definitions.{declaration}
-use Rattle.snl_tree.specs.reading.Statements.{statement_list}
-use Rattle.snl_tree.specs.view.Statements.{statement_view, block_view}
+use Rattle.snl_syntax.specs.declared.declarations.Declaration.{Declaration}
+use Rattle.snl_syntax.specs.declared.statements.Block.{Block as DeclaredBlock}
+use Rattle.snl_syntax.specs.declared.statements.Stmt.{Stmt, Block}
+use Rattle.snl_syntax.specs.view.Declarations.{declaration_view}
+use Rattle.snl_syntax.specs.Definitions.{declaration}
+use Rattle.snl_syntax.specs.view.Lists.{statement_list}
+use Rattle.snl_syntax.specs.view.Statements.{statement_view, block_view}
 use Rattle.snl_sites.specs.declared.sites.Site.{Site}
 use Rattle.snl_sites.specs.Scopes.{Scope, scope_of}
 use Rattle.snl_sites.specs.Sites.{declares, in_declaration, in_statement, in_statements, in_block}
-use Rattle.snl_tree.proofs.code.StatementRows.{view_block}
+use Rattle.snl_syntax.proofs.StatementRows.{view_block}
 
 -- a block: its names, its declarations, its statements
 pub block_noted : (c : Bool) (g : List Token) (s : List Scope) (l : Bool) (b : DeclaredBlock) (ds es : List Declaration) (ss : List Stmt) (scope : Scope) (old mid after new : List Site)

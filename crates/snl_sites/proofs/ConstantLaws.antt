@@ -1,12 +1,12 @@
 -- The constant of a chain of operators.
 use Rattle.std.proofs.Common.{◌≡◌, ℕ, Bool, List, map, Vec, Box, Global, sym, ap, ◌∙◌}
-use Rattle.snl_tree.specs.declared.trees.expressions.Expr.{Expr, Chain}
-use Rattle.snl_tree.specs.declared.trees.expressions.Term.{Term}
-use Rattle.snl_tree.specs.reading.Expressions.{term_list}
-use Rattle.snl_tree.specs.view.Expressions.{view, pair_of}
+use Rattle.snl_syntax.specs.declared.expressions.Expr.{Expr, Chain}
+use Rattle.snl_syntax.specs.declared.expressions.Term.{Term}
+use Rattle.snl_syntax.specs.view.Lists.{term_list}
+use Rattle.snl_syntax.specs.view.Expressions.{view, pair_of}
 use Rattle.snl_sites.specs.declared.constants.Constant.{Constant}
 use Rattle.snl_sites.specs.Constants.{constant_of, constant_chain}
-use Rattle.snl_tree.proofs.code.Rows.{view_chain}
+use Rattle.snl_syntax.proofs.Rows.{view_chain}
 
 -- a chain is worth what its operators make of its first operand
 pub chain_worth : (h : List ℕ → Bool) (e d : Expr) (first : Box Expr Global) (terms : Vec Term Global) (items : List Term) (left all : Constant) → e ≡ Chain first terms

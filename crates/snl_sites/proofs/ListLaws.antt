@@ -1,8 +1,8 @@
 -- The values of a list in braces.
 use Rattle.std.proofs.Common.{◌≡◌, Bool, true, false, List, [], ◌∷◌, ◌++◌, refl, ap, sym, append-nil}
 use Rattle.std.specs.List.{flat_map}
-use Rattle.snl_tree.specs.Expressions.{ExprTree}
-use Rattle.snl_tree.specs.view.Declarations.{value_list}
+use Rattle.snl_syntax.specs.Expressions.{ExprTree}
+use Rattle.snl_syntax.specs.view.Declarations.{value_list}
 use Rattle.snl_sites.specs.Types.{listed_values}
 use Rattle.snl_sites.specs.Scopes.{Scope}
 use Rattle.snl_sites.specs.Sites.{in_values, in_value}

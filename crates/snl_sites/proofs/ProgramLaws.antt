@@ -3,20 +3,20 @@ use Rattle.std.proofs.Common.{◌≡◌, ℕ, suc, ◌+◌, ◌<◌, Bool, true,
 use Rattle.std.proofs.lemmas.List.{drop_more}
 use Rattle.std.specs.List.{flat_map}
 use Rattle.snl_text.specs.declared.tokens.Token.{Token}
-use Rattle.snl_tree.specs.declared.trees.definitions.Def.{Def}
-use Rattle.snl_tree.specs.declared.trees.statements.Block.{Block as DeclaredBlock}
-use Rattle.snl_tree.specs.declared.trees.programs.Clause.{Clause}
-use Rattle.snl_tree.specs.declared.trees.programs.State.{State as DeclaredState}
-use Rattle.snl_tree.specs.declared.trees.programs.StateSet.{StateSet as DeclaredSet}
-use Rattle.snl_tree.specs.declared.trees.programs.Program.{Program}
-use Rattle.snl_tree.specs.Definitions.{DefinitionTree}
-use Rattle.snl_tree.specs.Statements.{BlockTree}
-use Rattle.snl_tree.specs.Programs.{ClauseTree, StateSetTree}
-use Rattle.snl_tree.specs.view.Shown.{shown, held}
-use Rattle.snl_tree.specs.view.Statements.{block_view}
-use Rattle.snl_tree.specs.view.Definitions.{definition_view}
-use Rattle.snl_tree.specs.view.Expressions.{boxed}
-use Rattle.snl_tree.specs.view.Programs.{target_view, clause_view, state_view, state_set_view, program_view}
+use Rattle.snl_syntax.specs.declared.definitions.Def.{Def}
+use Rattle.snl_syntax.specs.declared.statements.Block.{Block as DeclaredBlock}
+use Rattle.snl_syntax.specs.declared.programs.Clause.{Clause}
+use Rattle.snl_syntax.specs.declared.programs.State.{State as DeclaredState}
+use Rattle.snl_syntax.specs.declared.programs.StateSet.{StateSet as DeclaredSet}
+use Rattle.snl_syntax.specs.declared.programs.Program.{Program}
+use Rattle.snl_syntax.specs.Definitions.{DefinitionTree}
+use Rattle.snl_syntax.specs.Statements.{BlockTree}
+use Rattle.snl_syntax.specs.Programs.{ClauseTree, StateSetTree}
+use Rattle.snl_syntax.specs.view.Shown.{shown, held}
+use Rattle.snl_syntax.specs.view.Statements.{block_view}
+use Rattle.snl_syntax.specs.view.Definitions.{definition_view}
+use Rattle.snl_syntax.specs.view.Expressions.{boxed}
+use Rattle.snl_syntax.specs.view.Programs.{target_view, clause_view, state_view, state_set_view, program_view}
 use Rattle.snl_sites.specs.declared.sites.Purpose.TheVariants.{Read}
 use Rattle.snl_sites.specs.declared.sites.Site.{Site}
 use Rattle.snl_sites.specs.declared.sites.Site.TheVariants.{Clause as ClauseSite}

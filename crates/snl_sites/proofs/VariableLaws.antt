@@ -2,24 +2,24 @@
 use Rattle.std.proofs.Common.{◌≡◌, ℕ, ◌<◌, ◌≤◌, List, [], ◌∷◌, ◌++◌, length, get_or, map, slice_get, Option, Some, None, option_map, sym, ap, ◌∙◌, append_assoc}
 use Rattle.std.proofs.lemmas.Option.{slice_get-map, slice_get-get_or, slice_get_past}
 use Rattle.std.specs.List.{flat_map}
-use Rattle.snl_tree.specs.declared.trees.declarations.Declaration.{Declaration}
-use Rattle.snl_tree.specs.declared.trees.definitions.Def.{Def}
-use Rattle.snl_tree.specs.declared.trees.statements.Block.{Block as DeclaredBlock}
-use Rattle.snl_tree.specs.declared.trees.statements.Stmt.{Stmt, Block}
-use Rattle.snl_tree.specs.declared.trees.programs.Clause.{Clause}
-use Rattle.snl_tree.specs.declared.trees.programs.State.{State}
-use Rattle.snl_tree.specs.declared.trees.programs.StateSet.{StateSet}
-use Rattle.snl_tree.specs.declared.trees.programs.Program.{Program}
-use Rattle.snl_tree.specs.Definitions.{DefinitionTree, declaration}
-use Rattle.snl_tree.specs.Statements.{BlockTree}
-use Rattle.snl_tree.specs.Programs.{ClauseTree, StateSetTree}
-use Rattle.snl_tree.specs.reading.Statements.{statement_list}
-use Rattle.snl_tree.specs.view.Shown.{shown, held}
-use Rattle.snl_tree.specs.view.Declarations.{declaration_view}
-use Rattle.snl_tree.specs.view.Definitions.{definition_view}
-use Rattle.snl_tree.specs.view.Statements.{statement_view, block_view}
-use Rattle.snl_tree.specs.view.Programs.{clause_view, state_view, state_set_view, program_view}
-use Rattle.snl_tree.proofs.code.StatementRows.{view_block}
+use Rattle.snl_syntax.specs.declared.declarations.Declaration.{Declaration}
+use Rattle.snl_syntax.specs.declared.definitions.Def.{Def}
+use Rattle.snl_syntax.specs.declared.statements.Block.{Block as DeclaredBlock}
+use Rattle.snl_syntax.specs.declared.statements.Stmt.{Stmt, Block}
+use Rattle.snl_syntax.specs.declared.programs.Clause.{Clause}
+use Rattle.snl_syntax.specs.declared.programs.State.{State}
+use Rattle.snl_syntax.specs.declared.programs.StateSet.{StateSet}
+use Rattle.snl_syntax.specs.declared.programs.Program.{Program}
+use Rattle.snl_syntax.specs.Definitions.{DefinitionTree, declaration}
+use Rattle.snl_syntax.specs.Statements.{BlockTree}
+use Rattle.snl_syntax.specs.Programs.{ClauseTree, StateSetTree}
+use Rattle.snl_syntax.specs.view.Lists.{statement_list}
+use Rattle.snl_syntax.specs.view.Shown.{shown, held}
+use Rattle.snl_syntax.specs.view.Declarations.{declaration_view}
+use Rattle.snl_syntax.specs.view.Definitions.{definition_view}
+use Rattle.snl_syntax.specs.view.Statements.{statement_view, block_view}
+use Rattle.snl_syntax.specs.view.Programs.{clause_view, state_view, state_set_view, program_view}
+use Rattle.snl_syntax.proofs.StatementRows.{view_block}
 use Rattle.snl_sites.specs.Scopes.{Scope, scope_of}
 use Rattle.snl_sites.specs.Variables.{Held, by_declaration, by_definition, by_definitions, by_statement, by_statements, by_block, by_maybe, by_clause, by_blocks, by_state, by_state_set, by_numbered, for_first, by_parts, variables_of}
 

@@ -2,19 +2,19 @@
 use Rattle.std.proofs.Common.{◌≡◌, ℕ, ◌+◌, ◌<◌, suc, Bool, List, [], ◌∷◌, ◌++◌, length, drop, get_or, map, Vec, Box, Global, refl, sym, ap, ◌∙◌, append_assoc}
 use Rattle.std.proofs.lemmas.List.{drop_more}
 use Rattle.snl_text.specs.declared.tokens.Token.{Token}
-use Rattle.snl_tree.specs.declared.trees.expressions.Expr.{Expr, Chain, Call}
-use Rattle.snl_tree.specs.declared.trees.expressions.Term.{Term}
-use Rattle.snl_tree.specs.declared.trees.expressions.Argument.{Argument, Value', Text}
-use Rattle.snl_tree.specs.Expressions.{no_arguments}
-use Rattle.snl_tree.specs.reading.Expressions.{term_list}
-use Rattle.snl_tree.specs.view.Expressions.{view, pair_of, argument_of, list_before}
+use Rattle.snl_syntax.specs.declared.expressions.Expr.{Expr, Chain, Call}
+use Rattle.snl_syntax.specs.declared.expressions.Term.{Term}
+use Rattle.snl_syntax.specs.declared.expressions.Argument.{Argument, Value', Text}
+use Rattle.snl_syntax.specs.Expressions.{no_arguments}
+use Rattle.snl_syntax.specs.view.Lists.{term_list}
+use Rattle.snl_syntax.specs.view.Expressions.{view, pair_of, argument_of, list_before}
 use Rattle.snl_sites.specs.declared.sites.Purpose.{Purpose}
 use Rattle.snl_sites.specs.declared.sites.Site.{Site}
 use Rattle.snl_sites.specs.Calls.{form_of, is_fitting, count_of}
 use Rattle.snl_sites.specs.Scopes.{Scope}
 use Rattle.snl_sites.specs.Purposes.{inner, argument, at_call, at_format}
 use Rattle.snl_sites.specs.Sites.{in_expression, in_terms, in_arguments, in_argument}
-use Rattle.snl_tree.proofs.code.Rows.{view_chain, view_call}
+use Rattle.snl_syntax.proofs.Rows.{view_chain, view_call}
 
 -- how many arguments there are
 pub count_list : (l : List Argument) → count_of (list_before l no_arguments) ≡ length l

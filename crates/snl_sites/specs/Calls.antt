@@ -1,6 +1,6 @@
 -- The calls of the language, and the forms of their arguments.
 use Rattle.std.specs.Prelude.{ℕ, suc, Bool, true, false, List, Option, Some, None, codes, bytes_eq, if◌then◌else◌}
-use Rattle.snl_tree.specs.Expressions.{ExprTree, ArgumentList, named, element, no_arguments, value, text}
+use Rattle.snl_syntax.specs.Expressions.{ExprTree, ArgumentList, named, element, no_arguments, value, text}
 use Rattle.snl_sites.specs.declared.calls.Form.{Form}
 use Rattle.snl_sites.specs.declared.calls.Form.TheVariants.{ChannelPlace, QueueName, FlagName, Seconds, Nothing, Format}
 

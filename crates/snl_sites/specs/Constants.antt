@@ -4,7 +4,7 @@ use Rattle.snl_text.specs.declared.kinds.Kind.{Kind}
 use Rattle.snl_text.specs.declared.kinds.Kind.TheVariants.{Whole, Character, BarBar, AmpersandAmpersand, PlusPlus, MinusMinus}
 use Rattle.snl_text.specs.Numbers.{whole_value}
 use Rattle.snl_text.specs.Quotes.{character_value}
-use Rattle.snl_tree.specs.Expressions.{ExprTree, TermList, constant, parenthesized, named, element, call, postfix, prefix, chain, conditional, assignment, no_terms, term}
+use Rattle.snl_syntax.specs.Expressions.{ExprTree, TermList, constant, parenthesized, named, element, call, postfix, prefix, chain, conditional, assignment, no_terms, term}
 use Rattle.snl_sites.specs.declared.arithmetic.Fault.{Fault}
 use Rattle.snl_sites.specs.declared.constants.Constant.{Constant}
 use Rattle.snl_sites.specs.declared.constants.Constant.TheVariants.{Varies, Faults, Worth}

@@ -3,10 +3,10 @@ use Rattle.std.specs.Prelude.{◌≡◌, ℕ, pos, negsuc, Bool, true, false, Li
 use Rattle.snl_text.specs.declared.tokens.Token.{Token}
 use Rattle.snl_text.specs.declared.kinds.Kind.{Kind}
 use Rattle.snl_text.specs.declared.kinds.Kind.TheVariants as kind
-use Rattle.snl_tree.specs.Expressions.{ExprTree, constant, parenthesized, named, call, chain, prefix, no_terms, term, no_arguments, value, text}
-use Rattle.snl_tree.specs.Declarations.{DeclaratorTree}
-use Rattle.snl_tree.specs.Statements.{while_loop, break_loop}
-use Rattle.snl_tree.specs.Definitions.{DefinitionTree, declaration, event_flags}
+use Rattle.snl_syntax.specs.Expressions.{ExprTree, constant, parenthesized, named, call, chain, prefix, no_terms, term, no_arguments, value, text}
+use Rattle.snl_syntax.specs.Declarations.{DeclaratorTree}
+use Rattle.snl_syntax.specs.Statements.{while_loop, break_loop}
+use Rattle.snl_syntax.specs.Definitions.{DefinitionTree, declaration, event_flags}
 use Rattle.snl_sites.specs.declared.arithmetic.Fault.TheVariants.{Overflow, Division, Shift}
 use Rattle.snl_sites.specs.declared.constants.Constant.TheVariants.{Varies, Faults, Worth}
 use Rattle.snl_sites.specs.declared.sites.Meaning.TheVariants.{Variable, Flag, Number, Nothing}

@@ -1,6 +1,6 @@
 -- The plain form of a variable of a state set's copy.
-use Rattle.snl_tree.specs.view.Shown.{shown}
-use Rattle.snl_tree.specs.view.Declarations.{initialiser_view}
+use Rattle.snl_syntax.specs.view.Shown.{shown}
+use Rattle.snl_syntax.specs.view.Declarations.{initialiser_view}
 use Rattle.snl_sites.specs.declared.variables.Held.{Held}
 use Rattle.snl_sites.specs.Variables as plain
 

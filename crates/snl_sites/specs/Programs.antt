@@ -3,9 +3,9 @@ use Rattle.std.specs.Prelude.{ℕ, suc, Bool, true, false, not, ◌&&◌, ◌||�
 use Rattle.std.specs.List.{flat_map}
 use Rattle.snl_text.specs.declared.tokens.Token.{Token}
 use Rattle.snl_text.specs.Numbers.{whole_value}
-use Rattle.snl_tree.specs.Statements.{BlockTree}
-use Rattle.snl_tree.specs.Definitions.{PlaceTree, AssignTree, FlagTree, SettingTree, SyncTree, QueueTree, DefinitionTree, declaration, assign, monitor, sync, sync_queue, event_flags, setting}
-use Rattle.snl_tree.specs.Programs.{TargetTree, to_state, to_exit, ClauseTree, StateTree, StateSetTree, ProgramTree}
+use Rattle.snl_syntax.specs.Statements.{BlockTree}
+use Rattle.snl_syntax.specs.Definitions.{PlaceTree, AssignTree, FlagTree, SettingTree, SyncTree, QueueTree, DefinitionTree, declaration, assign, monitor, sync, sync_queue, event_flags, setting}
+use Rattle.snl_syntax.specs.Programs.{TargetTree, to_state, to_exit, ClauseTree, StateTree, StateSetTree, ProgramTree}
 use Rattle.snl_sites.specs.declared.constants.Constant.{Constant}
 use Rattle.snl_sites.specs.declared.constants.Constant.TheVariants.{Worth}
 use Rattle.snl_sites.specs.declared.sites.Purpose.TheVariants.{Read, Flagged}

@@ -5,7 +5,7 @@ use Rattle.snl_text.specs.declared.kinds.Kind.{Kind}
 use Rattle.snl_text.specs.declared.kinds.Kind.TheVariants as kind
 use Rattle.snl_text.specs.declared.numbers.DecimalValue.{DecimalValue}
 use Rattle.snl_text.specs.Numbers.{decimal_value}
-use Rattle.snl_tree.specs.Expressions.{ExprTree, parenthesized}
+use Rattle.snl_syntax.specs.Expressions.{ExprTree, parenthesized}
 use Rattle.snl_sites.specs.declared.calls.Form.{Form}
 use Rattle.snl_sites.specs.declared.calls.Form.TheVariants.{ChannelPlace, QueueName, FlagName, Seconds}
 use Rattle.snl_sites.specs.declared.sites.Purpose.{Purpose}

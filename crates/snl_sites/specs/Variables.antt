@@ -2,10 +2,10 @@
 use Rattle.std.specs.Prelude.{ℕ, ℤ, ◌==◌, List, [], ◌∷◌, ◌++◌, map, slice_get, Option, None, Some, if◌then◌else◌}
 use Rattle.std.specs.List.{flat_map}
 use Rattle.snl_text.specs.declared.tokens.Token.{Token}
-use Rattle.snl_tree.specs.Statements.{StatementTree, StatementList, BlockTree, nested, if_then, if_else, while_loop, for_loop, no_statements, statement, block}
-use Rattle.snl_tree.specs.Declarations.{TypeTree, InitialiserTree, DeclaratorTree, DeclarationTree}
-use Rattle.snl_tree.specs.Definitions.{DefinitionTree, declaration}
-use Rattle.snl_tree.specs.Programs.{ClauseTree, StateTree, StateSetTree, ProgramTree}
+use Rattle.snl_syntax.specs.Statements.{StatementTree, StatementList, BlockTree, nested, if_then, if_else, while_loop, for_loop, no_statements, statement, block}
+use Rattle.snl_syntax.specs.Declarations.{TypeTree, InitialiserTree, DeclaratorTree, DeclarationTree}
+use Rattle.snl_syntax.specs.Definitions.{DefinitionTree, declaration}
+use Rattle.snl_syntax.specs.Programs.{ClauseTree, StateTree, StateSetTree, ProgramTree}
 use Rattle.snl_sites.specs.declared.sites.Size.{Size}
 use Rattle.snl_sites.specs.Programs.{program_scopes}
 use Rattle.snl_sites.specs.Scopes.{Scope, scope_of, is_hidden, size_of}

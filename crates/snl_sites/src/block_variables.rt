@@ -2,10 +2,10 @@
 
 ghost use Rattle.std.specs.Prelude.{◌≡◌, ◌++◌, map, OnOk};
 ghost use Rattle.std.specs.List.{flat_map};
-ghost use Rattle.snl_tree.specs.view.Shown.{shown, held};
-ghost use Rattle.snl_tree.specs.view.Declarations.{declaration_view};
-ghost use Rattle.snl_tree.specs.view.Statements.{statement_view, block_view};
-ghost use Rattle.snl_tree.specs.reading.Statements.{statement_list};
+ghost use Rattle.snl_syntax.specs.view.Shown.{shown, held};
+ghost use Rattle.snl_syntax.specs.view.Declarations.{declaration_view};
+ghost use Rattle.snl_syntax.specs.view.Statements.{statement_view, block_view};
+ghost use Rattle.snl_syntax.specs.view.Lists.{statement_list};
 ghost use Rattle.snl_sites.specs.Chains.{scopes_of};
 ghost use Rattle.snl_sites.specs.Variables as spec;
 ghost use Rattle.snl_sites.specs.Held.{held_view};
@@ -13,7 +13,7 @@ ghost use Rattle.snl_sites.specs.Held.{held_view};
 use crate::scopes::{Scope, Scopes};
 use crate::scoping::block_names;
 use crate::variables::{Held, push_held};
-use snl_tree::{Block, Declaration, Stmt};
+use snl_syntax::{Block, Declaration, Stmt};
 use std::alloc::{AllocError, Global};
 
 /// Adds the variables of declarations.

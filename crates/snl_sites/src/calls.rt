@@ -1,11 +1,11 @@
 //! The calls of the language, and the forms of their arguments.
 
 ghost use Rattle.std.specs.Prelude.{◌≡◌, [], ◌∷◌};
-ghost use Rattle.snl_tree.specs.view.Expressions.{view, list_before};
-ghost use Rattle.snl_tree.specs.Expressions.{no_arguments};
+ghost use Rattle.snl_syntax.specs.view.Expressions.{view, list_before};
+ghost use Rattle.snl_syntax.specs.Expressions.{no_arguments};
 ghost use Rattle.snl_sites.specs.Calls as spec;
 
-use snl_tree::{Argument, Expr};
+use snl_syntax::{Argument, Expr};
 
 /// What a call takes.
 #[derive(Clone, Copy)]

@@ -2,16 +2,16 @@
 
 ghost use Rattle.std.specs.Prelude.{◌≡◌, is_some, map};
 ghost use Rattle.snl_sites.specs.Arithmetic.{truth};
-ghost use Rattle.snl_tree.specs.view.Expressions.{view, pair_of};
-ghost use Rattle.snl_tree.specs.reading.Expressions.{term_list};
+ghost use Rattle.snl_syntax.specs.view.Expressions.{view, pair_of};
+ghost use Rattle.snl_syntax.specs.view.Lists.{term_list};
 ghost use Rattle.snl_sites.specs.Constants as spec;
 ghost use Rattle.snl_sites.specs.Scopes.{is_hidden};
 ghost use Rattle.snl_sites.specs.Chains.{scopes_of};
 
 use crate::arithmetic::{Fault, computed, computed_prefix};
 use crate::scopes::Scopes;
+use snl_syntax::{Expr, Term};
 use snl_text::{Kind, Token, character_value, whole_value};
-use snl_tree::{Expr, Term};
 
 /// What an expression is worth that is the same in every run.
 #[derive(Clone, Copy)]

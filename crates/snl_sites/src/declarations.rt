@@ -2,9 +2,9 @@
 
 ghost use Rattle.std.specs.Prelude.{◌≡◌, [], ◌∷◌, ◌++◌, map, OnOk};
 ghost use Rattle.std.specs.List.{flat_map};
-ghost use Rattle.snl_tree.specs.view.Expressions.{boxed, view};
-ghost use Rattle.snl_tree.specs.view.Declarations.{type_view, declarator_view, declaration_view, initialiser_view};
-ghost use Rattle.snl_tree.specs.view.Shown.{shown};
+ghost use Rattle.snl_syntax.specs.view.Expressions.{boxed, view};
+ghost use Rattle.snl_syntax.specs.view.Declarations.{type_view, declarator_view, declaration_view, initialiser_view};
+ghost use Rattle.snl_syntax.specs.view.Shown.{shown};
 ghost use Rattle.snl_sites.specs.Chains.{scopes_of};
 ghost use Rattle.snl_sites.specs.Sites as spec;
 
@@ -14,7 +14,7 @@ use crate::rows::pushed;
 use crate::scopes::Scopes;
 use crate::sites::{Purpose, Site};
 use crate::sizes::size_of;
-use snl_tree::{Declaration, Declarator, Expr, Initialiser, TypeName};
+use snl_syntax::{Declaration, Declarator, Expr, Initialiser, TypeName};
 use std::alloc::AllocError;
 
 /// Notes the sites in an expression that stands for its value, outside of a condition.

@@ -2,7 +2,7 @@
 
 ghost use Rattle.std.specs.Prelude.{◌≡◌, [], ◌∷◌, ◌++◌, map, OnOk, IfOk};
 ghost use Rattle.std.specs.List.{flat_map};
-ghost use Rattle.snl_tree.specs.view.Definitions.{definition_view};
+ghost use Rattle.snl_syntax.specs.view.Definitions.{definition_view};
 ghost use Rattle.snl_sites.specs.Chains.{scopes_of};
 ghost use Rattle.snl_sites.specs.Scopes as spec;
 ghost use Rattle.snl_sites.specs.Sites.{declares};
@@ -11,8 +11,8 @@ use crate::rows::pushed;
 use crate::scopes::{Declared, Scope, Scopes, scope_with};
 use crate::scoping::{push_declared, push_names};
 use crate::sites::Site;
+use snl_syntax::Def;
 use snl_text::Token;
-use snl_tree::Def;
 use std::alloc::{AllocError, Global};
 
 /// Adds event flags.

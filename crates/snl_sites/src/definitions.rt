@@ -2,9 +2,9 @@
 
 ghost use Rattle.std.specs.Prelude.{◌≡◌, [], ◌∷◌, ◌++◌, map, OnOk, IfOk};
 ghost use Rattle.std.specs.List.{flat_map};
-ghost use Rattle.snl_tree.specs.view.Shown.{shown};
-ghost use Rattle.snl_tree.specs.view.Definitions.{definition_view, place_view, assign_view, flag_view, queue_view, sync_view, setting_view};
-ghost use Rattle.snl_tree.specs.Definitions.{sync, sync_queue};
+ghost use Rattle.snl_syntax.specs.view.Shown.{shown};
+ghost use Rattle.snl_syntax.specs.view.Definitions.{definition_view, place_view, assign_view, flag_view, queue_view, sync_view, setting_view};
+ghost use Rattle.snl_syntax.specs.Definitions.{sync, sync_queue};
 ghost use Rattle.snl_sites.specs.Chains.{scopes_of};
 ghost use Rattle.snl_sites.specs.Scopes.{scope_of};
 ghost use Rattle.snl_sites.specs.Sites.{maybe};
@@ -18,8 +18,8 @@ use crate::rows::pushed;
 use crate::scopes::{Scope, Scopes};
 use crate::sites::{Purpose, Site, Sort};
 use crate::tokens::note_use;
+use snl_syntax::{Assign, Def, Flag, Place, Setting, Sync, SyncQueue};
 use snl_text::{Token, whole_value};
-use snl_tree::{Assign, Def, Flag, Place, Setting, Sync, SyncQueue};
 use std::alloc::{AllocError, Global};
 
 /// The site of an `assign`, `monitor`, `sync` or `syncQ`.

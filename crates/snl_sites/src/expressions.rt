@@ -1,16 +1,16 @@
 //! The sites in expressions.
 
 ghost use Rattle.std.specs.Prelude.{◌≡◌, ◌++◌, map, OnOk};
-ghost use Rattle.snl_tree.specs.view.Expressions.{view, pair_of, argument_of, list_before};
-ghost use Rattle.snl_tree.specs.reading.Expressions.{term_list};
-ghost use Rattle.snl_tree.specs.Expressions.{no_arguments};
+ghost use Rattle.snl_syntax.specs.view.Expressions.{view, pair_of, argument_of, list_before};
+ghost use Rattle.snl_syntax.specs.view.Lists.{term_list};
+ghost use Rattle.snl_syntax.specs.Expressions.{no_arguments};
 ghost use Rattle.snl_sites.specs.Chains.{scopes_of};
 ghost use Rattle.snl_sites.specs.Sites as spec;
 
 use crate::scopes::Scopes;
 use crate::sites::{Purpose, Site};
 use crate::tokens::{note_call, note_change, note_constant, note_format, note_prefix, note_use};
-use snl_tree::{Argument, Expr, Term};
+use snl_syntax::{Argument, Expr, Term};
 use std::alloc::AllocError;
 
 /// Notes the sites in an expression that stands in a clause's condition or not, for a purpose.

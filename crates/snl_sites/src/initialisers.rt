@@ -1,9 +1,9 @@
 //! Types, and whether an initialiser is good for its variable.
 
 ghost use Rattle.std.specs.Prelude.{◌≡◌, map, is_some};
-ghost use Rattle.snl_tree.specs.view.Expressions.{boxed, view};
-ghost use Rattle.snl_tree.specs.view.Declarations.{type_view, initialiser_view};
-ghost use Rattle.snl_tree.specs.view.Shown.{shown};
+ghost use Rattle.snl_syntax.specs.view.Expressions.{boxed, view};
+ghost use Rattle.snl_syntax.specs.view.Declarations.{type_view, initialiser_view};
+ghost use Rattle.snl_syntax.specs.view.Shown.{shown};
 ghost use Rattle.snl_sites.specs.Chains.{scopes_of};
 ghost use Rattle.std.specs.List.{list_all};
 ghost use Rattle.snl_sites.specs.Constants.{constant_of};
@@ -13,8 +13,8 @@ ghost use Rattle.snl_sites.specs.Types as spec;
 use crate::constants::{Constant, constant_of};
 use crate::scopes::Scopes;
 use crate::sites::Size;
+use snl_syntax::{Expr, Initialiser, TypeName};
 use snl_text::Kind;
-use snl_tree::{Expr, Initialiser, TypeName};
 
 /// The least and the greatest number of a type (SNL Reference, "Declarations"); none where it is
 /// not supported.

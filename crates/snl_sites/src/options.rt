@@ -1,11 +1,11 @@
 //! The letters of options.
 
 ghost use Rattle.std.specs.Prelude.{◌≡◌};
-ghost use Rattle.snl_tree.specs.view.Definitions.{setting_view};
+ghost use Rattle.snl_syntax.specs.view.Definitions.{setting_view};
 ghost use Rattle.snl_sites.specs.Options as spec;
 
+use snl_syntax::Setting;
 use snl_text::Kind;
-use snl_tree::Setting;
 
 /// The signs in force of the letters that change what is said of a program or how it starts:
 /// `true` for `+`, None where no option has the letter (SNL Reference, "Option").

@@ -1,9 +1,9 @@
 //! The elements of a variable that an `assign`, `monitor`, `sync` or `syncQ` names.
 
 ghost use Rattle.std.specs.Prelude.{◌≡◌};
-ghost use Rattle.snl_tree.specs.view.Shown.{shown};
-ghost use Rattle.snl_tree.specs.view.Expressions.{boxed, view};
-ghost use Rattle.snl_tree.specs.view.Definitions.{channels_view};
+ghost use Rattle.snl_syntax.specs.view.Shown.{shown};
+ghost use Rattle.snl_syntax.specs.view.Expressions.{boxed, view};
+ghost use Rattle.snl_syntax.specs.view.Definitions.{channels_view};
 ghost use Rattle.snl_sites.specs.Chains.{scopes_of};
 ghost use Rattle.snl_sites.specs.Scopes.{is_hidden};
 ghost use Rattle.snl_sites.specs.Parts as spec;
@@ -11,8 +11,8 @@ ghost use Rattle.snl_sites.specs.Parts as spec;
 use crate::constants::{Constant, constant_of};
 use crate::scopes::Scopes;
 use crate::sites::{Extent, Meaning, Part, Size};
+use snl_syntax::{ChannelNames, Channels, Expr};
 use snl_text::Pos;
-use snl_tree::{ChannelNames, Channels, Expr};
 
 /// How many channels a list in braces has; none for one channel, or for no channel.
 pub fn listed_names(channels: &Option<Channels>) -> Option<usize>

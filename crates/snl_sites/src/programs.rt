@@ -1,9 +1,9 @@
 //! The sites in state sets and programs.
 
 ghost use Rattle.std.specs.Prelude.{◌≡◌, [], ◌++◌, map, OnOk, IfOk};
-ghost use Rattle.snl_tree.specs.view.Shown.{shown, held};
-ghost use Rattle.snl_tree.specs.view.Statements.{block_view};
-ghost use Rattle.snl_tree.specs.view.Programs.{state_view, state_set_view, program_view};
+ghost use Rattle.snl_syntax.specs.view.Shown.{shown, held};
+ghost use Rattle.snl_syntax.specs.view.Statements.{block_view};
+ghost use Rattle.snl_syntax.specs.view.Programs.{state_view, state_set_view, program_view};
 ghost use Rattle.snl_sites.specs.Chains.{scopes_of};
 ghost use Rattle.snl_sites.specs.Programs as spec;
 ghost use Rattle.snl_sites.specs.Sites.{maybe};
@@ -14,7 +14,7 @@ use crate::rows::pushed;
 use crate::scopes::Scopes;
 use crate::sites::Site;
 use crate::states::{note_plain_block, note_state};
-use snl_tree::{Block, Program, State, StateSet};
+use snl_syntax::{Block, Program, State, StateSet};
 use std::alloc::{AllocError, Global};
 
 /// The names of states, with their numbers.

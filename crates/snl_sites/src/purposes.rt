@@ -1,7 +1,7 @@
 //! What the parts of an expression are for, and the sites of its tokens.
 
 ghost use Rattle.std.specs.Prelude.{◌≡◌};
-ghost use Rattle.snl_tree.specs.view.Expressions.{view};
+ghost use Rattle.snl_syntax.specs.view.Expressions.{view};
 ghost use Rattle.snl_sites.specs.Formats.{conversions_of};
 ghost use Rattle.snl_sites.specs.Numbered.{is_number};
 ghost use Rattle.snl_sites.specs.Purposes as spec;
@@ -9,8 +9,8 @@ ghost use Rattle.snl_sites.specs.Purposes as spec;
 use crate::calls::{Form, is_place};
 use crate::formats::conversions;
 use crate::sites::{Purpose, Site};
+use snl_syntax::Expr;
 use snl_text::{Kind, Token, decimal_value};
-use snl_tree::Expr;
 
 impl Purpose {
     /// That of a part that gives a value: an operand, a subscript, a condition.

@@ -2,8 +2,8 @@
 
 ghost use Rattle.std.specs.Prelude.{◌≡◌, [], ◌∷◌, ◌++◌, map, OnOk, IfOk};
 ghost use Rattle.std.specs.List.{flat_map};
-ghost use Rattle.snl_tree.specs.view.Declarations.{declaration_view, declarator_view};
-ghost use Rattle.snl_tree.specs.Definitions.{declaration};
+ghost use Rattle.snl_syntax.specs.view.Declarations.{declaration_view, declarator_view};
+ghost use Rattle.snl_syntax.specs.Definitions.{declaration};
 ghost use Rattle.snl_sites.specs.Chains.{scopes_of};
 ghost use Rattle.snl_sites.specs.Scopes as spec;
 ghost use Rattle.snl_sites.specs.Sites.{declares};
@@ -12,7 +12,7 @@ use crate::rows::pushed;
 use crate::scopes::{Declared, Scope, Scopes, scope_with};
 use crate::sites::Site;
 use crate::sizes::size_of;
-use snl_tree::{Declaration, Declarator};
+use snl_syntax::{Declaration, Declarator};
 use std::alloc::{AllocError, Global};
 
 /// Adds the names of a declaration.

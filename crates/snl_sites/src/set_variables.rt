@@ -2,9 +2,9 @@
 
 ghost use Rattle.std.specs.Prelude.{◌≡◌, ◌++◌, map, slice_get, OnOk, IfOk};
 ghost use Rattle.std.specs.List.{flat_map};
-ghost use Rattle.snl_tree.specs.view.Shown.{shown, held};
-ghost use Rattle.snl_tree.specs.view.Statements.{block_view};
-ghost use Rattle.snl_tree.specs.view.Programs.{clause_view, state_view, state_set_view, program_view};
+ghost use Rattle.snl_syntax.specs.view.Shown.{shown, held};
+ghost use Rattle.snl_syntax.specs.view.Statements.{block_view};
+ghost use Rattle.snl_syntax.specs.view.Programs.{clause_view, state_view, state_set_view, program_view};
 ghost use Rattle.snl_sites.specs.Chains.{scopes_of};
 ghost use Rattle.snl_sites.specs.Variables as spec;
 ghost use Rattle.snl_sites.specs.Held.{held_view};
@@ -12,7 +12,7 @@ ghost use Rattle.snl_sites.specs.Held.{held_view};
 use crate::block_variables::{push_block, push_if_there};
 use crate::scopes::Scopes;
 use crate::variables::{Held, push_definitions};
-use snl_tree::{Block, Clause, Program, State, StateSet};
+use snl_syntax::{Block, Clause, Program, State, StateSet};
 use std::alloc::{AllocError, Global};
 
 /// Adds the variables of the blocks of clauses.

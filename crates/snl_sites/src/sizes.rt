@@ -1,14 +1,14 @@
 //! The sizes of variables.
 
 ghost use Rattle.std.specs.Prelude.{◌≡◌, map};
-ghost use Rattle.snl_tree.specs.view.Expressions.{boxed};
+ghost use Rattle.snl_syntax.specs.view.Expressions.{boxed};
 ghost use Rattle.snl_sites.specs.Chains.{scopes_of};
 ghost use Rattle.snl_sites.specs.Scopes as spec;
 
 use crate::constants::{Constant, constant_of};
 use crate::scopes::Scopes;
 use crate::sites::Size;
-use snl_tree::Expr;
+use snl_syntax::Expr;
 
 /// What a constant says as the size of an array.
 fn size_by(constant: Constant) -> Size

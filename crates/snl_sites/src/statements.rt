@@ -2,11 +2,11 @@
 
 ghost use Rattle.std.specs.Prelude.{◌≡◌, [], ◌∷◌, ◌++◌, map, true, OnOk};
 ghost use Rattle.std.specs.List.{flat_map};
-ghost use Rattle.snl_tree.specs.view.Expressions.{boxed};
-ghost use Rattle.snl_tree.specs.view.Declarations.{declaration_view};
-ghost use Rattle.snl_tree.specs.reading.Statements.{statement_list};
-ghost use Rattle.snl_tree.specs.view.Statements.{statement_view, header_view, block_view};
-ghost use Rattle.snl_tree.specs.view.Shown.{shown};
+ghost use Rattle.snl_syntax.specs.view.Expressions.{boxed};
+ghost use Rattle.snl_syntax.specs.view.Declarations.{declaration_view};
+ghost use Rattle.snl_syntax.specs.view.Lists.{statement_list};
+ghost use Rattle.snl_syntax.specs.view.Statements.{statement_view, header_view, block_view};
+ghost use Rattle.snl_syntax.specs.view.Shown.{shown};
 ghost use Rattle.snl_sites.specs.Chains.{scopes_of};
 ghost use Rattle.snl_sites.specs.Numbered.{number_of};
 ghost use Rattle.snl_sites.specs.Sites as spec;
@@ -17,8 +17,8 @@ use crate::rows::pushed;
 use crate::scopes::Scopes;
 use crate::scoping::block_scope;
 use crate::sites::Site;
+use snl_syntax::{Block, Declaration, Expr, Header, Stmt};
 use snl_text::Token;
-use snl_tree::{Block, Declaration, Expr, Header, Stmt};
 use std::alloc::{AllocError, Global};
 
 /// Notes the sites between the parentheses of a `for`.

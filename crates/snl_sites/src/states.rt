@@ -1,10 +1,10 @@
 //! The sites in clauses and states.
 
 ghost use Rattle.std.specs.Prelude.{◌≡◌, ◌++◌, map, false, true, OnOk};
-ghost use Rattle.snl_tree.specs.view.Shown.{shown, held};
-ghost use Rattle.snl_tree.specs.view.Expressions.{boxed};
-ghost use Rattle.snl_tree.specs.view.Statements.{block_view};
-ghost use Rattle.snl_tree.specs.view.Programs.{target_view, clause_view, state_view};
+ghost use Rattle.snl_syntax.specs.view.Shown.{shown, held};
+ghost use Rattle.snl_syntax.specs.view.Expressions.{boxed};
+ghost use Rattle.snl_syntax.specs.view.Statements.{block_view};
+ghost use Rattle.snl_syntax.specs.view.Programs.{target_view, clause_view, state_view};
 ghost use Rattle.snl_sites.specs.declared.sites.Purpose.{Purpose};
 ghost use Rattle.snl_sites.specs.Chains.{scopes_of};
 ghost use Rattle.snl_sites.specs.Sites.{in_expression, maybe};
@@ -18,7 +18,7 @@ use crate::rows::pushed;
 use crate::scopes::Scopes;
 use crate::sites::{Purpose, Site};
 use crate::statements::{note_block, note_target};
-use snl_tree::{Block, Clause, Expr, State, Target};
+use snl_syntax::{Block, Clause, Expr, State, Target};
 use std::alloc::{AllocError, Global};
 
 /// Notes the sites in a block outside of clauses, if it is there.

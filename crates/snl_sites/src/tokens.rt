@@ -1,8 +1,8 @@
 //! Notes the sites of single tokens in expressions.
 
 ghost use Rattle.std.specs.Prelude.{◌≡◌, [], ◌∷◌, ◌++◌, OnOk, IfOk};
-ghost use Rattle.snl_tree.specs.view.Expressions.{view, list_before};
-ghost use Rattle.snl_tree.specs.Expressions.{no_arguments};
+ghost use Rattle.snl_syntax.specs.view.Expressions.{view, list_before};
+ghost use Rattle.snl_syntax.specs.Expressions.{no_arguments};
 ghost use Rattle.snl_sites.specs.Calls as calls;
 ghost use Rattle.snl_sites.specs.Chains.{scopes_of};
 ghost use Rattle.snl_sites.specs.Scopes.{meaning};
@@ -13,8 +13,8 @@ use crate::purposes::{call_site, change_site, format_site, is_good_decimal, is_s
 use crate::rows::pushed;
 use crate::scopes::Scopes;
 use crate::sites::{Purpose, Site};
+use snl_syntax::{Argument, Expr};
 use snl_text::{Kind, Token};
-use snl_tree::{Argument, Expr};
 use std::alloc::AllocError;
 
 /// Notes a constant, if it is a decimal one.

@@ -2,8 +2,8 @@
 
 ghost use Rattle.std.specs.Prelude.{◌≡◌, ◌++◌, map, OnOk, IfOk};
 ghost use Rattle.std.specs.List.{flat_map};
-ghost use Rattle.snl_tree.specs.view.Declarations.{declaration_view, declarator_view, type_view};
-ghost use Rattle.snl_tree.specs.view.Definitions.{definition_view};
+ghost use Rattle.snl_syntax.specs.view.Declarations.{declaration_view, declarator_view, type_view};
+ghost use Rattle.snl_syntax.specs.view.Definitions.{definition_view};
 ghost use Rattle.snl_sites.specs.Chains.{scopes_of};
 ghost use Rattle.snl_sites.specs.Scopes.{scope_of};
 ghost use Rattle.snl_sites.specs.Variables as spec;
@@ -15,8 +15,8 @@ use crate::rows::pushed;
 use crate::scopes::{Scope, Scopes};
 use crate::sites::Size;
 use crate::sizes::size_of;
+use snl_syntax::{Declaration, Declarator, Def, Initialiser, TypeName};
 use snl_text::Token;
-use snl_tree::{Declaration, Declarator, Def, Initialiser, TypeName};
 use std::alloc::{AllocError, Global};
 
 /// A variable of a state set's copy.

@@ -8,7 +8,6 @@ pub mod ValueTurns
 pub mod Climbing
 pub mod DefinitionForms
 pub mod StatementForms
-pub mod StatementRows
 pub mod ProgramForms
 pub mod ProgramLess
 pub mod ProgramWithin

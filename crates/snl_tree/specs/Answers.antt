@@ -3,8 +3,8 @@ use Rattle.std.specs.Prelude.{◌≡◌, ℕ, List, ◌⊎◌, Result, Ok, Err}
 use Rattle.snl_text.specs.declared.tokens.Token.{Token}
 use Rattle.snl_tree.specs.declared.faults.ParseFault.{ParseFault}
 use Rattle.snl_tree.specs.declared.faults.ParseFault.TheVariants.{Unexpected, TooDeep, Memory}
-use Rattle.snl_tree.specs.Begins.{Spells, IsUnexpected, IsTooDeep}
-use Rattle.snl_tree.specs.Programs.{ProgramTree, IsProgram, programs}
+use Rattle.snl_syntax.specs.Begins.{Spells, IsUnexpected, IsTooDeep}
+use Rattle.snl_syntax.specs.Programs.{ProgramTree, IsProgram, programs}
 
 -- The tokens are a program; or one of them goes on with none of those that begin with the tokens before
 -- it, or with none that is nested so little.

@@ -1,13 +1,4 @@
-pub mod Kinds
-pub mod Slots
-pub mod Sequences
-pub mod Expressions
-pub mod Declarations
-pub mod Definitions
-pub mod Statements
-pub mod Programs
-pub mod Begins
+pub mod reading
 pub mod Answers
 pub mod Thin
-pub mod reading
-pub mod view
+pub mod ThinView

@@ -6,7 +6,7 @@ use Rattle.std.specs.Cmp.Lexicographic.{pointwise}
 use Rattle.snl_text.specs.declared.tokens.Token.{Token}
 use Rattle.snl_text.specs.declared.kinds.Kind.{Kind}
 use Rattle.snl_text.specs.declared.kinds.Kind.TheVariants as kind
-use Rattle.snl_tree.specs.Kinds.{is}
+use Rattle.snl_syntax.specs.Kinds.{is}
 use Rattle.snl_tree.specs.declared.thin.trees.Program.{Program}
 use Rattle.snl_tree.specs.declared.thin.trees.StateSet.{StateSet}
 use Rattle.snl_tree.specs.declared.thin.trees.State.{State}
@@ -16,12 +16,12 @@ use Rattle.snl_tree.specs.declared.thin.trees.Def.TheVariants as def
 use Rattle.snl_tree.specs.declared.thin.trees.Stmt.{Stmt}
 use Rattle.snl_tree.specs.declared.thin.trees.Stmt.TheVariants as stmt
 use Rattle.snl_tree.specs.declared.thin.trees.Expr.{Expr, Whole, Name, Chain', Row_of-Term, end_of-Term, more_of-Term}
-use Rattle.snl_tree.specs.Expressions.{ExprTree, TermList, ArgumentList, constant, named, call, chain, assignment, no_terms, term, no_arguments, value}
-use Rattle.snl_tree.specs.view.Shown.{shown}
-use Rattle.snl_tree.specs.Statements.{StatementTree, StatementList, BlockTree, no_statements, statement, block, expression}
-use Rattle.snl_tree.specs.Declarations.{TypeTree, DeclaratorTree, DeclarationTree}
-use Rattle.snl_tree.specs.Definitions.{NamesTree, one_name, ChannelsTree, SettingTree, DefinitionTree, declaration, assign, monitor, setting}
-use Rattle.snl_tree.specs.Programs.{TargetTree, to_state, ClauseTree, StateTree, StateSetTree, ProgramTree}
+use Rattle.snl_syntax.specs.Expressions.{ExprTree, TermList, ArgumentList, constant, named, call, chain, assignment, no_terms, term, no_arguments, value}
+use Rattle.snl_syntax.specs.view.Shown.{shown}
+use Rattle.snl_syntax.specs.Statements.{StatementTree, StatementList, BlockTree, no_statements, statement, block, expression}
+use Rattle.snl_syntax.specs.Declarations.{TypeTree, DeclaratorTree, DeclarationTree}
+use Rattle.snl_syntax.specs.Definitions.{NamesTree, one_name, ChannelsTree, SettingTree, DefinitionTree, declaration, assign, monitor, setting}
+use Rattle.snl_syntax.specs.Programs.{TargetTree, to_state, ClauseTree, StateTree, StateSetTree, ProgramTree}
 
 -- What stands between the parts of a sum and of a product.
 abbrev pub joins : Kind → Bool

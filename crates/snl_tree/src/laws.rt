@@ -2,8 +2,8 @@
 
 ghost use Rattle.std.specs.Prelude.{◌≡◌, ◌<◌, ℕ, List};
 ghost use Rattle.snl_text.specs.declared.tokens.Token.{Token};
-ghost use Rattle.snl_tree.specs.Begins.{Spells};
-ghost use Rattle.snl_tree.specs.Programs.{ProgramTree, IsProgram, programs};
+ghost use Rattle.snl_syntax.specs.Begins.{Spells};
+ghost use Rattle.snl_syntax.specs.Programs.{ProgramTree, IsProgram, programs};
 ghost use Rattle.snl_tree.specs.Answers.{HasProgram, HasOneAnswer};
 
 /// No two programs have one spelling.

@@ -10,11 +10,10 @@ pub mod laws;
 mod parsing;
 mod readers;
 pub mod thin;
-mod trees;
 
 pub use faults::ParseFault;
 pub use parsing::{NESTING_LIMIT, TOKEN_LIMIT, parse};
-pub use trees::{
+pub use snl_syntax::{
     Argument, Assign, Block, ChannelNames, Channels, Clause, Declaration, Declarator, Def, Expr,
     Flag, Header, Initialiser, Place, Program, Setting, State, StateSet, Stmt, Sync, SyncQueue,
     Target, Term, TypeName, Values,

@@ -1,16 +1,16 @@
 //! From the tokens of a source to its program.
 
 ghost use Rattle.std.specs.Prelude.{◌≡◌, ◌<◌, ℕ, IfOk, List, Err};
-ghost use Rattle.snl_tree.specs.Begins.{Spells, IsUnexpected, IsTooDeep};
+ghost use Rattle.snl_syntax.specs.Begins.{Spells, IsUnexpected, IsTooDeep};
 ghost use Rattle.snl_tree.specs.Answers.{IsOnly, IsOnlyFault};
-ghost use Rattle.snl_tree.specs.Programs.{ProgramTree, IsProgram, programs};
-ghost use Rattle.snl_tree.specs.view.Shown.{held};
-ghost use Rattle.snl_tree.specs.view.Programs.{Carries, program_view};
+ghost use Rattle.snl_syntax.specs.Programs.{ProgramTree, IsProgram, programs};
+ghost use Rattle.snl_syntax.specs.view.Shown.{held};
+ghost use Rattle.snl_syntax.specs.view.Programs.{Carries, program_view};
 
 use crate::faults::ParseFault;
 use crate::readers::cursor::{Cursor, Halt};
 use crate::readers::programs::program;
-use crate::trees::Program;
+use snl_syntax::Program;
 use snl_text::Lexed;
 use std::alloc::Global;
 

@@ -2,17 +2,17 @@
 
 ghost use Rattle.std.specs.Prelude.{◌≡◌, [], ◌∷◌, map};
 ghost use Rattle.std.specs.List.{list_all};
-ghost use Rattle.snl_tree.specs.Definitions as tree;
+ghost use Rattle.snl_syntax.specs.Definitions as tree;
 ghost use Rattle.snl_tree.specs.Thin as spec;
-ghost use Rattle.snl_tree.specs.view.Declarations.{type_view, declaration_view, declarator_view};
-ghost use Rattle.snl_tree.specs.view.Definitions.{assign_view, names_view, place_view};
-ghost use Rattle.snl_tree.specs.view.Definitions.{definition_view, setting_view, channels_view};
-ghost use Rattle.snl_tree.specs.view.Shown.{shown};
+ghost use Rattle.snl_syntax.specs.view.Declarations.{type_view, declaration_view, declarator_view};
+ghost use Rattle.snl_syntax.specs.view.Definitions.{assign_view, names_view, place_view};
+ghost use Rattle.snl_syntax.specs.view.Definitions.{definition_view, setting_view, channels_view};
+ghost use Rattle.snl_syntax.specs.view.Shown.{shown};
 
-use snl_text::Kind;
-use snl_tree::{
+use snl_syntax::{
     Assign, ChannelNames, Channels, Declaration, Declarator, Def, Place, Setting, TypeName,
 };
+use snl_text::Kind;
 
 /// Whether a name has no size and no first value.
 fn is_bare(declared: &Declarator) -> bool

@@ -3,14 +3,14 @@
 ghost use Rattle.std.specs.Prelude.{◌≡◌, map};
 ghost use Rattle.std.specs.List.{list_all};
 ghost use Rattle.snl_tree.specs.Thin as spec;
-ghost use Rattle.snl_tree.specs.view.Expressions.{boxed};
-ghost use Rattle.snl_tree.specs.view.Programs.{clause_view, state_view, state_set_view, program_view};
-ghost use Rattle.snl_tree.specs.view.Shown.{shown};
+ghost use Rattle.snl_syntax.specs.view.Expressions.{boxed};
+ghost use Rattle.snl_syntax.specs.view.Programs.{clause_view, state_view, state_set_view, program_view};
+ghost use Rattle.snl_syntax.specs.view.Shown.{shown};
 
 use crate::thin::definitions::are_thin_parts;
 use crate::thin::statements::is_thin_block;
 use crate::thin::values::is_value;
-use snl_tree::{Clause, Expr, Program, State, StateSet, Target};
+use snl_syntax::{Clause, Expr, Program, State, StateSet, Target};
 
 /// Whether a condition is there, and is a value of the first language.
 fn is_some_value(condition: &Option<Box<Expr>>) -> bool

@@ -2,15 +2,15 @@
 
 ghost use Rattle.std.specs.Prelude.{◌≡◌, [], ◌∷◌, map};
 ghost use Rattle.std.specs.List.{list_all};
-ghost use Rattle.snl_tree.specs.Expressions.{assignment, call, no_arguments};
-ghost use Rattle.snl_tree.specs.Statements.{expression};
+ghost use Rattle.snl_syntax.specs.Expressions.{assignment, call, no_arguments};
+ghost use Rattle.snl_syntax.specs.Statements.{expression};
 ghost use Rattle.snl_tree.specs.Thin as spec;
-ghost use Rattle.snl_tree.specs.view.Expressions.{view, list_before};
-ghost use Rattle.snl_tree.specs.view.Statements.{statement_view, block_view};
+ghost use Rattle.snl_syntax.specs.view.Expressions.{view, list_before};
+ghost use Rattle.snl_syntax.specs.view.Statements.{statement_view, block_view};
 
 use crate::thin::values::is_value;
+use snl_syntax::{Argument, Block, Expr, Stmt};
 use snl_text::{Kind, Token};
-use snl_tree::{Argument, Block, Expr, Stmt};
 
 /// Whether it is `NAME = VALUE`, from the parts of an assignment.
 fn is_assignment(target: &Expr, operator: Token, value: &Expr) -> bool

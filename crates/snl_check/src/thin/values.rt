@@ -1,13 +1,13 @@
 //! The values of the first language: sums, and two of them compared.
 
 ghost use Rattle.std.specs.Prelude.{◌≡◌, map};
-ghost use Rattle.snl_tree.specs.Expressions.{chain};
+ghost use Rattle.snl_syntax.specs.Expressions.{chain};
 ghost use Rattle.snl_tree.specs.Thin as spec;
-ghost use Rattle.snl_tree.specs.reading.Expressions.{term_list};
-ghost use Rattle.snl_tree.specs.view.Expressions.{view, pair_of};
+ghost use Rattle.snl_syntax.specs.view.Lists.{term_list};
+ghost use Rattle.snl_syntax.specs.view.Expressions.{view, pair_of};
 
+use snl_syntax::{Expr, Term};
 use snl_text::Kind;
-use snl_tree::{Expr, Term};
 
 /// Whether an operator joins the parts of a sum or of a product.
 fn joins(kind: Kind) -> bool

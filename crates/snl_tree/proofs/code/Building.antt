@@ -6,7 +6,7 @@ use Rattle.snl_tree.specs.reading.Readers.{Read}
 use Rattle.snl_tree.specs.declared.readers.cursor.Halt.{Halt}
 use Rattle.snl_tree.specs.declared.readers.cursor.Halt.TheVariants as halts
 use Rattle.snl_tree.specs.reading.Moves.{Fails, Builds, Appends}
-use Rattle.snl_tree.specs.view.Shown.{held}
+use Rattle.snl_syntax.specs.view.Shown.{held}
 
 -- a part in a box is built, seen through any view
 pub in_a_box : {A B : Type 0} (view : A → B) (part : A) (tree : B) (r : Result (Box A Global) Halt) → IfOk r (λ b. b.value ≡ part) → IfErr r (λ halt. halt ≡ halts.Memory) → view part ≡ tree

@@ -1,16 +1,15 @@
 -- Going from one binary operator to the next, in place of through every level.
-use Rattle.std.proofs.Common.{◌≡◌, ℕ, zero, suc, ◌+◌, ◌-◌, ◌<◌, ◌≤◌, Bool, true, false, List, [], ◌∷◌, map, Ok, Err, Vec, Box, Global, refl, sym, ap, ◌∙◌, subst, arith}
-use Rattle.std.proofs.lemmas.Bool.{eq-eqb, ne_eqb}
+use Rattle.std.proofs.Common.{◌≡◌, ℕ, zero, suc, ◌+◌, ◌-◌, ◌<◌, ◌≤◌, false, List, [], ◌∷◌, Ok, Err, Vec, Box, Global, refl, sym, ap, ◌∙◌, subst, arith}
+use Rattle.std.proofs.lemmas.Bool.{ne_eqb}
 use Rattle.snl_text.specs.declared.tokens.Token.{Token}
-use Rattle.snl_tree.specs.declared.trees.expressions.Expr.{Expr}
-use Rattle.snl_tree.specs.declared.trees.expressions.Term.{Term}
+use Rattle.snl_syntax.specs.declared.expressions.Expr.{Expr}
+use Rattle.snl_syntax.specs.declared.expressions.Term.{Term}
 use Rattle.snl_tree.specs.declared.readers.cursor.Halt.{Halt}
-use Rattle.snl_tree.specs.reading.Readers as reading
 use Rattle.snl_tree.specs.reading.Readers.{Fault, Read, starts, ◌>>=◌}
 use Rattle.snl_tree.specs.reading.Moves.{Fails}
-use Rattle.snl_tree.specs.Expressions.{ExprTree}
-use Rattle.snl_tree.specs.reading.Expressions.{inside, here, is_operator, level_at, unary_at, term_at, terms_at, chain_tree, chained, climbed}
-use Rattle.snl_tree.specs.view.Expressions.{boxed, pair_of, pairs}
+use Rattle.snl_syntax.specs.Expressions.{ExprTree}
+use Rattle.snl_tree.specs.reading.Expressions.{inside, here, is_operator, level_at, unary_at, terms_at, chain_tree, chained, climbed}
+use Rattle.snl_syntax.specs.view.Expressions.{boxed, pairs}
 use Rattle.snl_tree.proofs.code.Forms.{bind_assoc, level_form, level_unary}
 use Rattle.snl_tree.proofs.code.Turns.{same_fault}
 use Rattle.snl_tree.proofs.code.Loops.{terms_stop}

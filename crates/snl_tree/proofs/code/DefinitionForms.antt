@@ -2,11 +2,11 @@
 use Rattle.std.proofs.Common.{◌≡◌, ℕ, true, false, List, Ok, Err, ◌⊎◌, inr, refl, ◌∙◌}
 use Rattle.snl_text.specs.declared.tokens.Token.{Token}
 use Rattle.snl_text.specs.declared.kinds.Kind.TheVariants.{Assign, Monitor, OptionWord, Sync, SyncQueue}
-use Rattle.snl_tree.specs.Kinds.{is}
+use Rattle.snl_syntax.specs.Kinds.{is}
 use Rattle.snl_tree.specs.reading.Readers.{Read, Reader, starts, either, ◌>>=◌}
-use Rattle.snl_tree.specs.Declarations.{starts_declaration}
+use Rattle.snl_syntax.specs.Declarations.{starts_declaration}
 use Rattle.snl_tree.specs.reading.Declarations.{declaration_at}
-use Rattle.snl_tree.specs.Definitions.{PlaceTree, AssignTree, SyncTree, QueueTree, DefinitionTree, declaration, assign, monitor, sync, sync_queue, event_flags, setting}
+use Rattle.snl_syntax.specs.Definitions.{PlaceTree, AssignTree, SyncTree, QueueTree, DefinitionTree, declaration, assign, monitor, sync, sync_queue, event_flags, setting}
 use Rattle.snl_tree.specs.reading.Definitions.{assign_at, monitor_at, sync_at, queue_at, event_flags_at, setting_at, definition, definition_at, part, part_at}
 use Rattle.snl_tree.proofs.code.Forms.{either_form, elim_same}
 

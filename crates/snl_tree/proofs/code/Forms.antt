@@ -3,10 +3,11 @@ use Rattle.std.proofs.Common.{◌≡◌, ℕ, zero, suc, ◌-◌, ◌<◌, ◌�
 use Rattle.snl_text.specs.declared.tokens.Token.{Token}
 use Rattle.snl_text.specs.declared.kinds.Kind.{Kind}
 use Rattle.snl_text.specs.declared.kinds.Kind.TheVariants.{Name, OpenParenthesis, CloseParenthesis, OpenBracket, CloseBracket, Text, Colon, Question}
-use Rattle.snl_tree.specs.Kinds.{is, is_constant, is_prefix}
+use Rattle.snl_syntax.specs.Kinds.{is, is_constant, is_prefix}
 use Rattle.snl_tree.specs.reading.Readers.{Fault, Stuck, Deep, Read, Reader, starts, one, sign, both, either, nothing, under, made, ◌>>=◌}
-use Rattle.snl_tree.specs.Expressions.{ExprTree, ArgumentList, constant, parenthesized, element, call, prefix, conditional, assignment, no_arguments}
-use Rattle.snl_tree.specs.reading.Expressions.{Inside, readers, inside, opened, parenthesized_at, expression_at, level_at, named_tree, named_at, arguments_at, argument_at, argument_list, with_argument, all_arguments, is_no_close, more_arguments_at, prefixed_at, unary_at, postfix_at, postfix_tree, primary_at, is_step, conditional_tree, conditional_at, binary_at, is_unary, is_assignment, is_operator, assignment_tree, assignment_at, chain_tree, terms_at, chain_at, element_rest, call_rest, named_rest, stepped, conditional_rest, assigned_rest}
+use Rattle.snl_syntax.specs.Expressions.{ExprTree, ArgumentList, constant, parenthesized, element, call, prefix, conditional, assignment, no_arguments}
+use Rattle.snl_syntax.specs.view.Lists.{with_argument}
+use Rattle.snl_tree.specs.reading.Expressions.{Inside, readers, inside, opened, parenthesized_at, expression_at, level_at, named_tree, named_at, arguments_at, argument_at, argument_list, all_arguments, is_no_close, more_arguments_at, prefixed_at, unary_at, postfix_at, postfix_tree, primary_at, is_step, conditional_tree, conditional_at, binary_at, is_unary, is_assignment, is_operator, assignment_tree, assignment_at, chain_tree, terms_at, chain_at, element_rest, call_rest, named_rest, stepped, conditional_rest, assigned_rest}
 use Rattle.snl_tree.proofs.grammar.Operators.{level_low}
 
 -- going on twice from what was read is going on once with both steps

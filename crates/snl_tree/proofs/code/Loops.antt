@@ -3,13 +3,14 @@ use Rattle.std.proofs.Common.{◌≡◌, ℕ, zero, suc, ◌-◌, ◌<◌, ◌�
 use Rattle.snl_text.specs.declared.tokens.Token.{Token}
 use Rattle.snl_text.specs.declared.kinds.Kind.{Kind}
 use Rattle.snl_text.specs.declared.kinds.Kind.TheVariants.{Comma}
-use Rattle.snl_tree.specs.declared.trees.expressions.Term.{Term}
-use Rattle.snl_tree.specs.declared.trees.expressions.Argument.{Argument}
-use Rattle.snl_tree.specs.Kinds.{is}
+use Rattle.snl_syntax.specs.declared.expressions.Term.{Term}
+use Rattle.snl_syntax.specs.declared.expressions.Argument.{Argument}
+use Rattle.snl_syntax.specs.Kinds.{is}
 use Rattle.snl_tree.specs.reading.Readers.{Fault, Read, Reader, left, starts, one, sign, both, many_of, many, ◌>>=◌}
-use Rattle.snl_tree.specs.Expressions.{ExprTree, ArgumentList}
-use Rattle.snl_tree.specs.reading.Expressions.{inside, readers, is_operator, level_at, terms_at, term_at, argument_at, argument_list, with_argument, more_arguments_at, more_after}
-use Rattle.snl_tree.specs.view.Expressions.{pair_of, argument_of, list_before}
+use Rattle.snl_syntax.specs.Expressions.{ExprTree, ArgumentList}
+use Rattle.snl_syntax.specs.view.Lists.{with_argument}
+use Rattle.snl_tree.specs.reading.Expressions.{inside, readers, is_operator, level_at, terms_at, term_at, argument_at, argument_list, more_arguments_at, more_after}
+use Rattle.snl_syntax.specs.view.Expressions.{pair_of, argument_of, list_before}
 use Rattle.snl_tree.proofs.spelling.Laws.{ends}
 use Rattle.snl_tree.proofs.spelling.Growth.{Opens, opens_one, opens_sign}
 use Rattle.snl_tree.proofs.grammar.Inside.{expr_shape}

@@ -4,19 +4,19 @@ use Rattle.std.specs.List.{list_all}
 use Rattle.std.proofs.lemmas.List.{drop_more, drop_all}
 use mathlib.Core.Former.{Count}
 use Rattle.snl_text.specs.declared.tokens.Token.{Token}
-use Rattle.snl_tree.specs.declared.trees.expressions.Expr as whole
-use Rattle.snl_tree.specs.declared.trees.expressions.Term as whole_term
+use Rattle.snl_syntax.specs.declared.expressions.Expr as whole
+use Rattle.snl_syntax.specs.declared.expressions.Term as whole_term
 use Rattle.snl_tree.specs.declared.thin.trees.Expr.{Expr, Chain, Chain', Row_of-Term, end_of-Term, more_of-Term, items-the_row-Term, items_hidden-the_row-Term-0}
 use Rattle.snl_tree.specs.declared.thin.trees.Term.{Term}
-use Rattle.snl_tree.specs.declared.trees.expressions.Argument.{Argument, Value', Text}
-use Rattle.snl_tree.specs.Expressions.{ExprTree, ArgumentList, named, call, chain, term, no_arguments, value}
-use Rattle.snl_tree.specs.reading.Expressions.{term_list}
-use Rattle.snl_tree.specs.Statements.{StatementTree, expression}
+use Rattle.snl_syntax.specs.declared.expressions.Argument.{Argument, Value', Text}
+use Rattle.snl_syntax.specs.Expressions.{ExprTree, ArgumentList, named, call, chain, term, no_arguments, value}
+use Rattle.snl_syntax.specs.view.Lists.{term_list}
+use Rattle.snl_syntax.specs.Statements.{StatementTree, expression}
 use Rattle.snl_tree.specs.declared.thin.trees.Stmt.TheVariants as stmt
-use Rattle.snl_tree.specs.reading.Statements.{statement_list}
-use Rattle.snl_tree.specs.view.Expressions.{view, boxed, pair_of, list_before}
+use Rattle.snl_syntax.specs.view.Lists.{statement_list}
+use Rattle.snl_syntax.specs.view.Expressions.{view, boxed, pair_of, list_before}
 use Rattle.snl_tree.specs.Thin.{joins, compares, is_sum, are_joined, is_comparison, statements_of, is_one_name, is_none_of, is_spelled, is_thin_statement, StandsForStatement, wide, wide_terms, StandEach, Finds}
-use Rattle.snl_tree.proofs.code.Rows.{view_chain}
+use Rattle.snl_syntax.proofs.Rows.{view_chain}
 
 -- The smaller trees found so far stand for all of a list but the rest.
 pub record AllBut {A B C : Type 0} (thin : A → Bool) (Stands : A → B → Type 0) (show : C → A) (xs rest : List C) (found : List B) : Type 0 where

@@ -3,8 +3,8 @@ use Rattle.std.proofs.Common.{◌≡◌, ℕ, List, Result, Ok, Err, IfOk, refl,
 use Rattle.snl_text.specs.declared.tokens.Token.{Token}
 use Rattle.snl_tree.specs.declared.faults.ParseFault.{ParseFault}
 use Rattle.snl_tree.specs.declared.faults.ParseFault.TheVariants.{Unexpected, TooDeep, Memory}
-use Rattle.snl_tree.specs.Begins.{Spells, IsUnexpected, IsTooDeep}
-use Rattle.snl_tree.specs.Programs.{ProgramTree, IsProgram, programs}
+use Rattle.snl_syntax.specs.Begins.{Spells, IsUnexpected, IsTooDeep}
+use Rattle.snl_syntax.specs.Programs.{ProgramTree, IsProgram, programs}
 use Rattle.snl_tree.specs.Answers.{IsOnlyFault}
 use Rattle.snl_tree.proofs.grammar.OneAnswer.{spelled_not_unexpected, spelled_not_too_deep, one_unexpected, one_too_deep, unexpected_not_too_deep}
 

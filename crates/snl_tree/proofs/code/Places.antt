@@ -1,7 +1,7 @@
 -- The place of the first token after so many.
 use Rattle.std.proofs.Common.{◌≡◌, ℕ, zero, suc, ◌≤◌, ◌<◌, List, [], ◌∷◌, Some, None, length, drop, slice_index_or, refl, arith}
 use Rattle.snl_text.specs.declared.tokens.Token.{Token}
-use Rattle.snl_tree.specs.view.Programs.{first_place}
+use Rattle.snl_syntax.specs.view.Programs.{first_place}
 
 -- there is no place where there are no more tokens than so many
 pub first_none : (n : ℕ) (ts : List Token) → length ts ≤ n → None ≡ first_place (drop n ts)

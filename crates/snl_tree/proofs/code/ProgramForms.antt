@@ -2,7 +2,7 @@
 use Rattle.std.proofs.Common.{◌≡◌, ℕ, List, Ok}
 use Rattle.snl_text.specs.declared.tokens.Token.{Token}
 use Rattle.snl_text.specs.declared.kinds.Kind.TheVariants.{Name, Program, StateSet, State, When, OpenBrace, CloseBrace}
-use Rattle.snl_tree.specs.Kinds.{is}
+use Rattle.snl_syntax.specs.Kinds.{is}
 use Rattle.snl_tree.specs.reading.Readers.{one, sign, ◌>>=◌}
 use Rattle.snl_tree.specs.reading.Definitions.{definitions_at, parts_at}
 use Rattle.snl_tree.specs.reading.Statements.{block_at}

@@ -1,7 +1,7 @@
 -- Less is left after a clause, a state and a state set, where the limit leaves room for a block.
 use Rattle.std.proofs.Common.{◌≡◌, ℕ, zero, suc, ◌<◌, List, Ok, length, arith}
 use Rattle.snl_text.specs.declared.tokens.Token.{Token}
-use Rattle.snl_tree.specs.Programs.{ClauseTree, StateTree, StateSetTree}
+use Rattle.snl_syntax.specs.Programs.{ClauseTree, StateTree, StateSetTree}
 use Rattle.snl_tree.specs.reading.Programs.{clause_at, state_at, state_set_at}
 use Rattle.snl_tree.proofs.spelling.Rights.{right_less}
 use Rattle.snl_tree.proofs.grammar.ProgramLaws.{clause_form, right_clause, state_form, right_state, state_set_form, right_state_set}

@@ -2,8 +2,8 @@
 use Rattle.std.proofs.Common.{◌≡◌, ℕ, zero, suc, ◌-◌, ◌<◌, ◌≤◌, true, false, List, [], ◌∷◌, Ok, Err, nat_eq, length, refl, sym, ap, ◌∙◌, subst, arith, eqb-true, false-eqb}
 use Rattle.snl_text.specs.declared.tokens.Token.{Token}
 use Rattle.snl_tree.specs.reading.Readers.{Stuck, Deep, Read, left}
-use Rattle.snl_tree.specs.Begins.{Spells, IsUnexpected, IsTooDeep}
-use Rattle.snl_tree.specs.Programs.{ProgramTree, IsProgram, programs}
+use Rattle.snl_syntax.specs.Begins.{Spells, IsUnexpected, IsTooDeep}
+use Rattle.snl_syntax.specs.Programs.{ProgramTree, IsProgram, programs}
 use Rattle.snl_tree.specs.reading.Programs.{program_at}
 use Rattle.snl_tree.proofs.grammar.ProgramParsing.{program_ends, found_program, only_program, program_stuck, program_left, program_deep}
 

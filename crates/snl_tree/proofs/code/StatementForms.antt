@@ -3,13 +3,14 @@ use Rattle.std.proofs.Common.{◌≡◌, ℕ, zero, suc, ◌-◌, ◌<◌, lengt
 use Rattle.snl_text.specs.declared.tokens.Token.{Token}
 use Rattle.snl_text.specs.declared.kinds.Kind.{Kind}
 use Rattle.snl_text.specs.declared.kinds.Kind.TheVariants.{Name, OpenBrace, CloseBrace, Semicolon, If, Else, While, For, Break, Continue, State}
-use Rattle.snl_tree.specs.Kinds.{is}
+use Rattle.snl_syntax.specs.Kinds.{is}
 use Rattle.snl_tree.specs.reading.Readers.{Stuck, Deep, Read, Reader, starts, one, sign, both, nothing, under, ◌>>=◌}
 use Rattle.snl_tree.specs.reading.Sequences.{before}
-use Rattle.snl_tree.specs.Expressions.{ExprTree}
+use Rattle.snl_syntax.specs.Expressions.{ExprTree}
 use Rattle.snl_tree.specs.reading.Expressions.{inside, level_at, opened}
-use Rattle.snl_tree.specs.Statements.{Header, StatementTree, nested, empty, expression, break_loop, continue_loop, change_state, if_then, if_else, while_loop, for_loop, block, statement_slots, is_closed}
-use Rattle.snl_tree.specs.reading.Statements.{condition_at, header_at, statement_list, Inner, declarations_at, statements_at, block_of, empty_at, expression_statement_at, break_at, continue_at, change_state_at, else_at, if_tree, if_at, while_at, for_at, word_statement_at, statement_of, statements_inside, statement_at, block_at}
+use Rattle.snl_syntax.specs.Statements.{Header, StatementTree, nested, empty, expression, break_loop, continue_loop, change_state, if_then, if_else, while_loop, for_loop, block, statement_slots, is_closed}
+use Rattle.snl_syntax.specs.view.Lists.{statement_list}
+use Rattle.snl_tree.specs.reading.Statements.{condition_at, header_at, Inner, declarations_at, statements_at, block_of, empty_at, expression_statement_at, break_at, continue_at, change_state_at, else_at, if_tree, if_at, while_at, for_at, word_statement_at, statement_of, statements_inside, statement_at, block_at}
 use Rattle.snl_tree.specs.reading.StatementSteps.{ended_word_at, statement_row_at, if_rest}
 use Rattle.snl_tree.proofs.spelling.Laws.{Ends, Sound}
 use Rattle.snl_tree.proofs.spelling.Choices.{true_is}

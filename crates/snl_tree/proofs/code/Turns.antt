@@ -4,7 +4,7 @@ use Rattle.snl_text.specs.declared.tokens.Token.{Token}
 use Rattle.snl_text.specs.declared.kinds.Kind.{Kind}
 use Rattle.snl_tree.specs.declared.readers.cursor.Halt.{Halt}
 use Rattle.snl_tree.specs.declared.readers.cursor.Halt.TheVariants as halts
-use Rattle.snl_tree.specs.Kinds.{is}
+use Rattle.snl_syntax.specs.Kinds.{is}
 use Rattle.snl_tree.specs.reading.Readers as reading
 use Rattle.snl_tree.specs.reading.Readers.{Fault, Read, Reader, starts, many, ◌>>=◌}
 use Rattle.snl_tree.specs.reading.Moves.{Fails}

@@ -4,18 +4,18 @@ use Rattle.snl_text.specs.declared.tokens.Token.{Token}
 use Rattle.snl_text.specs.declared.kinds.Kind.{Kind}
 use Rattle.snl_text.specs.declared.kinds.Kind.TheVariants.{Comma}
 use Rattle.snl_tree.specs.declared.readers.cursor.Halt.{Halt}
-use Rattle.snl_tree.specs.declared.trees.expressions.Expr.{Expr}
-use Rattle.snl_tree.specs.Kinds.{is}
+use Rattle.snl_syntax.specs.declared.expressions.Expr.{Expr}
+use Rattle.snl_syntax.specs.Kinds.{is}
 use Rattle.snl_tree.specs.reading.Readers.{Fault, Read, Reader, starts, sign, both, ◌>>=◌}
 use Rattle.snl_tree.specs.reading.Sequences.{maybe, behind}
 use Rattle.snl_tree.specs.reading.Moves.{Fails}
-use Rattle.snl_tree.specs.Expressions.{ExprTree}
+use Rattle.snl_syntax.specs.Expressions.{ExprTree}
 use Rattle.snl_tree.specs.reading.Expressions.{inside, level_at}
-use Rattle.snl_tree.specs.view.Expressions.{boxed}
-use Rattle.snl_tree.specs.Declarations.{ValueList, no_values, last_value, value_before}
+use Rattle.snl_syntax.specs.view.Expressions.{boxed}
+use Rattle.snl_syntax.specs.Declarations.{ValueList, no_values, last_value, value_before}
 use Rattle.snl_tree.specs.reading.Declarations as specs
 use Rattle.snl_tree.specs.reading.Declarations.{is_no_brace, values_at}
-use Rattle.snl_tree.specs.view.Declarations.{values_before, value_list}
+use Rattle.snl_syntax.specs.view.Declarations.{values_before, value_list}
 use Rattle.snl_tree.proofs.code.Loops.{map_snoc}
 use Rattle.snl_tree.proofs.code.Turns.{same_fault}
 use Rattle.snl_tree.proofs.spelling.Rights.{right_at_most, right_sign, sign_form, right_less}

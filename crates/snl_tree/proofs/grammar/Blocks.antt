@@ -3,16 +3,16 @@ use Rattle.std.proofs.Common.{◌≡◌, ℕ, ◌<◌, lit<, true, false, true�
 use Rattle.snl_text.specs.declared.tokens.Token.{Token}
 use Rattle.snl_text.specs.declared.kinds.Kind.{Kind}
 use Rattle.snl_text.specs.declared.kinds.Kind.TheVariants.{OpenParenthesis, CloseParenthesis, Semicolon}
-use Rattle.snl_tree.specs.Kinds.{is_other, looseness}
-use Rattle.snl_tree.specs.Slots.{Slot}
+use Rattle.snl_syntax.specs.Kinds.{is_other, looseness}
+use Rattle.snl_syntax.specs.Slots.{Slot}
 use Rattle.snl_tree.specs.reading.Readers.{both}
-use Rattle.snl_tree.specs.Sequences.{IfThere}
+use Rattle.snl_syntax.specs.Sequences.{IfThere}
 use Rattle.snl_tree.specs.reading.Sequences.{maybe, behind}
-use Rattle.snl_tree.specs.Expressions.{ExprTree, IsExpr}
+use Rattle.snl_syntax.specs.Expressions.{ExprTree, IsExpr}
 use Rattle.snl_tree.specs.reading.Expressions.{inside, level_at}
-use Rattle.snl_tree.specs.Declarations.{DeclarationTree, starts_declaration}
+use Rattle.snl_syntax.specs.Declarations.{DeclarationTree, starts_declaration}
 use Rattle.snl_tree.specs.reading.Declarations.{declaration_at}
-use Rattle.snl_tree.specs.Statements.{Header, condition_slots, ended_slots, header_slots, IsHeader}
+use Rattle.snl_syntax.specs.Statements.{Header, condition_slots, ended_slots, header_slots, IsHeader}
 use Rattle.snl_tree.specs.reading.Statements.{condition_at, ended_at, header_at, declarations_at}
 use Rattle.snl_tree.proofs.spelling.Laws.{Links}
 use Rattle.snl_tree.proofs.grammar.Shapes.{can_open, heads_opens}

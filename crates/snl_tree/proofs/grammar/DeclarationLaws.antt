@@ -3,13 +3,13 @@ use Rattle.std.proofs.Common.{◌≡◌, ℕ, ◌<◌, lit<, length, Ok, true, f
 use Rattle.snl_text.specs.declared.tokens.Token.{Token}
 use Rattle.snl_text.specs.declared.kinds.Kind.{Kind}
 use Rattle.snl_text.specs.declared.kinds.Kind.TheVariants.{Name, Int, Unsigned, OpenBrace, CloseBrace, OpenBracket, CloseBracket, Semicolon, Comma, Equal}
-use Rattle.snl_tree.specs.Kinds.{is, looseness}
+use Rattle.snl_syntax.specs.Kinds.{is, looseness}
 use Rattle.snl_tree.specs.reading.Readers.{one, both, either}
-use Rattle.snl_tree.specs.Sequences.{EachOfSome}
+use Rattle.snl_syntax.specs.Sequences.{EachOfSome}
 use Rattle.snl_tree.specs.reading.Sequences.{maybe, behind, before, between}
-use Rattle.snl_tree.specs.Expressions.{ExprTree, slots}
+use Rattle.snl_syntax.specs.Expressions.{ExprTree, slots}
 use Rattle.snl_tree.specs.reading.Expressions.{inside, level_at}
-use Rattle.snl_tree.specs.Declarations.{starts_declaration, may_be_unsigned, is_second, TypeTree, ValueList, InitialiserTree, single, listed, DeclaratorTree, DeclarationTree, type_slots, initialiser_slots, declarator_slots, declaration_slots, IsType, IsInitialiser, IsDeclarator, IsDeclaration}
+use Rattle.snl_syntax.specs.Declarations.{starts_declaration, may_be_unsigned, is_second, TypeTree, ValueList, InitialiserTree, single, listed, DeclaratorTree, DeclarationTree, type_slots, initialiser_slots, declarator_slots, declaration_slots, IsType, IsInitialiser, IsDeclarator, IsDeclaration}
 use Rattle.snl_tree.specs.reading.Declarations.{type_at, bracket_at, sizes_at, values_at, initialiser, initialiser_at, declarator_at, declarators_at, declaration_at}
 use Rattle.snl_tree.proofs.spelling.Laws.{Links}
 use Rattle.snl_tree.proofs.spelling.Choices.{Heads, is_true, true_is}

@@ -3,15 +3,15 @@ use Rattle.std.proofs.Common.{◌≡◌, ℕ, ◌<◌, length, Ok, Bool, true, f
 use Rattle.snl_text.specs.declared.tokens.Token.{Token}
 use Rattle.snl_text.specs.declared.kinds.Kind.{Kind}
 use Rattle.snl_text.specs.declared.kinds.Kind.TheVariants.{Name, Whole, Text, Assign, EventFlag, Monitor, OptionWord, Sync, SyncQueue, To, Plus, OpenBrace, CloseBrace, OpenBracket, Semicolon, Comma}
-use Rattle.snl_tree.specs.Kinds.{is}
-use Rattle.snl_tree.specs.Slots.{Slot, The}
+use Rattle.snl_syntax.specs.Kinds.{is}
+use Rattle.snl_syntax.specs.Slots.{Slot, The}
 use Rattle.snl_tree.specs.reading.Readers.{one, both, either}
-use Rattle.snl_tree.specs.Sequences.{EachOfSome, Each, IfThere, sign_slots}
+use Rattle.snl_syntax.specs.Sequences.{EachOfSome, Each, IfThere, sign_slots}
 use Rattle.snl_tree.specs.reading.Sequences.{maybe, whether, behind, before, between, parted}
-use Rattle.snl_tree.specs.Expressions.{ExprTree}
-use Rattle.snl_tree.specs.Declarations.{starts_declaration}
+use Rattle.snl_syntax.specs.Expressions.{ExprTree}
+use Rattle.snl_syntax.specs.Declarations.{starts_declaration}
 use Rattle.snl_tree.specs.reading.Declarations.{bracket_at, declaration_at}
-use Rattle.snl_tree.specs.Definitions.{PlaceTree, NamesTree, one_name, name_list, ChannelsTree, AssignTree, FlagTree, SyncTree, QueueTree, SettingTree, DefinitionTree, declaration, assign, monitor, sync, sync_queue, event_flags, setting, starts_definition, starts_part, is_sign, place_slots, names_slots, channels_slots, assign_slots, flag_slots, sync_slots, queue_slots, setting_slots, definition_slots, IsPlace, AreNames, IsAssign, IsSync, IsQueue, IsSetting, IsDefinition, IsPart}
+use Rattle.snl_syntax.specs.Definitions.{PlaceTree, NamesTree, one_name, name_list, ChannelsTree, AssignTree, FlagTree, SyncTree, QueueTree, SettingTree, DefinitionTree, declaration, assign, monitor, sync, sync_queue, event_flags, setting, starts_definition, starts_part, is_sign, place_slots, names_slots, channels_slots, assign_slots, flag_slots, sync_slots, queue_slots, setting_slots, definition_slots, IsPlace, AreNames, IsAssign, IsSync, IsQueue, IsSetting, IsDefinition, IsPart}
 use Rattle.snl_tree.specs.reading.Definitions.{place_at, strings_at, channel_names, names_at, channels_at, starts_channels, assign_at, monitor_at, flag_at, starts_flag, sync_at, queue_at, flags_at, event_flags_at, setting_at, FormOfDefinition, definition, definition_at, part, part_at, definitions_at, parts_at}
 use Rattle.snl_tree.proofs.spelling.Laws.{Links}
 use Rattle.snl_tree.proofs.spelling.Choices.{Heads, is_true, true_is}

@@ -3,10 +3,10 @@ use Rattle.std.proofs.Common.{ℕ, zero, suc, ◌≤◌, ◌<◌, Bool, true, fa
 use Rattle.snl_text.specs.declared.tokens.Token.{Token}
 use Rattle.snl_text.specs.declared.kinds.Kind.{Kind}
 use Rattle.snl_text.specs.declared.kinds.Kind.TheVariants.{Name}
-use Rattle.snl_tree.specs.Kinds.{looseness}
-use Rattle.snl_tree.specs.Slots.{Slot}
+use Rattle.snl_syntax.specs.Kinds.{looseness}
+use Rattle.snl_syntax.specs.Slots.{Slot}
 use Rattle.snl_tree.specs.reading.Readers.{Reader, Stuck, Deep, starts, under}
-use Rattle.snl_tree.specs.Expressions.{ExprTree, rank, slots, Under, IsWell}
+use Rattle.snl_syntax.specs.Expressions.{ExprTree, rank, slots, Under, IsWell}
 use Rattle.snl_tree.specs.reading.Expressions.{Inside}
 use Rattle.snl_tree.proofs.spelling.Laws.{Shape, Sound, Reads, Links}
 use Rattle.snl_tree.proofs.spelling.Both.{reads_both}

@@ -3,9 +3,9 @@ use Rattle.std.proofs.Common.{◌≡◌, ℕ, zero, suc, ◌≤◌, ◌+◌, Lis
 use Rattle.snl_text.specs.declared.tokens.Token.{Token}
 use Rattle.snl_text.specs.declared.kinds.Kind.{Kind}
 use Rattle.snl_text.specs.declared.kinds.Kind.TheVariants.{Name, Text, OpenParenthesis, CloseParenthesis, OpenBracket, CloseBracket, Comma, Colon, Question}
-use Rattle.snl_tree.specs.Kinds.{is, is_constant, is_prefix}
+use Rattle.snl_syntax.specs.Kinds.{is, is_constant, is_prefix}
 use Rattle.snl_tree.specs.reading.Readers.{Reader, left, one, sign, both, either, nothing, under, made}
-use Rattle.snl_tree.specs.Expressions.{ExprTree, constant, parenthesized, prefix}
+use Rattle.snl_syntax.specs.Expressions.{ExprTree, constant, parenthesized, prefix}
 use Rattle.snl_tree.specs.reading.Expressions.{Inside, parenthesized_at, argument_at, all_arguments, is_no_close, more_arguments_at, arguments_at, named_tree, named_at, primary_at, is_step, postfix_tree, postfix_at, prefixed_at, unary_at, is_operator, chain_tree, terms_at, chain_at, binary_at, conditional_tree, conditional_at, is_assignment, assignment_tree, assignment_at, expression_at, readers, inside}
 use Rattle.snl_tree.proofs.spelling.Laws.{ends}
 use Rattle.snl_tree.proofs.spelling.Growth.{Grows, Opens, grows_one, grows_sign, grows_nothing, grows_made, grows_both, grows_either, grows_choice, grows_many, opens_one, opens_sign, grows_under_none, grows_under_some}

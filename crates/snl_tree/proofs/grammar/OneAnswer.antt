@@ -1,9 +1,9 @@
 -- Tokens have one answer at most: a tree, a first token that is unexpected, or a first that is too deep.
-use Rattle.std.proofs.Common.{◌≡◌, ℕ, zero, suc, ◌+◌, ◌≤◌, ◌<◌, List, [], ◌∷◌, ◌++◌, inl, inr, length, take, drop, refl, sym, ap, ◌∙◌, subst, arith, append_assoc, append-nil}
+use Rattle.std.proofs.Common.{◌≡◌, ℕ, zero, suc, ◌≤◌, ◌<◌, List, [], ◌∷◌, ◌++◌, inl, inr, length, take, drop, refl, sym, ap, ◌∙◌, subst, arith, append_assoc, append-nil}
 use Rattle.std.proofs.lemmas.Bool.{cases_order}
 use Rattle.snl_text.specs.declared.tokens.Token.{Token}
-use Rattle.snl_tree.specs.Slots.{Slot, Spelled}
-use Rattle.snl_tree.specs.Begins.{Sort, Spells, Begins, IsUnexpected, IsTooDeep}
+use Rattle.snl_syntax.specs.Slots.{Spelled}
+use Rattle.snl_syntax.specs.Begins.{Sort, Spells, Begins, IsUnexpected, IsTooDeep}
 use Rattle.snl_tree.proofs.grammar.Theorem.{spelled_cut, take_drop}
 
 -- a prefix of a prefix is a prefix of the whole

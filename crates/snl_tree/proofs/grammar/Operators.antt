@@ -4,11 +4,12 @@ use Rattle.std.proofs.lemmas.Bool.Decides.{nat_tests}
 use Rattle.snl_text.specs.declared.tokens.Token.{Token}
 use Rattle.snl_text.specs.declared.kinds.Kind.{Kind}
 use Rattle.snl_text.specs.declared.kinds.Kind.TheVariants.{Colon, Question}
-use Rattle.snl_tree.specs.Kinds.{is, is_prefix, looseness}
-use Rattle.snl_tree.specs.Slots.{The}
+use Rattle.snl_syntax.specs.Kinds.{is, is_prefix, looseness}
+use Rattle.snl_syntax.specs.Slots.{The}
 use Rattle.snl_tree.specs.reading.Readers.{Reader, one, sign, both, either, nothing, under}
-use Rattle.snl_tree.specs.Expressions.{ExprTree, TermList, constant, parenthesized, named, element, call, postfix, prefix, chain, conditional, assignment, no_terms, term, rank, terms_rank, slots, term_slots, IsLevel, IsWell, HasTerms}
-use Rattle.snl_tree.specs.reading.Expressions.{Inside, primary_at, is_step, postfix_tree, postfix_at, prefixed_at, unary_at, is_operator, term_list, chain_tree, terms_at, chain_at, binary_at, conditional_tree, conditional_at, is_unary, is_assignment, assignment_tree, assignment_at, expression_at, level_at, inside}
+use Rattle.snl_syntax.specs.Expressions.{ExprTree, TermList, constant, parenthesized, named, element, call, postfix, prefix, chain, conditional, assignment, no_terms, term, rank, terms_rank, slots, term_slots, IsLevel, IsWell, HasTerms}
+use Rattle.snl_syntax.specs.view.Lists.{term_list}
+use Rattle.snl_tree.specs.reading.Expressions.{Inside, primary_at, is_step, postfix_tree, postfix_at, prefixed_at, unary_at, is_operator, chain_tree, terms_at, chain_at, binary_at, conditional_tree, conditional_at, is_unary, is_assignment, assignment_tree, assignment_at, expression_at, level_at, inside}
 use Rattle.snl_tree.proofs.spelling.Laws.{Shape, Reads, Links}
 use Rattle.snl_tree.proofs.spelling.Both.{both_shape, reads_both}
 use Rattle.snl_tree.proofs.spelling.Choices.{Heads, one_shape, reads_one, sign_shape, reads_sign, nothing_shape, reads_nothing, either_shape, reads_either, reads_choice, reads_made}

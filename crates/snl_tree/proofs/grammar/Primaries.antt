@@ -3,10 +3,10 @@ use Rattle.std.proofs.Common.{◌≡◌, ℕ, ◌≤◌, ◌<◌, lit<, lit≤, 
 use Rattle.snl_text.specs.declared.tokens.Token.{Token}
 use Rattle.snl_text.specs.declared.kinds.Kind.{Kind}
 use Rattle.snl_text.specs.declared.kinds.Kind.TheVariants.{Name, Text, OpenParenthesis, CloseParenthesis, OpenBracket, CloseBracket, Comma}
-use Rattle.snl_tree.specs.Kinds.{is, is_constant, looseness}
-use Rattle.snl_tree.specs.Slots.{Slot, The, Sign}
+use Rattle.snl_syntax.specs.Kinds.{is, is_constant, looseness}
+use Rattle.snl_syntax.specs.Slots.{Slot, The, Sign}
 use Rattle.snl_tree.specs.reading.Readers.{Reader, one, sign, both, either, choice, nothing, under, made}
-use Rattle.snl_tree.specs.Expressions.{ExprTree, TermList, ArgumentList, constant, parenthesized, named, element, call, postfix, prefix, chain, conditional, assignment, no_arguments, value, text, rank, terms_rank, slots, argument_slots, more_slots, IsLevel, IsWell, AreWell}
+use Rattle.snl_syntax.specs.Expressions.{ExprTree, TermList, ArgumentList, constant, parenthesized, named, element, call, postfix, prefix, chain, conditional, assignment, no_arguments, value, text, rank, terms_rank, slots, argument_slots, more_slots, IsLevel, IsWell, AreWell}
 use Rattle.snl_tree.specs.reading.Expressions.{Inside, Argument, parenthesized_at, argument_at, argument_list, all_arguments, is_no_close, more_arguments_at, arguments_at, named_tree, named_at, primary_at}
 use Rattle.snl_tree.proofs.spelling.Laws.{Shape, Reads, Links}
 use Rattle.snl_tree.proofs.spelling.Both.{both_shape, reads_both}

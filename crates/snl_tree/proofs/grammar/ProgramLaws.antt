@@ -4,18 +4,18 @@ use Rattle.std.proofs.Common.{◌≡◌, ℕ, suc, lit<, true, false, List, [], 
 use Rattle.snl_text.specs.declared.tokens.Token.{Token}
 use Rattle.snl_text.specs.declared.kinds.Kind.{Kind}
 use Rattle.snl_text.specs.declared.kinds.Kind.TheVariants.{Name, Text, Program, Entry, Exit, StateSet, State, When, OpenBrace, CloseBrace, OpenParenthesis, CloseParenthesis}
-use Rattle.snl_tree.specs.Kinds.{is}
-use Rattle.snl_tree.specs.Slots.{Slot}
+use Rattle.snl_syntax.specs.Kinds.{is}
+use Rattle.snl_syntax.specs.Slots.{Slot}
 use Rattle.snl_tree.specs.reading.Readers.{one, sign, both, either}
-use Rattle.snl_tree.specs.Sequences.{IfThere, EachOfSome, row_slots}
+use Rattle.snl_syntax.specs.Sequences.{IfThere, EachOfSome, row_slots}
 use Rattle.snl_tree.specs.reading.Sequences.{maybe, behind, between}
-use Rattle.snl_tree.specs.Expressions.{ExprTree}
+use Rattle.snl_syntax.specs.Expressions.{ExprTree}
 use Rattle.snl_tree.specs.reading.Expressions.{inside, level_at, is_no_close}
-use Rattle.snl_tree.specs.Definitions.{DefinitionTree, starts_definition, starts_part, definition_slots}
+use Rattle.snl_syntax.specs.Definitions.{DefinitionTree, starts_definition, starts_part, definition_slots}
 use Rattle.snl_tree.specs.reading.Definitions.{definitions_at, parts_at}
-use Rattle.snl_tree.specs.Statements.{BlockTree}
+use Rattle.snl_syntax.specs.Statements.{BlockTree}
 use Rattle.snl_tree.specs.reading.Statements.{block_at}
-use Rattle.snl_tree.specs.Programs.{TargetTree, to_state, to_exit, ClauseTree, StateTree, StateSetTree, ProgramTree, target_slots, clause_slots, state_slots, state_set_slots, program_slots, IsTarget, IsClause, IsState, IsStateSet, IsProgram}
+use Rattle.snl_syntax.specs.Programs.{TargetTree, to_state, to_exit, ClauseTree, StateTree, StateSetTree, ProgramTree, target_slots, clause_slots, state_slots, state_set_slots, program_slots, IsTarget, IsClause, IsState, IsStateSet, IsProgram}
 use Rattle.snl_tree.specs.reading.Programs.{target, target_at, condition_at, clause_at, entry_at, exit_at, clauses_at, state_at, states_at, state_set_at, state_sets_at, macros_at, program_at}
 use Rattle.snl_tree.proofs.spelling.Laws.{Links}
 use Rattle.snl_tree.proofs.spelling.Choices.{is_true, true_is}

@@ -3,11 +3,11 @@ use Rattle.std.proofs.Common.{◌≡◌, ℕ, zero, suc, ◌+◌, ◌-◌, ◌<�
 use Rattle.snl_text.specs.declared.tokens.Token.{Token}
 use Rattle.snl_text.specs.declared.kinds.Kind.{Kind}
 use Rattle.snl_tree.specs.reading.Readers.{Stuck, Deep, Read, left}
-use Rattle.snl_tree.specs.Sequences.{IfThere, Each, EachOfSome}
-use Rattle.snl_tree.specs.Begins.{Sort, Spells, Begins, IsUnexpected, IsTooDeep}
-use Rattle.snl_tree.specs.Definitions.{IsDefinition, IsPart}
-use Rattle.snl_tree.specs.Statements.{BlockTree, block, IsBlock}
-use Rattle.snl_tree.specs.Programs.{StateTree, StateSetTree, ProgramTree, program_slots, IsClause, IsState, IsStateSet, IsProgram, programs}
+use Rattle.snl_syntax.specs.Sequences.{IfThere, Each, EachOfSome}
+use Rattle.snl_syntax.specs.Begins.{Sort, Spells, Begins, IsUnexpected, IsTooDeep}
+use Rattle.snl_syntax.specs.Definitions.{IsDefinition, IsPart}
+use Rattle.snl_syntax.specs.Statements.{BlockTree, block, IsBlock}
+use Rattle.snl_syntax.specs.Programs.{StateTree, StateSetTree, ProgramTree, program_slots, IsClause, IsState, IsStateSet, IsProgram, programs}
 use Rattle.snl_tree.specs.reading.Programs.{program_at}
 use Rattle.snl_tree.specs.Answers.{HasProgram}
 use Rattle.snl_tree.proofs.spelling.Laws.{Sound, ends}

@@ -4,9 +4,9 @@ use denote.Enum.Bare.{false_same}
 use Rattle.snl_text.specs.contracts.kinds.Kind.{the_type}
 use Rattle.snl_text.specs.declared.kinds.Kind.{Kind}
 use Rattle.snl_text.specs.declared.kinds.Kind.TheVariants.{Name, Whole, Decimal, Character, Text, OpenParenthesis, CloseParenthesis, Plus, Minus, Bang, Tilde, PlusPlus, MinusMinus}
-use Rattle.snl_tree.specs.Kinds.{is, is_constant, is_prefix}
-use Rattle.snl_tree.specs.Slots.{Slot, slot_kind}
-use Rattle.snl_tree.specs.Expressions.{ExprTree, TermList, ArgumentList, constant, parenthesized, named, element, call, postfix, prefix, chain, conditional, assignment, no_terms, term, no_arguments, value, text, rank, terms_rank, slots, IsLevel, Under, IsWell, HasTerms, AreWell}
+use Rattle.snl_syntax.specs.Kinds.{is, is_constant, is_prefix}
+use Rattle.snl_syntax.specs.Slots.{Slot, slot_kind}
+use Rattle.snl_syntax.specs.Expressions.{ExprTree, TermList, ArgumentList, constant, parenthesized, named, element, call, postfix, prefix, chain, conditional, assignment, no_terms, term, no_arguments, value, text, rank, terms_rank, slots, IsLevel, Under, IsWell, HasTerms, AreWell}
 use Rattle.snl_tree.specs.reading.Expressions.{is_no_close}
 use Rattle.snl_tree.proofs.spelling.Choices.{Heads, Avoids}
 use Rattle.snl_tree.proofs.spelling.Lists.{heads_append}

@@ -3,12 +3,13 @@ use Rattle.std.proofs.Common.{◌≡◌, ℕ, zero, suc, ◌≤◌, ◌+◌, Boo
 use Rattle.snl_text.specs.declared.tokens.Token.{Token}
 use Rattle.snl_text.specs.declared.kinds.Kind.{Kind}
 use Rattle.snl_text.specs.declared.kinds.Kind.TheVariants.{Name, OpenBrace, CloseBrace, Semicolon, If, Else, While, For, Break, Continue, State}
-use Rattle.snl_tree.specs.Kinds.{is}
+use Rattle.snl_syntax.specs.Kinds.{is}
 use Rattle.snl_tree.specs.reading.Readers.{Reader, left, one, sign, both, nothing, many, under, made}
 use Rattle.snl_tree.specs.reading.Sequences.{before}
 use Rattle.snl_tree.specs.reading.Expressions.{inside, level_at}
-use Rattle.snl_tree.specs.Statements.{StatementTree, BlockTree, nested, empty, expression, break_loop, continue_loop, change_state, while_loop, for_loop, no_statements, block, block_slots, is_closed, IsBlock}
-use Rattle.snl_tree.specs.reading.Statements.{opens_statement, condition_at, header_at, statement_list, Inner, declarations_at, statements_at, block_of, empty_at, expression_statement_at, break_at, continue_at, change_state_at, else_at, if_tree, if_at, while_at, for_at, word_statement_at, statement_of, statements_inside, block_at}
+use Rattle.snl_syntax.specs.Statements.{StatementTree, BlockTree, nested, empty, expression, break_loop, continue_loop, change_state, while_loop, for_loop, no_statements, block, block_slots, is_closed, IsBlock}
+use Rattle.snl_syntax.specs.view.Lists.{statement_list}
+use Rattle.snl_tree.specs.reading.Statements.{opens_statement, condition_at, header_at, Inner, declarations_at, statements_at, block_of, empty_at, expression_statement_at, break_at, continue_at, change_state_at, else_at, if_tree, if_at, while_at, for_at, word_statement_at, statement_of, statements_inside, block_at}
 use Rattle.snl_tree.proofs.spelling.Laws.{ends}
 use Rattle.snl_tree.proofs.spelling.Growth.{Grows, Opens, grows_one, grows_sign, grows_nothing, grows_made, grows_both, grows_either, grows_choice, grows_many, opens_one, opens_sign, grows_under_none}
 use Rattle.snl_tree.proofs.spelling.Rights.{Form, Right}

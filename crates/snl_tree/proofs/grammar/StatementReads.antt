@@ -4,15 +4,16 @@ use Rattle.std.proofs.lemmas.Bool.Decides.{nat_tests}
 use Rattle.snl_text.specs.declared.tokens.Token.{Token}
 use Rattle.snl_text.specs.declared.kinds.Kind.{Kind}
 use Rattle.snl_text.specs.declared.kinds.Kind.TheVariants.{Name, Char, Short, Int, Long, Unsigned, Int8, Int16, Int32, Int64, Uint8, Uint16, Uint32, Uint64, Float, Double, StringType, OpenBrace, CloseBrace, Semicolon, If, Else, While, For, Break, Continue, State}
-use Rattle.snl_tree.specs.Kinds.{is}
-use Rattle.snl_tree.specs.Slots.{Slot, Sign}
+use Rattle.snl_syntax.specs.Kinds.{is}
+use Rattle.snl_syntax.specs.Slots.{Slot, Sign}
 use Rattle.snl_tree.specs.reading.Readers.{Read, Reader, one, sign, both, choice, nothing, many, under, made}
 use Rattle.snl_tree.specs.reading.Sequences.{before}
-use Rattle.snl_tree.specs.Expressions.{ExprTree, IsExpr}
+use Rattle.snl_syntax.specs.Expressions.{ExprTree, IsExpr}
 use Rattle.snl_tree.specs.reading.Expressions.{inside, level_at}
-use Rattle.snl_tree.specs.Declarations.{DeclarationTree, starts_declaration}
-use Rattle.snl_tree.specs.Statements.{Header, StatementTree, StatementList, BlockTree, nested, empty, expression, break_loop, continue_loop, change_state, if_then, if_else, while_loop, for_loop, no_statements, statement, block, statement_slots, statement_list_slots, block_slots, condition_slots, is_closed, IsWellStatement, AreWellStatements, IsWellBlock}
-use Rattle.snl_tree.specs.reading.Statements.{opens_statement, condition_at, header_at, statement_list, Inner, declarations_at, statements_at, block_of, empty_at, expression_statement_at, break_at, continue_at, change_state_at, else_at, if_tree, if_at, while_at, for_at, word_statement_at, statement_of, statements_inside, statement_at, block_at}
+use Rattle.snl_syntax.specs.Declarations.{DeclarationTree, starts_declaration}
+use Rattle.snl_syntax.specs.Statements.{Header, StatementTree, StatementList, BlockTree, nested, empty, expression, break_loop, continue_loop, change_state, if_then, if_else, while_loop, for_loop, no_statements, statement, block, statement_slots, statement_list_slots, block_slots, condition_slots, is_closed, IsWellStatement, AreWellStatements, IsWellBlock}
+use Rattle.snl_syntax.specs.view.Lists.{statement_list}
+use Rattle.snl_tree.specs.reading.Statements.{opens_statement, condition_at, header_at, Inner, declarations_at, statements_at, block_of, empty_at, expression_statement_at, break_at, continue_at, change_state_at, else_at, if_tree, if_at, while_at, for_at, word_statement_at, statement_of, statements_inside, statement_at, block_at}
 use Rattle.snl_tree.proofs.spelling.Laws.{Shape, Sound, Reads, Links}
 use Rattle.snl_tree.proofs.spelling.Both.{both_shape, reads_both}
 use Rattle.snl_tree.proofs.spelling.Choices.{Heads, is_true, true_is, one_shape, reads_one, sign_shape, reads_sign, nothing_shape, reads_nothing, either_shape, reads_either, reads_choice, reads_made}

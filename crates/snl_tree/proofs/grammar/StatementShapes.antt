@@ -2,11 +2,11 @@
 use Rattle.std.proofs.Common.{◌≡◌, ℕ, zero, suc, ◌≤◌, true, true≢false, refl, sym, ap, arith, nat_eq}
 use Rattle.snl_text.specs.declared.kinds.Kind.{Kind}
 use Rattle.snl_text.specs.declared.kinds.Kind.TheVariants.{Name, Whole, Decimal, Character, OpenBrace, OpenParenthesis, Semicolon, If, While, For, Break, Continue, State, Plus, Minus, Bang, Tilde, PlusPlus, MinusMinus}
-use Rattle.snl_tree.specs.Kinds.{is}
-use Rattle.snl_tree.specs.Expressions.{slots, Under, IsExpr}
-use Rattle.snl_tree.specs.Sequences.{Each}
-use Rattle.snl_tree.specs.Declarations.{IsDeclaration}
-use Rattle.snl_tree.specs.Statements.{StatementTree, StatementList, BlockTree, nested, empty, expression, break_loop, continue_loop, change_state, if_then, if_else, while_loop, for_loop, no_statements, statement, block, statement_slots, is_closed, IsHeader, IsWellStatement, AreWellStatements, IsWellBlock}
+use Rattle.snl_syntax.specs.Kinds.{is}
+use Rattle.snl_syntax.specs.Expressions.{slots, Under, IsExpr}
+use Rattle.snl_syntax.specs.Sequences.{Each}
+use Rattle.snl_syntax.specs.Declarations.{IsDeclaration}
+use Rattle.snl_syntax.specs.Statements.{StatementTree, StatementList, BlockTree, nested, empty, expression, break_loop, continue_loop, change_state, if_then, if_else, while_loop, for_loop, no_statements, statement, block, statement_slots, is_closed, IsHeader, IsWellStatement, AreWellStatements, IsWellBlock}
 use Rattle.snl_tree.specs.reading.Statements.{opens_statement}
 use Rattle.snl_tree.proofs.spelling.Choices.{Heads}
 use Rattle.snl_tree.proofs.spelling.Lists.{heads_append}

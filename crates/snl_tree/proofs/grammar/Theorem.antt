@@ -2,9 +2,9 @@
 use Rattle.std.proofs.Common.{◌≡◌, ℕ, zero, suc, ◌+◌, ◌-◌, ◌≤◌, ◌<◌, List, [], ◌∷◌, ◌++◌, Ok, Err, inl, inr, length, take, drop, refl, sym, ap, ◌∙◌, subst, arith, append_assoc, append-nil, length-drop}
 use Rattle.snl_text.specs.declared.tokens.Token.{Token}
 use Rattle.snl_text.specs.declared.kinds.Kind.{Kind}
-use Rattle.snl_tree.specs.Slots.{Slot, Spelled}
+use Rattle.snl_syntax.specs.Slots.{Slot, Spelled}
 use Rattle.snl_tree.specs.reading.Readers.{Stuck, Deep, Read, Reader, left, place}
-use Rattle.snl_tree.specs.Begins.{Sort, Spells, Begins, IsUnexpected, IsTooDeep}
+use Rattle.snl_syntax.specs.Begins.{Sort, Spells, Begins, IsUnexpected, IsTooDeep}
 use Rattle.snl_tree.proofs.spelling.Spelling.{spelled_length}
 use Rattle.snl_tree.proofs.spelling.Laws.{Shape, Front, Sound, Reads, ends}
 use Rattle.snl_tree.proofs.spelling.Growth.{Grown, Grows}

@@ -3,12 +3,12 @@ use Rattle.std.proofs.Common.{◌≡◌, ℕ, zero, suc, ◌+◌, ◌≤◌, ◌
 use Rattle.snl_text.specs.declared.tokens.Token.{Token}
 use Rattle.snl_text.specs.declared.kinds.Kind.{Kind}
 use Rattle.snl_text.specs.declared.kinds.Kind.TheVariants.{CloseBrace, Comma}
-use Rattle.snl_tree.specs.Kinds.{is, looseness}
+use Rattle.snl_syntax.specs.Kinds.{is, looseness}
 use Rattle.snl_tree.specs.reading.Readers.{Fault, Read, Reader, left, starts, sign, both, nothing, made, ◌>>=◌}
 use Rattle.snl_tree.specs.reading.Sequences.{maybe, behind}
-use Rattle.snl_tree.specs.Expressions.{ExprTree, slots, IsExpr}
+use Rattle.snl_syntax.specs.Expressions.{ExprTree, slots, IsExpr}
 use Rattle.snl_tree.specs.reading.Expressions.{inside, level_at}
-use Rattle.snl_tree.specs.Declarations.{ValueList, no_values, last_value, value_before, value_slots, IsValue, AreValues}
+use Rattle.snl_syntax.specs.Declarations.{ValueList, no_values, last_value, value_before, value_slots, IsValue, AreValues}
 use Rattle.snl_tree.specs.reading.Declarations.{is_no_brace, value_list, values_of, values_at}
 use Rattle.snl_tree.proofs.spelling.Laws.{Sound, Reads, Links}
 use Rattle.snl_tree.proofs.spelling.Lists.{heads_append}

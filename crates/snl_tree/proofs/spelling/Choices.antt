@@ -4,8 +4,8 @@ use denote.Enum.Bare.{same_true, true_same}
 use Rattle.snl_text.specs.contracts.kinds.Kind.{the_type}
 use Rattle.snl_text.specs.declared.tokens.Token.{Token}
 use Rattle.snl_text.specs.declared.kinds.Kind.{Kind}
-use Rattle.snl_tree.specs.Kinds.{is}
-use Rattle.snl_tree.specs.Slots.{Slot, The, Sign, Spelled, slot_kind}
+use Rattle.snl_syntax.specs.Kinds.{is}
+use Rattle.snl_syntax.specs.Slots.{Slot, The, Sign, Spelled, slot_kind}
 use Rattle.snl_tree.specs.reading.Readers.{Stuck, Read, Reader, left, one, sign, starts, either, choice, nothing, made, ◌>>=◌}
 use Rattle.snl_tree.proofs.spelling.Laws.{Shape, Sound, Reads, Ends, sound_ends, fits_kind}
 

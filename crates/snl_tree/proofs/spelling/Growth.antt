@@ -2,7 +2,7 @@
 use Rattle.std.proofs.Common.{◌≡◌, ℕ, zero, suc, ◌<◌, ◌≤◌, Bool, true, false, List, [], ◌∷◌, Ok, Err, Some, None, ◌⊎◌, inl, inr, length, le_refl, le_trans, lt_of_le_of_lt, ap, subst, sym, refl, arith}
 use Rattle.snl_text.specs.declared.tokens.Token.{Token}
 use Rattle.snl_text.specs.declared.kinds.Kind.{Kind}
-use Rattle.snl_tree.specs.Kinds.{is}
+use Rattle.snl_syntax.specs.Kinds.{is}
 use Rattle.snl_tree.specs.reading.Readers.{Stuck, Deep, Read, Reader, left, one, sign, starts, either, choice, nothing, under, made, both, many_of, many, ◌>>=◌}
 use Rattle.snl_tree.proofs.spelling.Choices.{one_at, sign_at}
 

@@ -2,7 +2,7 @@
 use Rattle.std.proofs.Common.{◌≡◌, ◌≤◌, List, [], ◌∷◌, ◌++◌, Ok, Err, ◌⊎◌, inl, inr, length, le_refl, ap, subst, sym}
 use Rattle.snl_text.specs.declared.tokens.Token.{Token}
 use Rattle.snl_text.specs.declared.kinds.Kind.{Kind}
-use Rattle.snl_tree.specs.Slots.{Slot, The, Sign, Fits, Spelled, slot_kind}
+use Rattle.snl_syntax.specs.Slots.{Slot, The, Sign, Fits, Spelled, slot_kind}
 use Rattle.snl_tree.specs.reading.Readers.{Read, Reader, left, place}
 use Rattle.snl_tree.proofs.spelling.Spelling.{spelled_length}
 

@@ -2,7 +2,7 @@
 use Rattle.std.proofs.Common.{◌≡◌, ℕ, zero, suc, ◌<◌, ◌≤◌, Bool, true, false, List, [], ◌∷◌, ◌++◌, Ok, Err, inl, inr, length, le_refl, le_trans, ap, subst, sym, refl, ◌∙◌, append_assoc, append-nil, arith}
 use Rattle.snl_text.specs.declared.tokens.Token.{Token}
 use Rattle.snl_text.specs.declared.kinds.Kind.{Kind}
-use Rattle.snl_tree.specs.Slots.{Slot, Spelled, slot_kind}
+use Rattle.snl_syntax.specs.Slots.{Slot, Spelled, slot_kind}
 use Rattle.snl_tree.specs.reading.Readers.{Read, Reader, left, place, starts, many_of, many, ◌>>=◌}
 use Rattle.snl_tree.proofs.spelling.Spelling.{spelled_length, spelled_join, spelled_split, append_split}
 use Rattle.snl_tree.proofs.spelling.Laws.{Shape, Sound, Reads, Ends, sound_ends}

@@ -2,10 +2,10 @@
 use Rattle.std.proofs.Common.{◌≡◌, ℕ, suc, ◌+◌, Bool, true, false, List, [], ◌∷◌, ◌++◌, Option, Some, None, Ok, Err, ◌⊎◌, inl, inr, refl, sym, subst, arith, ◌<◌, ◌≤◌, length}
 use Rattle.snl_text.specs.declared.tokens.Token.{Token}
 use Rattle.snl_text.specs.declared.kinds.Kind.{Kind}
-use Rattle.snl_tree.specs.Kinds.{is}
-use Rattle.snl_tree.specs.Slots.{Slot, The, Sign, Spelled}
+use Rattle.snl_syntax.specs.Kinds.{is}
+use Rattle.snl_syntax.specs.Slots.{Slot, The, Sign, Spelled}
 use Rattle.snl_tree.specs.reading.Readers.{Read, Reader, starts, one, sign, both, either, nothing, many, made, ◌>>=◌}
-use Rattle.snl_tree.specs.Sequences.{maybe_slots, IfThere, sign_slots, row_slots, Each, EachOfSome, parted_slots}
+use Rattle.snl_syntax.specs.Sequences.{maybe_slots, IfThere, sign_slots, row_slots, Each, EachOfSome, parted_slots}
 use Rattle.snl_tree.specs.reading.Sequences.{maybe, whether, behind, before, between, some_of, parted}
 use Rattle.snl_tree.proofs.spelling.Spelling.{spelled_length}
 use Rattle.snl_tree.proofs.spelling.Laws.{Shape, Sound, Reads, Links}

@@ -1,7 +1,7 @@
 -- Spellings put together and taken apart.
 use Rattle.std.proofs.Common.{◌≡◌, ◌≤◌, List, [], ◌∷◌, ◌++◌, ◌⊎◌, inl, inr, refl, sym, length, subst, arith, le_refl}
 use Rattle.snl_text.specs.declared.tokens.Token.{Token}
-use Rattle.snl_tree.specs.Slots.{Slot, Spelled}
+use Rattle.snl_syntax.specs.Slots.{Slot, Spelled}
 
 -- tokens that spell one list of slots and then another spell the two joined
 pub spelled_join : (a b : List Slot) (ts mid rest : List Token) → Spelled a ts mid → Spelled b mid rest → Spelled (a ++ b) ts rest

@@ -3,12 +3,12 @@ use Rattle.std.specs.Prelude.{ℕ, Bool, List, ◌⊎◌, Option, Some, None, no
 use Rattle.std.proofs.Common.{inl, inr, zero, suc}
 use Rattle.snl_text.specs.declared.kinds.Kind.{Kind}
 use Rattle.snl_text.specs.declared.kinds.Kind.TheVariants.{Name, OpenBrace, CloseBrace, OpenBracket, CloseBracket, Semicolon, Comma, Equal}
-use Rattle.snl_tree.specs.Kinds.{is}
+use Rattle.snl_syntax.specs.Kinds.{is}
 use Rattle.snl_tree.specs.reading.Readers.{Reader, one, both, either, nothing, many, made}
 use Rattle.snl_tree.specs.reading.Sequences.{maybe, behind, before, between, parted}
-use Rattle.snl_tree.specs.Expressions.{ExprTree}
+use Rattle.snl_syntax.specs.Expressions.{ExprTree}
 use Rattle.snl_tree.specs.reading.Expressions.{inside, level_at}
-use Rattle.snl_tree.specs.Declarations.{starts_declaration, is_second, TypeTree, ValueList, no_values, last_value, value_before, InitialiserTree, single, listed, DeclaratorTree, DeclarationTree}
+use Rattle.snl_syntax.specs.Declarations.{starts_declaration, is_second, TypeTree, ValueList, no_values, last_value, value_before, InitialiserTree, single, listed, DeclaratorTree, DeclarationTree}
 
 -- 'char' | .. | 'unsigned' [ .. ]
 unfoldable pub type_at : Reader TypeTree

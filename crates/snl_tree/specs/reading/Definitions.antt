@@ -4,12 +4,12 @@ use Rattle.std.proofs.Common.{inl, inr}
 use Rattle.snl_text.specs.declared.tokens.Token.{Token}
 use Rattle.snl_text.specs.declared.kinds.Kind.{Kind}
 use Rattle.snl_text.specs.declared.kinds.Kind.TheVariants.{Name, Whole, Text, Assign, EventFlag, Monitor, OptionWord, Sync, SyncQueue, To, OpenBrace, CloseBrace, OpenBracket, Semicolon, Comma}
-use Rattle.snl_tree.specs.Kinds.{is}
+use Rattle.snl_syntax.specs.Kinds.{is}
 use Rattle.snl_tree.specs.reading.Readers.{Reader, one, both, either, many, made}
 use Rattle.snl_tree.specs.reading.Sequences.{maybe, whether, behind, before, between, parted}
-use Rattle.snl_tree.specs.Declarations.{starts_declaration, DeclarationTree}
+use Rattle.snl_syntax.specs.Declarations.{starts_declaration, DeclarationTree}
 use Rattle.snl_tree.specs.reading.Declarations.{bracket_at, declaration_at}
-use Rattle.snl_tree.specs.Definitions.{PlaceTree, NamesTree, one_name, name_list, ChannelsTree, AssignTree, FlagTree, SyncTree, QueueTree, SettingTree, DefinitionTree, declaration, assign, monitor, sync, sync_queue, event_flags, setting, starts_definition, starts_part, is_sign}
+use Rattle.snl_syntax.specs.Definitions.{PlaceTree, NamesTree, one_name, name_list, ChannelsTree, AssignTree, FlagTree, SyncTree, QueueTree, SettingTree, DefinitionTree, declaration, assign, monitor, sync, sync_queue, event_flags, setting, starts_definition, starts_part, is_sign}
 
 -- NAME [ '[' expr ']' ]
 unfoldable pub place_at : ℕ → Reader PlaceTree

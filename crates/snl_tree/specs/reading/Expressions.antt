@@ -5,9 +5,10 @@ use Rattle.std.proofs.Common.{inl, inr, zero, suc}
 use Rattle.snl_text.specs.declared.tokens.Token.{Token}
 use Rattle.snl_text.specs.declared.kinds.Kind.{Kind}
 use Rattle.snl_text.specs.declared.kinds.Kind.TheVariants.{Name, Text, OpenParenthesis, CloseParenthesis, OpenBracket, CloseBracket, Comma, Colon, Question}
-use Rattle.snl_tree.specs.Kinds.{is, is_constant, is_prefix, looseness}
+use Rattle.snl_syntax.specs.Kinds.{is, is_constant, is_prefix, looseness}
 use Rattle.snl_tree.specs.reading.Readers.{Read, Reader, ◌>>=◌, Stuck, Deep, starts, one, sign, both, either, choice, nothing, many, under, made}
-use Rattle.snl_tree.specs.Expressions.{ExprTree, TermList, ArgumentList, constant, parenthesized, named, element, call, postfix, prefix, chain, conditional, assignment, no_terms, term, no_arguments, value, text}
+use Rattle.snl_syntax.specs.view.Lists.{with_argument, term_list}
+use Rattle.snl_syntax.specs.Expressions.{ExprTree, ArgumentList, constant, parenthesized, named, element, call, postfix, prefix, chain, conditional, assignment, no_arguments}
 
 -- The readers of nested parts.
 pub record Inside : Type 0 where
@@ -27,10 +28,6 @@ Argument = Token ⊎ ExprTree
 
 unfoldable pub argument_at : Inside → Reader Argument
 argument_at d = either (is Text) (one (is Text)) d.assignment
-
-abbrev pub with_argument : Argument → ArgumentList → ArgumentList
-with_argument (inl t) rest = text t rest
-with_argument (inr e) rest = value e rest
 
 abbrev pub argument_list : List (Unit {0} × Argument) → ArgumentList
 argument_list [] = no_arguments
@@ -87,10 +84,6 @@ unary_at i = choice is_prefix (prefixed_at i) (postfix_at i)
 -- an operator that binds so loosely
 abbrev pub is_operator : ℕ → Kind → Bool
 is_operator r k = looseness k == r
-
-abbrev pub term_list : List (Token × ExprTree) → TermList
-term_list [] = no_terms
-term_list (x ∷ xs) = term x.0 x.1 (term_list xs)
 
 abbrev pub chain_tree : ExprTree → List (Token × ExprTree) → ExprTree
 chain_tree e [] = e

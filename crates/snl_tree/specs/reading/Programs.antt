@@ -3,15 +3,15 @@ use Rattle.std.specs.Prelude.{ℕ, List, ◌⊎◌, Option}
 use Rattle.std.proofs.Common.{inl, inr}
 use Rattle.snl_text.specs.declared.tokens.Token.{Token}
 use Rattle.snl_text.specs.declared.kinds.Kind.TheVariants.{Name, Text, Program, Entry, Exit, StateSet, State, When, OpenBrace, CloseBrace, OpenParenthesis, CloseParenthesis}
-use Rattle.snl_tree.specs.Kinds.{is}
+use Rattle.snl_syntax.specs.Kinds.{is}
 use Rattle.snl_tree.specs.reading.Readers.{Reader, one, sign, both, either, many, made}
 use Rattle.snl_tree.specs.reading.Sequences.{maybe, behind, between, some_of}
-use Rattle.snl_tree.specs.Expressions.{ExprTree}
+use Rattle.snl_syntax.specs.Expressions.{ExprTree}
 use Rattle.snl_tree.specs.reading.Expressions.{inside, level_at, is_no_close}
 use Rattle.snl_tree.specs.reading.Definitions.{definitions_at, parts_at}
-use Rattle.snl_tree.specs.Statements.{BlockTree}
+use Rattle.snl_syntax.specs.Statements.{BlockTree}
 use Rattle.snl_tree.specs.reading.Statements.{block_at}
-use Rattle.snl_tree.specs.Programs.{TargetTree, to_state, to_exit, ClauseTree, StateTree, StateSetTree, ProgramTree}
+use Rattle.snl_syntax.specs.Programs.{TargetTree, to_state, to_exit, ClauseTree, StateTree, StateSetTree, ProgramTree}
 
 abbrev pub target : Token ⊎ Unit {0} → TargetTree
 target (inl x) = to_state x

@@ -3,7 +3,7 @@ use Rattle.std.specs.Prelude.{ℕ, Bool, true, false, List, [], ◌∷◌, Resul
 use Rattle.std.proofs.Common.{inl, inr, zero, suc}
 use Rattle.snl_text.specs.declared.tokens.Token.{Token}
 use Rattle.snl_text.specs.declared.kinds.Kind.{Kind}
-use Rattle.snl_tree.specs.Kinds.{is}
+use Rattle.snl_syntax.specs.Kinds.{is}
 
 -- Why nothing is read: no tree goes on with the tokens here, or one does that is nested too deep.
 pub data Fault : Type 0 where

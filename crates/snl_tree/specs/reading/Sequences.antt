@@ -1,7 +1,7 @@
 -- How things are read that may be missing, and rows of things.
 use Rattle.std.specs.Prelude.{Bool, true, false, List, ◌∷◌, Option, Some, None, Ok}
 use Rattle.snl_text.specs.declared.kinds.Kind.{Kind}
-use Rattle.snl_tree.specs.Kinds.{is}
+use Rattle.snl_syntax.specs.Kinds.{is}
 use Rattle.snl_tree.specs.reading.Readers.{Reader, starts, sign, both, many, made, ◌>>=◌}
 
 -- one thing where the first token passes a test, else nothing

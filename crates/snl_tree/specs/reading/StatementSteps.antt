@@ -3,11 +3,11 @@ use Rattle.std.specs.Prelude.{ℕ, true, false, Ok, List}
 use Rattle.snl_text.specs.declared.tokens.Token.{Token}
 use Rattle.snl_text.specs.declared.kinds.Kind.{Kind}
 use Rattle.snl_text.specs.declared.kinds.Kind.TheVariants.{Else, Semicolon}
-use Rattle.snl_tree.specs.Kinds.{is}
+use Rattle.snl_syntax.specs.Kinds.{is}
 use Rattle.snl_tree.specs.reading.Readers.{Read, Reader, one, sign, starts, many, ◌>>=◌}
 use Rattle.snl_tree.specs.reading.Sequences.{before}
-use Rattle.snl_tree.specs.Expressions.{ExprTree}
-use Rattle.snl_tree.specs.Statements.{StatementTree, if_then, if_else}
+use Rattle.snl_syntax.specs.Expressions.{ExprTree}
+use Rattle.snl_syntax.specs.Statements.{StatementTree, if_then, if_else}
 use Rattle.snl_tree.specs.reading.Statements.{opens_statement, statement_at}
 
 -- a word or a name, and the semicolon after it

@@ -1,17 +1,18 @@
 -- How statements and blocks are read. Each reader has the limit on the nesting of expressions, and what
 -- reads the statements nested in it; with no depth left, that is missing.
-use Rattle.std.specs.Prelude.{ℕ, Bool, true, false, List, [], ◌∷◌, Option, Some, None, ◌⊎◌}
+use Rattle.std.specs.Prelude.{ℕ, Bool, true, false, List, Option, Some, None, ◌⊎◌}
 use Rattle.std.proofs.Common.{inl, inr, zero, suc}
 use Rattle.snl_text.specs.declared.kinds.Kind.{Kind}
 use Rattle.snl_text.specs.declared.kinds.Kind.TheVariants.{Name, Whole, Decimal, Character, OpenBrace, CloseBrace, OpenParenthesis, CloseParenthesis, Semicolon, If, Else, While, For, Break, Continue, State, Plus, Minus, Bang, Tilde, PlusPlus, MinusMinus}
-use Rattle.snl_tree.specs.Kinds.{is, is_other}
+use Rattle.snl_syntax.specs.Kinds.{is, is_other}
 use Rattle.snl_tree.specs.reading.Readers.{Reader, one, sign, both, either, choice, nothing, many, under, made}
 use Rattle.snl_tree.specs.reading.Sequences.{maybe, behind, before, between}
-use Rattle.snl_tree.specs.Expressions.{ExprTree}
+use Rattle.snl_syntax.specs.Expressions.{ExprTree}
 use Rattle.snl_tree.specs.reading.Expressions.{inside, level_at}
-use Rattle.snl_tree.specs.Declarations.{DeclarationTree, starts_declaration}
+use Rattle.snl_syntax.specs.Declarations.{DeclarationTree, starts_declaration}
 use Rattle.snl_tree.specs.reading.Declarations.{declaration_at}
-use Rattle.snl_tree.specs.Statements.{Header, StatementTree, StatementList, BlockTree, nested, empty, expression, break_loop, continue_loop, change_state, if_then, if_else, while_loop, for_loop, no_statements, statement, block, is_closed}
+use Rattle.snl_syntax.specs.view.Lists.{statement_list}
+use Rattle.snl_syntax.specs.Statements.{Header, StatementTree, StatementList, BlockTree, nested, empty, expression, break_loop, continue_loop, change_state, if_then, if_else, while_loop, for_loop, block, is_closed}
 
 -- What a statement may begin with: a brace, a semicolon, a word of a statement, or what an expression may
 -- begin with.
@@ -49,10 +50,6 @@ ended_at l kind = before (maybe (is_other kind) (level_at (inside l) 15)) kind
 unfoldable pub header_at : ℕ → Reader Header
 header_at l = made (λ x. record { start = x.0; condition = x.1.0; step = x.1.1 })
     (behind OpenParenthesis (both (ended_at l Semicolon) (λ _. both (ended_at l Semicolon) (λ _. ended_at l CloseParenthesis))))
-
-abbrev pub statement_list : List StatementTree → StatementList
-statement_list [] = no_statements
-statement_list (s ∷ all) = statement s (statement_list all)
 
 -- What reads the statements nested in one, where depth is left.
 abbrev pub Inner : Type 0

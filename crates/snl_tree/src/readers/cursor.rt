@@ -1,7 +1,7 @@
 //! The place in the tokens that a reader moves on, and the readers of one token.
 
 ghost use Rattle.std.specs.Prelude.{◌≡◌, ◌<◌, OnOk};
-ghost use Rattle.snl_tree.specs.Kinds as specs;
+ghost use Rattle.snl_syntax.specs.Kinds as specs;
 ghost use Rattle.snl_tree.specs.reading.Readers as readers;
 ghost use Rattle.snl_tree.specs.reading.Expressions.{opened, here, is_operator};
 ghost use Rattle.snl_tree.specs.reading.Moves.{MovesSign, MovesToken};

@@ -2,21 +2,21 @@
 
 ghost use Rattle.std.specs.Prelude.{◌≡◌, ◌<◌, Ok};
 ghost use Rattle.snl_tree.specs.reading.Sequences as sequences;
-ghost use Rattle.snl_tree.specs.view.Shown.{shown, held};
-ghost use Rattle.snl_tree.specs.Declarations as kinds;
+ghost use Rattle.snl_syntax.specs.view.Shown.{shown, held};
+ghost use Rattle.snl_syntax.specs.Declarations as kinds;
 ghost use Rattle.snl_tree.specs.reading.Declarations as specs;
 ghost use Rattle.snl_tree.specs.reading.Readers as readers;
-ghost use Rattle.snl_tree.specs.Kinds.{is};
+ghost use Rattle.snl_syntax.specs.Kinds.{is};
 ghost use Rattle.snl_tree.specs.reading.Moves.{Moves, MovesToken};
-ghost use Rattle.snl_tree.specs.view.Expressions.{boxed};
-ghost use Rattle.snl_tree.specs.view.Declarations.{type_view, views, values_view, initialiser_view, declarator_view, declarator_views, declaration_view};
+ghost use Rattle.snl_syntax.specs.view.Expressions.{boxed};
+ghost use Rattle.snl_syntax.specs.view.Declarations.{type_view, views, values_view, initialiser_view, declarator_view, declarator_views, declaration_view};
 
 use crate::readers::boxes::declarations::{boxed_declaration, boxed_declarator};
 use crate::readers::cursor::{Cursor, Halt, at, before, sign, token};
 use crate::readers::expressions::level;
 use crate::readers::kinds::{ASSIGNMENT, COMMA};
 use crate::readers::room::{added, pushed};
-use crate::trees::{Declaration, Declarator, Expr, Initialiser, TypeName, Values};
+use snl_syntax::{Declaration, Declarator, Expr, Initialiser, TypeName, Values};
 use snl_text::{Kind, Token};
 use std::alloc::Global;
 

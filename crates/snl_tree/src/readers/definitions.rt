@@ -2,16 +2,16 @@
 
 ghost use Rattle.std.specs.Prelude.{◌≡◌, Ok};
 ghost use Rattle.snl_tree.specs.reading.Sequences as sequences;
-ghost use Rattle.snl_tree.specs.view.Shown.{shown, held};
-ghost use Rattle.snl_tree.specs.Definitions as kinds;
+ghost use Rattle.snl_syntax.specs.view.Shown.{shown, held};
+ghost use Rattle.snl_syntax.specs.Definitions as kinds;
 ghost use Rattle.snl_tree.specs.reading.Declarations.{bracket_at};
 ghost use Rattle.snl_tree.specs.reading.Definitions as specs;
 ghost use Rattle.snl_tree.specs.reading.Readers as readers;
 ghost use Rattle.snl_tree.specs.reading.Readers.{made};
-ghost use Rattle.snl_tree.specs.Kinds.{is};
+ghost use Rattle.snl_syntax.specs.Kinds.{is};
 ghost use Rattle.snl_tree.specs.reading.Moves.{Adds, Moves, MovesToken};
-ghost use Rattle.snl_tree.specs.view.Expressions.{boxed};
-ghost use Rattle.snl_tree.specs.view.Definitions.{place_view, token_list, names_view, channels_view, flag_view, definition_view, definition_views};
+ghost use Rattle.snl_syntax.specs.view.Expressions.{boxed};
+ghost use Rattle.snl_syntax.specs.view.Definitions.{place_view, token_list, names_view, channels_view, flag_view, definition_view, definition_views};
 
 use crate::readers::boxes::definitions::{
     boxed_place, push_assign, push_declared, push_event_flags, push_monitor, push_setting,
@@ -21,7 +21,7 @@ use crate::readers::cursor::{Cursor, Halt, at, sign, token};
 use crate::readers::declarations::{at_declaration, bracket, declaration};
 use crate::readers::parts::{at_definition, at_part};
 use crate::readers::room::pushed;
-use crate::trees::{ChannelNames, Channels, Def, Expr, Flag, Place, Setting};
+use snl_syntax::{ChannelNames, Channels, Def, Expr, Flag, Place, Setting};
 use snl_text::{Kind, Token};
 use std::alloc::Global;
 

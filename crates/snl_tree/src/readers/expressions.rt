@@ -4,7 +4,7 @@ ghost use Rattle.std.specs.Prelude.{◌≡◌, ◌≤◌, ◌-◌, ◌&&◌};
 ghost use Rattle.snl_tree.specs.reading.Readers as readers;
 ghost use Rattle.snl_tree.specs.reading.Expressions as specs;
 ghost use Rattle.snl_tree.specs.reading.Moves.{Adds, Moves, MovesTo};
-ghost use Rattle.snl_tree.specs.view.Expressions.{view, boxed, pair_of, pairs, argument_of, arguments_of, list_before};
+ghost use Rattle.snl_syntax.specs.view.Expressions.{view, boxed, pair_of, pairs, argument_of, arguments_of, list_before};
 
 use crate::readers::boxes::expressions::{
     boxed_assignment, boxed_call, boxed_conditional, boxed_constant, boxed_element, boxed_name,
@@ -15,7 +15,7 @@ use crate::readers::cursor::{
     open_operator, open_prefix, open_sign, open_token, operator, sign, token,
 };
 use crate::readers::kinds::{ASSIGNMENT, BINARY, COMMA, CONDITIONAL, STEP, UNARY};
-use crate::trees::{Argument, Expr, Term};
+use snl_syntax::{Argument, Expr, Term};
 use snl_text::{Kind, Token};
 use std::alloc::Global;
 

@@ -1,5 +1,5 @@
 ghost use Rattle.std.specs.Prelude.{◌≡◌};
-ghost use Rattle.snl_tree.specs.Kinds as specs;
+ghost use Rattle.snl_syntax.specs.Kinds as specs;
 
 use snl_text::Kind;
 

@@ -1,7 +1,7 @@
 //! Whether a definition or an option begins here.
 
 ghost use Rattle.std.specs.Prelude.{◌≡◌};
-ghost use Rattle.snl_tree.specs.Definitions as kinds;
+ghost use Rattle.snl_syntax.specs.Definitions as kinds;
 ghost use Rattle.snl_tree.specs.reading.Readers as readers;
 
 use crate::readers::cursor::Cursor;

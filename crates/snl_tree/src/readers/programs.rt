@@ -2,15 +2,15 @@
 
 ghost use Rattle.std.specs.Prelude.{◌≡◌, ◌<◌, IfOk};
 ghost use Rattle.snl_tree.specs.reading.Sequences as sequences;
-ghost use Rattle.snl_tree.specs.view.Shown.{shown, held};
-ghost use Rattle.snl_tree.specs.Kinds.{is};
+ghost use Rattle.snl_syntax.specs.view.Shown.{shown, held};
+ghost use Rattle.snl_syntax.specs.Kinds.{is};
 ghost use Rattle.snl_tree.specs.reading.Readers as readers;
 ghost use Rattle.snl_tree.specs.reading.Expressions.{inside, level_at, is_no_close};
 ghost use Rattle.snl_tree.specs.reading.Programs as specs;
 ghost use Rattle.snl_tree.specs.reading.Moves.{Adds, Moves, MovesToken};
-ghost use Rattle.snl_tree.specs.view.Expressions.{boxed};
-ghost use Rattle.snl_tree.specs.view.Statements.{block_view};
-ghost use Rattle.snl_tree.specs.view.Programs.{Carries, target_view, clause_view, clause_views, state_view, state_views, state_set_view, state_set_views, program_view};
+ghost use Rattle.snl_syntax.specs.view.Expressions.{boxed};
+ghost use Rattle.snl_syntax.specs.view.Statements.{block_view};
+ghost use Rattle.snl_syntax.specs.view.Programs.{Carries, target_view, clause_view, clause_views, state_view, state_views, state_set_view, state_set_views, program_view};
 
 use crate::readers::boxes::programs::{boxed_program, push_clause, push_state, push_state_set};
 use crate::readers::cursor::{Cursor, Halt, at, before, sign, token};
@@ -18,7 +18,7 @@ use crate::readers::definitions::{definitions, parts};
 use crate::readers::expressions::level;
 use crate::readers::kinds::COMMA;
 use crate::readers::statements::block;
-use crate::trees::{Block, Clause, Expr, Program, State, StateSet, Target};
+use snl_syntax::{Block, Clause, Expr, Program, State, StateSet, Target};
 use snl_text::{Kind, Lexed, Token};
 use std::alloc::Global;
 

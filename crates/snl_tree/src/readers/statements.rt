@@ -3,11 +3,11 @@
 ghost use Rattle.std.specs.Prelude.{◌≡◌};
 ghost use Rattle.snl_tree.specs.reading.Readers as readers;
 ghost use Rattle.snl_tree.specs.reading.Moves.{Moves, MovesToken};
-ghost use Rattle.snl_tree.specs.view.Shown.{shown, held};
+ghost use Rattle.snl_syntax.specs.view.Shown.{shown, held};
 ghost use Rattle.snl_tree.specs.reading.Statements as specs;
 ghost use Rattle.snl_tree.specs.reading.StatementSteps as steps;
-ghost use Rattle.snl_tree.specs.view.Statements.{header_view, declaration_views, statement_view, statement_views, block_view};
-ghost use Rattle.snl_tree.specs.view.Expressions.{boxed};
+ghost use Rattle.snl_syntax.specs.view.Statements.{header_view, declaration_views, statement_view, statement_views, block_view};
+ghost use Rattle.snl_syntax.specs.view.Expressions.{boxed};
 
 use crate::readers::boxes::statements::{
     boxed_block, boxed_break, boxed_change, boxed_continue, boxed_empty, boxed_expression,
@@ -18,7 +18,7 @@ use crate::readers::declarations::{at_declaration, declaration};
 use crate::readers::expressions::level;
 use crate::readers::kinds::COMMA;
 use crate::readers::room::added;
-use crate::trees::{Block, Declaration, Expr, Header, Stmt};
+use snl_syntax::{Block, Declaration, Expr, Header, Stmt};
 use snl_text::{Kind, Token};
 use std::alloc::Global;
 

@@ -2,14 +2,14 @@ ghost use Rattle.std.specs.Prelude.{◌≡◌, map};
 ghost use Rattle.std.specs.List.{list_all};
 ghost use Rattle.snl_tree.specs.Thin as specs;
 ghost use Rattle.snl_tree.specs.Thin.{Narrows, Finds, StandEach, StandsForDefinition, StandForParts};
-ghost use Rattle.snl_tree.specs.view.Shown.{shown};
-ghost use Rattle.snl_tree.specs.Definitions as tree;
-ghost use Rattle.snl_tree.specs.view.Declarations.{type_view, declaration_view, declarator_view};
-ghost use Rattle.snl_tree.specs.view.Definitions.{assign_view, channels_view, place_view, definition_view, setting_view};
+ghost use Rattle.snl_syntax.specs.view.Shown.{shown};
+ghost use Rattle.snl_syntax.specs.Definitions as tree;
+ghost use Rattle.snl_syntax.specs.view.Declarations.{type_view, declaration_view, declarator_view};
+ghost use Rattle.snl_syntax.specs.view.Definitions.{assign_view, channels_view, place_view, definition_view, setting_view};
 
 use crate::thin::expressions::Narrowed;
 use crate::thin::trees::Def;
-use crate::trees::{
+use snl_syntax::{
     Assign, ChannelNames, Channels, Declaration, Declarator, Def as WholeDef, Place, Setting,
     TypeName,
 };

@@ -1,10 +1,10 @@
 ghost use Rattle.std.specs.Prelude.{◌≡◌};
 ghost use Rattle.snl_tree.specs.Thin as specs;
 ghost use Rattle.snl_tree.specs.Thin.{Narrows, wide};
-ghost use Rattle.snl_tree.specs.view.Expressions.{view};
+ghost use Rattle.snl_syntax.specs.view.Expressions.{view};
 
 use crate::thin::trees::{Expr, Term};
-use crate::trees as whole;
+use snl_syntax as whole;
 use snl_text::Kind;
 use std::alloc::{AllocError, Global};
 

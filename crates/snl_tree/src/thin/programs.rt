@@ -5,14 +5,14 @@ ghost use Rattle.std.specs.declared.alloc.AllocError.{AllocError};
 ghost use Rattle.std.specs.List.{list_all};
 ghost use Rattle.snl_tree.specs.Thin as specs;
 ghost use Rattle.snl_tree.specs.Thin.{Narrows, StandEach, StandsForClause, StandsForState, StandsForStateSet, StandsForOne};
-ghost use Rattle.snl_tree.specs.view.Programs.{clause_view, state_view, state_set_view};
-ghost use Rattle.snl_tree.specs.view.Thin.{HasThin};
+ghost use Rattle.snl_syntax.specs.view.Programs.{clause_view, state_view, state_set_view};
+ghost use Rattle.snl_tree.specs.ThinView.{HasThin};
 
 use crate::thin::definitions::parts;
 use crate::thin::expressions::{Narrowed, value};
 use crate::thin::statements::block;
 use crate::thin::trees::{Clause, Program, State, StateSet};
-use crate::trees as whole;
+use snl_syntax as whole;
 use std::alloc::{AllocError, Global};
 
 /// `when (VALUE) { STATEMENTS } state NAME`

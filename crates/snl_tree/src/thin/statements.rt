@@ -1,14 +1,14 @@
 ghost use Rattle.std.specs.Prelude.{◌≡◌};
-ghost use Rattle.snl_tree.specs.Expressions.{named, assignment, call, value, no_arguments};
-ghost use Rattle.snl_tree.specs.Statements.{expression};
+ghost use Rattle.snl_syntax.specs.Expressions.{named, assignment, call, value, no_arguments};
+ghost use Rattle.snl_syntax.specs.Statements.{expression};
 ghost use Rattle.snl_tree.specs.Thin as specs;
 ghost use Rattle.snl_tree.specs.Thin.{Narrows, Finds, StandsForStatement, StandsForBlock};
-ghost use Rattle.snl_tree.specs.view.Expressions.{view, arguments_of};
-ghost use Rattle.snl_tree.specs.view.Statements.{statement_view, block_view};
+ghost use Rattle.snl_syntax.specs.view.Expressions.{view, arguments_of};
+ghost use Rattle.snl_syntax.specs.view.Statements.{statement_view, block_view};
 
 use crate::thin::expressions::{Narrowed, value};
 use crate::thin::trees::Stmt;
-use crate::trees::{Argument, Block, Expr, Stmt as WholeStmt};
+use snl_syntax::{Argument, Block, Expr, Stmt as WholeStmt};
 use snl_text::{Kind, Token};
 use std::alloc::Global;
 

@@ -1,5 +1,5 @@
 use Rattle.std.proofs.Common.{◌≡◌, ◌<◌, ap, sym, subst, map, length, slice_get, Some, [], ◌∷◌}
-use Rattle.snl_tree.specs.view.Programs.{program_view}
+use Rattle.snl_syntax.specs.view.Programs.{program_view}
 use Rattle.snc.specs.Judging.{syntax_error}
 use Rattle.snc.specs.Texts.{text_of}
 use Rattle.snc.proofs.Answering.{told_deep, told_program, told_stuck, tree_of}

@@ -1,5 +1,5 @@
 use Rattle.std.proofs.Common.{◌≡◌, ◌∙◌, ◌++◌, ap, refl, true, false, sym, subst, List, ℕ, IfSome, Some, string_bytes}
-use Rattle.snl_tree.specs.view.Programs.{program_view}
+use Rattle.snl_syntax.specs.view.Programs.{program_view}
 use Rattle.snl_messages.specs.Silence.{options_in_force}
 use Rattle.snc.specs.declared.jobs.Status.{Status}
 use Rattle.snc.specs.Judging.{IsJudged}

@@ -1,6 +1,6 @@
 use Rattle.std.proofs.Common.{◌≡◌, ◌+◌, ◌≤◌, drop}
-use Rattle.snl_tree.specs.view.Expressions.{list_before}
-use Rattle.snl_tree.specs.Expressions.{no_arguments}
+use Rattle.snl_syntax.specs.view.Expressions.{list_before}
+use Rattle.snl_syntax.specs.Expressions.{no_arguments}
 use Rattle.snl_code.specs.ExpressionCode.{count_values}
 use Rattle.snl_code.proofs.parts.count_values.Given as goal
 

@@ -1,5 +1,5 @@
 use Rattle.std.proofs.Common.{ap, ◌∙◌}
-use Rattle.snl_tree.specs.view.Programs.{program_view}
+use Rattle.snl_syntax.specs.view.Programs.{program_view}
 use Rattle.snl_links.specs.Links.{spelled, ties}
 use Rattle.snl_links.specs.Macros.{macros_of, value_of}
 use Rattle.snl_links.specs.MacroTables.{value_in}

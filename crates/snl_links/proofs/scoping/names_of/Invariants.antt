@@ -1,5 +1,5 @@
 use Rattle.std.proofs.Common.{◌≡◌, ◌++◌, map, drop}
-use Rattle.snl_tree.specs.view.Definitions.{definition_view}
+use Rattle.snl_syntax.specs.view.Definitions.{definition_view}
 use Rattle.snl_sites.specs.Scopes.{bare_names}
 use Rattle.snl_links.proofs.scoping.names_of.Given as goal
 

@@ -1,5 +1,5 @@
 use Rattle.std.proofs.Common.{suc, ◌+◌, map, refl, ap, add-one}
-use Rattle.snl_tree.specs.view.Programs.{target_view, clause_view}
+use Rattle.snl_syntax.specs.view.Programs.{target_view, clause_view}
 use Rattle.snl_links.specs.Tables.{when_line, clause_lines}
 use Rattle.snl_links.proofs.AppendLaws.{row_begun, retold, on_err}
 use Rattle.snl_links.proofs.tables.put_clauses.Goals as goal

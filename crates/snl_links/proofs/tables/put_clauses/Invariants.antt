@@ -1,5 +1,5 @@
 use Rattle.std.proofs.Common.{map, drop}
-use Rattle.snl_tree.specs.view.Programs.{clause_view}
+use Rattle.snl_syntax.specs.view.Programs.{clause_view}
 use Rattle.snl_links.specs.Tables.{clause_lines}
 use Rattle.snl_links.proofs.AppendLaws.{Left}
 use Rattle.snl_links.proofs.tables.put_clauses.Given as goal

@@ -1,6 +1,6 @@
 use Rattle.std.specs.Prelude.{codes}
 use Rattle.std.specs.List.{flat_map}
-use Rattle.snl_tree.specs.view.Programs.{state_set_view}
+use Rattle.snl_syntax.specs.view.Programs.{state_set_view}
 use Rattle.snl_links.specs.Tables.{name_line, state_lines}
 use Rattle.snl_links.proofs.AppendLaws.{first_begun, on_err}
 use Rattle.snl_links.proofs.tables.put_set.Goals as goal

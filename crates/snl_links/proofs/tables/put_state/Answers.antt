@@ -1,5 +1,5 @@
 use Rattle.std.proofs.Common.{map, ap}
-use Rattle.snl_tree.specs.view.Programs.{clause_view, state_view}
+use Rattle.snl_syntax.specs.view.Programs.{clause_view, state_view}
 use Rattle.snl_links.specs.Tables.{state_line, clause_lines}
 use Rattle.snl_links.proofs.AppendLaws.{first_begun, second_begun, retold, on_err}
 use Rattle.snl_links.proofs.tables.put_state.Goals as goal

@@ -1,6 +1,6 @@
 use Rattle.std.proofs.Common.{map, drop}
 use Rattle.std.specs.List.{flat_map}
-use Rattle.snl_tree.specs.view.Programs.{state_view}
+use Rattle.snl_syntax.specs.view.Programs.{state_view}
 use Rattle.snl_links.specs.Tables.{state_lines}
 use Rattle.snl_links.proofs.AppendLaws.{Left}
 use Rattle.snl_links.proofs.tables.put_states.Given as goal

@@ -1,5 +1,5 @@
 use Rattle.std.proofs.Common.{◌≡◌, map, drop, unwrap_or}
-use Rattle.snl_tree.specs.view.Definitions.{definition_view}
+use Rattle.snl_syntax.specs.view.Definitions.{definition_view}
 use Rattle.snl_links.specs.Tables.{last_sign, sign_in_force}
 use Rattle.snl_links.proofs.tables.sign_in_force.Given as goal
 

@@ -1,7 +1,7 @@
 use Rattle.std.proofs.Common.{map, ap, ◌++◌, ◌∙◌}
 use Rattle.std.specs.Prelude.{codes}
 use Rattle.std.specs.List.{flat_map}
-use Rattle.snl_tree.specs.view.Programs.{state_set_view, program_view}
+use Rattle.snl_syntax.specs.view.Programs.{state_set_view, program_view}
 use Rattle.snl_links.specs.Links.{ties}
 use Rattle.snl_links.specs.Tables.{name_line, channel_line, set_lines}
 use Rattle.snl_links.proofs.AppendLaws.{first_begun, second_begun, retold, on_err}

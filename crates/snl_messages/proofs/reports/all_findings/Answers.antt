@@ -1,5 +1,5 @@
 use Rattle.std.proofs.Common.{◌≡◌, ◌↔◌, ◌∙◌, ap, subst, sym, map, Contains}
-use Rattle.snl_tree.specs.view.Programs.{program_view}
+use Rattle.snl_syntax.specs.view.Programs.{program_view}
 use Rattle.snl_messages.specs.Entries.{finding_in}
 use Rattle.snl_messages.specs.Findings.{Finding}
 use Rattle.snl_messages.specs.Lists.{has_error}

@@ -1,5 +1,5 @@
 use Rattle.std.proofs.Common.{◌↔◌, ◌∙◌, subst, sym, Contains}
-use Rattle.snl_tree.specs.view.Programs.{program_view}
+use Rattle.snl_syntax.specs.view.Programs.{program_view}
 use Rattle.snl_rules.specs.Rules.{IsBroken}
 use Rattle.snl_messages.specs.Lists.{found}
 use Rattle.snl_messages.specs.Says.{IsFound}

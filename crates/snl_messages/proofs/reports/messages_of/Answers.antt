@@ -1,5 +1,5 @@
 use Rattle.std.proofs.Common.{◌≡◌, ◌↔◌, true, subst, map, Contains}
-use Rattle.snl_tree.specs.view.Programs.{program_view}
+use Rattle.snl_syntax.specs.view.Programs.{program_view}
 use Rattle.snl_messages.specs.Entries.{finding_in}
 use Rattle.snl_messages.specs.Messages.{said}
 use Rattle.snl_messages.specs.Says.{IsFoundAtAll, IsSaidUnder}

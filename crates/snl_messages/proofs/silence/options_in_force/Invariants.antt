@@ -1,5 +1,5 @@
 use Rattle.std.proofs.Common.{◌≡◌, map, drop}
-use Rattle.snl_tree.specs.view.Definitions.{definition_view}
+use Rattle.snl_syntax.specs.view.Definitions.{definition_view}
 use Rattle.snl_messages.specs.Silence.{after_definitions}
 use Rattle.snl_messages.proofs.silence.options_in_force.Given as goal
 

@@ -1,6 +1,6 @@
 use Rattle.std.proofs.Common.{◌≡◌, ◌++◌, map, drop}
 use Rattle.std.specs.List.{flat_map}
-use Rattle.snl_tree.specs.view.Programs.{clause_view}
+use Rattle.snl_syntax.specs.view.Programs.{clause_view}
 use Rattle.snl_rules.specs.Reach.{targets_in_clause}
 use Rattle.snl_rules.proofs.targets.push_clauses.Given as goal
 

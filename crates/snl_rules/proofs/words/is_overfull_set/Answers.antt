@@ -1,4 +1,4 @@
-use Rattle.snl_tree.specs.view.Programs.{program_view}
+use Rattle.snl_syntax.specs.view.Programs.{program_view}
 use Rattle.snl_rules.specs.Words.{set_words}
 use Rattle.snl_rules.proofs.OverfullLaws.{same_limit}
 use Rattle.snl_rules.proofs.words.is_overfull_set.Goals as goal

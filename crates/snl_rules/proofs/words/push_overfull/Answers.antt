@@ -1,5 +1,5 @@
 use Rattle.std.proofs.Common.{map, refl}
-use Rattle.snl_tree.specs.view.Programs.{state_set_view, program_view}
+use Rattle.snl_syntax.specs.view.Programs.{state_set_view, program_view}
 use Rattle.snl_rules.specs.Counts.{overfull_at, overfull_from}
 use Rattle.snl_rules.proofs.OverfullLaws.{pushed_step}
 use Rattle.snl_rules.proofs.words.push_overfull.Goals as goal

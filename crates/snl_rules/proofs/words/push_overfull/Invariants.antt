@@ -1,5 +1,5 @@
 use Rattle.std.proofs.Common.{◌≡◌, ◌++◌, map, drop}
-use Rattle.snl_tree.specs.view.Programs.{state_set_view, program_view}
+use Rattle.snl_syntax.specs.view.Programs.{state_set_view, program_view}
 use Rattle.snl_rules.specs.Counts.{overfull_from}
 use Rattle.snl_rules.proofs.words.push_overfull.Given as goal
 

@@ -1,5 +1,5 @@
 use Rattle.std.proofs.Common.{map, ap, ◌∙◌}
-use Rattle.snl_tree.specs.view.Programs.{state_set_view, program_view}
+use Rattle.snl_syntax.specs.view.Programs.{state_set_view, program_view}
 use Rattle.snl_rules.specs.Words.{sets_words}
 use Rattle.snl_rules.specs.Counts.{capped}
 use Rattle.snl_rules.proofs.words.words_in.Goals as goal

@@ -1,4 +1,4 @@
-use Rattle.snl_tree.specs.view.Programs.{program_view}
+use Rattle.snl_syntax.specs.view.Programs.{program_view}
 use Rattle.snl_rules.proofs.SharedLaws.{set_words_of}
 use Rattle.snl_rules.proofs.words.words_of_set.Goals as goal
 

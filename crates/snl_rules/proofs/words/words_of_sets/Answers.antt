@@ -1,5 +1,5 @@
 use Rattle.std.proofs.Common.{◌-◌, ◌^◌, map, refl}
-use Rattle.snl_tree.specs.view.Programs.{state_set_view, program_view}
+use Rattle.snl_syntax.specs.view.Programs.{state_set_view, program_view}
 use Rattle.snl_rules.specs.Words.{set_words, sets_words}
 use Rattle.snl_rules.proofs.CountLaws.{count_step, count_end, stopped}
 use Rattle.snl_rules.proofs.words.words_of_sets.Goals as goal

@@ -1,6 +1,6 @@
 use Rattle.std.proofs.Common.{◌≡◌, ◌++◌, map, drop}
-use Rattle.snl_tree.specs.reading.Statements.{statement_list}
-use Rattle.snl_tree.specs.view.Statements.{statement_view}
+use Rattle.snl_syntax.specs.view.Lists.{statement_list}
+use Rattle.snl_syntax.specs.view.Statements.{statement_view}
 use Rattle.snl_sites.specs.Variables.{by_statements}
 use Rattle.snl_sites.specs.Chains.{scopes_of}
 use Rattle.snl_sites.specs.Held.{held_view}

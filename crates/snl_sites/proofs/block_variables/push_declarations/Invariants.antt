@@ -1,6 +1,6 @@
 use Rattle.std.proofs.Common.{◌≡◌, ◌++◌, map, drop}
 use Rattle.std.specs.List.{flat_map}
-use Rattle.snl_tree.specs.view.Declarations.{declaration_view}
+use Rattle.snl_syntax.specs.view.Declarations.{declaration_view}
 use Rattle.snl_sites.specs.Variables.{by_declaration}
 use Rattle.snl_sites.specs.Chains.{scopes_of}
 use Rattle.snl_sites.specs.Held.{held_view}

@@ -1,6 +1,6 @@
 use Rattle.std.proofs.Common.{◌≡◌, map, drop}
-use Rattle.snl_tree.specs.reading.Expressions.{term_list}
-use Rattle.snl_tree.specs.view.Expressions.{pair_of}
+use Rattle.snl_syntax.specs.view.Lists.{term_list}
+use Rattle.snl_syntax.specs.view.Expressions.{pair_of}
 use Rattle.snl_sites.specs.Constants.{constant_chain}
 use Rattle.snl_sites.specs.Scopes.{is_hidden}
 use Rattle.snl_sites.specs.Chains.{scopes_of}

@@ -1,6 +1,6 @@
 use Rattle.std.proofs.Common.{◌≡◌, ◌++◌, map, drop}
 use Rattle.std.specs.List.{flat_map}
-use Rattle.snl_tree.specs.view.Declarations.{type_view, declarator_view}
+use Rattle.snl_syntax.specs.view.Declarations.{type_view, declarator_view}
 use Rattle.snl_sites.specs.Chains.{scopes_of}
 use Rattle.snl_sites.specs.Sites.{in_declarator}
 use Rattle.snl_sites.proofs.declarations.note_declarators.Given as goal

@@ -1,5 +1,5 @@
 use Rattle.std.proofs.Common.{map}
-use Rattle.snl_tree.specs.view.Definitions.{definition_view}
+use Rattle.snl_syntax.specs.view.Definitions.{definition_view}
 use Rattle.snl_sites.specs.Chains.{scopes_of}
 use Rattle.snl_sites.proofs.ProgramLaws.{definitions_noted}
 use Rattle.snl_sites.proofs.definitions.note_definitions.Goals as goal

@@ -1,7 +1,7 @@
 use Rattle.std.proofs.Common.{◌≡◌, ◌+◌, ◌-◌, length, drop, arith}
 use Rattle.std.proofs.lemmas.List.{length-drop}
 use Rattle.std.proofs.lemmas.Result.{on_ok_weaker}
-use Rattle.snl_tree.specs.view.Expressions.{argument_of}
+use Rattle.snl_syntax.specs.view.Expressions.{argument_of}
 use Rattle.snl_sites.specs.Chains.{scopes_of}
 use Rattle.snl_sites.specs.Sites.{in_argument}
 use Rattle.snl_sites.proofs.WalkLaws.{call_noted, chain_noted, argument_step, argument_noted}

@@ -1,7 +1,7 @@
 use Rattle.std.proofs.Common.{◌≡◌, ◌+◌, ◌++◌, length, map, drop}
-use Rattle.snl_tree.specs.view.Expressions.{pair_of, list_before}
-use Rattle.snl_tree.specs.reading.Expressions.{term_list}
-use Rattle.snl_tree.specs.Expressions.{no_arguments}
+use Rattle.snl_syntax.specs.view.Expressions.{pair_of, list_before}
+use Rattle.snl_syntax.specs.view.Lists.{term_list}
+use Rattle.snl_syntax.specs.Expressions.{no_arguments}
 use Rattle.snl_sites.specs.Chains.{scopes_of}
 use Rattle.snl_sites.specs.Sites.{in_terms, in_arguments}
 use Rattle.snl_sites.proofs.expressions.+expression.Given as goal

@@ -1,6 +1,6 @@
 use Rattle.std.proofs.Common.{◌≡◌, map, drop}
 use Rattle.std.specs.List.{list_all}
-use Rattle.snl_tree.specs.view.Expressions.{boxed}
+use Rattle.snl_syntax.specs.view.Expressions.{boxed}
 use Rattle.snl_sites.specs.Chains.{scopes_of}
 use Rattle.snl_sites.specs.Constants.{constant_of}
 use Rattle.snl_sites.specs.Types.{is_constant_in}

@@ -1,5 +1,5 @@
 use Rattle.std.proofs.Common.{◌≡◌, ◌++◌, map, drop}
-use Rattle.snl_tree.specs.view.Programs.{state_set_view}
+use Rattle.snl_syntax.specs.view.Programs.{state_set_view}
 use Rattle.snl_sites.specs.Chains.{scopes_of}
 use Rattle.snl_sites.specs.Programs.{in_state_sets}
 use Rattle.snl_sites.proofs.programs.note_each_set.Given as goal

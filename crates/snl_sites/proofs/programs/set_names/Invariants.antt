@@ -1,5 +1,5 @@
 use Rattle.std.proofs.Common.{◌≡◌, ◌++◌, map, drop}
-use Rattle.snl_tree.specs.view.Programs.{state_set_view}
+use Rattle.snl_syntax.specs.view.Programs.{state_set_view}
 use Rattle.snl_sites.proofs.programs.set_names.Given as goal
 
 abbrev pub invariant-loop-set : goal.invariant-loop-set

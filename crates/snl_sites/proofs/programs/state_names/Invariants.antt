@@ -1,5 +1,5 @@
 use Rattle.std.proofs.Common.{◌≡◌, ◌++◌, map, drop}
-use Rattle.snl_tree.specs.view.Programs.{state_view}
+use Rattle.snl_syntax.specs.view.Programs.{state_view}
 use Rattle.snl_sites.proofs.programs.state_names.Given as goal
 
 abbrev pub invariant-loop-state : goal.invariant-loop-state

@@ -1,7 +1,7 @@
 use Rattle.std.proofs.Common.{◌≡◌, ◌++◌, map, drop}
 use Rattle.std.specs.List.{flat_map}
-use Rattle.snl_tree.specs.view.Declarations.{declaration_view}
-use Rattle.snl_tree.specs.Definitions.{declaration}
+use Rattle.snl_syntax.specs.view.Declarations.{declaration_view}
+use Rattle.snl_syntax.specs.Definitions.{declaration}
 use Rattle.snl_sites.specs.Scopes.{bare, names_by}
 use Rattle.snl_sites.proofs.scoping.names_of.Given as goal
 

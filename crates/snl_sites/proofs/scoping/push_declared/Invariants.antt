@@ -1,5 +1,5 @@
 use Rattle.std.proofs.Common.{◌≡◌, ◌++◌, map, drop}
-use Rattle.snl_tree.specs.view.Declarations.{declarator_view}
+use Rattle.snl_syntax.specs.view.Declarations.{declarator_view}
 use Rattle.snl_sites.specs.Chains.{scopes_of}
 use Rattle.snl_sites.specs.Scopes.{declared_names, is_hidden}
 use Rattle.snl_sites.proofs.scoping.push_declared.Given as goal

@@ -1,7 +1,7 @@
 use Rattle.std.proofs.Common.{◌++◌, map, refl, ap, ◌∙◌}
 use Rattle.std.specs.List.{flat_map}
-use Rattle.snl_tree.specs.view.Statements.{block_view}
-use Rattle.snl_tree.specs.view.Programs.{clause_view}
+use Rattle.snl_syntax.specs.view.Statements.{block_view}
+use Rattle.snl_syntax.specs.view.Programs.{clause_view}
 use Rattle.snl_sites.specs.Chains.{scopes_of}
 use Rattle.snl_sites.specs.Held.{held_view}
 use Rattle.snl_sites.specs.Variables.{by_block, by_clause}

@@ -1,6 +1,6 @@
 use Rattle.std.proofs.Common.{map, refl}
 use Rattle.std.specs.List.{flat_map}
-use Rattle.snl_tree.specs.view.Programs.{state_view}
+use Rattle.snl_syntax.specs.view.Programs.{state_view}
 use Rattle.snl_sites.specs.Chains.{scopes_of}
 use Rattle.snl_sites.specs.Held.{held_view}
 use Rattle.snl_sites.specs.Variables.{by_state}

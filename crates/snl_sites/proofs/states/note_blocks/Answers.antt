@@ -1,8 +1,8 @@
 use Rattle.std.proofs.Common.{map}
 use Rattle.std.proofs.lemmas.Result.{on_ok_weaker}
-use Rattle.snl_tree.specs.view.Shown.{shown, held}
-use Rattle.snl_tree.specs.view.Statements.{block_view}
-use Rattle.snl_tree.specs.view.Programs.{clause_view}
+use Rattle.snl_syntax.specs.view.Shown.{shown, held}
+use Rattle.snl_syntax.specs.view.Statements.{block_view}
+use Rattle.snl_syntax.specs.view.Programs.{clause_view}
 use Rattle.snl_sites.specs.Chains.{scopes_of}
 use Rattle.snl_sites.proofs.ProgramLaws.{blocks_noted}
 use Rattle.snl_sites.proofs.states.note_blocks.Goals as goal

@@ -1,4 +1,4 @@
-use Rattle.snl_tree.specs.Programs.{programs}
+use Rattle.snl_syntax.specs.Programs.{programs}
 use Rattle.snl_tree.proofs.grammar.OneAnswer as one
 use Rattle.snl_tree.proofs.grammar.ProgramParsing.{one_program}
 use Rattle.snl_tree.proofs.laws.tokens_have_one_answer.Goals as goal

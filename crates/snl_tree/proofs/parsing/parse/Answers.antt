@@ -1,7 +1,7 @@
 use Rattle.std.proofs.Common.{◌≡◌, Ok, Err, ap}
 use Rattle.snl_tree.specs.declared.faults.ParseFault.TheVariants.{Unexpected, TooDeep}
-use Rattle.snl_tree.specs.view.Shown.{held}
-use Rattle.snl_tree.specs.view.Programs.{program_view}
+use Rattle.snl_syntax.specs.view.Shown.{held}
+use Rattle.snl_syntax.specs.view.Programs.{program_view}
 use Rattle.snl_tree.proofs.code.OnlyFaults.{only_unexpected, only_too_deep}
 use Rattle.snl_tree.proofs.parsing.parse.Goals as goal
 

@@ -1,7 +1,7 @@
 use Rattle.std.proofs.Common.{◌≡◌, ℕ, ◌-◌, length, subst, sym}
-use Rattle.snl_tree.specs.Begins.{Spells, IsUnexpected, IsTooDeep}
-use Rattle.snl_tree.specs.Programs.{IsProgram, programs}
-use Rattle.snl_tree.specs.view.Programs.{program_view}
+use Rattle.snl_syntax.specs.Begins.{IsUnexpected, IsTooDeep}
+use Rattle.snl_syntax.specs.Programs.{programs}
+use Rattle.snl_syntax.specs.view.Programs.{program_view}
 use Rattle.snl_tree.proofs.code.ProgramWithin.{ok_at_most, stuck_at_most, deep_at_most, ok_found, ok_only, more_only, stuck_only, deep_only, more_unexpected, stuck_unexpected, deep_too_deep}
 use Rattle.snl_tree.proofs.parsing.parse_within.Goals as goal
 

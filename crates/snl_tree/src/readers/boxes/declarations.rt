@@ -1,12 +1,12 @@
 //! Declarations in their boxes.
 
 ghost use Rattle.snl_tree.specs.reading.Moves.{Builds};
-ghost use Rattle.snl_tree.specs.view.Shown.{shown, held};
-ghost use Rattle.snl_tree.specs.view.Declarations.{type_view, views, initialiser_view, declarator_view, declarator_views, declaration_view};
+ghost use Rattle.snl_syntax.specs.view.Shown.{shown, held};
+ghost use Rattle.snl_syntax.specs.view.Declarations.{type_view, views, initialiser_view, declarator_view, declarator_views, declaration_view};
 
 use crate::readers::cursor::Halt;
 use crate::readers::room::in_box;
-use crate::trees::{Declaration, Declarator, Expr, Initialiser, TypeName};
+use snl_syntax::{Declaration, Declarator, Expr, Initialiser, TypeName};
 use snl_text::Token;
 use std::alloc::Global;
 

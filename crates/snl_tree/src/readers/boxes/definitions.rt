@@ -1,17 +1,15 @@
 //! Places in their boxes, and definitions in rows.
 
-ghost use Rattle.snl_tree.specs.Definitions as kinds;
+ghost use Rattle.snl_syntax.specs.Definitions as kinds;
 ghost use Rattle.snl_tree.specs.reading.Moves.{Appends, Builds};
-ghost use Rattle.snl_tree.specs.view.Shown.{shown, held};
-ghost use Rattle.snl_tree.specs.view.Expressions.{boxed};
-ghost use Rattle.snl_tree.specs.view.Declarations.{declaration_view};
-ghost use Rattle.snl_tree.specs.view.Definitions.{place_view, token_list, channels_view, flag_view, setting_view, definition_view};
+ghost use Rattle.snl_syntax.specs.view.Shown.{shown, held};
+ghost use Rattle.snl_syntax.specs.view.Expressions.{boxed};
+ghost use Rattle.snl_syntax.specs.view.Declarations.{declaration_view};
+ghost use Rattle.snl_syntax.specs.view.Definitions.{place_view, token_list, channels_view, flag_view, setting_view, definition_view};
 
 use crate::readers::cursor::Halt;
 use crate::readers::room::{in_box, pushed};
-use crate::trees::{
-    Assign, Channels, Declaration, Def, Expr, Flag, Place, Setting, Sync, SyncQueue,
-};
+use snl_syntax::{Assign, Channels, Declaration, Def, Expr, Flag, Place, Setting, Sync, SyncQueue};
 use snl_text::Token;
 use std::alloc::Global;
 

@@ -1,14 +1,15 @@
 //! Expressions in their boxes, and their terms and arguments in rows.
 
 ghost use Rattle.std.proofs.Common.{inl, inr};
-ghost use Rattle.snl_tree.specs.Expressions as kinds;
-ghost use Rattle.snl_tree.specs.reading.Expressions.{chain_tree, term_list};
+ghost use Rattle.snl_syntax.specs.Expressions as kinds;
+ghost use Rattle.snl_syntax.specs.view.Lists.{term_list};
+ghost use Rattle.snl_tree.specs.reading.Expressions.{chain_tree};
 ghost use Rattle.snl_tree.specs.reading.Moves.{Appends, Builds};
-ghost use Rattle.snl_tree.specs.view.Expressions.{argument_of, arguments_of, boxed, pair_of, pairs};
+ghost use Rattle.snl_syntax.specs.view.Expressions.{argument_of, arguments_of, boxed, pair_of, pairs};
 
 use crate::readers::cursor::Halt;
 use crate::readers::room::{in_box, pushed};
-use crate::trees::{Argument, Expr, Term};
+use snl_syntax::{Argument, Expr, Term};
 use snl_text::Token;
 use std::alloc::Global;
 

@@ -2,16 +2,16 @@
 
 ghost use Rattle.std.specs.Prelude.{◌≡◌, IfOk, drop};
 ghost use Rattle.snl_tree.specs.reading.Moves.{Appends, Builds};
-ghost use Rattle.snl_tree.specs.view.Shown.{shown, held};
-ghost use Rattle.snl_tree.specs.view.Expressions.{boxed};
-ghost use Rattle.snl_tree.specs.view.Definitions.{definition_views};
-ghost use Rattle.snl_tree.specs.view.Statements.{block_view};
-ghost use Rattle.snl_tree.specs.view.Programs.{Carries, first_place, target_view, clause_view, clause_views, state_view, state_views, state_set_view, state_set_views, program_view};
+ghost use Rattle.snl_syntax.specs.view.Shown.{shown, held};
+ghost use Rattle.snl_syntax.specs.view.Expressions.{boxed};
+ghost use Rattle.snl_syntax.specs.view.Definitions.{definition_views};
+ghost use Rattle.snl_syntax.specs.view.Statements.{block_view};
+ghost use Rattle.snl_syntax.specs.view.Programs.{Carries, first_place, target_view, clause_view, clause_views, state_view, state_views, state_set_view, state_set_views, program_view};
 
 use crate::parsing::TOKEN_LIMIT;
 use crate::readers::cursor::Halt;
 use crate::readers::room::{in_box, pushed};
-use crate::trees::{Block, Clause, Def, Expr, Program, State, StateSet, Target};
+use snl_syntax::{Block, Clause, Def, Expr, Program, State, StateSet, Target};
 use snl_text::{Lexed, Pos, Token};
 use std::alloc::Global;
 

@@ -1,15 +1,15 @@
 //! Statements and blocks in their boxes.
 
-ghost use Rattle.snl_tree.specs.Statements as kinds;
+ghost use Rattle.snl_syntax.specs.Statements as kinds;
 ghost use Rattle.snl_tree.specs.reading.Moves.{Builds};
-ghost use Rattle.snl_tree.specs.reading.Statements.{statement_list};
-ghost use Rattle.snl_tree.specs.view.Shown.{shown, held};
-ghost use Rattle.snl_tree.specs.view.Expressions.{boxed};
-ghost use Rattle.snl_tree.specs.view.Statements.{header_view, declaration_views, statement_view, statement_views, block_view};
+ghost use Rattle.snl_syntax.specs.view.Lists.{statement_list};
+ghost use Rattle.snl_syntax.specs.view.Shown.{shown, held};
+ghost use Rattle.snl_syntax.specs.view.Expressions.{boxed};
+ghost use Rattle.snl_syntax.specs.view.Statements.{header_view, declaration_views, statement_view, statement_views, block_view};
 
 use crate::readers::cursor::Halt;
 use crate::readers::room::in_box;
-use crate::trees::{Block, Declaration, Expr, Header, Stmt};
+use snl_syntax::{Block, Declaration, Expr, Header, Stmt};
 use snl_text::Token;
 use std::alloc::Global;
 

@@ -1,7 +1,7 @@
 use Rattle.std.proofs.Common.{◌≡◌, map, drop}
 use Rattle.std.specs.List.{list_all}
 use Rattle.snl_tree.specs.Thin.{is_bare}
-use Rattle.snl_tree.specs.view.Declarations.{declarator_view}
+use Rattle.snl_syntax.specs.view.Declarations.{declarator_view}
 use Rattle.snl_check.proofs.thin.definitions.are_bare.Given as goal
 
 abbrev pub invariant-loop-declared : goal.invariant-loop-declared

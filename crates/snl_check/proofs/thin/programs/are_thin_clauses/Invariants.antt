@@ -1,7 +1,7 @@
 use Rattle.std.proofs.Common.{◌≡◌, map, drop}
 use Rattle.std.specs.List.{list_all}
 use Rattle.snl_tree.specs.Thin.{is_thin_clause}
-use Rattle.snl_tree.specs.view.Programs.{clause_view}
+use Rattle.snl_syntax.specs.view.Programs.{clause_view}
 use Rattle.snl_check.proofs.thin.programs.are_thin_clauses.Given as goal
 
 abbrev pub invariant-loop-clause : goal.invariant-loop-clause

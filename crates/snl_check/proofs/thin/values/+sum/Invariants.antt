@@ -1,7 +1,7 @@
 use Rattle.std.proofs.Common.{◌≡◌, map, drop}
-use Rattle.snl_tree.specs.reading.Expressions.{term_list}
+use Rattle.snl_syntax.specs.view.Lists.{term_list}
 use Rattle.snl_tree.specs.Thin.{are_joined}
-use Rattle.snl_tree.specs.view.Expressions.{pair_of}
+use Rattle.snl_syntax.specs.view.Expressions.{pair_of}
 use Rattle.snl_check.proofs.thin.values.+sum.Given as goal
 
 abbrev pub invariant-are_joined-loop-term : goal.invariant-are_joined-loop-term

@@ -1,5 +1,5 @@
 use Rattle.std.proofs.Common.{arith}
-use Rattle.snl_tree.specs.view.Expressions.{view}
+use Rattle.snl_syntax.specs.view.Expressions.{view}
 use Rattle.snl_check.proofs.ThinLaws.{not_one_term}
 use Rattle.snl_check.proofs.thin.values.is_compared.Goals as goal
 

@@ -1,10 +1,10 @@
 use Rattle.std.proofs.Common.{sym}
 use Rattle.std.proofs.lemmas.Result.{err_from_is_err_and}
 use Rattle.snl_text.specs.declared.kinds.Kind.TheVariants.{Comma}
-use Rattle.snl_tree.specs.Kinds.{is}
+use Rattle.snl_syntax.specs.Kinds.{is}
 use Rattle.snl_tree.specs.reading.Sequences.{behind}
 use Rattle.snl_tree.specs.reading.Declarations.{declarator_at, declarators_at}
-use Rattle.snl_tree.specs.view.Declarations.{declarator_view}
+use Rattle.snl_syntax.specs.view.Declarations.{declarator_view}
 use Rattle.snl_tree.proofs.code.Turns.{found_part, part_fails, found_more, found_all}
 use Rattle.snl_tree.proofs.grammar.DeclarationLaws.{next_declarator_less}
 use Rattle.snl_tree.proofs.readers.declarations.declarators.Goals as goal

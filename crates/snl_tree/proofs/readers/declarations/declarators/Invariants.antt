@@ -1,8 +1,8 @@
 use Rattle.std.proofs.Common.{length}
 use Rattle.snl_text.specs.declared.kinds.Kind.TheVariants.{Comma}
-use Rattle.snl_tree.specs.Kinds.{is}
+use Rattle.snl_syntax.specs.Kinds.{is}
 use Rattle.snl_tree.specs.reading.Sequences.{behind}
-use Rattle.snl_tree.specs.view.Declarations.{declarator_view}
+use Rattle.snl_syntax.specs.view.Declarations.{declarator_view}
 use Rattle.snl_tree.specs.reading.Declarations.{declarator_at, declarators_at}
 use Rattle.snl_tree.proofs.code.Turns.{Found}
 use Rattle.snl_tree.proofs.readers.declarations.declarators.Given as goal

@@ -1,8 +1,8 @@
 use Rattle.std.proofs.Common.{sym}
 use Rattle.std.proofs.lemmas.Result.{err_from_is_err_and}
 use Rattle.snl_text.specs.declared.kinds.Kind.TheVariants.{OpenBracket}
-use Rattle.snl_tree.specs.Kinds.{is}
-use Rattle.snl_tree.specs.view.Expressions.{boxed}
+use Rattle.snl_syntax.specs.Kinds.{is}
+use Rattle.snl_syntax.specs.view.Expressions.{boxed}
 use Rattle.snl_tree.specs.reading.Declarations.{bracket_at, sizes_at}
 use Rattle.snl_tree.proofs.code.Turns.{found_none, found_more, found_all, found_fails}
 use Rattle.snl_tree.proofs.grammar.DeclarationLaws.{bracket_less}

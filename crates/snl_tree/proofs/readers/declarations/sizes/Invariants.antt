@@ -1,7 +1,7 @@
 use Rattle.std.proofs.Common.{length}
 use Rattle.snl_text.specs.declared.kinds.Kind.TheVariants.{OpenBracket}
-use Rattle.snl_tree.specs.Kinds.{is}
-use Rattle.snl_tree.specs.view.Expressions.{boxed}
+use Rattle.snl_syntax.specs.Kinds.{is}
+use Rattle.snl_syntax.specs.view.Expressions.{boxed}
 use Rattle.snl_tree.specs.reading.Declarations.{bracket_at, sizes_at}
 use Rattle.snl_tree.proofs.code.Turns.{Found}
 use Rattle.snl_tree.proofs.readers.declarations.sizes.Given as goal

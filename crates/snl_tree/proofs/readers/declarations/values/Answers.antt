@@ -1,6 +1,6 @@
 use Rattle.std.proofs.Common.{sym, not}
 use Rattle.std.proofs.lemmas.Result.{err_from_is_err_and}
-use Rattle.snl_tree.specs.view.Expressions.{boxed}
+use Rattle.snl_syntax.specs.view.Expressions.{boxed}
 use Rattle.snl_tree.specs.reading.Declarations.{values_at}
 use Rattle.snl_tree.proofs.code.ValueTurns.{before_more, before_less, before_all, before_last, before_fails, none_there}
 use Rattle.snl_tree.proofs.readers.declarations.values.Goals as goal

@@ -1,6 +1,6 @@
 use Rattle.std.proofs.Common.{length}
 use Rattle.snl_tree.specs.reading.Declarations.{values_at}
-use Rattle.snl_tree.specs.view.Declarations.{views}
+use Rattle.snl_syntax.specs.view.Declarations.{views}
 use Rattle.snl_tree.proofs.code.ValueTurns.{Before}
 use Rattle.snl_tree.proofs.readers.declarations.values.Given as goal
 

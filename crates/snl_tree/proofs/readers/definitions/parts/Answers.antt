@@ -1,8 +1,8 @@
 use Rattle.std.proofs.Common.{sym}
 use Rattle.std.proofs.lemmas.Result.{err_from_is_err_and}
-use Rattle.snl_tree.specs.Definitions.{starts_part}
+use Rattle.snl_syntax.specs.Definitions.{starts_part}
 use Rattle.snl_tree.specs.reading.Definitions.{part_at, parts_at}
-use Rattle.snl_tree.specs.view.Definitions.{definition_view}
+use Rattle.snl_syntax.specs.view.Definitions.{definition_view}
 use Rattle.snl_tree.proofs.code.Turns.{found_none, found_more, found_all, found_fails}
 use Rattle.snl_tree.proofs.grammar.DefinitionLaws.{part_less}
 use Rattle.snl_tree.proofs.readers.definitions.parts.Goals as goal

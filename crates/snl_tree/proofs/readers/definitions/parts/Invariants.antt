@@ -1,7 +1,7 @@
 use Rattle.std.proofs.Common.{length}
-use Rattle.snl_tree.specs.Definitions.{starts_part}
+use Rattle.snl_syntax.specs.Definitions.{starts_part}
 use Rattle.snl_tree.specs.reading.Definitions.{part_at, parts_at}
-use Rattle.snl_tree.specs.view.Definitions.{definition_view}
+use Rattle.snl_syntax.specs.view.Definitions.{definition_view}
 use Rattle.snl_tree.proofs.code.Turns.{Found}
 use Rattle.snl_tree.proofs.readers.definitions.parts.Given as goal
 

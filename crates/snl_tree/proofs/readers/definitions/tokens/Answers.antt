@@ -2,7 +2,7 @@ use Rattle.std.proofs.Common.{List, Ok, sym, ap, ◌∙◌}
 use Rattle.std.proofs.lemmas.Result.{err_from_is_err_and}
 use Rattle.snl_text.specs.declared.tokens.Token.{Token}
 use Rattle.snl_text.specs.declared.kinds.Kind.TheVariants.{Comma}
-use Rattle.snl_tree.specs.Kinds.{is}
+use Rattle.snl_syntax.specs.Kinds.{is}
 use Rattle.snl_tree.specs.reading.Readers.{one}
 use Rattle.snl_tree.specs.reading.Sequences.{behind, parted}
 use Rattle.snl_tree.proofs.code.Turns.{found_part, part_fails, found_more, found_all, map_same}

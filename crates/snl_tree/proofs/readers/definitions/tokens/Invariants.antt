@@ -1,7 +1,7 @@
 use Rattle.std.proofs.Common.{length}
 use Rattle.snl_text.specs.declared.tokens.Token.{Token}
 use Rattle.snl_text.specs.declared.kinds.Kind.TheVariants.{Comma}
-use Rattle.snl_tree.specs.Kinds.{is}
+use Rattle.snl_syntax.specs.Kinds.{is}
 use Rattle.snl_tree.specs.reading.Readers.{one}
 use Rattle.snl_tree.specs.reading.Sequences.{behind, parted}
 use Rattle.snl_tree.proofs.code.Turns.{Found}

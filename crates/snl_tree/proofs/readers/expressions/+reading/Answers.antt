@@ -3,14 +3,14 @@ use Rattle.std.proofs.lemmas.Result.{err_from_is_err_and}
 use Rattle.snl_text.specs.declared.tokens.Token.{Token}
 use Rattle.snl_text.specs.declared.kinds.Kind.TheVariants.{Comma}
 use Rattle.snl_tree.specs.declared.readers.cursor.Halt.{Halt}
-use Rattle.snl_tree.specs.declared.trees.expressions.Argument.{Argument}
-use Rattle.snl_tree.specs.declared.trees.expressions.Expr.{Expr}
-use Rattle.snl_tree.specs.declared.trees.expressions.Term.{Term}
-use Rattle.snl_tree.specs.Kinds.{is}
-use Rattle.snl_tree.specs.reading.Readers.{starts, one, sign}
+use Rattle.snl_syntax.specs.declared.expressions.Argument.{Argument}
+use Rattle.snl_syntax.specs.declared.expressions.Expr.{Expr}
+use Rattle.snl_syntax.specs.declared.expressions.Term.{Term}
+use Rattle.snl_syntax.specs.Kinds.{is}
+use Rattle.snl_tree.specs.reading.Readers.{starts, sign}
 use Rattle.snl_tree.specs.reading.Expressions.{inside, is_unary, readers, level_at, terms_at, term_at, argument_at, more_after, is_operator, chain_tree, assigned_rest, conditional_rest, named_rest}
 use Rattle.snl_tree.specs.reading.Moves.{Fails}
-use Rattle.snl_tree.specs.view.Expressions.{view, boxed, pair_of, pairs, argument_of, list_before}
+use Rattle.snl_syntax.specs.view.Expressions.{view, boxed, pair_of, pairs, argument_of, list_before}
 use Rattle.snl_tree.proofs.code.Rows.{assignment_made}
 use Rattle.snl_tree.proofs.code.Forms.{argument_form, assignment_form, conditional_form, expression_form, named_form, parenthesized_form, primary_form, unary_form}
 use Rattle.snl_tree.proofs.code.Climbing.{passed, climbed_chain, climbed_fails}

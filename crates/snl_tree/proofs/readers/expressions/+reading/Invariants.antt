@@ -1,7 +1,7 @@
 use Rattle.std.proofs.Common.{◌≡◌, ◌+◌, ◌*◌, ◌-◌, ◌++◌, Ok, map, length}
 use Rattle.snl_tree.specs.reading.Readers.{◌>>=◌}
 use Rattle.snl_tree.specs.reading.Expressions.{inside, readers, level_at, terms_at, more_after}
-use Rattle.snl_tree.specs.view.Expressions.{pair_of, list_before}
+use Rattle.snl_syntax.specs.view.Expressions.{pair_of, list_before}
 use Rattle.snl_tree.proofs.readers.expressions.+reading.Given as goal
 
 -- a nested part costs a thousand, a level twenty

@@ -1,8 +1,8 @@
 use Rattle.std.proofs.Common.{length}
 use Rattle.snl_text.specs.declared.kinds.Kind.TheVariants.{When}
-use Rattle.snl_tree.specs.Kinds.{is}
+use Rattle.snl_syntax.specs.Kinds.{is}
 use Rattle.snl_tree.specs.reading.Programs.{clause_at, clauses_at}
-use Rattle.snl_tree.specs.view.Programs.{clause_view}
+use Rattle.snl_syntax.specs.view.Programs.{clause_view}
 use Rattle.snl_tree.proofs.code.Turns.{Found}
 use Rattle.snl_tree.proofs.readers.programs.clauses.Given as goal
 

@@ -1,9 +1,9 @@
 use Rattle.std.proofs.Common.{sym}
 use Rattle.std.proofs.lemmas.Result.{err_from_is_err_and}
 use Rattle.snl_text.specs.declared.kinds.Kind.TheVariants.{StateSet}
-use Rattle.snl_tree.specs.Kinds.{is}
+use Rattle.snl_syntax.specs.Kinds.{is}
 use Rattle.snl_tree.specs.reading.Programs.{state_set_at, state_sets_at}
-use Rattle.snl_tree.specs.view.Programs.{state_set_view}
+use Rattle.snl_syntax.specs.view.Programs.{state_set_view}
 use Rattle.snl_tree.proofs.code.Turns.{found_some, some_fails, found_more, found_all, found_fails}
 use Rattle.snl_tree.proofs.code.ProgramLess.{state_set_less}
 use Rattle.snl_tree.proofs.readers.programs.state_sets.Goals as goal

@@ -1,8 +1,8 @@
 use Rattle.std.proofs.Common.{length}
 use Rattle.snl_text.specs.declared.kinds.Kind.TheVariants.{State}
-use Rattle.snl_tree.specs.Kinds.{is}
+use Rattle.snl_syntax.specs.Kinds.{is}
 use Rattle.snl_tree.specs.reading.Programs.{state_at, states_at}
-use Rattle.snl_tree.specs.view.Programs.{state_view}
+use Rattle.snl_syntax.specs.view.Programs.{state_view}
 use Rattle.snl_tree.proofs.code.Turns.{Found}
 use Rattle.snl_tree.proofs.readers.programs.states.Given as goal
 

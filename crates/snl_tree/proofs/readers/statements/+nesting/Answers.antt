@@ -2,7 +2,7 @@ use Rattle.std.proofs.Common.{rules, sym}
 use Rattle.std.proofs.lemmas.Result.{err_from_is_err_and}
 use Rattle.snl_tree.specs.reading.Statements.{opens_statement, statement_at}
 use Rattle.snl_tree.specs.reading.StatementSteps.{statement_row_at}
-use Rattle.snl_tree.specs.view.Statements.{statement_view}
+use Rattle.snl_syntax.specs.view.Statements.{statement_view}
 use Rattle.snl_tree.proofs.code.Turns.{found_none, found_more, found_all, found_fails}
 use Rattle.snl_tree.proofs.code.StatementForms.{block_form, for_form, if_form, statement_form, statement_less, while_form}
 use Rattle.snl_tree.proofs.readers.statements.+nesting.Goals as goal

@@ -1,7 +1,7 @@
 use Rattle.std.proofs.Common.{◌+◌, ◌*◌, length}
 use Rattle.snl_tree.specs.reading.Statements.{opens_statement, statement_at}
 use Rattle.snl_tree.specs.reading.StatementSteps.{statement_row_at}
-use Rattle.snl_tree.specs.view.Statements.{statement_view}
+use Rattle.snl_syntax.specs.view.Statements.{statement_view}
 use Rattle.snl_tree.proofs.code.Turns.{Found}
 use Rattle.snl_tree.proofs.readers.statements.+nesting.Given as goal
 

@@ -1,8 +1,8 @@
 use Rattle.std.proofs.Common.{sym}
 use Rattle.std.proofs.lemmas.Result.{err_from_is_err_and}
-use Rattle.snl_tree.specs.Declarations.{starts_declaration}
+use Rattle.snl_syntax.specs.Declarations.{starts_declaration}
 use Rattle.snl_tree.specs.reading.Declarations.{declaration_at}
-use Rattle.snl_tree.specs.view.Declarations.{declaration_view}
+use Rattle.snl_syntax.specs.view.Declarations.{declaration_view}
 use Rattle.snl_tree.specs.reading.Statements.{declarations_at}
 use Rattle.snl_tree.proofs.code.Turns.{found_none, found_more, found_all, found_fails}
 use Rattle.snl_tree.proofs.grammar.Blocks.{declaration_less}

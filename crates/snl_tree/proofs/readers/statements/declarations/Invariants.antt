@@ -1,7 +1,7 @@
 use Rattle.std.proofs.Common.{length}
-use Rattle.snl_tree.specs.Declarations.{starts_declaration}
+use Rattle.snl_syntax.specs.Declarations.{starts_declaration}
 use Rattle.snl_tree.specs.reading.Declarations.{declaration_at}
-use Rattle.snl_tree.specs.view.Declarations.{declaration_view}
+use Rattle.snl_syntax.specs.view.Declarations.{declaration_view}
 use Rattle.snl_tree.specs.reading.Statements.{declarations_at}
 use Rattle.snl_tree.proofs.code.Turns.{Found}
 use Rattle.snl_tree.proofs.readers.statements.declarations.Given as goal

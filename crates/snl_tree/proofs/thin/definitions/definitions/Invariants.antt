@@ -1,4 +1,4 @@
-use Rattle.snl_tree.specs.view.Definitions.{definition_view}
+use Rattle.snl_syntax.specs.view.Definitions.{definition_view}
 use Rattle.snl_tree.specs.Thin.{is_thin_definition, StandsForDefinition}
 use Rattle.snl_tree.proofs.code.Narrowing.{EachSoFar}
 use Rattle.snl_tree.proofs.thin.definitions.definitions.Given as goal

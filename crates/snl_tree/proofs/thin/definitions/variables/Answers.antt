@@ -1,5 +1,5 @@
 use Rattle.std.proofs.Common.{arith, sym}
-use Rattle.snl_tree.specs.view.Declarations.{declarator_view}
+use Rattle.snl_syntax.specs.view.Declarations.{declarator_view}
 use Rattle.snl_tree.specs.Thin.{is_bare, StandsForName}
 use Rattle.snl_tree.proofs.code.Narrowing.{one_not, all_so_far, and_both, and_second}
 use Rattle.snl_tree.proofs.thin.definitions.variables.Goals as goal

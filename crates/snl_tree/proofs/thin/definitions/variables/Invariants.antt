@@ -1,4 +1,4 @@
-use Rattle.snl_tree.specs.view.Declarations.{declarator_view}
+use Rattle.snl_syntax.specs.view.Declarations.{declarator_view}
 use Rattle.snl_tree.specs.Thin.{is_bare, StandsForName}
 use Rattle.snl_tree.proofs.code.Narrowing.{EachSoFar}
 use Rattle.snl_tree.proofs.thin.definitions.variables.Given as goal

@@ -1,7 +1,7 @@
 use Rattle.std.proofs.Common.{rules, arith, ◌≡◌, sym, ap, ◌∙◌}
-use Rattle.snl_tree.specs.declared.trees.expressions.Expr.{Expr}
+use Rattle.snl_syntax.specs.declared.expressions.Expr.{Expr}
 use Rattle.snl_tree.specs.Thin.{is_sum, wide}
-use Rattle.snl_tree.specs.view.Expressions.{view, pair_of}
+use Rattle.snl_syntax.specs.view.Expressions.{view, pair_of}
 use Rattle.snl_tree.proofs.code.Narrowing.{is_joined, StandsForTerm, one_not, all_so_far, and_first, and_second, terms_are_none, sum_found, found_none}
 use Rattle.snl_tree.proofs.thin.expressions.+sum.Goals as goal
 

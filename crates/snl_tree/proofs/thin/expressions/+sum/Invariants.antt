@@ -1,5 +1,5 @@
 use Rattle.std.proofs.Common.{◌≡◌}
-use Rattle.snl_tree.specs.view.Expressions.{pair_of}
+use Rattle.snl_syntax.specs.view.Expressions.{pair_of}
 use Rattle.snl_tree.proofs.code.Narrowing.{EachSoFar, is_joined, StandsForTerm}
 use Rattle.snl_tree.proofs.thin.expressions.+sum.Given as goal
 

@@ -1,8 +1,8 @@
 use Rattle.std.proofs.Common.{refl, rules, arith, ◌≡◌, ◌∷◌, ◌++◌, [], length, sym, ap, ◌∙◌}
-use Rattle.snl_tree.specs.declared.trees.expressions.Expr.{Expr}
+use Rattle.snl_syntax.specs.declared.expressions.Expr.{Expr}
 use Rattle.snl_tree.specs.declared.thin.trees.Term.{Term}
 use Rattle.snl_tree.specs.Thin.{is_sum, wide}
-use Rattle.snl_tree.specs.view.Expressions.{view}
+use Rattle.snl_syntax.specs.view.Expressions.{view}
 use Rattle.snl_tree.proofs.code.Narrowing.{and_first, and_second, compared, not_compared, comparison_found, single, found_none}
 use Rattle.snl_tree.proofs.thin.expressions.comparison.Goals as goal
 

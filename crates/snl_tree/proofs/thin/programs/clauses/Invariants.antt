@@ -1,4 +1,4 @@
-use Rattle.snl_tree.specs.view.Programs.{clause_view}
+use Rattle.snl_syntax.specs.view.Programs.{clause_view}
 use Rattle.snl_tree.specs.Thin.{is_thin_clause, StandsForClause}
 use Rattle.snl_tree.proofs.code.Narrowing.{EachSoFar}
 use Rattle.snl_tree.proofs.thin.programs.clauses.Given as goal

@@ -1,5 +1,5 @@
 use Rattle.std.proofs.Common.{arith}
-use Rattle.snl_tree.specs.view.Programs.{state_view}
+use Rattle.snl_syntax.specs.view.Programs.{state_view}
 use Rattle.snl_tree.specs.Thin.{is_thin_state, StandsForState}
 use Rattle.snl_tree.proofs.code.Narrowing.{all_so_far}
 use Rattle.snl_tree.proofs.thin.programs.states.Goals as goal

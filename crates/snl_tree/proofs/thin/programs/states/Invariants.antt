@@ -1,4 +1,4 @@
-use Rattle.snl_tree.specs.view.Programs.{state_view}
+use Rattle.snl_syntax.specs.view.Programs.{state_view}
 use Rattle.snl_tree.specs.Thin.{is_thin_state, StandsForState}
 use Rattle.snl_tree.proofs.code.Narrowing.{EachSoFar}
 use Rattle.snl_tree.proofs.thin.programs.states.Given as goal

@@ -1,8 +1,8 @@
 use Rattle.std.proofs.Common.{arith, sym, subst, ap, ◌∙◌, List}
 use Rattle.std.specs.List.{list_all}
-use Rattle.snl_tree.specs.Statements.{StatementTree}
-use Rattle.snl_tree.specs.view.Declarations.{declaration_view}
-use Rattle.snl_tree.specs.view.Statements.{statement_view, statement_views}
+use Rattle.snl_syntax.specs.Statements.{StatementTree}
+use Rattle.snl_syntax.specs.view.Declarations.{declaration_view}
+use Rattle.snl_syntax.specs.view.Statements.{statement_view, statement_views}
 use Rattle.snl_tree.specs.Thin.{is_thin_statement, StandsForStatement, StandEach}
 use Rattle.snl_tree.proofs.code.Narrowing.{one_not, all_so_far, and_both, and_second, listed, none_there}
 use Rattle.snl_tree.proofs.thin.statements.block.Goals as goal

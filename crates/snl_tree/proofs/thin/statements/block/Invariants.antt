@@ -1,4 +1,4 @@
-use Rattle.snl_tree.specs.view.Statements.{statement_view}
+use Rattle.snl_syntax.specs.view.Statements.{statement_view}
 use Rattle.snl_tree.specs.Thin.{is_thin_statement, StandsForStatement}
 use Rattle.snl_tree.proofs.code.Narrowing.{EachSoFar}
 use Rattle.snl_tree.proofs.thin.statements.block.Given as goal

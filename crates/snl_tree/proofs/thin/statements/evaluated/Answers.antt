@@ -1,8 +1,8 @@
 use Rattle.std.proofs.Common.{sym, subst}
-use Rattle.snl_tree.specs.Expressions.{ExprTree}
-use Rattle.snl_tree.specs.Statements.{expression}
+use Rattle.snl_syntax.specs.Expressions.{ExprTree}
+use Rattle.snl_syntax.specs.Statements.{expression}
 use Rattle.snl_tree.specs.Thin.{Finds, is_thin_statement, StandsForStatement}
-use Rattle.snl_tree.proofs.code.Rows.{view_call}
+use Rattle.snl_syntax.proofs.Rows.{view_call}
 use Rattle.snl_tree.proofs.thin.statements.evaluated.Goals as goal
 
 -- a call is thin where `pvPut` with one name is found of it

@@ -1,5 +1,5 @@
 use Rattle.std.proofs.Common.{rules}
-use Rattle.snl_tree.specs.view.Expressions.{arguments_of}
+use Rattle.snl_syntax.specs.view.Expressions.{arguments_of}
 use Rattle.snl_tree.proofs.code.Narrowing.{put_found}
 use Rattle.snl_tree.proofs.thin.statements.put.Goals as goal
 

@@ -1,7 +1,7 @@
-use Rattle.snl_tree.specs.declared.trees.expressions.Expr.{Call}
-use Rattle.snl_tree.specs.view.Expressions.{view}
+use Rattle.snl_syntax.specs.declared.expressions.Expr.{Call}
+use Rattle.snl_syntax.specs.view.Expressions.{view}
 use Rattle.snl_tree.proofs.code.Building.{in_a_box}
-use Rattle.snl_tree.proofs.code.Rows.{view_call}
+use Rattle.snl_syntax.proofs.Rows.{view_call}
 use Rattle.snl_tree.proofs.readers.boxes.expressions.boxed_call.Goals as goal
 
 -- the call in the box is seen as the call with its arguments

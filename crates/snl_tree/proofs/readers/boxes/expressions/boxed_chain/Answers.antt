@@ -1,7 +1,7 @@
-use Rattle.snl_tree.specs.declared.trees.expressions.Expr.{Chain}
-use Rattle.snl_tree.specs.view.Expressions.{view}
+use Rattle.snl_syntax.specs.declared.expressions.Expr.{Chain}
+use Rattle.snl_syntax.specs.view.Expressions.{view}
 use Rattle.snl_tree.proofs.code.Building.{in_a_box}
-use Rattle.snl_tree.proofs.code.Rows.{view_chain}
+use Rattle.snl_syntax.proofs.Rows.{view_chain}
 use Rattle.snl_tree.proofs.readers.boxes.expressions.boxed_chain.Goals as goal
 
 -- the chain in the box is seen as the chain of its operands

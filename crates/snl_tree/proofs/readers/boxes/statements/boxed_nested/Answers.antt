@@ -1,9 +1,9 @@
 use Rattle.std.proofs.Common.{ap, ◌∙◌}
-use Rattle.snl_tree.specs.declared.trees.statements.Stmt.{Block}
-use Rattle.snl_tree.specs.Statements.{nested}
-use Rattle.snl_tree.specs.view.Statements.{statement_view, block_view}
+use Rattle.snl_syntax.specs.declared.statements.Stmt.{Block}
+use Rattle.snl_syntax.specs.Statements.{nested}
+use Rattle.snl_syntax.specs.view.Statements.{statement_view, block_view}
 use Rattle.snl_tree.proofs.code.Building.{in_a_box}
-use Rattle.snl_tree.proofs.code.StatementRows.{view_block}
+use Rattle.snl_syntax.proofs.StatementRows.{view_block}
 use Rattle.snl_tree.proofs.readers.boxes.statements.boxed_nested.Goals as goal
 
 -- the block in the box is seen as the block that stands as a statement

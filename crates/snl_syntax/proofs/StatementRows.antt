@@ -1,11 +1,11 @@
 -- The plain tree of a block that stands in a statement.
 use Rattle.std.proofs.Common.{◌≡◌, map, refl, ap, ◌∙◌}
 use mathlib.Core.Former.{Count}
-use Rattle.snl_tree.specs.declared.trees.statements.Stmt.{Stmt, Block', Block, Row_of-Stmt, end_of-Stmt, more_of-Stmt, items-the_row-Stmt, items_hidden-the_row-Stmt-0}
-use Rattle.snl_tree.specs.declared.trees.statements.Block as declared
-use Rattle.snl_tree.specs.Statements.{nested, block, statement}
-use Rattle.snl_tree.specs.reading.Statements.{statement_list}
-use Rattle.snl_tree.specs.view.Statements.{statement_view, row_view, declaration_views, block_view}
+use Rattle.snl_syntax.specs.declared.statements.Stmt.{Stmt, Block', Block, Row_of-Stmt, end_of-Stmt, more_of-Stmt, items-the_row-Stmt, items_hidden-the_row-Stmt-0}
+use Rattle.snl_syntax.specs.declared.statements.Block as declared
+use Rattle.snl_syntax.specs.Statements.{nested, block, statement}
+use Rattle.snl_syntax.specs.view.Lists.{statement_list}
+use Rattle.snl_syntax.specs.view.Statements.{statement_view, row_view, declaration_views, block_view}
 
 -- a row of statements is seen as the list of its statements
 row_statements : (n : _) (row : Row_of-Stmt n) → row_view row ≡ statement_list (map statement_view (items-the_row-Stmt n row))

@@ -1,17 +1,17 @@
 -- The plain tree of a declared declaration.
 use Rattle.std.specs.Prelude.{Bool, true, false, List, [], ◌∷◌, map, Box, Vec}
 use Rattle.std.proofs.Common.{Global}
-use Rattle.snl_tree.specs.declared.trees.expressions.Expr.{Expr}
-use Rattle.snl_tree.specs.declared.trees.declarations.Declaration.{Declaration}
-use Rattle.snl_tree.specs.declared.trees.declarations.TypeName.{TypeName}
-use Rattle.snl_tree.specs.declared.trees.declarations.Declarator.{Declarator}
-use Rattle.snl_tree.specs.declared.trees.declarations.Initialiser.{Initialiser}
-use Rattle.snl_tree.specs.declared.trees.declarations.Initialiser.TheVariants as Declared
-use Rattle.snl_tree.specs.declared.trees.declarations.Values.{Values}
-use Rattle.snl_tree.specs.view.Shown.{shown}
-use Rattle.snl_tree.specs.Expressions.{ExprTree}
-use Rattle.snl_tree.specs.view.Expressions.{boxed}
-use Rattle.snl_tree.specs.Declarations.{TypeTree, ValueList, no_values, last_value, value_before, InitialiserTree, single, listed, DeclaratorTree, DeclarationTree}
+use Rattle.snl_syntax.specs.declared.expressions.Expr.{Expr}
+use Rattle.snl_syntax.specs.declared.declarations.Declaration.{Declaration}
+use Rattle.snl_syntax.specs.declared.declarations.TypeName.{TypeName}
+use Rattle.snl_syntax.specs.declared.declarations.Declarator.{Declarator}
+use Rattle.snl_syntax.specs.declared.declarations.Initialiser.{Initialiser}
+use Rattle.snl_syntax.specs.declared.declarations.Initialiser.TheVariants as Declared
+use Rattle.snl_syntax.specs.declared.declarations.Values.{Values}
+use Rattle.snl_syntax.specs.view.Shown.{shown}
+use Rattle.snl_syntax.specs.Expressions.{ExprTree}
+use Rattle.snl_syntax.specs.view.Expressions.{boxed}
+use Rattle.snl_syntax.specs.Declarations.{TypeTree, ValueList, no_values, last_value, value_before, InitialiserTree, single, listed, DeclaratorTree, DeclarationTree}
 
 abbrev pub type_view : TypeName → TypeTree
 type_view t = record { word = t.word; second = t.second }

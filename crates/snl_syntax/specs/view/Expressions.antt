@@ -2,11 +2,11 @@
 use Rattle.std.specs.Prelude.{List, [], ◌∷◌, map, Box, Vec, ◌⊎◌}
 use Rattle.std.proofs.Common.{inl, inr, Global}
 use Rattle.snl_text.specs.declared.tokens.Token.{Token}
-use Rattle.snl_tree.specs.declared.trees.expressions.Term.{Term}
-use Rattle.snl_tree.specs.declared.trees.expressions.Expr.{Expr, Constant, Parenthesized', Named, Element', Call', Postfix', Prefix', Chain', Conditional', Assignment', Row_of-Term, end_of-Term, more_of-Term, Row_of-Argument, end_of-Argument, more_of-Argument}
-use Rattle.snl_tree.specs.declared.trees.expressions.Argument.{Argument, Value', Text}
-use Rattle.snl_tree.specs.reading.Expressions.{with_argument}
-use Rattle.snl_tree.specs.Expressions.{ExprTree, TermList, ArgumentList, constant, parenthesized, named, element, call, postfix, prefix, chain, conditional, assignment, no_terms, term, no_arguments, value, text}
+use Rattle.snl_syntax.specs.declared.expressions.Term.{Term}
+use Rattle.snl_syntax.specs.declared.expressions.Expr.{Expr, Constant, Parenthesized', Named, Element', Call', Postfix', Prefix', Chain', Conditional', Assignment', Row_of-Term, end_of-Term, more_of-Term, Row_of-Argument, end_of-Argument, more_of-Argument}
+use Rattle.snl_syntax.specs.declared.expressions.Argument.{Argument, Value', Text}
+use Rattle.snl_syntax.specs.view.Lists.{with_argument}
+use Rattle.snl_syntax.specs.Expressions.{ExprTree, TermList, ArgumentList, constant, parenthesized, named, element, call, postfix, prefix, chain, conditional, assignment, no_terms, term, no_arguments, value, text}
 
 abbrev mutual
   pub view : Expr → ExprTree

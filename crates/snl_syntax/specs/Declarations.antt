@@ -1,12 +1,12 @@
 -- The trees of declarations: their spelling, and when they are well formed.
-use Rattle.std.specs.Prelude.{◌≡◌, ℕ, ◌≤◌, Bool, true, false, ◌&&◌, List, [], ◌∷◌, ◌++◌, Option}
+use Rattle.std.specs.Prelude.{◌≡◌, ℕ, Bool, true, false, ◌&&◌, List, [], ◌∷◌, ◌++◌, Option}
 use Rattle.snl_text.specs.declared.tokens.Token.{Token}
 use Rattle.snl_text.specs.declared.kinds.Kind.{Kind}
 use Rattle.snl_text.specs.declared.kinds.Kind.TheVariants.{Name, Char, Short, Int, Long, Unsigned, Int8, Int16, Int32, Int64, Uint8, Uint16, Uint32, Uint64, Float, Double, StringType, OpenBrace, CloseBrace, OpenBracket, CloseBracket, Semicolon, Comma, Equal}
-use Rattle.snl_tree.specs.Kinds.{is}
-use Rattle.snl_tree.specs.Slots.{Slot, The, Sign}
-use Rattle.snl_tree.specs.Expressions.{ExprTree, assigned, slots, Fits, IsExpr}
-use Rattle.snl_tree.specs.Sequences.{between_slots, maybe_slots, IfThere, row_slots, Each, parted_slots, EachOfSome}
+use Rattle.snl_syntax.specs.Kinds.{is}
+use Rattle.snl_syntax.specs.Slots.{Slot, The, Sign}
+use Rattle.snl_syntax.specs.Expressions.{ExprTree, assigned, slots, Fits, IsExpr}
+use Rattle.snl_syntax.specs.Sequences.{between_slots, maybe_slots, IfThere, row_slots, Each, parted_slots, EachOfSome}
 
 -- A word that names a type, and so begins a declaration.
 abbrev pub starts_declaration : Kind → Bool

@@ -1,6 +1,6 @@
 //! The trees of clauses, states, state sets and programs.
 
-use crate::trees::{Block, Def, Expr};
+use crate::{Block, Def, Expr};
 use snl_text::{Pos, Token};
 
 /// `program : 'program' NAME [ '(' STRING ')' ] pdef* [entry] ss+ [exit]`

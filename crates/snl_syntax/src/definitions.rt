@@ -1,6 +1,6 @@
 //! The trees of definitions and options.
 
-use crate::trees::{Declaration, Expr};
+use crate::{Declaration, Expr};
 use snl_text::Token;
 
 /// `decl | assign | monitor | sync | syncq | evflag`, and, in a program and in a state, `option`.

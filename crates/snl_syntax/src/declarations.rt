@@ -1,6 +1,6 @@
 //! The trees of declarations.
 
-use crate::trees::Expr;
+use crate::Expr;
 use snl_text::Token;
 
 /// `type dname ( ',' dname )* ';'`

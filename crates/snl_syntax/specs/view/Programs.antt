@@ -4,17 +4,17 @@ use Rattle.std.proofs.Common.{Global}
 use Rattle.snl_text.specs.declared.tokens.Lexed.{Lexed}
 use Rattle.snl_text.specs.declared.tokens.Token.{Token}
 use Rattle.snl_text.specs.declared.tokens.Pos.{Pos}
-use Rattle.snl_tree.specs.declared.trees.programs.Program.{Program}
-use Rattle.snl_tree.specs.declared.trees.programs.StateSet.{StateSet}
-use Rattle.snl_tree.specs.declared.trees.programs.State.{State}
-use Rattle.snl_tree.specs.declared.trees.programs.Clause.{Clause}
-use Rattle.snl_tree.specs.declared.trees.programs.Target.{Target}
-use Rattle.snl_tree.specs.declared.trees.programs.Target.TheVariants as Declared
-use Rattle.snl_tree.specs.view.Shown.{shown, held}
-use Rattle.snl_tree.specs.view.Expressions.{boxed}
-use Rattle.snl_tree.specs.view.Statements.{block_view}
-use Rattle.snl_tree.specs.view.Definitions.{definition_views}
-use Rattle.snl_tree.specs.Programs.{TargetTree, to_state, to_exit, ClauseTree, StateTree, StateSetTree, ProgramTree}
+use Rattle.snl_syntax.specs.declared.programs.Program.{Program}
+use Rattle.snl_syntax.specs.declared.programs.StateSet.{StateSet}
+use Rattle.snl_syntax.specs.declared.programs.State.{State}
+use Rattle.snl_syntax.specs.declared.programs.Clause.{Clause}
+use Rattle.snl_syntax.specs.declared.programs.Target.{Target}
+use Rattle.snl_syntax.specs.declared.programs.Target.TheVariants as Declared
+use Rattle.snl_syntax.specs.view.Shown.{shown, held}
+use Rattle.snl_syntax.specs.view.Expressions.{boxed}
+use Rattle.snl_syntax.specs.view.Statements.{block_view}
+use Rattle.snl_syntax.specs.view.Definitions.{definition_views}
+use Rattle.snl_syntax.specs.Programs.{TargetTree, to_state, to_exit, ClauseTree, StateTree, StateSetTree, ProgramTree}
 
 abbrev pub target_view : Target → TargetTree
 target_view (Declared.State x) = to_state x

@@ -1,4 +1,8 @@
-//! The trees of the whole language. Each keeps the tokens whose places messages and faults name.
+//! The trees of programs in the State Notation Language. Each keeps the tokens whose places messages and faults name.
+//!
+//! The definitions say how a tree is spelled, when it is well formed, and how it is read from the front of a list of
+//! tokens. The crate `snl_tree` has the parser that makes these trees, and offers their names too.
+#![tactic(auto)]
 
 mod declarations;
 mod definitions;

@@ -1,9 +1,7 @@
 -- Things that may be missing, and rows of things: how they are spelled and how they are read.
-use Rattle.std.specs.Prelude.{Bool, true, false, List, [], ◌∷◌, ◌++◌, Option, Some, None, Ok}
+use Rattle.std.specs.Prelude.{Bool, true, false, List, [], ◌∷◌, ◌++◌, Option, Some, None}
 use Rattle.snl_text.specs.declared.kinds.Kind.{Kind}
-use Rattle.snl_tree.specs.Kinds.{is}
-use Rattle.snl_tree.specs.Slots.{Slot, Sign}
-use Rattle.snl_tree.specs.reading.Readers.{Reader, starts, sign, both, many, made, ◌>>=◌}
+use Rattle.snl_syntax.specs.Slots.{Slot, Sign}
 
 -- What stands between two signs.
 abbrev pub between_slots : Kind → List Slot → Kind → List Slot

@@ -2,12 +2,12 @@
 use Rattle.std.specs.Prelude.{◌≡◌, ℕ, List, [], ◌∷◌, ◌++◌, Option}
 use Rattle.snl_text.specs.declared.tokens.Token.{Token}
 use Rattle.snl_text.specs.declared.kinds.Kind.TheVariants.{Name, Text, Program, Entry, Exit, StateSet, State, When, OpenBrace, CloseBrace, OpenParenthesis, CloseParenthesis}
-use Rattle.snl_tree.specs.Slots.{Slot, The, Sign}
-use Rattle.snl_tree.specs.Sequences.{between_slots, maybe_slots, IfThere, row_slots, Each, EachOfSome}
-use Rattle.snl_tree.specs.Expressions.{ExprTree, slots, IsExpr}
-use Rattle.snl_tree.specs.Definitions.{DefinitionTree, token_slots, definition_slots, IsDefinition, IsPart}
-use Rattle.snl_tree.specs.Statements.{BlockTree, block_slots, IsBlock}
-use Rattle.snl_tree.specs.Begins.{Sort}
+use Rattle.snl_syntax.specs.Slots.{Slot, The, Sign}
+use Rattle.snl_syntax.specs.Sequences.{between_slots, maybe_slots, IfThere, row_slots, Each, EachOfSome}
+use Rattle.snl_syntax.specs.Expressions.{ExprTree, slots, IsExpr}
+use Rattle.snl_syntax.specs.Definitions.{DefinitionTree, token_slots, definition_slots, IsDefinition, IsPart}
+use Rattle.snl_syntax.specs.Statements.{BlockTree, block_slots, IsBlock}
+use Rattle.snl_syntax.specs.Begins.{Sort}
 
 -- Where a clause leads: to a state, or out of the program.
 pub data TargetTree : Type 0 where

@@ -3,10 +3,10 @@ use Rattle.std.specs.Prelude.{◌≡◌, ℕ, Bool, true, false, List, [], ◌�
 use Rattle.snl_text.specs.declared.tokens.Token.{Token}
 use Rattle.snl_text.specs.declared.kinds.Kind.{Kind}
 use Rattle.snl_text.specs.declared.kinds.Kind.TheVariants.{Name, Whole, Text, Assign, EventFlag, Monitor, OptionWord, Sync, SyncQueue, To, OpenBrace, CloseBrace, Semicolon, Comma, Plus, Minus}
-use Rattle.snl_tree.specs.Slots.{Slot, The, Sign}
-use Rattle.snl_tree.specs.Sequences.{between_slots, maybe_slots, IfThere, sign_slots, parted_slots, EachOfSome}
-use Rattle.snl_tree.specs.Expressions.{ExprTree, IsExpr}
-use Rattle.snl_tree.specs.Declarations.{starts_declaration, DeclarationTree, bracket_slots, declaration_slots, IsDeclaration}
+use Rattle.snl_syntax.specs.Slots.{Slot, The, Sign}
+use Rattle.snl_syntax.specs.Sequences.{between_slots, maybe_slots, IfThere, sign_slots, parted_slots, EachOfSome}
+use Rattle.snl_syntax.specs.Expressions.{ExprTree, IsExpr}
+use Rattle.snl_syntax.specs.Declarations.{starts_declaration, DeclarationTree, bracket_slots, declaration_slots, IsDeclaration}
 
 -- A variable, or an element of one.
 pub record PlaceTree : Type 0 where

@@ -3,10 +3,10 @@ use Rattle.std.specs.Prelude.{◌≡◌, ℕ, Bool, true, false, List, [], ◌�
 use Rattle.snl_text.specs.declared.tokens.Token.{Token}
 use Rattle.snl_text.specs.declared.kinds.Kind.{Kind}
 use Rattle.snl_text.specs.declared.kinds.Kind.TheVariants.{Name, OpenBrace, CloseBrace, OpenParenthesis, CloseParenthesis, Semicolon, If, Else, While, For, Break, Continue, State}
-use Rattle.snl_tree.specs.Slots.{Slot, The, Sign}
-use Rattle.snl_tree.specs.Expressions.{ExprTree, slots, Under, IsExpr}
-use Rattle.snl_tree.specs.Sequences.{maybe_slots, IfThere, row_slots, Each}
-use Rattle.snl_tree.specs.Declarations.{DeclarationTree, declaration_slots, IsDeclaration}
+use Rattle.snl_syntax.specs.Slots.{Slot, The, Sign}
+use Rattle.snl_syntax.specs.Expressions.{ExprTree, slots, Under, IsExpr}
+use Rattle.snl_syntax.specs.Sequences.{maybe_slots, IfThere, row_slots, Each}
+use Rattle.snl_syntax.specs.Declarations.{DeclarationTree, declaration_slots, IsDeclaration}
 
 -- What stands between the parentheses of a `for`: each of the three expressions may be missing.
 pub record Header : Type 0 where

@@ -2,21 +2,21 @@
 use Rattle.std.specs.Prelude.{List, map, Vec}
 use Rattle.std.proofs.Common.{Global}
 use Rattle.snl_text.specs.declared.tokens.Token.{Token}
-use Rattle.snl_tree.specs.declared.trees.definitions.Def.{Def}
-use Rattle.snl_tree.specs.declared.trees.definitions.Def.TheVariants as Declared
-use Rattle.snl_tree.specs.declared.trees.definitions.Place.{Place}
-use Rattle.snl_tree.specs.declared.trees.definitions.Assign.{Assign}
-use Rattle.snl_tree.specs.declared.trees.definitions.Channels.{Channels}
-use Rattle.snl_tree.specs.declared.trees.definitions.ChannelNames.{ChannelNames}
-use Rattle.snl_tree.specs.declared.trees.definitions.ChannelNames.TheVariants as Names
-use Rattle.snl_tree.specs.declared.trees.definitions.Flag.{Flag}
-use Rattle.snl_tree.specs.declared.trees.definitions.Sync.{Sync}
-use Rattle.snl_tree.specs.declared.trees.definitions.SyncQueue.{SyncQueue}
-use Rattle.snl_tree.specs.declared.trees.definitions.Setting.{Setting}
-use Rattle.snl_tree.specs.view.Shown.{shown}
-use Rattle.snl_tree.specs.view.Expressions.{boxed}
-use Rattle.snl_tree.specs.view.Declarations.{declaration_view}
-use Rattle.snl_tree.specs.Definitions.{PlaceTree, NamesTree, one_name, name_list, ChannelsTree, AssignTree, FlagTree, SyncTree, QueueTree, SettingTree, DefinitionTree, declaration, assign, monitor, sync, sync_queue, event_flags, setting}
+use Rattle.snl_syntax.specs.declared.definitions.Def.{Def}
+use Rattle.snl_syntax.specs.declared.definitions.Def.TheVariants as Declared
+use Rattle.snl_syntax.specs.declared.definitions.Place.{Place}
+use Rattle.snl_syntax.specs.declared.definitions.Assign.{Assign}
+use Rattle.snl_syntax.specs.declared.definitions.Channels.{Channels}
+use Rattle.snl_syntax.specs.declared.definitions.ChannelNames.{ChannelNames}
+use Rattle.snl_syntax.specs.declared.definitions.ChannelNames.TheVariants as Names
+use Rattle.snl_syntax.specs.declared.definitions.Flag.{Flag}
+use Rattle.snl_syntax.specs.declared.definitions.Sync.{Sync}
+use Rattle.snl_syntax.specs.declared.definitions.SyncQueue.{SyncQueue}
+use Rattle.snl_syntax.specs.declared.definitions.Setting.{Setting}
+use Rattle.snl_syntax.specs.view.Shown.{shown}
+use Rattle.snl_syntax.specs.view.Expressions.{boxed}
+use Rattle.snl_syntax.specs.view.Declarations.{declaration_view}
+use Rattle.snl_syntax.specs.Definitions.{PlaceTree, NamesTree, one_name, name_list, ChannelsTree, AssignTree, FlagTree, SyncTree, QueueTree, SettingTree, DefinitionTree, declaration, assign, monitor, sync, sync_queue, event_flags, setting}
 
 abbrev pub place_view : Place → PlaceTree
 place_view p = record { name = p.name; subscript = shown boxed p.subscript }

@@ -1,6 +1,6 @@
 //! The trees of statements and blocks.
 
-use crate::trees::{Declaration, Expr};
+use crate::{Declaration, Expr};
 use snl_text::Token;
 
 /// A statement. It keeps the tokens whose places messages and faults name.

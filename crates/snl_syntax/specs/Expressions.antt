@@ -3,8 +3,8 @@ use Rattle.std.specs.Prelude.{◌≡◌, ℕ, ◌≤◌, ◌<◌, true, List, []
 use Rattle.std.proofs.Common.{zero, suc}
 use Rattle.snl_text.specs.declared.tokens.Token.{Token}
 use Rattle.snl_text.specs.declared.kinds.Kind.TheVariants.{Name, Text, OpenParenthesis, CloseParenthesis, OpenBracket, CloseBracket, Comma, Colon, Question}
-use Rattle.snl_tree.specs.Kinds.{is_constant, is_prefix, looseness}
-use Rattle.snl_tree.specs.Slots.{Slot, The, Sign}
+use Rattle.snl_syntax.specs.Kinds.{is_constant, is_prefix, looseness}
+use Rattle.snl_syntax.specs.Slots.{Slot, The, Sign}
 
 -- An expression without the pointers of the declared one. The operators of one level and their operands
 -- are one list, so the depth of a tree is that of its nesting and not the length of a sum.

@@ -2,7 +2,7 @@
 use Rattle.std.specs.Prelude.{◌≡◌, ℕ, ◌≤◌, ◌<◌, List, [], ◌++◌, length, take}
 use Rattle.std.proofs.Common.{suc}
 use Rattle.snl_text.specs.declared.tokens.Token.{Token}
-use Rattle.snl_tree.specs.Slots.{Slot, Spelled}
+use Rattle.snl_syntax.specs.Slots.{Slot, Spelled}
 
 -- Trees of one sort: how each is spelled, and when it is well formed with at most so much nesting.
 pub record Sort (A : Type 0) : Type 1 where

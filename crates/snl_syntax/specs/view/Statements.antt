@@ -1,17 +1,17 @@
 -- The plain tree of a declared statement.
 use Rattle.std.specs.Prelude.{List, map, Vec}
 use Rattle.std.proofs.Common.{Global}
-use Rattle.snl_tree.specs.declared.trees.declarations.Declaration.{Declaration}
-use Rattle.snl_tree.specs.declared.trees.statements.Header.{Header}
-use Rattle.snl_tree.specs.declared.trees.statements.Block.{Block}
-use Rattle.snl_tree.specs.declared.trees.statements.Stmt.{Stmt, Block', Empty, Expression, Break, Continue, State, If', IfElse', While', For', Row_of-Stmt, end_of-Stmt, more_of-Stmt}
-use Rattle.snl_tree.specs.view.Shown.{shown}
-use Rattle.snl_tree.specs.view.Expressions.{boxed}
-use Rattle.snl_tree.specs.Declarations.{DeclarationTree}
-use Rattle.snl_tree.specs.view.Declarations.{declaration_view}
-use Rattle.snl_tree.specs.Statements as trees
-use Rattle.snl_tree.specs.Statements.{StatementTree, StatementList, BlockTree, nested, empty, expression, break_loop, continue_loop, change_state, if_then, if_else, while_loop, for_loop, no_statements, statement, block}
-use Rattle.snl_tree.specs.reading.Statements.{statement_list}
+use Rattle.snl_syntax.specs.declared.declarations.Declaration.{Declaration}
+use Rattle.snl_syntax.specs.declared.statements.Header.{Header}
+use Rattle.snl_syntax.specs.declared.statements.Block.{Block}
+use Rattle.snl_syntax.specs.declared.statements.Stmt.{Stmt, Block', Empty, Expression, Break, Continue, State, If', IfElse', While', For', Row_of-Stmt, end_of-Stmt, more_of-Stmt}
+use Rattle.snl_syntax.specs.view.Shown.{shown}
+use Rattle.snl_syntax.specs.view.Expressions.{boxed}
+use Rattle.snl_syntax.specs.Declarations.{DeclarationTree}
+use Rattle.snl_syntax.specs.view.Declarations.{declaration_view}
+use Rattle.snl_syntax.specs.Statements as trees
+use Rattle.snl_syntax.specs.Statements.{StatementTree, StatementList, BlockTree, nested, empty, expression, break_loop, continue_loop, change_state, if_then, if_else, while_loop, for_loop, no_statements, statement, block}
+use Rattle.snl_syntax.specs.view.Lists.{statement_list}
 
 abbrev pub header_view : Header → trees.Header
 header_view h = record { start = shown boxed h.start; condition = shown boxed h.condition; step = shown boxed h.step }

@@ -1,0 +1,10 @@
+pub mod Kinds
+pub mod Slots
+pub mod Sequences
+pub mod Expressions
+pub mod Declarations
+pub mod Definitions
+pub mod Statements
+pub mod Programs
+pub mod Begins
+pub mod view
