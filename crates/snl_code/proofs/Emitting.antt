@@ -1,9 +1,9 @@
 -- Code that is made from its end, form by form.
-use Rattle.std.proofs.Common.{◌≡◌, ◌∙◌, ℕ, ◌+◌, ◌-◌, ◌≤◌, Bool, true, false, List, [], ◌∷◌, ◌++◌, refl, sym, ap, arith, append_assoc, map, length, drop, Vec, Box, Global, None}
+use Rattle.std.proofs.Common.{◌≡◌, ◌∙◌, ℕ, Bool, true, false, List, [], ◌∷◌, ◌++◌, refl, sym, ap, append_assoc, map, Vec, Box, Global, None, Option}
 use Rattle.snl_text.specs.declared.kinds.Kind.{Kind}
 use Rattle.snl_text.specs.declared.tokens.Token.{Token}
-use Rattle.snl_syntax.specs.Expressions.{ExprTree, ArgumentList, assignment, postfix, prefix, no_arguments}
-use Rattle.snl_syntax.specs.declared.expressions.Expr.{Expr, Chain, Call}
+use Rattle.snl_syntax.specs.Expressions.{ExprTree, assignment, postfix, prefix, no_arguments}
+use Rattle.snl_syntax.specs.declared.expressions.Expr.{Expr, Chain, Call, Assignment, Postfix, Prefix}
 use Rattle.snl_syntax.specs.declared.expressions.Term.{Term}
 use Rattle.snl_syntax.specs.declared.expressions.Argument.{Argument}
 use Rattle.snl_syntax.specs.view.Lists.{term_list}
@@ -19,8 +19,8 @@ use Rattle.snl_code.specs.Targets.{place_code, stored_code, adjust_code}
 use Rattle.snl_code.specs.Value.{Sign, Steps, Alone, sign_of, compound_of}
 use Rattle.snl_code.proofs.TargetCode.{target-cut, step-cut}
 
--- An assignment: the store, then the right side, then the place.
-pub assignment-made : (h : Here) (e r : ExprTree) (op : Token) (old stored right new : List Instr)
+-- an assignment: the store, then the right side, then the place
+assignment-made : (h : Here) (e r : ExprTree) (op : Token) (old stored right new : List Instr)
     → stored ≡ stored_code h (compound_of op.kind) op.pos.line e ++ old → right ≡ expression_code h r ++ stored
     → new ≡ place_code h (compound_of op.kind) e ++ right → new ≡ expression_code h (assignment e op r) ++ old
 assignment-made h e r op old stored right new es er en =
@@ -36,12 +36,12 @@ signed-cut : (s : Sign) (h : Here) (e : ExprTree) (n : ℕ) (is_before : Bool)
 signed-cut (Steps by) h e n is_before = step-cut h e by n is_before
 signed-cut (Alone op) h e n is_before = refl
 
--- A sign after its operand.
-pub postfix-is : (h : Here) (e : ExprTree) (op : Token) → expression_code h (postfix e op) ≡ sign_code h op true e
+-- a sign after its operand
+postfix-is : (h : Here) (e : ExprTree) (op : Token) → expression_code h (postfix e op) ≡ sign_code h op true e
 postfix-is h e op = signed-cut (sign_of op.kind) h e op.pos.line true
 
--- A sign before its operand.
-pub prefix-is : (h : Here) (e : ExprTree) (op : Token) → expression_code h (prefix op e) ≡ sign_code h op false e
+-- a sign before its operand
+prefix-is : (h : Here) (e : ExprTree) (op : Token) → expression_code h (prefix op e) ≡ sign_code h op false e
 prefix-is h e op = signed-cut (sign_of op.kind) h e op.pos.line false
 
 -- A chain: its terms, and then its first operand.
@@ -58,3 +58,27 @@ pub call-made : (h : Here) (e : Expr) (f : Token) (v : Vec Argument Global) (ite
     → e ≡ Call f v → items ≡ v.items → new ≡ call_code h f (list_before items no_arguments) ++ old → new ≡ expression_code h (view e) ++ old
 call-made h e f v items old new ee ei en =
     en ∙ (λ j. call_code h f (list_before (ei j) no_arguments) ++ old) ∙ ap (λ x. expression_code h x ++ old) (sym (ap view ee ∙ view_call f v))
+
+-- An assignment, with its parts in boxes.
+pub assigned-made : (h : Here) (a : Expr) (b r : Box Expr Global) (d d2 d3 : Expr) (op : Token) (o : Option Kind) (old stored right new : List Instr)
+    → a ≡ Assignment b op r → o ≡ compound_of op.kind → d ≡ b.value → d2 ≡ r.value → d3 ≡ b.value
+    → stored ≡ stored_code h o op.pos.line (view d) ++ old → right ≡ expression_code h (view d2) ++ stored
+    → new ≡ place_code h o (view d3) ++ right → new ≡ expression_code h (view a) ++ old
+assigned-made h a b r d d2 d3 op o old stored right new ea eo ed e2 e3 es er en =
+    assignment-made h (view b.value) (view r.value) op old stored right new
+    (es ∙ (λ j. stored_code h (eo j) op.pos.line (view (ed j)) ++ old)) (er ∙ (λ j. expression_code h (view (e2 j)) ++ stored))
+    (en ∙ (λ j. place_code h (eo j) (view (e3 j)) ++ right)) ∙ ap (λ x. expression_code h (view x) ++ old) (sym ea)
+
+-- A sign after its operand, which stands in a box.
+pub postfix-made : (h : Here) (a d : Expr) (b : Box Expr Global) (op : Token) (old new : List Instr)
+    → a ≡ Postfix b op → d ≡ b.value → new ≡ sign_code h op true (view d) ++ old → new ≡ expression_code h (view a) ++ old
+postfix-made h a d b op old new ea ed en =
+    en ∙ (λ j. sign_code h op true (view (ed j)) ++ old) ∙ ap (λ l. l ++ old) (sym (postfix-is h (view b.value) op))
+    ∙ ap (λ x. expression_code h (view x) ++ old) (sym ea)
+
+-- A sign before its operand.
+pub prefix-made : (h : Here) (a d : Expr) (b : Box Expr Global) (op : Token) (old new : List Instr)
+    → a ≡ Prefix op b → d ≡ b.value → new ≡ sign_code h op false (view d) ++ old → new ≡ expression_code h (view a) ++ old
+prefix-made h a d b op old new ea ed en =
+    en ∙ (λ j. sign_code h op false (view (ed j)) ++ old) ∙ ap (λ l. l ++ old) (sym (prefix-is h (view b.value) op))
+    ∙ ap (λ x. expression_code h (view x) ++ old) (sym ea)

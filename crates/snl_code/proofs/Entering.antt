@@ -76,18 +76,18 @@ module _ (h : Here) (room : ℕ) (code : List Instr) where
       (begins-step (variable_for h d) d.name.pos.line k (at + length ec) z u)))
 
   -- the values of one variable
-  begins-with : (d : DeclaratorTree) (k : ℕ) (es : List ExprTree) → values_depth es ≤ room → Does (begun_with h d k es) (begun_with_code h d k es)
+  begins-with : (d : DeclaratorTree) (k : ℕ) (es : List ExprTree) → values_depth es ≤ room → Does (begun_with h d k es) (begun_with_code h (variable_for h d) d.name.pos.line k es)
   begins-with d k [] free = does-nothing
   begins-with d k (e ∷ es) free =
       does-then (λ w. then_do (value_of h e w) (begun h.set (variable_for h d) d.name.pos.line k)) (begun_with h d (suc k) es)
-      (expression_code h e ++ begun_code (variable_for h d) d.name.pos.line k ∷ []) (begun_with_code h d (suc k) es)
+      (expression_code h e ++ begun_code (variable_for h d) d.name.pos.line k ∷ []) (begun_with_code h (variable_for h d) d.name.pos.line (suc k) es)
       (begins d k e (omega (arith, free))) (begins-with d (suc k) es (omega (arith, free)))
 
   -- the values of all variables
   all-begin : (ds : List DeclaratorTree) → entered_depth ds ≤ room → Does (all_begun h ds) (all_begun_code h ds)
   all-begin [] free = does-nothing
   all-begin (d ∷ ds) free =
-      does-then (begun_with h d 0 (values_of d.initial)) (all_begun h ds) (begun_with_code h d 0 (values_of d.initial)) (all_begun_code h ds)
+      does-then (begun_with h d 0 (values_of d.initial)) (all_begun h ds) (begun_with_code h (variable_for h d) d.name.pos.line 0 (values_of d.initial)) (all_begun_code h ds)
       (begins-with d 0 (values_of d.initial) (omega (arith, free))) (all-begin ds (omega (arith, free)))
 
   -- all of them

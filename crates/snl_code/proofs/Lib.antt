@@ -18,3 +18,6 @@ pub mod Turns
 pub mod Texts
 pub mod TargetCode
 pub mod Emitting
+pub mod EntryCode
+pub mod DecimalSmall
+pub mod LoopCode

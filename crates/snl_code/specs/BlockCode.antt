@@ -16,6 +16,18 @@ use Rattle.snl_code.specs.Names.{Here, state_number}
 abbrev pub when_code : List Instr → List Instr → List Instr
 when_code condition held = condition ++ (JumpIfZero (length held) ∷ held)
 
+-- What is done where a condition holds, behind a jump over it.
+abbrev pub held_code : List Instr → List Instr
+held_code held = JumpIfZero (length held) ∷ held
+
+-- The same, where a jump over something else stands behind it.
+abbrev pub first_code : List Instr → List Instr
+first_code held = JumpIfZero (length held + 1) ∷ held
+
+-- What is done where it fails, behind a jump over it.
+abbrev pub second_code : List Instr → List Instr
+second_code failed = Jump (length failed) ∷ failed
+
 -- An expression for what it does; it may be missing.
 abbrev pub dropped_code : Here → Option ExprTree → List Instr
 dropped_code h None = []
@@ -54,14 +66,14 @@ begun_code None line k = Drop
 begun_code (Some v) line k = Begin v k line
 
 -- The code of what a variable begins with, from an element on.
-abbrev pub begun_with_code : Here → DeclaratorTree → ℕ → List ExprTree → List Instr
-begun_with_code h d k [] = []
-begun_with_code h d k (e ∷ es) = (expression_code h e ++ begun_code (variable_for h d) d.name.pos.line k ∷ []) ++ begun_with_code h d (suc k) es
+abbrev pub begun_with_code : Here → Option Variable → (line k : ℕ) → List ExprTree → List Instr
+begun_with_code h v line k [] = []
+begun_with_code h v line k (e ∷ es) = (expression_code h e ++ begun_code v line k ∷ []) ++ begun_with_code h v line (suc k) es
 
 -- The same of all variables of a block.
 abbrev pub all_begun_code : Here → List DeclaratorTree → List Instr
 all_begun_code h [] = []
-all_begun_code h (d ∷ ds) = begun_with_code h d 0 (values_of d.initial) ++ all_begun_code h ds
+all_begun_code h (d ∷ ds) = begun_with_code h (variable_for h d) d.name.pos.line 0 (values_of d.initial) ++ all_begun_code h ds
 
 -- The code of the entry of a block.
 abbrev pub entered_code : Here → List DeclaratorTree → List Instr

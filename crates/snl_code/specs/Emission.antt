@@ -1,20 +1,21 @@
 -- The code of single forms, as it is made.
-use Rattle.std.specs.Prelude.{ℕ, List, [], ◌∷◌, ◌++◌, pos, Bool, None}
-use Rattle.std.proofs.Common.{inl, inr}
+use Rattle.std.specs.Prelude.{ℕ, ◌+◌, ◌-◌, List, [], ◌∷◌, ◌++◌, pos, Bool, None, length, reverse, set}
 use Rattle.snl_text.specs.declared.tokens.Token.{Token}
 use Rattle.snl_syntax.specs.declared.expressions.Argument.{Argument, Value', Text}
 use Rattle.snl_syntax.specs.view.Expressions.{view}
 use Rattle.snl_syntax.specs.Expressions.{ExprTree, ArgumentList}
 use Rattle.snl_code.specs.declared.instrs.Instr.{Instr}
-use Rattle.snl_code.specs.declared.instrs.Instr.TheVariants.{Push}
+use Rattle.snl_code.specs.declared.instrs.Instr.TheVariants.{Push, Jump, Tick}
+use Rattle.snl_syntax.specs.Statements.{StatementTree}
+use Rattle.snl_code.specs.BlockCode.{statement_code}
 use Rattle.snl_code.specs.ExpressionCode.{expression_code, joint_code, signed_code, at_code, get_code, called_code, print_code, wait_code}
-use Rattle.snl_code.specs.Names.{Here, sense_of}
+use Rattle.snl_code.specs.Names.{Here, Sense}
 use Rattle.snl_code.specs.Targets.{place_code, adjust_code}
 use Rattle.snl_code.specs.Value.{joint_of, sign_of, function_of}
 
 -- The read of an element, after its subscript.
-abbrev pub read_code : Here → Token → ℕ → List Instr
-read_code h x line = at_code (sense_of h x) line get_code (Push (pos 0) ∷ [])
+abbrev pub element_code : Sense → ℕ → List Instr
+element_code x line = at_code x line get_code (Push (pos 0) ∷ [])
 
 -- An operator with its operand.
 abbrev pub term_code : Here → Token × ExprTree → List Instr
@@ -33,3 +34,10 @@ call_code h f all = called_code (function_of f.text.now) (print_code h all) (wai
 abbrev pub value_code : Here → Argument → List Instr
 value_code h (Value' p e) = expression_code h (view e)
 value_code h (Text t) = []
+
+-- The body of a loop, behind a jump to its test, before code in which the loop's tick stands after so many instructions
+-- and the test begins after others. The tick leads back to the body.
+abbrev pub turn_code : Here → (line end test : ℕ) → StatementTree → List Instr → List Instr
+turn_code h line end test s code =
+    let body = statement_code h (length code - end) 0 s in
+    Jump (length body + (length code - test)) ∷ (body ++ reverse (set code end (Tick line (length body + (length code - end - 1)))))

@@ -49,9 +49,9 @@ here = record {
   sites = Use Read x (Variable (record { offset = 0; file = 0; line = 1 }) Scalar) false
       ∷ Use Read a (Variable (record { offset = 1; file = 0; line = 1 }) (Array 2)) true
       ∷ Use Read y (Variable (record { offset = 2; file = 0; line = 1 }) Scalar) false ∷ Format format true ∷ [];
-  variables = record { name = token kind.Name 0 1 (codes "x"); range = (negsuc 2147483647, pos 2147483647); size = Scalar; initial = None }
-      ∷ record { name = token kind.Name 1 1 (codes "a"); range = (negsuc 127, pos 127); size = Array 2; initial = None }
-      ∷ record { name = token kind.Name 2 1 (codes "y"); range = (negsuc 2147483647, pos 2147483647); size = Scalar; initial = None } ∷ [];
+  variables = record { offset = 0; variable = record { number = 0; size = 1; least = negsuc 2147483647; greatest = pos 2147483647 } }
+      ∷ record { offset = 1; variable = record { number = 1; size = 2; least = negsuc 127; greatest = pos 127 } }
+      ∷ record { offset = 2; variable = record { number = 2; size = 1; least = negsuc 2147483647; greatest = pos 2147483647 } } ∷ [];
 }
 
 -- Half a second after the state was entered, with 3 ticks: x, y and how many ticks, and the least due time.

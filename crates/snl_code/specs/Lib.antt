@@ -7,8 +7,8 @@ pub mod Value
 pub mod Effect
 pub mod ExpressionCode
 pub mod Targets
-pub mod Emission
 pub mod BlockCode
+pub mod Emission
 pub mod Run
 pub mod Right
 pub mod Examples

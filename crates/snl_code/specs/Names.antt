@@ -13,6 +13,7 @@ use Rattle.snl_sites.specs.Scopes.{elements}
 use Rattle.snl_sites.specs.Uses.{declared_in}
 use Rattle.snl_sites.specs.Variables.{Held, variables_of}
 use Rattle.snl_code.specs.declared.instrs.Variable.{Variable}
+use Rattle.snl_code.specs.declared.names.Placed.{Placed}
 pub use Rattle.snl_code.specs.declared.names.Sense.{Sense}
 pub use Rattle.snl_code.specs.declared.names.Sense.TheVariants.{Varies, Stands}
 
@@ -24,8 +25,8 @@ pub record Here : Type 0 where
   pub states : List Token
   -- what the names of the program mean, each at its place
   pub sites : List Site
-  -- the variables of the copy
-  pub variables : List Held
+  -- the variables of the copy, by their declarations
+  pub variables : List Placed
 
 -- The name of a state set, if there is one.
 abbrev pub name_by : Option StateSetTree → List ℕ
@@ -37,30 +38,35 @@ abbrev pub states_by : Option StateSetTree → List Token
 states_by None = []
 states_by (Some g) = map (λ s. s.name) g.states
 
--- The same of a state set of a program.
+-- A variable with its number.
+abbrev pub numbered : ℕ → Held → Variable
+numbered n v = record { number = n; size = elements v.size; least = v.range.0; greatest = v.range.1 }
+
+-- Variables that are numbered from n on, each with the offset of its declaration.
+abbrev pub placed_from : ℕ → List Held → List Placed
+placed_from n [] = []
+placed_from n (v ∷ vs) = record { offset = v.name.pos.offset; variable = numbered n v } ∷ placed_from (suc n) vs
+
+-- The same of a state set of a program. A variable's number is its place in the list of all that the copy holds.
 abbrev pub here_in : ProgramTree → ℕ → Here
 here_in p set = record {
   set = set;
   set_name = name_by (slice_get p.state_sets set);
   states = states_by (slice_get p.state_sets set);
   sites = sites p;
-  variables = variables_of p set;
+  variables = placed_from 0 (variables_of p set);
 }
 
 -- ---- variables
 
--- A variable with its number.
-abbrev pub numbered : ℕ → Held → Variable
-numbered n v = record { number = n; size = elements v.size; least = v.range.0; greatest = v.range.1 }
+-- The variable that is declared at an offset, among some.
+abbrev pub variable_in : List Placed → ℕ → Option Variable
+variable_in [] offset = None
+variable_in (v ∷ vs) offset = if v.offset == offset then Some v.variable else variable_in vs offset
 
--- The variable that is declared at an offset, among some that are numbered from n on.
-abbrev pub variable_from : ℕ → List Held → ℕ → Option Variable
-variable_from n [] offset = None
-variable_from n (v ∷ vs) offset = if v.name.pos.offset == offset then Some (numbered n v) else variable_from (suc n) vs offset
-
--- The same among those of the copy. A variable's number is its place in the list of them all.
+-- The same among those of the copy.
 abbrev pub variable_at : Here → ℕ → Option Variable
-variable_at h offset = variable_from 0 h.variables offset
+variable_at h offset = variable_in h.variables offset
 
 -- The same of a place, if there is one.
 abbrev pub variable_by : Here → Option Pos → Option Variable

@@ -1,7 +1,6 @@
 -- The code of a target, cut where the right side of its assignment stands.
 use Rattle.std.specs.Prelude.{ℕ, List, [], ◌∷◌, ◌++◌, pos, Bool, Option, None, Some}
 use Rattle.snl_text.specs.declared.kinds.Kind.{Kind}
-use Rattle.snl_text.specs.declared.tokens.Token.{Token}
 use Rattle.snl_syntax.specs.Expressions.{ExprTree, parenthesized, named, element}
 use Rattle.snl_code.specs.declared.instrs.Instr.{Instr}
 use Rattle.snl_code.specs.declared.instrs.Instr.TheVariants.{Push, Load, Check, Peek, Store, StoreAt, Adjust, AdjustAt, Apply, Drop}

@@ -1,6 +1,6 @@
 //! What the names in a piece of code mean.
 
-ghost use Rattle.std.specs.Prelude.{◌≡◌, map};
+ghost use Rattle.std.specs.Prelude.{◌≡◌, map, IfOk};
 ghost use Rattle.snl_sites.specs.Held.{held_view};
 ghost use Rattle.snl_sites.specs.Numbered.{number_of};
 ghost use Rattle.snl_code.specs.Names as spec;
@@ -9,6 +9,7 @@ ghost use Rattle.snl_code.specs.Known.{here_of};
 use crate::instrs::Variable;
 use snl_sites::{Held, Site, declared_in, predefined};
 use snl_text::Token;
+use std::alloc::{AllocError, Global};
 
 /// What a name is in an expression.
 #[derive(Clone, Copy)]
@@ -19,8 +20,17 @@ pub enum Sense {
     Stands(i64),
 }
 
+/// A variable, by its declaration.
+#[derive(Clone, Copy)]
+pub struct Placed {
+    /// Where it is declared, in bytes.
+    pub offset: usize,
+    /// What an instruction says of it.
+    pub variable: Variable,
+}
+
 /// What is known where a piece of code stands.
-pub struct Known<'s, 'p, 'a> {
+pub struct Known<'s, 'a> {
     /// The number of the state set on whose copy the piece runs.
     pub set: usize,
     /// Its name.
@@ -30,7 +40,7 @@ pub struct Known<'s, 'p, 'a> {
     /// The sites of the program.
     pub sites: &'s [Site<'a>],
     /// The variables of the copy.
-    pub variables: &'s [Held<'p, 'a>],
+    pub variables: &'s [Placed],
 }
 
 fn numbered(number: usize, held: &Held) -> Variable
@@ -45,13 +55,29 @@ fn numbered(number: usize, held: &Held) -> Variable
     }
 }
 
-/// The variable that is declared at an offset.
-fn variable_at(variables: &[Held], offset: usize) -> Option<Variable>
-    ensures { result ≡ spec.variable_from 0 (map held_view variables.now) offset }
+/// The variables of a copy, each by its declaration. The only error is that memory ends.
+pub fn places_of(alloc: Global, variables: &[Held]) -> Result<Vec<Placed>, AllocError>
+    ensures { IfOk result (λ places. places.items
+        ≡ spec.placed_from 0 (map held_view variables.now)) }
 {
+    let mut places = Vec::new(alloc);
     for number in 0..variables.len() {
-        if variables[number].name.pos.offset == offset {
-            return Some(numbered(number, &variables[number]));
+        let held = &variables[number];
+        places.push(Placed {
+            offset: held.name.pos.offset,
+            variable: numbered(number, held),
+        })?;
+    }
+    Ok(places)
+}
+
+/// The variable that is declared at an offset.
+fn variable_in(variables: &[Placed], offset: usize) -> Option<Variable>
+    ensures { result ≡ spec.variable_in variables.now offset }
+{
+    for placed in variables {
+        if placed.offset == offset {
+            return Some(placed.variable);
         }
     }
     None
@@ -69,7 +95,13 @@ fn number_in(names: &[Token], name: &[u8]) -> Option<usize>
     None
 }
 
-impl<'s, 'p, 'a> Known<'s, 'p, 'a> {
+impl<'s, 'a> Known<'s, 'a> {
+    /// The variable that is declared at an offset, in bytes.
+    pub fn variable(&self, offset: usize) -> Option<Variable>
+        ensures { result ≡ spec.variable_at (here_of self.now) offset }
+    {
+        variable_in(self.variables, offset)
+    }
     /// The variable that a name's declaration makes, or else the number that its text is predefined
     /// to be. A name that is neither stands for 0.
     pub fn sense(&self, name: Token<'a>) -> Sense
@@ -77,7 +109,7 @@ impl<'s, 'p, 'a> Known<'s, 'p, 'a> {
     {
         let declared = declared_in(name.pos.offset, self.sites);
         let variable = match declared {
-            Some(place) => variable_at(self.variables, place.offset),
+            Some(place) => variable_in(self.variables, place.offset),
             None => None,
         };
         match variable {

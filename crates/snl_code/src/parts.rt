@@ -4,6 +4,7 @@ ghost use Rattle.std.specs.Prelude.{◌≡◌, ◌++◌, reverse, OnOk};
 ghost use Rattle.std.specs.List.{flat_map};
 ghost use Rattle.snl_syntax.specs.view.Expressions.{list_before};
 ghost use Rattle.snl_syntax.specs.Expressions.{no_arguments};
+ghost use Rattle.snl_code.specs.Emission.{element_code};
 ghost use Rattle.snl_code.specs.ExpressionCode.{name_code, count_values};
 ghost use Rattle.snl_code.specs.Names.{format_at, text_number};
 ghost use Rattle.snl_code.specs.Targets as spec;
@@ -23,6 +24,23 @@ pub fn read_name(sense: Sense) -> Instr
     match sense {
         Sense::Varies(variable) => Instr::Load(variable),
         Sense::Stands(number) => Instr::Push(number),
+    }
+}
+
+/// The read of an element, after its subscript.
+pub fn put_read(code: &mut Vec<Instr>, sense: Sense, line: usize) -> Result<(), AllocError>
+    ensures { OnOk result (reverse code.new.items
+        ≡ element_code sense line ++ reverse code.old.items) }
+{
+    match sense {
+        Sense::Varies(variable) => {
+            put(code, Instr::Get(variable))?;
+            put(code, Instr::Check { variable, line })
+        }
+        Sense::Stands(_) => {
+            put(code, Instr::Push(0))?;
+            put(code, Instr::Drop)
+        }
     }
 }
 

@@ -84,7 +84,7 @@ fn put_stored_at(
 /// What an assignment does at its target after its right side. The only error is that memory ends.
 pub fn put_stored<'a>(
     code: &mut Vec<Instr>,
-    known: &Known<'_, '_, 'a>,
+    known: &Known<'_, 'a>,
     operator: Option<Kind>,
     operator_line: usize,
     target: &Expr<'a>,
@@ -153,7 +153,7 @@ fn adjusted_at(
 
 /// The instruction of `++` or `--` at a target, after its subscript.
 pub fn adjusted<'a>(
-    known: &Known<'_, '_, 'a>,
+    known: &Known<'_, 'a>,
     operator: Kind,
     operator_line: usize,
     is_before: bool,
