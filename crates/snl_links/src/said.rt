@@ -52,7 +52,7 @@ fn element_by(size: usize, constant: Constant) -> Option<usize>
 }
 
 /// The variable of a place, or the element that its subscript names.
-fn place_part<'a>(scopes: &Scopes<'_, 'a>, place: &Place<'a>) -> Option<Part>
+fn place_part<'a>(place: &Place<'a>, scopes: &Scopes<'_, 'a>) -> Option<Part>
     ensures { result ≡ spec.place_part (scopes_of scopes.now) (place_view place.now) }
 {
     let Meaning::Variable(variable, size) = scopes.meaning(place.name) else {
@@ -61,7 +61,7 @@ fn place_part<'a>(scopes: &Scopes<'_, 'a>, place: &Place<'a>) -> Option<Part>
     let extent = match &place.subscript {
         None => Extent::Whole(size.elements()),
         Some(subscript) => {
-            Extent::Element(element_by(size.elements(), constant_of(scopes, subscript))?)
+            Extent::Element(element_by(size.elements(), constant_of(subscript, scopes))?)
         }
     };
     Some(Part { variable, extent })
@@ -104,24 +104,24 @@ fn queue_size(number: Option<Token>) -> u64
 }
 
 /// What a definition says of elements, if it does.
-fn said_by<'p, 'a>(scopes: &Scopes<'_, 'a>, definition: &'p Def<'a>) -> Option<Said<'p, 'a>>
+fn said_by<'p, 'a>(definition: &'p Def<'a>, scopes: &Scopes<'_, 'a>) -> Option<Said<'p, 'a>>
     ensures { said_views result
         ≡ spec.said_by (scopes_of scopes.now) (definition_view definition.now) }
 {
     match definition {
         Def::Assign(assign) => Some(Said::Assigned {
             name: assign.place.name,
-            part: place_part(scopes, &assign.place)?,
+            part: place_part(&assign.place, scopes)?,
             channels: &assign.channels,
         }),
-        Def::Monitor(place) => Some(Said::Monitored(place_part(scopes, place)?)),
+        Def::Monitor(place) => Some(Said::Monitored(place_part(place, scopes)?)),
         Def::Sync(sync) => Some(Said::Synced {
-            part: place_part(scopes, &sync.place)?,
+            part: place_part(&sync.place, scopes)?,
             flag: flag_at(scopes, sync.flag),
             queue: 0,
         }),
         Def::SyncQueue(sync) => Some(Said::Synced {
-            part: place_part(scopes, &sync.place)?,
+            part: place_part(&sync.place, scopes)?,
             flag: flag_if_there(scopes, sync.flag),
             queue: queue_size(sync.size),
         }),
@@ -131,29 +131,29 @@ fn said_by<'p, 'a>(scopes: &Scopes<'_, 'a>, definition: &'p Def<'a>) -> Option<S
 
 /// Adds what each of some definitions says.
 fn push_each<'p, 'a>(
-    scopes: &Scopes<'_, 'a>,
     definitions: &'p [Def<'a>],
+    scopes: &Scopes<'_, 'a>,
     said: &mut Vec<Said<'p, 'a>>,
 ) -> Result<(), AllocError>
     ensures { OnOk result (map said_view said.new.items ≡ map said_view said.old.items
         ++ flat_map (spec.said_by (scopes_of scopes.now)) (map definition_view definitions.now)) }
 {
     for definition in definitions {
-        push_definition(scopes, definition, said)?;
+        push_definition(definition, scopes, said)?;
     }
     Ok(())
 }
 
 /// Adds what a definition says.
 fn push_definition<'p, 'a>(
-    scopes: &Scopes<'_, 'a>,
     definition: &'p Def<'a>,
+    scopes: &Scopes<'_, 'a>,
     said: &mut Vec<Said<'p, 'a>>,
 ) -> Result<(), AllocError>
     ensures { OnOk result (map said_view said.new.items ≡ map said_view said.old.items
         ++ spec.said_by (scopes_of scopes.now) (definition_view definition.now)) }
 {
-    if let Some(one) = said_by(scopes, definition) {
+    if let Some(one) = said_by(definition, scopes) {
         said.push(one)?;
     }
     Ok(())
@@ -162,8 +162,8 @@ fn push_definition<'p, 'a>(
 /// Adds what definitions say; gives the scope that they make within others.
 fn push_definitions<'p, 'a>(
     alloc: Global,
-    outer: &Scopes<'_, 'a>,
     definitions: &'p [Def<'a>],
+    outer: &Scopes<'_, 'a>,
     said: &mut Vec<Said<'p, 'a>>,
 ) -> Result<Scope<'a>, AllocError>
     ensures scope { IfOk result (λ scope. scope
@@ -171,23 +171,23 @@ fn push_definitions<'p, 'a>(
     ensures said { OnOk result (map said_view said.new.items ≡ map said_view said.old.items
         ++ spec.said_in (scopes_of outer.now) (map definition_view definitions.now)) }
 {
-    let scope = scope_of(alloc, outer, definitions)?;
-    push_each(&Scopes::Within(&scope, outer), definitions, said)?;
+    let scope = scope_of(alloc, definitions, outer)?;
+    push_each(definitions, &Scopes::Within(&scope, outer), said)?;
     Ok(scope)
 }
 
 /// Adds what the definitions of states say.
 fn push_states<'p, 'a>(
     alloc: Global,
-    outer: &Scopes<'_, 'a>,
     states: &'p [State<'a>],
+    outer: &Scopes<'_, 'a>,
     said: &mut Vec<Said<'p, 'a>>,
 ) -> Result<(), AllocError>
     ensures { OnOk result (map said_view said.new.items ≡ map said_view said.old.items
         ++ flat_map (spec.said_in_state (scopes_of outer.now)) (map state_view states.now)) }
 {
     for state in states {
-        push_definitions(alloc, outer, state.definitions.as_slice(), said)?;
+        push_definitions(alloc, state.definitions.as_slice(), outer, said)?;
     }
     Ok(())
 }
@@ -195,31 +195,31 @@ fn push_states<'p, 'a>(
 /// Adds what the definitions of a state set and of its states say.
 fn push_set<'p, 'a>(
     alloc: Global,
-    outer: &Scopes<'_, 'a>,
     set: &'p StateSet<'a>,
+    outer: &Scopes<'_, 'a>,
     said: &mut Vec<Said<'p, 'a>>,
 ) -> Result<(), AllocError>
     ensures { OnOk result (map said_view said.new.items ≡ map said_view said.old.items
         ++ spec.said_in_set (scopes_of outer.now) (state_set_view set.now)) }
 {
-    let scope = push_definitions(alloc, outer, set.definitions.as_slice(), said)?;
+    let scope = push_definitions(alloc, set.definitions.as_slice(), outer, said)?;
     let scopes = Scopes::Within(&scope, &*outer);
-    push_states(alloc, &scopes, set.states.as_slice(), said)?;
+    push_states(alloc, set.states.as_slice(), &scopes, said)?;
     Ok(())
 }
 
 /// Adds what the definitions of state sets and of their states say.
 fn push_sets<'p, 'a>(
     alloc: Global,
-    outer: &Scopes<'_, 'a>,
     sets: &'p [StateSet<'a>],
+    outer: &Scopes<'_, 'a>,
     said: &mut Vec<Said<'p, 'a>>,
 ) -> Result<(), AllocError>
     ensures { OnOk result (map said_view said.new.items ≡ map said_view said.old.items
         ++ flat_map (spec.said_in_set (scopes_of outer.now)) (map state_set_view sets.now)) }
 {
     for set in sets {
-        push_set(alloc, outer, set, said)?;
+        push_set(alloc, set, outer, said)?;
     }
     Ok(())
 }
@@ -234,8 +234,8 @@ pub fn push_said<'p, 'a>(
         ++ spec.said_in_program (program_view program.now)) }
 {
     let outside = Scopes::Outside;
-    let scope = push_definitions(alloc, &outside, program.definitions.as_slice(), said)?;
+    let scope = push_definitions(alloc, program.definitions.as_slice(), &outside, said)?;
     let scopes = Scopes::Within(&scope, &outside);
-    push_sets(alloc, &scopes, program.state_sets.as_slice(), said)?;
+    push_sets(alloc, program.state_sets.as_slice(), &scopes, said)?;
     Ok(())
 }

@@ -29,12 +29,12 @@ fn size_by(constant: Constant) -> Size
 }
 
 /// What the sizes after a declared name say.
-fn size_of<'a>(scopes: &Scopes<'_, 'a>, sizes: &[Box<Expr<'a>>]) -> Size
+fn size_of<'a>(sizes: &[Box<Expr<'a>>], scopes: &Scopes<'_, 'a>) -> Size
     ensures { result ≡ spec.size_of (spec.is_hidden (scopes_of scopes.now)) (map boxed sizes.now) }
 {
     match sizes {
         [] => Size::Scalar,
-        [size] => size_by(constant_of(scopes, size)),
+        [size] => size_by(constant_of(size, scopes)),
         _ => Size::Wrong,
     }
 }
@@ -58,8 +58,8 @@ fn push_names<'a>(
 
 /// Adds the names of a declaration with their sizes.
 fn push_declared<'a>(
-    scopes: &Scopes<'_, 'a>,
     declared: &Declaration<'a>,
+    scopes: &Scopes<'_, 'a>,
     found: &mut Vec<Declared<'a>>,
 ) -> Result<(), AllocError>
     ensures { OnOk result (found.new.items ≡ found.old.items
@@ -69,7 +69,7 @@ fn push_declared<'a>(
     for declarator in &declared.names {
         found.push(Declared {
             name: declarator.name,
-            size: Some(size_of(scopes, declarator.sizes.as_slice())),
+            size: Some(size_of(declarator.sizes.as_slice(), scopes)),
         })?;
     }
     Ok(())
@@ -102,8 +102,8 @@ fn push_names_by<'a>(definition: &Def<'a>, names: &mut Vec<Declared<'a>>) -> Res
 
 /// Adds the names that a definition declares, with their sizes.
 fn push_declared_by<'a>(
-    scopes: &Scopes<'_, 'a>,
     definition: &Def<'a>,
+    scopes: &Scopes<'_, 'a>,
     found: &mut Vec<Declared<'a>>,
 ) -> Result<(), AllocError>
     ensures { OnOk result (found.new.items ≡ found.old.items
@@ -111,7 +111,7 @@ fn push_declared_by<'a>(
         (definition_view definition.now)) }
 {
     match definition {
-        Def::Declaration(declared) => push_declared(scopes, declared, found),
+        Def::Declaration(declared) => push_declared(declared, scopes, found),
         Def::EventFlags(flags) => push_flags(flags.as_slice(), found),
         _ => Ok(()),
     }
@@ -131,8 +131,8 @@ fn names_of<'a>(alloc: Global, definitions: &[Def<'a>]) -> Result<Vec<Declared<'
 /// The names that some definitions declare, with their sizes.
 fn declared_of<'a>(
     alloc: Global,
-    scopes: &Scopes<'_, 'a>,
     definitions: &[Def<'a>],
+    scopes: &Scopes<'_, 'a>,
 ) -> Result<Vec<Declared<'a>>, AllocError>
     ensures { IfOk result (λ v. v.items
         ≡ flat_map (spec.declared_by (spec.is_hidden (scopes_of scopes.now)))
@@ -140,7 +140,7 @@ fn declared_of<'a>(
 {
     let mut found = Vec::new(alloc);
     for definition in definitions {
-        push_declared_by(scopes, definition, &mut found)?;
+        push_declared_by(definition, scopes, &mut found)?;
     }
     Ok(found)
 }
@@ -148,15 +148,15 @@ fn declared_of<'a>(
 /// The scope of definitions within others.
 pub fn scope_of<'a>(
     alloc: Global,
-    outer: &Scopes<'_, 'a>,
     definitions: &[Def<'a>],
+    outer: &Scopes<'_, 'a>,
 ) -> Result<Scope<'a>, AllocError>
     ensures { IfOk result (λ scope. scope
         ≡ spec.scope_of (scopes_of outer.now) (map definition_view definitions.now)) }
 {
     let names = names_of(alloc, definitions)?;
     let names = Scope::of(alloc, names)?;
-    let found = declared_of(alloc, &Scopes::Within(&names, outer), definitions)?;
+    let found = declared_of(alloc, definitions, &Scopes::Within(&names, outer))?;
     let scope = Scope::of(alloc, found)?;
     Ok(scope)
 }

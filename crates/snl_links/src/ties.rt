@@ -177,10 +177,10 @@ fn push_list<'a>(
 
 /// Adds the links of an `assign` (SNL Reference, "Assign").
 fn push_assigned<'a>(
+    channels: &Option<Channels<'a>>,
     all: &[Said<'_, 'a>],
     name: Token<'a>,
     part: Part,
-    channels: &Option<Channels<'a>>,
     ties: &mut Vec<Tie<'a>>,
 ) -> Result<(), AllocError>
     ensures { OnOk result (ties.new.items ≡ ties.old.items
@@ -210,7 +210,7 @@ fn push_ties<'a>(
             name,
             part,
             channels,
-        } => push_assigned(all, *name, *part, channels, ties),
+        } => push_assigned(channels, all, *name, *part, ties),
         _ => Ok(()),
     }
 }

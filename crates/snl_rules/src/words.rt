@@ -41,7 +41,7 @@ fn shared_in<'a>(alloc: Global, program: &Program<'a>) -> Result<Shared<'a>, All
 {
     let mut held = Vec::new(alloc);
     let definitions = program.definitions.as_slice();
-    let scope = push_definitions(alloc, &Scopes::Outside, definitions, &mut held)?;
+    let scope = push_definitions(alloc, definitions, &Scopes::Outside, &mut held)?;
     let words = words_of_variables(held.as_slice());
     Ok(Shared { scope, words })
 }
@@ -49,8 +49,8 @@ fn shared_in<'a>(alloc: Global, program: &Program<'a>) -> Result<Shared<'a>, All
 /// The words that one state set holds beside the shared ones, at most 2^64 - 1.
 fn own_words<'a>(
     alloc: Global,
-    scope: &Scope<'a>,
     program: &Program<'a>,
+    scope: &Scope<'a>,
     number: usize,
 ) -> Result<u64, AllocError>
     ensures { IfOk result (λ words. words
@@ -61,11 +61,11 @@ fn own_words<'a>(
     let scopes = Scopes::Within(scope, &Scopes::Outside);
     push_parts(
         alloc,
-        &scopes,
-        number,
         &program.entry,
         sets,
         &program.exit,
+        &scopes,
+        number,
         &mut held,
     )?;
     Ok(words_of_variables(held.as_slice()))
@@ -74,47 +74,47 @@ fn own_words<'a>(
 /// The words of the store of a state set, at most 2^64 - 1.
 fn words_of_set<'a>(
     alloc: Global,
-    shared: &Shared<'a>,
     program: &Program<'a>,
+    shared: &Shared<'a>,
     number: usize,
 ) -> Result<u64, AllocError>
     requires { IsSharedIn (program_view program.now) shared.now }
     ensures { IfOk result (λ words. words
         ≡ capped (spec.set_words (program_view program.now) number)) }
 {
-    let own = own_words(alloc, &shared.scope, program, number)?;
+    let own = own_words(alloc, program, &shared.scope, number)?;
     Ok(shared.words.saturating_add(own))
 }
 
 /// Whether the store of a state set takes more than 65,536 words.
 fn is_overfull_set<'a>(
     alloc: Global,
-    shared: &Shared<'a>,
     program: &Program<'a>,
+    shared: &Shared<'a>,
     number: usize,
 ) -> Result<bool, AllocError>
     requires { IsSharedIn (program_view program.now) shared.now }
     ensures { IfOk result (λ b. b
         ≡ nat_lt 65536 (spec.set_words (program_view program.now) number)) }
 {
-    let words = words_of_set(alloc, shared, program, number)?;
+    let words = words_of_set(alloc, program, shared, number)?;
     Ok(65_536 < words)
 }
 
 /// Adds the `ss` of the state set of a number, if its store is overfull.
 fn push_if_overfull<'a>(
     alloc: Global,
-    shared: &Shared<'a>,
     program: &Program<'a>,
-    number: usize,
     set: &StateSet<'a>,
+    shared: &Shared<'a>,
+    number: usize,
     found: &mut Vec<Token<'a>>,
 ) -> Result<(), AllocError>
     requires { IsSharedIn (program_view program.now) shared.now }
     ensures { OnOk result (found.new.items ≡ found.old.items
         ++ overfull_at (program_view program.now) number (state_set_view set.now)) }
 {
-    if is_overfull_set(alloc, shared, program, number)? {
+    if is_overfull_set(alloc, program, shared, number)? {
         found.push(set.word)?;
     }
     Ok(())
@@ -123,9 +123,9 @@ fn push_if_overfull<'a>(
 /// Adds the `ss` of each state set whose store is overfull.
 fn push_overfull<'a>(
     alloc: Global,
-    shared: &Shared<'a>,
     program: &Program<'a>,
     sets: &[StateSet<'a>],
+    shared: &Shared<'a>,
     found: &mut Vec<Token<'a>>,
 ) -> Result<(), AllocError>
     requires { IsSharedIn (program_view program.now) shared.now }
@@ -133,7 +133,7 @@ fn push_overfull<'a>(
         ++ overfull_from (program_view program.now) 0 (map state_set_view sets.now)) }
 {
     for (number, set) in sets.iter().enumerate() {
-        push_if_overfull(alloc, shared, program, number, set, found)?;
+        push_if_overfull(alloc, program, set, shared, number, found)?;
     }
     Ok(())
 }
@@ -141,8 +141,8 @@ fn push_overfull<'a>(
 /// The `ss` of each state set whose store is overfull, in the order of the source.
 fn overfull_in<'a>(
     alloc: Global,
-    shared: &Shared<'a>,
     program: &Program<'a>,
+    shared: &Shared<'a>,
 ) -> Result<Vec<Token<'a>>, AllocError>
     requires { IsSharedIn (program_view program.now) shared.now }
     ensures { IfOk result (λ found. (t : Token) → Contains found.items t
@@ -151,9 +151,9 @@ fn overfull_in<'a>(
     let mut found = Vec::new(alloc);
     push_overfull(
         alloc,
-        shared,
         program,
         program.state_sets.as_slice(),
+        shared,
         &mut found,
     )?;
     Ok(found)
@@ -166,16 +166,16 @@ pub fn overfull_sets<'a>(alloc: Global, program: &Program<'a>) -> Result<Vec<Tok
         ↔ spec.IsOverfullSet (program_view program.now) t) }
 {
     let shared = shared_in(alloc, program)?;
-    let found = overfull_in(alloc, &shared, program)?;
+    let found = overfull_in(alloc, program, &shared)?;
     Ok(found)
 }
 
 /// The words of the stores of state sets, at most 2^64 - 1.
 fn words_of_sets<'a>(
     alloc: Global,
-    shared: &Shared<'a>,
     program: &Program<'a>,
     sets: &[StateSet<'a>],
+    shared: &Shared<'a>,
 ) -> Result<u64, AllocError>
     requires { IsSharedIn (program_view program.now) shared.now }
     ensures { IfOk result (λ words. words
@@ -183,7 +183,7 @@ fn words_of_sets<'a>(
 {
     let mut words: u64 = 0;
     for (number, _set) in sets.iter().enumerate() {
-        let more = words_of_set(alloc, shared, program, number)?;
+        let more = words_of_set(alloc, program, shared, number)?;
         words = words.saturating_add(more);
     }
     Ok(words)
@@ -192,14 +192,14 @@ fn words_of_sets<'a>(
 /// The words of the stores of all state sets, at most 2^64 - 1.
 fn words_in<'a>(
     alloc: Global,
-    shared: &Shared<'a>,
     program: &Program<'a>,
+    shared: &Shared<'a>,
 ) -> Result<u64, AllocError>
     requires { IsSharedIn (program_view program.now) shared.now }
     ensures { IfOk result (λ words. words ≡ capped (spec.sets_words (program_view program.now) 0
         (program_view program.now).state_sets)) }
 {
-    let words = words_of_sets(alloc, shared, program, program.state_sets.as_slice())?;
+    let words = words_of_sets(alloc, program, program.state_sets.as_slice(), shared)?;
     Ok(words)
 }
 
@@ -209,7 +209,7 @@ fn words_of_stores(alloc: Global, program: &Program) -> Result<u64, AllocError>
         (program_view program.now).state_sets)) }
 {
     let shared = shared_in(alloc, program)?;
-    let words = words_in(alloc, &shared, program)?;
+    let words = words_in(alloc, program, &shared)?;
     Ok(words)
 }
 

@@ -18,8 +18,8 @@ use std::alloc::{AllocError, Global};
 
 /// Adds the variables of declarations.
 fn push_declarations<'p, 'a>(
-    scopes: &Scopes<'_, 'a>,
     declarations: &'p [Declaration<'a>],
+    scopes: &Scopes<'_, 'a>,
     kept: &mut Vec<Held<'p, 'a>>,
 ) -> Result<(), AllocError>
     ensures { OnOk result (map held_view kept.new.items ≡ map held_view kept.old.items
@@ -27,7 +27,7 @@ fn push_declarations<'p, 'a>(
         (map declaration_view declarations.now)) }
 {
     for declared in declarations {
-        push_held(scopes, declared, kept)?;
+        push_held(declared, scopes, kept)?;
     }
     Ok(())
 }
@@ -36,22 +36,22 @@ fn push_declarations<'p, 'a>(
 #[cycle(held)]
 fn push_statement<'p, 'a>(
     alloc: Global,
-    scopes: &Scopes<'_, 'a>,
     statement: &'p Stmt<'a>,
+    scopes: &Scopes<'_, 'a>,
     kept: &mut Vec<Held<'p, 'a>>,
 ) -> Result<(), AllocError>
     ensures { OnOk result (map held_view kept.new.items ≡ map held_view kept.old.items
         ++ spec.by_statement (scopes_of scopes.now) (statement_view statement.now)) }
 {
     match statement {
-        Stmt::Block(block) => push_block(alloc, scopes, block, kept),
-        Stmt::If { first, .. } => push_statement(alloc, scopes, first, kept),
+        Stmt::Block(block) => push_block(alloc, block, scopes, kept),
+        Stmt::If { first, .. } => push_statement(alloc, first, scopes, kept),
         Stmt::IfElse { first, second, .. } => {
-            push_statement(alloc, scopes, first, kept)?;
-            push_statement(alloc, scopes, second, kept)
+            push_statement(alloc, first, scopes, kept)?;
+            push_statement(alloc, second, scopes, kept)
         }
         Stmt::While { body, .. } | Stmt::For { body, .. } => {
-            push_statement(alloc, scopes, body, kept)
+            push_statement(alloc, body, scopes, kept)
         }
         _ => Ok(()),
     }
@@ -61,8 +61,8 @@ fn push_statement<'p, 'a>(
 #[cycle(held)]
 fn push_statements<'p, 'a>(
     alloc: Global,
-    scopes: &Scopes<'_, 'a>,
     statements: &'p [Stmt<'a>],
+    scopes: &Scopes<'_, 'a>,
     kept: &mut Vec<Held<'p, 'a>>,
 ) -> Result<(), AllocError>
     ensures { OnOk result (map held_view kept.new.items ≡ map held_view kept.old.items
@@ -70,7 +70,7 @@ fn push_statements<'p, 'a>(
         (map statement_view statements.now))) }
 {
     for statement in statements {
-        push_statement(alloc, scopes, statement, kept)?;
+        push_statement(alloc, statement, scopes, kept)?;
     }
     Ok(())
 }
@@ -79,32 +79,32 @@ fn push_statements<'p, 'a>(
 #[cycle(held)]
 pub fn push_block<'p, 'a>(
     alloc: Global,
-    outer: &Scopes<'_, 'a>,
     block: &'p Block<'a>,
+    outer: &Scopes<'_, 'a>,
     kept: &mut Vec<Held<'p, 'a>>,
 ) -> Result<(), AllocError>
     ensures { OnOk result (map held_view kept.new.items ≡ map held_view kept.old.items
         ++ spec.by_block (scopes_of outer.now) (block_view block.now)) }
 {
-    let names = block_names(alloc, outer, block.declarations.as_slice())?;
+    let names = block_names(alloc, block.declarations.as_slice(), outer)?;
     let scope = Scope::of(alloc, names)?;
     let scopes = Scopes::Within(&scope, &*outer);
-    push_declarations(&scopes, block.declarations.as_slice(), kept)?;
-    push_statements(alloc, &scopes, block.statements.as_slice(), kept)
+    push_declarations(block.declarations.as_slice(), &scopes, kept)?;
+    push_statements(alloc, block.statements.as_slice(), &scopes, kept)
 }
 
 /// Adds the variables of a block, if it is there.
 pub fn push_if_there<'p, 'a>(
     alloc: Global,
-    scopes: &Scopes<'_, 'a>,
     block: &'p Option<Box<Block<'a>>>,
+    scopes: &Scopes<'_, 'a>,
     kept: &mut Vec<Held<'p, 'a>>,
 ) -> Result<(), AllocError>
     ensures { OnOk result (map held_view kept.new.items ≡ map held_view kept.old.items
         ++ spec.by_maybe (scopes_of scopes.now) (shown (held block_view) block.now)) }
 {
     if let Some(block) = block {
-        push_block(alloc, scopes, block, kept)?;
+        push_block(alloc, block, scopes, kept)?;
     }
     Ok(())
 }

@@ -164,21 +164,21 @@ fn prefixed(operator: Kind, operand: Constant) -> Constant
 /// What an expression is worth in every run. A name of one of the scopes is no constant, also where
 /// it hides a predefined one.
 #[cycle(constant)]
-pub fn constant_of<'a>(scopes: &Scopes<'_, 'a>, expression: &Expr<'a>) -> Constant
+pub fn constant_of<'a>(expression: &Expr<'a>, scopes: &Scopes<'_, 'a>) -> Constant
     ensures { result ≡ spec.constant_of (is_hidden (scopes_of scopes.now)) (view expression.now) }
 {
     match expression {
         Expr::Constant(token) => of_token(*token),
-        Expr::Parenthesized(inner) => constant_of(scopes, inner),
+        Expr::Parenthesized(inner) => constant_of(inner, scopes),
         Expr::Named(name) => of_name(scopes, *name),
-        Expr::Prefix(operator, operand) => prefixed(operator.kind, constant_of(scopes, operand)),
+        Expr::Prefix(operator, operand) => prefixed(operator.kind, constant_of(operand, scopes)),
         Expr::Chain(first, terms) => {
-            chain_of(scopes, constant_of(scopes, first), terms.as_slice())
+            chain_of(terms.as_slice(), scopes, constant_of(first, scopes))
         }
         Expr::Conditional { condition, yes, no } => chosen(
-            constant_of(scopes, condition),
-            constant_of(scopes, yes),
-            constant_of(scopes, no),
+            constant_of(condition, scopes),
+            constant_of(yes, scopes),
+            constant_of(no, scopes),
         ),
         Expr::Element { .. } | Expr::Call(..) | Expr::Postfix(..) | Expr::Assignment { .. } => {
             Constant::Varies
@@ -188,13 +188,13 @@ pub fn constant_of<'a>(scopes: &Scopes<'_, 'a>, expression: &Expr<'a>) -> Consta
 
 /// What operators and their operands make of what stands to the left of them.
 #[cycle(constant)]
-fn chain_of<'a>(scopes: &Scopes<'_, 'a>, first: Constant, terms: &[Term<'a>]) -> Constant
+fn chain_of<'a>(terms: &[Term<'a>], scopes: &Scopes<'_, 'a>, first: Constant) -> Constant
     ensures { result ≡ spec.constant_chain (is_hidden (scopes_of scopes.now)) (term_list
         (map pair_of terms.now)) first }
 {
     let mut left = first;
     for term in terms {
-        left = joined(term.operator.kind, left, constant_of(scopes, &term.operand));
+        left = joined(term.operator.kind, left, constant_of(&term.operand, scopes));
     }
     left
 }

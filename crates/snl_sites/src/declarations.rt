@@ -19,42 +19,42 @@ use std::alloc::AllocError;
 
 /// Notes the sites in an expression that stands for its value, outside of a condition.
 pub fn note_value<'a>(
-    scopes: &Scopes<'_, 'a>,
     value: &Expr<'a>,
+    scopes: &Scopes<'_, 'a>,
     sites: &mut Vec<Site<'a>>,
 ) -> Result<(), AllocError>
     ensures { OnOk result (sites.new.items ≡ sites.old.items
         ++ spec.in_value (scopes_of scopes.now) (view value.now)) }
 {
-    note_expression(false, scopes, Purpose::Read, value, sites)
+    note_expression(value, false, scopes, Purpose::Read, sites)
 }
 
 /// Notes the sites in an expression that may be missing.
 pub fn note_if_there<'a>(
-    scopes: &Scopes<'_, 'a>,
     value: &Option<Box<Expr<'a>>>,
+    scopes: &Scopes<'_, 'a>,
     sites: &mut Vec<Site<'a>>,
 ) -> Result<(), AllocError>
     ensures { OnOk result (sites.new.items ≡ sites.old.items
         ++ spec.maybe (spec.in_value (scopes_of scopes.now)) (shown boxed value.now)) }
 {
     if let Some(value) = value {
-        note_value(scopes, value, sites)?;
+        note_value(value, scopes, sites)?;
     }
     Ok(())
 }
 
 /// Notes the sites in several of them.
 fn note_values<'a>(
-    scopes: &Scopes<'_, 'a>,
     values: &[Box<Expr<'a>>],
+    scopes: &Scopes<'_, 'a>,
     sites: &mut Vec<Site<'a>>,
 ) -> Result<(), AllocError>
     ensures { OnOk result (sites.new.items ≡ sites.old.items
         ++ flat_map (spec.in_value (scopes_of scopes.now)) (map boxed values.now)) }
 {
     for value in values {
-        note_value(scopes, value, sites)?;
+        note_value(value, scopes, sites)?;
     }
     Ok(())
 }
@@ -62,8 +62,8 @@ fn note_values<'a>(
 /// Notes the sites in an initialiser.
 #[tactic(auto, using(crate::proofs::ListLaws::sites_of_list))]
 fn note_initialiser<'a>(
-    scopes: &Scopes<'_, 'a>,
     initial: &Option<Initialiser<'a>>,
+    scopes: &Scopes<'_, 'a>,
     sites: &mut Vec<Site<'a>>,
 ) -> Result<(), AllocError>
     ensures { OnOk result (sites.new.items ≡ sites.old.items
@@ -72,36 +72,36 @@ fn note_initialiser<'a>(
 {
     match initial {
         None => Ok(()),
-        Some(Initialiser::Single(value)) => note_value(scopes, value, sites),
-        Some(Initialiser::List(values)) => note_values(scopes, values.each.as_slice(), sites),
+        Some(Initialiser::Single(value)) => note_value(value, scopes, sites),
+        Some(Initialiser::List(values)) => note_values(values.each.as_slice(), scopes, sites),
     }
 }
 
 /// The site of a declared name of this type, in a block or not.
 fn declarator_site<'a>(
+    declarator: &Declarator<'a>,
     scopes: &Scopes<'_, 'a>,
     in_block: bool,
     type_name: TypeName<'a>,
-    declarator: &Declarator<'a>,
 ) -> Site<'a>
     ensures { result ≡ spec.at_declarator (scopes_of scopes.now) in_block
         (type_view type_name.entry) (declarator_view declarator.now) }
 {
-    let size = size_of(scopes, declarator.sizes.as_slice());
+    let size = size_of(declarator.sizes.as_slice(), scopes);
     let initial = &declarator.initial;
     Site::Declarator {
         name: declarator.name,
         size,
-        has_good_initialiser: is_good_initialiser(scopes, in_block, type_name, size, initial),
+        has_good_initialiser: is_good_initialiser(initial, scopes, in_block, type_name, size),
     }
 }
 
 /// Notes the sites in a declared name with its sizes and its initialiser.
 fn note_declarator<'a>(
+    declarator: &Declarator<'a>,
     scopes: &Scopes<'_, 'a>,
     in_block: bool,
     type_name: TypeName<'a>,
-    declarator: &Declarator<'a>,
     sites: &mut Vec<Site<'a>>,
 ) -> Result<(), AllocError>
     ensures { OnOk result (sites.new.items ≡ sites.old.items
@@ -110,10 +110,10 @@ fn note_declarator<'a>(
 {
     pushed(
         sites,
-        declarator_site(scopes, in_block, type_name, declarator),
+        declarator_site(declarator, scopes, in_block, type_name),
     )?;
-    note_values(scopes, declarator.sizes.as_slice(), sites)?;
-    note_initialiser(scopes, &declarator.initial, sites)
+    note_values(declarator.sizes.as_slice(), scopes, sites)?;
+    note_initialiser(&declarator.initial, scopes, sites)
 }
 
 /// Notes the type of a declaration.
@@ -131,10 +131,10 @@ fn note_type<'a>(type_name: TypeName<'a>, sites: &mut Vec<Site<'a>>) -> Result<(
 
 /// Notes the sites in declared names of this type.
 fn note_declarators<'a>(
+    declarators: &[Declarator<'a>],
     scopes: &Scopes<'_, 'a>,
     in_block: bool,
     type_name: TypeName<'a>,
-    declarators: &[Declarator<'a>],
     sites: &mut Vec<Site<'a>>,
 ) -> Result<(), AllocError>
     ensures { OnOk result (sites.new.items ≡ sites.old.items
@@ -142,16 +142,16 @@ fn note_declarators<'a>(
         (type_view type_name.entry)) (map declarator_view declarators.now)) }
 {
     for declarator in declarators {
-        note_declarator(scopes, in_block, type_name, declarator, sites)?;
+        note_declarator(declarator, scopes, in_block, type_name, sites)?;
     }
     Ok(())
 }
 
 /// Notes the sites in a declaration; its names are noted with their scope.
 pub fn note_declaration<'a>(
+    declared: &Declaration<'a>,
     scopes: &Scopes<'_, 'a>,
     in_block: bool,
-    declared: &Declaration<'a>,
     sites: &mut Vec<Site<'a>>,
 ) -> Result<(), AllocError>
     ensures { OnOk result (sites.new.items ≡ sites.old.items
@@ -159,5 +159,5 @@ pub fn note_declaration<'a>(
 {
     let names = declared.names.as_slice();
     note_type(declared.type_name, sites)?;
-    note_declarators(scopes, in_block, declared.type_name, names, sites)
+    note_declarators(names, scopes, in_block, declared.type_name, sites)
 }

@@ -45,8 +45,8 @@ fn push_names_by<'a>(definition: &Def<'a>, names: &mut Vec<Declared<'a>>) -> Res
 
 /// Adds the names that a definition declares, with their sizes.
 fn push_declared_by<'a>(
-    scopes: &Scopes<'_, 'a>,
     definition: &Def<'a>,
+    scopes: &Scopes<'_, 'a>,
     found: &mut Vec<Declared<'a>>,
 ) -> Result<(), AllocError>
     ensures { OnOk result (found.new.items ≡ found.old.items
@@ -54,7 +54,7 @@ fn push_declared_by<'a>(
         (definition_view definition.now)) }
 {
     match definition {
-        Def::Declaration(declared) => push_declared(scopes, declared, found),
+        Def::Declaration(declared) => push_declared(declared, scopes, found),
         Def::EventFlags(flags) => push_flags(flags.as_slice(), found),
         _ => Ok(()),
     }
@@ -74,8 +74,8 @@ fn names_of<'a>(alloc: Global, definitions: &[Def<'a>]) -> Result<Vec<Declared<'
 /// The names that some definitions declare, with their sizes.
 fn declared_of<'a>(
     alloc: Global,
-    scopes: &Scopes<'_, 'a>,
     definitions: &[Def<'a>],
+    scopes: &Scopes<'_, 'a>,
 ) -> Result<Vec<Declared<'a>>, AllocError>
     ensures { IfOk result (λ v. v.items
         ≡ flat_map (spec.declared_by (spec.is_hidden (scopes_of scopes.now)))
@@ -83,7 +83,7 @@ fn declared_of<'a>(
 {
     let mut found = Vec::new(alloc);
     for definition in definitions {
-        push_declared_by(scopes, definition, &mut found)?;
+        push_declared_by(definition, scopes, &mut found)?;
     }
     Ok(found)
 }
@@ -91,22 +91,22 @@ fn declared_of<'a>(
 /// What definitions declare within other scopes.
 pub fn definition_names<'a>(
     alloc: Global,
-    outer: &Scopes<'_, 'a>,
     definitions: &[Def<'a>],
+    outer: &Scopes<'_, 'a>,
 ) -> Result<Vec<Declared<'a>>, AllocError>
     ensures { IfOk result (λ v. v.items
         ≡ spec.scope_of (scopes_of outer.now) (map definition_view definitions.now)) }
 {
     let names = names_of(alloc, definitions)?;
     let names = Scope::of(alloc, names)?;
-    declared_of(alloc, &Scopes::Within(&names, outer), definitions)
+    declared_of(alloc, definitions, &Scopes::Within(&names, outer))
 }
 
 /// The scope of definitions within others; notes each declared name.
 pub fn definition_scope<'a>(
     alloc: Global,
-    outer: &Scopes<'_, 'a>,
     definitions: &[Def<'a>],
+    outer: &Scopes<'_, 'a>,
     sites: &mut Vec<Site<'a>>,
 ) -> Result<Scope<'a>, AllocError>
     ensures scope { IfOk result (λ scope. scope
@@ -115,6 +115,6 @@ pub fn definition_scope<'a>(
         ++ declares [] (spec.scope_of (scopes_of outer.now)
         (map definition_view definitions.now))) }
 {
-    let declared = definition_names(alloc, outer, definitions)?;
+    let declared = definition_names(alloc, definitions, outer)?;
     scope_with(alloc, declared, sites)
 }

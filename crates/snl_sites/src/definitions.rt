@@ -24,10 +24,10 @@ use std::alloc::{AllocError, Global};
 
 /// The site of an `assign`, `monitor`, `sync` or `syncQ`.
 fn defined_site<'a>(
+    place: &Place<'a>,
     sort: Sort,
     word: Token<'a>,
     scopes: &Scopes<'_, 'a>,
-    place: &Place<'a>,
     list: Option<usize>,
 ) -> Site<'a>
     ensures { result ≡ spec.at_defined sort word.entry (scopes_of scopes.now)
@@ -40,25 +40,25 @@ fn defined_site<'a>(
         name: place.name,
         meaning,
         has_subscript: place.subscript.is_some(),
-        is_wrong: is_wrong_part(scopes, meaning, &place.subscript, list),
-        part: part_of(scopes, meaning, &place.subscript, list),
+        is_wrong: is_wrong_part(&place.subscript, scopes, meaning, list),
+        part: part_of(&place.subscript, scopes, meaning, list),
     }
 }
 
 /// Notes an `assign`, `monitor`, `sync` or `syncQ`, and the sites in its subscript.
 fn note_defined<'a>(
+    place: &Place<'a>,
     sort: Sort,
     word: Token<'a>,
     scopes: &Scopes<'_, 'a>,
-    place: &Place<'a>,
     list: Option<usize>,
     sites: &mut Vec<Site<'a>>,
 ) -> Result<(), AllocError>
     ensures { OnOk result (sites.new.items ≡ sites.old.items
         ++ spec.defined sort word.entry (scopes_of scopes.now) (place_view place.now) list) }
 {
-    pushed(sites, defined_site(sort, word, scopes, place, list))?;
-    note_if_there(scopes, &place.subscript, sites)
+    pushed(sites, defined_site(place, sort, word, scopes, list))?;
+    note_if_there(&place.subscript, scopes, sites)
 }
 
 /// Notes the event flag of a `sync` or `syncQ`.
@@ -131,37 +131,37 @@ fn note_size<'a>(number: Option<Token<'a>>, sites: &mut Vec<Site<'a>>) -> Result
 
 /// Notes the sites in a `sync`.
 fn note_sync<'a>(
-    scopes: &Scopes<'_, 'a>,
     sync: &Sync<'a>,
+    scopes: &Scopes<'_, 'a>,
     sites: &mut Vec<Site<'a>>,
 ) -> Result<(), AllocError>
     ensures { OnOk result (sites.new.items ≡ sites.old.items
         ++ spec.in_sync (scopes_of scopes.now) (sync_view sync.now)) }
 {
     let place = &sync.place;
-    note_defined(Sort::Sync, place.name, scopes, place, None, sites)?;
+    note_defined(place, Sort::Sync, place.name, scopes, None, sites)?;
     note_flag(scopes, sync.flag, sites)
 }
 
 /// Notes the sites in a `syncQ`.
 fn note_queue<'a>(
-    scopes: &Scopes<'_, 'a>,
     queue: &SyncQueue<'a>,
+    scopes: &Scopes<'_, 'a>,
     sites: &mut Vec<Site<'a>>,
 ) -> Result<(), AllocError>
     ensures { OnOk result (sites.new.items ≡ sites.old.items
         ++ spec.in_queue (scopes_of scopes.now) (queue_view queue.now)) }
 {
     let sort = Sort::Queue(queue_size(queue.size));
-    note_defined(sort, queue.word, scopes, &queue.place, None, sites)?;
+    note_defined(&queue.place, sort, queue.word, scopes, None, sites)?;
     note_any_flag(scopes, queue.flag, sites)?;
     note_size(queue.size, sites)
 }
 
 /// Notes the sites in an `assign`.
 fn note_assign<'a>(
-    scopes: &Scopes<'_, 'a>,
     assign: &Assign<'a>,
+    scopes: &Scopes<'_, 'a>,
     sites: &mut Vec<Site<'a>>,
 ) -> Result<(), AllocError>
     ensures { OnOk result (sites.new.items ≡ sites.old.items
@@ -169,7 +169,7 @@ fn note_assign<'a>(
 {
     let list = listed_names(&assign.channels);
     let place = &assign.place;
-    note_defined(Sort::Assign, assign.word, scopes, place, list, sites)
+    note_defined(place, Sort::Assign, assign.word, scopes, list, sites)
 }
 
 /// Notes an option, of a state or elsewhere.
@@ -192,20 +192,20 @@ fn note_setting<'a>(
 /// Notes the sites in a definition or an option, of a state or elsewhere; declared names are noted
 /// with their scope.
 fn note_definition<'a>(
+    definition: &Def<'a>,
     in_state: bool,
     scopes: &Scopes<'_, 'a>,
-    definition: &Def<'a>,
     sites: &mut Vec<Site<'a>>,
 ) -> Result<(), AllocError>
     ensures { OnOk result (sites.new.items ≡ sites.old.items
         ++ spec.in_definition in_state (scopes_of scopes.now) (definition_view definition.now)) }
 {
     match definition {
-        Def::Declaration(declared) => note_declaration(scopes, false, declared, sites),
-        Def::Assign(assign) => note_assign(scopes, assign, sites),
-        Def::Monitor(place) => note_defined(Sort::Monitor, place.name, scopes, place, None, sites),
-        Def::Sync(sync) => note_sync(scopes, sync, sites),
-        Def::SyncQueue(queue) => note_queue(scopes, queue, sites),
+        Def::Declaration(declared) => note_declaration(declared, scopes, false, sites),
+        Def::Assign(assign) => note_assign(assign, scopes, sites),
+        Def::Monitor(place) => note_defined(place, Sort::Monitor, place.name, scopes, None, sites),
+        Def::Sync(sync) => note_sync(sync, scopes, sites),
+        Def::SyncQueue(queue) => note_queue(queue, scopes, sites),
         Def::EventFlags(_) => Ok(()),
         Def::Setting(setting) => note_setting(in_state, *setting, sites),
     }
@@ -213,9 +213,9 @@ fn note_definition<'a>(
 
 /// Notes the sites in each of some definitions.
 fn note_each<'a>(
+    definitions: &[Def<'a>],
     in_state: bool,
     scopes: &Scopes<'_, 'a>,
-    definitions: &[Def<'a>],
     sites: &mut Vec<Site<'a>>,
 ) -> Result<(), AllocError>
     ensures { OnOk result (sites.new.items ≡ sites.old.items
@@ -223,7 +223,7 @@ fn note_each<'a>(
         (map definition_view definitions.now)) }
 {
     for definition in definitions {
-        note_definition(in_state, scopes, definition, sites)?;
+        note_definition(definition, in_state, scopes, sites)?;
     }
     Ok(())
 }
@@ -232,9 +232,9 @@ fn note_each<'a>(
 /// within others.
 pub fn note_definitions<'a>(
     alloc: Global,
+    definitions: &[Def<'a>],
     in_state: bool,
     outer: &Scopes<'_, 'a>,
-    definitions: &[Def<'a>],
     sites: &mut Vec<Site<'a>>,
 ) -> Result<Scope<'a>, AllocError>
     ensures scope { IfOk result (λ scope. scope
@@ -243,7 +243,7 @@ pub fn note_definitions<'a>(
         ++ spec.in_definitions in_state (scopes_of outer.now)
         (map definition_view definitions.now)) }
 {
-    let scope = definition_scope(alloc, outer, definitions, sites)?;
-    note_each(in_state, &Scopes::Within(&scope, outer), definitions, sites)?;
+    let scope = definition_scope(alloc, definitions, outer, sites)?;
+    note_each(definitions, in_state, &Scopes::Within(&scope, outer), sites)?;
     Ok(scope)
 }

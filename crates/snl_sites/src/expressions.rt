@@ -16,10 +16,10 @@ use std::alloc::AllocError;
 /// Notes the sites in an expression that stands in a clause's condition or not, for a purpose.
 #[cycle(expression)]
 pub fn note_expression<'a>(
+    expression: &Expr<'a>,
     in_condition: bool,
     scopes: &Scopes<'_, 'a>,
     purpose: Purpose,
-    expression: &Expr<'a>,
     sites: &mut Vec<Site<'a>>,
 ) -> Result<(), AllocError>
     ensures { OnOk result (sites.new.items ≡ sites.old.items
@@ -30,33 +30,33 @@ pub fn note_expression<'a>(
         Expr::Constant(token) => note_constant(purpose, *token, sites),
         Expr::Named(name) => note_use(scopes, purpose, *name, false, sites),
         Expr::Parenthesized(part) => {
-            note_expression(in_condition, scopes, purpose.in_parentheses(), part, sites)
+            note_expression(part, in_condition, scopes, purpose.in_parentheses(), sites)
         }
         Expr::Element { name, index, .. } => {
             note_use(scopes, purpose, *name, true, sites)?;
-            note_expression(in_condition, scopes, inner, index, sites)
+            note_expression(index, in_condition, scopes, inner, sites)
         }
         Expr::Call(name, arguments) => {
             let arguments = arguments.as_slice();
-            let inside = note_call(purpose, in_condition, *name, arguments, sites)?;
-            note_arguments(in_condition, scopes, inside, arguments, sites)
+            let inside = note_call(arguments, purpose, in_condition, *name, sites)?;
+            note_arguments(arguments, in_condition, scopes, inside, sites)
         }
         Expr::Postfix(target, operator) => {
             note_change(purpose, target, *operator, sites)?;
-            note_expression(in_condition, scopes, purpose.target(), target, sites)
+            note_expression(target, in_condition, scopes, purpose.target(), sites)
         }
         Expr::Prefix(operator, operand) => {
-            let inside = note_prefix(purpose, *operator, operand, sites)?;
-            note_expression(in_condition, scopes, inside, operand, sites)
+            let inside = note_prefix(operand, purpose, *operator, sites)?;
+            note_expression(operand, in_condition, scopes, inside, sites)
         }
         Expr::Chain(first, terms) => {
-            note_expression(in_condition, scopes, inner, first, sites)?;
-            note_terms(in_condition, scopes, inner, terms.as_slice(), sites)
+            note_expression(first, in_condition, scopes, inner, sites)?;
+            note_terms(terms.as_slice(), in_condition, scopes, inner, sites)
         }
         Expr::Conditional { condition, yes, no } => {
-            note_expression(in_condition, scopes, inner, condition, sites)?;
-            note_expression(in_condition, scopes, inner, yes, sites)?;
-            note_expression(in_condition, scopes, inner, no, sites)
+            note_expression(condition, in_condition, scopes, inner, sites)?;
+            note_expression(yes, in_condition, scopes, inner, sites)?;
+            note_expression(no, in_condition, scopes, inner, sites)
         }
         Expr::Assignment {
             target,
@@ -64,8 +64,8 @@ pub fn note_expression<'a>(
             value,
         } => {
             note_change(purpose, target, *operator, sites)?;
-            note_expression(in_condition, scopes, purpose.target(), target, sites)?;
-            note_expression(in_condition, scopes, inner, value, sites)
+            note_expression(target, in_condition, scopes, purpose.target(), sites)?;
+            note_expression(value, in_condition, scopes, inner, sites)
         }
     }
 }
@@ -73,10 +73,10 @@ pub fn note_expression<'a>(
 /// Notes the sites in the operands of a chain but the first.
 #[cycle(expression)]
 fn note_terms<'a>(
+    terms: &[Term<'a>],
     in_condition: bool,
     scopes: &Scopes<'_, 'a>,
     purpose: Purpose,
-    terms: &[Term<'a>],
     sites: &mut Vec<Site<'a>>,
 ) -> Result<(), AllocError>
     ensures { OnOk result (sites.new.items ≡ sites.old.items
@@ -84,7 +84,7 @@ fn note_terms<'a>(
         (map pair_of terms.now))) }
 {
     for term in terms {
-        note_expression(in_condition, scopes, purpose, &term.operand, sites)?;
+        note_expression(&term.operand, in_condition, scopes, purpose, sites)?;
     }
     Ok(())
 }
@@ -92,10 +92,10 @@ fn note_terms<'a>(
 /// Notes the sites in the arguments of a call.
 #[cycle(expression)]
 fn note_arguments<'a>(
+    arguments: &[Argument<'a>],
     in_condition: bool,
     scopes: &Scopes<'_, 'a>,
     purpose: Purpose,
-    arguments: &[Argument<'a>],
     sites: &mut Vec<Site<'a>>,
 ) -> Result<(), AllocError>
     ensures { OnOk result (sites.new.items ≡ sites.old.items
@@ -105,7 +105,7 @@ fn note_arguments<'a>(
     let mut left = arguments.len();
     for argument in arguments {
         left -= 1;
-        note_argument(in_condition, scopes, purpose, argument, left, sites)?;
+        note_argument(argument, in_condition, scopes, purpose, left, sites)?;
     }
     Ok(())
 }
@@ -113,10 +113,10 @@ fn note_arguments<'a>(
 /// Notes the sites in an argument, with so many arguments after it.
 #[cycle(expression)]
 fn note_argument<'a>(
+    argument: &Argument<'a>,
     in_condition: bool,
     scopes: &Scopes<'_, 'a>,
     purpose: Purpose,
-    argument: &Argument<'a>,
     count: usize,
     sites: &mut Vec<Site<'a>>,
 ) -> Result<(), AllocError>
@@ -125,7 +125,7 @@ fn note_argument<'a>(
         (argument_of argument.now) count) }
 {
     match argument {
-        Argument::Value(value) => note_expression(in_condition, scopes, purpose, value, sites),
+        Argument::Value(value) => note_expression(value, in_condition, scopes, purpose, sites),
         Argument::Text(format) => note_format(purpose, *format, count, sites),
     }
 }

@@ -62,15 +62,15 @@ fn is_constant_in(range: Option<(i64, i64)>, constant: Constant) -> bool
 
 /// Whether all values are constants of a type.
 fn are_constants<'a>(
+    values: &[Box<Expr<'a>>],
     scopes: &Scopes<'_, 'a>,
     range: Option<(i64, i64)>,
-    values: &[Box<Expr<'a>>],
 ) -> bool
     ensures { result ≡ list_all (λ e. spec.is_constant_in range (constant_of (is_hidden
         (scopes_of scopes.now)) e)) (map boxed values.now) }
 {
     for value in values {
-        if !is_constant_in(range, constant_of(scopes, value)) {
+        if !is_constant_in(range, constant_of(value, scopes)) {
             return false;
         }
     }
@@ -79,11 +79,11 @@ fn are_constants<'a>(
 
 /// Whether a list is good for a variable of this size.
 fn is_good_list<'a>(
+    values: &[Box<Expr<'a>>],
     scopes: &Scopes<'_, 'a>,
     in_block: bool,
     range: Option<(i64, i64)>,
     size: Size,
-    values: &[Box<Expr<'a>>],
 ) -> bool
     ensures { result ≡ spec.is_good_list (is_hidden (scopes_of scopes.now)) in_block range size
         (map boxed values.now) }
@@ -91,16 +91,16 @@ fn is_good_list<'a>(
     if !size.is_array() || size.elements() < values.len() {
         return false;
     }
-    in_block || are_constants(scopes, range, values)
+    in_block || are_constants(values, scopes, range)
 }
 
 /// Whether a single value is good for a variable of this size.
 fn is_good_value<'a>(
+    value: &Expr<'a>,
     scopes: &Scopes<'_, 'a>,
     in_block: bool,
     range: Option<(i64, i64)>,
     size: Size,
-    value: &Expr<'a>,
 ) -> bool
     ensures { result ≡ spec.is_good_value (is_hidden (scopes_of scopes.now)) in_block range size
         (view value.now) }
@@ -108,17 +108,17 @@ fn is_good_value<'a>(
     if size.is_array() {
         return false;
     }
-    in_block || is_constant_in(range, constant_of(scopes, value))
+    in_block || is_constant_in(range, constant_of(value, scopes))
 }
 
 /// Whether an initialiser is good for a variable of this type and size, in a block or not.
 #[tactic(auto, using(crate::proofs::ListLaws::listed_of))]
 pub fn is_good_initialiser<'a>(
+    initial: &Option<Initialiser<'a>>,
     scopes: &Scopes<'_, 'a>,
     in_block: bool,
     type_name: TypeName<'a>,
     size: Size,
-    initial: &Option<Initialiser<'a>>,
 ) -> bool
     ensures { result ≡ spec.is_good_initialiser (is_hidden (scopes_of scopes.now)) in_block
         (type_view type_name.entry) size (shown initialiser_view initial.now) }
@@ -126,14 +126,14 @@ pub fn is_good_initialiser<'a>(
     match initial {
         None => true,
         Some(Initialiser::Single(value)) => {
-            is_good_value(scopes, in_block, range_of(type_name), size, value)
+            is_good_value(value, scopes, in_block, range_of(type_name), size)
         }
         Some(Initialiser::List(values)) => is_good_list(
+            values.each.as_slice(),
             scopes,
             in_block,
             range_of(type_name),
             size,
-            values.each.as_slice(),
         ),
     }
 }

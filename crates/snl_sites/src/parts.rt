@@ -43,11 +43,11 @@ fn element_by(size: usize, constant: Constant) -> Option<usize>
 }
 
 /// The element that a subscript names, if it is constant, does not fault and is in range.
-fn element_at<'a>(scopes: &Scopes<'_, 'a>, size: Size, subscript: &Expr<'a>) -> Option<usize>
+fn element_at<'a>(subscript: &Expr<'a>, scopes: &Scopes<'_, 'a>, size: Size) -> Option<usize>
     ensures { result ≡ spec.element_at (is_hidden (scopes_of scopes.now)) size
         (view subscript.now) }
 {
-    element_by(size.elements(), constant_of(scopes, subscript))
+    element_by(size.elements(), constant_of(subscript, scopes))
 }
 
 /// A part of one element, if there is one.
@@ -78,9 +78,9 @@ fn all_elements(variable: Pos, size: Size, list: Option<usize>) -> Part
 /// (SNL Reference, "Assign"). Those elements count that there are, also where the definition is
 /// wrong.
 pub fn part_of<'a>(
+    subscript: &Option<Box<Expr<'a>>>,
     scopes: &Scopes<'_, 'a>,
     meaning: Meaning,
-    subscript: &Option<Box<Expr<'a>>>,
     list: Option<usize>,
 ) -> Option<Part>
     ensures { result
@@ -89,7 +89,7 @@ pub fn part_of<'a>(
     match (meaning, subscript) {
         (Meaning::Variable(variable, size), None) => Some(all_elements(variable, size, list)),
         (Meaning::Variable(variable, size), Some(subscript)) => {
-            one_element(variable, element_at(scopes, size, subscript))
+            one_element(variable, element_at(subscript, scopes, size))
         }
         _ => None,
     }
@@ -97,16 +97,16 @@ pub fn part_of<'a>(
 
 /// Whether a subscript is one of a scalar, or names no element.
 fn is_wrong_subscript<'a>(
+    subscript: &Option<Box<Expr<'a>>>,
     scopes: &Scopes<'_, 'a>,
     size: Size,
-    subscript: &Option<Box<Expr<'a>>>,
 ) -> bool
     ensures { result
         ≡ spec.is_wrong_subscript (is_hidden (scopes_of scopes.now)) size
         (shown boxed subscript.now) }
 {
     match subscript {
-        Some(subscript) => !size.is_array() || element_at(scopes, size, subscript).is_none(),
+        Some(subscript) => !size.is_array() || element_at(subscript, scopes, size).is_none(),
         None => false,
     }
 }
@@ -123,9 +123,9 @@ fn is_wrong_list(size: Size, subscript: &Option<Box<Expr>>, list: Option<usize>)
 
 /// Whether the subscript or the list of a definition is wrong, where its name means a variable.
 pub fn is_wrong_part<'a>(
+    subscript: &Option<Box<Expr<'a>>>,
     scopes: &Scopes<'_, 'a>,
     meaning: Meaning,
-    subscript: &Option<Box<Expr<'a>>>,
     list: Option<usize>,
 ) -> bool
     ensures { result
@@ -134,7 +134,7 @@ pub fn is_wrong_part<'a>(
 {
     match meaning {
         Meaning::Variable(_, size) => {
-            is_wrong_subscript(scopes, size, subscript) || is_wrong_list(size, subscript, list)
+            is_wrong_subscript(subscript, scopes, size) || is_wrong_list(size, subscript, list)
         }
         _ => false,
     }

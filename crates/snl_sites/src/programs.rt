@@ -40,7 +40,7 @@ fn set_names<'a>(alloc: Global, sets: &[StateSet<'a>]) -> Result<Numbered<'a>, A
 }
 
 /// The site of a state of this number.
-fn state_site<'a>(names: &Numbered<'a>, number: usize, state: &State<'a>) -> Site<'a>
+fn state_site<'a>(state: &State<'a>, names: &Numbered<'a>, number: usize) -> Site<'a>
     ensures { result ≡ spec.at_state names.now number (state_view state.now) }
 {
     Site::State {
@@ -54,32 +54,32 @@ fn state_site<'a>(names: &Numbered<'a>, number: usize, state: &State<'a>) -> Sit
 /// Notes a state of this number, and the sites in it.
 fn note_numbered<'a>(
     alloc: Global,
+    state: &State<'a>,
     outer: &Scopes<'_, 'a>,
     names: &Numbered<'a>,
     number: usize,
-    state: &State<'a>,
     sites: &mut Vec<Site<'a>>,
 ) -> Result<(), AllocError>
     ensures { OnOk result (sites.new.items ≡ sites.old.items
         ++ spec.in_numbered (scopes_of outer.now) names.now number (state_view state.now)) }
 {
-    pushed(sites, state_site(names, number, state))?;
-    note_state(alloc, outer, names, state, sites)
+    pushed(sites, state_site(state, names, number))?;
+    note_state(alloc, state, outer, names, sites)
 }
 
 /// Notes the states of these names, and the sites in them.
 fn note_each_state<'a>(
     alloc: Global,
+    states: &[State<'a>],
     outer: &Scopes<'_, 'a>,
     names: &Numbered<'a>,
-    states: &[State<'a>],
     sites: &mut Vec<Site<'a>>,
 ) -> Result<(), AllocError>
     ensures { OnOk result (sites.new.items ≡ sites.old.items
         ++ spec.in_states (scopes_of outer.now) names.now 0 (map state_view states.now)) }
 {
     for (number, state) in states.iter().enumerate() {
-        note_numbered(alloc, outer, names, number, state, sites)?;
+        note_numbered(alloc, state, outer, names, number, sites)?;
     }
     Ok(())
 }
@@ -87,32 +87,32 @@ fn note_each_state<'a>(
 /// Notes the states of a state set, and the sites in them.
 fn note_states<'a>(
     alloc: Global,
-    outer: &Scopes<'_, 'a>,
     states: &[State<'a>],
+    outer: &Scopes<'_, 'a>,
     sites: &mut Vec<Site<'a>>,
 ) -> Result<(), AllocError>
     ensures { OnOk result (sites.new.items ≡ sites.old.items
         ++ spec.in_all_states (scopes_of outer.now) (map state_view states.now)) }
 {
     let names = state_names(alloc, states)?;
-    note_each_state(alloc, outer, &names, states, sites)
+    note_each_state(alloc, states, outer, &names, sites)
 }
 
 /// Notes the sites in a state set.
 fn note_state_set<'a>(
     alloc: Global,
-    outer: &Scopes<'_, 'a>,
     set: &StateSet<'a>,
+    outer: &Scopes<'_, 'a>,
     sites: &mut Vec<Site<'a>>,
 ) -> Result<(), AllocError>
     ensures { OnOk result (sites.new.items ≡ sites.old.items
         ++ spec.in_state_set (scopes_of outer.now) (state_set_view set.now)) }
 {
-    let scope = note_definitions(alloc, false, outer, set.definitions.as_slice(), sites)?;
+    let scope = note_definitions(alloc, set.definitions.as_slice(), false, outer, sites)?;
     note_states(
         alloc,
-        &Scopes::Within(&scope, &*outer),
         set.states.as_slice(),
+        &Scopes::Within(&scope, &*outer),
         sites,
     )
 }
@@ -120,10 +120,10 @@ fn note_state_set<'a>(
 /// Notes a state set of this number, and the sites in it.
 fn note_numbered_set<'a>(
     alloc: Global,
+    set: &StateSet<'a>,
     outer: &Scopes<'_, 'a>,
     names: &Numbered<'a>,
     number: usize,
-    set: &StateSet<'a>,
     sites: &mut Vec<Site<'a>>,
 ) -> Result<(), AllocError>
     ensures { OnOk result (sites.new.items ≡ sites.old.items
@@ -135,22 +135,22 @@ fn note_numbered_set<'a>(
         is_later: names.is_later(number, set.name),
     };
     pushed(sites, site)?;
-    note_state_set(alloc, outer, set, sites)
+    note_state_set(alloc, set, outer, sites)
 }
 
 /// Notes the state sets of these names, and the sites in them.
 fn note_each_set<'a>(
     alloc: Global,
+    sets: &[StateSet<'a>],
     outer: &Scopes<'_, 'a>,
     names: &Numbered<'a>,
-    sets: &[StateSet<'a>],
     sites: &mut Vec<Site<'a>>,
 ) -> Result<(), AllocError>
     ensures { OnOk result (sites.new.items ≡ sites.old.items
         ++ spec.in_state_sets (scopes_of outer.now) names.now 0 (map state_set_view sets.now)) }
 {
     for (number, set) in sets.iter().enumerate() {
-        note_numbered_set(alloc, outer, names, number, set, sites)?;
+        note_numbered_set(alloc, set, outer, names, number, sites)?;
     }
     Ok(())
 }
@@ -158,22 +158,22 @@ fn note_each_set<'a>(
 /// Notes the state sets of a program, and the sites in them.
 fn note_state_sets<'a>(
     alloc: Global,
-    outer: &Scopes<'_, 'a>,
     sets: &[StateSet<'a>],
+    outer: &Scopes<'_, 'a>,
     sites: &mut Vec<Site<'a>>,
 ) -> Result<(), AllocError>
     ensures { OnOk result (sites.new.items ≡ sites.old.items
         ++ spec.in_all_sets (scopes_of outer.now) (map state_set_view sets.now)) }
 {
     let names = set_names(alloc, sets)?;
-    note_each_set(alloc, outer, &names, sets, sites)
+    note_each_set(alloc, sets, outer, &names, sites)
 }
 
 /// Notes the sites in a block of a program, where no states can be named.
 fn note_program_block<'a>(
     alloc: Global,
-    scopes: &Scopes<'_, 'a>,
     block: &Option<Box<Block<'a>>>,
+    scopes: &Scopes<'_, 'a>,
     sites: &mut Vec<Site<'a>>,
 ) -> Result<(), AllocError>
     ensures { OnOk result (sites.new.items ≡ sites.old.items
@@ -181,25 +181,25 @@ fn note_program_block<'a>(
         (shown (held block_view) block.now)) }
 {
     let no_states = Numbered::empty(alloc);
-    note_plain_block(alloc, scopes, &no_states, block, sites)
+    note_plain_block(alloc, block, scopes, &no_states, sites)
 }
 
 /// Notes the sites in the blocks and the state sets of a program, within its own scope.
 fn note_parts<'a>(
     alloc: Global,
-    scopes: &Scopes<'_, 'a>,
     entry: &Option<Box<Block<'a>>>,
     sets: &[StateSet<'a>],
     exit: &Option<Box<Block<'a>>>,
+    scopes: &Scopes<'_, 'a>,
     sites: &mut Vec<Site<'a>>,
 ) -> Result<(), AllocError>
     ensures { OnOk result (sites.new.items ≡ sites.old.items
         ++ spec.in_parts (scopes_of scopes.now) (shown (held block_view) entry.now)
         (map state_set_view sets.now) (shown (held block_view) exit.now)) }
 {
-    note_program_block(alloc, scopes, entry, sites)?;
-    note_state_sets(alloc, scopes, sets, sites)?;
-    note_program_block(alloc, scopes, exit, sites)
+    note_program_block(alloc, entry, scopes, sites)?;
+    note_state_sets(alloc, sets, scopes, sites)?;
+    note_program_block(alloc, exit, scopes, sites)
 }
 
 /// Notes the sites in a program.
@@ -213,10 +213,10 @@ fn note_program<'a>(
 {
     let outside = Scopes::Outside;
     let definitions = program.definitions.as_slice();
-    let scope = note_definitions(alloc, false, &outside, definitions, sites)?;
+    let scope = note_definitions(alloc, definitions, false, &outside, sites)?;
     let sets = program.state_sets.as_slice();
     let scopes = Scopes::Within(&scope, &outside);
-    note_parts(alloc, &scopes, &program.entry, sets, &program.exit, sites)
+    note_parts(alloc, &program.entry, sets, &program.exit, &scopes, sites)
 }
 
 /// The sites of a program, in the order of the source, but that the declared names stand first in

@@ -36,21 +36,21 @@ pub fn push_names<'a>(
 }
 
 /// A declared name with its size.
-fn declared_for<'a>(scopes: &Scopes<'_, 'a>, declarator: &Declarator<'a>) -> Declared<'a>
+fn declared_for<'a>(declarator: &Declarator<'a>, scopes: &Scopes<'_, 'a>) -> Declared<'a>
     ensures { result
         ≡ spec.declared_name (spec.is_hidden (scopes_of scopes.now))
         (declarator_view declarator.now) }
 {
     Declared {
         name: declarator.name,
-        size: Some(size_of(scopes, declarator.sizes.as_slice())),
+        size: Some(size_of(declarator.sizes.as_slice(), scopes)),
     }
 }
 
 /// Adds the names of a declaration with their sizes.
 pub fn push_declared<'a>(
-    scopes: &Scopes<'_, 'a>,
     declared: &Declaration<'a>,
+    scopes: &Scopes<'_, 'a>,
     found: &mut Vec<Declared<'a>>,
 ) -> Result<(), AllocError>
     ensures { OnOk result (found.new.items ≡ found.old.items
@@ -58,7 +58,7 @@ pub fn push_declared<'a>(
         (declaration (declaration_view declared.now))) }
 {
     for declarator in &declared.names {
-        pushed(found, declared_for(scopes, declarator))?;
+        pushed(found, declared_for(declarator, scopes))?;
     }
     Ok(())
 }
@@ -81,8 +81,8 @@ fn names_of<'a>(
 /// The names of some declarations with their sizes.
 fn declared_of<'a>(
     alloc: Global,
-    scopes: &Scopes<'_, 'a>,
     declarations: &[Declaration<'a>],
+    scopes: &Scopes<'_, 'a>,
 ) -> Result<Vec<Declared<'a>>, AllocError>
     ensures { IfOk result (λ v. v.items
         ≡ flat_map (spec.declared_by (spec.is_hidden (scopes_of scopes.now)))
@@ -90,7 +90,7 @@ fn declared_of<'a>(
 {
     let mut found = Vec::new(alloc);
     for declared in declarations {
-        push_declared(scopes, declared, &mut found)?;
+        push_declared(declared, scopes, &mut found)?;
     }
     Ok(found)
 }
@@ -98,8 +98,8 @@ fn declared_of<'a>(
 /// What a block declares within other scopes.
 pub fn block_names<'a>(
     alloc: Global,
-    outer: &Scopes<'_, 'a>,
     declarations: &[Declaration<'a>],
+    outer: &Scopes<'_, 'a>,
 ) -> Result<Vec<Declared<'a>>, AllocError>
     ensures { IfOk result (λ v. v.items
         ≡ spec.scope_of (scopes_of outer.now) (map declaration
@@ -107,14 +107,14 @@ pub fn block_names<'a>(
 {
     let names = names_of(alloc, declarations)?;
     let names = Scope::of(alloc, names)?;
-    declared_of(alloc, &Scopes::Within(&names, outer), declarations)
+    declared_of(alloc, declarations, &Scopes::Within(&names, outer))
 }
 
 /// The scope of a block within others; notes each declared name.
 pub fn block_scope<'a>(
     alloc: Global,
-    outer: &Scopes<'_, 'a>,
     declarations: &[Declaration<'a>],
+    outer: &Scopes<'_, 'a>,
     sites: &mut Vec<Site<'a>>,
 ) -> Result<Scope<'a>, AllocError>
     ensures scope { IfOk result (λ scope. scope
@@ -125,6 +125,6 @@ pub fn block_scope<'a>(
         (spec.scope_of (scopes_of outer.now) (map declaration
         (map declaration_view declarations.now)))) }
 {
-    let declared = block_names(alloc, outer, declarations)?;
+    let declared = block_names(alloc, declarations, outer)?;
     scope_with(alloc, declared, sites)
 }

@@ -18,15 +18,15 @@ use std::alloc::{AllocError, Global};
 /// Adds the variables of the blocks of clauses.
 fn push_clauses<'p, 'a>(
     alloc: Global,
-    scopes: &Scopes<'_, 'a>,
     clauses: &'p [Clause<'a>],
+    scopes: &Scopes<'_, 'a>,
     kept: &mut Vec<Held<'p, 'a>>,
 ) -> Result<(), AllocError>
     ensures { OnOk result (map held_view kept.new.items ≡ map held_view kept.old.items
         ++ flat_map (spec.by_clause (scopes_of scopes.now)) (map clause_view clauses.now)) }
 {
     for clause in clauses {
-        push_block(alloc, scopes, &clause.block, kept)?;
+        push_block(alloc, &clause.block, scopes, kept)?;
     }
     Ok(())
 }
@@ -34,49 +34,49 @@ fn push_clauses<'p, 'a>(
 /// Adds the variables of the blocks of a state, within its own scope.
 fn push_blocks<'p, 'a>(
     alloc: Global,
-    scopes: &Scopes<'_, 'a>,
     entry: &'p Option<Box<Block<'a>>>,
     clauses: &'p [Clause<'a>],
     exit: &'p Option<Box<Block<'a>>>,
+    scopes: &Scopes<'_, 'a>,
     kept: &mut Vec<Held<'p, 'a>>,
 ) -> Result<(), AllocError>
     ensures { OnOk result (map held_view kept.new.items ≡ map held_view kept.old.items
         ++ spec.by_blocks (scopes_of scopes.now) (shown (held block_view) entry.now)
         (map clause_view clauses.now) (shown (held block_view) exit.now)) }
 {
-    push_if_there(alloc, scopes, entry, kept)?;
-    push_clauses(alloc, scopes, clauses, kept)?;
-    push_if_there(alloc, scopes, exit, kept)
+    push_if_there(alloc, entry, scopes, kept)?;
+    push_clauses(alloc, clauses, scopes, kept)?;
+    push_if_there(alloc, exit, scopes, kept)
 }
 
 /// Adds the variables of a state.
 fn push_state<'p, 'a>(
     alloc: Global,
-    outer: &Scopes<'_, 'a>,
     state: &'p State<'a>,
+    outer: &Scopes<'_, 'a>,
     kept: &mut Vec<Held<'p, 'a>>,
 ) -> Result<(), AllocError>
     ensures { OnOk result (map held_view kept.new.items ≡ map held_view kept.old.items
         ++ spec.by_state (scopes_of outer.now) (state_view state.now)) }
 {
-    let scope = push_definitions(alloc, outer, state.definitions.as_slice(), kept)?;
+    let scope = push_definitions(alloc, state.definitions.as_slice(), outer, kept)?;
     let clauses = state.clauses.as_slice();
     let scopes = Scopes::Within(&scope, &*outer);
-    push_blocks(alloc, &scopes, &state.entry, clauses, &state.exit, kept)
+    push_blocks(alloc, &state.entry, clauses, &state.exit, &scopes, kept)
 }
 
 /// Adds the variables of states.
 fn push_states<'p, 'a>(
     alloc: Global,
-    outer: &Scopes<'_, 'a>,
     states: &'p [State<'a>],
+    outer: &Scopes<'_, 'a>,
     kept: &mut Vec<Held<'p, 'a>>,
 ) -> Result<(), AllocError>
     ensures { OnOk result (map held_view kept.new.items ≡ map held_view kept.old.items
         ++ flat_map (spec.by_state (scopes_of outer.now)) (map state_view states.now)) }
 {
     for state in states {
-        push_state(alloc, outer, state, kept)?;
+        push_state(alloc, state, outer, kept)?;
     }
     Ok(())
 }
@@ -84,18 +84,18 @@ fn push_states<'p, 'a>(
 /// Adds the variables of a state set, its states and its blocks.
 fn push_set<'p, 'a>(
     alloc: Global,
-    outer: &Scopes<'_, 'a>,
     set: &'p StateSet<'a>,
+    outer: &Scopes<'_, 'a>,
     kept: &mut Vec<Held<'p, 'a>>,
 ) -> Result<(), AllocError>
     ensures { OnOk result (map held_view kept.new.items ≡ map held_view kept.old.items
         ++ spec.by_state_set (scopes_of outer.now) (state_set_view set.now)) }
 {
-    let scope = push_definitions(alloc, outer, set.definitions.as_slice(), kept)?;
+    let scope = push_definitions(alloc, set.definitions.as_slice(), outer, kept)?;
     push_states(
         alloc,
-        &Scopes::Within(&scope, &*outer),
         set.states.as_slice(),
+        &Scopes::Within(&scope, &*outer),
         kept,
     )
 }
@@ -103,8 +103,8 @@ fn push_set<'p, 'a>(
 /// Adds the variables of the state set of a number, if there is one.
 fn push_numbered<'p, 'a>(
     alloc: Global,
-    outer: &Scopes<'_, 'a>,
     sets: &'p [StateSet<'a>],
+    outer: &Scopes<'_, 'a>,
     set: usize,
     kept: &mut Vec<Held<'p, 'a>>,
 ) -> Result<(), AllocError>
@@ -114,22 +114,22 @@ fn push_numbered<'p, 'a>(
     if sets.len() <= set {
         return Ok(());
     }
-    push_set(alloc, outer, &sets[set], kept)
+    push_set(alloc, &sets[set], outer, kept)
 }
 
 /// Adds the variables of a block of the program, if it is there, for the first state set alone.
 fn push_for_first<'p, 'a>(
     alloc: Global,
+    block: &'p Option<Box<Block<'a>>>,
     scopes: &Scopes<'_, 'a>,
     set: usize,
-    block: &'p Option<Box<Block<'a>>>,
     kept: &mut Vec<Held<'p, 'a>>,
 ) -> Result<(), AllocError>
     ensures { OnOk result (map held_view kept.new.items ≡ map held_view kept.old.items
         ++ spec.for_first set (scopes_of scopes.now) (shown (held block_view) block.now)) }
 {
     if set == 0 {
-        push_if_there(alloc, scopes, block, kept)?;
+        push_if_there(alloc, block, scopes, kept)?;
     }
     Ok(())
 }
@@ -139,20 +139,20 @@ fn push_for_first<'p, 'a>(
 /// program's scope; a number past the last state set adds nothing. The only error is that memory ends.
 pub fn push_parts<'p, 'a>(
     alloc: Global,
-    scopes: &Scopes<'_, 'a>,
-    set: usize,
     entry: &'p Option<Box<Block<'a>>>,
     sets: &'p [StateSet<'a>],
     exit: &'p Option<Box<Block<'a>>>,
+    scopes: &Scopes<'_, 'a>,
+    set: usize,
     kept: &mut Vec<Held<'p, 'a>>,
 ) -> Result<(), AllocError>
     ensures { OnOk result (map held_view kept.new.items ≡ map held_view kept.old.items
         ++ spec.by_parts (scopes_of scopes.now) set (shown (held block_view) entry.now)
         (map state_set_view sets.now) (shown (held block_view) exit.now)) }
 {
-    push_for_first(alloc, scopes, set, entry, kept)?;
-    push_numbered(alloc, scopes, sets, set, kept)?;
-    push_for_first(alloc, scopes, set, exit, kept)
+    push_for_first(alloc, entry, scopes, set, kept)?;
+    push_numbered(alloc, sets, scopes, set, kept)?;
+    push_for_first(alloc, exit, scopes, set, kept)
 }
 
 /// Adds the variables of a state set of a program.
@@ -166,16 +166,16 @@ fn push_variables<'p, 'a>(
         ++ spec.variables_of (program_view program.now) set) }
 {
     let outside = Scopes::Outside;
-    let scope = push_definitions(alloc, &outside, program.definitions.as_slice(), kept)?;
+    let scope = push_definitions(alloc, program.definitions.as_slice(), &outside, kept)?;
     let sets = program.state_sets.as_slice();
     let scopes = Scopes::Within(&scope, &outside);
     push_parts(
         alloc,
-        &scopes,
-        set,
         &program.entry,
         sets,
         &program.exit,
+        &scopes,
+        set,
         kept,
     )
 }

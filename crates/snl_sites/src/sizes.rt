@@ -30,12 +30,12 @@ fn size_by(constant: Constant) -> Size
 }
 
 /// What the sizes after a declared name say.
-pub fn size_of<'a>(scopes: &Scopes<'_, 'a>, sizes: &[Box<Expr<'a>>]) -> Size
+pub fn size_of<'a>(sizes: &[Box<Expr<'a>>], scopes: &Scopes<'_, 'a>) -> Size
     ensures { result ≡ spec.size_of (spec.is_hidden (scopes_of scopes.now)) (map boxed sizes.now) }
 {
     match sizes {
         [] => Size::Scalar,
-        [size] => size_by(constant_of(scopes, size)),
+        [size] => size_by(constant_of(size, scopes)),
         _ => Size::Wrong,
     }
 }

@@ -23,22 +23,22 @@ use std::alloc::{AllocError, Global};
 
 /// Notes the sites between the parentheses of a `for`.
 fn note_header<'a>(
-    scopes: &Scopes<'_, 'a>,
     header: &Header<'a>,
+    scopes: &Scopes<'_, 'a>,
     sites: &mut Vec<Site<'a>>,
 ) -> Result<(), AllocError>
     ensures { OnOk result (sites.new.items ≡ sites.old.items
         ++ spec.in_header (scopes_of scopes.now) (header_view header.now)) }
 {
-    note_if_there(scopes, &header.start, sites)?;
-    note_if_there(scopes, &header.condition, sites)?;
-    note_if_there(scopes, &header.step, sites)
+    note_if_there(&header.start, scopes, sites)?;
+    note_if_there(&header.condition, scopes, sites)?;
+    note_if_there(&header.step, scopes, sites)
 }
 
 /// Notes the sites in the declarations of a block.
 fn note_declarations<'a>(
-    scopes: &Scopes<'_, 'a>,
     declarations: &[Declaration<'a>],
+    scopes: &Scopes<'_, 'a>,
     sites: &mut Vec<Site<'a>>,
 ) -> Result<(), AllocError>
     ensures { OnOk result (sites.new.items ≡ sites.old.items
@@ -46,7 +46,7 @@ fn note_declarations<'a>(
         (map declaration_view declarations.now)) }
 {
     for declared in declarations {
-        note_declaration(scopes, true, declared, sites)?;
+        note_declaration(declared, scopes, true, sites)?;
     }
     Ok(())
 }
@@ -105,11 +105,11 @@ pub fn note_target<'a>(
 #[cycle(statement)]
 fn note_statement<'a>(
     alloc: Global,
+    statement: &Stmt<'a>,
     in_clause: bool,
     states: &Numbered<'a>,
     scopes: &Scopes<'_, 'a>,
     in_loop: bool,
-    statement: &Stmt<'a>,
     sites: &mut Vec<Site<'a>>,
 ) -> Result<(), AllocError>
     ensures { OnOk result (sites.new.items ≡ sites.old.items
@@ -118,34 +118,34 @@ fn note_statement<'a>(
 {
     match statement {
         Stmt::Empty => Ok(()),
-        Stmt::Block(block) => note_block(alloc, in_clause, states, scopes, in_loop, block, sites),
-        Stmt::Expression(value) => note_value(scopes, value, sites),
+        Stmt::Block(block) => note_block(alloc, block, in_clause, states, scopes, in_loop, sites),
+        Stmt::Expression(value) => note_value(value, scopes, sites),
         Stmt::Break(word) | Stmt::Continue(word) => note_leave(*word, in_loop, sites),
         Stmt::State { word, name } => note_move(in_clause, states, *word, *name, sites),
         Stmt::If { condition, first } => {
-            note_value(scopes, condition, sites)?;
-            note_statement(alloc, in_clause, states, scopes, in_loop, first, sites)
+            note_value(condition, scopes, sites)?;
+            note_statement(alloc, first, in_clause, states, scopes, in_loop, sites)
         }
         Stmt::IfElse {
             condition,
             first,
             second,
         } => {
-            note_value(scopes, condition, sites)?;
-            note_statement(alloc, in_clause, states, scopes, in_loop, first, sites)?;
-            note_statement(alloc, in_clause, states, scopes, in_loop, second, sites)
+            note_value(condition, scopes, sites)?;
+            note_statement(alloc, first, in_clause, states, scopes, in_loop, sites)?;
+            note_statement(alloc, second, in_clause, states, scopes, in_loop, sites)
         }
         Stmt::While {
             condition,
             body,
             ..
         } => {
-            note_value(scopes, condition, sites)?;
-            note_statement(alloc, in_clause, states, scopes, true, body, sites)
+            note_value(condition, scopes, sites)?;
+            note_statement(alloc, body, in_clause, states, scopes, true, sites)
         }
         Stmt::For { header, body, .. } => {
-            note_header(scopes, header, sites)?;
-            note_statement(alloc, in_clause, states, scopes, true, body, sites)
+            note_header(header, scopes, sites)?;
+            note_statement(alloc, body, in_clause, states, scopes, true, sites)
         }
     }
 }
@@ -154,11 +154,11 @@ fn note_statement<'a>(
 #[cycle(statement)]
 fn note_statements<'a>(
     alloc: Global,
+    statements: &[Stmt<'a>],
     in_clause: bool,
     states: &Numbered<'a>,
     scopes: &Scopes<'_, 'a>,
     in_loop: bool,
-    statements: &[Stmt<'a>],
     sites: &mut Vec<Site<'a>>,
 ) -> Result<(), AllocError>
     ensures { OnOk result (sites.new.items ≡ sites.old.items
@@ -166,7 +166,7 @@ fn note_statements<'a>(
         (map statement_view statements.now))) }
 {
     for statement in statements {
-        note_statement(alloc, in_clause, states, scopes, in_loop, statement, sites)?;
+        note_statement(alloc, statement, in_clause, states, scopes, in_loop, sites)?;
     }
     Ok(())
 }
@@ -175,27 +175,27 @@ fn note_statements<'a>(
 #[cycle(statement)]
 pub fn note_block<'a>(
     alloc: Global,
+    block: &Block<'a>,
     in_clause: bool,
     states: &Numbered<'a>,
     outer: &Scopes<'_, 'a>,
     in_loop: bool,
-    block: &Block<'a>,
     sites: &mut Vec<Site<'a>>,
 ) -> Result<(), AllocError>
     ensures { OnOk result (sites.new.items ≡ sites.old.items
         ++ spec.in_block in_clause states.now (scopes_of outer.now) in_loop
         (block_view block.now)) }
 {
-    let scope = block_scope(alloc, outer, block.declarations.as_slice(), sites)?;
+    let scope = block_scope(alloc, block.declarations.as_slice(), outer, sites)?;
     let scopes = Scopes::Within(&scope, &*outer);
-    note_declarations(&scopes, block.declarations.as_slice(), sites)?;
+    note_declarations(block.declarations.as_slice(), &scopes, sites)?;
     note_statements(
         alloc,
+        block.statements.as_slice(),
         in_clause,
         states,
         &scopes,
         in_loop,
-        block.statements.as_slice(),
         sites,
     )
 }

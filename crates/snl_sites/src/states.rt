@@ -24,9 +24,9 @@ use std::alloc::{AllocError, Global};
 /// Notes the sites in a block outside of clauses, if it is there.
 pub fn note_plain_block<'a>(
     alloc: Global,
+    block: &Option<Box<Block<'a>>>,
     scopes: &Scopes<'_, 'a>,
     states: &Numbered<'a>,
-    block: &Option<Box<Block<'a>>>,
     sites: &mut Vec<Site<'a>>,
 ) -> Result<(), AllocError>
     ensures { OnOk result (sites.new.items ≡ sites.old.items
@@ -34,15 +34,15 @@ pub fn note_plain_block<'a>(
         (shown (held block_view) block.now)) }
 {
     if let Some(block) = block {
-        note_block(alloc, false, states, scopes, false, block, sites)?;
+        note_block(alloc, block, false, states, scopes, false, sites)?;
     }
     Ok(())
 }
 
 /// Notes the sites in the condition of a clause.
 fn note_condition<'a>(
-    scopes: &Scopes<'_, 'a>,
     condition: &Option<Box<Expr<'a>>>,
+    scopes: &Scopes<'_, 'a>,
     sites: &mut Vec<Site<'a>>,
 ) -> Result<(), AllocError>
     ensures { OnOk result (sites.new.items ≡ sites.old.items
@@ -50,7 +50,7 @@ fn note_condition<'a>(
         (shown boxed condition.now)) }
 {
     if let Some(condition) = condition {
-        note_expression(true, scopes, Purpose::Read, condition, sites)?;
+        note_expression(condition, true, scopes, Purpose::Read, sites)?;
     }
     Ok(())
 }
@@ -71,11 +71,11 @@ fn note_end<'a>(
 }
 
 /// Whether a clause has no condition, or a constant one that does not fault and is not 0.
-fn is_always_true<'a>(scopes: &Scopes<'_, 'a>, clause: &Clause<'a>) -> bool
+fn is_always_true<'a>(clause: &Clause<'a>, scopes: &Scopes<'_, 'a>) -> bool
     ensures { result ≡ spec.is_always_true (scopes_of scopes.now) (clause_view clause.now) }
 {
     match &clause.condition {
-        Some(condition) => match constant_of(scopes, condition) {
+        Some(condition) => match constant_of(condition, scopes) {
             Constant::Worth(number) => number != 0,
             _ => false,
         },
@@ -86,10 +86,10 @@ fn is_always_true<'a>(scopes: &Scopes<'_, 'a>, clause: &Clause<'a>) -> bool
 /// Notes the sites in a clause, and whether one before it is always true.
 fn note_clause<'a>(
     alloc: Global,
+    clause: &Clause<'a>,
     scopes: &Scopes<'_, 'a>,
     states: &Numbered<'a>,
     is_blocked: bool,
-    clause: &Clause<'a>,
     sites: &mut Vec<Site<'a>>,
 ) -> Result<(), AllocError>
     ensures { OnOk result (sites.new.items ≡ sites.old.items
@@ -97,17 +97,17 @@ fn note_clause<'a>(
 {
     let word = clause.word;
     pushed(sites, Site::Clause { word, is_blocked })?;
-    note_condition(scopes, &clause.condition, sites)?;
-    note_block(alloc, true, states, scopes, false, &clause.block, sites)?;
+    note_condition(&clause.condition, scopes, sites)?;
+    note_block(alloc, &clause.block, true, states, scopes, false, sites)?;
     note_end(states, clause.target, sites)
 }
 
 /// Notes the sites in the clauses of a state.
 fn note_clauses<'a>(
     alloc: Global,
+    clauses: &[Clause<'a>],
     scopes: &Scopes<'_, 'a>,
     states: &Numbered<'a>,
-    clauses: &[Clause<'a>],
     sites: &mut Vec<Site<'a>>,
 ) -> Result<(), AllocError>
     ensures { OnOk result (sites.new.items ≡ sites.old.items
@@ -115,8 +115,8 @@ fn note_clauses<'a>(
 {
     let mut is_blocked = false;
     for clause in clauses {
-        note_clause(alloc, scopes, states, is_blocked, clause, sites)?;
-        is_blocked |= is_always_true(scopes, clause);
+        note_clause(alloc, clause, scopes, states, is_blocked, sites)?;
+        is_blocked |= is_always_true(clause, scopes);
     }
     Ok(())
 }
@@ -124,43 +124,43 @@ fn note_clauses<'a>(
 /// Notes the sites in the blocks and the clauses of a state, within its own scope.
 fn note_blocks<'a>(
     alloc: Global,
-    scopes: &Scopes<'_, 'a>,
-    states: &Numbered<'a>,
     entry: &Option<Box<Block<'a>>>,
     clauses: &[Clause<'a>],
     exit: &Option<Box<Block<'a>>>,
+    scopes: &Scopes<'_, 'a>,
+    states: &Numbered<'a>,
     sites: &mut Vec<Site<'a>>,
 ) -> Result<(), AllocError>
     ensures { OnOk result (sites.new.items ≡ sites.old.items
         ++ spec.in_blocks (scopes_of scopes.now) states.now (shown (held block_view) entry.now)
         (map clause_view clauses.now) (shown (held block_view) exit.now)) }
 {
-    note_plain_block(alloc, scopes, states, entry, sites)?;
-    note_clauses(alloc, scopes, states, clauses, sites)?;
-    note_plain_block(alloc, scopes, states, exit, sites)
+    note_plain_block(alloc, entry, scopes, states, sites)?;
+    note_clauses(alloc, clauses, scopes, states, sites)?;
+    note_plain_block(alloc, exit, scopes, states, sites)
 }
 
 /// Notes the sites in a state of a state set whose states have these names.
 pub fn note_state<'a>(
     alloc: Global,
+    state: &State<'a>,
     outer: &Scopes<'_, 'a>,
     states: &Numbered<'a>,
-    state: &State<'a>,
     sites: &mut Vec<Site<'a>>,
 ) -> Result<(), AllocError>
     ensures { OnOk result (sites.new.items ≡ sites.old.items
         ++ spec.in_state (scopes_of outer.now) states.now (state_view state.now)) }
 {
-    let scope = note_definitions(alloc, true, outer, state.definitions.as_slice(), sites)?;
+    let scope = note_definitions(alloc, state.definitions.as_slice(), true, outer, sites)?;
     let clauses = state.clauses.as_slice();
     let scopes = Scopes::Within(&scope, &*outer);
     note_blocks(
         alloc,
-        &scopes,
-        states,
         &state.entry,
         clauses,
         &state.exit,
+        &scopes,
+        states,
         sites,
     )
 }

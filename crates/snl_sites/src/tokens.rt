@@ -77,9 +77,9 @@ pub fn note_change<'a>(
 
 /// Notes a prefix operator, if it is `++` or `--`; gives what its operand is for.
 pub fn note_prefix<'a>(
+    operand: &Expr,
     purpose: Purpose,
     operator: Token<'a>,
-    operand: &Expr,
     sites: &mut Vec<Site<'a>>,
 ) -> Result<Purpose, AllocError>
     ensures purpose { IfOk result (λ inside. inside
@@ -97,10 +97,10 @@ pub fn note_prefix<'a>(
 
 /// Notes a call; gives what its arguments are for.
 pub fn note_call<'a>(
+    arguments: &[Argument<'a>],
     purpose: Purpose,
     in_condition: bool,
     name: Token<'a>,
-    arguments: &[Argument<'a>],
     sites: &mut Vec<Site<'a>>,
 ) -> Result<Purpose, AllocError>
     ensures purpose { IfOk result (λ inside. inside

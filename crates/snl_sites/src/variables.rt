@@ -35,9 +35,9 @@ pub struct Held<'p, 'a> {
 
 /// The variable of a declared name.
 fn held_for<'p, 'a>(
+    declarator: &'p Declarator<'a>,
     scopes: &Scopes<'_, 'a>,
     type_name: TypeName<'a>,
-    declarator: &'p Declarator<'a>,
 ) -> Held<'p, 'a>
     ensures { held_view result
         ≡ spec.held_for (scopes_of scopes.now) (type_view type_name.entry)
@@ -46,45 +46,45 @@ fn held_for<'p, 'a>(
     Held {
         name: declarator.name,
         range: range_of(type_name).unwrap_or((i64::MIN, i64::MAX)),
-        size: size_of(scopes, declarator.sizes.as_slice()),
+        size: size_of(declarator.sizes.as_slice(), scopes),
         initial: &declarator.initial,
     }
 }
 
 /// Adds the variables of a declaration.
 pub fn push_held<'p, 'a>(
-    scopes: &Scopes<'_, 'a>,
     declared: &'p Declaration<'a>,
+    scopes: &Scopes<'_, 'a>,
     kept: &mut Vec<Held<'p, 'a>>,
 ) -> Result<(), AllocError>
     ensures { OnOk result (map held_view kept.new.items ≡ map held_view kept.old.items
         ++ spec.by_declaration (scopes_of scopes.now) (declaration_view declared.now)) }
 {
     for declarator in &declared.names {
-        pushed(kept, held_for(scopes, declared.type_name, declarator))?;
+        pushed(kept, held_for(declarator, scopes, declared.type_name))?;
     }
     Ok(())
 }
 
 /// Adds the variables of a definition.
 fn push_definition<'p, 'a>(
-    scopes: &Scopes<'_, 'a>,
     definition: &'p Def<'a>,
+    scopes: &Scopes<'_, 'a>,
     kept: &mut Vec<Held<'p, 'a>>,
 ) -> Result<(), AllocError>
     ensures { OnOk result (map held_view kept.new.items ≡ map held_view kept.old.items
         ++ spec.by_definition (scopes_of scopes.now) (definition_view definition.now)) }
 {
     match definition {
-        Def::Declaration(declared) => push_held(scopes, declared, kept),
+        Def::Declaration(declared) => push_held(declared, scopes, kept),
         _ => Ok(()),
     }
 }
 
 /// Adds the variables of each of some definitions.
 fn push_each<'p, 'a>(
-    scopes: &Scopes<'_, 'a>,
     definitions: &'p [Def<'a>],
+    scopes: &Scopes<'_, 'a>,
     kept: &mut Vec<Held<'p, 'a>>,
 ) -> Result<(), AllocError>
     ensures { OnOk result (map held_view kept.new.items ≡ map held_view kept.old.items
@@ -92,7 +92,7 @@ fn push_each<'p, 'a>(
         (map definition_view definitions.now)) }
 {
     for definition in definitions {
-        push_definition(scopes, definition, kept)?;
+        push_definition(definition, scopes, kept)?;
     }
     Ok(())
 }
@@ -101,8 +101,8 @@ fn push_each<'p, 'a>(
 /// others. The only error is that memory ends.
 pub fn push_definitions<'p, 'a>(
     alloc: Global,
-    outer: &Scopes<'_, 'a>,
     definitions: &'p [Def<'a>],
+    outer: &Scopes<'_, 'a>,
     kept: &mut Vec<Held<'p, 'a>>,
 ) -> Result<Scope<'a>, AllocError>
     ensures scope { IfOk result (λ scope. scope
@@ -110,8 +110,8 @@ pub fn push_definitions<'p, 'a>(
     ensures kept { OnOk result (map held_view kept.new.items ≡ map held_view kept.old.items
         ++ spec.by_definitions (scopes_of outer.now) (map definition_view definitions.now)) }
 {
-    let names = definition_names(alloc, outer, definitions)?;
+    let names = definition_names(alloc, definitions, outer)?;
     let scope = Scope::of(alloc, names)?;
-    push_each(&Scopes::Within(&scope, outer), definitions, kept)?;
+    push_each(definitions, &Scopes::Within(&scope, outer), kept)?;
     Ok(scope)
 }
