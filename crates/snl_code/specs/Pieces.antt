@@ -1,0 +1,64 @@
+-- The pieces of a program, and what it means that code is the code of a program.
+use Rattle.std.specs.Prelude.{◌≡◌, ◌≤◌, ℕ, List, map, Option, None, Some, slice_get, option_map, option_and_then}
+use Rattle.std.specs.List.{flat_map}
+use Rattle.snl_syntax.specs.Expressions.{ExprTree}
+use Rattle.snl_syntax.specs.Programs.{ClauseTree, StateTree, ProgramTree}
+use Rattle.snl_syntax.specs.Statements.{BlockTree}
+use Rattle.snl_sites.specs.Programs.{sites}
+use Rattle.snl_pieces.specs.declared.instrs.Instr.{Instr}
+use Rattle.snl_pieces.specs.BlockCode.{block_depth}
+use Rattle.snl_pieces.specs.ExpressionCode.{expression_depth}
+use Rattle.snl_pieces.specs.Names.{here_in, format_at}
+use Rattle.snl_pieces.specs.Right.{IsConditionAt, IsBlockAt}
+use Rattle.snl_code.specs.declared.code.Code.{Code}
+use Rattle.snl_code.specs.declared.starts.Piece.{Piece}
+use Rattle.snl_code.specs.declared.starts.Piece.TheVariants.{ProgramEntry, ProgramExit, Entry, Exit, Condition, Block}
+use Rattle.snl_code.specs.Starts.{table_of, start_in}
+
+-- ---- the pieces of a program
+
+-- What a piece is: a condition or a block, on the copy of a state set.
+pub data PieceTree : Type 0 where
+  Test : (set : ℕ) (condition : ExprTree) → PieceTree
+  Action : (set : ℕ) (block : BlockTree) → PieceTree
+
+-- A state by its number, in a state set by its number.
+abbrev pub state_at : ProgramTree → ℕ → ℕ → Option StateTree
+state_at p set state = option_and_then (λ g. slice_get g.states state) (slice_get p.state_sets set)
+
+-- A clause by its number, in a state.
+abbrev pub clause_at : ProgramTree → ℕ → ℕ → ℕ → Option ClauseTree
+clause_at p set state k = option_and_then (λ s. slice_get s.clauses k) (state_at p set state)
+
+-- The piece of a name; none where the program has no such piece. The program's own two blocks run on the copy of the
+-- first state set.
+abbrev pub piece_of : ProgramTree → Piece → Option PieceTree
+piece_of p ProgramEntry = option_map (Action 0) p.entry
+piece_of p ProgramExit = option_map (Action 0) p.exit
+piece_of p (Entry set state) = option_and_then (λ s. option_map (Action set) s.entry) (state_at p set state)
+piece_of p (Exit set state) = option_and_then (λ s. option_map (Action set) s.exit) (state_at p set state)
+piece_of p (Condition set state k) = option_and_then (λ c. option_map (Test set) c.condition) (clause_at p set state k)
+piece_of p (Block set state k) = option_map (λ c. Action set c.block) (clause_at p set state k)
+
+-- ---- the code of a program
+
+-- The code at a place is right for a piece, with room for as many operands as the piece needs at once.
+abbrev pub IsPieceAt : ProgramTree → List Instr → ℕ → PieceTree → Type 0
+IsPieceAt p code start (Test set e) = (room : ℕ) → expression_depth e ≤ room → IsConditionAt (here_in p set) code room start e
+IsPieceAt p code start (Action set b) = (room : ℕ) → block_depth b ≤ room → IsBlockAt (here_in p set) code room start b
+
+-- There is a place for a piece where there is a piece, and the code there is right for it.
+abbrev pub IsPlaced : ProgramTree → List Instr → Option PieceTree → Option ℕ → Type 0
+IsPlaced p code (Some piece) (Some start) = IsPieceAt p code start piece
+IsPlaced p code None None = Unit {0}
+IsPlaced p code _ _ = ⊥
+
+-- The texts that code keeps, by their numbers.
+abbrev pub texts_of : Code → List (List ℕ)
+texts_of c = map (λ t. t.items) c.texts.items
+
+-- Code is that of a program: each piece of the program has its place, where the code is right for it; no other piece
+-- has one; and its texts are the strings of the program.
+pub record IsCodeOf (p : ProgramTree) (c : Code) : Type 0 where
+  pub placed : (piece : Piece) → IsPlaced p c.instrs.items (piece_of p piece) (start_in (table_of c) piece)
+  pub texts : texts_of c ≡ flat_map format_at (sites p)

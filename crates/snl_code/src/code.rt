@@ -1,0 +1,79 @@
+//! The code of a program, as it is read.
+
+ghost use Rattle.std.specs.Prelude.{◌≡◌, ◌<◌, Some, length, slice_get, option_map};
+ghost use Rattle.snl_pieces.specs.Names.{text_of};
+ghost use Rattle.snl_code.specs.Pieces.{texts_of};
+ghost use Rattle.snl_code.specs.Starts.{table_of, start_in, state_table};
+ghost use Rattle.snl_code.specs.Starts as spec;
+
+use crate::starts::{ClauseStarts, Piece, StateStarts};
+use snl_pieces::Instr;
+
+/// The flat code of a program. It owns all that it holds.
+#[derive(Drop)]
+pub struct Code {
+    pub(crate) instrs: Vec<Instr>,
+    /// The strings of the program, in the order of the source.
+    pub(crate) texts: Vec<Vec<u8>>,
+    /// Where the program's own two blocks begin.
+    pub(crate) entry: Option<usize>,
+    pub(crate) exit: Option<usize>,
+    /// Where the pieces of each state begin, by state set.
+    pub(crate) sets: Vec<Vec<StateStarts>>,
+}
+
+impl Code {
+    /// How many instructions it has.
+    pub fn len(&self) -> usize
+        ensures { result ≡ length self.now.instrs.items }
+    {
+        self.instrs.len()
+    }
+
+    /// The instruction of a number, from 0 on.
+    pub fn instr(&self, number: usize) -> Instr
+        requires { number < length self.now.instrs.items }
+        ensures { slice_get self.now.instrs.items number ≡ Some result }
+    {
+        self.instrs[number]
+    }
+
+    /// The string of a number, as spelled between its quotes; empty where no instruction names the number.
+    pub fn text(&self, number: usize) -> &[u8]
+        ensures { result.now ≡ text_of (texts_of self.now) number }
+    {
+        match self.texts.get(number) {
+            Some(text) => text.as_slice(),
+            None => &[],
+        }
+    }
+
+    /// The table of a state.
+    fn state(&self, set: usize, state: usize) -> Option<&StateStarts>
+        ensures { option_map (λ s. state_table s.now) result
+            ≡ spec.state_in (table_of self.now) set state }
+    {
+        self.sets.get(set)?.get(state)
+    }
+
+    /// The table of a clause.
+    fn clause(&self, set: usize, state: usize, clause: usize) -> Option<ClauseStarts>
+        ensures { result ≡ spec.clause_in (table_of self.now) set state clause }
+    {
+        self.state(set, state)?.clauses.get(clause).copied()
+    }
+
+    /// Where a piece begins; None where the program has no such piece.
+    pub fn start(&self, piece: Piece) -> Option<usize>
+        ensures { result ≡ start_in (table_of self.now) piece }
+    {
+        match piece {
+            Piece::ProgramEntry => self.entry,
+            Piece::ProgramExit => self.exit,
+            Piece::Entry { set, state } => self.state(set, state)?.entry,
+            Piece::Exit { set, state } => self.state(set, state)?.exit,
+            Piece::Condition { set, state, clause } => self.clause(set, state, clause)?.condition,
+            Piece::Block { set, state, clause } => Some(self.clause(set, state, clause)?.block),
+        }
+    }
+}

@@ -1,0 +1,234 @@
+//! The code of a whole program.
+
+ghost use Rattle.std.specs.Prelude.{◌≡◌, ◌++◌, map, slice_get, IfOk, OnOk};
+ghost use Rattle.std.specs.List.{flat_map};
+ghost use Rattle.snl_syntax.specs.view.Shown.{shown, held};
+ghost use Rattle.snl_syntax.specs.view.Statements.{block_view};
+ghost use Rattle.snl_syntax.specs.view.Programs.{state_view, state_set_view, program_view};
+ghost use Rattle.snl_sites.specs.Programs as programs;
+ghost use Rattle.snl_sites.specs.Variables.{variables_of};
+ghost use Rattle.snl_pieces.specs.BlockCode.{block_piece};
+ghost use Rattle.snl_pieces.specs.Names as names;
+ghost use Rattle.snl_code.specs.Layout as spec;
+ghost use Rattle.snl_code.specs.Pieces.{IsCodeOf};
+ghost use Rattle.snl_code.specs.Starts.{state_tables};
+
+use crate::code::Code;
+use crate::placing::{place_block, place_states};
+use crate::starts::StateStarts;
+use snl_pieces::{Instr, Known, Placed, places_of};
+use snl_sites::{Site, sites_of, variables_of};
+use snl_syntax::{Block, Program, State, StateSet};
+use snl_text::Token;
+use std::alloc::{AllocError, Global};
+
+/// The strings that are formats, in the order of the source.
+fn texts_of(alloc: Global, sites: &[Site]) -> Result<Vec<Vec<u8>>, AllocError>
+    ensures { IfOk result (λ texts. map (λ t. t.items) texts.items
+        ≡ flat_map names.format_at sites.now) }
+{
+    let mut texts = Vec::new(alloc);
+    for site in sites {
+        if let Site::Format { text, .. } = site {
+            let kept = Vec::from_slice(alloc, text.text)?;
+            texts.push(kept)?;
+        }
+    }
+    Ok(texts)
+}
+
+/// The names of states.
+fn names_of<'a>(alloc: Global, states: &[State<'a>]) -> Result<Vec<Token<'a>>, AllocError>
+    ensures { IfOk result (λ kept. kept.items ≡ map (λ s. s.name) (map state_view states.now)) }
+{
+    let mut names = Vec::new(alloc);
+    for state in states {
+        names.push(state.name)?;
+    }
+    Ok(names)
+}
+
+/// The variables of the copy of a state set, with their places.
+fn placed_of<'a>(
+    alloc: Global,
+    program: &Program<'a>,
+    set: usize,
+) -> Result<Vec<Placed>, AllocError>
+    ensures { IfOk result (λ places. places.items
+        ≡ names.placed_from 0 (variables_of (program_view program.now) set)) }
+{
+    let variables = variables_of(alloc, program, set)?;
+    places_of(alloc, variables.as_slice())
+}
+
+/// The name of a state set.
+fn set_name<'a>(sets: &[StateSet<'a>], set: usize) -> &'a [u8]
+    ensures { result.now ≡ names.name_by (slice_get (map state_set_view sets.now) set) }
+{
+    match sets.get(set) {
+        Some(set) => set.name.text,
+        None => &[],
+    }
+}
+
+/// The names of its states.
+fn names_in<'a>(alloc: Global, set: &StateSet<'a>) -> Result<Vec<Token<'a>>, AllocError>
+    ensures { IfOk result (λ kept. kept.items
+        ≡ map (λ s. s.name) (state_set_view set.now).states) }
+{
+    names_of(alloc, set.states.as_slice())
+}
+
+/// The names of the states of the state set of a number; none where there is no such state set.
+fn state_names<'a>(
+    alloc: Global,
+    sets: &[StateSet<'a>],
+    set: usize,
+) -> Result<Vec<Token<'a>>, AllocError>
+    ensures { IfOk result (λ kept. kept.items
+        ≡ names.states_by (slice_get (map state_set_view sets.now) set)) }
+{
+    if sets.len() <= set {
+        return Ok(Vec::new(alloc));
+    }
+    names_in(alloc, &sets[set])
+}
+
+/// What is known of a state set, beside what the names of the program mean.
+#[derive(Drop)]
+struct Facts<'a> {
+    name: &'a [u8],
+    states: Vec<Token<'a>>,
+    variables: Vec<Placed>,
+}
+
+/// The facts of a state set.
+fn facts_of<'a>(alloc: Global, program: &Program<'a>, set: usize) -> Result<Facts<'a>, AllocError>
+    ensures name { IfOk result (λ facts. facts.name.now
+        ≡ (names.here_in (program_view program.now) set).set_name) }
+    ensures states { IfOk result (λ facts. facts.states.items
+        ≡ (names.here_in (program_view program.now) set).states) }
+    ensures variables { IfOk result (λ facts. facts.variables.items
+        ≡ (names.here_in (program_view program.now) set).variables) }
+{
+    let sets = program.state_sets.as_slice();
+    let name = set_name(sets, set);
+    let states = state_names(alloc, sets, set)?;
+    let variables = placed_of(alloc, program, set)?;
+    Ok(Facts {
+        name,
+        states,
+        variables,
+    })
+}
+
+/// Adds the code of a state set; gives where its pieces begin.
+fn place_set<'a>(
+    alloc: Global,
+    program: &Program<'a>,
+    sites: &[Site<'a>],
+    number: usize,
+    set: &StateSet<'a>,
+    code: &mut Vec<Instr>,
+) -> Result<Vec<StateStarts>, AllocError>
+    requires { sites.now ≡ programs.sites (program_view program.now) }
+    ensures starts { IfOk result (λ starts. state_tables starts
+        ≡ spec.set_starts (program_view program.now) number code.old.items
+        (state_set_view set.now)) }
+    ensures code { OnOk result (code.new.items ≡ code.old.items
+        ++ spec.set_code (program_view program.now) number (state_set_view set.now)) }
+{
+    let facts = facts_of(alloc, program, number)?;
+    let known = Known {
+        set: number,
+        set_name: facts.name,
+        states: facts.states.as_slice(),
+        sites,
+        variables: facts.variables.as_slice(),
+    };
+    place_states(alloc, set.states.as_slice(), &known, code)
+}
+
+/// Adds the code of all state sets; gives where their pieces begin.
+fn place_sets<'a>(
+    alloc: Global,
+    program: &Program<'a>,
+    sites: &[Site<'a>],
+    sets: &[StateSet<'a>],
+    code: &mut Vec<Instr>,
+) -> Result<Vec<Vec<StateStarts>>, AllocError>
+    requires { sites.now ≡ programs.sites (program_view program.now) }
+    ensures starts { IfOk result (λ starts. map state_tables starts.items
+        ≡ spec.row_starts (spec.set_code (program_view program.now))
+        (spec.set_starts (program_view program.now)) 0 code.old.items
+        (map state_set_view sets.now)) }
+    ensures code { OnOk result (code.new.items ≡ code.old.items
+        ++ spec.row_code (spec.set_code (program_view program.now)) 0
+        (map state_set_view sets.now)) }
+{
+    let mut starts = Vec::new(alloc);
+    for (number, set) in sets.iter().enumerate() {
+        let one = place_set(alloc, program, sites, number, set, code)?;
+        starts.push(one)?;
+    }
+    Ok(starts)
+}
+
+/// Adds the code of a block of the program, if it is there; gives where it begins.
+fn place_own<'a>(
+    alloc: Global,
+    program: &Program<'a>,
+    sites: &[Site<'a>],
+    block: &Option<Box<Block<'a>>>,
+    code: &mut Vec<Instr>,
+) -> Result<Option<usize>, AllocError>
+    requires { sites.now ≡ programs.sites (program_view program.now) }
+    ensures start { IfOk result (λ start. start
+        ≡ spec.start_after code.old.items (shown (held block_view) block.now)) }
+    ensures code { OnOk result (code.new.items ≡ code.old.items
+        ++ spec.maybe_code (block_piece (names.here_in (program_view program.now) 0))
+        (shown (held block_view) block.now)) }
+{
+    let facts = facts_of(alloc, program, 0)?;
+    let known = Known {
+        set: 0,
+        set_name: facts.name,
+        states: facts.states.as_slice(),
+        sites,
+        variables: facts.variables.as_slice(),
+    };
+    place_block(alloc, block, &known, code)
+}
+
+/// The code of a program whose sites are given.
+fn code_of<'a>(alloc: Global, program: &Program<'a>, sites: &[Site<'a>]) -> Result<Code, AllocError>
+    requires { sites.now ≡ programs.sites (program_view program.now) }
+    ensures { IfOk result (IsCodeOf (program_view program.now)) }
+{
+    let mut instrs = Vec::new(alloc);
+    let entry = place_own(alloc, program, sites, &program.entry, &mut instrs)?;
+    let sets = place_sets(
+        alloc,
+        program,
+        sites,
+        program.state_sets.as_slice(),
+        &mut instrs,
+    )?;
+    let exit = place_own(alloc, program, sites, &program.exit, &mut instrs)?;
+    let texts = texts_of(alloc, sites)?;
+    Ok(Code {
+        instrs,
+        texts,
+        entry,
+        exit,
+        sets,
+    })
+}
+
+/// The code of a program. The only error is that memory ends.
+pub fn compile<'a>(alloc: Global, program: &Program<'a>) -> Result<Code, AllocError>
+    ensures { IfOk result (IsCodeOf (program_view program.now)) }
+{
+    let sites = sites_of(alloc, program)?;
+    code_of(alloc, program, sites.as_slice())
+}

@@ -1,0 +1,17 @@
+pub mod World
+pub mod Ran
+pub mod Names
+pub mod Printing
+pub mod Words
+pub mod Value
+pub mod Effect
+pub mod ExpressionCode
+pub mod Targets
+pub mod BlockCode
+pub mod Emission
+pub mod Run
+pub mod Right
+pub mod Examples
+pub mod Known
+pub mod Stack
+pub mod Laws
