@@ -7,4 +7,5 @@ mod placing;
 mod starts;
 
 pub use code::Code;
+pub use compiling::compile;
 pub use starts::Piece;
