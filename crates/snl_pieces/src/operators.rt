@@ -39,6 +39,7 @@ pub enum Function {
     Others,
 }
 
+/// How an operator of a chain joins its operand to what stands left of it.
 pub fn joint_of(operator: Kind) -> Joint
     ensures { result ≡ spec.joint_of operator }
 {
@@ -69,6 +70,7 @@ pub fn compound_of(operator: Kind) -> Option<Kind>
     }
 }
 
+/// What a sign before or after an operand does.
 pub fn sign_of(operator: Kind) -> Sign
     ensures { result ≡ spec.sign_of operator }
 {
@@ -79,6 +81,7 @@ pub fn sign_of(operator: Kind) -> Sign
     }
 }
 
+/// Which call a name means.
 pub fn function_of(name: &[u8]) -> Function
     ensures { result ≡ spec.function_of name.now }
 {
