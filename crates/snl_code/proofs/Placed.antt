@@ -5,7 +5,8 @@ use Rattle.snl_syntax.specs.Programs.{ClauseTree, StateTree, StateSetTree, Progr
 use Rattle.snl_syntax.specs.Statements.{BlockTree}
 use Rattle.snl_pieces.specs.declared.instrs.Instr.{Instr}
 use Rattle.snl_pieces.specs.BlockCode.{condition_piece, block_piece}
-use Rattle.snl_pieces.specs.Names.{Here, here_in, format_at}
+use Rattle.snl_pieces.specs.Names.{Here, format_at}
+use Rattle.snl_code.specs.Heres.{here_in}
 use Rattle.snl_sites.specs.Programs.{sites}
 use Rattle.std.specs.List.{flat_map}
 use Rattle.snl_pieces.specs.Right.{HasAt}

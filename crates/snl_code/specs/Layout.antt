@@ -3,7 +3,8 @@ use Rattle.std.specs.Prelude.{ℕ, suc, List, [], ◌∷◌, ◌++◌, Option, N
 use Rattle.snl_syntax.specs.Programs.{ClauseTree, StateTree, StateSetTree, ProgramTree}
 use Rattle.snl_pieces.specs.declared.instrs.Instr.{Instr}
 use Rattle.snl_pieces.specs.BlockCode.{condition_piece, block_piece}
-use Rattle.snl_pieces.specs.Names.{Here, here_in}
+use Rattle.snl_pieces.specs.Names.{Here}
+use Rattle.snl_code.specs.Heres.{here_in}
 use Rattle.snl_code.specs.declared.starts.ClauseStarts.{ClauseStarts}
 use Rattle.snl_code.specs.Starts.{StateTable, ProgramTable}
 

@@ -1,3 +1,4 @@
+pub mod Heres
 pub mod Starts
 pub mod Layout
 pub mod Pieces

@@ -8,11 +8,12 @@ use Rattle.snl_sites.specs.Programs.{sites}
 use Rattle.snl_pieces.specs.declared.instrs.Instr.{Instr}
 use Rattle.snl_pieces.specs.BlockCode.{block_depth}
 use Rattle.snl_pieces.specs.ExpressionCode.{expression_depth}
-use Rattle.snl_pieces.specs.Names.{here_in, format_at}
+use Rattle.snl_pieces.specs.Names.{format_at}
 use Rattle.snl_pieces.specs.Right.{IsConditionAt, IsBlockAt}
 use Rattle.snl_code.specs.declared.code.Code.{Code}
 use Rattle.snl_code.specs.declared.starts.Piece.{Piece}
 use Rattle.snl_code.specs.declared.starts.Piece.TheVariants.{ProgramEntry, ProgramExit, Entry, Exit, Condition, Block}
+use Rattle.snl_code.specs.Heres.{here_in}
 use Rattle.snl_code.specs.Starts.{table_of, start_in}
 
 -- ---- the pieces of a program

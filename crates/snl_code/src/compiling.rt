@@ -9,6 +9,8 @@ ghost use Rattle.snl_sites.specs.Programs as programs;
 ghost use Rattle.snl_sites.specs.Variables.{variables_of};
 ghost use Rattle.snl_pieces.specs.BlockCode.{block_piece};
 ghost use Rattle.snl_pieces.specs.Names as names;
+ghost use Rattle.snl_links.specs.LinkViews.{link_view};
+ghost use Rattle.snl_code.specs.Heres as heres;
 ghost use Rattle.snl_code.specs.Layout as spec;
 ghost use Rattle.snl_code.specs.Pieces.{IsCodeOf};
 ghost use Rattle.snl_code.specs.Starts.{state_tables};
@@ -16,6 +18,7 @@ ghost use Rattle.snl_code.specs.Starts.{state_tables};
 use crate::code::Code;
 use crate::placing::{place_block, place_states};
 use crate::starts::StateStarts;
+use snl_links::{Link, Macros, links_of};
 use snl_pieces::{Instr, Known, Placed, places_of};
 use snl_sites::{Site, sites_of, variables_of};
 use snl_syntax::{Block, Program, State, StateSet};
@@ -63,7 +66,7 @@ fn placed_of<'a>(
 
 /// The name of a state set.
 fn set_name<'a>(sets: &[StateSet<'a>], set: usize) -> &'a [u8]
-    ensures { result.now ≡ names.name_by (slice_get (map state_set_view sets.now) set) }
+    ensures { result.now ≡ heres.name_by (slice_get (map state_set_view sets.now) set) }
 {
     match sets.get(set) {
         Some(set) => set.name.text,
@@ -86,12 +89,33 @@ fn state_names<'a>(
     set: usize,
 ) -> Result<Vec<Token<'a>>, AllocError>
     ensures { IfOk result (λ kept. kept.items
-        ≡ names.states_by (slice_get (map state_set_view sets.now) set)) }
+        ≡ heres.states_by (slice_get (map state_set_view sets.now) set)) }
 {
     if sets.len() <= set {
         return Ok(Vec::new(alloc));
     }
     names_in(alloc, &sets[set])
+}
+
+/// Where the variables of links are declared, in bytes.
+fn offsets_of(alloc: Global, links: &[Link]) -> Result<Vec<usize>, AllocError>
+    ensures { IfOk result (λ offsets. offsets.items
+        ≡ map (λ l. l.variable.offset) (map link_view links.now)) }
+{
+    let mut offsets = Vec::new(alloc);
+    for link in links {
+        offsets.push(link.variable.offset)?;
+    }
+    Ok(offsets)
+}
+
+/// The same of the links of a program.
+fn linked_in<'a>(alloc: Global, program: &Program<'a>) -> Result<Vec<usize>, AllocError>
+    ensures { IfOk result (λ offsets. offsets.items
+        ≡ heres.linked_in (program_view program.now)) }
+{
+    let links = links_of(alloc, program, &Macros { text: b"" })?;
+    offsets_of(alloc, links.as_slice())
 }
 
 /// What is known of a state set, beside what the names of the program mean.
@@ -105,11 +129,11 @@ struct Facts<'a> {
 /// The facts of a state set.
 fn facts_of<'a>(alloc: Global, program: &Program<'a>, set: usize) -> Result<Facts<'a>, AllocError>
     ensures name { IfOk result (λ facts. facts.name.now
-        ≡ (names.here_in (program_view program.now) set).set_name) }
+        ≡ (heres.here_in (program_view program.now) set).set_name) }
     ensures states { IfOk result (λ facts. facts.states.items
-        ≡ (names.here_in (program_view program.now) set).states) }
+        ≡ (heres.here_in (program_view program.now) set).states) }
     ensures variables { IfOk result (λ facts. facts.variables.items
-        ≡ (names.here_in (program_view program.now) set).variables) }
+        ≡ (heres.here_in (program_view program.now) set).variables) }
 {
     let sets = program.state_sets.as_slice();
     let name = set_name(sets, set);
@@ -127,11 +151,13 @@ fn place_set<'a>(
     alloc: Global,
     program: &Program<'a>,
     sites: &[Site<'a>],
+    linked: &[usize],
     number: usize,
     set: &StateSet<'a>,
     code: &mut Vec<Instr>,
 ) -> Result<Vec<StateStarts>, AllocError>
-    requires { sites.now ≡ programs.sites (program_view program.now) }
+    requires sites { sites.now ≡ programs.sites (program_view program.now) }
+    requires linked { linked.now ≡ heres.linked_in (program_view program.now) }
     ensures starts { IfOk result (λ starts. state_tables starts
         ≡ spec.set_starts (program_view program.now) number code.old.items
         (state_set_view set.now)) }
@@ -145,6 +171,7 @@ fn place_set<'a>(
         states: facts.states.as_slice(),
         sites,
         variables: facts.variables.as_slice(),
+        linked,
     };
     place_states(alloc, set.states.as_slice(), &known, code)
 }
@@ -154,10 +181,12 @@ fn place_sets<'a>(
     alloc: Global,
     program: &Program<'a>,
     sites: &[Site<'a>],
+    linked: &[usize],
     sets: &[StateSet<'a>],
     code: &mut Vec<Instr>,
 ) -> Result<Vec<Vec<StateStarts>>, AllocError>
-    requires { sites.now ≡ programs.sites (program_view program.now) }
+    requires sites { sites.now ≡ programs.sites (program_view program.now) }
+    requires linked { linked.now ≡ heres.linked_in (program_view program.now) }
     ensures starts { IfOk result (λ starts. map state_tables starts.items
         ≡ spec.row_starts (spec.set_code (program_view program.now))
         (spec.set_starts (program_view program.now)) 0 code.old.items
@@ -168,7 +197,7 @@ fn place_sets<'a>(
 {
     let mut starts = Vec::new(alloc);
     for (number, set) in sets.iter().enumerate() {
-        let one = place_set(alloc, program, sites, number, set, code)?;
+        let one = place_set(alloc, program, sites, linked, number, set, code)?;
         starts.push(one)?;
     }
     Ok(starts)
@@ -179,14 +208,16 @@ fn place_own<'a>(
     alloc: Global,
     program: &Program<'a>,
     sites: &[Site<'a>],
+    linked: &[usize],
     block: &Option<Box<Block<'a>>>,
     code: &mut Vec<Instr>,
 ) -> Result<Option<usize>, AllocError>
-    requires { sites.now ≡ programs.sites (program_view program.now) }
+    requires sites { sites.now ≡ programs.sites (program_view program.now) }
+    requires linked { linked.now ≡ heres.linked_in (program_view program.now) }
     ensures start { IfOk result (λ start. start
         ≡ spec.start_after code.old.items (shown (held block_view) block.now)) }
     ensures code { OnOk result (code.new.items ≡ code.old.items
-        ++ spec.maybe_code (block_piece (names.here_in (program_view program.now) 0))
+        ++ spec.maybe_code (block_piece (heres.here_in (program_view program.now) 0))
         (shown (held block_view) block.now)) }
 {
     let facts = facts_of(alloc, program, 0)?;
@@ -196,25 +227,33 @@ fn place_own<'a>(
         states: facts.states.as_slice(),
         sites,
         variables: facts.variables.as_slice(),
+        linked,
     };
     place_block(alloc, block, &known, code)
 }
 
-/// The code of a program whose sites are given.
-fn code_of<'a>(alloc: Global, program: &Program<'a>, sites: &[Site<'a>]) -> Result<Code, AllocError>
-    requires { sites.now ≡ programs.sites (program_view program.now) }
+/// The code of a program whose sites are given, and where the variables of its links are declared.
+fn code_of<'a>(
+    alloc: Global,
+    program: &Program<'a>,
+    sites: &[Site<'a>],
+    linked: &[usize],
+) -> Result<Code, AllocError>
+    requires sites { sites.now ≡ programs.sites (program_view program.now) }
+    requires linked { linked.now ≡ heres.linked_in (program_view program.now) }
     ensures { IfOk result (IsCodeOf (program_view program.now)) }
 {
     let mut instrs = Vec::new(alloc);
-    let entry = place_own(alloc, program, sites, &program.entry, &mut instrs)?;
+    let entry = place_own(alloc, program, sites, linked, &program.entry, &mut instrs)?;
     let sets = place_sets(
         alloc,
         program,
         sites,
+        linked,
         program.state_sets.as_slice(),
         &mut instrs,
     )?;
-    let exit = place_own(alloc, program, sites, &program.exit, &mut instrs)?;
+    let exit = place_own(alloc, program, sites, linked, &program.exit, &mut instrs)?;
     let texts = texts_of(alloc, sites)?;
     Ok(Code {
         instrs,
@@ -230,5 +269,6 @@ pub fn compile<'a>(alloc: Global, program: &Program<'a>) -> Result<Code, AllocEr
     ensures { IfOk result (IsCodeOf (program_view program.now)) }
 {
     let sites = sites_of(alloc, program)?;
-    code_of(alloc, program, sites.as_slice())
+    let linked = linked_in(alloc, program)?;
+    code_of(alloc, program, sites.as_slice(), linked.as_slice())
 }

@@ -1,8 +1,8 @@
 -- A value needs room for one operand at least.
 use Rattle.std.proofs.Common.{◌≤◌, ◌+◌, ℕ, arith}
 use Rattle.snl_syntax.specs.Expressions.{ExprTree, ArgumentList, constant, parenthesized, named, element, call, postfix, prefix, chain, conditional, assignment, no_arguments, value, text}
-use Rattle.snl_pieces.specs.ExpressionCode.{expression_depth, target_depth, print_depth, wait_depth, called_depth, signed_depth, held_depth}
-use Rattle.snl_pieces.specs.Value.{Sign, Steps, Alone, Function, Prints, Delays, Others, function_of, compound_of, sign_of}
+use Rattle.snl_pieces.specs.ExpressionCode.{expression_depth, target_depth, print_depth, wait_depth, put_depth, called_depth, signed_depth, held_depth}
+use Rattle.snl_pieces.specs.Value.{Sign, Steps, Alone, Function, Prints, Delays, Puts, Others, function_of, compound_of, sign_of}
 
 -- a sign
 signed-positive : (sign : Sign) (d e : ℕ) → 1 ≤ d → 1 ≤ e → 1 ≤ signed_depth sign d e
@@ -10,10 +10,11 @@ signed-positive (Steps op) d e a b = a
 signed-positive (Alone op) d e a b = b
 
 -- a call
-called-positive : (function : Function) (d e : ℕ) → 1 ≤ d → 1 ≤ e → 1 ≤ called_depth function d e
-called-positive Prints d e a b = a
-called-positive Delays d e a b = b
-called-positive Others d e a b = omega arith
+called-positive : (function : Function) (d e i : ℕ) → 1 ≤ d → 1 ≤ e → 1 ≤ i → 1 ≤ called_depth function d e i
+called-positive Prints d e i a b c = a
+called-positive Delays d e i a b c = b
+called-positive Puts d e i a b c = c
+called-positive Others d e i a b c = omega arith
 
 -- `printf`
 print-positive : (all : ArgumentList) → 1 ≤ print_depth all
@@ -34,6 +35,12 @@ target-deep (chain e rest) a i le = omega arith
 target-deep (conditional c b e) a i le = omega arith
 target-deep (assignment e op r) a i le = omega arith
 
+-- `pvPut`
+put-positive : (all : ArgumentList) → 1 ≤ put_depth all
+put-positive no_arguments = omega arith
+put-positive (text t rest) = omega arith
+put-positive (value e rest) = target-deep e 1 1 (omega arith)
+
 mutual
   -- each expression needs 1
   pub depth-positive : (e : ExprTree) → 1 ≤ expression_depth e
@@ -41,7 +48,7 @@ mutual
   depth-positive (parenthesized e) = depth-positive e
   depth-positive (named x) = omega arith
   depth-positive (element x b e) = depth-positive e
-  depth-positive (call f all) = called-positive (function_of f.text.now) (print_depth all) (wait_depth all) (print-positive all) (wait-positive all)
+  depth-positive (call f all) = called-positive (function_of f.text.now) (print_depth all) (wait_depth all) (put_depth all) (print-positive all) (wait-positive all) (put-positive all)
   depth-positive (postfix e op) = signed-positive (sign_of op.kind) (target_depth e 2 3) (expression_depth e) (omega (arith, target-deep e 2 3 (omega arith))) (depth-positive e)
   depth-positive (prefix op e) = signed-positive (sign_of op.kind) (target_depth e 2 3) (expression_depth e) (omega (arith, target-deep e 2 3 (omega arith))) (depth-positive e)
   depth-positive (chain e rest) = omega (arith, depth-positive e)

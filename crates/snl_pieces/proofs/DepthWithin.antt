@@ -5,8 +5,8 @@ use Rattle.snl_text.specs.declared.kinds.Kind.TheVariants.{CloseParenthesis, Clo
 use Rattle.snl_syntax.specs.Slots.{The}
 use Rattle.snl_syntax.specs.Slots.{Sign as Mark}
 use Rattle.snl_syntax.specs.Expressions.{ExprTree, TermList, ArgumentList, constant, parenthesized, named, element, call, postfix, prefix, chain, conditional, assignment, no_terms, term, no_arguments, value, text, slots, term_slots, argument_slots, more_slots}
-use Rattle.snl_pieces.specs.ExpressionCode.{expression_depth, terms_depth, target_depth, print_depth, values_depth, wait_depth, called_depth, joint_depth, signed_depth, held_depth}
-use Rattle.snl_pieces.specs.Value.{Sign, Steps, Alone, Joint, And, Or, Sequel, Operation, Function, Prints, Delays, Others, function_of, joint_of, compound_of, sign_of}
+use Rattle.snl_pieces.specs.ExpressionCode.{expression_depth, terms_depth, target_depth, print_depth, values_depth, wait_depth, put_depth, called_depth, joint_depth, signed_depth, held_depth}
+use Rattle.snl_pieces.specs.Value.{Sign, Steps, Alone, Joint, And, Or, Sequel, Operation, Function, Prints, Delays, Puts, Others, function_of, joint_of, compound_of, sign_of}
 
 -- an assignment holds one number at most
 held-small : (o : Option Kind) → held_depth o ≤ 1
@@ -26,10 +26,11 @@ signed-small (Steps op) d e n a b = a
 signed-small (Alone op) d e n a b = b
 
 -- a call
-called-small : (function : Function) (d e n : ℕ) → d ≤ n → e ≤ n → 1 ≤ n → called_depth function d e ≤ n
-called-small Prints d e n a b o = a
-called-small Delays d e n a b o = b
-called-small Others d e n a b o = o
+called-small : (function : Function) (d e i n : ℕ) → d ≤ n → e ≤ n → i ≤ n → 1 ≤ n → called_depth function d e i ≤ n
+called-small Prints d e i n a b c o = a
+called-small Delays d e i n a b c o = b
+called-small Puts d e i n a b c o = c
+called-small Others d e i n a b c o = o
 
 -- each expression has a token
 some-slots : (e : ExprTree) → 1 ≤ length (slots e)
@@ -54,7 +55,8 @@ mutual
   depth-within (call f all) =
       let n = length (slots (call f all)) in
       let l = length-append (argument_slots all) (Mark CloseParenthesis ∷ []) in
-      called-small (function_of f.text.now) (print_depth all) (wait_depth all) n (omega (arith, l, print-within all)) (omega (arith, l, wait-within all)) (omega arith)
+      called-small (function_of f.text.now) (print_depth all) (wait_depth all) (put_depth all) n
+      (omega (arith, l, print-within all)) (omega (arith, l, wait-within all)) (omega (arith, l, put-within all)) (omega arith)
   depth-within (postfix e op) =
       let l = length-append (slots e) (The op ∷ []) in
       signed-small (sign_of op.kind) (target_depth e 2 3) (expression_depth e) (length (slots (postfix e op))) (omega (arith, l, target-within e 2 3 refl)) (omega (arith, l, depth-within e))
@@ -102,3 +104,22 @@ mutual
   wait-within no_arguments = omega arith
   wait-within (text t rest) = omega arith
   wait-within (value e rest) = omega (arith, length-append (slots e) (more_slots rest), depth-within e)
+
+  -- a target whose subscript takes the place of what is done there
+  one-within : (e : ExprTree) → target_depth e 1 1 ≤ length (slots e)
+  one-within (parenthesized e) = omega (arith, one-within e, length-append (slots e) (Mark CloseParenthesis ∷ []))
+  one-within (element x b e) = omega (arith, depth-within e, length-append (slots e) (Mark CloseBracket ∷ []))
+  one-within (constant t) = some-slots (constant t)
+  one-within (named x) = some-slots (named x)
+  one-within (call f all) = some-slots (call f all)
+  one-within (postfix e o) = some-slots (postfix e o)
+  one-within (prefix o e) = some-slots (prefix o e)
+  one-within (chain e rest) = some-slots (chain e rest)
+  one-within (conditional c b e) = some-slots (conditional c b e)
+  one-within (assignment e o r) = some-slots (assignment e o r)
+
+  -- `pvPut`
+  put-within : (all : ArgumentList) → put_depth all ≤ length (argument_slots all) + 1
+  put-within no_arguments = omega arith
+  put-within (text t rest) = omega arith
+  put-within (value e rest) = omega (arith, length-append (slots e) (more_slots rest), one-within e)

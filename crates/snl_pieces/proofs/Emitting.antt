@@ -14,10 +14,10 @@ use Rattle.snl_pieces.specs.declared.instrs.Instr.TheVariants.{Adjust, AdjustAt,
 use Rattle.std.specs.Prelude.{pos}
 use Rattle.snl_pieces.specs.Names.{Here}
 use Rattle.snl_pieces.specs.ExpressionCode.{expression_code, terms_code, target_code, signed_code}
-use Rattle.snl_pieces.specs.Emission.{sign_code, call_code}
-use Rattle.snl_pieces.specs.Targets.{place_code, stored_code, adjust_code}
+use Rattle.snl_pieces.specs.Emission.{sign_code, call_code, put_target_code}
+use Rattle.snl_pieces.specs.Targets.{place_code, stored_code, adjust_code, put_instr}
 use Rattle.snl_pieces.specs.Value.{Sign, Steps, Alone, sign_of, compound_of}
-use Rattle.snl_pieces.proofs.TargetCode.{target-cut, step-cut}
+use Rattle.snl_pieces.proofs.TargetCode.{target-cut, step-cut, put-cut}
 
 -- an assignment: the store, then the right side, then the place
 assignment-made : (h : Here) (e r : ExprTree) (op : Token) (old stored right new : List Instr)
@@ -82,3 +82,9 @@ pub prefix-made : (h : Here) (a d : Expr) (b : Box Expr Global) (op : Token) (ol
 prefix-made h a d b op old new ea ed en =
     en ∙ (λ j. sign_code h op false (view (ed j)) ++ old) ∙ ap (λ l. l ++ old) (sym (prefix-is h (view b.value) op))
     ∙ ap (λ x. expression_code h (view x) ++ old) (sym ea)
+
+-- `pvPut`: its instruction, and then the place.
+pub put-made : (h : Here) (e : ExprTree) (old mid new : List Instr) → mid ≡ put_instr h e ∷ old → new ≡ place_code h None e ++ mid
+    → new ≡ put_target_code h e ++ old
+put-made h e old mid new em en =
+    en ∙ ap (λ l. place_code h None e ++ l) em ∙ sym (append_assoc (place_code h None e) (put_instr h e ∷ []) old) ∙ ap (λ l. l ++ old) (sym (put-cut h e))

@@ -5,10 +5,10 @@ use Rattle.snl_text.specs.declared.kinds.Kind.{Kind}
 use Rattle.snl_text.specs.declared.tokens.Token.{Token}
 use Rattle.snl_syntax.specs.Expressions.{ExprTree, constant, parenthesized, named, element, call, postfix, prefix, chain, conditional, assignment}
 use Rattle.snl_pieces.specs.declared.instrs.Instr.{Instr}
-use Rattle.snl_pieces.specs.declared.instrs.Instr.TheVariants.{Push, Load, Check, Peek, Store, StoreAt, Adjust, AdjustAt, Apply, Drop}
-use Rattle.snl_pieces.specs.Names.{Here, Sense, Varies, Stands, sense_of}
+use Rattle.snl_pieces.specs.declared.instrs.Instr.TheVariants.{Push, Load, Check, Peek, Store, StoreAt, Adjust, AdjustAt, Apply, Drop, Get, Put}
+use Rattle.snl_pieces.specs.Names.{Here, Sense, Varies, Stands, sense_of, link_number}
 use Rattle.snl_pieces.specs.ExpressionCode.{expression_code, target_code, put_code, put_at_code, at_name_code, at_code}
-use Rattle.snl_pieces.specs.Targets.{place_code, stored_code, old_code, checked_code, stored_alone, stored_at, adjust_code, adjust_alone, adjust_at}
+use Rattle.snl_pieces.specs.Targets.{place_code, stored_code, old_code, checked_code, stored_alone, stored_at, adjust_code, adjust_alone, adjust_at, put_instr, put_alone, put_element}
 
 -- nothing behind a list
 pub nothing-behind : (l : List Instr) → l ++ [] ≡ l
@@ -75,3 +75,29 @@ step-cut h (prefix t e) by n is_before = refl
 step-cut h (chain e rest) by n is_before = refl
 step-cut h (conditional c a b) by n is_before = refl
 step-cut h (assignment e t r) by n is_before = refl
+
+-- `pvPut` of a name
+named-put : (s : Sense) (x : Token) (h : Here)
+    → at_name_code s x (λ v y. Put v (link_number h y) ∷ []) (Push (pos 0) ∷ []) ≡ old_code s None ++ put_alone s (link_number h x) ∷ []
+named-put (Varies v) x h = refl
+named-put (Stands z) x h = refl
+
+-- the same of an element
+element-put : (s : Sense) (line : ℕ) → at_code s line (λ v. Get v ∷ []) (Push (pos 0) ∷ []) ≡ checked_code s line None ++ put_element s ∷ []
+element-put (Varies v) line = refl
+element-put (Stands z) line = refl
+
+-- `pvPut` at any target
+pub put-cut : (h : Here) (e : ExprTree) → target_code h e (λ v x. Put v (link_number h x) ∷ []) (λ v x. Get v ∷ []) (Push (pos 0) ∷ []) ≡ place_code h None e ++ put_instr h e ∷ []
+put-cut h (parenthesized e) = put-cut h e
+put-cut h (named x) = named-put (sense_of h x) x h
+put-cut h (element x b e) =
+    ap (λ l. expression_code h e ++ l) (element-put (sense_of h x) b.pos.line)
+    ∙ sym (append_assoc (expression_code h e) (checked_code (sense_of h x) b.pos.line None) (put_element (sense_of h x) ∷ []))
+put-cut h (constant t) = refl
+put-cut h (call f all) = refl
+put-cut h (postfix e t) = refl
+put-cut h (prefix t e) = refl
+put-cut h (chain e rest) = refl
+put-cut h (conditional c a b) = refl
+put-cut h (assignment e t r) = refl

@@ -5,15 +5,15 @@ use Rattle.snl_text.specs.declared.kinds.Kind.{Kind}
 use Rattle.snl_text.specs.declared.tokens.Token.{Token}
 use Rattle.snl_syntax.specs.Expressions.{ExprTree, TermList, ArgumentList, constant, parenthesized, named, element, call, postfix, prefix, chain, conditional, assignment, no_terms, term, no_arguments, value, text}
 use Rattle.snl_pieces.specs.declared.instrs.Instr.{Instr}
-use Rattle.snl_pieces.specs.declared.instrs.Instr.TheVariants.{Push, Get, Adjust, AdjustAt, Print, Wait}
+use Rattle.snl_pieces.specs.declared.instrs.Instr.TheVariants.{Push, Get, Adjust, AdjustAt, Print, Wait, Put}
 use Rattle.snl_pieces.specs.declared.instrs.Variable.{Variable}
-use Rattle.snl_pieces.specs.ExpressionCode.{CodeOn, expression_code, terms_code, target_code, values_code, print_code, wait_code, expression_depth, terms_depth, target_depth, values_depth, print_depth, wait_depth, joint_code, joint_depth, at_code, get_code, put_code, put_at_code, held_depth, count_values}
-use Rattle.snl_pieces.specs.Names.{Here, sense_of, format_number}
+use Rattle.snl_pieces.specs.ExpressionCode.{CodeOn, expression_code, terms_code, target_code, values_code, print_code, wait_code, put_call_code, expression_depth, terms_depth, target_depth, values_depth, print_depth, wait_depth, put_depth, joint_code, joint_depth, at_code, get_code, put_code, put_at_code, held_depth, count_values}
+use Rattle.snl_pieces.specs.Names.{Here, sense_of, format_number, link_number}
 use Rattle.snl_pieces.specs.Ran.{Ran}
 use Rattle.snl_pieces.specs.Right.{HasAt}
 use Rattle.snl_pieces.specs.Run.{Setting, setting_of}
-use Rattle.snl_pieces.specs.Value.{OnVariable, OnElement, constant_of, function_of, joint_of, compound_of, sign_of, is_decimal, joined_by, put_at, at_subscript, value_of, chained, at_target, print_of, printing_with, wait_of}
-use Rattle.snl_pieces.specs.Words.{gives, read, adjusted, waited}
+use Rattle.snl_pieces.specs.Value.{OnVariable, OnElement, constant_of, function_of, joint_of, compound_of, sign_of, is_decimal, joined_by, put_at, at_subscript, value_of, chained, at_target, print_of, printing_with, wait_of, put_of}
+use Rattle.snl_pieces.specs.Words.{gives, read, adjusted, put_to, waited}
 use Rattle.snl_pieces.specs.World.{World}
 use Rattle.snl_pieces.proofs.DepthPositive.{depth-positive}
 use Rattle.snl_pieces.proofs.Following.{has_front, has_back, follows-then, follows-to}
@@ -68,7 +68,8 @@ module _ (h : Here) (room : ℕ) (code : List Instr) where
         (on-subscript g code (sense_of h x) b.pos.line (read h.set) (gives (pos 0)) get_code (Push (pos 0) ∷ []) (expression_depth e)
         (λ v. on-one g code (Get v) (read h.set v) (λ at x s w. refl) (expression_depth e)) (pushes-zero (expression_depth e) (depth-positive e)))
     value-follows (call f all) =
-        codes-called g code (function_of f.text.now) (print_of h all) (wait_of h all) (print_code h all) (wait_code h all) (print_depth all) (wait_depth all) (print-follows all) (wait-follows all)
+        codes-called g code (function_of f.text.now) (print_of h all) (wait_of h all) (put_of h all) (print_code h all) (wait_code h all) (put_call_code h all)
+        (print_depth all) (wait_depth all) (put_depth all) (print-follows all) (wait-follows all) (put-follows all)
     value-follows (postfix e op) =
         codes-signed g code (sign_of op.kind) _ (value_of h e) _ (expression_code h e) op.pos.line (target_depth e 2 3) (expression_depth e)
         (λ by. target-follows e _ _ (gives (pos 0)) (λ v x. Adjust v by op.pos.line x.pos.line true ∷ []) (λ v x. AdjustAt v by op.pos.line x.pos.line true ∷ [])
@@ -167,3 +168,13 @@ module _ (h : Here) (room : ℕ) (code : List Instr) where
     wait-follows (value e rest) =
         codes-then g code (value_of h e) (waited h.set (not (is_decimal e))) (expression_code h e) (Wait (not (is_decimal e)) ∷ []) (expression_depth e) (value-follows e)
         (on-one g code (Wait (not (is_decimal e))) (waited h.set (not (is_decimal e))) (λ at x s w. refl) (expression_depth e))
+
+    -- `pvPut`
+    put-follows : (all : ArgumentList) → Codes g code (put_of h all) (put_call_code h all) (put_depth all)
+    put-follows no_arguments = pushes-zero 1 (omega arith)
+    put-follows (text t rest) = pushes-zero 1 (omega arith)
+    put-follows (value e rest) =
+        target-follows e (λ v x. put_to h.set v (link_number h x)) (λ v x. read h.set v) (gives (pos 0)) (λ v x. Put v (link_number h x) ∷ []) (λ v x. Get v ∷ [])
+        (Push (pos 0) ∷ []) 1 1 (omega arith)
+        (λ x v. codes-pushes g code (Put v (link_number h x)) (put_to h.set v (link_number h x)) (λ at s w. refl) 1 (omega arith))
+        (λ x v. on-one g code (Get v) (read h.set v) (λ at x s w. refl) 1) (pushes-zero 1 (omega arith))

@@ -5,12 +5,12 @@ use Rattle.snl_text.specs.declared.tokens.Token.{Token}
 use Rattle.snl_syntax.specs.Expressions.{ExprTree, TermList, ArgumentList, constant, parenthesized, named, element, call, postfix, prefix, chain, conditional, assignment, no_terms, term, no_arguments, value, text}
 use Rattle.snl_sites.specs.Arithmetic.{is_zero}
 use Rattle.snl_pieces.specs.declared.instrs.Variable.{Variable}
-use Rattle.snl_pieces.specs.Names.{Here, sense_of, format_number}
+use Rattle.snl_pieces.specs.Names.{Here, sense_of, format_number, link_number}
 use Rattle.snl_pieces.specs.Ran.{Ran}
-use Rattle.snl_pieces.specs.Value.{OnVariable, OnElement, function_of, joint_of, compound_of, sign_of, is_decimal, joined_by, either, value_of, chained, at_target, print_of, printing_with, wait_of}
+use Rattle.snl_pieces.specs.Value.{OnVariable, OnElement, function_of, joint_of, compound_of, sign_of, is_decimal, joined_by, either, value_of, chained, at_target, print_of, printing_with, wait_of, put_of}
 use Rattle.snl_pieces.specs.Words.{gives, read}
 use Rattle.snl_pieces.specs.World.{World}
-use Rattle.snl_pieces.proofs.WordTicks.{HasFewer, Keeps, KeepsOn, keeps-then, keeps-here, keeps-adjusted, keeps-joined, keeps-put, keeps-at_subscript, keeps-at_name, keeps-named, keeps-signed, keeps-called, keeps-waited, leaves-test}
+use Rattle.snl_pieces.proofs.WordTicks.{HasFewer, Keeps, KeepsOn, keeps-then, keeps-here, keeps-adjusted, keeps-joined, keeps-put, keeps-at_subscript, keeps-at_name, keeps-named, keeps-signed, keeps-called, keeps-put_to, keeps-waited, leaves-test}
 
 mutual
   -- an expression
@@ -21,7 +21,7 @@ mutual
   value-keeps h (element x b e) n w few =
       keeps-then (value_of h e) _ (value-keeps h e)
       (keeps-at_subscript (sense_of h x) b.pos.line (read h.set) (gives (pos 0)) (λ v k m u left. record { is = left }) (keeps-here (pos 0))) n w few
-  value-keeps h (call f all) n w few = keeps-called (function_of f.text.now) (print_of h all) (wait_of h all) (print-keeps h all) (wait-keeps h all) n w few
+  value-keeps h (call f all) n w few = keeps-called (function_of f.text.now) (print_of h all) (wait_of h all) (put_of h all) (print-keeps h all) (wait-keeps h all) (put-keeps h all) n w few
   value-keeps h (postfix e op) n w few =
       keeps-signed (sign_of op.kind) _ (value_of h e) op.pos.line
       (λ by. target-keeps h e _ _ (gives (pos 0)) (λ v x. keeps-adjusted h.set v by op.pos.line x.pos.line true (pos 0))
@@ -77,3 +77,10 @@ mutual
   wait-keeps h no_arguments n w few = record { is = few }
   wait-keeps h (text t rest) n w few = record { is = few }
   wait-keeps h (value e rest) n w few = keeps-then (value_of h e) _ (value-keeps h e) (keeps-waited h.set (not (is_decimal e))) n w few
+
+  -- `pvPut`
+  put-keeps : (h : Here) (all : ArgumentList) → Keeps (put_of h all)
+  put-keeps h no_arguments n w few = record { is = few }
+  put-keeps h (text t rest) n w few = record { is = few }
+  put-keeps h (value e rest) n w few =
+      target-keeps h e _ _ (gives (pos 0)) (λ v x. keeps-put_to h.set v (link_number h x)) (λ v x k m u left. record { is = left }) (keeps-here (pos 0)) n w few

@@ -13,7 +13,7 @@ use Rattle.snl_pieces.specs.Names.{Sense, Varies, Stands, text_of}
 use Rattle.snl_pieces.specs.Ran.{Ran, Gives, then_do}
 use Rattle.snl_pieces.specs.Right.{HasAt}
 use Rattle.snl_pieces.specs.Run.{Setting, Sticks, goes_with, takes, with_room}
-use Rattle.snl_pieces.specs.Value.{Function, Prints, Delays, Others, OnVariable, at_name, called, Sign, Steps, Alone, either, renewed, put_at, at_subscript, named_value, signed}
+use Rattle.snl_pieces.specs.Value.{Function, Prints, Delays, Puts, Others, OnVariable, at_name, called, Sign, Steps, Alone, either, renewed, put_at, at_subscript, named_value, signed}
 use Rattle.snl_pieces.specs.Words.{gives, operated, operated_prefix, subscript, read, stored, printed}
 use Rattle.snl_pieces.specs.World.{World}
 use Rattle.snl_pieces.proofs.Following.{has_front, has_back, Quiet, follows-on, follows-step, follows-quiet, follows-then, follows-to, quiet-jump, quiet-if_zero}
@@ -71,11 +71,13 @@ module _ (g : Setting) (code : List Instr) where
   codes-at_name (Stands z) x alone other ac oc d f h = h
 
   -- a call
-  pub codes-called : (function : Function) (print wait : World → Ran ℤ) (pc wc : List Instr) (d e : ℕ) → Codes g code print pc d → Codes g code wait wc e →
-      Codes g code (called function print wait) (called_code function pc wc) (called_depth function d e)
-  codes-called Prints print wait pc wc d e f h = f
-  codes-called Delays print wait pc wc d e f h = h
-  codes-called Others print wait pc wc d e f h = codes-pushes g code (Push (pos 0)) (gives (pos 0)) (λ at s w. refl) 1 (omega arith)
+  pub codes-called : (function : Function) (print wait put : World → Ran ℤ) (pc wc uc : List Instr) (d e i : ℕ) →
+      Codes g code print pc d → Codes g code wait wc e → Codes g code put uc i →
+      Codes g code (called function print wait put) (called_code function pc wc uc) (called_depth function d e i)
+  codes-called Prints print wait put pc wc uc d e i f h k = f
+  codes-called Delays print wait put pc wc uc d e i f h k = h
+  codes-called Puts print wait put pc wc uc d e i f h k = k
+  codes-called Others print wait put pc wc uc d e i f h k = codes-pushes g code (Push (pos 0)) (gives (pos 0)) (λ at s w. refl) 1 (omega arith)
 
   -- a sign
   pub codes-signed : (sg : Sign) (stepping : Kind → World → Ran ℤ) (operand : World → Ran ℤ) (sc : Kind → List Instr) (oc : List Instr) (line d e : ℕ) →

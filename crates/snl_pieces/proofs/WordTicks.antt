@@ -1,6 +1,6 @@
 -- No word gives ticks back.
 use Rattle.std.proofs.Common.{◌<◌, ◌≤◌, ℕ, zero, suc, ℤ, pos, Bool, true, false, List, [], Option, None, Some, arith, Result, Ok, Err, if◌then◌else◌}
-use Rattle.std.specs.Prelude.{◌&&◌, int_le, ◌+ℤ◌, ◌*ℤ◌}
+use Rattle.std.specs.Prelude.{◌&&◌, int_le, ◌+ℤ◌, ◌*ℤ◌, slice_get, slice_index_or}
 use Rattle.snl_text.specs.declared.kinds.Kind.{Kind}
 use Rattle.snl_text.specs.declared.tokens.Token.{Token}
 use Rattle.snl_sites.specs.declared.arithmetic.Fault as sum
@@ -8,8 +8,8 @@ use Rattle.snl_sites.specs.Arithmetic.{is_zero, computed, computed_prefix}
 use Rattle.snl_pieces.specs.declared.instrs.Variable.{Variable}
 use Rattle.snl_pieces.specs.Names.{Sense, Varies, Stands}
 use Rattle.snl_pieces.specs.Ran.{Ran, Gives, Faults, also, then_do}
-use Rattle.snl_pieces.specs.Value.{Joint, And, Or, Sequel, Operation, Sign, Steps, Alone, Function, Prints, Delays, Others, OnVariable, joined_by, called, signed, renewed, put_at, at_name, at_subscript, named_value}
-use Rattle.snl_pieces.specs.Words.{operated, operated_prefix, outcome_at, settled, is_subscript, natural, subscript, read, stored, adjusted_to, adjusted, waited, spent_of, spent}
+use Rattle.snl_pieces.specs.Value.{Joint, And, Or, Sequel, Operation, Sign, Steps, Alone, Function, Prints, Delays, Puts, Others, OnVariable, joined_by, called, signed, renewed, put_at, at_name, at_subscript, named_value}
+use Rattle.snl_pieces.specs.Words.{operated, operated_prefix, outcome_at, settled, is_subscript, natural, subscript, read, stored, adjusted_to, adjusted, put_by_tie, put_to, waited, spent_of, spent}
 use Rattle.snl_pieces.specs.World.{World, copy_of, element_of}
 use Rattle.snl_pieces.proofs.Following.{Leaves}
 
@@ -73,7 +73,7 @@ keeps-stored set v line k z n w few = leaves-test (HasFewer n) (int_le v.least z
 -- `++` and `--`
 pub keeps-adjusted : (set : ℕ) (v : Variable) (op : Kind) (op_line line : ℕ) (is_before : Bool) → KeepsOn (adjusted set v op op_line line is_before)
 keeps-adjusted set v op op_line line is_before k n w few =
-    let old = element_of set v.number (natural k) w in
+    let old = element_of set v (natural k) w in
     leaves-then n (operated op op_line old (pos 1) w) (adjusted_to set v line is_before k old) (keeps-operated op op_line old (pos 1) n w few)
     (λ z u left. leaves-then n (stored set v line k z u) (λ _ x. Gives (if is_before then old else z) x []) (keeps-stored set v line k z n u left)
     (λ _ x least. record { is = least }))
@@ -121,10 +121,22 @@ keeps-signed (Steps op) stepping operand line h k = h op
 keeps-signed (Alone op) stepping operand line h k = keeps-then operand (operated_prefix op line) k (keeps-prefix op line)
 
 -- a call
-pub keeps-called : (function : Function) (print wait : World → Ran ℤ) → Keeps print → Keeps wait → Keeps (called function print wait)
-keeps-called Prints print wait h k = h
-keeps-called Delays print wait h k = k
-keeps-called Others print wait h k = keeps-here (pos 0)
+pub keeps-called : (function : Function) (print wait put : World → Ran ℤ) → Keeps print → Keeps wait → Keeps put → Keeps (called function print wait put)
+keeps-called Prints print wait put h k p = h
+keeps-called Delays print wait put h k p = k
+keeps-called Puts print wait put h k p = p
+keeps-called Others print wait put h k p = keeps-here (pos 0)
+
+-- `pvPut` by what its link is tied to
+keeps-tie : (set : ℕ) (v : Variable) (tie : Option (Option ℕ)) → Keeps (put_by_tie set v tie)
+keeps-tie set v None n w few = record { is = few }
+keeps-tie set v (Some None) n w few = record { is = few }
+keeps-tie set v (Some (Some channel)) n w few =
+    leaves-test (HasFewer n) (slice_index_or w.ups channel false) _ _ (record { is = few }) (record { is = few })
+
+-- `pvPut`
+pub keeps-put_to : (set : ℕ) (v : Variable) (link : ℕ) → Keeps (put_to set v link)
+keeps-put_to set v link n w few = keeps-tie set v (slice_get w.ties link) n w few
 
 -- `delay`
 pub keeps-waited : (set : ℕ) (in_seconds : Bool) → KeepsOn (waited set in_seconds)

@@ -5,11 +5,11 @@ use Rattle.snl_syntax.specs.declared.expressions.Argument.{Argument, Value', Tex
 use Rattle.snl_syntax.specs.view.Expressions.{view}
 use Rattle.snl_syntax.specs.Expressions.{ExprTree, ArgumentList}
 use Rattle.snl_pieces.specs.declared.instrs.Instr.{Instr}
-use Rattle.snl_pieces.specs.declared.instrs.Instr.TheVariants.{Push, Jump, Tick}
+use Rattle.snl_pieces.specs.declared.instrs.Instr.TheVariants.{Push, Jump, Tick, Get, Put}
 use Rattle.snl_syntax.specs.Statements.{StatementTree}
 use Rattle.snl_pieces.specs.BlockCode.{statement_code}
-use Rattle.snl_pieces.specs.ExpressionCode.{expression_code, joint_code, signed_code, at_code, get_code, called_code, print_code, wait_code}
-use Rattle.snl_pieces.specs.Names.{Here, Sense}
+use Rattle.snl_pieces.specs.ExpressionCode.{expression_code, target_code, joint_code, signed_code, at_code, get_code, called_code, print_code, wait_code, put_call_code}
+use Rattle.snl_pieces.specs.Names.{Here, Sense, link_number}
 use Rattle.snl_pieces.specs.Targets.{place_code, adjust_code}
 use Rattle.snl_pieces.specs.Value.{joint_of, sign_of, function_of}
 
@@ -28,7 +28,11 @@ sign_code h op is_before e =
 
 -- A call with its arguments.
 abbrev pub call_code : Here → Token → ArgumentList → List Instr
-call_code h f all = called_code (function_of f.text.now) (print_code h all) (wait_code h all)
+call_code h f all = called_code (function_of f.text.now) (print_code h all) (wait_code h all) (put_call_code h all)
+
+-- `pvPut` of a target.
+abbrev pub put_target_code : Here → ExprTree → List Instr
+put_target_code h e = target_code h e (λ v x. Put v (link_number h x) ∷ []) (λ v x. Get v ∷ []) (Push (pos 0) ∷ [])
 
 -- An argument of `printf`.
 abbrev pub value_code : Here → Argument → List Instr

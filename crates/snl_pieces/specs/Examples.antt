@@ -11,9 +11,10 @@ use Rattle.snl_sites.specs.declared.sites.Purpose.TheVariants.{Read}
 use Rattle.snl_sites.specs.declared.sites.Site.TheVariants.{Use, Format}
 use Rattle.snl_sites.specs.declared.sites.Size.TheVariants.{Scalar, Array}
 use Rattle.snl_pieces.specs.declared.faults.Fault.TheVariants.{OutOfRange, DoesNotFit, BudgetSpent}
+use Rattle.snl_pieces.specs.declared.live.Live.TheVariants.{Running}
 use Rattle.snl_pieces.specs.Effect.{Done, Left, effect_of}
 use Rattle.snl_pieces.specs.Names.{Here}
-use Rattle.snl_pieces.specs.Printing.{print_line}
+use Rattle.snl_pieces.specs.Printing.{print_line, put_line}
 use Rattle.snl_pieces.specs.Ran.{Gives, Faults}
 use Rattle.snl_pieces.specs.Value.{value_of}
 use Rattle.snl_pieces.specs.World.{World}
@@ -49,18 +50,28 @@ here = record {
   sites = Use Read x (Variable (record { offset = 0; file = 0; line = 1 }) Scalar) false
       ∷ Use Read a (Variable (record { offset = 1; file = 0; line = 1 }) (Array 2)) true
       ∷ Use Read y (Variable (record { offset = 2; file = 0; line = 1 }) Scalar) false ∷ Format format true ∷ [];
-  variables = record { offset = 0; variable = record { number = 0; size = 1; least = negsuc 2147483647; greatest = pos 2147483647 } }
-      ∷ record { offset = 1; variable = record { number = 1; size = 2; least = negsuc 127; greatest = pos 127 } }
-      ∷ record { offset = 2; variable = record { number = 2; size = 1; least = negsuc 2147483647; greatest = pos 2147483647 } } ∷ [];
+  variables = record { offset = 0; variable = record { place = 0; size = 1; least = negsuc 2147483647; greatest = pos 2147483647 } }
+      ∷ record { offset = 1; variable = record { place = 1; size = 2; least = negsuc 127; greatest = pos 127 } }
+      ∷ record { offset = 2; variable = record { place = 3; size = 1; least = negsuc 2147483647; greatest = pos 2147483647 } } ∷ [];
+  linked = 0 ∷ 1 ∷ [];
 }
 
--- Half a second after the state was entered, with 3 ticks: x, y and how many ticks, and the least due time.
+-- Half a second after the state was entered: x, y, how many ticks, and the least due time. The array has 5 and 6. `x` has
+-- a link to a channel that is connected, and `a` one to a channel that is not.
 abbrev pub world : ℤ → ℤ → ℕ → Option ℕ → World
 world first last ticks due = record {
   time = 1500;
   ticks = ticks;
   due = due;
-  copies = record { variables = (first ∷ []) ∷ (pos 5 ∷ pos 6 ∷ []) ∷ (last ∷ []) ∷ []; entered = 1000 } ∷ [];
+  phase = Running;
+  wake = None;
+  copies = record { words = first ∷ pos 5 ∷ pos 6 ∷ last ∷ []; state = 0; entered = 1000 } ∷ [];
+  channels = codes "up" ∷ codes "down" ∷ [];
+  ups = true ∷ false ∷ [];
+  valued = false ∷ false ∷ [];
+  ties = Some 0 ∷ Some 1 ∷ [];
+  buffers = pos 0 ∷ pos 0 ∷ pos 0 ∷ [];
+  marks = [];
 }
 
 abbrev pub start : World
@@ -79,7 +90,8 @@ in_row (s ∷ ss) = statement s (in_row ss)
 
 -- ---- expressions
 
--- `x++ + x`, `0 && 1 / 0`, `a[2]`, `a[1] = 200`, `delay(1)`, `delay(0.5)` and `printf("x %d\n", x)`
+-- `x++ + x`, `0 && 1 / 0`, `a[2]`, `a[1] = 200`, `delay(1)`, `delay(0.5)`, `printf("x %d\n", x)`, and `pvPut` of `x`,
+-- of `a`, and of `y`, which has no link
 abbrev pub ExpressionExamples : Type 0
 ExpressionExamples =
     (value_of here (binary kind.Plus (increased x) (named x)) start ≡ Gives (pos 1) (world (pos 1) (pos 9) 3 None) [])
@@ -90,6 +102,9 @@ ExpressionExamples =
     × (value_of here (call (token kind.Name 100 1 (codes "delay")) (value (constant (token kind.Decimal 100 1 (codes "0.5"))) no_arguments)) start ≡ Gives (pos 1) start [])
     × (value_of here (call (token kind.Name 100 1 (codes "printf")) (text format (value (named x) no_arguments))) start
     ≡ Gives (pos 0) start (print_line 1500 (codes "s") (120 ∷ 32 ∷ (signed_decimal (pos 0) ++ codes "\\n"))))
+    × (value_of here (call (token kind.Name 100 1 (codes "pvPut")) (value (named x) no_arguments)) start ≡ Gives (pos 0) start (put_line 1500 (codes "up") (pos 0 ∷ [])))
+    × (value_of here (call (token kind.Name 100 1 (codes "pvPut")) (value (named a) no_arguments)) start ≡ Gives (negsuc 1) start [])
+    × (value_of here (call (token kind.Name 100 1 (codes "pvPut")) (value (named y) no_arguments)) start ≡ Gives (negsuc 0) start [])
 
 -- ---- statements
 

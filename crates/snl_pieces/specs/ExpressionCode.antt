@@ -4,10 +4,10 @@ use Rattle.snl_text.specs.declared.kinds.Kind.{Kind}
 use Rattle.snl_text.specs.declared.tokens.Token.{Token}
 use Rattle.snl_syntax.specs.Expressions.{ExprTree, TermList, ArgumentList, constant, parenthesized, named, element, call, postfix, prefix, chain, conditional, assignment, no_terms, term, no_arguments, value, text}
 use Rattle.snl_pieces.specs.declared.instrs.Instr.{Instr}
-use Rattle.snl_pieces.specs.declared.instrs.Instr.TheVariants.{Push, Load, Check, Get, Peek, Store, StoreAt, Adjust, AdjustAt, Apply, ApplyPrefix, Settle, Drop, Jump, JumpIfZero, Print, Wait}
+use Rattle.snl_pieces.specs.declared.instrs.Instr.TheVariants.{Push, Load, Check, Get, Peek, Store, StoreAt, Adjust, AdjustAt, Apply, ApplyPrefix, Settle, Drop, Jump, JumpIfZero, Print, Wait, Put}
 use Rattle.snl_pieces.specs.declared.instrs.Variable.{Variable}
-use Rattle.snl_pieces.specs.Names.{Here, Sense, Varies, Stands, sense_of, format_number}
-use Rattle.snl_pieces.specs.Value.{constant_of, Joint, And, Or, Sequel, Operation, joint_of, compound_of, Sign, Steps, Alone, sign_of, Function, Prints, Delays, Others, function_of, is_decimal}
+use Rattle.snl_pieces.specs.Names.{Here, Sense, Varies, Stands, sense_of, format_number, link_number}
+use Rattle.snl_pieces.specs.Value.{constant_of, Joint, And, Or, Sequel, Operation, joint_of, compound_of, Sign, Steps, Alone, sign_of, Function, Prints, Delays, Puts, Others, function_of, is_decimal}
 
 -- ---- the parts
 
@@ -76,16 +76,18 @@ signed_depth (Steps op) stepping operand = stepping
 signed_depth (Alone op) stepping operand = operand
 
 -- The code of a call.
-abbrev pub called_code : Function → (print wait : List Instr) → List Instr
-called_code Prints print wait = print
-called_code Delays print wait = wait
-called_code Others print wait = Push (pos 0) ∷ []
+abbrev pub called_code : Function → (print wait put : List Instr) → List Instr
+called_code Prints print wait put = print
+called_code Delays print wait put = wait
+called_code Puts print wait put = put
+called_code Others print wait put = Push (pos 0) ∷ []
 
 -- How much room a call needs.
-abbrev pub called_depth : Function → (print wait : ℕ) → ℕ
-called_depth Prints print wait = print
-called_depth Delays print wait = wait
-called_depth Others print wait = 1
+abbrev pub called_depth : Function → (print wait put : ℕ) → ℕ
+called_depth Prints print wait put = print
+called_depth Delays print wait put = wait
+called_depth Puts print wait put = put
+called_depth Others print wait put = 1
 
 -- How many arguments are expressions.
 abbrev pub count_values : ArgumentList → ℕ
@@ -101,7 +103,7 @@ abbrev mutual
   expression_code h (parenthesized e) = expression_code h e
   expression_code h (named x) = name_code (sense_of h x) ∷ []
   expression_code h (element x b e) = expression_code h e ++ at_code (sense_of h x) b.pos.line get_code (Push (pos 0) ∷ [])
-  expression_code h (call f all) = called_code (function_of f.text.now) (print_code h all) (wait_code h all)
+  expression_code h (call f all) = called_code (function_of f.text.now) (print_code h all) (wait_code h all) (put_call_code h all)
   expression_code h (postfix e op) =
       signed_code (sign_of op.kind) (λ by. target_code h e (λ v x. Adjust v by op.pos.line x.pos.line true ∷ [])
       (λ v x. AdjustAt v by op.pos.line x.pos.line true ∷ []) (Push (pos 0) ∷ [])) (expression_code h e) op.pos.line
@@ -138,6 +140,10 @@ abbrev mutual
   wait_code h (value e rest) = expression_code h e ++ Wait (not (is_decimal e)) ∷ []
   wait_code h _ = Push (pos 0) ∷ []
 
+  pub put_call_code : Here → ArgumentList → List Instr
+  put_call_code h (value e rest) = target_code h e (λ v x. Put v (link_number h x) ∷ []) (λ v x. Get v ∷ []) (Push (pos 0) ∷ [])
+  put_call_code h _ = Push (pos 0) ∷ []
+
 -- ---- the depth
 
 -- The greatest number of operands at once. It does not look at what names mean. A constant, a variable and a call
@@ -148,7 +154,7 @@ abbrev mutual
   expression_depth (parenthesized e) = expression_depth e
   expression_depth (named x) = 1
   expression_depth (element x b e) = expression_depth e
-  expression_depth (call f all) = called_depth (function_of f.text.now) (print_depth all) (wait_depth all)
+  expression_depth (call f all) = called_depth (function_of f.text.now) (print_depth all) (wait_depth all) (put_depth all)
   expression_depth (postfix e op) = signed_depth (sign_of op.kind) (target_depth e 2 3) (expression_depth e)
   expression_depth (prefix op e) = signed_depth (sign_of op.kind) (target_depth e 2 3) (expression_depth e)
   expression_depth (chain e rest) = max (expression_depth e) (terms_depth rest)
@@ -179,3 +185,7 @@ abbrev mutual
   pub wait_depth : ArgumentList → ℕ
   wait_depth (value e rest) = expression_depth e
   wait_depth _ = 1
+
+  pub put_depth : ArgumentList → ℕ
+  put_depth (value e rest) = target_depth e 1 1
+  put_depth _ = 1

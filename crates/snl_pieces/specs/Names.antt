@@ -1,17 +1,15 @@
 -- What the names in a piece of code mean, by their declarations.
-use Rattle.std.specs.Prelude.{ℕ, suc, ℤ, pos, ◌==◌, bytes_eq, List, [], ◌∷◌, map, Option, None, Some, slice_get, slice_index_or, if◌then◌else◌}
+use Rattle.std.specs.Prelude.{ℕ, suc, ◌+◌, ◌-◌, ◌^◌, min, ℤ, pos, ◌==◌, bytes_eq, length, List, [], ◌∷◌, Option, None, Some, slice_index_or, if◌then◌else◌}
 use Rattle.std.specs.List.{flat_map}
 use Rattle.snl_text.specs.declared.tokens.Pos.{Pos}
 use Rattle.snl_text.specs.declared.tokens.Token.{Token}
-use Rattle.snl_syntax.specs.Programs.{ProgramTree, StateSetTree}
 use Rattle.snl_sites.specs.declared.sites.Site.{Site}
 use Rattle.snl_sites.specs.declared.sites.Site.TheVariants.{Format}
 use Rattle.snl_sites.specs.Constants.{predefined}
 use Rattle.snl_sites.specs.Numbered.{number_of}
-use Rattle.snl_sites.specs.Programs.{sites}
 use Rattle.snl_sites.specs.Scopes.{elements}
 use Rattle.snl_sites.specs.Uses.{declared_in}
-use Rattle.snl_sites.specs.Variables.{Held, variables_of}
+use Rattle.snl_sites.specs.Variables.{Held}
 use Rattle.snl_pieces.specs.declared.instrs.Variable.{Variable}
 use Rattle.snl_pieces.specs.declared.names.Placed.{Placed}
 pub use Rattle.snl_pieces.specs.declared.names.Sense.{Sense}
@@ -27,35 +25,21 @@ pub record Here : Type 0 where
   pub sites : List Site
   -- the variables of the copy, by their declarations
   pub variables : List Placed
+  -- by link: where its variable is declared, in bytes
+  pub linked : List ℕ
 
--- The name of a state set, if there is one.
-abbrev pub name_by : Option StateSetTree → List ℕ
-name_by None = []
-name_by (Some g) = g.name.text.now
+-- A variable whose words begin at a place of the copy.
+abbrev pub variable_from : ℕ → Held → Variable
+variable_from at v = record { place = at; size = elements v.size; least = v.range.0; greatest = v.range.1 }
 
--- The names of its states.
-abbrev pub states_by : Option StateSetTree → List Token
-states_by None = []
-states_by (Some g) = map (λ s. s.name) g.states
+-- Where the words of the next variable begin. No program that the rules accept has as many words as 2^64 - 1.
+abbrev pub behind : ℕ → Held → ℕ
+behind at v = min (at + elements v.size) (2 ^ 64 - 1)
 
--- A variable with its number.
-abbrev pub numbered : ℕ → Held → Variable
-numbered n v = record { number = n; size = elements v.size; least = v.range.0; greatest = v.range.1 }
-
--- Variables that are numbered from n on, each with the offset of its declaration.
+-- Variables whose words stand one after another from a place on, each with the offset of its declaration.
 abbrev pub placed_from : ℕ → List Held → List Placed
-placed_from n [] = []
-placed_from n (v ∷ vs) = record { offset = v.name.pos.offset; variable = numbered n v } ∷ placed_from (suc n) vs
-
--- The same of a state set of a program. A variable's number is its place in the list of all that the copy holds.
-abbrev pub here_in : ProgramTree → ℕ → Here
-here_in p set = record {
-  set = set;
-  set_name = name_by (slice_get p.state_sets set);
-  states = states_by (slice_get p.state_sets set);
-  sites = sites p;
-  variables = placed_from 0 (variables_of p set);
-}
+placed_from at [] = []
+placed_from at (v ∷ vs) = record { offset = v.name.pos.offset; variable = variable_from at v } ∷ placed_from (behind at v) vs
 
 -- ---- variables
 
@@ -89,6 +73,22 @@ sense_by None number = Stands (or_zero number)
 -- neither stands for 0; the rules refuse it.
 abbrev pub sense_of : Here → Token → Sense
 sense_of h x = sense_by (variable_by h (declared_in x.pos.offset h.sites)) (predefined x.text.now)
+
+-- ---- links
+
+-- The number of the link whose variable is declared at an offset; that after the last where there is none.
+abbrev pub link_in : List ℕ → ℕ → ℕ
+link_in [] offset = 0
+link_in (l ∷ ls) offset = if l == offset then 0 else suc (link_in ls offset)
+
+-- The same of a declaration that may be missing.
+abbrev pub link_by : List ℕ → Option Pos → ℕ
+link_by linked None = length linked
+link_by linked (Some declared) = link_in linked declared.offset
+
+-- The number of the link of a variable, by the use of its name.
+abbrev pub link_number : Here → Token → ℕ
+link_number h x = link_by h.linked (declared_in x.pos.offset h.sites)
 
 -- ---- states
 

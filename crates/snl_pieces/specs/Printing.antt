@@ -1,4 +1,4 @@
--- The line that `printf` writes.
+-- The lines that `printf` and `pvPut` write.
 use Rattle.std.specs.Prelude.{ℕ, ℤ, ◌-◌, ◌==◌, ◌||◌, List, [], ◌∷◌, ◌++◌, length, take, drop, codes, decimal, Option, None, Some, if◌then◌else◌}
 use Rattle.std.specs.Fmt.{signed_decimal}
 use Rattle.snl_sites.specs.declared.formats.Place.{Place}
@@ -39,3 +39,12 @@ print_line ms set text = decimal ms ++ codes " print " ++ set ++ codes " " ++ te
 -- The line of a string and its numbers.
 abbrev pub printed_line : ℕ → List ℕ → List ℕ → List ℤ → List ℕ
 printed_line ms set format zs = print_line ms set (shown Plain zs (between_quotes format))
+
+-- Numbers, each behind a blank.
+abbrev pub spaced : List ℤ → List ℕ
+spaced [] = []
+spaced (z ∷ zs) = 32 ∷ (signed_decimal z ++ spaced zs)
+
+-- `MS put CHANNEL V1 V2 ..`
+abbrev pub put_line : ℕ → List ℕ → List ℤ → List ℕ
+put_line ms channel zs = decimal ms ++ codes " put " ++ channel ++ spaced zs ++ 10 ∷ []

@@ -10,14 +10,14 @@ use Rattle.snl_syntax.specs.Kinds.{is}
 use Rattle.snl_sites.specs.Arithmetic.{is_zero}
 use Rattle.snl_pieces.specs.declared.instrs.Variable.{Variable}
 pub use Rattle.snl_pieces.specs.declared.operators.Function.{Function}
-pub use Rattle.snl_pieces.specs.declared.operators.Function.TheVariants.{Prints, Delays, Others}
+pub use Rattle.snl_pieces.specs.declared.operators.Function.TheVariants.{Prints, Delays, Puts, Others}
 pub use Rattle.snl_pieces.specs.declared.operators.Joint.{Joint}
 pub use Rattle.snl_pieces.specs.declared.operators.Joint.TheVariants.{And, Or, Sequel, Operation}
 pub use Rattle.snl_pieces.specs.declared.operators.Sign.{Sign}
 pub use Rattle.snl_pieces.specs.declared.operators.Sign.TheVariants.{Steps, Alone}
-use Rattle.snl_pieces.specs.Names.{Here, Sense, Varies, Stands, sense_of, formats_of, format_number, text_of}
+use Rattle.snl_pieces.specs.Names.{Here, Sense, Varies, Stands, sense_of, link_number, formats_of, format_number, text_of}
 use Rattle.snl_pieces.specs.Ran.{Ran, Gives, then_do}
-use Rattle.snl_pieces.specs.Words.{gives, operated, operated_prefix, settled, subscript, read, stored, adjusted, printed, waited}
+use Rattle.snl_pieces.specs.Words.{gives, operated, operated_prefix, settled, subscript, read, stored, adjusted, printed, put_to, waited}
 use Rattle.snl_pieces.specs.World.{World}
 
 -- ---- constants
@@ -128,13 +128,14 @@ put_at op op_line right set v line k w = then_do (renewed op op_line right set v
 
 -- A function. The others give 0.
 abbrev pub function_of : List ℕ → Function
-function_of name = if bytes_eq name (codes "printf") then Prints else (if bytes_eq name (codes "delay") then Delays else Others)
+function_of name = if bytes_eq name (codes "printf") then Prints else (if bytes_eq name (codes "delay") then Delays else (if bytes_eq name (codes "pvPut") then Puts else Others))
 
 -- A call.
-abbrev pub called : Function → (print wait : World → Ran ℤ) → World → Ran ℤ
-called Prints print wait w = print w
-called Delays print wait w = wait w
-called Others print wait w = Gives (pos 0) w []
+abbrev pub called : Function → (print wait put : World → Ran ℤ) → World → Ran ℤ
+called Prints print wait put w = print w
+called Delays print wait put w = wait w
+called Puts print wait put w = put w
+called Others print wait put w = Gives (pos 0) w []
 
 -- A decimal constant, also in parentheses.
 abbrev pub is_decimal : ExprTree → Bool
@@ -154,7 +155,7 @@ abbrev mutual
   value_of h (parenthesized e) w = value_of h e w
   value_of h (named x) w = named_value h.set (sense_of h x) w
   value_of h (element x b e) w = then_do (value_of h e w) (at_subscript (sense_of h x) b.pos.line (read h.set) (gives (pos 0)))
-  value_of h (call f all) w = called (function_of f.text.now) (print_of h all) (wait_of h all) w
+  value_of h (call f all) w = called (function_of f.text.now) (print_of h all) (wait_of h all) (put_of h all) w
   value_of h (postfix e op) w =
       signed (sign_of op.kind) (λ by. at_target h e (λ v x. adjusted h.set v by op.pos.line x.pos.line true (pos 0))
       (λ v x. adjusted h.set v by op.pos.line x.pos.line true) (gives (pos 0))) (value_of h e) op.pos.line w
@@ -196,3 +197,8 @@ abbrev mutual
   pub wait_of : Here → ArgumentList → World → Ran ℤ
   wait_of h (value e rest) w = then_do (value_of h e w) (waited h.set (not (is_decimal e)))
   wait_of h _ w = Gives (pos 0) w []
+
+  -- `pvPut` with its argument. An element does not run yet, and counts as its value.
+  pub put_of : Here → ArgumentList → World → Ran ℤ
+  put_of h (value e rest) w = at_target h e (λ v x. put_to h.set v (link_number h x)) (λ v x. read h.set v) (gives (pos 0)) w
+  put_of h _ w = Gives (pos 0) w []

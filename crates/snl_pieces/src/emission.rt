@@ -19,7 +19,7 @@ use crate::operators::{
 };
 use crate::parts::{count_values, format_number, put_checked, put_old, put_read, read_name};
 use crate::rows::put;
-use crate::targets::{adjusted, put_stored};
+use crate::targets::{adjusted, put_instr, put_stored};
 use snl_syntax::{Argument, Expr, Term};
 use snl_text::{Kind, Token};
 use std::alloc::AllocError;
@@ -233,6 +233,7 @@ fn emit_call<'a>(
     match function_of(name.text) {
         Function::Prints => emit_print(arguments, known, code),
         Function::Delays => emit_wait(arguments, known, code),
+        Function::Puts => emit_put(arguments, known, code),
         Function::Others => put(code, Instr::Push(0)),
     }
 }
@@ -311,4 +312,35 @@ fn emit_wait<'a>(
         }
         _ => put(code, Instr::Push(0)),
     }
+}
+
+/// `pvPut` of its argument.
+#[cycle(emission)]
+fn emit_put<'a>(
+    arguments: &[Argument<'a>],
+    known: &Known<'_, 'a>,
+    code: &mut Vec<Instr>,
+) -> Result<(), AllocError>
+    ensures { OnOk result (reverse code.new.items
+        ≡ spec.put_call_code (here_of known.now) (list_before arguments.now no_arguments)
+        ++ reverse code.old.items) }
+{
+    match arguments.first() {
+        Some(Argument::Value(target)) => emit_put_of(target, known, code),
+        _ => put(code, Instr::Push(0)),
+    }
+}
+
+/// `pvPut` of a target: its subscript, if it has one, and the put.
+#[cycle(emission)]
+fn emit_put_of<'a>(
+    target: &Expr<'a>,
+    known: &Known<'_, 'a>,
+    code: &mut Vec<Instr>,
+) -> Result<(), AllocError>
+    ensures { OnOk result (reverse code.new.items
+        ≡ form.put_target_code (here_of known.now) (view target.now) ++ reverse code.old.items) }
+{
+    put(code, put_instr(target, known))?;
+    emit_place(target, known, None, code)
 }

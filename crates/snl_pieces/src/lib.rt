@@ -7,6 +7,7 @@ mod entries;
 mod faults;
 mod instrs;
 pub mod laws;
+mod live;
 mod names;
 mod operands;
 mod operators;
@@ -18,6 +19,7 @@ mod targets;
 pub use emission::emit_expression;
 pub use faults::Fault;
 pub use instrs::{Instr, Variable};
+pub use live::Live;
 pub use names::{Known, Placed, Sense, places_of};
 pub use operands::Operands;
 pub use operators::{

@@ -42,32 +42,38 @@ pub struct Known<'s, 'a> {
     pub sites: &'s [Site<'a>],
     /// The variables of the copy.
     pub variables: &'s [Placed],
+    /// By link: where its variable is declared, in bytes.
+    pub linked: &'s [usize],
 }
 
-fn numbered(number: usize, held: &Held) -> Variable
-    ensures { result ≡ spec.numbered number (held_view held.now) }
+fn variable_from(place: usize, held: &Held) -> Variable
+    ensures { result ≡ spec.variable_from place (held_view held.now) }
 {
     let (least, greatest) = held.range;
     Variable {
-        number,
+        place,
         size: held.size.elements(),
         least,
         greatest,
     }
 }
 
-/// The variables of a copy, each by its declaration. The only error is that memory ends.
+/// The variables of a copy, each by its declaration; their words stand one after another. The only error is that
+/// memory ends.
 pub fn places_of(alloc: Global, variables: &[Held]) -> Result<Vec<Placed>, AllocError>
     ensures { IfOk result (λ places. places.items
         ≡ spec.placed_from 0 (map held_view variables.now)) }
 {
     let mut places = Vec::new(alloc);
+    let mut place = 0usize;
     for number in 0..variables.len() {
         let held = &variables[number];
+        let variable = variable_from(place, held);
         places.push(Placed {
             offset: held.name.pos.offset,
-            variable: numbered(number, held),
+            variable,
         })?;
+        place = place.saturating_add(variable.size);
     }
     Ok(places)
 }
@@ -82,6 +88,18 @@ fn variable_in(variables: &[Placed], offset: usize) -> Option<Variable>
         }
     }
     None
+}
+
+/// The number of the first link whose variable is declared at an offset; that after the last where there is none.
+fn link_in(linked: &[usize], offset: usize) -> usize
+    ensures { result ≡ spec.link_in linked.now offset }
+{
+    for number in 0..linked.len() {
+        if linked[number] == offset {
+            return number;
+        }
+    }
+    linked.len()
 }
 
 /// The number of the first of some names that is spelled so.
@@ -116,6 +134,15 @@ impl<'s, 'a> Known<'s, 'a> {
         match variable {
             Some(variable) => Sense::Varies(variable),
             None => Sense::Stands(predefined(name.text).unwrap_or(0)),
+        }
+    }
+    /// The number of the link of the variable that a name means; that after the last where there is none.
+    pub fn link(&self, name: Token<'a>) -> usize
+        ensures { result ≡ spec.link_number (here_of self.now) name.entry }
+    {
+        match declared_in(name.pos.offset, self.sites) {
+            Some(declared) => link_in(self.linked, declared.offset),
+            None => self.linked.len(),
         }
     }
     /// The number of the state that is named, in the state set; 0 for an unknown name.

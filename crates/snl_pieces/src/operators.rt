@@ -36,6 +36,8 @@ pub enum Function {
     Prints,
     /// `delay`
     Delays,
+    /// `pvPut`
+    Puts,
     Others,
 }
 
@@ -89,6 +91,8 @@ pub fn function_of(name: &[u8]) -> Function
         Function::Prints
     } else if name == b"delay".as_slice() {
         Function::Delays
+    } else if name == b"pvPut".as_slice() {
+        Function::Puts
     } else {
         Function::Others
     }

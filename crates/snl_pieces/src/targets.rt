@@ -175,3 +175,35 @@ pub fn adjusted<'a>(
         _ => Instr::Push(0),
     }
 }
+
+/// `pvPut` of a name by its link.
+fn put_alone(sense: Sense, link: usize) -> Instr
+    ensures { result ≡ spec.put_alone sense link }
+{
+    match sense {
+        Sense::Varies(variable) => Instr::Put { variable, link },
+        Sense::Stands(_) => Instr::Push(0),
+    }
+}
+
+/// The same of an element.
+fn put_element(sense: Sense) -> Instr
+    ensures { result ≡ spec.put_element sense }
+{
+    match sense {
+        Sense::Varies(variable) => Instr::Get(variable),
+        Sense::Stands(_) => Instr::Push(0),
+    }
+}
+
+/// The instruction of `pvPut` at a target, after its subscript.
+pub fn put_instr<'a>(target: &Expr<'a>, known: &Known<'_, 'a>) -> Instr
+    ensures { result ≡ spec.put_instr (here_of known.now) (view target.now) }
+{
+    match target {
+        Expr::Parenthesized(inner) => put_instr(inner, known),
+        Expr::Named(name) => put_alone(known.sense(*name), known.link(*name)),
+        Expr::Element { name, .. } => put_element(known.sense(*name)),
+        _ => Instr::Push(0),
+    }
+}

@@ -1,10 +1,10 @@
-use Rattle.std.proofs.Common.{◌≡◌, ◌∙◌, ◌++◌, ap, arith, drop, reverse}
+use Rattle.std.proofs.Common.{◌≡◌, ◌∙◌, ◌∷◌, ◌++◌, ap, arith, drop, reverse}
 use Rattle.std.proofs.lemmas.Result.{on_ok_weaker}
 use Rattle.snl_syntax.specs.Expressions.{no_arguments}
-use Rattle.snl_syntax.specs.view.Expressions.{list_before}
+use Rattle.snl_syntax.specs.view.Expressions.{view, list_before}
 use Rattle.snl_pieces.specs.ExpressionCode.{values_code}
 use Rattle.snl_pieces.specs.Known.{here_of}
-use Rattle.snl_pieces.proofs.Emitting.{assigned-made, postfix-made, prefix-made, chain-made, call-made}
+use Rattle.snl_pieces.proofs.Emitting.{assigned-made, postfix-made, prefix-made, chain-made, call-made, put-made}
 use Rattle.snl_pieces.proofs.emission.+emission.Goals as goal
 
 pub emit_expression-returns-in-Call : goal.emit_expression-returns-in-Call
@@ -52,3 +52,11 @@ emit_values-returns t c =
     let all = c.args.arguments.now in
     let none : c.loop-number.number ≡ 0 = omega (arith, c.loop-number-test.false) in
     c.loop-number.invariant ∙ ap (λ n. values_code h (list_before (drop n all) no_arguments) ++ reverse c.args.code.now.items) none
+
+pub emit_put_of-returns : goal.emit_put_of-returns
+emit_put_of-returns t c =
+    on_ok_weaker c.emit_place.result
+    (put-made (here_of c.args.known.now) (view c.args.target.now)
+    (reverse c.args.code.now.items) (reverse c.put.new.code.items) (reverse c.emit_place.new.code.items)
+    (c.in_ok-put.ensures ∙ ap (λ i. i ∷ reverse c.args.code.now.items) c.put_instr.ensures))
+    c.emit_place.ensures

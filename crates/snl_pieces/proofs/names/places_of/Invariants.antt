@@ -5,4 +5,4 @@ use Rattle.snl_pieces.proofs.names.places_of.Given as goal
 
 abbrev pub invariant-loop-number : goal.invariant-loop-number
 invariant-loop-number l =
-    l.places.items ++ placed_from l.number (map held_view (drop l.number l.variables)) ≡ placed_from 0 (map held_view l.variables)
+    l.places.items ++ placed_from l.place (map held_view (drop l.number l.variables)) ≡ placed_from 0 (map held_view l.variables)
