@@ -6,6 +6,7 @@ use Rattle.snl_syntax.specs.Statements.{BlockTree}
 use Rattle.snl_pieces.specs.declared.instrs.Instr.{Instr}
 use Rattle.snl_pieces.specs.BlockCode.{condition_piece, block_piece}
 use Rattle.snl_pieces.specs.Names.{Here, format_at}
+use Rattle.snl_code.specs.Depths.{capped, program_depth}
 use Rattle.snl_code.specs.Heres.{here_in}
 use Rattle.snl_sites.specs.Programs.{sites}
 use Rattle.std.specs.List.{flat_map}
@@ -223,8 +224,9 @@ module _ (p : ProgramTree) where
 pub code-made : (p : ProgramTree) (c : Code) (before entered placed : List Instr) (sets : List StateSetTree) → sets ≡ p.state_sets → before ≡ []
     → entered ≡ before ++ first p → c.entry ≡ start_after before p.entry
     → placed ≡ entered ++ row_code (set_code p) 0 sets → map state_tables c.sets.items ≡ row_starts (set_code p) (set_starts p) 0 entered sets
-    → c.instrs.items ≡ placed ++ last p → c.exit ≡ start_after placed p.exit → texts_of c ≡ flat_map format_at (sites p) → IsCodeOf p c
-code-made p c before entered placed sets es e0 e1 s1 e2 s2 e3 s3 ex =
+    → c.instrs.items ≡ placed ++ last p → c.exit ≡ start_after placed p.exit → texts_of c ≡ flat_map format_at (sites p)
+    → c.depth ≡ capped (program_depth p) → IsCodeOf p c
+code-made p c before entered placed sets es e0 e1 s1 e2 s2 e3 s3 ex ed =
     let e1' : entered ≡ first p = e1 ∙ ap (λ l. l ++ first p) e0 in
     let e2' : placed ≡ first p ++ middle p = e2 ∙ (λ j. e1' j ++ row_code (set_code p) 0 (es j)) in
     let e3' : c.instrs.items ≡ program_code p = e3 ∙ ap (λ l. l ++ last p) e2' ∙ append_assoc (first p) (middle p) (last p) in
@@ -236,4 +238,5 @@ code-made p c before entered placed sets es e0 e1 s1 e2 s2 e3 s3 ex =
       placed = λ piece. subst (λ l. IsPlaced p l (piece_of p piece) (start_in (table_of c) piece)) (sym e3')
           (subst (λ t. IsPlaced p (program_code p) (piece_of p piece) (start_in t piece)) (sym all) (all-placed p piece));
       texts = ex;
+      depth = ed;
     }

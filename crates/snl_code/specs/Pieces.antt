@@ -13,6 +13,7 @@ use Rattle.snl_pieces.specs.Right.{IsConditionAt, IsBlockAt}
 use Rattle.snl_code.specs.declared.code.Code.{Code}
 use Rattle.snl_code.specs.declared.starts.Piece.{Piece}
 use Rattle.snl_code.specs.declared.starts.Piece.TheVariants.{ProgramEntry, ProgramExit, Entry, Exit, Condition, Block}
+use Rattle.snl_code.specs.Depths.{capped, program_depth}
 use Rattle.snl_code.specs.Heres.{here_in}
 use Rattle.snl_code.specs.Starts.{table_of, start_in}
 
@@ -41,6 +42,15 @@ piece_of p (Exit set state) = option_and_then (λ s. option_map (Action set) s.e
 piece_of p (Condition set state k) = option_and_then (λ c. option_map (Test set) c.condition) (clause_at p set state k)
 piece_of p (Block set state k) = option_map (λ c. Action set c.block) (clause_at p set state k)
 
+-- How many operands a piece holds at once.
+abbrev pub piece_depth : PieceTree → ℕ
+piece_depth (Test set e) = expression_depth e
+piece_depth (Action set b) = block_depth b
+
+-- No piece holds more operands than its program does: room for the depth of the program is enough for each of them.
+abbrev pub DepthIsEnough : Type 0
+DepthIsEnough = (p : ProgramTree) (name : Piece) (piece : PieceTree) → piece_of p name ≡ Some piece → piece_depth piece ≤ program_depth p
+
 -- ---- the code of a program
 
 -- The code at a place is right for a piece, with room for as many operands as the piece needs at once.
@@ -59,7 +69,8 @@ abbrev pub texts_of : Code → List (List ℕ)
 texts_of c = map (λ t. t.items) c.texts.items
 
 -- Code is that of a program: each piece of the program has its place, where the code is right for it; no other piece
--- has one; and its texts are the strings of the program.
+-- has one; its texts are the strings of the program; and its depth is that of the program, or 2^64 - 1 where that is more.
 pub record IsCodeOf (p : ProgramTree) (c : Code) : Type 0 where
   pub placed : (piece : Piece) → IsPlaced p c.instrs.items (piece_of p piece) (start_in (table_of c) piece)
   pub texts : texts_of c ≡ flat_map format_at (sites p)
+  pub depth : c.depth ≡ capped (program_depth p)

@@ -15,6 +15,8 @@ pub struct Code {
     pub(crate) instrs: Vec<Instr>,
     /// The strings of the program, in the order of the source.
     pub(crate) texts: Vec<Vec<u8>>,
+    /// How many operands the code holds at once.
+    pub(crate) depth: usize,
     /// Where the program's own two blocks begin.
     pub(crate) entry: Option<usize>,
     pub(crate) exit: Option<usize>,
@@ -46,6 +48,13 @@ impl Code {
             Some(text) => text.as_slice(),
             None => &[],
         }
+    }
+
+    /// How many operands the code holds at once: with room for so many no piece runs out of room.
+    pub fn depth(&self) -> usize
+        ensures { result ≡ self.now.depth }
+    {
+        self.depth
     }
 
     /// The table of a state.

@@ -17,6 +17,7 @@ ghost use Rattle.snl_code.specs.Starts.{state_tables};
 
 use crate::code::Code;
 use crate::placing::{place_block, place_states};
+use crate::program_depths::program_depth;
 use crate::starts::StateStarts;
 use snl_links::{Link, Macros, links_of};
 use snl_pieces::{Instr, Known, Placed, places_of};
@@ -258,6 +259,7 @@ fn code_of<'a>(
     Ok(Code {
         instrs,
         texts,
+        depth: program_depth(program),
         entry,
         exit,
         sets,

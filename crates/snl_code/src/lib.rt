@@ -1,9 +1,13 @@
 //! The flat code of a whole program.
 #![tactic(auto)]
 
+mod block_depths;
 mod code;
 mod compiling;
+mod depths;
+pub mod laws;
 mod placing;
+mod program_depths;
 mod starts;
 
 pub use code::Code;

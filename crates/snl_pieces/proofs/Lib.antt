@@ -21,3 +21,4 @@ pub mod Emitting
 pub mod EntryCode
 pub mod DecimalSmall
 pub mod LoopCode
+pub mod Apart

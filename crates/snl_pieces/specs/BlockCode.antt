@@ -84,16 +84,17 @@ abbrev pub values_depth : List ExprTree → ℕ
 values_depth [] = 0
 values_depth (e ∷ es) = max (expression_depth e) (values_depth es)
 
--- The greatest depth of what the variables of a block begin with.
+-- The greatest depth in what some variables are declared with: their sizes, and what they begin with.
 abbrev pub entered_depth : List DeclaratorTree → ℕ
 entered_depth [] = 0
-entered_depth (d ∷ ds) = max (values_depth (values_of d.initial)) (entered_depth ds)
+entered_depth (d ∷ ds) = max (max (values_depth d.sizes) (values_depth (values_of d.initial))) (entered_depth ds)
 
 -- ---- statements
 
 -- Of a statement it is known how many instructions stand between its end and the end of the innermost loop, and
 -- between its end and the place where that loop goes on.
 abbrev mutual
+  -- a statement
   pub statement_code : Here → (out again : ℕ) → StatementTree → List Instr
   statement_code h out again (nested b) = block_code h out again b
   statement_code h out again empty = []
@@ -112,15 +113,18 @@ abbrev mutual
       let step = dropped_code h parts.step in
       dropped_code h parts.start ++ loop_code t.pos.line (statement_code h (length step + length test + 1) 0 s) step test
 
+  -- statements, one after another
   pub statements_code : Here → (out again : ℕ) → StatementList → List Instr
   statements_code h out again no_statements = []
   statements_code h out again (statement s rest) =
       let after = statements_code h out again rest in statement_code h (out + length after) (again + length after) s ++ after
 
+  -- a block: the entry, then its statements
   pub block_code : Here → (out again : ℕ) → BlockTree → List Instr
   block_code h out again (block ds all) = entered_code h (names_of ds) ++ statements_code h out again all
 
 abbrev mutual
+  -- a statement
   pub statement_depth : StatementTree → ℕ
   statement_depth (nested b) = block_depth b
   statement_depth empty = 0
@@ -134,10 +138,12 @@ abbrev mutual
   statement_depth (for_loop t parts s) =
       max (max (maybe_depth parts.start) (maybe_depth parts.condition)) (max (maybe_depth parts.step) (statement_depth s))
 
+  -- statements
   pub statements_depth : StatementList → ℕ
   statements_depth no_statements = 0
   statements_depth (statement s rest) = max (statement_depth s) (statements_depth rest)
 
+  -- a block, with what its variables are declared with
   pub block_depth : BlockTree → ℕ
   block_depth (block ds all) = max (entered_depth (names_of ds)) (statements_depth all)
 

@@ -127,6 +127,7 @@ entered h ds w = then_do (all_cleared h ds w) (λ _ u. all_begun h ds u)
 -- ---- statements
 
 abbrev mutual
+  -- a statement
   pub effect_of : Here → StatementTree → World → Ran Way
   effect_of h (nested b) w = block_effect h b w
   effect_of h empty w = Gives Done w []
@@ -140,9 +141,11 @@ abbrev mutual
   effect_of h (for_loop t parts s) w =
       then_do (evaluated h parts.start w) (λ _ u. looped t.pos.line (held_by h parts.condition) (effect_of h s) (evaluated h parts.step) u)
 
+  -- statements, one after another
   pub effects_of : Here → StatementList → World → Ran Way
   effects_of h no_statements w = Gives Done w []
   effects_of h (statement s rest) w = then_do (effect_of h s w) (if_done (effects_of h rest))
 
+  -- a block: the entry, then its statements
   pub block_effect : Here → BlockTree → World → Ran Way
   block_effect h (block ds all) w = then_do (entered h (names_of ds) w) (λ _ u. effects_of h all u)

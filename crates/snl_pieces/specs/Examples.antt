@@ -23,9 +23,11 @@ use Rattle.snl_pieces.specs.World.{World}
 abbrev pub token : Kind → ℕ → ℕ → List ℕ → Token
 token kind offset line bytes = record { kind = kind; text = record { ref_ptr = (0, 0); now = bytes }; pos = record { offset = offset; file = 0; line = line } }
 
+-- a whole number
 abbrev pub whole : List ℕ → ExprTree
 whole bytes = constant (token kind.Whole 100 1 bytes)
 
+-- a sign or a word, in line 7
 abbrev pub sign : Kind → Token
 sign k = token k 100 7 []
 
@@ -33,15 +35,19 @@ sign k = token k 100 7 []
 abbrev pub x : Token
 x = token kind.Name 10 8 (codes "x")
 
+-- the use of `a`
 abbrev pub a : Token
 a = token kind.Name 11 9 (codes "a")
 
+-- the use of `y`
 abbrev pub y : Token
 y = token kind.Name 12 10 (codes "y")
 
+-- `"x %d\n"`
 abbrev pub format : Token
 format = token kind.Text 20 1 (codes "\"x %d\\n\"")
 
+-- what is known of them
 abbrev pub here : Here
 here = record {
   set = 0;
@@ -74,6 +80,7 @@ world first last ticks due = record {
   marks = [];
 }
 
+-- `x` is 0, `y` is 9, and 3 ticks are left
 abbrev pub start : World
 start = world (pos 0) (pos 9) 3 None
 
@@ -81,9 +88,11 @@ start = world (pos 0) (pos 9) 3 None
 abbrev pub binary : Kind → ExprTree → ExprTree → ExprTree
 binary k left right = chain left (term (sign k) right no_terms)
 
+-- `NAME++`
 abbrev pub increased : Token → ExprTree
 increased t = postfix (named t) (sign kind.PlusPlus)
 
+-- statements, one after another
 abbrev pub in_row : List StatementTree → StatementList
 in_row [] = no_statements
 in_row (s ∷ ss) = statement s (in_row ss)
@@ -108,6 +117,7 @@ ExpressionExamples =
 
 -- ---- statements
 
+-- `while (x < NUMBER) ..`
 abbrev pub while_less : List ℕ → StatementTree → StatementTree
 while_less bound body = while_loop (sign kind.While) (binary kind.Less (named x) (whole bound)) body
 

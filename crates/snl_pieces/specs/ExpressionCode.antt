@@ -98,6 +98,7 @@ count_values (value e rest) = suc (count_values rest)
 -- ---- the code
 
 abbrev mutual
+  -- an expression
   pub expression_code : Here → ExprTree → List Instr
   expression_code h (constant t) = Push (constant_of t.kind t.text.now) ∷ []
   expression_code h (parenthesized e) = expression_code h e
@@ -116,10 +117,12 @@ abbrev mutual
       target_code h e (λ v x. put_code (compound_of op.kind) op.pos.line (expression_code h r) v x.pos.line)
       (λ v x. put_at_code (compound_of op.kind) op.pos.line (expression_code h r) x.pos.line v) (expression_code h r)
 
+  -- the operators and operands of one level
   pub terms_code : Here → TermList → List Instr
   terms_code h no_terms = []
   terms_code h (term op e rest) = joint_code (joint_of op.kind) op.pos.line (expression_code h e) ++ terms_code h rest
 
+  -- what is done at a target, after its subscript
   pub target_code : Here → ExprTree → CodeOn → CodeOn → List Instr → List Instr
   target_code h (parenthesized e) alone indexed other = target_code h e alone indexed other
   target_code h (named x) alone indexed other = at_name_code (sense_of h x) x alone other
@@ -127,19 +130,23 @@ abbrev mutual
       expression_code h e ++ at_code (sense_of h x) b.pos.line (λ v. indexed v x) other
   target_code h _ alone indexed other = other
 
+  -- `printf`: its values, then its line
   pub print_code : Here → ArgumentList → List Instr
   print_code h (text t rest) = values_code h rest ++ Print (format_number h t) (count_values rest) ∷ []
   print_code h _ = Push (pos 0) ∷ []
 
+  -- the values of arguments; a string has none
   pub values_code : Here → ArgumentList → List Instr
   values_code h no_arguments = []
   values_code h (text t rest) = values_code h rest
   values_code h (value e rest) = expression_code h e ++ values_code h rest
 
+  -- `delay`: the time, then the look at the clock
   pub wait_code : Here → ArgumentList → List Instr
   wait_code h (value e rest) = expression_code h e ++ Wait (not (is_decimal e)) ∷ []
   wait_code h _ = Push (pos 0) ∷ []
 
+  -- `pvPut`: what is done at its target
   pub put_call_code : Here → ArgumentList → List Instr
   put_call_code h (value e rest) = target_code h e (λ v x. Put v (link_number h x) ∷ []) (λ v x. Get v ∷ []) (Push (pos 0) ∷ [])
   put_call_code h _ = Push (pos 0) ∷ []
@@ -149,6 +156,7 @@ abbrev mutual
 -- The greatest number of operands at once. It does not look at what names mean. A constant, a variable and a call
 -- without an expression need 1; an operator holds what is left of it while its operand is computed.
 abbrev mutual
+  -- an expression
   pub expression_depth : ExprTree → ℕ
   expression_depth (constant t) = 1
   expression_depth (parenthesized e) = expression_depth e
@@ -162,6 +170,7 @@ abbrev mutual
   expression_depth (assignment e op r) =
       target_depth e (expression_depth r + held_depth (compound_of op.kind)) (expression_depth r + held_depth (compound_of op.kind) + 1)
 
+  -- the operators and operands of one level
   pub terms_depth : TermList → ℕ
   terms_depth no_terms = 0
   terms_depth (term op e rest) = max (joint_depth (joint_of op.kind) (expression_depth e)) (terms_depth rest)
@@ -172,6 +181,7 @@ abbrev mutual
   target_depth (element x b e) alone indexed = max (expression_depth e) indexed
   target_depth _ alone indexed = alone
 
+  -- `printf`
   pub print_depth : ArgumentList → ℕ
   print_depth (text t rest) = max 1 (values_depth 0 rest)
   print_depth _ = 1
@@ -182,10 +192,12 @@ abbrev mutual
   values_depth k (text t rest) = values_depth k rest
   values_depth k (value e rest) = max (expression_depth e + k) (values_depth (suc k) rest)
 
+  -- `delay`
   pub wait_depth : ArgumentList → ℕ
   wait_depth (value e rest) = expression_depth e
   wait_depth _ = 1
 
+  -- `pvPut`
   pub put_depth : ArgumentList → ℕ
   put_depth (value e rest) = target_depth e 1 1
   put_depth _ = 1

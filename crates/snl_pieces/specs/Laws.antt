@@ -1,9 +1,12 @@
 -- Laws of the meaning.
-use Rattle.std.specs.Prelude.{◌≡◌, ◌<◌, ℕ, List, ◌∷◌, ◌++◌, Option}
+use Rattle.std.specs.Prelude.{◌≡◌, ◌<◌, ◌≤◌, ◌+◌, ◌-◌, ◌^◌, ℕ, List, [], ◌∷◌, ◌++◌, Option, Some, slice_get}
 use Rattle.snl_syntax.specs.Expressions.{ExprTree}
 use Rattle.snl_syntax.specs.Statements.{StatementTree}
 use Rattle.snl_pieces.specs.Effect.{held_by, evaluated, turns, looped, effect_of}
-use Rattle.snl_pieces.specs.Names.{Here, text_number, text_of}
+use Rattle.snl_sites.specs.Scopes.{elements}
+use Rattle.snl_sites.specs.Variables.{Held}
+use Rattle.snl_pieces.specs.declared.names.Placed.{Placed}
+use Rattle.snl_pieces.specs.Names.{Here, text_number, text_of, placed_from}
 use Rattle.snl_pieces.specs.World.{World}
 
 -- A loop has turns enough: with any number of turns above the ticks that are left it does the same.
@@ -15,3 +18,18 @@ TurnsAreEnough = (h : Here) (line : ℕ) (condition step : Option ExprTree) (s :
 abbrev pub TextsAreFound : Type 0
 TextsAreFound = (before after : List (List ℕ)) (text : List ℕ) →
     text_of (before ++ text ∷ after) (text_number (before ++ text ∷ after) text) ≡ text
+
+-- How many words some variables have.
+abbrev pub words_of : List Held → ℕ
+words_of [] = 0
+words_of (v ∷ vs) = elements v.size + words_of vs
+
+-- No variable has a word outside its copy,
+abbrev pub VariablesLieWithin : Type 0
+VariablesLieWithin = (vs : List Held) (i : ℕ) (x : Placed) → words_of vs ≤ 2 ^ 64 - 1 → slice_get (placed_from 0 vs) i ≡ Some x →
+    x.variable.place + x.variable.size ≤ words_of vs
+
+-- and no two variables share a word: the words of the later one begin after those of the earlier one.
+abbrev pub VariablesAreApart : Type 0
+VariablesAreApart = (vs : List Held) (i j : ℕ) (x y : Placed) → words_of vs ≤ 2 ^ 64 - 1 → i < j →
+    slice_get (placed_from 0 vs) i ≡ Some x → slice_get (placed_from 0 vs) j ≡ Some y → x.variable.place + x.variable.size ≤ y.variable.place

@@ -150,6 +150,7 @@ printing h format taken w = printed h.set_name (text_of (formats_of h) format) t
 -- ---- expressions
 
 abbrev mutual
+  -- an expression
   pub value_of : Here → ExprTree → World → Ran ℤ
   value_of h (constant t) w = Gives (constant_of t.kind t.text.now) w []
   value_of h (parenthesized e) w = value_of h e w

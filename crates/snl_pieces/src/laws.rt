@@ -1,7 +1,7 @@
 //! Laws of the flat code. Each is a function without code, whose contract is the law.
 
 ghost use Rattle.snl_pieces.specs.Examples.{ExpressionExamples, StatementExamples};
-ghost use Rattle.snl_pieces.specs.Laws.{TextsAreFound, TurnsAreEnough};
+ghost use Rattle.snl_pieces.specs.Laws.{TextsAreFound, TurnsAreEnough, VariablesAreApart, VariablesLieWithin};
 ghost use Rattle.snl_pieces.specs.Right.{BlocksAreRight, ConditionsAreRight, DepthIsWithinTokens, OnlyTicksLeadBack};
 
 /// The code of a condition is right for it, wherever it stands.
@@ -42,4 +42,16 @@ pub fn turns_are_enough()
 /// A text among some is found by its number.
 pub fn texts_are_found()
     ensures { TextsAreFound }
+{}
+
+/// No variable has a word outside the copy of its state set.
+#[tactic(auto, using(crate::proofs::Apart::variables_lie_within))]
+pub fn variables_lie_within()
+    ensures { VariablesLieWithin }
+{}
+
+/// No two variables of a copy share a word.
+#[tactic(auto, using(crate::proofs::Apart::variables_are_apart))]
+pub fn variables_are_apart()
+    ensures { VariablesAreApart }
 {}

@@ -38,6 +38,7 @@ pub enum Function {
     Delays,
     /// `pvPut`
     Puts,
+    /// Any other.
     Others,
 }
 

@@ -1,0 +1,66 @@
+-- Depths that stop at the greatest number of 64 bits.
+use Rattle.std.proofs.Common.{◌≡◌, ◌∙◌, ◌+◌, ◌<◌, ℕ, Bool, List, [], ◌∷◌, ◌++◌, refl, sym, ap, arith, length, drop, get_or, map}
+use Rattle.std.specs.Prelude.{max}
+use Rattle.std.proofs.lemmas.List.{drop_more}
+use Rattle.snl_syntax.specs.declared.declarations.Declaration.{Declaration}
+use Rattle.snl_syntax.specs.declared.declarations.Declarator.{Declarator}
+use Rattle.snl_syntax.specs.declared.expressions.Argument.{Argument, Value', Text}
+use Rattle.snl_syntax.specs.Expressions.{ExprTree, constant, parenthesized, named, element, call, postfix, prefix, chain, conditional, assignment, no_arguments}
+use Rattle.snl_syntax.specs.view.Expressions.{list_before}
+use Rattle.snl_syntax.specs.Declarations.{DeclaratorTree}
+use Rattle.snl_syntax.specs.view.Declarations.{value_list, declarator_view, declaration_view}
+use Rattle.snl_sites.specs.Types.{listed_values}
+use Rattle.snl_sites.proofs.ListLaws.{listed_of}
+use Rattle.snl_pieces.specs.BlockCode.{entered_depth}
+use Rattle.snl_pieces.specs.Effect.{names_of}
+use Rattle.snl_pieces.specs.ExpressionCode.{target_depth}
+use Rattle.snl_pieces.specs.ExpressionCode.{values_depth as deepest}
+use Rattle.snl_code.specs.DepthParts.{value_depth, held_after}
+use Rattle.snl_code.specs.Depths.{capped}
+
+-- the larger of two
+pub capped_max : (a b : ℕ) → max (capped a) (capped b) ≡ capped (max a b)
+capped_max a b = omega arith
+
+-- the depth of a target, where what is done there is known up to the limit
+pub target_capped : (e : ExprTree) (a b i k : ℕ) → capped a ≡ capped b → capped i ≡ capped k → capped (target_depth e a i) ≡ capped (target_depth e b k)
+target_capped (parenthesized e) a b i k h l = target_capped e a b i k h l
+target_capped (element x t e) a b i k h l = omega (arith, h, l)
+target_capped (constant t) a b i k h l = h
+target_capped (named x) a b i k h l = h
+target_capped (call f all) a b i k h l = h
+target_capped (postfix e op) a b i k h l = h
+target_capped (prefix op e) a b i k h l = h
+target_capped (chain e rest) a b i k h l = h
+target_capped (conditional c e f) a b i k h l = h
+target_capped (assignment e op r) a b i k h l = h
+
+-- one more argument of `printf`
+pub values_step : (held : ℕ) (a : Argument) (rest : List Argument) →
+    deepest held (list_before (a ∷ rest) no_arguments) ≡ max (value_depth held a) (deepest (held_after held a) (list_before rest no_arguments))
+values_step held (Value' p e) rest = refl
+values_step held (Text t) rest = omega arith
+
+-- the depth of the names of one declaration and of others
+pub entered_append : (ds es : List DeclaratorTree) → entered_depth (ds ++ es) ≡ max (entered_depth ds) (entered_depth es)
+entered_append [] es = omega arith
+entered_append (d ∷ ds) es = omega (arith, entered_append ds es)
+
+-- the values of a list in braces
+pub values_listed : (es : List ExprTree) (comma : Bool) → listed_values (value_list es comma) ≡ es
+values_listed es comma = listed_of es comma
+
+-- the names of one declaration more
+pub declarations_more : (all : List Declaration) (n : ℕ) (x : Declaration) (v : List Declarator) (d f e w : ℕ) → n < length all → x ≡ get_or all n x
+    → v ≡ x.names.items → f ≡ capped (entered_depth (map declarator_view v)) → e ≡ max d f
+    → max d (capped (entered_depth (names_of (map declaration_view (drop n all))))) ≡ w
+    → max e (capped (entered_depth (names_of (map declaration_view (drop (n + 1) all))))) ≡ w
+declarations_more all n x v d f e w within is ev ef ee so_far =
+    let y = get_or all n x in
+    let rest = names_of (map declaration_view (drop (n + 1) all)) in
+    let whole : entered_depth (names_of (map declaration_view (drop n all))) ≡ max (entered_depth (map declarator_view v)) (entered_depth rest) =
+    ap (λ l. entered_depth (names_of (map declaration_view l))) (drop_more all n x within)
+    ∙ entered_append (map declarator_view y.names.items) rest
+    ∙ ap (λ l. max (entered_depth (map declarator_view l)) (entered_depth rest)) (ap (λ z. z.names.items) (sym is) ∙ sym ev)
+    in
+    omega (arith, ef, ee, so_far, whole)

@@ -1,0 +1,9 @@
+use Rattle.std.proofs.Common.{◌≡◌, map, drop}
+use Rattle.std.specs.Prelude.{max}
+use Rattle.snl_syntax.specs.view.Expressions.{boxed}
+use Rattle.snl_pieces.specs.BlockCode.{values_depth}
+use Rattle.snl_code.specs.Depths.{capped}
+use Rattle.snl_code.proofs.block_depths.values_depth.Given as goal
+
+abbrev pub invariant-loop-value : goal.invariant-loop-value
+invariant-loop-value l = max l.depth (capped (values_depth (map boxed (drop l.value-index l.values)))) ≡ capped (values_depth (map boxed l.values))

@@ -1,0 +1,31 @@
+-- The depth of single forms, as it is computed.
+use Rattle.std.specs.Prelude.{ℕ, suc, ◌+◌, List}
+use Rattle.snl_text.specs.declared.kinds.Kind.{Kind}
+use Rattle.snl_text.specs.declared.tokens.Token.{Token}
+use Rattle.snl_syntax.specs.declared.expressions.Argument.{Argument, Value', Text}
+use Rattle.snl_syntax.specs.view.Expressions.{view}
+use Rattle.snl_syntax.specs.Expressions.{ExprTree, ArgumentList}
+use Rattle.snl_pieces.specs.ExpressionCode.{expression_depth, target_depth, signed_depth, joint_depth, called_depth, print_depth, wait_depth, put_depth}
+use Rattle.snl_pieces.specs.Value.{sign_of, joint_of, function_of}
+
+-- A sign with its operand.
+abbrev pub sign_depth : Kind → ExprTree → ℕ
+sign_depth op e = signed_depth (sign_of op) (target_depth e 2 3) (expression_depth e)
+
+-- An operator with its operand.
+abbrev pub term_depth : Token × ExprTree → ℕ
+term_depth t = joint_depth (joint_of t.0.kind) (expression_depth t.1)
+
+-- A call with its arguments.
+abbrev pub call_depth : List ℕ → ArgumentList → ℕ
+call_depth name all = called_depth (function_of name) (print_depth all) (wait_depth all) (put_depth all)
+
+-- An argument of `printf`, while some values are held.
+abbrev pub value_depth : ℕ → Argument → ℕ
+value_depth held (Value' p e) = expression_depth (view e) + held
+value_depth held (Text t) = 0
+
+-- How many values are held after an argument.
+abbrev pub held_after : ℕ → Argument → ℕ
+held_after held (Value' p e) = suc held
+held_after held (Text t) = held

@@ -1,0 +1,203 @@
+//! How many operands an expression holds at once. A depth that would leave 64 bits stays at their greatest number.
+
+ghost use Rattle.std.specs.Prelude.{◌≡◌, ◌-◌, ◌^◌, ◌<◌, map, max};
+ghost use Rattle.snl_syntax.specs.Expressions.{no_arguments};
+ghost use Rattle.snl_syntax.specs.view.Lists.{term_list};
+ghost use Rattle.snl_syntax.specs.view.Expressions.{view, boxed, pair_of, list_before};
+ghost use Rattle.snl_syntax.specs.view.Shown.{shown};
+ghost use Rattle.snl_pieces.specs.BlockCode as block;
+ghost use Rattle.snl_pieces.specs.ExpressionCode as spec;
+ghost use Rattle.snl_code.specs.Depths.{capped};
+ghost use Rattle.snl_pieces.specs.Value.{compound_of as compound};
+ghost use Rattle.snl_code.specs.DepthParts as parts;
+
+use snl_pieces::{Function, Joint, Sign, compound_of, function_of, joint_of, sign_of};
+use snl_syntax::{Argument, Expr, Term};
+use snl_text::{Kind, Token};
+
+/// The larger of two numbers.
+pub fn larger(left: usize, right: usize) -> usize
+    ensures { result ≡ max left right }
+{
+    if left < right { right } else { left }
+}
+
+/// How many numbers an assignment by this operator holds while its right side is computed.
+fn held_by(operator: Kind) -> usize
+    ensures { result ≡ spec.held_depth (compound operator) }
+{
+    match compound_of(operator) {
+        None => 0,
+        Some(_) => 1,
+    }
+}
+
+/// How many values are held after an argument, if some were before.
+fn held_after(argument: &Argument, held: usize) -> usize
+    requires { held < 2 ^ 64 - 1 }
+    ensures { result ≡ parts.held_after held argument.now }
+{
+    match argument {
+        Argument::Value(_) => held + 1,
+        Argument::Text(_) => held,
+    }
+}
+
+/// Of an expression.
+#[cycle(depths)]
+pub fn expression_depth(expression: &Expr) -> usize
+    ensures { result ≡ capped (spec.expression_depth (view expression.now)) }
+{
+    match expression {
+        Expr::Constant(_) | Expr::Named(_) => 1,
+        Expr::Parenthesized(inner) => expression_depth(inner),
+        Expr::Element { index, .. } => expression_depth(index),
+        Expr::Call(name, arguments) => call_depth(arguments.as_slice(), *name),
+        Expr::Postfix(operand, sign) | Expr::Prefix(sign, operand) => sign_depth(operand, *sign),
+        Expr::Chain(first, terms) => {
+            larger(expression_depth(first), terms_depth(terms.as_slice()))
+        }
+        Expr::Conditional { condition, yes, no } => larger(
+            expression_depth(condition),
+            larger(expression_depth(yes), expression_depth(no)),
+        ),
+        Expr::Assignment {
+            target,
+            operator,
+            value,
+        } => {
+            let alone = expression_depth(value).saturating_add(held_by(operator.kind));
+            target_depth(target, alone, alone.saturating_add(1))
+        }
+    }
+}
+
+/// Of a target, with what is done there to a variable, or to an element after its subscript.
+#[cycle(depths)]
+fn target_depth(target: &Expr, alone: usize, indexed: usize) -> usize
+    ensures { result ≡ capped (spec.target_depth (view target.now) alone indexed) }
+{
+    match target {
+        Expr::Parenthesized(inner) => target_depth(inner, alone, indexed),
+        Expr::Element { index, .. } => larger(expression_depth(index), indexed),
+        _ => alone,
+    }
+}
+
+/// Of a sign before or after its operand.
+#[cycle(depths)]
+fn sign_depth(operand: &Expr, sign: Token) -> usize
+    ensures { result ≡ capped (parts.sign_depth sign.entry.kind (view operand.now)) }
+{
+    match sign_of(sign.kind) {
+        Sign::Steps(_) => target_depth(operand, 2, 3),
+        Sign::Alone(_) => expression_depth(operand),
+    }
+}
+
+/// Of an operator with its operand.
+#[cycle(depths)]
+fn term_depth(term: &Term) -> usize
+    ensures { result ≡ capped (parts.term_depth (pair_of term.now)) }
+{
+    let depth = expression_depth(&term.operand);
+    match joint_of(term.operator.kind) {
+        Joint::Operation(_) => depth.saturating_add(1),
+        _ => depth,
+    }
+}
+
+/// Of the operators of a chain, each with its operand.
+#[cycle(depths)]
+fn terms_depth(terms: &[Term]) -> usize
+    ensures { result ≡ capped (spec.terms_depth (term_list (map pair_of terms.now))) }
+{
+    let mut depth = 0;
+    for term in terms {
+        depth = larger(depth, term_depth(term));
+    }
+    depth
+}
+
+/// Of a call with its arguments.
+#[cycle(depths)]
+fn call_depth(arguments: &[Argument], name: Token) -> usize
+    ensures { result
+        ≡ capped (parts.call_depth name.entry.text.now (list_before arguments.now no_arguments)) }
+{
+    match function_of(name.text) {
+        Function::Prints => print_depth(arguments),
+        Function::Delays => wait_depth(arguments),
+        Function::Puts => put_depth(arguments),
+        Function::Others => 1,
+    }
+}
+
+/// Of `printf`.
+#[cycle(depths)]
+fn print_depth(arguments: &[Argument]) -> usize
+    ensures { result ≡ capped (spec.print_depth (list_before arguments.now no_arguments)) }
+{
+    match arguments.first() {
+        Some(Argument::Text(_)) => larger(1, values_depth(arguments)),
+        _ => 1,
+    }
+}
+
+/// Of the values of `printf`. Each is computed while those before it are held.
+#[cycle(depths)]
+#[tactic(auto, using(crate::proofs::DepthLaws::values_step))]
+fn values_depth(arguments: &[Argument]) -> usize
+    ensures { result ≡ capped (spec.values_depth 0 (list_before arguments.now no_arguments)) }
+{
+    let mut depth = 0;
+    let mut held = 0usize;
+    for argument in arguments {
+        depth = larger(depth, value_depth(argument, held));
+        held = held_after(argument, held);
+    }
+    depth
+}
+
+/// Of an argument, while some values are held.
+#[cycle(depths)]
+fn value_depth(argument: &Argument, held: usize) -> usize
+    ensures { result ≡ capped (parts.value_depth held argument.now) }
+{
+    match argument {
+        Argument::Value(value) => expression_depth(value).saturating_add(held),
+        Argument::Text(_) => 0,
+    }
+}
+
+/// Of `delay`.
+#[cycle(depths)]
+fn wait_depth(arguments: &[Argument]) -> usize
+    ensures { result ≡ capped (spec.wait_depth (list_before arguments.now no_arguments)) }
+{
+    match arguments.first() {
+        Some(Argument::Value(time)) => expression_depth(time),
+        _ => 1,
+    }
+}
+
+/// Of `pvPut`.
+#[cycle(depths)]
+fn put_depth(arguments: &[Argument]) -> usize
+    ensures { result ≡ capped (spec.put_depth (list_before arguments.now no_arguments)) }
+{
+    match arguments.first() {
+        Some(Argument::Value(target)) => target_depth(target, 1, 1),
+        _ => 1,
+    }
+}
+
+/// Of an expression that may be missing.
+pub fn maybe_depth(expression: &Option<Box<Expr>>) -> usize
+    ensures { result ≡ capped (block.maybe_depth (shown boxed expression.now)) }
+{
+    match expression {
+        Some(expression) => expression_depth(expression),
+        None => 0,
+    }
+}
