@@ -17,6 +17,7 @@ pub mod DepthWithin
 pub mod Turns
 pub mod Texts
 pub mod TargetCode
+pub mod Topmost
 pub mod Emitting
 pub mod EntryCode
 pub mod DecimalSmall

@@ -17,7 +17,7 @@ pub enum Place {
 }
 
 /// What a byte leads to, if it may stand there.
-fn next(place: Place, byte: u8) -> Option<Place>
+pub fn next(place: Place, byte: u8) -> Option<Place>
     ensures { result ≡ spec.next place byte }
 {
     match place {
@@ -57,7 +57,7 @@ fn next(place: Place, byte: u8) -> Option<Place>
 }
 
 /// Whether a byte ends a conversion there.
-fn converts(place: Place, byte: u8) -> bool
+pub fn converts(place: Place, byte: u8) -> bool
     ensures { result ≡ spec.converts place byte }
 {
     match place {

@@ -10,7 +10,7 @@ mod declarations;
 mod definition_scopes;
 mod definitions;
 mod expressions;
-mod formats;
+pub mod formats;
 mod initialisers;
 pub mod laws;
 mod numbered;

@@ -1,11 +1,16 @@
 //! The store of a program that runs: all that a run reads and changes, and the words of the meaning done on it.
 #![tactic(auto)]
 
+mod running;
+mod settings;
 mod single;
 mod steps;
 mod stores;
+mod telling;
 mod words;
 
+pub use running::execute;
+pub use settings::Setting;
 pub use single::Lead;
 pub use steps::step;
 pub use stores::{Copy, Store};

@@ -1,6 +1,6 @@
 //! The store: all that a run reads and changes.
 
-ghost use Rattle.std.specs.Prelude.{◌≡◌, ◌+◌, false, pos, slice_get, slice_index_or, slice_set};
+ghost use Rattle.std.specs.Prelude.{◌≡◌, ◌+◌, [], false, pos, slice_get, slice_index_or, slice_set};
 
 use snl_pieces::{Live, Variable};
 
@@ -130,6 +130,16 @@ impl Store {
         ensures { slice_index_or (world_of self.now).ups channel false ≡ result }
     {
         self.ups.get(channel).copied().unwrap_or(false)
+    }
+
+    /// The name of a channel; empty where there is no such channel.
+    pub fn channel(&self, channel: usize) -> &[u8]
+        ensures { result.now ≡ slice_index_or (world_of self.now).channels channel [] }
+    {
+        match self.channels.get(channel) {
+            Some(name) => name.as_slice(),
+            None => &[],
+        }
     }
 
     /// What a link is tied to: None where there is no such link, and Some(None) where it has no channel.
