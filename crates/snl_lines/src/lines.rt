@@ -63,11 +63,7 @@ pub fn write_fault<'t, S: Sink>(
 }
 
 /// The front of a line of `pvPut`: `MS put CHANNEL`. The values follow.
-pub fn write_put<'t, S: Sink>(
-    sink: &mut S,
-    ms: u64,
-    channel: &'t [u8],
-) -> Result<(), SinkFault>
+pub fn write_put<'t, S: Sink>(sink: &mut S, ms: u64, channel: &'t [u8]) -> Result<(), SinkFault>
     requires { S.failures sink.old < 2 ^ 64 - 1 }
     ensures told { Wrote result (put_front ms channel.now) (S.told sink.old) (S.told sink.new) }
     ensures failures { S.failures sink.new ≡ counted (is_err result) (S.failures sink.old) }

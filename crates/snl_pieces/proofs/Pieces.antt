@@ -9,11 +9,11 @@ use Rattle.snl_pieces.specs.Effect.{Way, Done, Broken, Continued, Left, block_ef
 use Rattle.snl_pieces.specs.ExpressionCode.{expression_code, expression_depth}
 use Rattle.snl_pieces.specs.Names.{Here}
 use Rattle.snl_pieces.specs.Ran.{Ran, Gives, Faults, also, then_do}
-use Rattle.snl_pieces.specs.Right.{ends_with, led_to, leads_to, HasAt, IsNotStuck, ConditionsAreRight, BlocksAreRight}
+use Rattle.snl_pieces.specs.Right.{ends_with, led_to, leads_to, HasAt, IsNotStuck, IsOver, ConditionsAreRight, BlocksAreRight}
 use Rattle.snl_pieces.specs.Run.{Setting, setting_of, Exit, Over, step_of, from_there, exec, run_of}
 use Rattle.snl_pieces.specs.Value.{value_of}
 use Rattle.snl_pieces.specs.World.{World}
-use Rattle.snl_pieces.proofs.Ends.{IsOver, enough, not_stuck}
+use Rattle.snl_pieces.proofs.Ends.{enough, not_stuck}
 use Rattle.snl_pieces.proofs.Following.{has_front, has_back, Continues, run_at}
 use Rattle.snl_pieces.proofs.Leading.{led}
 use Rattle.snl_pieces.proofs.StatementCode.{block-follows}

@@ -9,7 +9,7 @@ mod stores;
 mod telling;
 mod words;
 
-pub use running::execute;
+pub use running::{evaluate, perform};
 pub use settings::Setting;
 pub use single::Lead;
 pub use steps::step;

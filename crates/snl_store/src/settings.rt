@@ -19,7 +19,7 @@ impl<'t> Setting<'t> {
 
     /// The string of a number; empty where there is none.
     pub fn format(self, number: usize) -> &'t [u8]
-        ensures { result.now ≡ text_of (names_of self).formats number }
+        ensures { result.now ≡ text_of (names_of self.entry).formats number }
     {
         match self.formats.get(number) {
             Some(text) => text.as_slice(),
