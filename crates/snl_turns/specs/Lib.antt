@@ -1,0 +1,3 @@
+pub mod Refresh
+pub mod Turn
+pub mod Plans

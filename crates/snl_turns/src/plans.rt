@@ -1,0 +1,32 @@
+//! What a machine keeps of the state sets of a program, beside their code.
+
+use crate::feeds::Feed;
+
+/// A clause.
+#[derive(Clone, Copy)]
+pub struct ClausePlan {
+    /// Where the code of its condition begins; None where it has none.
+    pub condition: Option<usize>,
+    /// Where the code of its block begins.
+    pub block: usize,
+    /// The number of the state that it leads to.
+    pub target: usize,
+    /// The line of the word `when`, from 1.
+    pub line: usize,
+}
+
+/// A state.
+#[derive(Drop)]
+pub struct StatePlan {
+    pub name: Vec<u8>,
+    pub clauses: Vec<ClausePlan>,
+}
+
+/// A state set.
+#[derive(Drop)]
+pub struct SetPlan {
+    pub name: Vec<u8>,
+    pub states: Vec<StatePlan>,
+    /// By link: which words of its copy take the values of the link.
+    pub feeds: Vec<Feed>,
+}
