@@ -1,48 +1,69 @@
--- What it means that the plan of a state set is right for it.
-use Rattle.std.specs.Prelude.{◌≡◌, ℕ, List, Option, None, Some, slice_get}
-use Rattle.snl_syntax.specs.Expressions.{ExprTree}
-use Rattle.snl_syntax.specs.Programs.{ClauseTree, StateTree, StateSetTree}
+-- What the plan of a state set means, with the code of its pieces.
+use Rattle.std.specs.Prelude.{◌≡◌, ℕ, Bool, true, List, [], map, Option, None, Some, slice_get}
 use Rattle.snl_pieces.specs.declared.instrs.Instr.{Instr}
-use Rattle.snl_pieces.specs.Names.{Here}
-use Rattle.snl_pieces.specs.Right.{IsConditionAt, IsBlockAt}
+use Rattle.snl_pieces.specs.Effect.{holds}
+use Rattle.snl_pieces.specs.Ran.{Ran, Gives, then_do}
+use Rattle.snl_pieces.specs.Right.{IsOver}
+use Rattle.snl_pieces.specs.Run.{Setting, run_of}
+use Rattle.snl_pieces.specs.World.{World}
+use Rattle.snl_store.specs.Running.{names_of, LeavesValue, value_at, left_at}
 use Rattle.snl_turns.specs.declared.plans.ClausePlan.{ClausePlan}
 use Rattle.snl_turns.specs.declared.plans.StatePlan.{StatePlan}
 use Rattle.snl_turns.specs.declared.plans.SetPlan.{SetPlan}
-use Rattle.snl_turns.specs.Turn.{target_of}
+use Rattle.snl_turns.specs.declared.plans.Stage.{Stage}
+use Rattle.snl_turns.specs.Turn.{Clause, State, StateSet}
 
--- Both are there and fit each other, or none is there.
-abbrev pub IsPair : {A B : Type 0} → (A → B → Type 0) → Option A → Option B → Type 0
-IsPair Fits None None = Unit {0}
-IsPair Fits (Some a) (Some b) = Fits a b
-IsPair Fits _ _ = ⊥
+-- Whether the condition whose code begins at a place holds. A missing one does.
+abbrev pub held_at : Setting → List Instr → Option ℕ → World → Ran Bool
+held_at g code None w = Gives true w []
+held_at g code (Some start) w = then_do (value_at g code start w) holds
 
--- Members of the same number fit each other.
-abbrev pub ArePairs : {A B : Type 0} → (A → B → Type 0) → List A → List B → Type 0
-ArePairs Fits as bs = (k : ℕ) → IsPair Fits (slice_get as k) (slice_get bs k)
+-- What stands for a clause,
+abbrev pub clause_of : Setting → List Instr → ClausePlan → Clause
+clause_of g code c = record { holds = held_at g code c.condition; acts = left_at g code c.block; target = c.target; line = c.line }
 
--- The code that a piece runs in: where it stands, and the room of its operands.
-pub record Place : Type 0 where
-  pub here : Here
-  pub code : List Instr
-  pub room : ℕ
+-- for a state,
+abbrev pub state_of : Setting → List Instr → StatePlan → State
+state_of g code s = record { name = s.name.items; clauses = map (clause_of g code) s.clauses.items }
 
--- The code at a place is right for a condition.
-abbrev pub IsTestAt : Place → ExprTree → ℕ → Type 0
-IsTestAt p e start = IsConditionAt p.here p.code p.room start e
+-- and for a state set.
+abbrev pub set_of : Setting → List Instr → SetPlan → StateSet
+set_of g code s = record { set = g.set; name = g.name; states = map (state_of g code) s.states.items; feeds = s.feeds.items }
 
--- A plan is right for a clause: its pieces are, and it has the number of its state and the line of its word.
-pub record IsClausePlan (p : Place) (c : ClauseTree) (plan : ClausePlan) : Type 0 where
-  pub condition : IsPair (IsTestAt p) c.condition plan.condition
-  pub block : IsBlockAt p.here p.code p.room plan.block c.block
-  pub target : plan.target ≡ target_of p.here c.target
-  pub line : plan.line ≡ c.word.pos.line
+-- The clause that was chosen, if one was.
+abbrev pub clause_by : Setting → List Instr → Option ClausePlan → Option Clause
+clause_by g code None = None
+clause_by g code (Some c) = Some (clause_of g code c)
 
--- The same of a state: its name and its clauses.
-pub record IsStatePlan (p : Place) (s : StateTree) (plan : StatePlan) : Type 0 where
-  pub name : plan.name.items ≡ s.name.text.now
-  pub clauses : ArePairs (IsClausePlan p) s.clauses plan.clauses.items
+-- What the code of a stage runs with.
+abbrev pub setting_on : Stage → Setting
+setting_on t = let n = names_of t.setting in record { set = t.setting.set; name = n.name; formats = n.formats; room = t.room }
 
--- The same of a state set: its name and its states.
-pub record IsSetPlan (p : Place) (g : StateSetTree) (plan : SetPlan) : Type 0 where
-  pub name : plan.name.items ≡ p.here.set_name
-  pub states : ArePairs (IsStatePlan p) g.states plan.states.items
+-- The state set of a stage.
+abbrev pub set_on : Stage → StateSet
+set_on t = set_of (setting_on t) t.code.now t.plan.now
+
+-- ---- plans that can run
+
+-- The code at a place leaves a value in every world, if there is such a place.
+abbrev pub CanTest : Setting → List Instr → Option ℕ → Type 0
+CanTest g code None = Unit {0}
+CanTest g code (Some start) = (w : World) → LeavesValue (run_of g code start w)
+
+-- The pieces of a clause come to their ends in every world.
+pub record CanRun (g : Setting) (code : List Instr) (c : ClausePlan) : Type 0 where
+  pub condition : CanTest g code c.condition
+  pub block : (w : World) → IsOver (run_of g code c.block w)
+
+-- The same of a clause that may be missing.
+abbrev pub CanFire : Setting → List Instr → Option ClausePlan → Type 0
+CanFire g code None = Unit {0}
+CanFire g code (Some c) = CanRun g code c
+
+-- So do those of some clauses,
+abbrev pub CanRunAll : Setting → List Instr → List ClausePlan → Type 0
+CanRunAll g code cs = (k : ℕ) (c : ClausePlan) → slice_get cs k ≡ Some c → CanRun g code c
+
+-- and those of some states.
+abbrev pub CanRunSet : Setting → List Instr → List StatePlan → Type 0
+CanRunSet g code states = (k : ℕ) (s : StatePlan) → slice_get states k ≡ Some s → CanRunAll g code s.clauses.items

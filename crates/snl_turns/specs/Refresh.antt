@@ -19,11 +19,11 @@ overwritten words place (z ∷ zs) = overwritten (slice_set words place z) (suc 
 -- The words of a buffer are copied, where the state set has the variable.
 abbrev pub copied_to : ℕ → Option ℕ → Feed → World → World
 copied_to set None f w = w
-copied_to set (Some place) f w = with_words set (overwritten (copy_of set w).words (place + f.first) (words_at w.buffers f.from f.count)) w
+copied_to set (Some to) f w = with_words set (overwritten (copy_of set w).words to (words_at w.buffers f.from f.count)) w
 
 -- A link of this number: if it is marked, its buffer is copied and the mark is taken away.
 abbrev pub refreshed_link : ℕ → ℕ → Feed → World → World
-refreshed_link set number f w = if is_marked set number w then with_mark set number false (copied_to set f.place f w) else w
+refreshed_link set number f w = if is_marked set number w then with_mark set number false (copied_to set f.to f w) else w
 
 -- The links from a number on.
 abbrev pub refreshed_from : ℕ → ℕ → List Feed → World → World

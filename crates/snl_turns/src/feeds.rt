@@ -10,10 +10,8 @@ use snl_store::{Copy, Store};
 /// Which words of a state set's copy take the values of a link.
 #[derive(Clone, Copy)]
 pub struct Feed {
-    /// Where the words of the link's variable begin in the copy; None where the copy has no such variable.
-    pub place: Option<usize>,
-    /// The number of the first element that takes a value.
-    pub first: usize,
+    /// Where those words begin in the copy; None where the copy has no such variable.
+    pub to: Option<usize>,
     /// Where the link's buffer begins among the buffers, in words.
     pub from: usize,
     /// How many elements take values.
@@ -30,29 +28,25 @@ fn word_after(words: &[i64], place: usize, after: usize) -> i64
     }
 }
 
-/// Copies words of the buffers into a copy, where it has their places.
-fn overwrite(copy: &mut Copy, place: usize, feed: Feed, buffers: &[i64])
+/// Copies so many words of the buffers into a copy, from a place on.
+fn overwrite(copy: &mut Copy, to: usize, from: usize, count: usize, buffers: &[i64])
     ensures { copy_view copy.new ≡ record (copy_view copy.old) {
-      words = spec.overwritten copy.old.words.items (place + feed.first)
-          (words_at buffers.now feed.from feed.count);
+      words = spec.overwritten copy.old.words.items to (words_at buffers.now from count);
     } }
 {
-    for number in 0..feed.count {
-        let value = word_after(buffers, feed.from, number);
-        if let Some(after) = feed.first.checked_add(number) {
-            copy.set_word(place, after, value);
-        }
+    for number in 0..count {
+        copy.set_word(to, number, word_after(buffers, from, number));
     }
 }
 
 /// Copies the buffer of a link into its variable.
 fn copy_link(feed: Feed, set: usize, store: &mut Store)
-    ensures { world_of store.new ≡ spec.copied_to set feed.place feed (world_of store.old) }
+    ensures { world_of store.new ≡ spec.copied_to set feed.to feed (world_of store.old) }
 {
     let buffers = store.buffers.as_slice();
-    if let Some(place) = feed.place {
+    if let Some(to) = feed.to {
         if let Some(copy) = store.copies.get_mut(set) {
-            overwrite(copy, place, feed, buffers);
+            overwrite(copy, to, feed.from, feed.count, buffers);
         }
     }
 }

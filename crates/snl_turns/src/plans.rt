@@ -1,6 +1,8 @@
 //! What a machine keeps of the state sets of a program, beside their code.
 
 use crate::feeds::Feed;
+use snl_pieces::Instr;
+use snl_store::Setting;
 
 /// A clause.
 #[derive(Clone, Copy)]
@@ -29,4 +31,15 @@ pub struct SetPlan {
     pub states: Vec<StatePlan>,
     /// By link: which words of its copy take the values of the link.
     pub feeds: Vec<Feed>,
+}
+
+/// What a turn of a state set runs on.
+#[derive(Clone, Copy)]
+pub struct Stage<'t> {
+    pub plan: &'t SetPlan,
+    /// The code of the program.
+    pub code: &'t [Instr],
+    pub setting: Setting<'t>,
+    /// How many operands there is room for.
+    pub room: usize,
 }

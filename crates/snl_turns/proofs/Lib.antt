@@ -1,0 +1,4 @@
+pub mod Changes
+pub mod Choices
+pub mod Faulting
+pub mod Rooms

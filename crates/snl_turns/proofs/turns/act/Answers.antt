@@ -1,0 +1,35 @@
+use Rattle.std.proofs.Common.{ℕ, Option, sym, subst, Err}
+use Rattle.snl_lines.specs.Does.{Does, Gave}
+use Rattle.snl_lines.proofs.Doing.{does-then, stopped-then}
+use Rattle.snl_pieces.specs.Right.{IsOver}
+use Rattle.snl_pieces.specs.Run as run
+use Rattle.snl_store.specs.Running.{left_at}
+use Rattle.snl_store.specs.Views.{world_of}
+use Rattle.snl_turns.specs.Plans.{setting_on, set_on}
+use Rattle.snl_turns.specs.Turn.{arrived_by}
+use Rattle.snl_turns.proofs.Rooms.{same_setting}
+use Rattle.snl_turns.proofs.turns.act.Goals as goal
+
+pub perform-requires-clause-over : goal.perform-requires-clause-over
+perform-requires-clause-over g c =
+    let w = world_of c.args.store.now in
+    subst (λ (s : run.Setting). IsOver (run.run_of s c.args.stage.code.now c.args.clause.block w)) (sym (same_setting c.args.stage c.args.operands.now c.requires.room)) (c.requires.runs.block w)
+
+pub returns-in-Ok-clause-does : goal.returns-in-Ok-clause-does
+returns-in-Ok-clause-does g c =
+    let w = world_of c.args.store.now in
+    let code = c.args.stage.code.now in
+    let did = subst (λ (s : run.Setting). Gave c.in-Ok.left (world_of c.perform.new.store) (g.S.Sink.told c.args.sink.now) (g.S.Sink.told c.perform.new.sink) (left_at s code c.args.clause.block w))
+    (same_setting c.args.stage c.args.operands.now c.requires.room) c.in-Ok.ensures.does
+    in
+    does-then (λ x. x) c.arrive.result (left_at (setting_on c.args.stage) code c.args.clause.block w) (arrived_by (set_on c.args.stage) c.args.from.now c.args.clause.target) c.in-Ok.left _ _ _ _ _ did
+    (rw c.unwrap_or.ensures at c.arrive.ensures.does)
+
+pub returns-in-Err-clause-does : goal.returns-in-Err-clause-does
+returns-in-Err-clause-does g c =
+    let w = world_of c.args.store.now in
+    let code = c.args.stage.code.now in
+    let did = subst (λ (s : run.Setting). Does {V = Option ℕ} (λ x. x) (Err c.in-Err.stop) (world_of c.perform.new.store) (g.S.Sink.told c.args.sink.now) (g.S.Sink.told c.perform.new.sink) (left_at s code c.args.clause.block w))
+    (same_setting c.args.stage c.args.operands.now c.requires.room) c.in-Err.ensures.does
+    in
+    stopped-then (λ x. x) (λ x. x) c.in-Err.stop (left_at (setting_on c.args.stage) code c.args.clause.block w) (arrived_by (set_on c.args.stage) c.args.from.now c.args.clause.target) _ _ _ did

@@ -1,0 +1,294 @@
+//! The turn of a state set: refresh, conditions, a transition.
+
+ghost use Rattle.std.specs.Prelude.{◌≡◌, ◌-◌, ◌^◌, ◌<◌, map, slice_get, IfOk, Some};
+ghost use Rattle.snl_lines.specs.Devices.{counted, stopped_by_sink};
+ghost use Rattle.snl_lines.specs.Does.{Does};
+ghost use Rattle.snl_pieces.specs.Stack.{room_of};
+ghost use Rattle.snl_pieces.specs.World.{copy_of};
+ghost use Rattle.snl_store.specs.Views.{world_of};
+ghost use Rattle.snl_turns.specs.Plans.{CanTest, CanFire, CanRun, CanRunAll, CanRunSet, held_at, clause_of, clause_by, state_of, setting_on, set_on};
+ghost use Rattle.snl_turns.specs.Turn as spec;
+
+use crate::feeds::refresh;
+use crate::plans::{ClausePlan, Stage, StatePlan};
+use snl_lines::{Sink, Stop, fault_text, write_fault, write_go};
+use snl_pieces::Operands;
+use snl_store::{Store, evaluate, perform, spend};
+
+/// Whether a condition holds. A missing one does.
+fn holds<S: Sink>(
+    condition: Option<usize>,
+    stage: Stage,
+    store: &mut Store,
+    operands: &mut Operands,
+    sink: &mut S,
+) -> Result<bool, Stop>
+    requires failures { S.failures sink.old < 2 ^ 64 - 1 }
+    requires room { room_of operands.old ≡ stage.room }
+    requires runs { CanTest (setting_on stage) stage.code.now condition }
+    ensures does { Does (λ b. b) result (world_of store.new) (S.told sink.old) (S.told sink.new)
+        (held_at (setting_on stage.entry) stage.entry.code.now condition (world_of store.old)) }
+    ensures room { room_of operands.new ≡ room_of operands.old }
+    ensures failures { S.failures sink.new
+        ≡ counted (stopped_by_sink result) (S.failures sink.old) }
+{
+    match condition {
+        None => Ok(true),
+        Some(start) => match evaluate(stage.code, start, stage.setting, store, operands, sink) {
+            Ok(number) => Ok(number != 0),
+            Err(stop) => Err(stop),
+        },
+    }
+}
+
+/// The first clause whose condition holds. Those after it are not evaluated.
+fn first_true<S: Sink>(
+    clauses: &[ClausePlan],
+    stage: Stage,
+    store: &mut Store,
+    operands: &mut Operands,
+    sink: &mut S,
+) -> Result<Option<ClausePlan>, Stop>
+    requires failures { S.failures sink.old < 2 ^ 64 - 1 }
+    requires room { room_of operands.old ≡ stage.room }
+    requires runs { CanRunAll (setting_on stage) stage.code.now clauses.now }
+    ensures runs { IfOk result (CanFire (setting_on stage.entry) stage.entry.code.now) }
+    ensures does { Does (clause_by (setting_on stage.entry) stage.entry.code.now) result (world_of store.new) (S.told sink.old) (S.told sink.new)
+        (spec.chosen (map (clause_of (setting_on stage.entry) stage.entry.code.now) clauses.now) (world_of store.old)) }
+    ensures room { room_of operands.new ≡ room_of operands.old }
+    ensures failures { S.failures sink.new
+        ≡ counted (stopped_by_sink result) (S.failures sink.old) }
+{
+    for clause in clauses {
+        match holds(clause.condition, stage, store, operands, sink) {
+            Ok(true) => return Ok(Some(*clause)),
+            Ok(false) => {}
+            Err(stop) => return Err(stop),
+        }
+    }
+    Ok(None)
+}
+
+/// A state set is in a state from now on.
+fn enter(store: &mut Store, set: usize, state: usize)
+    ensures { world_of store.new ≡ spec.entered_in set state (world_of store.old) }
+{
+    let now = store.time;
+    if let Some(copy) = store.copies.get_mut(set) {
+        copy.state = state;
+        copy.entered = now;
+    }
+}
+
+/// The name of a state by its number; empty where there is none.
+fn state_name(stage: Stage<'_>, state: usize) -> &[u8]
+    ensures { result.now ≡ spec.state_name (set_on stage.entry) state }
+{
+    match stage.plan.states.get(state) {
+        Some(state) => state.name.as_slice(),
+        None => &[],
+    }
+}
+
+/// Writes the line of a transition, and takes the new state.
+fn arrive<S: Sink>(
+    target: usize,
+    from: &[u8],
+    stage: Stage,
+    store: &mut Store,
+    sink: &mut S,
+) -> Result<(), Stop>
+    requires failures { S.failures sink.old < 2 ^ 64 - 1 }
+    ensures does { Does (λ x. x) result (world_of store.new) (S.told sink.old) (S.told sink.new)
+        (spec.arrived (set_on stage.entry) from.now target (world_of store.old)) }
+    ensures failures { S.failures sink.new
+        ≡ counted (stopped_by_sink result) (S.failures sink.old) }
+{
+    match write_go(
+        sink,
+        store.time,
+        stage.setting.name,
+        from,
+        state_name(stage, target),
+    ) {
+        Ok(()) => {
+            enter(store, stage.setting.set, target);
+            Ok(())
+        }
+        Err(_) => Err(Stop::Sink),
+    }
+}
+
+/// A clause's block, and then its state, or the one that the block leaves for.
+fn act<S: Sink>(
+    clause: ClausePlan,
+    from: &[u8],
+    stage: Stage,
+    store: &mut Store,
+    operands: &mut Operands,
+    sink: &mut S,
+) -> Result<(), Stop>
+    requires failures { S.failures sink.old < 2 ^ 64 - 1 }
+    requires room { room_of operands.old ≡ stage.room }
+    requires runs { CanRun (setting_on stage) stage.code.now clause }
+    ensures does { Does (λ x. x) result (world_of store.new) (S.told sink.old) (S.told sink.new)
+        (spec.acted (set_on stage.entry) from.now (clause_of (setting_on stage.entry) stage.entry.code.now clause) (world_of store.old)) }
+    ensures room { room_of operands.new ≡ room_of operands.old }
+    ensures failures { S.failures sink.new
+        ≡ counted (stopped_by_sink result) (S.failures sink.old) }
+{
+    match perform(
+        stage.code,
+        clause.block,
+        stage.setting,
+        store,
+        operands,
+        sink,
+    ) {
+        Ok(left) => arrive(left.unwrap_or(clause.target), from, stage, store, sink),
+        Err(stop) => Err(stop),
+    }
+}
+
+/// A transition: a tick, the block, the line, the new state.
+fn transit<S: Sink>(
+    clause: ClausePlan,
+    from: &[u8],
+    stage: Stage,
+    store: &mut Store,
+    operands: &mut Operands,
+    sink: &mut S,
+) -> Result<(), Stop>
+    requires failures { S.failures sink.old < 2 ^ 64 - 1 }
+    requires room { room_of operands.old ≡ stage.room }
+    requires runs { CanRun (setting_on stage) stage.code.now clause }
+    ensures does { Does (λ x. x) result (world_of store.new) (S.told sink.old) (S.told sink.new)
+        (spec.transition (set_on stage.entry) from.now (clause_of (setting_on stage.entry) stage.entry.code.now clause) (world_of store.old)) }
+    ensures room { room_of operands.new ≡ room_of operands.old }
+    ensures failures { S.failures sink.new
+        ≡ counted (stopped_by_sink result) (S.failures sink.old) }
+{
+    match spend(store, clause.line) {
+        Ok(()) => act(clause, from, stage, store, operands, sink),
+        Err(charge) => Err(Stop::Fault(charge.fault, charge.line)),
+    }
+}
+
+/// The transition of the clause that was chosen, if one was; answers whether there was one.
+fn fire<S: Sink>(
+    clause: Option<ClausePlan>,
+    from: &[u8],
+    stage: Stage,
+    store: &mut Store,
+    operands: &mut Operands,
+    sink: &mut S,
+) -> Result<bool, Stop>
+    requires failures { S.failures sink.old < 2 ^ 64 - 1 }
+    requires room { room_of operands.old ≡ stage.room }
+    requires runs { CanFire (setting_on stage) stage.code.now clause }
+    ensures does { Does (λ b. b) result (world_of store.new) (S.told sink.old) (S.told sink.new)
+        (spec.fired (set_on stage.entry) from.now (clause_by (setting_on stage.entry) stage.entry.code.now clause) (world_of store.old)) }
+    ensures room { room_of operands.new ≡ room_of operands.old }
+    ensures failures { S.failures sink.new
+        ≡ counted (stopped_by_sink result) (S.failures sink.old) }
+{
+    match clause {
+        None => Ok(false),
+        Some(clause) => match transit(clause, from, stage, store, operands, sink) {
+            Ok(()) => Ok(true),
+            Err(stop) => Err(stop),
+        },
+    }
+}
+
+/// The conditions of a state, and the transition of the clause that fires.
+fn try_state<S: Sink>(
+    state: &StatePlan,
+    stage: Stage,
+    store: &mut Store,
+    operands: &mut Operands,
+    sink: &mut S,
+) -> Result<bool, Stop>
+    requires failures { S.failures sink.old < 2 ^ 64 - 1 }
+    requires room { room_of operands.old ≡ stage.room }
+    requires runs { CanRunAll (setting_on stage) stage.code.now state.now.clauses.items }
+    ensures does { Does (λ b. b) result (world_of store.new) (S.told sink.old) (S.told sink.new)
+        (spec.tried (set_on stage.entry)
+        (Some (state_of (setting_on stage.entry) stage.entry.code.now state.now)) (world_of store.old)) }
+    ensures room { room_of operands.new ≡ room_of operands.old }
+    ensures failures { S.failures sink.new
+        ≡ counted (stopped_by_sink result) (S.failures sink.old) }
+{
+    match first_true(state.clauses.as_slice(), stage, store, operands, sink) {
+        Ok(clause) => fire(clause, state.name.as_slice(), stage, store, operands, sink),
+        Err(stop) => Err(stop),
+    }
+}
+
+/// The number of the state that a state set is in.
+fn state_now(store: &Store, set: usize) -> usize
+    ensures { result ≡ (copy_of set (world_of store.now)).state }
+{
+    match store.copies.get(set) {
+        Some(copy) => copy.state,
+        None => 0,
+    }
+}
+
+/// The same of the state that the state set is in.
+fn try_clauses<S: Sink>(
+    stage: Stage,
+    store: &mut Store,
+    operands: &mut Operands,
+    sink: &mut S,
+) -> Result<bool, Stop>
+    requires failures { S.failures sink.old < 2 ^ 64 - 1 }
+    requires room { room_of operands.old ≡ stage.room }
+    requires runs { CanRunSet (setting_on stage) stage.code.now stage.plan.now.states.items }
+    ensures does { Does (λ b. b) result (world_of store.new) (S.told sink.old) (S.told sink.new)
+        (spec.tried (set_on stage.entry) (slice_get (set_on stage.entry).states
+        (copy_of stage.entry.setting.set (world_of store.old)).state) (world_of store.old)) }
+    ensures room { room_of operands.new ≡ room_of operands.old }
+    ensures failures { S.failures sink.new
+        ≡ counted (stopped_by_sink result) (S.failures sink.old) }
+{
+    match stage.plan.states.get(state_now(store, stage.setting.set)) {
+        Some(state) => try_state(state, stage, store, operands, sink),
+        None => Ok(false),
+    }
+}
+
+/// One turn of a state set; answers whether it had a transition. A fault in it is told in a line.
+pub fn turn<S: Sink>(
+    stage: Stage,
+    store: &mut Store,
+    operands: &mut Operands,
+    sink: &mut S,
+) -> Result<bool, Stop>
+    requires failures { S.failures sink.old < 2 ^ 64 - 1 }
+    requires room { room_of operands.old ≡ stage.room }
+    requires runs { CanRunSet (setting_on stage) stage.code.now stage.plan.now.states.items }
+    ensures does { Does (λ b. b) result (world_of store.new) (S.told sink.old) (S.told sink.new)
+        (spec.turn_of (set_on stage.entry) (world_of store.old)) }
+    ensures room { room_of operands.new ≡ room_of operands.old }
+    ensures failures { S.failures sink.new
+        ≡ counted (stopped_by_sink result) (S.failures sink.old) }
+{
+    refresh(stage.plan.feeds.as_slice(), stage.setting.set, store);
+    match try_clauses(stage, store, operands, sink) {
+        Ok(moved) => Ok(moved),
+        Err(Stop::Sink) => Err(Stop::Sink),
+        Err(Stop::Fault(fault, line)) => {
+            match write_fault(
+                sink,
+                store.time,
+                stage.setting.name,
+                line,
+                fault_text(fault),
+            ) {
+                Ok(()) => Err(Stop::Fault(fault, line)),
+                Err(_) => Err(Stop::Sink),
+            }
+        }
+    }
+}
