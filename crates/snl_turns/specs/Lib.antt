@@ -1,3 +1,5 @@
 pub mod Refresh
 pub mod Turn
 pub mod Plans
+pub mod Instant
+pub mod Wholes

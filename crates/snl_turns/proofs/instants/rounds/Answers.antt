@@ -1,0 +1,30 @@
+use Rattle.std.proofs.Common.{◌≡◌, ◌+◌, ◌-◌, ◌∙◌, suc, rules, arith}
+use Rattle.snl_store.specs.Views.{world_of}
+use Rattle.snl_turns.specs.Wholes.{program_of}
+use Rattle.snl_turns.proofs.Rounds.{round-goes_on, round-ends, round-stops}
+use Rattle.snl_turns.proofs.instants.rounds.Goals as goal
+
+pub returns-in-Ok-false-clause-does : goal.returns-in-Ok-false-clause-does
+returns-in-Ok-false-clause-does g c =
+    let end = c.from-round-end.result + 1 in
+    let i = c.loop-round._round in
+    let fuel : end - i ≡ suc (end - (i + 1)) = omega (arith, c.loop-round-test.true) in
+    round-ends (program_of c.args.whole) (world_of c.loop-round.store) (end - i) (end - (i + 1)) fuel _ _ _ c.loop-round.invariant.on_way _ _ (rw c.in-Ok-false.field-0-test at c.in-Ok-false.ensures.does)
+
+pub returns-in-Err-clause-does : goal.returns-in-Err-clause-does
+returns-in-Err-clause-does g c =
+    let end = c.from-round-end.result + 1 in
+    let i = c.loop-round._round in
+    let fuel : end - i ≡ suc (end - (i + 1)) = omega (arith, c.loop-round-test.true) in
+    round-stops (program_of c.args.whole) (world_of c.loop-round.store) (end - i) (end - (i + 1)) fuel _ _ _ c.loop-round.invariant.on_way c.in-Err.stop _ _ c.in-Err.ensures.does
+
+pub loop-round-preserved : goal.loop-round-preserved
+loop-round-preserved g c =
+    let end = c.from-round-end.result + 1 in
+    let i = c.loop-round._round in
+    let fuel : end - i ≡ suc (end - (i + 1)) = omega (arith, c.loop-round-test.true) in
+    record {
+      on_way = round-goes_on (program_of c.args.whole) (world_of c.loop-round.store) (end - i) (end - (i + 1)) fuel _ _ _ c.loop-round.invariant.on_way _ _ (rw c.in-Ok-true.field-0-test at c.in-Ok-true.ensures.does);
+      room = c.round.ensures.room ∙ c.loop-round.invariant.room;
+      none_failed = search rules;
+    }
