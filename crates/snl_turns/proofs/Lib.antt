@@ -2,4 +2,4 @@ pub mod Changes
 pub mod Choices
 pub mod Faulting
 pub mod Rooms
-pub mod Rounds
+pub mod OneByOne

@@ -1,7 +1,6 @@
-//! What happens at one time.
+//! What happens at one time: rounds of one turn for each state set.
 
 ghost use Rattle.std.specs.Prelude.{◌≡◌, ◌-◌, ◌^◌, ◌<◌};
-ghost use Rattle.std.specs.List.{list_all};
 ghost use Rattle.snl_lines.specs.Devices.{counted, stopped_by_sink};
 ghost use Rattle.snl_lines.specs.Does.{Does};
 ghost use Rattle.snl_pieces.specs.Stack.{room_of};
@@ -9,11 +8,10 @@ ghost use Rattle.snl_store.specs.Views.{world_of};
 ghost use Rattle.snl_turns.specs.Instant as spec;
 ghost use Rattle.snl_turns.specs.Wholes.{CanRunWhole, program_of};
 
-use crate::feeds::refresh;
-use crate::plans::{LinkPlan, Plan, Stage, Whole};
-use crate::turns::{enter, turn};
-use snl_lines::{Sink, Stop, write_start};
-use snl_pieces::{Live, Operands};
+use crate::plans::{Stage, Whole};
+use crate::turns::turn;
+use snl_lines::{Sink, Stop};
+use snl_pieces::Operands;
 use snl_store::{Setting, Store};
 
 /// A turn of each state set; answers whether one had a transition.
@@ -56,7 +54,7 @@ fn round<S: Sink>(
 
 /// Rounds until one has no transition. Each transition spends a tick, so there are no more rounds than ticks are left,
 /// and one.
-fn rounds<S: Sink>(
+pub fn rounds<S: Sink>(
     whole: Whole,
     store: &mut Store,
     operands: &mut Operands,

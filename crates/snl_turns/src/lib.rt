@@ -1,4 +1,4 @@
-//! What happens at one time: the start of a program, and rounds of one turn for each state set.
+//! What happens at one time: rounds, in which each state set has a turn.
 #![tactic(auto)]
 
 mod feeds;
@@ -7,5 +7,6 @@ mod plans;
 mod turns;
 
 pub use feeds::Feed;
-pub use plans::{ClausePlan, LinkPlan, Plan, SetPlan, Stage, StatePlan, Whole};
+pub use instants::rounds;
+pub use plans::{ClausePlan, Plan, SetPlan, Stage, StatePlan, Whole};
 pub use turns::turn;

@@ -44,24 +44,10 @@ pub struct Stage<'t> {
     pub room: usize,
 }
 
-/// A link.
-#[derive(Clone, Copy)]
-pub struct LinkPlan {
-    /// The number of its channel; None where it has none.
-    pub channel: Option<usize>,
-    pub is_monitored: bool,
-    /// Where its buffer begins among the buffers, in words.
-    pub from: usize,
-    /// How many elements it has.
-    pub count: usize,
-}
-
 /// A program.
 #[derive(Drop)]
 pub struct Plan {
-    pub name: Vec<u8>,
     pub sets: Vec<SetPlan>,
-    pub links: Vec<LinkPlan>,
 }
 
 /// What an instant of a program runs on.

@@ -1,10 +1,6 @@
-use Rattle.std.proofs.Common.{◌≡◌, ◌∙◌, ◌||◌, ℕ, Bool, List, ap, sym, subst, map, drop, get_or, rules, ◌+◌, ◌<◌, length}
-use Rattle.snl_lines.proofs.Doing.{IsOnWay}
-use Rattle.snl_store.specs.Views.{world_of}
-use Rattle.snl_turns.specs.Instant.{round_from}
+use Rattle.std.proofs.Common.{◌≡◌, ◌∙◌, ◌||◌, ℕ, List, ap, map, get_or, rules, ◌<◌, length}
 use Rattle.snl_turns.specs.Plans.{set_of}
-use Rattle.snl_turns.specs.Wholes.{sets_from}
-use Rattle.snl_turns.proofs.Rounds.{turned, turn-stops}
+use Rattle.snl_turns.proofs.OneByOne.{turned, turn-stops}
 use Rattle.snl_turns.proofs.instants.round.Goals as goal
 
 pub returns-in-Err-clause-does : goal.returns-in-Err-clause-does

@@ -1,8 +1,22 @@
-use Rattle.std.proofs.Common.{◌≡◌, ◌+◌, ◌-◌, ◌∙◌, suc, rules, arith}
+use Rattle.std.proofs.Common.{◌≡◌, ◌+◌, ◌-◌, ◌∙◌, ℕ, suc, rules, arith, refl, subst}
+use Rattle.snl_lines.proofs.Doing.{IsOnWay, on_way-start}
 use Rattle.snl_store.specs.Views.{world_of}
+use Rattle.snl_turns.specs.Instant.{all_rounds, rounds_of}
 use Rattle.snl_turns.specs.Wholes.{program_of}
-use Rattle.snl_turns.proofs.Rounds.{round-goes_on, round-ends, round-stops}
+use Rattle.snl_turns.proofs.OneByOne.{round-goes_on, round-ends, round-stops}
 use Rattle.snl_turns.proofs.instants.rounds.Goals as goal
+
+pub loop-round-init : goal.loop-round-init
+loop-round-init g c =
+    let p = program_of c.args.whole in
+    let w = world_of c.args.store.now in
+    let told = g.S.Sink.told c.args.sink.now in
+    let fuel : suc c.args.store.now.ticks ≡ c.from-round-end.result + 1 - 0 = omega (arith, c.from-round-end.ensures) in
+    record {
+      on_way = subst (λ (n : ℕ). IsOnWay told told (all_rounds p w) (rounds_of p n w)) fuel (on_way-start told (all_rounds p w));
+      room = refl;
+      none_failed = refl;
+    }
 
 pub returns-in-Ok-false-clause-does : goal.returns-in-Ok-false-clause-does
 returns-in-Ok-false-clause-does g c =
