@@ -1,5 +1,5 @@
 -- One member of a list changes, as its view does.
-use Rattle.std.proofs.Common.{◌≡◌, ◌∙◌, ◌+◌, ◌-◌, ◌<◌, ℕ, zero, suc, ℤ, pos, List, [], ◌∷◌, ap, sym, arith, map, length, get_or, slice_set, slice_index_or}
+use Rattle.std.proofs.Common.{◌≡◌, ◌∙◌, ◌+◌, ◌-◌, ◌<◌, ◌≤◌, refl, ℕ, zero, suc, ℤ, pos, List, [], ◌∷◌, ap, sym, arith, map, length, get_or, slice_set, slice_index_or}
 use Rattle.snl_pieces.specs.World.{words_at}
 use Rattle.snl_turns.specs.Refresh.{overwritten}
 
@@ -21,3 +21,26 @@ overwritten_more words to from n count buffers z less is =
     ap (λ t. overwritten (slice_set words (to + n) z) t (words_at buffers (from + (n + 1)) (count - (n + 1)))) later
     ∙ ap (λ f. overwritten (slice_set words (to + n) z) (suc (to + n)) (words_at buffers f (count - (n + 1)))) later_from
     ∙ sym (ap (λ k. overwritten words (to + n) (words_at buffers (from + n) k)) left ∙ ap (λ y. overwritten words (to + n) (y ∷ rest)) is)
+
+-- ---- each member of a list changes, as its view does
+
+module _ {A B : Type 0} (view : A → B) (change : B → B) where
+  -- the views of a list whose first members were changed, with the others as they will be
+  abbrev pub ahead : ℕ → List A → List B
+  ahead zero xs = map change (map view xs)
+  ahead (suc i) [] = []
+  ahead (suc i) (x ∷ xs) = view x ∷ ahead i xs
+
+  -- one member more was changed
+  pub ahead-more : (xs : List A) (i : ℕ) (x new : A) → i < length xs → x ≡ get_or xs i x → view new ≡ change (view x) →
+      ahead (suc i) (slice_set xs i new) ≡ ahead i xs
+  ahead-more [] i x new within is changed = absurd (omega (arith, within))
+  ahead-more (y ∷ ys) zero x new within is changed = ap (λ k. k ∷ map change (map view ys)) (changed ∙ ap (λ z. change (view z)) is)
+  ahead-more (y ∷ ys) (suc i) x new within is changed = ap (λ ks. view y ∷ ks) (ahead-more ys i x new (omega (arith, within)) is changed)
+
+  -- all were changed
+  pub ahead-all : (xs : List A) (i : ℕ) → length xs ≤ i → ahead i xs ≡ map view xs
+  ahead-all [] zero all = refl
+  ahead-all [] (suc i) all = refl
+  ahead-all (x ∷ xs) zero all = absurd (omega (arith, all))
+  ahead-all (x ∷ xs) (suc i) all = ap (λ ks. view x ∷ ks) (ahead-all xs i (omega (arith, all)))

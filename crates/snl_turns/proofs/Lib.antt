@@ -3,3 +3,4 @@ pub mod Choices
 pub mod Faulting
 pub mod Rooms
 pub mod OneByOne
+pub mod Opening

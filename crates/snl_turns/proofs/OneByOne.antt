@@ -1,5 +1,5 @@
 -- Turns in a round, and rounds, one after another.
-use Rattle.std.proofs.Common.{◌≡◌, ◌∙◌, ◌+◌, ◌<◌, ℕ, suc, Bool, true, false, ◌||◌, List, [], ◌∷◌, Option, Result, Ok, Err, ap, sym, subst, length, drop, get_or}
+use Rattle.std.proofs.Common.{◌≡◌, ◌∙◌, ◌+◌, ◌<◌, ℕ, suc, Bool, true, false, ◌||◌, List, [], Option, Ok, Err, ap, sym, subst, length, drop, get_or}
 use Rattle.std.proofs.lemmas.List.{drop_more}
 use Rattle.snl_lines.specs.declared.faults.Stop.{Stop}
 use Rattle.snl_lines.specs.Does.{Does, Gave}

@@ -3,3 +3,4 @@ pub mod Turn
 pub mod Plans
 pub mod Instant
 pub mod Wholes
+pub mod Arrivals

@@ -18,7 +18,7 @@ sets_from t k (s ∷ ss) = set_of (setting_in t k s) t.code.now s ∷ sets_from 
 
 -- What stands for the program.
 abbrev pub program_of : Whole → Program
-program_of t = record { sets = sets_from t 0 t.plan.now.sets.items }
+program_of t = let p = t.plan.now in record { name = p.name.items; links = p.links.items; sets = sets_from t 0 p.sets.items }
 
 -- The pieces of all state sets come to their ends in every world.
 abbrev pub CanRunWhole : Whole → Type 0

@@ -9,9 +9,10 @@ ghost use Rattle.snl_turns.specs.Instant as spec;
 ghost use Rattle.snl_turns.specs.Wholes.{CanRunWhole, program_of};
 
 use crate::plans::{Stage, Whole};
+use crate::starting::{are_ready, start};
 use crate::turns::turn;
 use snl_lines::{Sink, Stop};
-use snl_pieces::Operands;
+use snl_pieces::{Live, Operands};
 use snl_store::{Setting, Store};
 
 /// A turn of each state set; answers whether one had a transition.
@@ -80,4 +81,37 @@ pub fn rounds<S: Sink>(
         }
     }
     Ok(())
+}
+
+/// What happens at one time, with so many ticks: the start, if it is due, and rounds until one has no transition.
+pub fn instant<S: Sink>(
+    whole: Whole,
+    budget: u32,
+    store: &mut Store,
+    operands: &mut Operands,
+    sink: &mut S,
+) -> Result<(), Stop>
+    requires failures { S.failures sink.old < 2 ^ 64 - 1 }
+    requires room { room_of operands.old ≡ whole.room }
+    requires runs { CanRunWhole whole }
+    ensures does { Does (λ x. x) result (world_of store.new) (S.told sink.old) (S.told sink.new)
+        (spec.instant_of (program_of whole.entry) budget (world_of store.old)) }
+    ensures room { room_of operands.new ≡ room_of operands.old }
+    ensures failures { S.failures sink.new
+        ≡ counted (stopped_by_sink result) (S.failures sink.old) }
+{
+    store.ticks = budget;
+    match store.phase {
+        Live::Ended => Ok(()),
+        Live::Running => rounds(whole, store, operands, sink),
+        Live::Waiting => {
+            if !are_ready(whole.plan.links.as_slice(), store) {
+                return Ok(());
+            }
+            match start(whole, store, sink) {
+                Ok(()) => rounds(whole, store, operands, sink),
+                Err(stop) => Err(stop),
+            }
+        }
+    }
 }

@@ -1,12 +1,15 @@
-//! What happens at one time: rounds, in which each state set has a turn.
+//! What happens at one time: values that come, the start, and rounds, in which each state set has a turn.
 #![tactic(auto)]
 
+mod arrivals;
 mod feeds;
 mod instants;
 mod plans;
+mod starting;
 mod turns;
 
-pub use feeds::Feed;
-pub use instants::rounds;
-pub use plans::{ClausePlan, Plan, SetPlan, Stage, StatePlan, Whole};
+pub use arrivals::{connect, fit_links, receive};
+pub use feeds::{Feed, refresh};
+pub use instants::{instant, rounds};
+pub use plans::{ClausePlan, LinkPlan, Plan, SetPlan, Stage, StatePlan, Whole};
 pub use turns::turn;

@@ -44,9 +44,27 @@ pub struct Stage<'t> {
     pub room: usize,
 }
 
+/// A link.
+#[derive(Clone, Copy)]
+pub struct LinkPlan {
+    /// The number of its channel; None where it has none.
+    pub channel: Option<usize>,
+    pub is_monitored: bool,
+    /// Where its buffer begins among the buffers, in words.
+    pub from: usize,
+    /// How many elements it has, and so the words of its buffer.
+    pub count: usize,
+    /// The least number of its variable's type.
+    pub least: i64,
+    /// The greatest number of its variable's type.
+    pub greatest: i64,
+}
+
 /// A program.
 #[derive(Drop)]
 pub struct Plan {
+    pub name: Vec<u8>,
+    pub links: Vec<LinkPlan>,
     pub sets: Vec<SetPlan>,
 }
 

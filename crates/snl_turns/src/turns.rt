@@ -70,7 +70,7 @@ fn first_true<S: Sink>(
 }
 
 /// A state set is in a state from now on.
-fn enter(store: &mut Store, set: usize, state: usize)
+pub fn enter(store: &mut Store, set: usize, state: usize)
     ensures { world_of store.new ≡ spec.entered_in set state (world_of store.old) }
 {
     let now = store.time;

@@ -1,0 +1,85 @@
+//! The start of a program, once its channels are there.
+
+ghost use Rattle.std.specs.Prelude.{◌≡◌, ◌-◌, ◌^◌, ◌<◌};
+ghost use Rattle.std.specs.List.{list_all};
+ghost use Rattle.snl_lines.specs.Devices.{counted, stopped_by_sink};
+ghost use Rattle.snl_lines.specs.Does.{Does};
+ghost use Rattle.snl_store.specs.Views.{world_of};
+ghost use Rattle.snl_turns.specs.Instant as spec;
+ghost use Rattle.snl_turns.specs.Wholes.{program_of, sets_from};
+
+use crate::feeds::refresh;
+use crate::plans::{LinkPlan, Whole};
+use crate::turns::enter;
+use snl_lines::{Sink, Stop, write_start};
+use snl_pieces::Live;
+use snl_store::Store;
+
+/// What is known of a channel; a link without one waits for nothing.
+fn is_so(known: &[bool], channel: Option<usize>) -> bool
+    ensures { result ≡ spec.is_so known.now channel }
+{
+    match channel {
+        None => true,
+        Some(channel) => known.get(channel).copied().unwrap_or(false),
+    }
+}
+
+/// Whether the channel of a link is connected and, where the link is monitored, was valued.
+fn is_ready(link: LinkPlan, store: &Store) -> bool
+    ensures { result ≡ spec.is_link_ready (world_of store.now) link }
+{
+    is_so(store.ups.as_slice(), link.channel)
+        && (is_so(store.valued.as_slice(), link.channel) || !link.is_monitored)
+}
+
+/// Whether those of all links are.
+pub fn are_ready(links: &[LinkPlan], store: &Store) -> bool
+    ensures { result ≡ list_all (spec.is_link_ready (world_of store.now)) links.now }
+{
+    for link in links {
+        if !is_ready(*link, store) {
+            return false;
+        }
+    }
+    true
+}
+
+/// Every state set takes in the values that came.
+fn refresh_sets(whole: Whole, store: &mut Store)
+    ensures { world_of store.new ≡ spec.refreshed_sets (program_of whole.entry).sets
+        (world_of store.old) }
+{
+    for (set, plan) in whole.plan.sets.iter().enumerate() {
+        refresh(plan.feeds.as_slice(), set, store);
+    }
+}
+
+/// Every state set enters its first state.
+fn begin_sets(whole: Whole, store: &mut Store)
+    ensures { world_of store.new ≡ spec.begun_sets (program_of whole.entry).sets
+        (world_of store.old) }
+{
+    for (set, _) in whole.plan.sets.iter().enumerate() {
+        enter(store, set, 0);
+    }
+}
+
+/// The start: its line, refresh, first states.
+pub fn start<S: Sink>(whole: Whole, store: &mut Store, sink: &mut S) -> Result<(), Stop>
+    requires failures { S.failures sink.old < 2 ^ 64 - 1 }
+    ensures does { Does (λ x. x) result (world_of store.new) (S.told sink.old) (S.told sink.new)
+        (spec.started (program_of whole.entry) (world_of store.old)) }
+    ensures failures { S.failures sink.new
+        ≡ counted (stopped_by_sink result) (S.failures sink.old) }
+{
+    match write_start(sink, store.time, whole.plan.name.as_slice()) {
+        Ok(()) => {
+            store.phase = Live::Running;
+            refresh_sets(whole, store);
+            begin_sets(whole, store);
+            Ok(())
+        }
+        Err(_) => Err(Stop::Sink),
+    }
+}
