@@ -1,0 +1,5 @@
+pub mod Ends
+pub mod Pieces
+pub mod Clauses
+pub mod Sets
+pub mod Meant
