@@ -50,6 +50,20 @@ impl Code {
         }
     }
 
+    /// All instructions.
+    pub fn instrs(&self) -> &[Instr]
+        ensures { result.now ≡ self.now.instrs.items }
+    {
+        self.instrs.as_slice()
+    }
+
+    /// All strings, by their numbers.
+    pub fn texts(&self) -> &[Vec<u8>]
+        ensures { result.now ≡ self.now.texts.items }
+    {
+        self.texts.as_slice()
+    }
+
     /// How many operands the code holds at once: with room for so many no piece runs out of room.
     pub fn depth(&self) -> usize
         ensures { result ≡ self.now.depth }

@@ -52,8 +52,8 @@ fn names_of<'a>(alloc: Global, states: &[State<'a>]) -> Result<Vec<Token<'a>>, A
     Ok(names)
 }
 
-/// The variables of the copy of a state set, with their places.
-fn placed_of<'a>(
+/// The variables of the copy of a state set by its number, with their places in it. The only error is that memory ends.
+pub fn placed_of<'a>(
     alloc: Global,
     program: &Program<'a>,
     set: usize,

@@ -11,5 +11,5 @@ mod program_depths;
 mod starts;
 
 pub use code::Code;
-pub use compiling::compile;
+pub use compiling::{compile, placed_of};
 pub use starts::Piece;

@@ -20,7 +20,7 @@ pub use emission::emit_expression;
 pub use faults::Fault;
 pub use instrs::{Instr, Variable};
 pub use live::Live;
-pub use names::{Known, Placed, Sense, places_of};
+pub use names::{Known, Placed, Sense, number_in, places_of, variable_in};
 pub use operands::Operands;
 pub use operators::{
     Function, Joint, Sign, compound_of, function_of, is_decimal, joint_of, sign_of,

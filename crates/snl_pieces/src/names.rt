@@ -78,8 +78,8 @@ pub fn places_of(alloc: Global, variables: &[Held]) -> Result<Vec<Placed>, Alloc
     Ok(places)
 }
 
-/// The variable that is declared at an offset.
-fn variable_in(variables: &[Placed], offset: usize) -> Option<Variable>
+/// The variable that is declared at an offset, in bytes, among those of a copy.
+pub fn variable_in(variables: &[Placed], offset: usize) -> Option<Variable>
     ensures { result ≡ spec.variable_in variables.now offset }
 {
     for placed in variables {
@@ -102,8 +102,8 @@ fn link_in(linked: &[usize], offset: usize) -> usize
     linked.len()
 }
 
-/// The number of the first of some names that is spelled so.
-fn number_in(names: &[Token], name: &[u8]) -> Option<usize>
+/// The number of the first of some names that is spelled so, from 0 on.
+pub fn number_in(names: &[Token], name: &[u8]) -> Option<usize>
     ensures { result ≡ number_of names.now name.now }
 {
     for number in 0..names.len() {

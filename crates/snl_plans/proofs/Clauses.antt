@@ -1,6 +1,5 @@
 -- The clauses of a program, run by their plans.
-use Rattle.std.proofs.Common.{◌≡◌, ◌∙◌, ◌≤◌, ◌+◌, ℕ, zero, suc, List, [], ◌∷◌, Option, None, Some, refl, ap, sym, subst, arith, map, slice_get, option_map, option_and_then, unwrap_or}
-use Rattle.snl_syntax.specs.Expressions.{ExprTree}
+use Rattle.std.proofs.Common.{◌≡◌, ◌∙◌, ◌≤◌, ◌+◌, ℕ, zero, suc, List, [], ◌∷◌, Option, None, Some, refl, ap, subst, arith, map, slice_get, option_map, option_and_then, unwrap_or}
 use Rattle.snl_syntax.specs.Programs.{ClauseTree, ProgramTree}
 use Rattle.snl_code.specs.declared.starts.Piece.{Piece}
 use Rattle.snl_code.specs.declared.starts.Piece.TheVariants.{Condition, Block}
@@ -10,9 +9,7 @@ use Rattle.snl_code.specs.Pieces.{IsPlaced, PieceTree, Test, Action, piece_of, c
 use Rattle.snl_code.specs.Starts.{ProgramTable, start_in}
 use Rattle.snl_code.proofs.Deepest.{depth_is_enough}
 use Rattle.snl_pieces.specs.declared.instrs.Instr.{Instr}
-use Rattle.snl_pieces.specs.BlockCode.{block_depth}
 use Rattle.snl_pieces.specs.Effect.{held_by, block_effect}
-use Rattle.snl_pieces.specs.ExpressionCode.{expression_depth}
 use Rattle.snl_pieces.specs.Ran.{then_do}
 use Rattle.snl_pieces.specs.Right.{IsOver}
 use Rattle.snl_pieces.specs.Run.{Setting, setting_of, run_of}
@@ -54,7 +51,7 @@ module _ (p : ProgramTree) (code : List Instr) (t : ProgramTable) (room set : �
       by (Some start) there = block-means p code room set c.block start there (omega (arith, enough, depth_is_enough p (Block set state k) (Action set c.block) is))
 
   -- a clause means what its plan runs
-  clause-means : (k : ℕ) (c : ClauseTree) → clause_at p set state k ≡ Some c → clause_of setting code (clause_plan (here_in p set) t state k c) ≡ clause_meaning (here_in p set) c
+  clause-means : (k : ℕ) (c : ClauseTree) → clause_at p set state k ≡ Some c → clause_of setting code (clause_plan (here_in p set).states t set state k c) ≡ clause_meaning (here_in p set) c
   clause-means k c at =
       let tests = (condition k c at).0 in
       let acts = (block k c at).0 in
@@ -62,7 +59,7 @@ module _ (p : ProgramTree) (code : List Instr) (t : ProgramTable) (room set : �
       λ j. record { holds = λ w. tests w j; acts = λ w. acts w j; target = m.target; line = m.line }
 
   -- and it can run
-  clause-runs : (k : ℕ) (c : ClauseTree) → clause_at p set state k ≡ Some c → CanRun setting code (clause_plan (here_in p set) t state k c)
+  clause-runs : (k : ℕ) (c : ClauseTree) → clause_at p set state k ≡ Some c → CanRun setting code (clause_plan (here_in p set).states t set state k c)
   clause-runs k c at = record { condition = (condition k c at).1; block = (block k c at).1 }
 
   -- clauses that stand in the state from a number on
@@ -75,14 +72,14 @@ module _ (p : ProgramTree) (code : List Instr) (t : ProgramTable) (room set : �
 
   -- clauses mean what their plans run
   pub clauses-mean : (k : ℕ) (cs : List ClauseTree) → StandFrom k cs →
-      map (clause_of setting code) (clause_plans (here_in p set) t state k cs) ≡ map (clause_meaning (here_in p set)) cs
+      map (clause_of setting code) (clause_plans (here_in p set).states t set state k cs) ≡ map (clause_meaning (here_in p set)) cs
   clauses-mean k [] stand = refl
   clauses-mean k (c ∷ cs) stand = λ j. clause-means k c (stand 0 k c (omega arith) refl) j ∷ clauses-mean (k + 1) cs (next k c cs stand) j
 
   -- and they can run
-  pub clauses-run : (k : ℕ) (cs : List ClauseTree) → StandFrom k cs → CanRunAll setting code (clause_plans (here_in p set) t state k cs)
+  pub clauses-run : (k : ℕ) (cs : List ClauseTree) → StandFrom k cs → CanRunAll setting code (clause_plans (here_in p set).states t set state k cs)
   clauses-run k [] stand i c there = absurd (cc)
   clauses-run k (d ∷ cs) stand zero c there =
-      let is : clause_plan (here_in p set) t state k d ≡ c = cc in
+      let is : clause_plan (here_in p set).states t set state k d ≡ c = cc in
       subst (λ (x : ClausePlan). CanRun setting code x) is (clause-runs k d (stand 0 k d (omega arith) refl))
   clauses-run k (d ∷ cs) stand (suc i) c there = clauses-run (k + 1) cs (next k d cs stand) i c there

@@ -1,5 +1,5 @@
 -- What runs of pieces leave at their ends.
-use Rattle.std.proofs.Common.{◌≡◌, ◌∙◌, ℕ, ℤ, List, [], ◌++◌, Option, None, Some, refl, ap, append-nil}
+use Rattle.std.proofs.Common.{◌≡◌, ◌∙◌, ℕ, ℤ, List, [], ◌++◌, None, Some, refl, ap, append-nil}
 use Rattle.snl_pieces.specs.Effect.{Way, Done, Broken, Continued, Left}
 use Rattle.snl_pieces.specs.Ran.{Ran, Gives, Faults, then_do}
 use Rattle.snl_pieces.specs.Right.{IsOver, ends_with, leads_to}

@@ -1,3 +1,5 @@
+pub mod Rows
+pub mod Names
 pub mod Ends
 pub mod Pieces
 pub mod Clauses

@@ -1,12 +1,11 @@
 -- The state sets of a program, run by their plans.
-use Rattle.std.proofs.Common.{◌≡◌, ◌∙◌, ◌≤◌, ◌<◌, ◌+◌, ◌-◌, ◌^◌, ℕ, zero, suc, List, [], ◌∷◌, Option, None, Some, refl, ap, sym, subst, arith, map, min, slice_get, option_and_then}
+use Rattle.std.proofs.Common.{◌≡◌, ◌∙◌, ◌≤◌, ◌+◌, ℕ, zero, suc, List, [], ◌∷◌, Option, Some, refl, ap, sym, subst, arith, map, slice_get, option_and_then}
 use Rattle.snl_syntax.specs.Programs.{StateTree, StateSetTree, ProgramTree}
-use Rattle.snl_sites.specs.Programs.{sites}
 use Rattle.snl_code.specs.declared.code.Code.{Code}
 use Rattle.snl_code.specs.declared.starts.Piece.{Piece}
 use Rattle.snl_code.specs.Depths.{program_depth}
-use Rattle.snl_code.specs.Heres.{here_in, name_by}
-use Rattle.snl_code.specs.Pieces.{IsPlaced, IsCodeOf, piece_of, state_at, texts_of}
+use Rattle.snl_code.specs.Heres.{here_in, name_by, states_by}
+use Rattle.snl_code.specs.Pieces.{IsPlaced, piece_of, state_at}
 use Rattle.snl_code.specs.Starts.{table_of, start_in}
 use Rattle.snl_links.specs.Links.{Link}
 use Rattle.snl_pieces.specs.declared.instrs.Instr.{Instr}
@@ -15,8 +14,8 @@ use Rattle.snl_pieces.specs.Run.{Setting, setting_of}
 use Rattle.snl_turns.specs.declared.plans.SetPlan.{SetPlan}
 use Rattle.snl_turns.specs.declared.plans.Whole.{Whole}
 use Rattle.snl_turns.specs.Plans.{set_of, state_of, CanRunSet}
-use Rattle.snl_turns.specs.Wholes.{setting_in, sets_from, program_of, CanRunWhole}
-use Rattle.snl_plans.specs.Meaning.{state_meaning, set_meaning, set_meanings, program_meaning}
+use Rattle.snl_turns.specs.Wholes.{setting_in, sets_from}
+use Rattle.snl_plans.specs.Meaning.{state_meaning, set_meaning, set_meanings}
 use Rattle.snl_plans.specs.Plans.{PlainPlan, PlainSet, set_view, state_view, state_plans, set_plan, set_plans}
 use Rattle.snl_plans.specs.Right.{IsWholeOf, PlansAreRight}
 use Rattle.snl_plans.proofs.Sets.{states-mean, states-run}
@@ -44,6 +43,12 @@ module _ (p : ProgramTree) (ls : List Link) (c : Code) (t : Whole) (is : IsWhole
       let same' : n ≡ j = omega (arith, same) in
       ap (λ (i : ℕ). state_at p k i) same' ∙ ap (option_and_then (λ h. slice_get h.states j)) at ∙ there
 
+  -- its states are planned with the names that the code knows
+  states-planned : (k : ℕ) (g : StateSetTree) (plan : SetPlan) → slice_get p.state_sets k ≡ Some g → set_view plan ≡ set_plan p ls (table_of c) k g →
+      map state_view plan.states.items ≡ state_plans (here_in p k).states (table_of c) k 0 g.states
+  states-planned k g plan at one =
+      ap (λ (v : PlainSet). v.states) one ∙ ap (λ (o : Option StateSetTree). state_plans (states_by o) (table_of c) k 0 g.states) (sym at)
+
   -- a state set means what its plan runs
   set-means : (k : ℕ) (g : StateSetTree) (plan : SetPlan) → slice_get p.state_sets k ≡ Some g → set_view plan ≡ set_plan p ls (table_of c) k g →
       set_of (setting_in t k plan) t.code.now plan ≡ set_meaning p ls k g
@@ -51,8 +56,8 @@ module _ (p : ProgramTree) (ls : List Link) (c : Code) (t : Whole) (is : IsWhole
       let names = ap (λ (v : PlainSet). v.name) one in
       let feeds = ap (λ (v : PlainSet). v.feeds) one in
       let states : map (state_of (setting_in t k plan) t.code.now) plan.states.items ≡ map (state_meaning (here_in p k)) g.states =
-          ap (λ (s : Setting). map (state_of s t.code.now) plan.states.items) (settings k g plan at one)
-          ∙ states-mean p t.code.now (table_of c) t.room k pieces enough 0 g.states plan.states.items (stands k g at) (ap (λ (v : PlainSet). v.states) one)
+      ap (λ (s : Setting). map (state_of s t.code.now) plan.states.items) (settings k g plan at one)
+      ∙ states-mean p t.code.now (table_of c) t.room k pieces enough 0 g.states plan.states.items (stands k g at) (states-planned k g plan at one)
       in λ j. record { set = k; name = names j; states = states j; feeds = feeds j }
 
   -- and it can run
@@ -60,7 +65,7 @@ module _ (p : ProgramTree) (ls : List Link) (c : Code) (t : Whole) (is : IsWhole
       CanRunSet (setting_in t k plan) t.code.now plan.states.items
   set-runs k g plan at one =
       subst (λ (s : Setting). CanRunSet s t.code.now plan.states.items) (sym (settings k g plan at one))
-      (states-run p t.code.now (table_of c) t.room k pieces enough 0 g.states plan.states.items (stands k g at) (ap (λ (v : PlainSet). v.states) one))
+      (states-run p t.code.now (table_of c) t.room k pieces enough 0 g.states plan.states.items (stands k g at) (states-planned k g plan at one))
 
   -- state sets that stand in the program from a number on
   abbrev pub StandFrom : ℕ → List StateSetTree → Type 0
@@ -96,6 +101,10 @@ module _ (p : ProgramTree) (ls : List Link) (c : Code) (t : Whole) (is : IsWhole
       let rest : map set_view plans ≡ set_plans p ls (table_of c) (k + 1) gs = cc in
       sets-run (k + 1) gs plans (next k g gs stand) rest i n plan (omega (arith, at)) there
 
+-- all state sets stand in the program
+all-stand : (p : ProgramTree) (j n : ℕ) (g : StateSetTree) → n ≡ 0 + j → slice_get p.state_sets j ≡ Some g → slice_get p.state_sets n ≡ Some g
+all-stand p j n g is there = let same : n ≡ j = omega (arith, is) in ap (λ (i : ℕ). slice_get p.state_sets i) same ∙ there
+
 -- what a plan runs is what its program means
 pub plans_are_right : PlansAreRight
 plans_are_right p ls c t is =
@@ -103,8 +112,7 @@ plans_are_right p ls c t is =
     let links = ap (λ (v : PlainPlan). v.links) is.plan in
     let plans = ap (λ (v : PlainPlan). v.sets) is.plan in
     let all = t.plan.now.sets.items in
-    let stand = λ (j n : ℕ) (g : StateSetTree) (same : n ≡ 0 + j) (there : slice_get p.state_sets j ≡ Some g). ap (λ (i : ℕ). slice_get p.state_sets i) (let s : n ≡ j = omega (arith, same) in s) ∙ there in
-    let sets = sets-mean p ls c t is 0 p.state_sets all stand plans in (
+    let sets = sets-mean p ls c t is 0 p.state_sets all (all-stand p) plans in (
       λ j. record { name = names j; links = links j; sets = sets j },
-      λ k s there. sets-run p ls c t is 0 p.state_sets all stand plans k k s (omega arith) there,
+      λ k s there. sets-run p ls c t is 0 p.state_sets all (all-stand p) plans k k s (omega arith) there,
     )

@@ -4,7 +4,7 @@ use Rattle.snl_syntax.specs.Expressions.{ExprTree}
 use Rattle.snl_syntax.specs.Programs.{ProgramTree}
 use Rattle.snl_syntax.specs.Statements.{BlockTree}
 use Rattle.snl_code.specs.Heres.{here_in}
-use Rattle.snl_code.specs.Pieces.{IsPlaced, PieceTree, Test, Action}
+use Rattle.snl_code.specs.Pieces.{IsPlaced, Test, Action}
 use Rattle.snl_pieces.specs.declared.instrs.Instr.{Instr}
 use Rattle.snl_pieces.specs.BlockCode.{block_depth}
 use Rattle.snl_pieces.specs.Effect.{held_by, holds, block_effect}
@@ -14,7 +14,7 @@ use Rattle.snl_pieces.specs.Right.{IsOver, ends_with, leads_to}
 use Rattle.snl_pieces.specs.Run.{Setting, Exit, setting_of, run_of}
 use Rattle.snl_pieces.specs.Value.{value_of}
 use Rattle.snl_pieces.specs.World.{World}
-use Rattle.snl_store.specs.Running.{LeavesValue, value_at, value_left, left_at, state_left}
+use Rattle.snl_store.specs.Running.{LeavesValue, value_left, left_at, state_left}
 use Rattle.snl_turns.specs.Plans.{held_at, CanTest}
 use Rattle.snl_plans.specs.Meaning.{left_for}
 use Rattle.snl_plans.proofs.Ends.{value-left, leaves-value, state-left, is-over}

@@ -1,5 +1,5 @@
 -- The states of a state set, run by their plans.
-use Rattle.std.proofs.Common.{◌≡◌, ◌∙◌, ◌≤◌, ◌+◌, ℕ, zero, suc, List, [], ◌∷◌, Option, None, Some, refl, ap, sym, subst, arith, map, slice_get, option_and_then}
+use Rattle.std.proofs.Common.{◌≡◌, ◌∙◌, ◌≤◌, ◌+◌, ℕ, zero, suc, List, [], ◌∷◌, Some, refl, ap, sym, subst, arith, map, slice_get, option_and_then}
 use Rattle.snl_syntax.specs.Programs.{ClauseTree, StateTree, ProgramTree}
 use Rattle.snl_code.specs.declared.starts.Piece.{Piece}
 use Rattle.snl_code.specs.Depths.{program_depth}
@@ -11,8 +11,8 @@ use Rattle.snl_pieces.specs.Run.{Setting, setting_of}
 use Rattle.snl_turns.specs.declared.plans.ClausePlan.{ClausePlan}
 use Rattle.snl_turns.specs.declared.plans.StatePlan.{StatePlan}
 use Rattle.snl_turns.specs.Plans.{clause_of, state_of, CanRunAll, CanRunSet}
-use Rattle.snl_plans.specs.Meaning.{clause_meaning, state_meaning}
-use Rattle.snl_plans.specs.Plans.{PlainState, state_view, clause_plans, state_plan, state_plans}
+use Rattle.snl_plans.specs.Meaning.{state_meaning}
+use Rattle.snl_plans.specs.Plans.{PlainState, state_view, state_plan, state_plans}
 use Rattle.snl_plans.proofs.Clauses.{clauses-mean, clauses-run}
 
 module _ (p : ProgramTree) (code : List Instr) (t : ProgramTable) (room set : ℕ) (placed : (name : Piece) → IsPlaced p code (piece_of p name) (start_in t name))
@@ -27,7 +27,7 @@ module _ (p : ProgramTree) (code : List Instr) (t : ProgramTable) (room set : �
       ap (λ (i : ℕ). clause_at p set k i) same ∙ ap (option_and_then (λ d. slice_get d.clauses j)) at ∙ there
 
   -- a state means what its plan runs
-  state-means : (k : ℕ) (s : StateTree) (plan : StatePlan) → state_at p set k ≡ Some s → state_view plan ≡ state_plan (here_in p set) t k s →
+  state-means : (k : ℕ) (s : StateTree) (plan : StatePlan) → state_at p set k ≡ Some s → state_view plan ≡ state_plan (here_in p set).states t set k s →
       state_of setting code plan ≡ state_meaning (here_in p set) s
   state-means k s plan at is =
       let names = ap (λ (v : PlainState). v.name) is in
@@ -35,7 +35,7 @@ module _ (p : ProgramTree) (code : List Instr) (t : ProgramTable) (room set : �
       λ j. record { name = names j; clauses = clauses j }
 
   -- and its clauses can run
-  state-runs : (k : ℕ) (s : StateTree) (plan : StatePlan) → state_at p set k ≡ Some s → state_view plan ≡ state_plan (here_in p set) t k s →
+  state-runs : (k : ℕ) (s : StateTree) (plan : StatePlan) → state_at p set k ≡ Some s → state_view plan ≡ state_plan (here_in p set).states t set k s →
       CanRunAll setting code plan.clauses.items
   state-runs k s plan at is =
       subst (λ (cs : List ClausePlan). CanRunAll setting code cs) (sym (ap (λ (v : PlainState). v.clauses) is))
@@ -50,25 +50,25 @@ module _ (p : ProgramTree) (code : List Instr) (t : ProgramTable) (room set : �
   next k s ss stand j n d is there = stand (suc j) n d (omega (arith, is)) there
 
   -- states mean what their plans run
-  pub states-mean : (k : ℕ) (ss : List StateTree) (plans : List StatePlan) → StandFrom k ss → map state_view plans ≡ state_plans (here_in p set) t k ss →
+  pub states-mean : (k : ℕ) (ss : List StateTree) (plans : List StatePlan) → StandFrom k ss → map state_view plans ≡ state_plans (here_in p set).states t set k ss →
       map (state_of setting code) plans ≡ map (state_meaning (here_in p set)) ss
   states-mean k [] [] stand is = refl
   states-mean k [] (plan ∷ plans) stand is = absurd (cc)
   states-mean k (s ∷ ss) [] stand is = absurd (cc)
   states-mean k (s ∷ ss) (plan ∷ plans) stand is =
-      let one : state_view plan ≡ state_plan (here_in p set) t k s = cc in
-      let rest : map state_view plans ≡ state_plans (here_in p set) t (k + 1) ss = cc in
+      let one : state_view plan ≡ state_plan (here_in p set).states t set k s = cc in
+      let rest : map state_view plans ≡ state_plans (here_in p set).states t set (k + 1) ss = cc in
       λ j. state-means k s plan (stand 0 k s (omega arith) refl) one j ∷ states-mean (k + 1) ss plans (next k s ss stand) rest j
 
   -- and they can run
-  pub states-run : (k : ℕ) (ss : List StateTree) (plans : List StatePlan) → StandFrom k ss → map state_view plans ≡ state_plans (here_in p set) t k ss →
+  pub states-run : (k : ℕ) (ss : List StateTree) (plans : List StatePlan) → StandFrom k ss → map state_view plans ≡ state_plans (here_in p set).states t set k ss →
       CanRunSet setting code plans
   states-run k ss [] stand is i plan there = absurd (cc)
   states-run k [] (first ∷ plans) stand is i plan there = absurd (cc)
   states-run k (s ∷ ss) (first ∷ plans) stand is zero plan there =
       let same : first ≡ plan = cc in
-      let one : state_view first ≡ state_plan (here_in p set) t k s = cc in
+      let one : state_view first ≡ state_plan (here_in p set).states t set k s = cc in
       subst (λ (x : StatePlan). CanRunAll setting code x.clauses.items) same (state-runs k s first (stand 0 k s (omega arith) refl) one)
   states-run k (s ∷ ss) (first ∷ plans) stand is (suc i) plan there =
-      let rest : map state_view plans ≡ state_plans (here_in p set) t (k + 1) ss = cc in
+      let rest : map state_view plans ≡ state_plans (here_in p set).states t set (k + 1) ss = cc in
       states-run (k + 1) ss plans (next k s ss stand) rest i plan there

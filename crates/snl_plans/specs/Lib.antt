@@ -1,7 +1,7 @@
 pub mod Names
 pub mod Meaning
 pub mod Places
+pub mod Sets
 pub mod Plans
 pub mod First
-pub mod Fits
 pub mod Right

@@ -1,10 +1,12 @@
 -- What a program means: its clauses by the meaning of their conditions and blocks on the tree.
 use Rattle.std.specs.Prelude.{ℕ, ◌+◌, List, [], ◌∷◌, map, Option, None, Some}
+use Rattle.snl_text.specs.declared.tokens.Token.{Token}
 use Rattle.snl_syntax.specs.Programs.{TargetTree, to_state, to_exit, ClauseTree, StateTree, StateSetTree, ProgramTree}
 use Rattle.snl_code.specs.Heres.{here_in}
 use Rattle.snl_links.specs.Links.{Link}
 use Rattle.snl_pieces.specs.Effect.{Way, Left, held_by, block_effect}
-use Rattle.snl_pieces.specs.Names.{Here, state_number}
+use Rattle.snl_pieces.specs.Names.{Here, or_first}
+use Rattle.snl_sites.specs.Numbered.{number_of}
 use Rattle.snl_pieces.specs.Ran.{Ran, Gives, then_do}
 use Rattle.snl_pieces.specs.World.{World}
 use Rattle.snl_turns.specs.Instant.{Program}
@@ -16,17 +18,17 @@ abbrev pub left_for : Way → World → Ran (Option ℕ)
 left_for (Left state) w = Gives (Some state) w []
 left_for _ w = Gives None w []
 
--- The number of the state that a clause leads to. An exit does not run yet, and counts as the first state.
-abbrev pub target_of : Here → TargetTree → ℕ
-target_of h (to_state x) = state_number h x
-target_of h to_exit = 0
+-- The number of the state that a clause leads to, by the names of the states. An exit does not run yet, and counts as the first state.
+abbrev pub target_of : List Token → TargetTree → ℕ
+target_of states (to_state x) = or_first (number_of states x.text.now)
+target_of states to_exit = 0
 
 -- A clause: its condition, its block, its state, the line of its word.
 abbrev pub clause_meaning : Here → ClauseTree → Clause
 clause_meaning h c = record {
   holds = held_by h c.condition;
   acts = λ w. then_do (block_effect h c.block w) left_for;
-  target = target_of h c.target;
+  target = target_of h.states c.target;
   line = c.word.pos.line;
 }
 

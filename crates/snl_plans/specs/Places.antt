@@ -13,13 +13,14 @@ use Rattle.snl_plans.specs.Names.{place_of, once}
 
 -- ---- channels
 
--- The name of a link's channel, if it has one.
-abbrev pub channel_name : Link → List (List ℕ)
-channel_name l = elim l.name [ [] ↦ [] | b ∷ bs ↦ (b ∷ bs) ∷ [] ]
+-- The name of a channel; an empty name is that of no channel.
+abbrev pub named : List ℕ → List (List ℕ)
+named [] = []
+named (b ∷ bs) = (b ∷ bs) ∷ []
 
 -- The channels of some links, each once, in the order in which they are first named.
 abbrev pub channels : List Link → List (List ℕ)
-channels ls = once (flat_map channel_name ls)
+channels ls = once (flat_map (λ l. named l.name) ls)
 
 -- ---- words
 

@@ -1,12 +1,10 @@
 -- What it means that a plan is that of a program, with its code.
-use Rattle.std.specs.Prelude.{◌≡◌, ◌+◌, ℕ, List, [], ◌∷◌, map, Option, Some, slice_get, unwrap_or}
+use Rattle.std.specs.Prelude.{◌+◌, ℕ, List, [], ◌∷◌, map, unwrap_or}
+use Rattle.snl_text.specs.declared.tokens.Token.{Token}
 use Rattle.snl_syntax.specs.Programs.{ClauseTree, StateTree, StateSetTree, ProgramTree}
-use Rattle.snl_code.specs.declared.starts.Piece.{Piece}
 use Rattle.snl_code.specs.declared.starts.Piece.TheVariants.{Condition, Block}
-use Rattle.snl_code.specs.Heres.{here_in}
 use Rattle.snl_code.specs.Starts.{ProgramTable, start_in}
 use Rattle.snl_links.specs.Links.{Link}
-use Rattle.snl_pieces.specs.Names.{Here}
 use Rattle.snl_turns.specs.declared.feeds.Feed.{Feed}
 use Rattle.snl_turns.specs.declared.plans.ClausePlan.{ClausePlan}
 use Rattle.snl_turns.specs.declared.plans.LinkPlan.{LinkPlan}
@@ -49,32 +47,37 @@ plan_view p = record { name = p.name.items; links = p.links.items; sets = map se
 
 -- ---- the plan of a program
 
--- The clause of a number, in a state: where its pieces begin in the code, its state and the line of its word.
-abbrev pub clause_plan : Here → ProgramTable → ℕ → ℕ → ClauseTree → ClausePlan
-clause_plan h t state k c = record {
-  condition = start_in t (Condition h.set state k);
-  block = unwrap_or (start_in t (Block h.set state k)) 0;
-  target = target_of h c.target;
+-- The clause of a number, in a state of a state set with these states: where its pieces begin in the code, its state and
+-- the line of its word.
+abbrev pub clause_plan : List Token → ProgramTable → ℕ → ℕ → ℕ → ClauseTree → ClausePlan
+clause_plan states t set state k c = record {
+  condition = start_in t (Condition set state k);
+  block = unwrap_or (start_in t (Block set state k)) 0;
+  target = target_of states c.target;
   line = c.word.pos.line;
 }
 
 -- Clauses with numbers from k on.
-abbrev pub clause_plans : Here → ProgramTable → ℕ → ℕ → List ClauseTree → List ClausePlan
-clause_plans h t state k [] = []
-clause_plans h t state k (c ∷ cs) = clause_plan h t state k c ∷ clause_plans h t state (k + 1) cs
+abbrev pub clause_plans : List Token → ProgramTable → ℕ → ℕ → ℕ → List ClauseTree → List ClausePlan
+clause_plans states t set state k [] = []
+clause_plans states t set state k (c ∷ cs) = clause_plan states t set state k c ∷ clause_plans states t set state (k + 1) cs
 
 -- The state of a number.
-abbrev pub state_plan : Here → ProgramTable → ℕ → StateTree → PlainState
-state_plan h t state s = record { name = s.name.text.now; clauses = clause_plans h t state 0 s.clauses }
+abbrev pub state_plan : List Token → ProgramTable → ℕ → ℕ → StateTree → PlainState
+state_plan states t set state s = record { name = s.name.text.now; clauses = clause_plans states t set state 0 s.clauses }
 
 -- States with numbers from k on.
-abbrev pub state_plans : Here → ProgramTable → ℕ → List StateTree → List PlainState
-state_plans h t k [] = []
-state_plans h t k (s ∷ ss) = state_plan h t k s ∷ state_plans h t (k + 1) ss
+abbrev pub state_plans : List Token → ProgramTable → ℕ → ℕ → List StateTree → List PlainState
+state_plans states t set k [] = []
+state_plans states t set k (s ∷ ss) = state_plan states t set k s ∷ state_plans states t set (k + 1) ss
+
+-- The names of the states of a state set.
+abbrev pub names_of : StateSetTree → List Token
+names_of g = map (λ s. s.name) g.states
 
 -- The state set of a number.
 abbrev pub set_plan : ProgramTree → List Link → ProgramTable → ℕ → StateSetTree → PlainSet
-set_plan p ls t k g = record { name = g.name.text.now; states = state_plans (here_in p k) t 0 g.states; feeds = feeds_in p ls k }
+set_plan p ls t k g = record { name = g.name.text.now; states = state_plans (names_of g) t k 0 g.states; feeds = feeds_in p ls k }
 
 -- State sets with numbers from k on.
 abbrev pub set_plans : ProgramTree → List Link → ProgramTable → ℕ → List StateSetTree → List PlainSet

@@ -10,9 +10,11 @@ use Rattle.snl_turns.specs.Turn.{Clause, chosen, chosen_if}
 
 module _ {P : Type 0} (f : P → Clause) (clauses : List P) (i : ℕ) (d : P) (within : i < length clauses)
     (whole : Ran (Option Clause)) (old mid : Option (List ℕ)) (w : World) (way : IsOnWay old mid whole (chosen (map f (drop i clauses)) w)) where
+  -- this clause
   abbrev pub this : Clause
   this = f (get_or clauses i d)
 
+  -- those after it
   abbrev pub others : World → Ran (Option Clause)
   others u = chosen (map f (drop (i + 1) clauses)) u
 

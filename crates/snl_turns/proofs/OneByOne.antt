@@ -18,6 +18,7 @@ use Rattle.snl_turns.specs.Wholes.{setting_in, sets_from}
 module _ (t : Whole) (sets : List SetPlan) (i : ℕ) (moved : Bool) (s : SetPlan) (within : i < length sets) (is : s ≡ get_or sets i s)
     (this : StateSet) (this-is : this ≡ set_of (setting_in t i s) t.code.now s)
     (whole : Ran Bool) (old mid : Option (List ℕ)) (w : World) (way : IsOnWay old mid whole (round_from (sets_from t i (drop i sets)) moved w)) where
+  -- the turns after it
   abbrev pub others : Bool → World → Ran Bool
   others = round_from (sets_from t (i + 1) (drop (i + 1) sets))
 

@@ -20,14 +20,18 @@ pub struct ClausePlan {
 /// A state.
 #[derive(Drop)]
 pub struct StatePlan {
+    /// As spelled in the source.
     pub name: Vec<u8>,
+    /// In the order of the source.
     pub clauses: Vec<ClausePlan>,
 }
 
 /// A state set.
 #[derive(Drop)]
 pub struct SetPlan {
+    /// As spelled in the source.
     pub name: Vec<u8>,
+    /// In the order of the source; the first is the initial one.
     pub states: Vec<StatePlan>,
     /// By link: which words of its copy take the values of the link.
     pub feeds: Vec<Feed>,
@@ -36,9 +40,11 @@ pub struct SetPlan {
 /// What a turn of a state set runs on.
 #[derive(Clone, Copy)]
 pub struct Stage<'t> {
+    /// The state set.
     pub plan: &'t SetPlan,
     /// The code of the program.
     pub code: &'t [Instr],
+    /// The number and the name of the state set, and the strings of the program.
     pub setting: Setting<'t>,
     /// How many operands there is room for.
     pub room: usize,
@@ -49,6 +55,7 @@ pub struct Stage<'t> {
 pub struct LinkPlan {
     /// The number of its channel; None where it has none.
     pub channel: Option<usize>,
+    /// Whether a `monitor` names its elements: then each value marks the link.
     pub is_monitored: bool,
     /// Where its buffer begins among the buffers, in words.
     pub from: usize,
@@ -63,14 +70,18 @@ pub struct LinkPlan {
 /// A program.
 #[derive(Drop)]
 pub struct Plan {
+    /// As spelled in the source.
     pub name: Vec<u8>,
+    /// In the order of the `assign` definitions.
     pub links: Vec<LinkPlan>,
+    /// In the order of the source.
     pub sets: Vec<SetPlan>,
 }
 
 /// What an instant of a program runs on.
 #[derive(Clone, Copy)]
 pub struct Whole<'t> {
+    /// Of the program.
     pub plan: &'t Plan,
     /// The code of the program.
     pub code: &'t [Instr],

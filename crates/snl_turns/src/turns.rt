@@ -53,8 +53,10 @@ fn first_true<S: Sink>(
     requires room { room_of operands.old ≡ stage.room }
     requires runs { CanRunAll (setting_on stage) stage.code.now clauses.now }
     ensures runs { IfOk result (CanFire (setting_on stage.entry) stage.entry.code.now) }
-    ensures does { Does (clause_by (setting_on stage.entry) stage.entry.code.now) result (world_of store.new) (S.told sink.old) (S.told sink.new)
-        (spec.chosen (map (clause_of (setting_on stage.entry) stage.entry.code.now) clauses.now) (world_of store.old)) }
+    ensures does { Does (clause_by (setting_on stage.entry) stage.entry.code.now) result
+        (world_of store.new) (S.told sink.old) (S.told sink.new) (spec.chosen
+        (map (clause_of (setting_on stage.entry) stage.entry.code.now) clauses.now)
+        (world_of store.old)) }
     ensures room { room_of operands.new ≡ room_of operands.old }
     ensures failures { S.failures sink.new
         ≡ counted (stopped_by_sink result) (S.failures sink.old) }
@@ -132,7 +134,8 @@ fn act<S: Sink>(
     requires room { room_of operands.old ≡ stage.room }
     requires runs { CanRun (setting_on stage) stage.code.now clause }
     ensures does { Does (λ x. x) result (world_of store.new) (S.told sink.old) (S.told sink.new)
-        (spec.acted (set_on stage.entry) from.now (clause_of (setting_on stage.entry) stage.entry.code.now clause) (world_of store.old)) }
+        (spec.acted (set_on stage.entry) from.now
+        (clause_of (setting_on stage.entry) stage.entry.code.now clause) (world_of store.old)) }
     ensures room { room_of operands.new ≡ room_of operands.old }
     ensures failures { S.failures sink.new
         ≡ counted (stopped_by_sink result) (S.failures sink.old) }
@@ -163,7 +166,8 @@ fn transit<S: Sink>(
     requires room { room_of operands.old ≡ stage.room }
     requires runs { CanRun (setting_on stage) stage.code.now clause }
     ensures does { Does (λ x. x) result (world_of store.new) (S.told sink.old) (S.told sink.new)
-        (spec.transition (set_on stage.entry) from.now (clause_of (setting_on stage.entry) stage.entry.code.now clause) (world_of store.old)) }
+        (spec.transition (set_on stage.entry) from.now
+        (clause_of (setting_on stage.entry) stage.entry.code.now clause) (world_of store.old)) }
     ensures room { room_of operands.new ≡ room_of operands.old }
     ensures failures { S.failures sink.new
         ≡ counted (stopped_by_sink result) (S.failures sink.old) }
@@ -187,7 +191,8 @@ fn fire<S: Sink>(
     requires room { room_of operands.old ≡ stage.room }
     requires runs { CanFire (setting_on stage) stage.code.now clause }
     ensures does { Does (λ b. b) result (world_of store.new) (S.told sink.old) (S.told sink.new)
-        (spec.fired (set_on stage.entry) from.now (clause_by (setting_on stage.entry) stage.entry.code.now clause) (world_of store.old)) }
+        (spec.fired (set_on stage.entry) from.now
+        (clause_by (setting_on stage.entry) stage.entry.code.now clause) (world_of store.old)) }
     ensures room { room_of operands.new ≡ room_of operands.old }
     ensures failures { S.failures sink.new
         ≡ counted (stopped_by_sink result) (S.failures sink.old) }
@@ -214,7 +219,8 @@ fn try_state<S: Sink>(
     requires runs { CanRunAll (setting_on stage) stage.code.now state.now.clauses.items }
     ensures does { Does (λ b. b) result (world_of store.new) (S.told sink.old) (S.told sink.new)
         (spec.tried (set_on stage.entry)
-        (Some (state_of (setting_on stage.entry) stage.entry.code.now state.now)) (world_of store.old)) }
+        (Some (state_of (setting_on stage.entry) stage.entry.code.now state.now))
+        (world_of store.old)) }
     ensures room { room_of operands.new ≡ room_of operands.old }
     ensures failures { S.failures sink.new
         ≡ counted (stopped_by_sink result) (S.failures sink.old) }

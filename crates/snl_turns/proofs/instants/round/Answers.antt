@@ -10,7 +10,8 @@ returns-in-Err-clause-does g c =
     let s = c.plan-item.result in
     let within : c.loop-set.set < length sets = search rules in
     let is : s ≡ get_or sets c.loop-set.set s = search rules in
-    let this-is = ap (λ (name : List ℕ). set_of (record { set = c.loop-set.set; name = name; formats = map (λ text. text.items) t.formats.now; room = t.room }) t.code.now s) c.as_slice.ensures.value in
+    let this-is = ap (λ (name : List ℕ). set_of (record { set = c.loop-set.set; name = name; formats = map (λ text. text.items) t.formats.now; room = t.room }) t.code.now s)
+    c.as_slice.ensures.value in
     turn-stops t sets c.loop-set.set c.loop-set.moved s within is _ this-is _ _ _ _ c.loop-set.invariant.on_way c.in-Err.stop _ _ c.in-Err.ensures.does
 
 pub loop-set-preserved : goal.loop-set-preserved
@@ -20,7 +21,8 @@ loop-set-preserved g c =
     let s = c.plan-item.result in
     let within : c.loop-set.set < length sets = search rules in
     let is : s ≡ get_or sets c.loop-set.set s = search rules in
-    let this-is = ap (λ (name : List ℕ). set_of (record { set = c.loop-set.set; name = name; formats = map (λ text. text.items) t.formats.now; room = t.room }) t.code.now s) c.as_slice.ensures.value in
+    let this-is = ap (λ (name : List ℕ). set_of (record { set = c.loop-set.set; name = name; formats = map (λ text. text.items) t.formats.now; room = t.room }) t.code.now s)
+    c.as_slice.ensures.value in
     let had : (c.in-Ok.had || c.loop-set.moved) ≡ c.if-had.moved = search rules in
     record {
       on_way = turned t sets c.loop-set.set c.loop-set.moved s within is _ this-is _ _ _ _ c.loop-set.invariant.on_way _ _ c.in-Ok.had c.if-had.moved had c.in-Ok.ensures.does;

@@ -23,7 +23,8 @@ returns-in-Ok-false-clause-does g c =
     let end = c.from-round-end.result + 1 in
     let i = c.loop-round._round in
     let fuel : end - i ≡ suc (end - (i + 1)) = omega (arith, c.loop-round-test.true) in
-    round-ends (program_of c.args.whole) (world_of c.loop-round.store) (end - i) (end - (i + 1)) fuel _ _ _ c.loop-round.invariant.on_way _ _ (rw c.in-Ok-false.field-0-test at c.in-Ok-false.ensures.does)
+    round-ends (program_of c.args.whole) (world_of c.loop-round.store) (end - i) (end - (i + 1)) fuel _ _ _ c.loop-round.invariant.on_way _ _
+    (rw c.in-Ok-false.field-0-test at c.in-Ok-false.ensures.does)
 
 pub returns-in-Err-clause-does : goal.returns-in-Err-clause-does
 returns-in-Err-clause-does g c =
@@ -38,7 +39,8 @@ loop-round-preserved g c =
     let i = c.loop-round._round in
     let fuel : end - i ≡ suc (end - (i + 1)) = omega (arith, c.loop-round-test.true) in
     record {
-      on_way = round-goes_on (program_of c.args.whole) (world_of c.loop-round.store) (end - i) (end - (i + 1)) fuel _ _ _ c.loop-round.invariant.on_way _ _ (rw c.in-Ok-true.field-0-test at c.in-Ok-true.ensures.does);
+      on_way = round-goes_on (program_of c.args.whole) (world_of c.loop-round.store) (end - i) (end - (i + 1)) fuel _ _ _ c.loop-round.invariant.on_way _ _
+          (rw c.in-Ok-true.field-0-test at c.in-Ok-true.ensures.does);
       room = c.round.ensures.room ∙ c.loop-round.invariant.room;
       none_failed = search rules;
     }

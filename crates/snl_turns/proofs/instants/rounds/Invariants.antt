@@ -9,7 +9,8 @@ use Rattle.snl_turns.proofs.instants.rounds.Given as goal
 -- what was told, and the rounds that are left
 abbrev pub invariant-loop-round : goal.invariant-loop-round
 invariant-loop-round g l = record {
-  on_way : IsOnWay (g.S.Sink.told l.fn.sink) (g.S.Sink.told l.sink) (all_rounds (program_of l.whole) (world_of l.fn.store)) (rounds_of (program_of l.whole) (l._round-end - l._round) (world_of l.store));
+  on_way : IsOnWay (g.S.Sink.told l.fn.sink) (g.S.Sink.told l.sink) (all_rounds (program_of l.whole) (world_of l.fn.store))
+      (rounds_of (program_of l.whole) (l._round-end - l._round) (world_of l.store));
   room : room_of l.operands ≡ room_of l.fn.operands;
   none_failed : g.S.Sink.failures l.sink ≡ g.S.Sink.failures l.fn.sink;
 }

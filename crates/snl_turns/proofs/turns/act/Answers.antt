@@ -19,7 +19,8 @@ pub returns-in-Ok-clause-does : goal.returns-in-Ok-clause-does
 returns-in-Ok-clause-does g c =
     let w = world_of c.args.store.now in
     let code = c.args.stage.code.now in
-    let did = subst (λ (s : run.Setting). Gave c.in-Ok.left (world_of c.perform.new.store) (g.S.Sink.told c.args.sink.now) (g.S.Sink.told c.perform.new.sink) (left_at s code c.args.clause.block w))
+    let did = subst (λ (s : run.Setting). Gave c.in-Ok.left (world_of c.perform.new.store) (g.S.Sink.told c.args.sink.now) (g.S.Sink.told c.perform.new.sink)
+    (left_at s code c.args.clause.block w))
     (same_setting c.args.stage c.args.operands.now c.requires.room) c.in-Ok.ensures.does
     in
     does-then (λ x. x) c.arrive.result (left_at (setting_on c.args.stage) code c.args.clause.block w) (arrived_by (set_on c.args.stage) c.args.from.now c.args.clause.target) c.in-Ok.left _ _ _ _ _ did
@@ -29,7 +30,8 @@ pub returns-in-Err-clause-does : goal.returns-in-Err-clause-does
 returns-in-Err-clause-does g c =
     let w = world_of c.args.store.now in
     let code = c.args.stage.code.now in
-    let did = subst (λ (s : run.Setting). Does {V = Option ℕ} (λ x. x) (Err c.in-Err.stop) (world_of c.perform.new.store) (g.S.Sink.told c.args.sink.now) (g.S.Sink.told c.perform.new.sink) (left_at s code c.args.clause.block w))
+    let did = subst (λ (s : run.Setting). Does {V = Option ℕ} (λ x. x) (Err c.in-Err.stop) (world_of c.perform.new.store) (g.S.Sink.told c.args.sink.now) (g.S.Sink.told c.perform.new.sink)
+    (left_at s code c.args.clause.block w))
     (same_setting c.args.stage c.args.operands.now c.requires.room) c.in-Err.ensures.does
     in
     stopped-then (λ x. x) (λ x. x) c.in-Err.stop (left_at (setting_on c.args.stage) code c.args.clause.block w) (arrived_by (set_on c.args.stage) c.args.from.now c.args.clause.target) _ _ _ did

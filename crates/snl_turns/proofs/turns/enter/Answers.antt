@@ -8,4 +8,5 @@ pub returns-in-Some : goal.returns-in-Some
 returns-in-Some c =
     let w = world_of c.args.store.now in
     ap (λ cs. record w { copies = cs })
-    (view_changed copy_view c.args.store.now.copies.items c.args.set c.in-Some.copy.now _ no_copy (λ k. record k { state = c.args.state; entered = c.args.store.now.time }) (search rules) (search rules) refl)
+    (view_changed copy_view c.args.store.now.copies.items c.args.set c.in-Some.copy.now _ no_copy
+    (λ k. record k { state = c.args.state; entered = c.args.store.now.time }) (search rules) (search rules) refl)

@@ -11,13 +11,15 @@ returns-in-Ok-true-clause-does g c =
 pub returns-in-Err-clause-does : goal.returns-in-Err-clause-does
 returns-in-Err-clause-does g c =
     let f = clause_of (setting_on c.args.stage) c.args.stage.code.now in
-    stops f c.args.clauses.now c.loop-clause.clause-index _ c.loop-clause-test.true _ _ _ _ c.loop-clause.invariant.on_way (clause_by (setting_on c.args.stage) c.args.stage.code.now) c.in-Err.stop _ _ c.in-Err.ensures.does
+    stops f c.args.clauses.now c.loop-clause.clause-index _ c.loop-clause-test.true _ _ _ _ c.loop-clause.invariant.on_way
+    (clause_by (setting_on c.args.stage) c.args.stage.code.now) c.in-Err.stop _ _ c.in-Err.ensures.does
 
 pub loop-clause-preserved : goal.loop-clause-preserved
 loop-clause-preserved g c =
     let f = clause_of (setting_on c.args.stage) c.args.stage.code.now in
     record {
-      on_way = goes_on f c.args.clauses.now c.loop-clause.clause-index _ c.loop-clause-test.true _ _ _ _ c.loop-clause.invariant.on_way _ _ (rw c.in-Ok-false.field-0-test at c.in-Ok-false.ensures.does);
+      on_way = goes_on f c.args.clauses.now c.loop-clause.clause-index _ c.loop-clause-test.true _ _ _ _ c.loop-clause.invariant.on_way _ _
+          (rw c.in-Ok-false.field-0-test at c.in-Ok-false.ensures.does);
       room = c.holds.ensures.room ∙ c.loop-clause.invariant.room;
       none_failed = search rules;
     }

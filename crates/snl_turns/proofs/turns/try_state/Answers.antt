@@ -11,7 +11,8 @@ returns-in-Ok-clause-does g c =
     let code = c.args.stage.code.now in
     let r = chosen (map (clause_of s code) c.args.state.now.clauses.items) (world_of c.args.store.now) in
     let did = (rw c.as_slice.ensures.value at c.in-Ok.ensures.does) in
-    does-then (λ b. b) c.fire.result r (fired (set_on c.args.stage) c.args.state.now.name.items) (clause_by s code c.in-Ok.clause) _ _ _ _ _ did (rw c.as_slice-in-Ok.ensures.value at c.fire.ensures.does)
+    does-then (λ b. b) c.fire.result r (fired (set_on c.args.stage) c.args.state.now.name.items) (clause_by s code c.in-Ok.clause) _ _ _ _ _ did
+    (rw c.as_slice-in-Ok.ensures.value at c.fire.ensures.does)
 
 pub returns-in-Err-clause-does : goal.returns-in-Err-clause-does
 returns-in-Err-clause-does g c =
