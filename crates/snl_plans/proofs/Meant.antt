@@ -12,17 +12,16 @@ use Rattle.snl_pieces.specs.declared.instrs.Instr.{Instr}
 use Rattle.snl_pieces.specs.Names.{formats_of}
 use Rattle.snl_pieces.specs.Run.{Setting, setting_of}
 use Rattle.snl_turns.specs.declared.plans.SetPlan.{SetPlan}
-use Rattle.snl_turns.specs.declared.plans.Whole.{Whole}
 use Rattle.snl_turns.specs.Plans.{set_of, state_of, CanRunSet}
-use Rattle.snl_turns.specs.Wholes.{setting_in, sets_from}
+use Rattle.snl_turns.specs.Wholes.{Loaded, setting_in, sets_from}
 use Rattle.snl_plans.specs.Meaning.{state_meaning, set_meaning, set_meanings}
 use Rattle.snl_plans.specs.Plans.{PlainPlan, PlainSet, set_view, state_view, state_plans, set_plan, set_plans}
-use Rattle.snl_plans.specs.Right.{IsWholeOf, PlansAreRight}
+use Rattle.snl_plans.specs.Right.{IsLoadedOf, PlansAreRight}
 use Rattle.snl_plans.proofs.Sets.{states-mean, states-run}
 
-module _ (p : ProgramTree) (ls : List Link) (c : Code) (t : Whole) (is : IsWholeOf p ls c t) where
+module _ (p : ProgramTree) (ls : List Link) (c : Code) (t : Loaded) (is : IsLoadedOf p ls c t) where
   -- the code that runs has the pieces
-  pieces : (name : Piece) → IsPlaced p t.code.now (piece_of p name) (start_in (table_of c) name)
+  pieces : (name : Piece) → IsPlaced p t.code (piece_of p name) (start_in (table_of c) name)
   pieces name = subst (λ (code : List Instr). IsPlaced p code (piece_of p name) (start_in (table_of c) name)) (sym is.code) (is.code_is.placed name)
 
   -- there is room for all of them
@@ -34,7 +33,7 @@ module _ (p : ProgramTree) (ls : List Link) (c : Code) (t : Whole) (is : IsWhole
       setting_in t k plan ≡ setting_of (here_in p k) t.room
   settings k g plan at one =
       let names : plan.name.items ≡ name_by (slice_get p.state_sets k) = ap (λ (v : PlainSet). v.name) one ∙ sym (ap name_by at) in
-      let texts : map (λ text. text.items) t.formats.now ≡ formats_of (here_in p k) = is.formats ∙ is.code_is.texts in
+      let texts : t.formats ≡ formats_of (here_in p k) = is.formats ∙ is.code_is.texts in
       λ j. record { set = k; name = names j; formats = texts j; room = t.room }
 
   -- the states of a state set stand in it
@@ -51,21 +50,21 @@ module _ (p : ProgramTree) (ls : List Link) (c : Code) (t : Whole) (is : IsWhole
 
   -- a state set means what its plan runs
   set-means : (k : ℕ) (g : StateSetTree) (plan : SetPlan) → slice_get p.state_sets k ≡ Some g → set_view plan ≡ set_plan p ls (table_of c) k g →
-      set_of (setting_in t k plan) t.code.now plan ≡ set_meaning p ls k g
+      set_of (setting_in t k plan) t.code plan ≡ set_meaning p ls k g
   set-means k g plan at one =
       let names = ap (λ (v : PlainSet). v.name) one in
       let feeds = ap (λ (v : PlainSet). v.feeds) one in
-      let states : map (state_of (setting_in t k plan) t.code.now) plan.states.items ≡ map (state_meaning (here_in p k)) g.states =
-      ap (λ (s : Setting). map (state_of s t.code.now) plan.states.items) (settings k g plan at one)
-      ∙ states-mean p t.code.now (table_of c) t.room k pieces enough 0 g.states plan.states.items (stands k g at) (states-planned k g plan at one)
+      let states : map (state_of (setting_in t k plan) t.code) plan.states.items ≡ map (state_meaning (here_in p k)) g.states =
+      ap (λ (s : Setting). map (state_of s t.code) plan.states.items) (settings k g plan at one)
+      ∙ states-mean p t.code (table_of c) t.room k pieces enough 0 g.states plan.states.items (stands k g at) (states-planned k g plan at one)
       in λ j. record { set = k; name = names j; states = states j; feeds = feeds j }
 
   -- and it can run
   set-runs : (k : ℕ) (g : StateSetTree) (plan : SetPlan) → slice_get p.state_sets k ≡ Some g → set_view plan ≡ set_plan p ls (table_of c) k g →
-      CanRunSet (setting_in t k plan) t.code.now plan.states.items
+      CanRunSet (setting_in t k plan) t.code plan.states.items
   set-runs k g plan at one =
-      subst (λ (s : Setting). CanRunSet s t.code.now plan.states.items) (sym (settings k g plan at one))
-      (states-run p t.code.now (table_of c) t.room k pieces enough 0 g.states plan.states.items (stands k g at) (states-planned k g plan at one))
+      subst (λ (s : Setting). CanRunSet s t.code plan.states.items) (sym (settings k g plan at one))
+      (states-run p t.code (table_of c) t.room k pieces enough 0 g.states plan.states.items (stands k g at) (states-planned k g plan at one))
 
   -- state sets that stand in the program from a number on
   abbrev pub StandFrom : ℕ → List StateSetTree → Type 0
@@ -88,15 +87,15 @@ module _ (p : ProgramTree) (ls : List Link) (c : Code) (t : Whole) (is : IsWhole
 
   -- and they can run
   sets-run : (k : ℕ) (gs : List StateSetTree) (plans : List SetPlan) → StandFrom k gs → map set_view plans ≡ set_plans p ls (table_of c) k gs →
-      (i n : ℕ) (plan : SetPlan) → n ≡ k + i → slice_get plans i ≡ Some plan → CanRunSet (setting_in t n plan) t.code.now plan.states.items
+      (i n : ℕ) (plan : SetPlan) → n ≡ k + i → slice_get plans i ≡ Some plan → CanRunSet (setting_in t n plan) t.code plan.states.items
   sets-run k gs [] stand same i n plan at there = absurd (cc)
   sets-run k [] (first ∷ plans) stand same i n plan at there = absurd (cc)
   sets-run k (g ∷ gs) (first ∷ plans) stand same zero n plan at there =
       let this : first ≡ plan = cc in
       let here : k ≡ n = omega (arith, at) in
       let one : set_view first ≡ set_plan p ls (table_of c) k g = cc in
-      subst (λ (x : SetPlan). CanRunSet (setting_in t n x) t.code.now x.states.items) this
-      (subst (λ (m : ℕ). CanRunSet (setting_in t m first) t.code.now first.states.items) here (set-runs k g first (stand 0 k g (omega arith) refl) one))
+      subst (λ (x : SetPlan). CanRunSet (setting_in t n x) t.code x.states.items) this
+      (subst (λ (m : ℕ). CanRunSet (setting_in t m first) t.code first.states.items) here (set-runs k g first (stand 0 k g (omega arith) refl) one))
   sets-run k (g ∷ gs) (first ∷ plans) stand same (suc i) n plan at there =
       let rest : map set_view plans ≡ set_plans p ls (table_of c) (k + 1) gs = cc in
       sets-run (k + 1) gs plans (next k g gs stand) rest i n plan (omega (arith, at)) there
@@ -111,7 +110,7 @@ plans_are_right p ls c t is =
     let names = ap (λ (v : PlainPlan). v.name) is.plan in
     let links = ap (λ (v : PlainPlan). v.links) is.plan in
     let plans = ap (λ (v : PlainPlan). v.sets) is.plan in
-    let all = t.plan.now.sets.items in
+    let all = t.plan.sets.items in
     let sets = sets-mean p ls c t is 0 p.state_sets all (all-stand p) plans in (
       λ j. record { name = names j; links = links j; sets = sets j },
       λ k s there. sets-run p ls c t is 0 p.state_sets all (all-stand p) plans k k s (omega arith) there,

@@ -7,16 +7,15 @@ use Rattle.snl_lines.proofs.Doing.{IsOnWay, on_way-then, on_way-does, stopped-th
 use Rattle.snl_pieces.specs.Ran.{Ran, Gives, then_do}
 use Rattle.snl_pieces.specs.World.{World}
 use Rattle.snl_turns.specs.declared.plans.SetPlan.{SetPlan}
-use Rattle.snl_turns.specs.declared.plans.Whole.{Whole}
 use Rattle.snl_turns.specs.Instant.{Program, or_moved, round_from, round_of, rounds_of, unless_still}
 use Rattle.snl_turns.specs.Plans.{set_of}
 use Rattle.snl_turns.specs.Turn.{StateSet, turn_of}
-use Rattle.snl_turns.specs.Wholes.{setting_in, sets_from}
+use Rattle.snl_turns.specs.Wholes.{Loaded, setting_in, sets_from}
 
 -- ---- turns
 
-module _ (t : Whole) (sets : List SetPlan) (i : ℕ) (moved : Bool) (s : SetPlan) (within : i < length sets) (is : s ≡ get_or sets i s)
-    (this : StateSet) (this-is : this ≡ set_of (setting_in t i s) t.code.now s)
+module _ (t : Loaded) (sets : List SetPlan) (i : ℕ) (moved : Bool) (s : SetPlan) (within : i < length sets) (is : s ≡ get_or sets i s)
+    (this : StateSet) (this-is : this ≡ set_of (setting_in t i s) t.code s)
     (whole : Ran Bool) (old mid : Option (List ℕ)) (w : World) (way : IsOnWay old mid whole (round_from (sets_from t i (drop i sets)) moved w)) where
   -- the turns after it
   abbrev pub others : Bool → World → Ran Bool
@@ -26,7 +25,7 @@ module _ (t : Whole) (sets : List SetPlan) (i : ℕ) (moved : Bool) (s : SetPlan
   way_here : IsOnWay old mid whole (then_do (turn_of this w) (or_moved moved others))
   way_here = subst (λ (r : Ran Bool). IsOnWay old mid whole r)
       (ap (λ ss. round_from (sets_from t i ss) moved w) (drop_more sets i s within)
-      ∙ ap (λ x. then_do (turn_of (set_of (setting_in t i x) t.code.now x) w) (or_moved moved others)) (sym is)
+      ∙ ap (λ x. then_do (turn_of (set_of (setting_in t i x) t.code x) w) (or_moved moved others)) (sym is)
       ∙ ap (λ y. then_do (turn_of y w) (or_moved moved others)) (sym this-is)) way
 
   -- it was done

@@ -6,7 +6,7 @@ ghost use Rattle.snl_lines.specs.Does.{Does};
 ghost use Rattle.snl_pieces.specs.Stack.{room_of};
 ghost use Rattle.snl_store.specs.Views.{world_of};
 ghost use Rattle.snl_turns.specs.Instant as spec;
-ghost use Rattle.snl_turns.specs.Wholes.{CanRunWhole, program_of};
+ghost use Rattle.snl_turns.specs.Wholes.{CanRunLoaded, loaded, program_of};
 
 use crate::plans::{Stage, Whole};
 use crate::starting::{are_ready, start};
@@ -24,9 +24,9 @@ fn round<S: Sink>(
 ) -> Result<bool, Stop>
     requires failures { S.failures sink.old < 2 ^ 64 - 1 }
     requires room { room_of operands.old ≡ whole.room }
-    requires runs { CanRunWhole whole }
+    requires runs { CanRunLoaded (loaded whole) }
     ensures does { Does (λ b. b) result (world_of store.new) (S.told sink.old) (S.told sink.new)
-        (spec.round_of (program_of whole.entry) (world_of store.old)) }
+        (spec.round_of (program_of (loaded whole.entry)) (world_of store.old)) }
     ensures room { room_of operands.new ≡ room_of operands.old }
     ensures failures { S.failures sink.new
         ≡ counted (stopped_by_sink result) (S.failures sink.old) }
@@ -63,9 +63,9 @@ pub fn rounds<S: Sink>(
 ) -> Result<(), Stop>
     requires failures { S.failures sink.old < 2 ^ 64 - 1 }
     requires room { room_of operands.old ≡ whole.room }
-    requires runs { CanRunWhole whole }
+    requires runs { CanRunLoaded (loaded whole) }
     ensures does { Does (λ x. x) result (world_of store.new) (S.told sink.old) (S.told sink.new)
-        (spec.all_rounds (program_of whole.entry) (world_of store.old)) }
+        (spec.all_rounds (program_of (loaded whole.entry)) (world_of store.old)) }
     ensures room { room_of operands.new ≡ room_of operands.old }
     ensures failures { S.failures sink.new
         ≡ counted (stopped_by_sink result) (S.failures sink.old) }
@@ -93,9 +93,9 @@ pub fn instant<S: Sink>(
 ) -> Result<(), Stop>
     requires failures { S.failures sink.old < 2 ^ 64 - 1 }
     requires room { room_of operands.old ≡ whole.room }
-    requires runs { CanRunWhole whole }
+    requires runs { CanRunLoaded (loaded whole) }
     ensures does { Does (λ x. x) result (world_of store.new) (S.told sink.old) (S.told sink.new)
-        (spec.instant_of (program_of whole.entry) budget (world_of store.old)) }
+        (spec.instant_of (program_of (loaded whole.entry)) budget (world_of store.old)) }
     ensures room { room_of operands.new ≡ room_of operands.old }
     ensures failures { S.failures sink.new
         ≡ counted (stopped_by_sink result) (S.failures sink.old) }

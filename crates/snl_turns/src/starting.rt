@@ -6,7 +6,7 @@ ghost use Rattle.snl_lines.specs.Devices.{counted, stopped_by_sink};
 ghost use Rattle.snl_lines.specs.Does.{Does};
 ghost use Rattle.snl_store.specs.Views.{world_of};
 ghost use Rattle.snl_turns.specs.Instant as spec;
-ghost use Rattle.snl_turns.specs.Wholes.{program_of, sets_from};
+ghost use Rattle.snl_turns.specs.Wholes.{loaded, program_of};
 
 use crate::feeds::refresh;
 use crate::plans::{LinkPlan, Whole};
@@ -47,7 +47,7 @@ pub fn are_ready(links: &[LinkPlan], store: &Store) -> bool
 
 /// Every state set takes in the values that came.
 fn refresh_sets(whole: Whole, store: &mut Store)
-    ensures { world_of store.new ≡ spec.refreshed_sets (program_of whole.entry).sets
+    ensures { world_of store.new ≡ spec.refreshed_sets (program_of (loaded whole.entry)).sets
         (world_of store.old) }
 {
     for (set, plan) in whole.plan.sets.iter().enumerate() {
@@ -57,7 +57,7 @@ fn refresh_sets(whole: Whole, store: &mut Store)
 
 /// Every state set enters its first state.
 fn begin_sets(whole: Whole, store: &mut Store)
-    ensures { world_of store.new ≡ spec.begun_sets (program_of whole.entry).sets
+    ensures { world_of store.new ≡ spec.begun_sets (program_of (loaded whole.entry)).sets
         (world_of store.old) }
 {
     for (set, _) in whole.plan.sets.iter().enumerate() {
@@ -69,7 +69,7 @@ fn begin_sets(whole: Whole, store: &mut Store)
 pub fn start<S: Sink>(whole: Whole, store: &mut Store, sink: &mut S) -> Result<(), Stop>
     requires failures { S.failures sink.old < 2 ^ 64 - 1 }
     ensures does { Does (λ x. x) result (world_of store.new) (S.told sink.old) (S.told sink.new)
-        (spec.started (program_of whole.entry) (world_of store.old)) }
+        (spec.started (program_of (loaded whole.entry)) (world_of store.old)) }
     ensures failures { S.failures sink.new
         ≡ counted (stopped_by_sink result) (S.failures sink.old) }
 {

@@ -5,13 +5,13 @@ use Rattle.snl_lines.proofs.Doing.{does-then, stopped-then}
 use Rattle.snl_pieces.specs.Ran.{Ran}
 use Rattle.snl_store.specs.Views.{world_of}
 use Rattle.snl_turns.specs.Instant.{is_link_ready, is_ready, started, all_rounds}
-use Rattle.snl_turns.specs.Wholes.{program_of}
+use Rattle.snl_turns.specs.Wholes.{loaded, program_of}
 use Rattle.snl_turns.proofs.Opening.{instant-starts}
 use Rattle.snl_turns.proofs.instants.instant.Goals as goal
 
 pub returns-in-Ok-clause-does : goal.returns-in-Ok-clause-does
 returns-in-Ok-clause-does g c =
-    let p = program_of c.args.whole in
+    let p = program_of (loaded c.args.whole) in
     let w = world_of c.args.store.now in
     let u = record w { ticks = c.args.budget } in
     let ready : true ≡ is_ready p u = c.if-not-are_ready.ensures ∙ ap (list_all (is_link_ready u)) c.as_slice.ensures.value in
@@ -21,7 +21,7 @@ returns-in-Ok-clause-does g c =
 
 pub returns-in-Err-clause-does : goal.returns-in-Err-clause-does
 returns-in-Err-clause-does g c =
-    let p = program_of c.args.whole in
+    let p = program_of (loaded c.args.whole) in
     let w = world_of c.args.store.now in
     let u = record w { ticks = c.args.budget } in
     let ready : true ≡ is_ready p u = c.if-not-are_ready.ensures ∙ ap (list_all (is_link_ready u)) c.as_slice.ensures.value in

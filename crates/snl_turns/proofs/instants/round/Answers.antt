@@ -1,3 +1,4 @@
+use Rattle.snl_turns.specs.Wholes.{loaded}
 use Rattle.std.proofs.Common.{◌≡◌, ◌∙◌, ◌||◌, ℕ, List, ap, map, get_or, rules, ◌<◌, length}
 use Rattle.snl_turns.specs.Plans.{set_of}
 use Rattle.snl_turns.proofs.OneByOne.{turned, turn-stops}
@@ -5,23 +6,23 @@ use Rattle.snl_turns.proofs.instants.round.Goals as goal
 
 pub returns-in-Err-clause-does : goal.returns-in-Err-clause-does
 returns-in-Err-clause-does g c =
-    let t = c.args.whole in
-    let sets = t.plan.now.sets.items in
+    let t = loaded c.args.whole in
+    let sets = t.plan.sets.items in
     let s = c.plan-item.result in
     let within : c.loop-set.set < length sets = search rules in
     let is : s ≡ get_or sets c.loop-set.set s = search rules in
-    let this-is = ap (λ (name : List ℕ). set_of (record { set = c.loop-set.set; name = name; formats = map (λ text. text.items) t.formats.now; room = t.room }) t.code.now s)
+    let this-is = ap (λ (name : List ℕ). set_of (record { set = c.loop-set.set; name = name; formats = t.formats; room = t.room }) t.code s)
     c.as_slice.ensures.value in
     turn-stops t sets c.loop-set.set c.loop-set.moved s within is _ this-is _ _ _ _ c.loop-set.invariant.on_way c.in-Err.stop _ _ c.in-Err.ensures.does
 
 pub loop-set-preserved : goal.loop-set-preserved
 loop-set-preserved g c =
-    let t = c.args.whole in
-    let sets = t.plan.now.sets.items in
+    let t = loaded c.args.whole in
+    let sets = t.plan.sets.items in
     let s = c.plan-item.result in
     let within : c.loop-set.set < length sets = search rules in
     let is : s ≡ get_or sets c.loop-set.set s = search rules in
-    let this-is = ap (λ (name : List ℕ). set_of (record { set = c.loop-set.set; name = name; formats = map (λ text. text.items) t.formats.now; room = t.room }) t.code.now s)
+    let this-is = ap (λ (name : List ℕ). set_of (record { set = c.loop-set.set; name = name; formats = t.formats; room = t.room }) t.code s)
     c.as_slice.ensures.value in
     let had : (c.in-Ok.had || c.loop-set.moved) ≡ c.if-had.moved = search rules in
     record {

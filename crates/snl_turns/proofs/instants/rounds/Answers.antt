@@ -2,13 +2,13 @@ use Rattle.std.proofs.Common.{◌≡◌, ◌+◌, ◌-◌, ◌∙◌, ℕ, suc, 
 use Rattle.snl_lines.proofs.Doing.{IsOnWay, on_way-start}
 use Rattle.snl_store.specs.Views.{world_of}
 use Rattle.snl_turns.specs.Instant.{all_rounds, rounds_of}
-use Rattle.snl_turns.specs.Wholes.{program_of}
+use Rattle.snl_turns.specs.Wholes.{loaded, program_of}
 use Rattle.snl_turns.proofs.OneByOne.{round-goes_on, round-ends, round-stops}
 use Rattle.snl_turns.proofs.instants.rounds.Goals as goal
 
 pub loop-round-init : goal.loop-round-init
 loop-round-init g c =
-    let p = program_of c.args.whole in
+    let p = program_of (loaded c.args.whole) in
     let w = world_of c.args.store.now in
     let told = g.S.Sink.told c.args.sink.now in
     let fuel : suc c.args.store.now.ticks ≡ c.from-round-end.result + 1 - 0 = omega (arith, c.from-round-end.ensures) in
@@ -23,7 +23,7 @@ returns-in-Ok-false-clause-does g c =
     let end = c.from-round-end.result + 1 in
     let i = c.loop-round._round in
     let fuel : end - i ≡ suc (end - (i + 1)) = omega (arith, c.loop-round-test.true) in
-    round-ends (program_of c.args.whole) (world_of c.loop-round.store) (end - i) (end - (i + 1)) fuel _ _ _ c.loop-round.invariant.on_way _ _
+    round-ends (program_of (loaded c.args.whole)) (world_of c.loop-round.store) (end - i) (end - (i + 1)) fuel _ _ _ c.loop-round.invariant.on_way _ _
     (rw c.in-Ok-false.field-0-test at c.in-Ok-false.ensures.does)
 
 pub returns-in-Err-clause-does : goal.returns-in-Err-clause-does
@@ -31,7 +31,7 @@ returns-in-Err-clause-does g c =
     let end = c.from-round-end.result + 1 in
     let i = c.loop-round._round in
     let fuel : end - i ≡ suc (end - (i + 1)) = omega (arith, c.loop-round-test.true) in
-    round-stops (program_of c.args.whole) (world_of c.loop-round.store) (end - i) (end - (i + 1)) fuel _ _ _ c.loop-round.invariant.on_way c.in-Err.stop _ _ c.in-Err.ensures.does
+    round-stops (program_of (loaded c.args.whole)) (world_of c.loop-round.store) (end - i) (end - (i + 1)) fuel _ _ _ c.loop-round.invariant.on_way c.in-Err.stop _ _ c.in-Err.ensures.does
 
 pub loop-round-preserved : goal.loop-round-preserved
 loop-round-preserved g c =
@@ -39,7 +39,7 @@ loop-round-preserved g c =
     let i = c.loop-round._round in
     let fuel : end - i ≡ suc (end - (i + 1)) = omega (arith, c.loop-round-test.true) in
     record {
-      on_way = round-goes_on (program_of c.args.whole) (world_of c.loop-round.store) (end - i) (end - (i + 1)) fuel _ _ _ c.loop-round.invariant.on_way _ _
+      on_way = round-goes_on (program_of (loaded c.args.whole)) (world_of c.loop-round.store) (end - i) (end - (i + 1)) fuel _ _ _ c.loop-round.invariant.on_way _ _
           (rw c.in-Ok-true.field-0-test at c.in-Ok-true.ensures.does);
       room = c.round.ensures.room ∙ c.loop-round.invariant.room;
       none_failed = search rules;

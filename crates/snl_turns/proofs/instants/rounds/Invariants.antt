@@ -3,14 +3,14 @@ use Rattle.snl_lines.proofs.Doing.{IsOnWay}
 use Rattle.snl_pieces.specs.Stack.{room_of}
 use Rattle.snl_store.specs.Views.{world_of}
 use Rattle.snl_turns.specs.Instant.{all_rounds, rounds_of}
-use Rattle.snl_turns.specs.Wholes.{program_of}
+use Rattle.snl_turns.specs.Wholes.{loaded, program_of}
 use Rattle.snl_turns.proofs.instants.rounds.Given as goal
 
 -- what was told, and the rounds that are left
 abbrev pub invariant-loop-round : goal.invariant-loop-round
 invariant-loop-round g l = record {
-  on_way : IsOnWay (g.S.Sink.told l.fn.sink) (g.S.Sink.told l.sink) (all_rounds (program_of l.whole) (world_of l.fn.store))
-      (rounds_of (program_of l.whole) (l._round-end - l._round) (world_of l.store));
+  on_way : IsOnWay (g.S.Sink.told l.fn.sink) (g.S.Sink.told l.sink) (all_rounds (program_of (loaded l.whole)) (world_of l.fn.store))
+      (rounds_of (program_of (loaded l.whole)) (l._round-end - l._round) (world_of l.store));
   room : room_of l.operands ≡ room_of l.fn.operands;
   none_failed : g.S.Sink.failures l.sink ≡ g.S.Sink.failures l.fn.sink;
 }

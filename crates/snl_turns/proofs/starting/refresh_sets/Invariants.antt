@@ -1,10 +1,10 @@
 use Rattle.std.proofs.Common.{◌≡◌, drop}
 use Rattle.snl_store.specs.Views.{world_of}
 use Rattle.snl_turns.specs.Instant.{refreshed_sets}
-use Rattle.snl_turns.specs.Wholes.{sets_from}
+use Rattle.snl_turns.specs.Wholes.{loaded, sets_from}
 use Rattle.snl_turns.proofs.starting.refresh_sets.Given as goal
 
 -- what is left of the state sets gives what all of them give
 abbrev pub invariant-loop-set : goal.invariant-loop-set
 invariant-loop-set l = let sets = l.whole.plan.now.sets.items in
-    refreshed_sets (sets_from l.whole l.set (drop l.set sets)) (world_of l.store) ≡ refreshed_sets (sets_from l.whole 0 sets) (world_of l.fn.store)
+    refreshed_sets (sets_from (loaded l.whole) l.set (drop l.set sets)) (world_of l.store) ≡ refreshed_sets (sets_from (loaded l.whole) 0 sets) (world_of l.fn.store)
