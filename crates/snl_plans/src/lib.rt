@@ -9,4 +9,5 @@ mod plans;
 
 pub use channels::{channel_number, channels_of};
 pub use first::store_of;
+pub use links::placed_sets;
 pub use plans::plan_of;

@@ -4,3 +4,4 @@ pub mod Faulting
 pub mod Rooms
 pub mod OneByOne
 pub mod Opening
+pub mod Facts

@@ -1,5 +1,5 @@
 use Rattle.snl_turns.specs.Wholes.{loaded}
-use Rattle.std.proofs.Common.{◌≡◌, ◌∙◌, ◌||◌, ℕ, List, ap, map, get_or, rules, ◌<◌, length}
+use Rattle.std.proofs.Common.{◌≡◌, ◌∙◌, ◌||◌, ℕ, List, ap, get_or, rules, ◌<◌, length}
 use Rattle.snl_turns.specs.Plans.{set_of}
 use Rattle.snl_turns.proofs.OneByOne.{turned, turn-stops}
 use Rattle.snl_turns.proofs.instants.round.Goals as goal

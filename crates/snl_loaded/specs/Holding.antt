@@ -1,0 +1,9 @@
+-- What a machine has loaded.
+use Rattle.snl_code.specs.declared.code.Code.{Code}
+use Rattle.snl_code.specs.Pieces.{texts_of}
+use Rattle.snl_turns.specs.declared.plans.Plan.{Plan}
+use Rattle.snl_turns.specs.Wholes.{Loaded}
+
+-- A plan with its code.
+abbrev pub loaded_by : Plan → Code → Loaded
+loaded_by plan code = record { plan = plan; code = code.instrs.items; formats = texts_of code; room = code.depth }

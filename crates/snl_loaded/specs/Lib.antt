@@ -1,0 +1,3 @@
+pub mod Holding
+pub mod MachineOf
+pub mod Laws

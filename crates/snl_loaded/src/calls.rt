@@ -1,0 +1,76 @@
+//! The events that a machine takes, and what it tells.
+
+ghost use Rattle.std.specs.Prelude.{◌≡◌, ◌-◌, ◌^◌, ◌<◌, length, OnErr};
+ghost use Rattle.snl_events.specs.Event.{is_event_fit, line_of};
+ghost use Rattle.snl_lines.specs.Devices.{counted, stopped_by_sink};
+ghost use Rattle.snl_lines.specs.Does.{Does};
+ghost use Rattle.snl_plans.specs.Names.{place_of};
+ghost use Rattle.snl_loaded.specs.MachineOf.{task_held, world_held};
+
+use crate::machine::Machine;
+use snl_events::{Event, fits, take};
+use snl_lines::{Sink, Stop};
+use snl_pieces::Live;
+use snl_plans::channel_number;
+use snl_turns::Whole;
+
+impl Machine {
+    /// The number of the channel of a name; None where the program uses no such channel. Channels have the numbers from 0
+    /// on, in the order in which `assign` definitions first name them.
+    pub fn channel(&self, name: &[u8]) -> Option<usize>
+        ensures { result ≡ place_of (task_held self.now).channels name.now }
+    {
+        channel_number(&self.names, name)
+    }
+
+    /// The time of the last event, in milliseconds; 0 before the first.
+    pub fn time(&self) -> u64
+        ensures { result ≡ (world_held self.now).time }
+    {
+        self.store.time
+    }
+
+    /// Whether an event speaks of a channel of this machine, and each value that a link of that channel keeps fits the
+    /// link's variable.
+    pub fn fits(&self, event: &Event) -> bool
+        ensures { result ≡ is_event_fit (length (task_held self.now).channels)
+            (task_held self.now).program.links event.now }
+    {
+        fits(event, self.names.len(), self.plan.links.as_slice())
+    }
+
+    /// Does what a line of a trace asks for at a time in milliseconds, and hands the lines of the run to the sink. A
+    /// machine that has ended does nothing.
+    ///
+    /// After a fault, and where the sink fails, the machine has ended, and what was written stands.
+    pub fn event<S: Sink>(&mut self, ms: u64, event: &Event, sink: &mut S) -> Result<Live, Stop>
+        requires { S.failures sink.old < 2 ^ 64 - 1 }
+        ensures does { Does (λ live. live) result (world_held self.new) (S.told sink.old)
+            (S.told sink.new)
+            (line_of (task_held self.old).program self.old.budget ms event.now
+            (world_held self.old)) }
+        ensures ended { OnErr result ((world_held self.new).phase ≡ Live.Ended) }
+        ensures plan { self.new.plan ≡ self.old.plan }
+        ensures code { self.new.code ≡ self.old.code }
+        ensures names { self.new.names ≡ self.old.names }
+        ensures budget { self.new.budget ≡ self.old.budget }
+        ensures failures { S.failures sink.new
+            ≡ counted (stopped_by_sink result) (S.failures sink.old) }
+    {
+        let whole = Whole {
+            plan: &self.plan,
+            code: self.code.instrs(),
+            formats: self.code.texts(),
+            room: self.code.depth(),
+        };
+        take(
+            ms,
+            event,
+            whole,
+            self.budget,
+            &mut self.store,
+            &mut self.operands,
+            sink,
+        )
+    }
+}

@@ -1,0 +1,16 @@
+//! The machine that a program runs on: its code, its variables, its channels, its states and its clock.
+//!
+//! `machine_of` makes room for all that a run holds; `Machine::event` then does what one line of a trace asks for, and
+//! hands the lines of the run to a `Sink`. The rules of a run are told in `docs/LANGUAGE.md`, "How a program runs".
+#![tactic(auto)]
+
+mod calls;
+pub mod laws;
+mod machine;
+mod making;
+
+pub use machine::Machine;
+pub use making::machine_of;
+pub use snl_events::{Event, VALUES_KEPT};
+pub use snl_lines::{Sink, SinkFault, Stop};
+pub use snl_pieces::{Fault, Live};

@@ -1,0 +1,29 @@
+//! `Machine`: a program with its code and its store.
+
+ghost use Rattle.std.specs.Prelude.{◌≡◌};
+ghost use Rattle.snl_pieces.specs.Stack.{room_of};
+ghost use Rattle.snl_turns.specs.Wholes.{CanRunLoaded};
+ghost use Rattle.snl_loaded.specs.Holding.{loaded_by};
+ghost use Rattle.snl_turns.proofs.Facts.{loaded-fact};
+
+use indexmap::IndexSet;
+use snl_code::Code;
+use snl_pieces::Operands;
+use snl_store::Store;
+use snl_turns::Plan;
+
+/// A program with its store. It owns all that it holds, and nothing of the source.
+#[derive(Drop)]
+pub struct Machine {
+    /// What the state sets and the links are.
+    pub(crate) plan: Plan,
+    pub(crate) code: Code,
+    /// The names of the channels, by their numbers.
+    pub(crate) names: IndexSet<Vec<u8>>,
+    /// How many steps an instant may take.
+    pub(crate) budget: u32,
+    pub(crate) store: Store,
+    pub(crate) operands: Operands,
+    ghost room: { room_of operands ≡ code.depth },
+    ghost runs: { CanRunLoaded (loaded_by plan code) } by { loaded-fact (loaded_by plan code) },
+}
