@@ -5,3 +5,4 @@ pub mod Sets
 pub mod Plans
 pub mod First
 pub mod Right
+pub mod Examples
