@@ -75,8 +75,8 @@ fn set_name<'a>(sets: &[StateSet<'a>], set: usize) -> &'a [u8]
     }
 }
 
-/// The names of its states.
-fn names_in<'a>(alloc: Global, set: &StateSet<'a>) -> Result<Vec<Token<'a>>, AllocError>
+/// The names of the states of a state set, in their order. The only error is that memory ends.
+pub fn names_in<'a>(alloc: Global, set: &StateSet<'a>) -> Result<Vec<Token<'a>>, AllocError>
     ensures { IfOk result (λ kept. kept.items
         ≡ map (λ s. s.name) (state_set_view set.now).states) }
 {

@@ -11,5 +11,5 @@ mod program_depths;
 mod starts;
 
 pub use code::Code;
-pub use compiling::{compile, placed_of};
+pub use compiling::{compile, names_in, placed_of};
 pub use starts::Piece;

@@ -14,7 +14,7 @@ ghost use Rattle.snl_plans.specs.Sets.{copies_of, names_in};
 
 use crate::links::{feeds_of, link_plans};
 use indexmap::IndexSet;
-use snl_code::{Code, Piece, placed_of};
+use snl_code::{Code, Piece, names_in, placed_of};
 use snl_links::Link;
 use snl_pieces::{Placed, number_in};
 use snl_syntax::{Clause, Program, State, StateSet, Target};
@@ -123,17 +123,6 @@ fn state_plans(
     Ok(plans)
 }
 
-/// The names of states.
-fn names_of<'a>(alloc: Global, states: &[State<'a>]) -> Result<Vec<Token<'a>>, AllocError>
-    ensures { IfOk result (λ kept. kept.items ≡ map (λ s. s.name) (map state_view states.now)) }
-{
-    let mut names = Vec::new(alloc);
-    for state in states {
-        names.push(state.name)?;
-    }
-    Ok(names)
-}
-
 /// The plan of the states of a state set.
 fn states_of<'a>(
     alloc: Global,
@@ -146,7 +135,7 @@ fn states_of<'a>(
         (state_set_view set.now).states) }
 {
     let states = set.states.as_slice();
-    let names = names_of(alloc, states)?;
+    let names = names_in(alloc, set)?;
     state_plans(alloc, states, number, names.as_slice(), code)
 }
 
