@@ -17,11 +17,9 @@ use Rattle.snl_text.specs.Faults.{fault_pos, fault_text}
 use Rattle.snl_text.specs.Lexing.{FaultHolds, GivesOnly, IsLexed}
 use Rattle.snl_text.proofs.Parts.{before_fault}
 use Rattle.snl_messages.specs.declared.messages.Severity.TheVariants.{Error}
-use Rattle.snl_tree.specs.declared.thin.trees.Program.{Program as Thin}
 use Rattle.snl_syntax.specs.declared.programs.Program.{Program}
 use Rattle.snl_syntax.specs.Begins.{Spells, IsUnexpected, IsTooDeep}
 use Rattle.snl_syntax.specs.Programs.{ProgramTree, IsProgram, programs}
-use Rattle.snl_tree.specs.Thin.{StandsFor}
 use Rattle.snl_syntax.specs.view.Programs.{first_place, program_view}
 use Rattle.snl_sites.specs.declared.options.Options.{Options}
 use Rattle.snl_messages.specs.Messages.{Said, IsInOrder}
@@ -31,16 +29,16 @@ use Rattle.snl_check.specs.declared.checked.Checked.{Checked}
 use Rattle.snl_check.specs.Accepted.{IsAccepted}
 use Rattle.snl_check.specs.Runs.{does_run}
 use Rattle.snl_machine.specs.declared.machine.Machine.{Machine}
-use Rattle.snl_machine.specs.First.{first_world}
-use Rattle.snl_machine.specs.MachineOf.{IsMachineOf, program_held, world_held}
-use Rattle.snl_machine.specs.Numbering.{numbered}
-use Rattle.snl_machine.specs.Program.{Program as Numbered}
-use Rattle.snl_machine.specs.World.{World}
+use Rattle.snl_machine.specs.MachineOf.{IsMachineOf, Task, task_held, task_of, world_held}
+use Rattle.snl_machine.proofs.Tasks.{runs_its_program}
+use Rattle.snl_pieces.specs.World.{World}
 use Rattle.snl_trace.specs.Run.{rules_by, rules_of}
 use Rattle.snl_trace.specs.RunOver.{RunsOver, standing}
 use Rattle.snl_trace.specs.declared.runner.End.{End}
 use Rattle.snc.specs.declared.jobs.Status.TheVariants.{Well, SourceErrors}
+use Rattle.snl_links.specs.Links.{Link, links}
 use Rattle.snl_links.specs.Tables.{tables}
+use Rattle.snl_plans.specs.First.{first_world_of}
 use Rattle.snc.specs.Judging.{AreNamesBefore, ReadsNames, HasFault, HasTokens, IsJudged, IsSaidOf, IsTreeSaid, NoErrors, error_at, names_of, nesting_error, not_yet, syntax_error}
 use Rattle.snc.specs.Outcomes.{IsReport, IsRunOf, IsSession, at_first, status_of, tables_text}
 use Rattle.snc.specs.Texts.{line_of, text_of}
@@ -312,16 +310,15 @@ reported given asked word source text late shown (Some c) w e = record {
 }
 
 -- a machine that was loaded runs as its program does, from the first world on
-pub ran_by : (m : Machine) (whole : ProgramTree) (budget : ℕ) (made : IsMachineOf whole budget m) (end : End) (bytes : List ℕ) (left told told' : Option (List ℕ)) (w : World)
-    → world_held m ≡ first_world (program_held m)
+pub ran_by : (m : Machine) (whole : ProgramTree) (ls : List Link) (budget : ℕ) → IsMachineOf whole ls budget m → (end : End) (bytes : List ℕ) (left told told' : Option (List ℕ)) (w : World)
+    → world_held m ≡ first_world_of whole ls
     → RunsOver (rules_of m) end bytes left (standing [] 1 m told) w told'
-    → RunsOver (rules_by (numbered made.thin) budget) end bytes left (at_first (first_world (numbered made.thin)) told) w told'
-ran_by m whole budget made end bytes left told told' w first ran =
-    let p = made.thin in
-    let begins : world_held m ≡ first_world (numbered p) = first ∙ ap first_world made.program in
-    let there = subst (λ (v : World). RunsOver (rules_by (program_held m) m.budget) end bytes left (at_first v told) w told') begins ran in
-    let named = subst (λ (q : Numbered). RunsOver (rules_by q m.budget) end bytes left (at_first (first_world (numbered p)) told) w told') made.program there in
-    subst (λ (b : ℕ). RunsOver (rules_by (numbered p) b) end bytes left (at_first (first_world (numbered p)) told) w told') made.budget_is named
+    → RunsOver (rules_by (task_of whole ls) budget) end bytes left (at_first (first_world_of whole ls) told) w told'
+ran_by m whole ls budget made end bytes left told told' w first ran =
+    let begin = first_world_of whole ls in
+    let there = subst (λ (v : World). RunsOver (rules_by (task_held m) m.budget) end bytes left (at_first v told) w told') first ran in
+    let meant = subst (λ (t : Task). RunsOver (rules_by t m.budget) end bytes left (at_first begin told) w told') (runs_its_program whole ls budget m made) there in
+    subst (λ (b : ℕ). RunsOver (rules_by (task_of whole ls) b) end bytes left (at_first begin told) w told') made.budget_is meant
 
 -- one text of two is the first line and the others
 late_first : (word text late both : List ℕ) (names : List (List ℕ)) (whole : ProgramTree) (messages : List Said) → text ≡ text_of word names messages
@@ -330,10 +327,10 @@ late_first word text late both names whole messages et el eb =
     eb ∙ (λ i. (el ∙ append-nil (line_of word names (not_yet whole))) i ++ et i)
 
 module _ {R S : Type 0} (source_rest : R → Option (List ℕ)) (source_failures : R → ℕ) (sink_told : S → Option (List ℕ)) (sink_failures : S → ℕ)
-    (given : Options) (word source text late : List ℕ) (budget : ℕ) (trace trace' : R) (sink sink' : S) where
+    (given : Options) (word macros source text late : List ℕ) (budget : ℕ) (trace trace' : R) (sink sink' : S) where
   -- a session on a source with an error
   pub session_refused : (checked : Option Checked) → checked ≡ None → IsJudged given word source text late (tree_of checked) → trace' ≡ trace → sink' ≡ sink
-      → IsSession source_rest source_failures sink_told sink_failures given word source budget trace trace' sink sink' text None SourceErrors
+      → IsSession source_rest source_failures sink_told sink_failures given word macros source budget trace trace' sink sink' text None SourceErrors
   session_refused checked none w unread unwritten = record {
     names = w.names;
     messages = w.messages;
@@ -348,7 +345,7 @@ module _ {R S : Type 0} (source_rest : R → Option (List ℕ)) (source_failures
   pub session_waits : (checked : Option Checked) (c : Checked) (both : List ℕ) → checked ≡ Some c → IsJudged given word source text late (tree_of checked)
       → c.options ≡ options_in_force (program_view c.program) given → does_run c.options (program_view c.program) ≡ false → both ≡ late ++ text
       → trace' ≡ trace → sink' ≡ sink
-      → IsSession source_rest source_failures sink_told sink_failures given word source budget trace trace' sink sink' both None SourceErrors
+      → IsSession source_rest source_failures sink_told sink_failures given word macros source budget trace trace' sink sink' both None SourceErrors
   session_waits checked c both some w are not joined unread unwritten =
       let v = subst (λ o. IsJudged given word source text late (tree_of o)) some w in
       let whole = program_view c.program in
@@ -360,7 +357,7 @@ module _ {R S : Type 0} (source_rest : R → Option (List ℕ)) (source_failures
         finds = v.finds;
         text_is = late_first word text late both v.names whole v.messages v.text_is v.late_is joined;
         goes_on = (
-          inr record { accepted = v.accepted.0 refl; whole = whole; tree_is = v.same; waits = ap (λ o. does_run o whole) (sym are) ∙ not; told_is = refl },
+          inr record { accepted = v.accepted.0 refl; whole = whole; tree_is = v.same; does_not = ap (λ o. does_run o whole) (sym are) ∙ not; told_is = refl },
           refl,
           unread,
           unwritten,
@@ -368,11 +365,11 @@ module _ {R S : Type 0} (source_rest : R → Option (List ℕ)) (source_failures
       }
 
   -- a session that ran the program
-  pub session_ran : (checked : Option Checked) (c : Checked) (thin : Thin) (end : End) → checked ≡ Some c → IsJudged given word source text late (tree_of checked)
-      → c.options ≡ options_in_force (program_view c.program) given → does_run c.options (program_view c.program) ≡ true → StandsFor (program_view c.program) thin
-      → IsRunOf source_rest source_failures sink_told sink_failures thin budget trace trace' sink sink' end
-      → IsSession source_rest source_failures sink_told sink_failures given word source budget trace trace' sink sink' text (Some end) (status_of end)
-  session_ran checked c thin end some w are runs stands run =
+  pub session_ran : (checked : Option Checked) (c : Checked) (end : End) → checked ≡ Some c → IsJudged given word source text late (tree_of checked)
+      → c.options ≡ options_in_force (program_view c.program) given → does_run c.options (program_view c.program) ≡ true
+      → IsRunOf source_rest source_failures sink_told sink_failures (program_view c.program) (links (program_view c.program) macros) budget trace trace' sink sink' end
+      → IsSession source_rest source_failures sink_told sink_failures given word macros source budget trace trace' sink sink' text (Some end) (status_of end)
+  session_ran checked c end some w are runs run =
       let v = subst (λ o. IsJudged given word source text late (tree_of o)) some w in
       let whole = program_view c.program in
       record {
@@ -386,6 +383,6 @@ module _ {R S : Type 0} (source_rest : R → Option (List ℕ)) (source_failures
           v.accepted.0 refl,
           refl,
           refl,
-          record { whole = whole; tree_is = v.same; runs = ap (λ o. does_run o whole) (sym are) ∙ runs; program = thin; stands = stands; run = run },
+          record { whole = whole; tree_is = v.same; runs = ap (λ o. does_run o whole) (sym are) ∙ runs; run = run },
         );
       }

@@ -1,17 +1,16 @@
 -- What `report` and `session` answer.
 use Rattle.std.specs.Prelude.{◌≡◌, ◌⊎◌, ℕ, Bool, true, false, List, [], ◌∷◌, Option, None, Some}
-use Rattle.snl_tree.specs.declared.thin.trees.Program.{Program}
 use Rattle.snl_syntax.specs.Programs.{ProgramTree}
-use Rattle.snl_tree.specs.Thin.{StandsFor}
 use Rattle.snl_sites.specs.declared.options.Options.{Options}
 use Rattle.snl_messages.specs.Messages.{Said}
 use Rattle.snl_messages.specs.Silence.{options_in_force}
 use Rattle.snl_check.specs.Runs.{does_run}
+use Rattle.snl_links.specs.Links.{Link, links}
 use Rattle.snl_links.specs.Tables.{tables}
-use Rattle.snl_machine.specs.Devices.{counted}
-use Rattle.snl_machine.specs.First.{first_world}
-use Rattle.snl_machine.specs.Numbering.{numbered}
-use Rattle.snl_machine.specs.World.{World}
+use Rattle.snl_lines.specs.Devices.{counted}
+use Rattle.snl_machine.specs.MachineOf.{task_of}
+use Rattle.snl_pieces.specs.World.{World}
+use Rattle.snl_plans.specs.First.{first_world_of}
 use Rattle.snl_trace.specs.Ends.{source_failed, sink_failed}
 use Rattle.snl_trace.specs.Run.{rules_by}
 use Rattle.snl_trace.specs.RunOver.{Place, RunsOver}
@@ -67,34 +66,32 @@ pub record IsReport (given : Options) (asked : Bool) (word source text shown : L
 abbrev pub at_first : World → Option (List ℕ) → Place
 at_first w told = record { begun = []; number = 1; world = w; told = told }
 
--- A program with a budget was run over a source into a sink, and the run ended so. Where the source tells its bytes,
--- the lines that went out, the ending and the bytes left are those that the numbered program gives over them, in the
--- world that it begins in; where a device failed, the lines that stand before that. And each device's count of
--- failures rose by one exactly where the run ended by that device.
+-- A program with these links and a budget was run over a source into a sink, and the run ended so. Where the source tells
+-- its bytes, the lines that went out, the ending and the bytes left are those that the meaning of the program gives over
+-- them, in the world that it begins in; where a device failed, the lines that stand before that. And each device's count
+-- of failures rose by one exactly where the run ended by that device.
 pub record IsRunOf {R S : Type 0} (source_rest : R → Option (List ℕ)) (source_failures : R → ℕ) (sink_told : S → Option (List ℕ)) (sink_failures : S → ℕ)
-    (program : Program) (budget : ℕ) (trace trace' : R) (sink sink' : S) (end : End) : Type 0 where
+    (whole : ProgramTree) (ls : List Link) (budget : ℕ) (trace trace' : R) (sink sink' : S) (end : End) : Type 0 where
   pub world : World
   pub ran : (bytes : List ℕ) → source_rest trace ≡ Some bytes →
-      RunsOver (rules_by (numbered program) budget) end bytes (source_rest trace') (at_first (first_world (numbered program)) (sink_told sink)) world (sink_told sink')
+      RunsOver (rules_by (task_of whole ls) budget) end bytes (source_rest trace') (at_first (first_world_of whole ls) (sink_told sink)) world (sink_told sink')
   pub source_counted : source_failures trace' ≡ counted (source_failed end) (source_failures trace)
   pub sink_counted : sink_failures sink' ≡ counted (sink_failed end) (sink_failures sink)
 
--- the accepted program runs: the tree of the first language that stands for it was run
+-- the accepted program runs: it was run with the links that these macros of the call give it
 pub record IsRun {R S : Type 0} (source_rest : R → Option (List ℕ)) (source_failures : R → ℕ) (sink_told : S → Option (List ℕ)) (sink_failures : S → ℕ)
-    (given : Options) (tree : Option ProgramTree) (budget : ℕ) (trace trace' : R) (sink sink' : S) (end : End) : Type 0 where
+    (given : Options) (macros : List ℕ) (tree : Option ProgramTree) (budget : ℕ) (trace trace' : R) (sink sink' : S) (end : End) : Type 0 where
   pub whole : ProgramTree
   pub tree_is : tree ≡ Some whole
   pub runs : does_run (options_in_force whole given) whole ≡ true
-  pub program : Program
-  pub stands : StandsFor whole program
-  pub run : IsRunOf source_rest source_failures sink_told sink_failures program budget trace trace' sink sink' end
+  pub run : IsRunOf source_rest source_failures sink_told sink_failures whole (links whole macros) budget trace trace' sink sink' end
 
 -- the accepted program does not run yet: E05 goes out before the warnings
 pub record IsNotYet (given : Options) (messages : List Said) (tree : Option ProgramTree) (told : List Said) : Type 0 where
   pub accepted : NoErrors messages
   pub whole : ProgramTree
   pub tree_is : tree ≡ Some whole
-  pub waits : does_run (options_in_force whole given) whole ≡ false
+  pub does_not : does_run (options_in_force whole given) whole ≡ false
   pub told_is : told ≡ not_yet whole ∷ messages
 
 -- nothing is run: with an error all messages go out and no other; and where the program does not run yet
@@ -102,20 +99,20 @@ abbrev pub IsNotRun : Options → List Said → Option ProgramTree → List Said
 IsNotRun given messages tree told = ((NoErrors messages → ⊥) × (told ≡ messages)) ⊎ IsNotYet given messages tree told
 
 -- how a session goes on: which messages go out, and where nothing is run neither device is touched
-abbrev pub GoesOn : {R S : Type 0} → (R → Option (List ℕ)) → (R → ℕ) → (S → Option (List ℕ)) → (S → ℕ) → Options → List Said → Option ProgramTree → List Said → ℕ → R → R → S → S → Option End → Status → Type 0
-GoesOn source_rest source_failures sink_told sink_failures given messages tree told budget trace trace' sink sink' None status =
+abbrev pub GoesOn : {R S : Type 0} → (R → Option (List ℕ)) → (R → ℕ) → (S → Option (List ℕ)) → (S → ℕ) → Options → List ℕ → List Said → Option ProgramTree → List Said → ℕ → R → R → S → S → Option End → Status → Type 0
+GoesOn source_rest source_failures sink_told sink_failures given macros messages tree told budget trace trace' sink sink' None status =
     IsNotRun given messages tree told × (status ≡ SourceErrors) × (trace' ≡ trace) × (sink' ≡ sink)
-GoesOn source_rest source_failures sink_told sink_failures given messages tree told budget trace trace' sink sink' (Some end) status =
-    NoErrors messages × (told ≡ messages) × (status ≡ status_of end) × IsRun source_rest source_failures sink_told sink_failures given tree budget trace trace' sink sink' end
+GoesOn source_rest source_failures sink_told sink_failures given macros messages tree told budget trace trace' sink sink' (Some end) status =
+    NoErrors messages × (told ≡ messages) × (status ≡ status_of end) × IsRun source_rest source_failures sink_told sink_failures given macros tree budget trace trace' sink sink' end
 
 -- What `session` answers: the text of the messages that go out, how the run ended, if there was one, and the status; and
 -- what became of the two devices.
 pub record IsSession {R S : Type 0} (source_rest : R → Option (List ℕ)) (source_failures : R → ℕ) (sink_told : S → Option (List ℕ)) (sink_failures : S → ℕ)
-    (given : Options) (word source : List ℕ) (budget : ℕ) (trace trace' : R) (sink sink' : S) (text : List ℕ) (end : Option End) (status : Status) : Type 0 where
+    (given : Options) (word macros source : List ℕ) (budget : ℕ) (trace trace' : R) (sink sink' : S) (text : List ℕ) (end : Option End) (status : Status) : Type 0 where
   pub names : List (List ℕ)
   pub messages : List Said
   pub tree : Option ProgramTree
   pub told : List Said
   pub finds : Finds given source names messages tree
   pub text_is : text ≡ text_of word names told
-  pub goes_on : GoesOn source_rest source_failures sink_told sink_failures given messages tree told budget trace trace' sink sink' end status
+  pub goes_on : GoesOn source_rest source_failures sink_told sink_failures given macros messages tree told budget trace trace' sink sink' end status

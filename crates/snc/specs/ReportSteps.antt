@@ -1,4 +1,4 @@
--- What the steps of `report` answer: texts, with the messages whose text they are. No reader of the theorem needs them.
+-- What the steps of `report` and `session` answer: texts, with the messages whose text they are. No reader of the theorem needs them.
 use Rattle.std.specs.Prelude.{◌≡◌, ◌≤◌, ◌↔◌, ℕ, Bool, true, false, List, [], ◌∷◌, length, take, Option, None, Some, IsSome, IfSome}
 use Rattle.snl_text.specs.Cut.{Reading}
 use Rattle.snl_text.specs.Lexing.{IsCut}
@@ -6,9 +6,16 @@ use Rattle.snl_text.specs.declared.faults.LexFault.{LexFault}
 use Rattle.snl_text.specs.declared.tokens.Lexed.{Lexed}
 use Rattle.snl_text.specs.declared.tokens.Pos.{Pos}
 use Rattle.snl_syntax.specs.Programs.{ProgramTree}
+use Rattle.snl_syntax.specs.view.Programs.{program_view}
+use Rattle.snl_check.specs.declared.checked.Checked.{Checked}
+use Rattle.snl_check.specs.Runs.{does_run}
 use Rattle.snl_sites.specs.declared.options.Options.{Options}
 use Rattle.snl_messages.specs.Messages.{Said}
+use Rattle.snl_links.specs.Links.{links}
 use Rattle.snl_links.specs.Tables.{tables}
+use Rattle.snl_machine.specs.declared.machine.Machine.{Machine}
+use Rattle.snl_machine.specs.MachineOf.{IsMachineOf, world_held}
+use Rattle.snl_plans.specs.First.{first_world_of}
 use Rattle.snc.specs.Judging.{IsFaultSaid, IsSaidOf, IsTreeSaid, NoErrors, names_of, not_yet}
 use Rattle.snc.specs.Texts.{text_of}
 
@@ -45,10 +52,19 @@ pub record IsTreeTold (given : Options) (word : List ℕ) (names : List (List �
   pub same : IfSome checked (λ p. p ≡ whole)
   pub late_is : late ≡ text_of word names (not_yet whole ∷ [])
 
--- a thing is given back where it runs, and else nothing
-abbrev pub RunsOrNot : {A : Type 0} → (A → Bool) → A → Option A → Type 0
-RunsOrNot runs a (Some b) = (b ≡ a) × (runs a ≡ true)
-RunsOrNot runs a None = runs a ≡ false
+-- a machine is that of a program with the links that these macros give it, and has not begun
+pub record IsLoaded (whole : ProgramTree) (macros : List ℕ) (budget : ℕ) (m : Machine) : Type 0 where
+  pub made : IsMachineOf whole (links whole macros) budget m
+  pub first : world_held m ≡ first_world_of whole (links whole macros)
+
+-- the same where the program runs, and none where it does not
+abbrev pub LoadedOrNot : Bool → (Machine → Type 0) → Option Machine → Type 0
+LoadedOrNot runs Made (Some m) = (runs ≡ true) × Made m
+LoadedOrNot runs Made None = runs ≡ false
+
+-- the machine of a checked program, if that runs
+pub record IsLoadedIfRun (c : Checked) (macros : List ℕ) (budget : ℕ) (o : Option Machine) : Type 0 where
+  pub is : LoadedOrNot (does_run c.options (program_view c.program)) (IsLoaded (program_view c.program) macros budget) o
 
 -- the tables of a tree that is there, where they are asked for
 abbrev pub asked_tables : Bool → Option ProgramTree → List ℕ

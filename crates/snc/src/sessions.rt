@@ -1,15 +1,16 @@
 //! `session`: a source, and the run of its program over a trace.
 
-ghost use Rattle.std.specs.Prelude.{Bool, ◌≡◌, ◌-◌, ◌^◌, ◌<◌, ◌++◌, IfOk, OnErr, string_bytes};
-ghost use Rattle.snl_syntax.specs.view.Programs.{program_view};
-ghost use Rattle.snl_check.specs.Runs.{does_run};
+ghost use Rattle.std.specs.Prelude.{◌≡◌, ◌-◌, ◌^◌, ◌<◌, ◌++◌, ℕ, List, [], Option, IfOk, OnErr, string_bytes};
+ghost use Rattle.std.specs.Option.{option_map, unwrap_or};
+ghost use Rattle.snl_machine.specs.declared.machine.Machine as machine;
 ghost use Rattle.snc.specs.Outcomes.{IsSession, status_of};
-ghost use Rattle.snc.specs.ReportSteps.{RunsOrNot};
+ghost use Rattle.snc.specs.ReportSteps.{IsLoadedIfRun};
 
 use crate::jobs::Status;
 use crate::messages::{Findings, judged};
 use snc_words::Job;
 use snl_check::Checked;
+use snl_links::Macros;
 use snl_machine::{Machine, Sink};
 use snl_trace::{End, Source, run};
 use std::alloc::{AllocError, Global};
@@ -30,7 +31,8 @@ pub fn session<R: Source, S: Sink>(
     requires trace { R.failures trace.old < 2 ^ 64 - 1 }
     requires sink { S.failures sink.old < 2 ^ 64 - 1 }
     ensures answer { IfOk result (λ r. IsSession R.rest R.failures S.told S.failures
-        job.now.options (string_bytes job.now.file) source.now job.now.budget
+        job.now.options (string_bytes job.now.file)
+        (unwrap_or (option_map string_bytes job.now.macros) []) source.now job.now.budget
         trace.old trace.new sink.old sink.new r.0.items r.1 r.2) }
     ensures unread { OnErr result (trace.new ≡ trace.old) }
     ensures unwritten { OnErr result (sink.new ≡ sink.old) }
@@ -43,41 +45,83 @@ pub fn session<R: Source, S: Sink>(
     let Some(checked) = checked else {
         return Ok((messages, None, Status::SourceErrors));
     };
-    let Some(checked) = that_runs(checked) else {
+    let macros = macros_of(job);
+    let Some(mut machine) = machine_if_run(alloc, checked, &macros, job.budget)? else {
         let messages = joined(late, messages.as_slice())?;
         return Ok((messages, None, Status::SourceErrors));
     };
-    let mut machine = Machine::load(alloc, checked, job.budget)?;
     let end = run(&mut machine, trace, sink);
     Ok((messages, Some(end), status(end)))
 }
 
-/// What may run or not. A function that owns a whole checked program and lends it is dear to prove; one
-/// that owns a value of a type parameter is not.
-pub trait MayRun {
-    ghost does_run: { Self → Bool };
+/// The macros of a call; none where they were left out.
+fn macros_of(job: &Job) -> Macros<'_>
+    ensures { result.text.now ≡ unwrap_or (option_map string_bytes job.now.macros) [] }
+{
+    match &job.macros {
+        Some(text) => Macros {
+            text: text.as_bytes(),
+        },
+        None => Macros {
+            text: b"".as_slice(),
+        },
+    }
+}
 
-    fn may_run(&self) -> bool
-        ensures { result ≡ does_run self.now };
+/// What is lent while its machine is made, if it runs. A function that owns a whole checked program and lends it is dear to
+/// prove; one that owns a value of a type parameter is not.
+pub trait MayRun {
+    ghost loaded: { Self → List ℕ → ℕ → Option machine.Machine → Type 0 };
+
+    /// The machine of what runs; None where it does not.
+    fn machine(
+        &self,
+        alloc: Global,
+        macros: &Macros,
+        budget: u32,
+    ) -> Result<Option<Machine>, AllocError>
+        ensures { IfOk result (loaded self.now macros.now.text.now budget) };
+}
+
+/// The machine of a checked program that runs.
+fn machine_of(
+    alloc: Global,
+    checked: &Checked,
+    macros: &Macros,
+    budget: u32,
+) -> Result<Option<Machine>, AllocError>
+    ensures { IfOk result (IsLoadedIfRun checked.now macros.now.text.now budget) }
+{
+    if !checked.runs() {
+        return Ok(None);
+    }
+    let machine = Machine::load(alloc, checked, macros, budget)?;
+    Ok(Some(machine))
 }
 
 impl<'a> MayRun for Checked<'a> {
-    ghost does_run = { λ c. does_run c.options (program_view c.program) };
+    ghost loaded = { IsLoadedIfRun };
 
-    fn may_run(&self) -> bool {
-        self.runs()
+    fn machine(
+        &self,
+        alloc: Global,
+        macros: &Macros,
+        budget: u32,
+    ) -> Result<Option<Machine>, AllocError> {
+        machine_of(alloc, self, macros, budget)
     }
 }
 
-/// The same, where it runs.
-pub fn that_runs<T: MayRun + Drop>(checked: T) -> Option<T>
-    ensures { RunsOrNot T.does_run checked result }
+/// The machine of what runs, which is dropped then; None where it does not.
+pub fn machine_if_run<T: MayRun + Drop>(
+    alloc: Global,
+    checked: T,
+    macros: &Macros,
+    budget: u32,
+) -> Result<Option<Machine>, AllocError>
+    ensures { IfOk result (T.loaded checked macros.now.text.now budget) }
 {
-    if checked.may_run() {
-        Some(checked)
-    } else {
-        None
-    }
+    checked.machine(alloc, macros, budget)
 }
 
 /// A text with another behind it.

@@ -14,7 +14,7 @@ use Rattle.snl_check.specs.declared.findings.Findings.{Findings}
 use Rattle.snl_check.specs.Accepted.{IsAccepted, has_no_error}
 use Rattle.snl_check.specs.Findings.{AreFindings}
 use Rattle.snl_sites.specs.Programs.{sites}
-use Rattle.snl_check.specs.Runs.{are_declared}
+use Rattle.snl_check.specs.Runs.{do_sites_run}
 use Rattle.snl_check.specs.Tables.{IsTableOf}
 
 -- A warning is no error.
@@ -68,9 +68,9 @@ module _ (p : Program) (given : Options) (f : Findings) (found : AreFindings p g
   pub accepted_found : (q : Program) → q ≡ p → has_no_error (map said f.messages.items) ≡ true → IsAccepted f.options q
   accepted_found q same e = subst (λ x. IsAccepted f.options x) (sym same) (subst (λ o. IsAccepted o p) (sym found.options) (accepted_by_warnings e))
 
-  -- Whether all names are declared is found of an equal program.
-  pub declared_found : (q : Program) → q ≡ p → f.are_declared ≡ are_declared (sites (program_view q))
-  declared_found q same = found.declared ∙ ap (λ x. are_declared (sites (program_view x))) (sym same)
+  -- Whether what stands at its sites runs is found of an equal program.
+  pub sited_found : (q : Program) → q ≡ p → f.do_sites_run ≡ do_sites_run (sites (program_view q))
+  sited_found q same = found.sited ∙ ap (λ x. do_sites_run (sites (program_view x))) (sym same)
 
   -- The table that is found is that of an equal program.
   pub places_found : (q : Program) → q ≡ p → IsTableOf f.places q

@@ -2,7 +2,6 @@
 use Rattle.std.specs.Prelude.{◌≡◌, ℕ, true, false, List, [], ◌∷◌, None, Some}
 use Rattle.snl_text.specs.declared.kinds.Kind.TheVariants.{Name}
 use Rattle.snl_text.specs.declared.tokens.Pos.{Pos}
-use Rattle.snl_text.specs.declared.tokens.Token.{Token}
 use Rattle.snl_syntax.specs.Programs.{ProgramTree}
 use Rattle.snl_sites.specs.declared.options.Options.{Options}
 use Rattle.snl_sites.specs.declared.sites.Meaning.{Meaning}

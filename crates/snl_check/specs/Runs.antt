@@ -1,32 +1,43 @@
 -- Which programs run.
-use Rattle.std.specs.Prelude.{Bool, true, ◌&&◌, List, Option, None, Some, is_some, unwrap_or}
+use Rattle.std.specs.Prelude.{Bool, true, not, ◌&&◌, ◌||◌, ℕ, List, codes, bytes_eq, unwrap_or}
 use Rattle.std.specs.List.{list_all}
-use Rattle.snl_text.specs.declared.tokens.Token.{Token}
 use Rattle.snl_syntax.specs.Programs.{ProgramTree}
-use Rattle.snl_tree.specs.Thin.{is_thin}
 use Rattle.snl_sites.specs.declared.options.Options.{Options}
-use Rattle.snl_sites.specs.declared.sites.Meaning.{Meaning}
+use Rattle.snl_sites.specs.declared.sites.Purpose.{Purpose}
+use Rattle.snl_sites.specs.declared.sites.Purpose.TheVariants.{Channel}
 use Rattle.snl_sites.specs.declared.sites.Site.{Site}
+use Rattle.snl_sites.specs.declared.sites.Site.TheVariants.{Declaration, Use, Call}
 use Rattle.snl_sites.specs.Programs.{sites}
-use Rattle.snl_sites.specs.Uses.{place_of, use_at}
+use Rattle.snl_check.specs.Forms.{has_forms_that_run}
 
 -- The program waits for its channels before it starts, but under `-c`.
 abbrev pub waits : Options → Bool
 waits options = unwrap_or options.c true
 
--- A name that is used means a declaration, and no predefined number.
-abbrev pub is_declared : Option (Token × Meaning) → Bool
-is_declared None = true
-is_declared (Some u) = is_some (place_of u.1)
+-- Of the functions these run.
+abbrev pub does_call_run : List ℕ → Bool
+does_call_run name = bytes_eq name (codes "printf") || bytes_eq name (codes "pvPut")
 
--- So do all names that these sites use.
-abbrev pub are_declared : List Site → Bool
-are_declared all = list_all (λ s. is_declared (use_at s)) all
+-- A use of an element's channel does not run.
+abbrev pub does_use_run : Purpose → Bool → Bool
+does_use_run Channel has_subscript = not has_subscript
+does_use_run p has_subscript = true
 
--- A program of the first language: its forms are, and it uses no predefined name.
+-- Not yet run: event flags, the channel of an element, and other functions.
+abbrev pub does_site_run : Site → Bool
+does_site_run (Declaration x is_flag later words) = not is_flag
+does_site_run (Use p x m has_subscript) = does_use_run p has_subscript
+does_site_run (Call f known fitting stands) = does_call_run f.text.now
+does_site_run _ = true
+
+-- Nothing of that stands at these places.
+abbrev pub do_sites_run : List Site → Bool
+do_sites_run all = list_all does_site_run all
+
+-- Its forms run, and what stands in its blocks and conditions.
 abbrev pub is_first : ProgramTree → Bool
-is_first p = is_thin p && are_declared (sites p)
+is_first p = has_forms_that_run p && do_sites_run (sites p)
 
--- A program of the first language runs, where it waits for its channels.
+-- Such a program runs, where it waits for its channels.
 abbrev pub does_run : Options → ProgramTree → Bool
 does_run options p = is_first p && waits options

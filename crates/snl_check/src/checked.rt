@@ -29,11 +29,11 @@ pub struct Checked<'a> {
     options: Options,
     /// What the names of the program mean.
     places: Places,
-    /// Whether no name of the program is a predefined one.
-    are_declared: bool,
+    /// Whether what stands at the sites of the program runs.
+    do_sites_run: bool,
     pub ghost accepted: { IsAccepted options program },
     ghost bound: { IsTableOf places program } by { Prim.hlevel props },
-    ghost declared: { are_declared ≡ runs.are_declared (sites (program_view program)) } by { Prim.hlevel props },
+    ghost sited: { do_sites_run ≡ runs.do_sites_run (sites (program_view program)) } by { Prim.hlevel props },
 }
 
 impl<'a> Checked<'a> {
@@ -63,12 +63,12 @@ impl<'a> Checked<'a> {
         declared_at(&self.places, offset)
     }
 
-    /// Whether the program runs: it keeps to the first language, uses no predefined name, and waits for
+    /// Whether the program runs: it has one state set and none of the forms that don't run yet, and waits for
     /// its channels before it starts.
     pub fn runs(&self) -> bool
         ensures { result ≡ runs.does_run self.now.options (program_view self.now.program) }
     {
-        does_run(self.options, &self.program, self.are_declared)
+        does_run(self.options, &self.program, self.do_sites_run)
     }
 
     /// The program alone.
@@ -114,14 +114,14 @@ pub fn check<'a>(
         messages,
         options,
         places,
-        are_declared,
+        do_sites_run,
     } = findings;
     let checked = if is_accepted {
         Some(Checked {
             program,
             options,
             places,
-            are_declared,
+            do_sites_run,
         })
     } else {
         None

@@ -7,7 +7,8 @@ ghost use Rattle.snl_check.specs.Findings.{AreFindings};
 ghost use Rattle.snl_check.specs.declared.findings.Findings as declared;
 ghost use Rattle.snl_sites.specs.declared.options.Options as sites;
 
-use crate::uses::{Places, are_declared, places_of};
+use crate::runs::do_sites_run;
+use crate::uses::{Places, places_of};
 use snl_messages::{Message, Severity, messages_of, options_in_force};
 use snl_sites::{Options, sites_of};
 use snl_syntax::Program;
@@ -22,8 +23,8 @@ pub struct Findings {
     pub options: Options,
     /// What the names of the program mean.
     pub places: Places,
-    /// Whether no name of the program is a predefined one.
-    pub are_declared: bool,
+    /// Whether what stands at the sites of the program runs.
+    pub do_sites_run: bool,
 }
 
 impl Findings {
@@ -54,13 +55,13 @@ fn findings_of(alloc: Global, program: &Program, given: Options) -> Result<Findi
     let messages = messages_of(alloc, program, given)?;
     let sites = sites_of(alloc, program)?;
     let places = places_of(alloc, sites.as_slice())?;
-    let are_declared = are_declared(sites.as_slice());
+    let do_sites_run = do_sites_run(sites.as_slice());
     let options = options_in_force(program, given);
     Ok(Findings {
         messages,
         options,
         places,
-        are_declared,
+        do_sites_run,
     })
 }
 

@@ -5,9 +5,9 @@
 
 mod checked;
 mod findings;
+mod forms;
 pub mod laws;
 mod runs;
-mod thin;
 mod uses;
 
 pub use checked::{Checked, Outcome, check};

@@ -5,8 +5,8 @@ ghost use Rattle.snl_syntax.specs.view.Programs.{program_view};
 ghost use Rattle.snl_sites.specs.Programs.{sites};
 ghost use Rattle.snl_check.specs.Runs as spec;
 
-use crate::thin::is_thin;
-use snl_sites::Options;
+use crate::forms::has_forms_that_run;
+use snl_sites::{Options, Purpose, Site};
 use snl_syntax::Program;
 
 /// Whether a program waits for its channels before it starts (Compiling SNL Programs, "Options").
@@ -16,11 +16,56 @@ fn waits(options: Options) -> bool
     options.c.unwrap_or(true)
 }
 
-/// Whether a program runs under the options in force: one of the first language does that waits for
-/// its channels before it starts. It is told whether all names of the program are declared.
-pub fn does_run(options: Options, program: &Program, are_declared: bool) -> bool
-    requires { are_declared ≡ spec.are_declared (sites (program_view program.now)) }
+/// Whether a program runs under the options in force: one of whose forms none is missing yet, and that waits for its
+/// channels before it starts. It is told whether what stands at its sites runs.
+pub fn does_run(options: Options, program: &Program, do_sites_run: bool) -> bool
+    requires { do_sites_run ≡ spec.do_sites_run (sites (program_view program.now)) }
     ensures { result ≡ spec.does_run options (program_view program.now) }
 {
-    is_thin(program) && are_declared && waits(options)
+    has_forms_that_run(program) && do_sites_run && waits(options)
+}
+
+/// Whether a function runs: `printf` and `pvPut` do.
+fn does_call_run(name: &[u8]) -> bool
+    ensures { result ≡ spec.does_call_run name.now }
+{
+    name == b"printf".as_slice() || name == b"pvPut".as_slice()
+}
+
+/// Whether a use of a name runs: that of the channel of an element does not.
+fn does_use_run(purpose: Purpose, has_subscript: bool) -> bool
+    ensures { result ≡ spec.does_use_run purpose has_subscript }
+{
+    match purpose {
+        Purpose::Channel => !has_subscript,
+        _ => true,
+    }
+}
+
+/// Whether what stands at a site runs: no event flag, no channel of an element, no function but those two.
+fn does_site_run(site: &Site) -> bool
+    ensures { result ≡ spec.does_site_run site.now }
+{
+    match site {
+        Site::Declaration { is_flag, .. } => !*is_flag,
+        Site::Use {
+            purpose,
+            has_subscript,
+            ..
+        } => does_use_run(*purpose, *has_subscript),
+        Site::Call { name, .. } => does_call_run(name.text),
+        _ => true,
+    }
+}
+
+/// Whether all that stands at these sites runs.
+pub fn do_sites_run(sites: &[Site]) -> bool
+    ensures { result ≡ spec.do_sites_run sites.now }
+{
+    for site in sites {
+        if !does_site_run(site) {
+            return false;
+        }
+    }
+    true
 }

@@ -3,7 +3,6 @@
 ghost use Rattle.std.specs.Prelude.{◌≡◌, ℕ, Option, None, OnOk, IfOk};
 ghost use Rattle.snl_text.specs.declared.tokens.Pos.{Pos};
 ghost use Rattle.snl_sites.specs.Uses as spec;
-ghost use Rattle.snl_check.specs.Runs as runs;
 ghost use Rattle.snl_check.specs.Tables.{IsUseTable, place_in};
 
 use indexmap::IndexMap;
@@ -59,28 +58,6 @@ pub fn places_of(alloc: Global, sites: &[Site]) -> Result<Places, AllocError>
         note_use(site, &mut places)?;
     }
     Ok(places)
-}
-
-/// Whether no name that these sites use is a predefined one.
-pub fn are_declared(sites: &[Site]) -> bool
-    ensures { result ≡ runs.are_declared sites.now }
-{
-    for site in sites {
-        if !is_declared(site) {
-            return false;
-        }
-    }
-    true
-}
-
-/// Whether the name that a site uses, if it uses one, means a declaration.
-fn is_declared(site: &Site) -> bool
-    ensures { result ≡ runs.is_declared (spec.use_at site.now) }
-{
-    match use_at(site) {
-        Some((_name, meaning)) => place_of(meaning).is_some(),
-        None => true,
-    }
 }
 
 /// What the name at an offset means.

@@ -1,14 +1,2 @@
-pub mod Blocks
-pub mod Faulting
-pub mod StoreWrites
-pub mod Names
-pub mod Numbers
-pub mod Opening
-pub mod Parts
-pub mod Rounds
-pub mod RunLaws
-pub mod Starting
-pub mod Steps
-pub mod Trees
-pub mod Within
-pub mod Writing
+pub mod Loading
+pub mod Tasks

@@ -1,24 +1,38 @@
--- What a machine holds: its program, and the world that its run has come to.
-use Rattle.std.specs.Prelude.{◌≡◌, ℕ}
+-- What a machine holds: what it runs, and the world that its run has come to.
+use Rattle.std.specs.Prelude.{◌≡◌, ℕ, List}
 use Rattle.snl_syntax.specs.Programs.{ProgramTree}
-use Rattle.snl_tree.specs.Thin.{StandsFor}
-use Rattle.snl_tree.specs.declared.thin.trees.Program.{Program as TreeProgram}
+use Rattle.snl_links.specs.Links.{Link}
+use Rattle.snl_pieces.specs.World.{World}
+use Rattle.snl_store.specs.Views.{world_of}
+use Rattle.snl_turns.specs.Instant.{Program}
+use Rattle.snl_turns.specs.Wholes.{program_of}
+use Rattle.snl_plans.specs.Meaning.{program_meaning}
+use Rattle.snl_plans.specs.Places.{channels}
+use Rattle.snl_plans.specs.Right.{IsLoadedOf}
+use Rattle.snl_plans.specs.Sets.{names_in}
+use Rattle.snl_machine.specs.Holding.{loaded_by}
 use Rattle.snl_machine.specs.declared.machine.Machine.{Machine}
-use Rattle.snl_machine.specs.Numbering.{numbered}
-use Rattle.snl_machine.specs.Program.{Program}
-use Rattle.snl_machine.specs.Views.{program_of, world_of}
-use Rattle.snl_machine.specs.World.{World}
 
-abbrev pub program_held : Machine → Program
-program_held m = program_of m.program
+-- What is run: a program, and the names of its channels by their numbers.
+pub record Task : Type 0 where
+  pub program : Program
+  pub channels : List (List ℕ)
 
+-- What a machine runs by its code,
+abbrev pub task_held : Machine → Task
+task_held m = record { program = program_of (loaded_by m.plan m.code); channels = names_in m.names }
+
+-- and what a program with these links means on its tree.
+abbrev pub task_of : ProgramTree → List Link → Task
+task_of p ls = record { program = program_meaning p ls; channels = channels ls }
+
+-- The world that a machine's run has come to.
 abbrev pub world_held : Machine → World
 world_held m = world_of m.store
 
--- A machine is one of a checked program and a budget: it holds the smaller tree that stands for the program, with its
--- names numbered, and that budget.
-pub record IsMachineOf (whole : ProgramTree) (budget : ℕ) (m : Machine) : Type 0 where
-  pub thin : TreeProgram
-  pub stands : StandsFor whole thin
-  pub program : program_held m ≡ numbered thin
+-- A machine is one of a program, links and a budget: its code is right for the program, its plan, names and links are the
+-- program's, and it has that budget.
+pub record IsMachineOf (p : ProgramTree) (ls : List Link) (budget : ℕ) (m : Machine) : Type 0 where
+  pub loaded : IsLoadedOf p ls m.code (loaded_by m.plan m.code)
+  pub channels_are : names_in m.names ≡ channels ls
   pub budget_is : m.budget ≡ budget

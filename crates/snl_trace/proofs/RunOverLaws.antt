@@ -3,20 +3,21 @@ use Rattle.std.proofs.Common.{◌≡◌, ℕ, ◌+◌, ◌<◌, List, [], ◌∷
 use Rattle.std.proofs.lemmas.Bool.{lt-ltb}
 use Rattle.std.proofs.lemmas.List.Elements.{All-get_or}
 use Rattle.std.specs.Option.{unwrap_or}
-use Rattle.snl_machine.specs.declared.events.Event.{Event}
-use Rattle.snl_machine.specs.declared.events.Live.{Live}
-use Rattle.snl_machine.specs.declared.events.Live.TheVariants as live
-use Rattle.snl_machine.specs.declared.faults.Stop.{Stop}
-use Rattle.snl_machine.specs.declared.faults.Stop.TheVariants as stop
+use Rattle.snl_events.specs.declared.events.Event.{Event}
+use Rattle.snl_pieces.specs.declared.live.Live.{Live}
+use Rattle.snl_pieces.specs.declared.live.Live.TheVariants as live
+use Rattle.snl_lines.specs.declared.faults.Stop.{Stop}
+use Rattle.snl_lines.specs.declared.faults.Stop.TheVariants as stop
 use Rattle.snl_machine.specs.declared.machine.Machine.{Machine}
-use Rattle.snl_machine.specs.Devices.{told_more, IsCutShort, stopped_by_sink}
-use Rattle.snl_machine.specs.Does.{Gave, Does}
-use Rattle.snl_machine.specs.MachineOf.{program_held, world_held}
+use Rattle.snl_lines.specs.Devices.{told_more, IsCutShort, stopped_by_sink}
+use Rattle.snl_lines.specs.Does.{Gave, Does}
+use Rattle.snl_machine.specs.MachineOf.{task_held, world_held}
 use Rattle.snl_machine.specs.Lookup.{channel_of, fits_of}
-use Rattle.snl_machine.specs.Ran.{Ran, Gives, also, then_do, text_of}
-use Rattle.snl_machine.specs.World.{World}
-use Rattle.snl_machine.proofs.Steps.{faulted-then, cut-then}
-use Rattle.snl_machine.proofs.Writing.{told_more-told_more, told_more-nil}
+use Rattle.snl_pieces.specs.Ran.{Ran, Gives, also, then_do}
+use Rattle.snl_lines.specs.Does.{text_of}
+use Rattle.snl_pieces.specs.World.{World}
+use Rattle.snl_lines.proofs.Doing.{faulted-then, cut-then}
+use Rattle.snl_lines.proofs.Writing.{told_more-told_more, told_more-nil}
 use Rattle.snl_trace.specs.declared.runner.End.{End}
 use Rattle.snl_trace.specs.declared.runner.End.TheVariants as end
 use Rattle.snl_trace.specs.declared.trace_faults.TraceFault.{TraceFault}
@@ -294,8 +295,8 @@ unfolding rules_by told_of
 rules-long m = record { knows = λ last line long. rw (lt-ltb 32768 (length line) long) refl }
 
 -- machines of one program and one budget have the same rules
-pub rules-same : (a b : Machine) → program_held b ≡ program_held a → b.budget ≡ a.budget → rules_of b ≡ rules_of a
-rules-same a b program budget = ap (λ p. rules_by p b.budget) program ∙ ap (rules_by (program_held a)) budget
+pub rules-same : (a b : Machine) → task_held b ≡ task_held a → b.budget ≡ a.budget → rules_of b ≡ rules_of a
+rules-same a b program budget = ap (λ p. rules_by p b.budget) program ∙ ap (rules_by (task_held a)) budget
 
 -- what a machine reads
 pub read-is : (m : Machine) (last : ℕ) (line : List ℕ) (read : Result (Option (ℕ × Event)) TraceFault) →

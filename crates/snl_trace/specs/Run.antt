@@ -1,18 +1,17 @@
 -- The run over a trace: one line after another, from a world on, up to the first that ends it.
-use Rattle.std.specs.Prelude.{ℕ, ◌+◌, List, [], ◌∷◌, Option, None, Some, Result, Ok, Err}
-use Rattle.snl_machine.specs.declared.events.Event.{Event}
-use Rattle.snl_machine.specs.declared.events.Live.{Live}
-use Rattle.snl_machine.specs.declared.events.Live.TheVariants as live
+use Rattle.std.specs.Prelude.{ℕ, ◌+◌, List, [], ◌∷◌, length, Option, None, Some, Result, Ok, Err}
+use Rattle.snl_events.specs.declared.events.Event.{Event}
+use Rattle.snl_pieces.specs.declared.live.Live.{Live}
+use Rattle.snl_pieces.specs.declared.live.Live.TheVariants as live
 use Rattle.snl_machine.specs.declared.machine.Machine.{Machine}
-use Rattle.snl_machine.specs.declared.faults.Stop.{Stop}
-use Rattle.snl_machine.specs.declared.faults.Stop.TheVariants as stop
-use Rattle.snl_machine.specs.Event.{line_of}
-use Rattle.snl_machine.specs.MachineOf.{program_held}
-use Rattle.snl_machine.specs.Lookup.{is_event_fit}
-use Rattle.snl_machine.specs.Names.{place_of}
-use Rattle.snl_machine.specs.Program.{Program}
-use Rattle.snl_machine.specs.Ran.{Ran, Gives, then_do}
-use Rattle.snl_machine.specs.World.{World}
+use Rattle.snl_lines.specs.declared.faults.Stop.{Stop}
+use Rattle.snl_lines.specs.declared.faults.Stop.TheVariants as stop
+use Rattle.snl_events.specs.Event.{line_of}
+use Rattle.snl_machine.specs.MachineOf.{Task, task_held}
+use Rattle.snl_events.specs.Event.{is_event_fit}
+use Rattle.snl_plans.specs.Names.{place_of}
+use Rattle.snl_pieces.specs.Ran.{Ran, Gives, then_do}
+use Rattle.snl_pieces.specs.World.{World}
 use Rattle.snl_trace.specs.declared.runner.End.{End}
 use Rattle.snl_trace.specs.declared.runner.End.TheVariants as end
 use Rattle.snl_trace.specs.declared.trace_faults.TraceFault.{TraceFault}
@@ -63,12 +62,12 @@ run_from rules number (line ∷ lines) w =
     then_do (line_done rules number line w) (or_rest (λ v. run_from rules (number + 1) lines v))
 
 -- those of a program with a budget
-unfoldable pub rules_by : Program → ℕ → Rules
-rules_by p budget = record {
-  read = read_of (place_of p.channels) (is_event_fit p);
-  act = line_of p budget;
+unfoldable pub rules_by : Task → ℕ → Rules
+rules_by t budget = record {
+  read = read_of (place_of t.channels) (is_event_fit (length t.channels) t.program.links);
+  act = line_of t.program budget;
 }
 
 -- and of a machine
 abbrev pub rules_of : Machine → Rules
-rules_of m = rules_by (program_held m) m.budget
+rules_of m = rules_by (task_held m) m.budget

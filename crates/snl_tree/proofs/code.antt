@@ -11,6 +11,5 @@ pub mod StatementForms
 pub mod ProgramForms
 pub mod ProgramLess
 pub mod ProgramWithin
-pub mod Narrowing
 pub mod OnlyFaults
 pub mod Places

@@ -1,4 +1,2 @@
 pub mod reading
 pub mod Answers
-pub mod Thin
-pub mod ThinView

@@ -1,9 +1,10 @@
 //! Each public call of the crates below, once.
 
-use crate::sessions::that_runs;
+use crate::sessions::machine_if_run;
 use crate::tests::PROGRAM;
 use arrayvec::ArrayVec;
 use snl_check::{Checked, Options, Severity, check};
+use snl_links::Macros;
 use snl_machine::{Event, Live, Machine, laws as machine};
 use snl_text::{Kind, Lexed, lex};
 use snl_trace::{End, Feed, Sheet, TraceFault, laws as trace, read_line, run};
@@ -19,12 +20,16 @@ fn checked<'a>(alloc: Global, lexed: &Lexed<'a>) -> Result<Checked<'a>, Fail> {
     Ok(outcome.checked.ok_or("not accepted")?)
 }
 
-/// The machine of [`PROGRAM`] with a budget of 10.
-fn loaded(alloc: Global) -> Result<Box<Machine<'static>>, Fail> {
-    let lexed = lex(alloc, PROGRAM)?;
+/// The machine of [`PROGRAM`] with a budget of 10. It outlives the bytes of the source, which end here.
+fn loaded(alloc: Global) -> Result<Box<Machine>, Fail> {
+    let mut source = Vec::new(alloc);
+    source.extend_from_slice(PROGRAM)?;
+    let lexed = lex(alloc, source.as_slice())?;
     let checked = checked(alloc, &lexed)?;
-    let checked = that_runs(checked).ok_or("does not run")?;
-    let machine = Machine::load(alloc, checked, 10)?;
+    let macros = Macros {
+        text: b"".as_slice(),
+    };
+    let machine = machine_if_run(alloc, checked, &macros, 10)?.ok_or("does not run")?;
     Ok(Box::new(alloc, machine)?)
 }
 
@@ -96,14 +101,8 @@ fn laws() {
     tree::programs_differ_in_spelling();
     tree::tokens_have_a_program_or_a_fault();
     tree::tokens_have_one_answer();
-    machine::examples();
-    machine::rounds_end();
-    machine::ended_stays();
-    machine::ended_answers_ended();
-    machine::answers_the_phase();
-    machine::time_is_the_events();
-    machine::time_never_falls();
-    machine::numbers_lead_to_declarations();
+    machine::runs_its_program();
+    machine::stays_its_machine();
     trace::text_begins();
 }
 

@@ -102,12 +102,11 @@ ss s { state w { when (x > 0) {
         b"",
     ),
     (
-        b"program p option +s; char x; assign x to \"a\"; monitor x; ss s { state a { } }",
+        b"program p option +s; evflag f; ss s { state a { } }",
         b"p.st:1: warning: W7 state 'a' has no clauses\n",
     ),
-    // A predefined name means a number.
     (
-        b"program p option +s; ss s { state a { when (TRUE > FALSE) {} state a } }",
+        b"program p option +s; ss s { state a { when (delay(1)) {} state a } }",
         b"",
     ),
     (

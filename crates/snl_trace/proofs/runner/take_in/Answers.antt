@@ -8,7 +8,7 @@ use Rattle.snl_trace.proofs.runner.take_in.Goals as goal
 pub loop-text-init : goal.loop-text-init
 loop-text-init g c = record {
   way = way-start _ _ _;
-  program = refl;
+  task = refl;
   budget = refl;
   lines = search rules;
   none_failed = refl;
@@ -16,12 +16,12 @@ loop-text-init g c = record {
 
 pub loop-text-preserved : goal.loop-text-preserved
 loop-text-preserved g c =
-    let same : rules_of c.loop-text.machine ≡ rules_of c.args.machine.now = rules-same c.args.machine.now c.loop-text.machine c.loop-text.invariant.program c.loop-text.invariant.budget in
+    let same : rules_of c.loop-text.machine ≡ rules_of c.args.machine.now = rules-same c.args.machine.now c.loop-text.machine c.loop-text.invariant.task c.loop-text.invariant.budget in
     let cut : c.loop-text.left.now ≡ (c.in-Some.text.now ++ 10 ∷ []) ++ c.in-Some.rest.now =
     c.in-Some.ensures.cut ∙ sym (append_assoc c.in-Some.text.now (10 ∷ []) c.in-Some.rest.now) in
     record {
       way = way-on _ _ _ _ _ _ _ _ c.loop-text.invariant.way cut (rw same at c.in-None.ensures.does);
-      program = c.take_line.ensures.program ∙ c.loop-text.invariant.program;
+      task = c.take_line.ensures.task ∙ c.loop-text.invariant.task;
       budget = c.take_line.ensures.budget ∙ c.loop-text.invariant.budget;
       lines = omega (
         arith,
@@ -36,7 +36,7 @@ loop-text-preserved g c =
 
 pub returns-in-Some-take_line-clause-does : goal.returns-in-Some-take_line-clause-does
 returns-in-Some-take_line-clause-does g c =
-    let same : rules_of c.loop-text.machine ≡ rules_of c.args.machine.now = rules-same c.args.machine.now c.loop-text.machine c.loop-text.invariant.program c.loop-text.invariant.budget in
+    let same : rules_of c.loop-text.machine ≡ rules_of c.args.machine.now = rules-same c.args.machine.now c.loop-text.machine c.loop-text.invariant.task c.loop-text.invariant.budget in
     let cut : c.loop-text.left.now ≡ (c.in-Some.text.now ++ 10 ∷ []) ++ c.in-Some.rest.now =
     c.in-Some.ensures.cut ∙ sym (append_assoc c.in-Some.text.now (10 ∷ []) c.in-Some.rest.now) in
     let to = standing c.take_line.new.line.items c.take_line.new.number c.take_line.new.machine (g.S.Sink.told c.take_line.new.sink) in

@@ -1,5 +1,19 @@
-use Rattle.std.proofs.Common.{refl}
+use Rattle.std.proofs.Common.{◌≡◌, IfOk, subst}
+use Rattle.snl_syntax.specs.declared.programs.Program.{Program}
+use Rattle.snl_syntax.specs.view.Programs.{program_view}
+use Rattle.snl_links.specs.Links.{links}
+use Rattle.snl_plans.specs.First.{first_world_of}
+use Rattle.snl_machine.specs.MachineOf.{IsMachineOf, world_held}
 use Rattle.snl_machine.proofs.machine.Machine.load.Goals as goal
 
+-- the machine is one of the checked program, which is lent
 pub returns-clause-made : goal.returns-clause-made
-returns-clause-made c = record { thin = c.in_ok-thin.thin; stands = c.in_ok-thin.ensures; program = c.in_ok-program.ensures; budget_is = refl }
+returns-clause-made c =
+    subst (λ (q : Program). IfOk c.machine_of.result (IsMachineOf (program_view q) (links (program_view q) c.args.macros.now.text.now) c.args.budget))
+    c.program.ensures.tree c.machine_of.ensures.made
+
+-- and is in that program's first world
+pub returns-clause-first : goal.returns-clause-first
+returns-clause-first c =
+    subst (λ (q : Program). IfOk c.machine_of.result (λ machine. world_held machine ≡ first_world_of (program_view q) (links (program_view q) c.args.macros.now.text.now)))
+    c.program.ensures.tree c.machine_of.ensures.first

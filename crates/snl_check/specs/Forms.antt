@@ -1,0 +1,76 @@
+-- The forms of programs that run: those of definitions, clauses, states and state sets.
+use Rattle.std.specs.Prelude.{◌-◌, ℕ, nat_lt, ◌==◌, Bool, true, false, ◌&&◌, ◌||◌, List, [], ◌∷◌, length, Option, Some, None, slice_range}
+use Rattle.std.specs.List.{list_all}
+use Rattle.std.specs.Char.{is_ascii_alphanumeric}
+use Rattle.snl_syntax.specs.Declarations.{DeclaratorTree}
+use Rattle.snl_syntax.specs.Definitions.{NamesTree, one_name, ChannelsTree, DefinitionTree, declaration, assign, monitor, setting}
+use Rattle.snl_syntax.specs.Programs.{TargetTree, to_state, ClauseTree, StateTree, StateSetTree, ProgramTree}
+
+-- Nothing where something may be.
+abbrev pub is_missing : {A : Type 0} → Option A → Bool
+is_missing None = true
+is_missing (Some a) = false
+
+-- ---- definitions
+
+-- A name without a first value.
+abbrev pub is_bare : DeclaratorTree → Bool
+is_bare d = is_missing d.initial
+
+-- A letter, a digit, or one of `_ : . -`.
+abbrev pub is_channel_byte : ℕ → Bool
+is_channel_byte b = is_ascii_alphanumeric b || (((b == 95 || b == 58) || b == 46) || b == 45)
+
+-- One such byte or more between the quotes.
+abbrev pub is_channel_name : List ℕ → Bool
+is_channel_name text = nat_lt 2 (length text) && list_all is_channel_byte (slice_range text 1 (length text - 1))
+
+-- One string that names a channel.
+abbrev pub is_one_string : NamesTree → Bool
+is_one_string (one_name t) = is_channel_name t.text.now
+is_one_string _ = false
+
+-- `STRING` or `to STRING`
+abbrev pub is_one_channel : Option ChannelsTree → Bool
+is_one_channel (Some c) = is_one_string c.names
+is_one_channel None = false
+
+-- `TYPE NAME, NAME[SIZE], ..;`, `assign NAME to STRING;` and `monitor NAME;`
+abbrev pub does_definition_run : DefinitionTree → Bool
+does_definition_run (declaration d) = list_all is_bare d.names
+does_definition_run (assign a) = is_missing a.place.subscript && is_one_channel a.channels
+does_definition_run (monitor p) = is_missing p.subscript
+does_definition_run _ = false
+
+-- Outside of state sets also an option; those in force are asked for elsewhere.
+abbrev pub does_part_run : DefinitionTree → Bool
+does_part_run (setting o) = true
+does_part_run d = does_definition_run d
+
+-- ---- state sets
+
+-- A clause that leads to a state, and not to the end of the program.
+abbrev pub is_state_target : TargetTree → Bool
+is_state_target (to_state x) = true
+is_state_target _ = false
+
+-- Its condition and its block may be of any form.
+abbrev pub does_clause_run : ClauseTree → Bool
+does_clause_run c = is_state_target c.target
+
+-- `state NAME { DEFINITION .. CLAUSE .. }`, without entry and exit blocks
+abbrev pub does_state_run : StateTree → Bool
+does_state_run s = ((list_all does_definition_run s.definitions && is_missing s.entry) && is_missing s.exit) && list_all does_clause_run s.clauses
+
+-- `ss NAME { DEFINITION .. STATE .. }`
+abbrev pub does_state_set_run : StateSetTree → Bool
+does_state_set_run s = list_all does_definition_run s.definitions && list_all does_state_run s.states
+
+-- One state set, and no other.
+abbrev pub is_one_set : List StateSetTree → Bool
+is_one_set (s ∷ []) = does_state_set_run s
+is_one_set _ = false
+
+-- A program of one state set, without entry and exit blocks.
+abbrev pub has_forms_that_run : ProgramTree → Bool
+has_forms_that_run p = ((list_all does_part_run p.definitions && is_missing p.entry) && is_one_set p.state_sets) && is_missing p.exit

@@ -1,0 +1,140 @@
+//! The definitions of programs that run: variables, channels, monitors and options.
+
+ghost use Rattle.std.specs.Prelude.{◌≡◌, map};
+ghost use Rattle.std.specs.List.{list_all};
+ghost use Rattle.snl_syntax.specs.Definitions as tree;
+ghost use Rattle.snl_check.specs.Forms as spec;
+ghost use Rattle.snl_syntax.specs.view.Declarations.{declaration_view, declarator_view};
+ghost use Rattle.snl_syntax.specs.view.Definitions.{assign_view, names_view, place_view};
+ghost use Rattle.snl_syntax.specs.view.Definitions.{definition_view, channels_view};
+ghost use Rattle.snl_syntax.specs.view.Shown.{shown};
+
+use snl_syntax::{Assign, ChannelNames, Channels, Declaration, Declarator, Def, Place};
+
+/// Whether a name has no first value.
+fn is_bare(declared: &Declarator) -> bool
+    ensures { result ≡ spec.is_bare (declarator_view declared.now) }
+{
+    declared.initial.is_none()
+}
+
+/// Whether none of the names has a first value.
+fn are_bare(names: &[Declarator]) -> bool
+    ensures { result ≡ list_all spec.is_bare (map declarator_view names.now) }
+{
+    for declared in names {
+        if !is_bare(declared) {
+            return false;
+        }
+    }
+    true
+}
+
+/// Whether it is `TYPE NAME, NAME[SIZE], ..;`.
+fn does_declaration_run(declaration: &Declaration) -> bool
+    ensures { result
+        ≡ spec.does_definition_run (tree.declaration (declaration_view declaration.now)) }
+{
+    are_bare(declaration.names.as_slice())
+}
+
+/// Whether the byte may stand in the name of a channel.
+fn is_channel_byte(byte: u8) -> bool
+    ensures { result ≡ spec.is_channel_byte byte }
+{
+    byte.is_ascii_alphanumeric() || matches!(byte, b'_' | b':' | b'.' | b'-')
+}
+
+/// Whether the bytes may stand in the name of a channel.
+fn are_channel_bytes(name: &[u8]) -> bool
+    ensures { result ≡ list_all spec.is_channel_byte name.now }
+{
+    name.iter().all(|byte| is_channel_byte(*byte))
+}
+
+/// Whether a string, with its quotes, names a channel: one or more letters, digits and `_ : . -`.
+fn is_channel_name(text: &[u8]) -> bool
+    ensures { result ≡ spec.is_channel_name text.now }
+{
+    text.len() > 2 && are_channel_bytes(&text[1..text.len() - 1])
+}
+
+/// Whether it is one string that names a channel.
+fn is_one_string(names: &ChannelNames) -> bool
+    ensures { result ≡ spec.is_one_string (names_view names.now) }
+{
+    match names {
+        ChannelNames::One(channel) => is_channel_name(channel.text),
+        ChannelNames::List(_) => false,
+    }
+}
+
+/// Whether it is `STRING` or `to STRING`.
+fn is_one_channel(channels: &Option<Channels>) -> bool
+    ensures { result ≡ spec.is_one_channel (shown channels_view channels.now) }
+{
+    match channels {
+        Some(channels) => is_one_string(&channels.names),
+        None => false,
+    }
+}
+
+/// Whether it is `assign NAME to STRING;`.
+fn does_assign_run(assign: &Assign) -> bool
+    ensures { result ≡ spec.does_definition_run (tree.assign (assign_view assign.now)) }
+{
+    assign.place.subscript.is_none() && is_one_channel(&assign.channels)
+}
+
+/// Whether it is `monitor NAME;`.
+fn does_monitor_run(place: &Place) -> bool
+    ensures { result ≡ spec.does_definition_run (tree.monitor (place_view place.now)) }
+{
+    place.subscript.is_none()
+}
+
+/// Whether it is one of the three.
+fn does_definition_run(definition: &Def) -> bool
+    ensures { result ≡ spec.does_definition_run (definition_view definition.now) }
+{
+    match definition {
+        Def::Declaration(declaration) => does_declaration_run(declaration),
+        Def::Assign(assign) => does_assign_run(assign),
+        Def::Monitor(place) => does_monitor_run(place),
+        _ => false,
+    }
+}
+
+/// Whether all are such definitions.
+pub fn do_definitions_run(definitions: &[Def]) -> bool
+    ensures { result ≡ list_all spec.does_definition_run (map definition_view definitions.now) }
+{
+    for definition in definitions {
+        if !does_definition_run(definition) {
+            return false;
+        }
+    }
+    true
+}
+
+/// Whether it is an option or such a definition.
+fn does_part_run(part: &Def) -> bool
+    ensures { result ≡ spec.does_part_run (definition_view part.now) }
+{
+    match part {
+        Def::Setting(_) => true,
+        _ => does_definition_run(part),
+    }
+}
+
+/// Whether all are options or such definitions.
+pub fn do_parts_run(parts: &[Def]) -> bool
+    ensures { result ≡ list_all spec.does_part_run (map definition_view parts.now) }
+{
+    for part in parts {
+        if !does_part_run(part) {
+            return false;
+        }
+    }
+    true
+}

@@ -1,0 +1,77 @@
+//! Clauses, states, the state set and the whole of programs that run.
+
+ghost use Rattle.std.specs.Prelude.{◌≡◌, map};
+ghost use Rattle.std.specs.List.{list_all};
+ghost use Rattle.snl_check.specs.Forms as spec;
+ghost use Rattle.snl_syntax.specs.view.Programs.{clause_view, state_view, state_set_view, program_view};
+
+use crate::forms::definitions::{do_definitions_run, do_parts_run};
+use snl_syntax::{Clause, Program, State, StateSet, Target};
+
+/// Whether a clause leads to a state.
+fn does_clause_run(clause: &Clause) -> bool
+    ensures { result ≡ spec.does_clause_run (clause_view clause.now) }
+{
+    matches!(clause.target, Target::State(_))
+}
+
+/// Whether all are such clauses.
+fn do_clauses_run(clauses: &[Clause]) -> bool
+    ensures { result ≡ list_all spec.does_clause_run (map clause_view clauses.now) }
+{
+    for clause in clauses {
+        if !does_clause_run(clause) {
+            return false;
+        }
+    }
+    true
+}
+
+/// Whether it is `state NAME { DEFINITION .. CLAUSE .. }`.
+fn does_state_run(state: &State) -> bool
+    ensures { result ≡ spec.does_state_run (state_view state.now) }
+{
+    do_definitions_run(state.definitions.as_slice())
+        && state.entry.is_none()
+        && state.exit.is_none()
+        && do_clauses_run(state.clauses.as_slice())
+}
+
+/// Whether all are such states.
+fn do_states_run(states: &[State]) -> bool
+    ensures { result ≡ list_all spec.does_state_run (map state_view states.now) }
+{
+    for state in states {
+        if !does_state_run(state) {
+            return false;
+        }
+    }
+    true
+}
+
+/// Whether it is `ss NAME { DEFINITION .. STATE .. }`.
+fn does_state_set_run(set: &StateSet) -> bool
+    ensures { result ≡ spec.does_state_set_run (state_set_view set.now) }
+{
+    do_definitions_run(set.definitions.as_slice()) && do_states_run(set.states.as_slice())
+}
+
+/// Whether there is one such state set, and no other.
+fn is_one_set(sets: &[StateSet]) -> bool
+    ensures { result ≡ spec.is_one_set (map state_set_view sets.now) }
+{
+    match sets {
+        [set] => does_state_set_run(set),
+        _ => false,
+    }
+}
+
+/// Whether the forms of a program run, those of its blocks and conditions apart.
+pub fn has_forms_that_run(program: &Program) -> bool
+    ensures { result ≡ spec.has_forms_that_run (program_view program.now) }
+{
+    do_parts_run(program.definitions.as_slice())
+        && program.entry.is_none()
+        && is_one_set(program.state_sets.as_slice())
+        && program.exit.is_none()
+}

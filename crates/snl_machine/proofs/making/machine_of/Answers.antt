@@ -1,0 +1,48 @@
+use Rattle.std.proofs.Common.{◌∙◌, ◌<◌, ◌-◌, ◌^◌, ap, arith, map, refl}
+use Rattle.snl_syntax.specs.view.Programs.{program_view}
+use Rattle.snl_links.specs.Links.{links}
+use Rattle.snl_links.specs.LinkViews.{link_view}
+use Rattle.snl_plans.specs.Places.{channels}
+use Rattle.snl_plans.specs.Sets.{copies_of}
+use Rattle.snl_plans.proofs.Meant.{plans_are_right}
+use Rattle.snl_machine.specs.Holding.{loaded_by}
+use Rattle.snl_machine.proofs.Loading.{loaded-is, first-is}
+use Rattle.snl_machine.proofs.making.machine_of.Goals as goal
+
+pub invariant_of-result : goal.invariant_of-result
+invariant_of-result c =
+    let p = program_view c.args.program.now in
+    let ls = links p c.args.macros.now.text.now in
+    let code = c.in_ok-code.code in
+    let plan = c.in_ok-plan.plan in
+    let links-are = ap (map link_view) c.as_slice-links.ensures.value ∙ c.in_ok-links.ensures in
+    let room = c.in_ok-operands.ensures ∙ c.depth.ensures in
+    let counted : code.depth < 2 ^ 64 - 1 = omega (arith, room, c.in_ok-operands.operands.items.small) in
+    let is = loaded-is p ls (map link_view c.as_slice-links.result.now) code plan links-are c.in_ok-plan.ensures c.in_ok-code.ensures counted in
+    record { room = room; runs = (plans_are_right p ls code (loaded_by plan code) is).1 }
+
+pub returns-clause-made : goal.returns-clause-made
+returns-clause-made c =
+    let p = program_view c.args.program.now in
+    let ls = links p c.args.macros.now.text.now in
+    let code = c.in_ok-code.code in
+    let plan = c.in_ok-plan.plan in
+    let links-are = ap (map link_view) c.as_slice-links.ensures.value ∙ c.in_ok-links.ensures in
+    let named-are = ap (map link_view) c.as_slice.ensures.value ∙ c.in_ok-links.ensures in
+    let room = c.in_ok-operands.ensures ∙ c.depth.ensures in
+    let counted : code.depth < 2 ^ 64 - 1 = omega (arith, room, c.in_ok-operands.operands.items.small) in
+    record {
+      loaded = loaded-is p ls (map link_view c.as_slice-links.result.now) code plan links-are c.in_ok-plan.ensures c.in_ok-code.ensures counted;
+      channels_are = c.in_ok-names.ensures ∙ ap channels named-are;
+      budget_is = refl;
+    }
+
+pub returns-clause-first : goal.returns-clause-first
+returns-clause-first c =
+    let p = program_view c.args.program.now in
+    let ls = links p c.args.macros.now.text.now in
+    let links-are = ap (map link_view) c.as_slice-links.ensures.value ∙ c.in_ok-links.ensures in
+    let named-are = ap (map link_view) c.as_slice.ensures.value ∙ c.in_ok-links.ensures in
+    first-is p ls (map link_view c.as_slice-links.result.now) c.in_ok-code.code c.in_ok-plan.plan links-are c.in_ok-plan.ensures _ _ _ _
+    (ap copies_of c.as_slice-copies.ensures.value ∙ c.in_ok-copies.ensures) (c.in_ok-names.ensures ∙ ap channels named-are)
+    c.as_slice-2.ensures.value c.in_ok-store.ensures

@@ -1,0 +1,105 @@
+//! The events that a machine takes, and what it tells.
+
+ghost use Rattle.std.specs.Prelude.{◌≡◌, ◌-◌, ◌^◌, ◌<◌, true, IfOk, OnErr};
+ghost use Rattle.snl_syntax.specs.view.Programs.{program_view};
+ghost use Rattle.snl_check.specs.Runs.{does_run};
+ghost use Rattle.snl_events.specs.Event.{line_of};
+ghost use Rattle.snl_links.specs.Links.{links};
+ghost use Rattle.snl_lines.specs.Devices.{counted, stopped_by_sink};
+ghost use Rattle.snl_lines.specs.Does.{Does};
+ghost use Rattle.snl_machine.specs.Lookup.{channel_of, fits_of};
+ghost use Rattle.snl_machine.specs.MachineOf.{IsMachineOf, task_held, world_held};
+ghost use Rattle.snl_plans.specs.First.{first_world_of};
+
+use crate::machine::Machine;
+use crate::making::machine_of;
+use snl_check::Checked;
+use snl_events::{Event, fits, take};
+use snl_lines::{Sink, Stop};
+use snl_links::Macros;
+use snl_pieces::Live;
+use snl_plans::channel_number;
+use snl_turns::Whole;
+use std::alloc::{AllocError, Global};
+
+impl Machine {
+    /// Makes the machine of a program that runs, with the macros of the run. It waits for its start. All the room that a
+    /// run takes is made here, and nothing of the program or of its source is kept. The budget is the number of steps that
+    /// one instant may take, 1 to 1,000,000,000.
+    ///
+    /// Fails only where that room was not to be had.
+    pub fn load<'a>(
+        alloc: Global,
+        checked: &Checked<'a>,
+        macros: &Macros,
+        budget: u32,
+    ) -> Result<Machine, AllocError>
+        requires runs { does_run checked.now.options (program_view checked.now.program) ≡ true }
+        ensures made { IfOk result (IsMachineOf (program_view checked.now.program)
+            (links (program_view checked.now.program) macros.now.text.now) budget) }
+        ensures first { IfOk result (λ machine. world_held machine
+            ≡ first_world_of (program_view checked.now.program)
+            (links (program_view checked.now.program) macros.now.text.now)) }
+    {
+        machine_of(alloc, checked.program(), macros, budget)
+    }
+
+    /// The number of the channel of a name; None where the program uses no such channel. Channels have the numbers from 0
+    /// on, in the order in which `assign` definitions first name them.
+    pub fn channel(&self, name: &[u8]) -> Option<usize>
+        ensures { result ≡ channel_of self.now name.now }
+    {
+        channel_number(&self.names, name)
+    }
+
+    /// The time of the last event, in milliseconds; 0 before the first.
+    pub fn time(&self) -> u64
+        ensures { result ≡ (world_held self.now).time }
+    {
+        self.store.time
+    }
+
+    /// Whether an event speaks of a channel of this machine, and each value that a link of that channel keeps fits the
+    /// link's variable.
+    pub fn fits(&self, event: &Event) -> bool
+        ensures { result ≡ fits_of self.now event.now }
+    {
+        fits(event, self.names.len(), self.plan.links.as_slice())
+    }
+
+    /// Does what a line of a trace asks for at a time in milliseconds, and hands the lines of the run to the sink. A
+    /// machine that has ended does nothing.
+    ///
+    /// After a fault, and where the sink fails, the machine has ended, and what was written stands.
+    pub fn event<S: Sink>(&mut self, ms: u64, event: &Event, sink: &mut S) -> Result<Live, Stop>
+        requires { S.failures sink.old < 2 ^ 64 - 1 }
+        ensures does { Does (λ live. live) result (world_held self.new) (S.told sink.old)
+            (S.told sink.new)
+            (line_of (task_held self.old).program self.old.budget ms event.now
+            (world_held self.old)) }
+        ensures ended { OnErr result ((world_held self.new).phase ≡ Live.Ended) }
+        ensures task { task_held self.new ≡ task_held self.old }
+        ensures plan { self.new.plan ≡ self.old.plan }
+        ensures code { self.new.code ≡ self.old.code }
+        ensures names { self.new.names ≡ self.old.names }
+        ensures budget { self.new.budget ≡ self.old.budget }
+        ensures failures { S.failures sink.new
+            ≡ counted (stopped_by_sink result) (S.failures sink.old) }
+    {
+        let whole = Whole {
+            plan: &self.plan,
+            code: self.code.instrs(),
+            formats: self.code.texts(),
+            room: self.code.depth(),
+        };
+        take(
+            ms,
+            event,
+            whole,
+            self.budget,
+            &mut self.store,
+            &mut self.operands,
+            sink,
+        )
+    }
+}

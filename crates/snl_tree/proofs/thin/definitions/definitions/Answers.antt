@@ -1,9 +1,0 @@
-use Rattle.std.proofs.Common.{arith}
-use Rattle.snl_syntax.specs.view.Definitions.{definition_view}
-use Rattle.snl_tree.specs.Thin.{is_thin_definition, StandsForDefinition}
-use Rattle.snl_tree.proofs.code.Narrowing.{all_so_far}
-use Rattle.snl_tree.proofs.thin.definitions.definitions.Goals as goal
-
--- all definitions are thin, and the smaller ones found stand for them
-pub returns : goal.returns
-returns c = all_so_far is_thin_definition StandsForDefinition definition_view c.args.all.now c.loop-next.next-index c.loop-next.found.items c.loop-next.invariant (omega arith)
