@@ -11,11 +11,7 @@ use Rattle.snl_check.specs.declared.checked.Checked.{Checked}
 use Rattle.snl_check.specs.Runs.{does_run}
 use Rattle.snl_sites.specs.declared.options.Options.{Options}
 use Rattle.snl_messages.specs.Messages.{Said}
-use Rattle.snl_links.specs.Links.{links}
 use Rattle.snl_links.specs.Tables.{tables}
-use Rattle.snl_machine.specs.declared.machine.Machine.{Machine}
-use Rattle.snl_machine.specs.MachineOf.{IsMachineOf, world_held}
-use Rattle.snl_plans.specs.First.{first_world_of}
 use Rattle.snc.specs.Judging.{IsFaultSaid, IsSaidOf, IsTreeSaid, NoErrors, names_of, not_yet}
 use Rattle.snc.specs.Texts.{text_of}
 
@@ -51,20 +47,6 @@ pub record IsTreeTold (given : Options) (word : List ℕ) (names : List (List �
   pub accepted : IsSome checked ↔ NoErrors messages
   pub same : IfSome checked (λ p. p ≡ whole)
   pub late_is : late ≡ text_of word names (not_yet whole ∷ [])
-
--- a machine is that of a program with the links that these macros give it, and has not begun
-pub record IsLoaded (whole : ProgramTree) (macros : List ℕ) (budget : ℕ) (m : Machine) : Type 0 where
-  pub made : IsMachineOf whole (links whole macros) budget m
-  pub first : world_held m ≡ first_world_of whole (links whole macros)
-
--- the same where the program runs, and none where it does not
-abbrev pub LoadedOrNot : Bool → (Machine → Type 0) → Option Machine → Type 0
-LoadedOrNot runs Made (Some m) = (runs ≡ true) × Made m
-LoadedOrNot runs Made None = runs ≡ false
-
--- the machine of a checked program, if that runs
-pub record IsLoadedIfRun (c : Checked) (macros : List ℕ) (budget : ℕ) (o : Option Machine) : Type 0 where
-  pub is : LoadedOrNot (does_run c.options (program_view c.program)) (IsLoaded (program_view c.program) macros budget) o
 
 -- the tables of a tree that is there, where they are asked for
 abbrev pub asked_tables : Bool → Option ProgramTree → List ℕ

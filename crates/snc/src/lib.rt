@@ -9,8 +9,6 @@ mod lines;
 mod messages;
 mod reports;
 mod sessions;
-#[cfg(test)]
-mod tests;
 
 pub use jobs::{Report, Status};
 pub use reports::report;

@@ -2,16 +2,13 @@
 
 ghost use Rattle.std.specs.Prelude.{◌≡◌, ◌-◌, ◌^◌, ◌<◌, ◌++◌, ℕ, List, [], Option, IfOk, OnErr, string_bytes};
 ghost use Rattle.std.specs.Option.{option_map, unwrap_or};
-ghost use Rattle.snl_machine.specs.declared.machine.Machine as machine;
 ghost use Rattle.snc.specs.Outcomes.{IsSession, status_of};
-ghost use Rattle.snc.specs.ReportSteps.{IsLoadedIfRun};
 
 use crate::jobs::Status;
 use crate::messages::{Findings, judged};
 use snc_words::Job;
-use snl_check::Checked;
 use snl_links::Macros;
-use snl_machine::{Machine, Sink};
+use snl_machine::{Sink, machine_if_run};
 use snl_trace::{End, Source, run};
 use std::alloc::{AllocError, Global};
 
@@ -66,62 +63,6 @@ fn macros_of(job: &Job) -> Macros<'_>
             text: b"".as_slice(),
         },
     }
-}
-
-/// What is lent while its machine is made, if it runs. A function that owns a whole checked program and lends it is dear to
-/// prove; one that owns a value of a type parameter is not.
-pub trait MayRun {
-    ghost loaded: { Self → List ℕ → ℕ → Option machine.Machine → Type 0 };
-
-    /// The machine of what runs; None where it does not.
-    fn machine(
-        &self,
-        alloc: Global,
-        macros: &Macros,
-        budget: u32,
-    ) -> Result<Option<Machine>, AllocError>
-        ensures { IfOk result (loaded self.now macros.now.text.now budget) };
-}
-
-/// The machine of a checked program that runs.
-fn machine_of(
-    alloc: Global,
-    checked: &Checked,
-    macros: &Macros,
-    budget: u32,
-) -> Result<Option<Machine>, AllocError>
-    ensures { IfOk result (IsLoadedIfRun checked.now macros.now.text.now budget) }
-{
-    if !checked.runs() {
-        return Ok(None);
-    }
-    let machine = Machine::load(alloc, checked, macros, budget)?;
-    Ok(Some(machine))
-}
-
-impl<'a> MayRun for Checked<'a> {
-    ghost loaded = { IsLoadedIfRun };
-
-    fn machine(
-        &self,
-        alloc: Global,
-        macros: &Macros,
-        budget: u32,
-    ) -> Result<Option<Machine>, AllocError> {
-        machine_of(alloc, self, macros, budget)
-    }
-}
-
-/// The machine of what runs, which is dropped then; None where it does not.
-pub fn machine_if_run<T: MayRun + Drop>(
-    alloc: Global,
-    checked: T,
-    macros: &Macros,
-    budget: u32,
-) -> Result<Option<Machine>, AllocError>
-    ensures { IfOk result (T.loaded checked macros.now.text.now budget) }
-{
-    checked.machine(alloc, macros, budget)
 }
 
 /// A text with another behind it.

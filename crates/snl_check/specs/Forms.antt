@@ -1,10 +1,9 @@
--- The forms of programs that run: those of definitions, clauses, states and state sets.
+-- The forms of programs that run: those of definitions, states and state sets.
 use Rattle.std.specs.Prelude.{◌-◌, ℕ, nat_lt, ◌==◌, Bool, true, false, ◌&&◌, ◌||◌, List, [], ◌∷◌, length, Option, Some, None, slice_range}
 use Rattle.std.specs.List.{list_all}
 use Rattle.std.specs.Char.{is_ascii_alphanumeric}
-use Rattle.snl_syntax.specs.Declarations.{DeclaratorTree}
 use Rattle.snl_syntax.specs.Definitions.{NamesTree, one_name, ChannelsTree, DefinitionTree, declaration, assign, monitor, setting}
-use Rattle.snl_syntax.specs.Programs.{TargetTree, to_state, ClauseTree, StateTree, StateSetTree, ProgramTree}
+use Rattle.snl_syntax.specs.Programs.{StateTree, StateSetTree, ProgramTree}
 
 -- Nothing where something may be.
 abbrev pub is_missing : {A : Type 0} → Option A → Bool
@@ -12,10 +11,6 @@ is_missing None = true
 is_missing (Some a) = false
 
 -- ---- definitions
-
--- A name without a first value.
-abbrev pub is_bare : DeclaratorTree → Bool
-is_bare d = is_missing d.initial
 
 -- A letter, a digit, or one of `_ : . -`.
 abbrev pub is_channel_byte : ℕ → Bool
@@ -37,7 +32,7 @@ is_one_channel None = false
 
 -- `TYPE NAME, NAME[SIZE], ..;`, `assign NAME to STRING;` and `monitor NAME;`
 abbrev pub does_definition_run : DefinitionTree → Bool
-does_definition_run (declaration d) = list_all is_bare d.names
+does_definition_run (declaration d) = true
 does_definition_run (assign a) = is_missing a.place.subscript && is_one_channel a.channels
 does_definition_run (monitor p) = is_missing p.subscript
 does_definition_run _ = false
@@ -49,18 +44,9 @@ does_part_run d = does_definition_run d
 
 -- ---- state sets
 
--- A clause that leads to a state, and not to the end of the program.
-abbrev pub is_state_target : TargetTree → Bool
-is_state_target (to_state x) = true
-is_state_target _ = false
-
--- Its condition and its block may be of any form.
-abbrev pub does_clause_run : ClauseTree → Bool
-does_clause_run c = is_state_target c.target
-
--- `state NAME { DEFINITION .. CLAUSE .. }`, without entry and exit blocks
+-- `state NAME { DEFINITION .. CLAUSE .. }`, without entry and exit blocks. Its clauses may be of any form.
 abbrev pub does_state_run : StateTree → Bool
-does_state_run s = ((list_all does_definition_run s.definitions && is_missing s.entry) && is_missing s.exit) && list_all does_clause_run s.clauses
+does_state_run s = (list_all does_definition_run s.definitions && is_missing s.entry) && is_missing s.exit
 
 -- `ss NAME { DEFINITION .. STATE .. }`
 abbrev pub does_state_set_run : StateSetTree → Bool

@@ -24,6 +24,10 @@ start_line ms program = joined (decimal ms ∷ codes " start " ∷ program ∷ n
 abbrev pub go_line : ℕ → List ℕ → List ℕ → List ℕ → List ℕ
 go_line ms set from to = joined (decimal ms ∷ codes " go " ∷ set ∷ space ∷ from ∷ space ∷ to ∷ newline ∷ [])
 
+-- `MS exit PROGRAM`
+abbrev pub exit_line : ℕ → List ℕ → List ℕ
+exit_line ms program = joined (decimal ms ∷ codes " exit " ∷ program ∷ newline ∷ [])
+
 -- `MS print STATE-SET `, which the text follows
 abbrev pub print_front : ℕ → List ℕ → List ℕ
 print_front ms set = joined (decimal ms ∷ codes " print " ∷ set ∷ codes " " ∷ [])

@@ -7,6 +7,8 @@ mod printing;
 mod sinks;
 
 pub use faults::{Stop, fault_text};
-pub use lines::{write_fault, write_go, write_number, write_pieces, write_put, write_start};
+pub use lines::{
+    write_exit, write_fault, write_go, write_number, write_pieces, write_put, write_start,
+};
 pub use printing::write_print;
 pub use sinks::{Sink, SinkFault};

@@ -3,7 +3,7 @@
 ghost use Rattle.std.specs.Prelude.{◌≡◌, ◌-◌, ◌^◌, ◌<◌, ◌∷◌, [], is_err, map};
 ghost use Rattle.std.specs.Fmt.{signed_decimal};
 ghost use Rattle.snl_lines.specs.Devices.{counted, Wrote};
-ghost use Rattle.snl_lines.specs.Lines.{joined, start_line, go_line, fault_line, put_front, space};
+ghost use Rattle.snl_lines.specs.Lines.{joined, start_line, go_line, exit_line, fault_line, put_front, space};
 
 use crate::sinks::{Sink, SinkFault};
 use itoa::Buffer;
@@ -37,6 +37,19 @@ pub fn write_go<'t, S: Sink>(
     let mut time = Buffer::new();
     let ms = time.format(ms).as_bytes();
     write_pieces(sink, &[ms, b" go ", state_set, b" ", from, b" ", to, b"\n"])
+}
+
+/// `MS exit PROGRAM`
+pub fn write_exit<'t, S: Sink>(sink: &mut S, ms: u64, program: &'t [u8]) -> Result<(), SinkFault>
+    requires { S.failures sink.old < 2 ^ 64 - 1 }
+    ensures told { Wrote result (exit_line ms program.now) (S.told sink.old) (S.told sink.new) }
+    ensures failures { S.failures sink.new ≡ counted (is_err result) (S.failures sink.old) }
+{
+    let mut time = Buffer::new();
+    write_pieces(
+        sink,
+        &[time.format(ms).as_bytes(), b" exit ", program, b"\n"],
+    )
 }
 
 /// `MS fault STATE-SET LINE TEXT`

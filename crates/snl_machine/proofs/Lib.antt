@@ -1,2 +1,8 @@
-pub mod Loading
+pub mod AsLoaded
 pub mod Tasks
+pub mod Steady
+pub mod Rounds
+pub mod Fitting
+pub mod Beginning
+pub mod Filling
+pub mod Lines

@@ -1,6 +1,8 @@
 //! Laws of machines. Each function is its contract, and does nothing.
 
 ghost use Rattle.snl_machine.specs.Laws.{RunsItsProgram, StaysItsMachine};
+ghost use Rattle.snl_machine.specs.Ranges.{EventsFit, FirstHolds, PiecesFit, ReachedHold};
+ghost use Rattle.snl_machine.specs.Rounds.{RoundsEnd, TimeIsTheEvents, TimeNeverFalls};
 
 /// A machine of a program runs what the program means on its tree.
 #[tactic(auto, using(crate::proofs::Tasks::runs_its_program))]
@@ -13,4 +15,43 @@ pub fn runs_its_program()
 #[tactic(auto, using(crate::proofs::Tasks::stays_its_machine))]
 pub fn stays_its_machine()
     ensures { StaysItsMachine }
+{}
+
+/// The rounds of an instant end because one has no transition, leads out of the program, or faults: never because the
+/// number of rounds is used up that an instant allows.
+#[tactic(auto, using(crate::proofs::Rounds::rounds_end))]
+pub fn rounds_end()
+    ensures { RoundsEnd }
+{}
+
+/// After an event the time is that of the event, unless the run had ended, also where the event came to a fault.
+pub fn time_is_the_events()
+    ensures { TimeIsTheEvents }
+{}
+
+/// Time never falls, as long as no event comes before the time of the last one.
+pub fn time_never_falls()
+    ensures { TimeNeverFalls }
+{}
+
+/// Before the first event each element of each variable, and each word of each buffer, is a number that its type has.
+pub fn first_holds()
+    ensures { FirstHolds }
+{}
+
+/// No condition and no block stores a number that the type of its variable does not have, also where it comes to a fault.
+#[tactic(auto, using(crate::proofs::Fitting::pieces_fit))]
+pub fn pieces_fit()
+    ensures { PiecesFit }
+{}
+
+/// What copies and buffers hold within their types before an event that fits they hold so after it.
+pub fn events_fit()
+    ensures { EventsFit }
+{}
+
+/// In every world that a run comes to, each element of each variable, and each word of each buffer, is a number that its
+/// type has: no store ever holds what its type cannot.
+pub fn reached_hold()
+    ensures { ReachedHold }
 {}

@@ -6,9 +6,11 @@
 
 mod calls;
 pub mod laws;
+mod loading;
 mod machine;
 mod making;
 
+pub use loading::{MayRun, machine_if_run};
 pub use machine::Machine;
 pub use snl_events::{Event, VALUES_KEPT};
 pub use snl_lines::{Sink, SinkFault, Stop};

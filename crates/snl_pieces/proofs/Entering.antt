@@ -1,9 +1,9 @@
 -- The code of a block's variables does what the entry of the block does.
-use Rattle.std.proofs.Common.{◌≡◌, ◌+◌, ◌≤◌, ℕ, suc, ℤ, List, [], ◌∷◌, ◌++◌, Option, None, Some, refl, arith, length, length-append}
+use Rattle.std.proofs.Common.{◌≡◌, ◌+◌, ◌≤◌, ℕ, suc, ℤ, pos, Bool, true, false, nat_lt, if◌then◌else◌, List, [], ◌∷◌, ◌++◌, Option, None, Some, refl, arith, length, length-append}
 use Rattle.snl_syntax.specs.Expressions.{ExprTree}
 use Rattle.snl_syntax.specs.Declarations.{DeclaratorTree}
 use Rattle.snl_pieces.specs.declared.instrs.Instr.{Instr}
-use Rattle.snl_pieces.specs.declared.instrs.Instr.TheVariants.{Clear}
+use Rattle.snl_pieces.specs.declared.instrs.Instr.TheVariants.{Drop, Clear, Begin}
 use Rattle.snl_pieces.specs.declared.instrs.Variable.{Variable}
 use Rattle.snl_pieces.specs.BlockCode.{cleared_code, all_cleared_code, begun_code, begun_with_code, all_begun_code, entered_code, values_depth, entered_depth}
 use Rattle.snl_pieces.specs.Effect.{variable_for, cleared_maybe, all_cleared, begun, begun_with, values_of, all_begun, entered}
@@ -13,7 +13,7 @@ use Rattle.snl_pieces.specs.Ran.{Ran, Gives, then_do}
 use Rattle.snl_pieces.specs.Right.{HasAt}
 use Rattle.snl_pieces.specs.Run.{Setting, setting_of, GoesTo, done_by}
 use Rattle.snl_pieces.specs.Value.{value_of}
-use Rattle.snl_pieces.specs.Words.{cleared}
+use Rattle.snl_pieces.specs.Words.{stored, cleared}
 use Rattle.snl_pieces.specs.World.{World}
 use Rattle.snl_pieces.proofs.Following.{has_front, has_back, Follows, follows-step, follows-here, follows-then, follows-to, quiet-none}
 use Rattle.snl_pieces.proofs.Leading.{idle}
@@ -57,7 +57,12 @@ module _ (h : Here) (room : ℕ) (code : List Instr) where
   begins-step : (o : Option Variable) (line k at : ℕ) (z : ℤ) (u : World) →
       done_by g (begun_code o line k) at (z ∷ []) u ≡ then_do (begun h.set o line k z u) (λ v x. Gives (GoesTo (at + 1) []) x [])
   begins-step None line k at z u = refl
-  begins-step (Some v) line k at z u = refl
+  begins-step (Some v) line k at z u = by (nat_lt k v.size)
+    where
+      by : (b : Bool) → done_by g (if b then Begin v k line else Drop) at (z ∷ []) u
+          ≡ then_do (if b then stored h.set v line (pos k) z u else Gives z u []) (λ x y. Gives (GoesTo (at + 1) []) y [])
+      by true = refl
+      by false = refl
 
   -- one value
   begins : (d : DeclaratorTree) (k : ℕ) (e : ExprTree) → values_depth (e ∷ []) ≤ room → (at : ℕ) (w : World) →

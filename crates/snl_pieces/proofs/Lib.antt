@@ -3,9 +3,10 @@ pub mod Joins
 pub mod WordCode
 pub mod DepthPositive
 pub mod ValueCode
-pub mod WordTicks
-pub mod ValueTicks
-pub mod EffectTicks
+pub mod WordKeeps
+pub mod ValueKeeps
+pub mod EffectKeeps
+pub mod Ticks
 pub mod Leading
 pub mod Loops
 pub mod Entering
@@ -23,3 +24,5 @@ pub mod EntryCode
 pub mod DecimalSmall
 pub mod LoopCode
 pub mod Apart
+pub mod Keeping
+pub mod Forgetting

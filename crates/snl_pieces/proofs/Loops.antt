@@ -12,10 +12,9 @@ use Rattle.snl_pieces.specs.Right.{HasAt}
 use Rattle.snl_pieces.specs.Run.{Setting, setting_of}
 use Rattle.snl_pieces.specs.Words.{spent}
 use Rattle.snl_pieces.specs.World.{World}
-use Rattle.snl_pieces.proofs.EffectTicks.{held-keeps, evaluated-keeps}
 use Rattle.snl_pieces.proofs.Following.{has_front, has_back, Continues, run_at, Follows, follows-step, follows-to, continues-here, continues-quiet, continues-then_if, quiet-none, quiet-jump}
 use Rattle.snl_pieces.proofs.Leading.{led, idle, left-for, tests, drops-maybe}
-use Rattle.snl_pieces.proofs.WordTicks.{HasFewer, Keeps, spent-falls}
+use Rattle.snl_pieces.proofs.Ticks.{HasFewer, Keeps, spent-falls, held-keeps, evaluated-keeps}
 
 -- a loop, from its condition on
 module _ (g : Setting) (code : List Instr) (line start onward again test after out away : ℕ) (condition : World → Ran Bool) (body : World → Ran Way) (step : World → Ran (Unit {0}))

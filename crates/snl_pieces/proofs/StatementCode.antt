@@ -12,12 +12,12 @@ use Rattle.snl_pieces.specs.Right.{HasAt}
 use Rattle.snl_pieces.specs.Run.{Setting, setting_of, step_of, from_there, exec}
 use Rattle.snl_pieces.specs.Value.{value_of, either}
 use Rattle.snl_pieces.specs.World.{World}
-use Rattle.snl_pieces.proofs.EffectTicks.{effect-keeps}
 use Rattle.snl_pieces.proofs.Entering.{enters}
 use Rattle.snl_pieces.proofs.Following.{has_front, has_back, Continues, run_at, continues-here, continues-then, quiet-jump, quiet-if_zero}
 use Rattle.snl_pieces.proofs.Leading.{led, renamed, continues-done, continues-either, goes_on_to, goes_on, drops, drops-maybe}
 use Rattle.snl_pieces.proofs.Loops.{loop-follows}
 use Rattle.snl_pieces.proofs.ValueCode.{value-follows}
+use Rattle.snl_pieces.proofs.Ticks.{effect-keeps}
 
 module _ (h : Here) (room : ℕ) (code : List Instr) where
   -- what the code runs with

@@ -5,9 +5,8 @@ use Rattle.snl_pieces.specs.Laws.{TurnsAreEnough}
 use Rattle.snl_pieces.specs.Ran.{Ran, Gives, Faults, also, then_do}
 use Rattle.snl_pieces.specs.Words.{spent}
 use Rattle.snl_pieces.specs.World.{World}
-use Rattle.snl_pieces.proofs.EffectTicks.{held-keeps, evaluated-keeps, effect-keeps}
 use Rattle.snl_pieces.proofs.Following.{Leaves}
-use Rattle.snl_pieces.proofs.WordTicks.{HasFewer, Keeps, spent-falls}
+use Rattle.snl_pieces.proofs.Ticks.{HasFewer, Keeps, spent-falls, held-keeps, evaluated-keeps, effect-keeps}
 
 -- what follows a step may differ where the step does not lead
 same-then : {A B : Type 0} (P : World → Type 0) (r : Ran A) (go go' : A → World → Ran B) → Leaves P r → ((v : A) (u : World) → P u → go v u ≡ go' v u) →

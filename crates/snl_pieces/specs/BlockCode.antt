@@ -1,5 +1,5 @@
 -- The code of statements and blocks, and how many operands it needs at once.
-use Rattle.std.specs.Prelude.{ℕ, suc, ◌+◌, List, [], ◌∷◌, ◌++◌, Option, None, Some, length, max}
+use Rattle.std.specs.Prelude.{ℕ, suc, ◌+◌, List, [], ◌∷◌, ◌++◌, Option, None, Some, length, max, nat_lt, if◌then◌else◌}
 use Rattle.snl_syntax.specs.Expressions.{ExprTree}
 use Rattle.snl_syntax.specs.Declarations.{DeclaratorTree}
 use Rattle.snl_syntax.specs.Statements.{StatementTree, StatementList, BlockTree, nested, empty, expression, break_loop, continue_loop, change_state, if_then, if_else, while_loop, for_loop, no_statements, statement, block}
@@ -60,10 +60,10 @@ abbrev pub all_cleared_code : Here → List DeclaratorTree → List Instr
 all_cleared_code h [] = []
 all_cleared_code h (d ∷ ds) = cleared_code (variable_for h d) ++ all_cleared_code h ds
 
--- The instruction that stores what an element begins with.
+-- The instruction that stores what an element begins with; where there is no such element, the number is dropped.
 abbrev pub begun_code : Option Variable → ℕ → ℕ → Instr
 begun_code None line k = Drop
-begun_code (Some v) line k = Begin v k line
+begun_code (Some v) line k = if nat_lt k v.size then Begin v k line else Drop
 
 -- The code of what a variable begins with, from an element on.
 abbrev pub begun_with_code : Here → Option Variable → (line k : ℕ) → List ExprTree → List Instr

@@ -1,5 +1,5 @@
 -- What a statement or a block does, for a state set in a world.
-use Rattle.std.specs.Prelude.{ℕ, zero, suc, ℤ, pos, Bool, true, false, List, [], ◌∷◌, Option, None, Some, if◌then◌else◌}
+use Rattle.std.specs.Prelude.{ℕ, zero, suc, ℤ, pos, Bool, true, false, List, [], ◌∷◌, Option, None, Some, if◌then◌else◌, nat_lt}
 use Rattle.std.specs.List.{flat_map}
 use Rattle.snl_syntax.specs.Expressions.{ExprTree}
 use Rattle.snl_syntax.specs.Declarations.{InitialiserTree, DeclaratorTree, DeclarationTree, single, listed}
@@ -94,10 +94,10 @@ abbrev pub all_cleared : Here → List DeclaratorTree → World → Ran (Unit {0
 all_cleared h [] w = Gives tt w []
 all_cleared h (d ∷ ds) w = then_do (cleared_maybe h.set (variable_for h d) w) (λ _ u. all_cleared h ds u)
 
--- An element begins with a number, where there is a variable.
+-- An element begins with a number, where there is such an element. The rules refuse more values than there are elements.
 abbrev pub begun : ℕ → Option Variable → ℕ → ℕ → ℤ → World → Ran ℤ
 begun set None line k z w = Gives z w []
-begun set (Some v) line k z w = stored set v line (pos k) z w
+begun set (Some v) line k z w = if nat_lt k v.size then stored set v line (pos k) z w else Gives z w []
 
 -- and then what it is declared to begin with: each value is stored, from an element on, before the next is computed.
 abbrev pub begun_with : Here → DeclaratorTree → ℕ → List ExprTree → World → Ran (Unit {0})

@@ -15,3 +15,4 @@ pub mod Examples
 pub mod Known
 pub mod Stack
 pub mod Laws
+pub mod Keeping

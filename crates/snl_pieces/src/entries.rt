@@ -15,17 +15,17 @@ use crate::rows::put;
 use snl_syntax::{Declaration, Declarator, Expr, Initialiser};
 use std::alloc::AllocError;
 
-/// The instruction that stores what an element begins with.
+/// The instruction that stores what an element begins with; where there is no such element, the number is dropped.
 fn begin(variable: Option<Variable>, line: usize, element: usize) -> Instr
     ensures { result ≡ spec.begun_code variable line element }
 {
     match variable {
-        Some(variable) => Instr::Begin {
+        Some(variable) if element < variable.size => Instr::Begin {
             variable,
             element,
             line,
         },
-        None => Instr::Drop,
+        _ => Instr::Drop,
     }
 }
 

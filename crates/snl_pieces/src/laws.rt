@@ -1,7 +1,8 @@
 //! Laws of the flat code. Each is a function without code, whose contract is the law.
 
+ghost use Rattle.snl_pieces.specs.Keeping.{PiecesGiveNoTicks, PiecesKeepThePhase, PiecesKeepTime};
 ghost use Rattle.snl_pieces.specs.Examples.{ExpressionExamples, StatementExamples};
-ghost use Rattle.snl_pieces.specs.Laws.{TextsAreFound, TurnsAreEnough, VariablesAreApart, VariablesLieWithin};
+ghost use Rattle.snl_pieces.specs.Laws.{BlocksForget, TextsAreFound, TurnsAreEnough, VariablesAreApart, VariablesLieWithin};
 ghost use Rattle.snl_pieces.specs.Right.{BlocksAreRight, ConditionsAreRight, DepthIsWithinTokens, OnlyTicksLeadBack};
 
 /// The code of a condition is right for it, wherever it stands.
@@ -54,4 +55,29 @@ pub fn variables_lie_within()
 #[tactic(auto, using(crate::proofs::Apart::variables_are_apart))]
 pub fn variables_are_apart()
     ensures { VariablesAreApart }
+{}
+
+/// Time stands still while a condition or a block is at work, also where it comes to a fault.
+#[tactic(auto, using(crate::proofs::Keeping::pieces_keep_time))]
+pub fn pieces_keep_time()
+    ensures { PiecesKeepTime }
+{}
+
+/// No condition and no block changes how far the program has come.
+#[tactic(auto, using(crate::proofs::Keeping::pieces_keep_the_phase))]
+pub fn pieces_keep_the_phase()
+    ensures { PiecesKeepThePhase }
+{}
+
+/// No condition and no block gives ticks back.
+#[tactic(auto, using(crate::proofs::Keeping::pieces_give_no_ticks))]
+pub fn pieces_give_no_ticks()
+    ensures { PiecesGiveNoTicks }
+{}
+
+/// A block forgets what its variables were before it is entered: with another number in an element of one of them, it
+/// does the same.
+#[tactic(auto, using(crate::proofs::Forgetting::blocks_forget))]
+pub fn blocks_forget()
+    ensures { BlocksForget }
 {}

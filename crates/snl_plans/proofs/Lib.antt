@@ -1,6 +1,7 @@
 pub mod Rows
 pub mod Names
 pub mod Ends
+pub mod Listed
 pub mod Pieces
 pub mod Clauses
 pub mod Sets

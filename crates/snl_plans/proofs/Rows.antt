@@ -1,30 +1,26 @@
--- The variables of copies, state set by state set.
-use Rattle.std.proofs.Common.{◌≡◌, ◌∙◌, ◌+◌, ◌<◌, ℕ, zero, suc, List, [], ◌∷◌, ◌++◌, refl, ap, sym, arith, append_assoc, drop, length, Vec}
-use Rattle.std.proofs.Common.{Global}
+-- Rows that have one member for each state set.
+use Rattle.std.proofs.Common.{◌≡◌, ◌∙◌, ◌+◌, ◌<◌, ℕ, zero, suc, List, [], ◌∷◌, ◌++◌, refl, ap, sym, arith, append_assoc, drop, length, map}
 use Rattle.std.proofs.lemmas.List.{map-append}
-use Rattle.snl_syntax.specs.Programs.{StateSetTree, ProgramTree}
-use Rattle.snl_pieces.specs.declared.names.Placed.{Placed}
-use Rattle.snl_plans.specs.Places.{placed_in, placed_sets}
-use Rattle.snl_plans.specs.Sets.{copies_of}
+use Rattle.snl_syntax.specs.Programs.{StateSetTree}
+use Rattle.snl_plans.specs.Places.{for_each_set}
 
--- what is left begins with the variables of this state set
-placed-drop : (p : ProgramTree) (k : ℕ) (gs : List StateSetTree) (i : ℕ) → i < length gs →
-    placed_sets p k (drop i gs) ≡ placed_in p k ∷ placed_sets p (k + 1) (drop (suc i) gs)
-placed-drop p k [] i within = absurd (omega (arith, within))
-placed-drop p k (g ∷ gs) zero within = refl
-placed-drop p k (g ∷ gs) (suc i) within = placed-drop p k gs i (omega (arith, within))
+module _ {A B : Type 0} (view : B → A) (f : ℕ → A) where
+  -- what is left begins with the member of this state set
+  row-drop : (k : ℕ) (gs : List StateSetTree) (i : ℕ) → i < length gs → for_each_set f k (drop i gs) ≡ f k ∷ for_each_set f (k + 1) (drop (suc i) gs)
+  row-drop k [] i within = absurd (omega (arith, within))
+  row-drop k (g ∷ gs) zero within = refl
+  row-drop k (g ∷ gs) (suc i) within = row-drop k gs i (omega (arith, within))
 
--- one copy more is there
-pub placed-more : (p : ProgramTree) (gs : List StateSetTree) (i : ℕ) (copies more : List (Vec Placed Global)) (new : Vec Placed Global) (all : List (List Placed)) →
-    i < length gs → more ≡ copies ++ new ∷ [] → new.items ≡ placed_in p i → copies_of copies ++ placed_sets p i (drop i gs) ≡ all →
-    copies_of more ++ placed_sets p (i + 1) (drop (i + 1) gs) ≡ all
-placed-more p gs i copies more new all within is placed before =
-    let one_more : i + 1 ≡ suc i = omega arith in
-    let rest = placed_sets p (i + 1) (drop (i + 1) gs) in
-    ap (λ (l : List (Vec Placed Global)). copies_of l ++ rest) is
-    ∙ ap (λ (l : List (List Placed)). l ++ rest) (map-append (λ (c : Vec Placed Global). c.items) copies (new ∷ []))
-    ∙ append_assoc (copies_of copies) (new.items ∷ []) rest
-    ∙ ap (λ (c : List Placed). copies_of copies ++ c ∷ rest) placed
-    ∙ ap (λ (n : ℕ). copies_of copies ++ placed_in p i ∷ placed_sets p (i + 1) (drop n gs)) one_more
-    ∙ sym (ap (λ (l : List (List Placed)). copies_of copies ++ l) (placed-drop p i gs i within))
-    ∙ before
+  -- one member more is there
+  pub row-more : (gs : List StateSetTree) (i : ℕ) (rows more : List B) (new : B) (all : List A) → i < length gs → more ≡ rows ++ new ∷ [] → view new ≡ f i →
+      map view rows ++ for_each_set f i (drop i gs) ≡ all → map view more ++ for_each_set f (i + 1) (drop (i + 1) gs) ≡ all
+  row-more gs i rows more new all within is this before =
+      let one_more : i + 1 ≡ suc i = omega arith in
+      let rest = for_each_set f (i + 1) (drop (i + 1) gs) in
+      ap (λ (l : List B). map view l ++ rest) is
+      ∙ ap (λ (l : List A). l ++ rest) (map-append view rows (new ∷ []))
+      ∙ append_assoc (map view rows) (view new ∷ []) rest
+      ∙ ap (λ (c : A). map view rows ++ c ∷ rest) this
+      ∙ ap (λ (n : ℕ). map view rows ++ f i ∷ for_each_set f (i + 1) (drop n gs)) one_more
+      ∙ sym (ap (λ (l : List A). map view rows ++ l) (row-drop i gs i within))
+      ∙ before

@@ -3,6 +3,7 @@ pub mod Meaning
 pub mod Places
 pub mod Sets
 pub mod Plans
+pub mod Initials
 pub mod First
 pub mod Right
 pub mod Examples

@@ -9,8 +9,10 @@ use Rattle.snl_pieces.specs.Names.{Here, or_first}
 use Rattle.snl_sites.specs.Numbered.{number_of}
 use Rattle.snl_pieces.specs.Ran.{Ran, Gives, then_do}
 use Rattle.snl_pieces.specs.World.{World}
+use Rattle.snl_turns.specs.declared.plans.Target.{Target}
+use Rattle.snl_turns.specs.declared.plans.Target.TheVariants.{State, Exit}
 use Rattle.snl_turns.specs.Instant.{Program}
-use Rattle.snl_turns.specs.Turn.{Clause, State, StateSet}
+use Rattle.snl_turns.specs.Turn as turn
 use Rattle.snl_plans.specs.Places.{feeds_in, link_plans}
 
 -- The state that a block leaves for, if it does.
@@ -18,13 +20,13 @@ abbrev pub left_for : Way → World → Ran (Option ℕ)
 left_for (Left state) w = Gives (Some state) w []
 left_for _ w = Gives None w []
 
--- The number of the state that a clause leads to, by the names of the states. An exit does not run yet, and counts as the first state.
-abbrev pub target_of : List Token → TargetTree → ℕ
-target_of states (to_state x) = or_first (number_of states x.text.now)
-target_of states to_exit = 0
+-- Where a clause leads, by the names of the states.
+abbrev pub target_of : List Token → TargetTree → Target
+target_of states (to_state x) = State (or_first (number_of states x.text.now))
+target_of states to_exit = Exit
 
--- A clause: its condition, its block, its state, the line of its word.
-abbrev pub clause_meaning : Here → ClauseTree → Clause
+-- A clause: its condition, its block, where it leads, the line of its word.
+abbrev pub clause_meaning : Here → ClauseTree → turn.Clause
 clause_meaning h c = record {
   holds = held_by h c.condition;
   acts = λ w. then_do (block_effect h c.block w) left_for;
@@ -33,15 +35,15 @@ clause_meaning h c = record {
 }
 
 -- A state.
-abbrev pub state_meaning : Here → StateTree → State
+abbrev pub state_meaning : Here → StateTree → turn.State
 state_meaning h s = record { name = s.name.text.now; clauses = map (clause_meaning h) s.clauses }
 
 -- A state set of this number.
-abbrev pub set_meaning : ProgramTree → List Link → ℕ → StateSetTree → StateSet
+abbrev pub set_meaning : ProgramTree → List Link → ℕ → StateSetTree → turn.StateSet
 set_meaning p ls k g = record { set = k; name = g.name.text.now; states = map (state_meaning (here_in p k)) g.states; feeds = feeds_in p ls k }
 
 -- State sets with numbers from k on.
-abbrev pub set_meanings : ProgramTree → List Link → ℕ → List StateSetTree → List StateSet
+abbrev pub set_meanings : ProgramTree → List Link → ℕ → List StateSetTree → List turn.StateSet
 set_meanings p ls k [] = []
 set_meanings p ls k (g ∷ gs) = set_meaning p ls k g ∷ set_meanings p ls (k + 1) gs
 

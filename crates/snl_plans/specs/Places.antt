@@ -32,10 +32,14 @@ place_after at n = min (at + n) (2 ^ 64 - 1)
 abbrev pub placed_in : ProgramTree → ℕ → List Placed
 placed_in p k = placed_from 0 (variables_of p k)
 
+-- What there is for each state set, by numbers from k on.
+abbrev pub for_each_set : {A : Type 0} → (ℕ → A) → ℕ → List StateSetTree → List A
+for_each_set f k [] = []
+for_each_set f k (g ∷ gs) = f k ∷ for_each_set f (k + 1) gs
+
 -- Those of state sets with numbers from k on.
 abbrev pub placed_sets : ProgramTree → ℕ → List StateSetTree → List (List Placed)
-placed_sets p k [] = []
-placed_sets p k (g ∷ gs) = placed_in p k ∷ placed_sets p (k + 1) gs
+placed_sets p = for_each_set (placed_in p)
 
 -- ---- feeds
 

@@ -1,64 +1,38 @@
 //! The store of a program before the first event.
 
-ghost use Rattle.std.specs.Prelude.{◌≡◌, map, pos, false, length, replicate, IfOk};
+ghost use Rattle.std.specs.Prelude.{◌≡◌, map, false, length, replicate, IfOk};
 ghost use Rattle.snl_syntax.specs.view.Programs.{program_view};
 ghost use Rattle.snl_links.specs.LinkViews.{link_view};
 ghost use Rattle.snl_store.specs.Views.{copy_view, world_of};
 ghost use Rattle.snl_plans.specs.First as spec;
-ghost use Rattle.snl_plans.specs.Places.{channels, link_plans, placed_sets};
-ghost use Rattle.snl_plans.specs.Sets.{copies_of, names_in};
+ghost use Rattle.snl_plans.specs.Initials.{held_sets};
+ghost use Rattle.snl_plans.specs.Sets.{names_in, sets_of};
 
+use crate::initials::{self, first_buffers, first_words};
 use indexmap::IndexSet;
 use snl_links::Link;
-use snl_pieces::{Live, Placed};
+use snl_pieces::Live;
+use snl_sites::Held;
 use snl_store::{Copy, Store};
+use snl_syntax::Program;
 use snl_turns::LinkPlan;
 use std::alloc::{AllocError, Global};
 
-/// How many words the variables of a copy have.
-fn words_of(places: &[Placed]) -> usize
-    ensures { result ≡ spec.end_of 0 places.now }
-{
-    let mut words = 0usize;
-    for placed in places {
-        words = words.saturating_add(placed.variable.size);
-    }
-    words
-}
-
-/// A copy whose variables are 0, in the first state.
-fn copy_of(alloc: Global, places: &[Placed]) -> Result<Copy, AllocError>
-    ensures { IfOk result (λ copy. copy_view copy ≡ spec.first_copy places.now) }
-{
-    Ok(Copy {
-        words: vec![in alloc; 0i64; words_of(places)]?,
-        state: 0,
-        entered: 0,
-    })
-}
-
 /// The copies of all state sets.
-fn first_copies(alloc: Global, copies: &[Vec<Placed>]) -> Result<Vec<Copy>, AllocError>
+fn first_copies(alloc: Global, sets: &[Vec<Held>]) -> Result<Vec<Copy>, AllocError>
     ensures { IfOk result (λ made. map copy_view made.items
-        ≡ map spec.first_copy (copies_of copies.now)) }
+        ≡ map spec.first_copy (sets_of sets.now)) }
 {
     let mut made = Vec::new(alloc);
-    for places in copies {
-        let copy = copy_of(alloc, places.as_slice())?;
-        made.push(copy)?;
+    for variables in sets {
+        let words = first_words(alloc, variables.as_slice())?;
+        made.push(Copy {
+            words,
+            state: 0,
+            entered: 0,
+        })?;
     }
     Ok(made)
-}
-
-/// How many words the buffers of links have.
-fn buffers_end(links: &[Link]) -> usize
-    ensures { result ≡ spec.buffers_end 0 (map link_view links.now) }
-{
-    let mut words = 0usize;
-    for link in links {
-        words = words.saturating_add(link.count);
-    }
-    words
 }
 
 /// The names of channels, by their numbers.
@@ -85,16 +59,12 @@ fn ties_of(alloc: Global, links: &[LinkPlan]) -> Result<Vec<Option<usize>>, Allo
 }
 
 /// No link is marked for any state set.
-fn marks_of(
-    alloc: Global,
-    copies: &[Vec<Placed>],
-    links: usize,
-) -> Result<Vec<Vec<bool>>, AllocError>
+fn marks_of(alloc: Global, sets: &[Vec<Held>], links: usize) -> Result<Vec<Vec<bool>>, AllocError>
     ensures { IfOk result (λ marks. map (λ of_set. of_set.items) marks.items
-        ≡ map (λ places. replicate links false) (copies_of copies.now)) }
+        ≡ map (λ vs. replicate links false) (sets_of sets.now)) }
 {
     let mut marks = Vec::new(alloc);
-    for _places in copies {
+    for _variables in sets {
         let of_set = vec![in alloc; false; links]?;
         marks.push(of_set)?;
     }
@@ -103,14 +73,14 @@ fn marks_of(
 
 /// The store of a program that waits for its start, by its links with their plans, the names of its channels and the
 /// variables of its copies. The only error is that memory ends.
-pub fn store_of(
+fn store_by(
     alloc: Global,
+    sets: &[Vec<Held>],
     links: &[Link],
     plans: &[LinkPlan],
     names: &IndexSet<Vec<u8>>,
-    copies: &[Vec<Placed>],
 ) -> Result<Store, AllocError>
-    ensures { IfOk result (λ store. world_of store ≡ spec.first_world (copies_of copies.now)
+    ensures { IfOk result (λ store. world_of store ≡ spec.first_world (sets_of sets.now)
         (names_in names.now) (map (λ l. l.channel) plans.now) (map link_view links.now)) }
 {
     Ok(Store {
@@ -119,12 +89,30 @@ pub fn store_of(
         ticks: 0,
         wake: None,
         due: None,
-        copies: first_copies(alloc, copies)?,
+        copies: first_copies(alloc, sets)?,
         channels: names_of(alloc, names)?,
         ups: vec![in alloc; false; names.len()]?,
         valued: vec![in alloc; false; names.len()]?,
         ties: ties_of(alloc, plans)?,
-        buffers: vec![in alloc; 0i64; buffers_end(links)]?,
-        marks: marks_of(alloc, copies, links.len())?,
+        buffers: first_buffers(alloc, sets, links)?,
+        marks: marks_of(alloc, sets, links.len())?,
     })
+}
+
+/// The store of a program that waits for its start, by its links with their plans and the names of its channels. The
+/// only error is that memory ends.
+pub fn store_of<'a>(
+    alloc: Global,
+    program: &Program<'a>,
+    links: &[Link],
+    plans: &[LinkPlan],
+    names: &IndexSet<Vec<u8>>,
+) -> Result<Store, AllocError>
+    ensures { IfOk result (λ store. world_of store
+        ≡ spec.first_world (held_sets (program_view program.now) 0
+        (program_view program.now).state_sets) (names_in names.now) (map (λ l. l.channel) plans.now)
+        (map link_view links.now)) }
+{
+    let sets = initials::held_sets(alloc, program)?;
+    store_by(alloc, sets.as_slice(), links, plans, names)
 }

@@ -3,6 +3,7 @@
 
 mod channels;
 mod first;
+mod initials;
 pub mod laws;
 mod links;
 mod plans;

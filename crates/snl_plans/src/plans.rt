@@ -17,18 +17,18 @@ use indexmap::IndexSet;
 use snl_code::{Code, Piece, names_in, placed_of};
 use snl_links::Link;
 use snl_pieces::{Placed, number_in};
-use snl_syntax::{Clause, Program, State, StateSet, Target};
+use snl_syntax::{self as syntax, Clause, Program, State, StateSet};
 use snl_text::Token;
-use snl_turns::{ClausePlan, Plan, SetPlan, StatePlan};
+use snl_turns::{ClausePlan, Plan, SetPlan, StatePlan, Target};
 use std::alloc::{AllocError, Global};
 
-/// The number of the state that a clause leads to, by the names of the states. An exit counts as the first state.
-fn target_of(target: Target, states: &[Token]) -> usize
+/// Where a clause leads, by the names of the states.
+fn target_of(target: syntax::Target, states: &[Token]) -> Target
     ensures { result ≡ meaning.target_of states.now (view.target_view target.entry) }
 {
     match target {
-        Target::State(name) => number_in(states, name.text).unwrap_or(0),
-        Target::Exit => 0,
+        syntax::Target::State(name) => Target::State(number_in(states, name.text).unwrap_or(0)),
+        syntax::Target::Exit => Target::Exit,
     }
 }
 

@@ -1,12 +1,14 @@
 -- What happens at one time: the start, where it is due, and rounds until one has no transition.
 use Rattle.std.specs.Prelude.{ℕ, zero, suc, Bool, true, false, not, ◌&&◌, ◌||◌, List, [], ◌∷◌, Option, None, Some, slice_index_or, if◌then◌else◌}
 use Rattle.std.specs.List.{list_all}
-use Rattle.snl_lines.specs.Lines.{start_line}
+use Rattle.snl_lines.specs.Lines.{start_line, exit_line}
 use Rattle.snl_pieces.specs.declared.live.Live.{Live}
 use Rattle.snl_pieces.specs.declared.live.Live.TheVariants.{Waiting, Running, Ended}
 use Rattle.snl_pieces.specs.Ran.{Ran, Gives, then_do}
 use Rattle.snl_pieces.specs.World.{World}
 use Rattle.snl_turns.specs.declared.plans.LinkPlan.{LinkPlan}
+use Rattle.snl_turns.specs.declared.turns.Turned.{Turned}
+use Rattle.snl_turns.specs.declared.turns.Turned.TheVariants.{Stayed, Moved, Exited}
 use Rattle.snl_turns.specs.Refresh.{refreshed}
 use Rattle.snl_turns.specs.Turn.{StateSet, entered_in, turn_of}
 
@@ -18,28 +20,44 @@ pub record Program : Type 0 where
 
 -- ---- rounds
 
--- What follows a turn in a round: the others, and whether one of all had a transition.
-abbrev pub or_moved : Bool → (Bool → World → Ran Bool) → Bool → World → Ran Bool
-or_moved moved others had w = others (had || moved) w
+-- What is known of a round after one more turn.
+abbrev pub later : Turned → Turned → Turned
+later before Stayed = before
+later before turned = turned
+
+-- It led out of the program.
+abbrev pub is_exit : Turned → Bool
+is_exit Exited = true
+is_exit _ = false
+
+-- What follows a turn in a round: the others. After a transition that leads out of the program no other state set has
+-- its turn.
+abbrev pub unless_exited : (Turned → World → Ran Turned) → Turned → World → Ran Turned
+unless_exited others turned w = if is_exit turned then Gives turned w [] else others turned w
 
 -- One turn of each state set; whether one had a transition, or there was one before.
-abbrev pub round_from : List StateSet → Bool → World → Ran Bool
-round_from [] moved w = Gives moved w []
-round_from (s ∷ ss) moved w = then_do (turn_of s w) (or_moved moved (round_from ss))
+abbrev pub round_from : List StateSet → Turned → World → Ran Turned
+round_from [] before w = Gives before w []
+round_from (s ∷ ss) before w = then_do (turn_of s w) (λ turned. unless_exited (round_from ss) (later before turned))
 
 -- A round, in which no due time is noted at first.
-abbrev pub round_of : Program → World → Ran Bool
-round_of p w = round_from p.sets false (record w { due = None })
+abbrev pub round_of : Program → World → Ran Turned
+round_of p w = round_from p.sets Stayed (record w { due = None })
+
+-- The end of a program by a transition that leads out of it: its line.
+abbrev pub exited : List ℕ → World → Ran (Unit {0})
+exited name w = Gives tt (record w { phase = Ended }) (exit_line w.time name)
 
 -- What follows a round: others, if it had a transition. The wake is the least due time of the last one.
-abbrev pub unless_still : (World → Ran (Unit {0})) → Bool → World → Ran (Unit {0})
-unless_still others true w = others w
-unless_still others false w = Gives tt (record w { wake = w.due }) []
+abbrev pub unless_still : List ℕ → (World → Ran (Unit {0})) → Turned → World → Ran (Unit {0})
+unless_still name others Stayed w = Gives tt (record w { wake = w.due }) []
+unless_still name others Moved w = others w
+unless_still name others Exited w = exited name w
 
 -- At most so many rounds, until one has no transition.
 abbrev pub rounds_of : Program → ℕ → World → Ran (Unit {0})
 rounds_of p zero w = Gives tt w []
-rounds_of p (suc n) w = then_do (round_of p w) (unless_still (rounds_of p n))
+rounds_of p (suc n) w = then_do (round_of p w) (unless_still p.name (rounds_of p n))
 
 -- Each transition spends a tick, so there is at most one round more than ticks are left.
 abbrev pub all_rounds : Program → World → Ran (Unit {0})

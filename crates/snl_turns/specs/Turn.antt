@@ -1,21 +1,24 @@
 -- A turn of a state set: refresh, conditions, and at most one transition.
-use Rattle.std.specs.Prelude.{ℕ, Bool, true, false, List, [], ◌∷◌, ◌++◌, Option, None, Some, slice_get, slice_index_or}
-use Rattle.std.specs.Option.{unwrap_or}
+use Rattle.std.specs.Prelude.{ℕ, Bool, true, false, List, [], ◌∷◌, ◌++◌, Option, None, Some, slice_get, slice_index_or, codes}
 use Rattle.snl_lines.specs.Lines.{go_line, fault_line, fault_text}
 use Rattle.snl_pieces.specs.Ran.{Ran, Gives, Faults, then_do}
 use Rattle.snl_pieces.specs.Words.{spent}
 use Rattle.snl_pieces.specs.World.{World, copy_of, with_copy}
 use Rattle.snl_turns.specs.declared.feeds.Feed.{Feed}
+use Rattle.snl_turns.specs.declared.plans.Target.{Target}
+use Rattle.snl_turns.specs.declared.plans.Target.TheVariants as to
+use Rattle.snl_turns.specs.declared.turns.Turned.{Turned}
+use Rattle.snl_turns.specs.declared.turns.Turned.TheVariants.{Stayed, Moved, Exited}
 use Rattle.snl_turns.specs.Refresh.{refreshed}
 
 -- ---- what a state set is to its turns
 
--- A clause: whether its condition holds, what its block does (it answers the state that it leaves for, if it does), the
--- number of the state that the clause leads to, and the line of the word `when`.
+-- A clause: whether its condition holds, what its block does (it answers the state that it leaves for, if it does), where
+-- the clause leads, and the line of the word `when`.
 pub record Clause : Type 0 where
   pub holds : World → Ran Bool
   pub acts : World → Ran (Option ℕ)
-  pub target : ℕ
+  pub target : Target
   pub line : ℕ
 
 -- A state.
@@ -58,32 +61,39 @@ chosen (c ∷ cs) w = then_do (c.holds w) (chosen_if c (chosen cs))
 abbrev pub entered_in : ℕ → ℕ → World → World
 entered_in set state w = with_copy set (record (copy_of set w) { state = state; entered = w.time }) w
 
--- The line of a transition, and the new state.
-abbrev pub arrived : StateSet → List ℕ → ℕ → World → Ran (Unit {0})
-arrived s from target w = Gives tt (entered_in s.set target w) (go_line w.time s.name from (state_name s target))
+-- The line of a transition, and the new state. One that leads out of the program is told as leading to `exit`, and
+-- enters no state.
+abbrev pub arrived : StateSet → List ℕ → Target → World → Ran Turned
+arrived s from (to.State target) w = Gives Moved (entered_in s.set target w) (go_line w.time s.name from (state_name s target))
+arrived s from to.Exit w = Gives Exited w (go_line w.time s.name from (codes "exit"))
 
--- What follows the block of a clause: the state that the block left for, or else that of the clause.
-abbrev pub arrived_by : StateSet → List ℕ → ℕ → Option ℕ → World → Ran (Unit {0})
-arrived_by s from target left w = arrived s from (unwrap_or left target) w
+-- The state that a block left for; where it left for none, what the clause says.
+abbrev pub target_by : Option ℕ → Target → Target
+target_by None target = target
+target_by (Some state) target = to.State state
 
--- A clause's block, and then its state.
-abbrev pub acted : StateSet → List ℕ → Clause → World → Ran (Unit {0})
+-- What follows the block of a clause.
+abbrev pub arrived_by : StateSet → List ℕ → Target → Option ℕ → World → Ran Turned
+arrived_by s from target left w = arrived s from (target_by left target) w
+
+-- A clause's block, and then where it leads.
+abbrev pub acted : StateSet → List ℕ → Clause → World → Ran Turned
 acted s from c w = then_do (c.acts w) (arrived_by s from c.target)
 
 -- A transition: a tick, charged to the word `when`; the block; the line; the new state.
-abbrev pub transition : StateSet → List ℕ → Clause → World → Ran (Unit {0})
+abbrev pub transition : StateSet → List ℕ → Clause → World → Ran Turned
 transition s from c w = then_do (spent c.line w) (λ _ u. acted s from c u)
 
 -- ---- a turn
 
--- The transition of the clause that was chosen, if one was; whether there was one.
-abbrev pub fired : StateSet → List ℕ → Option Clause → World → Ran Bool
-fired s from None w = Gives false w []
-fired s from (Some c) w = then_do (transition s from c w) (λ _ u. Gives true u [])
+-- The transition of the clause that was chosen, if one was.
+abbrev pub fired : StateSet → List ℕ → Option Clause → World → Ran Turned
+fired s from None w = Gives Stayed w []
+fired s from (Some c) w = transition s from c w
 
 -- The conditions of a state, and the transition.
-abbrev pub tried : StateSet → Option State → World → Ran Bool
-tried s None w = Gives false w []
+abbrev pub tried : StateSet → Option State → World → Ran Turned
+tried s None w = Gives Stayed w []
 tried s (Some q) w = then_do (chosen q.clauses w) (fired s q.name)
 
 -- A fault is told in a line of its own.
@@ -92,9 +102,9 @@ told_fault set (Gives v w text) = Gives v w text
 told_fault set (Faults f line w text) = Faults f line w (text ++ fault_line w.time set line (fault_text f))
 
 -- A turn after the refresh.
-abbrev pub turn_after : StateSet → World → Ran Bool
+abbrev pub turn_after : StateSet → World → Ran Turned
 turn_after s w = told_fault s.name (tried s (slice_get s.states (copy_of s.set w).state) w)
 
--- A turn; whether it had a transition.
-abbrev pub turn_of : StateSet → World → Ran Bool
+-- A turn; which transition it had.
+abbrev pub turn_of : StateSet → World → Ran Turned
 turn_of s w = turn_after s (refreshed s.set s.feeds w)

@@ -10,29 +10,49 @@ ghost use Rattle.snl_turns.specs.Wholes.{CanRunLoaded, loaded, program_of};
 
 use crate::plans::{Stage, Whole};
 use crate::starting::{are_ready, start};
-use crate::turns::turn;
-use snl_lines::{Sink, Stop};
+use crate::turns::{Turned, turn};
+use snl_lines::{Sink, Stop, write_exit};
 use snl_pieces::{Live, Operands};
 use snl_store::{Setting, Store};
 
-/// A turn of each state set; answers whether one had a transition.
+/// What is known of a round after one more turn.
+fn later(before: Turned, turned: Turned) -> Turned
+    ensures { result ≡ spec.later before turned }
+{
+    match turned {
+        Turned::Stayed => before,
+        Turned::Moved | Turned::Exited => turned,
+    }
+}
+
+/// Whether a turn led out of the program.
+fn is_exit(turned: Turned) -> bool
+    ensures { result ≡ spec.is_exit turned }
+{
+    match turned {
+        Turned::Exited => true,
+        Turned::Stayed | Turned::Moved => false,
+    }
+}
+
+/// A turn of each state set, up to one that leads out of the program; answers whether one had a transition.
 fn round<S: Sink>(
     whole: Whole,
     store: &mut Store,
     operands: &mut Operands,
     sink: &mut S,
-) -> Result<bool, Stop>
+) -> Result<Turned, Stop>
     requires failures { S.failures sink.old < 2 ^ 64 - 1 }
     requires room { room_of operands.old ≡ whole.room }
     requires runs { CanRunLoaded (loaded whole) }
-    ensures does { Does (λ b. b) result (world_of store.new) (S.told sink.old) (S.told sink.new)
+    ensures does { Does (λ t. t) result (world_of store.new) (S.told sink.old) (S.told sink.new)
         (spec.round_of (program_of (loaded whole.entry)) (world_of store.old)) }
     ensures room { room_of operands.new ≡ room_of operands.old }
     ensures failures { S.failures sink.new
         ≡ counted (stopped_by_sink result) (S.failures sink.old) }
 {
     store.due = None;
-    let mut moved = false;
+    let mut before = Turned::Stayed;
     for (set, plan) in whole.plan.sets.iter().enumerate() {
         let setting = Setting {
             set,
@@ -46,15 +66,35 @@ fn round<S: Sink>(
             room: whole.room,
         };
         match turn(stage, store, operands, sink) {
-            Ok(had) => moved = had || moved,
+            Ok(turned) => before = later(before, turned),
             Err(stop) => return Err(stop),
         }
+        if is_exit(before) {
+            return Ok(before);
+        }
     }
-    Ok(moved)
+    Ok(before)
 }
 
-/// Rounds until one has no transition. Each transition spends a tick, so there are no more rounds than ticks are left,
-/// and one.
+/// The end of a program by a transition that leads out of it: its line.
+fn exit<S: Sink>(name: &[u8], store: &mut Store, sink: &mut S) -> Result<(), Stop>
+    requires failures { S.failures sink.old < 2 ^ 64 - 1 }
+    ensures does { Does (λ x. x) result (world_of store.new) (S.told sink.old) (S.told sink.new)
+        (spec.exited name.now (world_of store.old)) }
+    ensures failures { S.failures sink.new
+        ≡ counted (stopped_by_sink result) (S.failures sink.old) }
+{
+    match write_exit(sink, store.time, name) {
+        Ok(()) => {
+            store.phase = Live::Ended;
+            Ok(())
+        }
+        Err(_) => Err(Stop::Sink),
+    }
+}
+
+/// Rounds until one has no transition, or leads out of the program. Each transition spends a tick, so there are no more
+/// rounds than ticks are left, and one.
 pub fn rounds<S: Sink>(
     whole: Whole,
     store: &mut Store,
@@ -72,11 +112,12 @@ pub fn rounds<S: Sink>(
 {
     for _round in 0..u64::from(store.ticks) + 1 {
         match round(whole, store, operands, sink) {
-            Ok(true) => {}
-            Ok(false) => {
+            Ok(Turned::Moved) => {}
+            Ok(Turned::Stayed) => {
                 store.wake = store.due;
                 return Ok(());
             }
+            Ok(Turned::Exited) => return exit(whole.plan.name.as_slice(), store, sink),
             Err(stop) => return Err(stop),
         }
     }

@@ -4,6 +4,15 @@ use crate::feeds::Feed;
 use snl_pieces::Instr;
 use snl_store::Setting;
 
+/// Where a clause leads (SNL Reference, "State Transitions").
+#[derive(Clone, Copy)]
+pub enum Target {
+    /// To the state of this number.
+    State(usize),
+    /// Out of the program, which ends then.
+    Exit,
+}
+
 /// A clause.
 #[derive(Clone, Copy)]
 pub struct ClausePlan {
@@ -11,8 +20,8 @@ pub struct ClausePlan {
     pub condition: Option<usize>,
     /// Where the code of its block begins.
     pub block: usize,
-    /// The number of the state that it leads to.
-    pub target: usize,
+    /// Where it leads.
+    pub target: Target,
     /// The line of the word `when`, from 1.
     pub line: usize,
 }

@@ -10,10 +10,21 @@ ghost use Rattle.snl_turns.specs.Plans.{CanTest, CanFire, CanRun, CanRunAll, Can
 ghost use Rattle.snl_turns.specs.Turn as spec;
 
 use crate::feeds::refresh;
-use crate::plans::{ClausePlan, Stage, StatePlan};
+use crate::plans::{ClausePlan, Stage, StatePlan, Target};
 use snl_lines::{Sink, Stop, fault_text, write_fault, write_go};
 use snl_pieces::Operands;
 use snl_store::{Store, evaluate, perform, spend};
+
+/// How a turn, or a round of turns, came to its end.
+#[derive(Clone, Copy)]
+pub enum Turned {
+    /// Without a transition.
+    Stayed,
+    /// With a transition to a state.
+    Moved,
+    /// With one that leads out of the program: no other turn follows.
+    Exited,
+}
 
 /// Whether a condition holds. A missing one does.
 fn holds<S: Sink>(
@@ -92,36 +103,49 @@ fn state_name(stage: Stage<'_>, state: usize) -> &[u8]
     }
 }
 
-/// Writes the line of a transition, and takes the new state.
+/// Writes the line of a transition, and takes the new state. One that leads out of the program takes none.
 fn arrive<S: Sink>(
-    target: usize,
+    target: Target,
     from: &[u8],
     stage: Stage,
     store: &mut Store,
     sink: &mut S,
-) -> Result<(), Stop>
+) -> Result<Turned, Stop>
     requires failures { S.failures sink.old < 2 ^ 64 - 1 }
-    ensures does { Does (λ x. x) result (world_of store.new) (S.told sink.old) (S.told sink.new)
+    ensures does { Does (λ t. t) result (world_of store.new) (S.told sink.old) (S.told sink.new)
         (spec.arrived (set_on stage.entry) from.now target (world_of store.old)) }
     ensures failures { S.failures sink.new
         ≡ counted (stopped_by_sink result) (S.failures sink.old) }
 {
-    match write_go(
-        sink,
-        store.time,
-        stage.setting.name,
-        from,
-        state_name(stage, target),
-    ) {
-        Ok(()) => {
-            enter(store, stage.setting.set, target);
-            Ok(())
+    let set = stage.setting.name;
+    match target {
+        Target::State(state) => {
+            match write_go(sink, store.time, set, from, state_name(stage, state)) {
+                Ok(()) => {
+                    enter(store, stage.setting.set, state);
+                    Ok(Turned::Moved)
+                }
+                Err(_) => Err(Stop::Sink),
+            }
         }
-        Err(_) => Err(Stop::Sink),
+        Target::Exit => match write_go(sink, store.time, set, from, b"exit") {
+            Ok(()) => Ok(Turned::Exited),
+            Err(_) => Err(Stop::Sink),
+        },
     }
 }
 
-/// A clause's block, and then its state, or the one that the block leaves for.
+/// The state that a block left for; where it left for none, what the clause says.
+fn target_by(left: Option<usize>, target: Target) -> Target
+    ensures { result ≡ spec.target_by left target }
+{
+    match left {
+        Some(state) => Target::State(state),
+        None => target,
+    }
+}
+
+/// A clause's block, and then the state that the block leaves for, or else where the clause leads.
 fn act<S: Sink>(
     clause: ClausePlan,
     from: &[u8],
@@ -129,11 +153,11 @@ fn act<S: Sink>(
     store: &mut Store,
     operands: &mut Operands,
     sink: &mut S,
-) -> Result<(), Stop>
+) -> Result<Turned, Stop>
     requires failures { S.failures sink.old < 2 ^ 64 - 1 }
     requires room { room_of operands.old ≡ stage.room }
     requires runs { CanRun (setting_on stage) stage.code.now clause }
-    ensures does { Does (λ x. x) result (world_of store.new) (S.told sink.old) (S.told sink.new)
+    ensures does { Does (λ t. t) result (world_of store.new) (S.told sink.old) (S.told sink.new)
         (spec.acted (set_on stage.entry) from.now
         (clause_of (setting_on stage.entry) stage.entry.code.now clause) (world_of store.old)) }
     ensures room { room_of operands.new ≡ room_of operands.old }
@@ -148,7 +172,7 @@ fn act<S: Sink>(
         operands,
         sink,
     ) {
-        Ok(left) => arrive(left.unwrap_or(clause.target), from, stage, store, sink),
+        Ok(left) => arrive(target_by(left, clause.target), from, stage, store, sink),
         Err(stop) => Err(stop),
     }
 }
@@ -161,11 +185,11 @@ fn transit<S: Sink>(
     store: &mut Store,
     operands: &mut Operands,
     sink: &mut S,
-) -> Result<(), Stop>
+) -> Result<Turned, Stop>
     requires failures { S.failures sink.old < 2 ^ 64 - 1 }
     requires room { room_of operands.old ≡ stage.room }
     requires runs { CanRun (setting_on stage) stage.code.now clause }
-    ensures does { Does (λ x. x) result (world_of store.new) (S.told sink.old) (S.told sink.new)
+    ensures does { Does (λ t. t) result (world_of store.new) (S.told sink.old) (S.told sink.new)
         (spec.transition (set_on stage.entry) from.now
         (clause_of (setting_on stage.entry) stage.entry.code.now clause) (world_of store.old)) }
     ensures room { room_of operands.new ≡ room_of operands.old }
@@ -178,7 +202,7 @@ fn transit<S: Sink>(
     }
 }
 
-/// The transition of the clause that was chosen, if one was; answers whether there was one.
+/// The transition of the clause that was chosen, if one was.
 fn fire<S: Sink>(
     clause: Option<ClausePlan>,
     from: &[u8],
@@ -186,11 +210,11 @@ fn fire<S: Sink>(
     store: &mut Store,
     operands: &mut Operands,
     sink: &mut S,
-) -> Result<bool, Stop>
+) -> Result<Turned, Stop>
     requires failures { S.failures sink.old < 2 ^ 64 - 1 }
     requires room { room_of operands.old ≡ stage.room }
     requires runs { CanFire (setting_on stage) stage.code.now clause }
-    ensures does { Does (λ b. b) result (world_of store.new) (S.told sink.old) (S.told sink.new)
+    ensures does { Does (λ t. t) result (world_of store.new) (S.told sink.old) (S.told sink.new)
         (spec.fired (set_on stage.entry) from.now
         (clause_by (setting_on stage.entry) stage.entry.code.now clause) (world_of store.old)) }
     ensures room { room_of operands.new ≡ room_of operands.old }
@@ -198,11 +222,8 @@ fn fire<S: Sink>(
         ≡ counted (stopped_by_sink result) (S.failures sink.old) }
 {
     match clause {
-        None => Ok(false),
-        Some(clause) => match transit(clause, from, stage, store, operands, sink) {
-            Ok(()) => Ok(true),
-            Err(stop) => Err(stop),
-        },
+        None => Ok(Turned::Stayed),
+        Some(clause) => transit(clause, from, stage, store, operands, sink),
     }
 }
 
@@ -213,11 +234,11 @@ fn try_state<S: Sink>(
     store: &mut Store,
     operands: &mut Operands,
     sink: &mut S,
-) -> Result<bool, Stop>
+) -> Result<Turned, Stop>
     requires failures { S.failures sink.old < 2 ^ 64 - 1 }
     requires room { room_of operands.old ≡ stage.room }
     requires runs { CanRunAll (setting_on stage) stage.code.now state.now.clauses.items }
-    ensures does { Does (λ b. b) result (world_of store.new) (S.told sink.old) (S.told sink.new)
+    ensures does { Does (λ t. t) result (world_of store.new) (S.told sink.old) (S.told sink.new)
         (spec.tried (set_on stage.entry)
         (Some (state_of (setting_on stage.entry) stage.entry.code.now state.now))
         (world_of store.old)) }
@@ -247,11 +268,11 @@ fn try_clauses<S: Sink>(
     store: &mut Store,
     operands: &mut Operands,
     sink: &mut S,
-) -> Result<bool, Stop>
+) -> Result<Turned, Stop>
     requires failures { S.failures sink.old < 2 ^ 64 - 1 }
     requires room { room_of operands.old ≡ stage.room }
     requires runs { CanRunSet (setting_on stage) stage.code.now stage.plan.now.states.items }
-    ensures does { Does (λ b. b) result (world_of store.new) (S.told sink.old) (S.told sink.new)
+    ensures does { Does (λ t. t) result (world_of store.new) (S.told sink.old) (S.told sink.new)
         (spec.tried (set_on stage.entry) (slice_get (set_on stage.entry).states
         (copy_of stage.entry.setting.set (world_of store.old)).state) (world_of store.old)) }
     ensures room { room_of operands.new ≡ room_of operands.old }
@@ -260,21 +281,21 @@ fn try_clauses<S: Sink>(
 {
     match stage.plan.states.get(state_now(store, stage.setting.set)) {
         Some(state) => try_state(state, stage, store, operands, sink),
-        None => Ok(false),
+        None => Ok(Turned::Stayed),
     }
 }
 
-/// One turn of a state set; answers whether it had a transition. A fault in it is told in a line.
+/// One turn of a state set; answers which transition it had. A fault in it is told in a line.
 pub fn turn<S: Sink>(
     stage: Stage,
     store: &mut Store,
     operands: &mut Operands,
     sink: &mut S,
-) -> Result<bool, Stop>
+) -> Result<Turned, Stop>
     requires failures { S.failures sink.old < 2 ^ 64 - 1 }
     requires room { room_of operands.old ≡ stage.room }
     requires runs { CanRunSet (setting_on stage) stage.code.now stage.plan.now.states.items }
-    ensures does { Does (λ b. b) result (world_of store.new) (S.told sink.old) (S.told sink.new)
+    ensures does { Does (λ t. t) result (world_of store.new) (S.told sink.old) (S.told sink.new)
         (spec.turn_of (set_on stage.entry) (world_of store.old)) }
     ensures room { room_of operands.new ≡ room_of operands.old }
     ensures failures { S.failures sink.new
@@ -282,7 +303,7 @@ pub fn turn<S: Sink>(
 {
     refresh(stage.plan.feeds.as_slice(), stage.setting.set, store);
     match try_clauses(stage, store, operands, sink) {
-        Ok(moved) => Ok(moved),
+        Ok(turned) => Ok(turned),
         Err(Stop::Sink) => Err(Stop::Sink),
         Err(Stop::Fault(fault, line)) => {
             match write_fault(

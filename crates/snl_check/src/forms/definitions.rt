@@ -4,39 +4,11 @@ ghost use Rattle.std.specs.Prelude.{◌≡◌, map};
 ghost use Rattle.std.specs.List.{list_all};
 ghost use Rattle.snl_syntax.specs.Definitions as tree;
 ghost use Rattle.snl_check.specs.Forms as spec;
-ghost use Rattle.snl_syntax.specs.view.Declarations.{declaration_view, declarator_view};
 ghost use Rattle.snl_syntax.specs.view.Definitions.{assign_view, names_view, place_view};
 ghost use Rattle.snl_syntax.specs.view.Definitions.{definition_view, channels_view};
 ghost use Rattle.snl_syntax.specs.view.Shown.{shown};
 
-use snl_syntax::{Assign, ChannelNames, Channels, Declaration, Declarator, Def, Place};
-
-/// Whether a name has no first value.
-fn is_bare(declared: &Declarator) -> bool
-    ensures { result ≡ spec.is_bare (declarator_view declared.now) }
-{
-    declared.initial.is_none()
-}
-
-/// Whether none of the names has a first value.
-fn are_bare(names: &[Declarator]) -> bool
-    ensures { result ≡ list_all spec.is_bare (map declarator_view names.now) }
-{
-    for declared in names {
-        if !is_bare(declared) {
-            return false;
-        }
-    }
-    true
-}
-
-/// Whether it is `TYPE NAME, NAME[SIZE], ..;`.
-fn does_declaration_run(declaration: &Declaration) -> bool
-    ensures { result
-        ≡ spec.does_definition_run (tree.declaration (declaration_view declaration.now)) }
-{
-    are_bare(declaration.names.as_slice())
-}
+use snl_syntax::{Assign, ChannelNames, Channels, Def, Place};
 
 /// Whether the byte may stand in the name of a channel.
 fn is_channel_byte(byte: u8) -> bool
@@ -98,7 +70,7 @@ fn does_definition_run(definition: &Def) -> bool
     ensures { result ≡ spec.does_definition_run (definition_view definition.now) }
 {
     match definition {
-        Def::Declaration(declaration) => does_declaration_run(declaration),
+        Def::Declaration(_) => true,
         Def::Assign(assign) => does_assign_run(assign),
         Def::Monitor(place) => does_monitor_run(place),
         _ => false,

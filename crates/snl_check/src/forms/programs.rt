@@ -1,31 +1,12 @@
-//! Clauses, states, the state set and the whole of programs that run.
+//! States, the state set and the whole of programs that run.
 
 ghost use Rattle.std.specs.Prelude.{◌≡◌, map};
 ghost use Rattle.std.specs.List.{list_all};
 ghost use Rattle.snl_check.specs.Forms as spec;
-ghost use Rattle.snl_syntax.specs.view.Programs.{clause_view, state_view, state_set_view, program_view};
+ghost use Rattle.snl_syntax.specs.view.Programs.{state_view, state_set_view, program_view};
 
 use crate::forms::definitions::{do_definitions_run, do_parts_run};
-use snl_syntax::{Clause, Program, State, StateSet, Target};
-
-/// Whether a clause leads to a state.
-fn does_clause_run(clause: &Clause) -> bool
-    ensures { result ≡ spec.does_clause_run (clause_view clause.now) }
-{
-    matches!(clause.target, Target::State(_))
-}
-
-/// Whether all are such clauses.
-fn do_clauses_run(clauses: &[Clause]) -> bool
-    ensures { result ≡ list_all spec.does_clause_run (map clause_view clauses.now) }
-{
-    for clause in clauses {
-        if !does_clause_run(clause) {
-            return false;
-        }
-    }
-    true
-}
+use snl_syntax::{Program, State, StateSet};
 
 /// Whether it is `state NAME { DEFINITION .. CLAUSE .. }`.
 fn does_state_run(state: &State) -> bool
@@ -34,7 +15,6 @@ fn does_state_run(state: &State) -> bool
     do_definitions_run(state.definitions.as_slice())
         && state.entry.is_none()
         && state.exit.is_none()
-        && do_clauses_run(state.clauses.as_slice())
 }
 
 /// Whether all are such states.

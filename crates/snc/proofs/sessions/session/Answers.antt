@@ -4,11 +4,11 @@ use Rattle.snl_syntax.specs.view.Programs.{program_view}
 use Rattle.snl_links.specs.Links.{links}
 use Rattle.snl_messages.specs.Silence.{options_in_force}
 use Rattle.snl_check.specs.Runs.{does_run}
+use Rattle.snl_machine.specs.IfRun.{IsLoaded, LoadedOrNot}
 use Rattle.snl_machine.specs.MachineOf.{world_held}
 use Rattle.snc.specs.declared.jobs.Status.{Status}
 use Rattle.snc.specs.Judging.{IsJudged}
 use Rattle.snc.specs.Outcomes.{IsRunOf, IsSession}
-use Rattle.snc.specs.ReportSteps.{IsLoaded, LoadedOrNot}
 use Rattle.snc.proofs.Answering.{ran_by, session_ran, session_waits, tree_of}
 use Rattle.snc.proofs.sessions.session.Goals as goal
 

@@ -1,7 +1,8 @@
 use Rattle.std.proofs.Common.{◌≡◌, ◌<◌, ap, arith, length}
 use Rattle.std.proofs.lemmas.List.{length-map}
 use Rattle.snl_syntax.specs.view.Programs.{program_view, state_set_view}
-use Rattle.snl_plans.proofs.Rows.{placed-more}
+use Rattle.snl_plans.specs.Places.{placed_in}
+use Rattle.snl_plans.proofs.Rows.{row-more}
 use Rattle.snl_plans.proofs.links.placed_sets.Goals as goal
 
 pub loop-set-preserved : goal.loop-set-preserved
@@ -10,4 +11,5 @@ loop-set-preserved c =
     let sets = c.args.program.now.state_sets.items in
     let same : length c.deref-items.result.now ≡ length sets = ap length c.deref-items.ensures.value in
     let within : c.loop-set.set < length p.state_sets = omega (arith, c.loop-set-test.true, same, length-map sets state_set_view) in
-    placed-more p p.state_sets c.loop-set.set c.loop-set.copies.items c.push.new.self.items c.in_ok-places.places _ within c.in_ok-push.ensures.items c.in_ok-places.ensures c.loop-set.invariant
+    row-more (λ places. places.items) (placed_in p) p.state_sets c.loop-set.set c.loop-set.copies.items c.push.new.self.items c.in_ok-places.places _ within
+    c.in_ok-push.ensures.items c.in_ok-places.ensures c.loop-set.invariant

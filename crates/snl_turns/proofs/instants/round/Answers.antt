@@ -1,7 +1,7 @@
 use Rattle.snl_turns.specs.Wholes.{loaded}
-use Rattle.std.proofs.Common.{◌≡◌, ◌∙◌, ◌||◌, ℕ, List, ap, get_or, rules, ◌<◌, length}
+use Rattle.std.proofs.Common.{◌≡◌, ◌∙◌, ℕ, List, ap, sym, get_or, rules, ◌<◌, length}
 use Rattle.snl_turns.specs.Plans.{set_of}
-use Rattle.snl_turns.proofs.OneByOne.{turned, turn-stops}
+use Rattle.snl_turns.proofs.OneByOne.{turn-goes_on, turn-exits, turn-stops}
 use Rattle.snl_turns.proofs.instants.round.Goals as goal
 
 pub returns-in-Err-clause-does : goal.returns-in-Err-clause-does
@@ -13,7 +13,19 @@ returns-in-Err-clause-does g c =
     let is : s ≡ get_or sets c.loop-set.set s = search rules in
     let this-is = ap (λ (name : List ℕ). set_of (record { set = c.loop-set.set; name = name; formats = t.formats; room = t.room }) t.code s)
     c.as_slice.ensures.value in
-    turn-stops t sets c.loop-set.set c.loop-set.moved s within is _ this-is _ _ _ _ c.loop-set.invariant.on_way c.in-Err.stop _ _ c.in-Err.ensures.does
+    turn-stops t sets c.loop-set.set c.loop-set.before s within is _ this-is _ _ _ _ c.loop-set.invariant.on_way c.in-Err.stop _ _ c.in-Err.ensures.does
+
+pub returns-then-is_exit-clause-does : goal.returns-then-is_exit-clause-does
+returns-then-is_exit-clause-does g c =
+    let t = loaded c.args.whole in
+    let sets = t.plan.sets.items in
+    let s = c.plan-item.result in
+    let within : c.loop-set.set < length sets = search rules in
+    let is : s ≡ get_or sets c.loop-set.set s = search rules in
+    let this-is = ap (λ (name : List ℕ). set_of (record { set = c.loop-set.set; name = name; formats = t.formats; room = t.room }) t.code s)
+    c.as_slice.ensures.value in
+    turn-exits t sets c.loop-set.set c.loop-set.before s within is _ this-is _ _ _ _ c.loop-set.invariant.on_way _ _ c.in-Ok.turned c.later-before.result c.later-before.ensures
+    (sym c.is_exit.ensures ∙ c.if-is_exit.true) c.in-Ok.ensures.does
 
 pub loop-set-preserved : goal.loop-set-preserved
 loop-set-preserved g c =
@@ -24,9 +36,9 @@ loop-set-preserved g c =
     let is : s ≡ get_or sets c.loop-set.set s = search rules in
     let this-is = ap (λ (name : List ℕ). set_of (record { set = c.loop-set.set; name = name; formats = t.formats; room = t.room }) t.code s)
     c.as_slice.ensures.value in
-    let had : (c.in-Ok.had || c.loop-set.moved) ≡ c.if-had.moved = search rules in
     record {
-      on_way = turned t sets c.loop-set.set c.loop-set.moved s within is _ this-is _ _ _ _ c.loop-set.invariant.on_way _ _ c.in-Ok.had c.if-had.moved had c.in-Ok.ensures.does;
+      on_way = turn-goes_on t sets c.loop-set.set c.loop-set.before s within is _ this-is _ _ _ _ c.loop-set.invariant.on_way _ _ c.in-Ok.turned c.later-before.result c.later-before.ensures
+          (sym c.is_exit.ensures ∙ c.if-is_exit.false) c.in-Ok.ensures.does;
       room = c.turn.ensures.room ∙ c.loop-set.invariant.room;
       none_failed = search rules;
     }

@@ -1,7 +1,8 @@
-use Rattle.std.proofs.Common.{◌≡◌, None, false, drop}
+use Rattle.std.proofs.Common.{◌≡◌, None, drop}
 use Rattle.snl_lines.proofs.Doing.{IsOnWay}
 use Rattle.snl_pieces.specs.Stack.{room_of}
 use Rattle.snl_store.specs.Views.{world_of}
+use Rattle.snl_turns.specs.declared.turns.Turned.TheVariants.{Stayed}
 use Rattle.snl_turns.specs.Instant.{round_from}
 use Rattle.snl_turns.specs.Wholes.{loaded, sets_from}
 use Rattle.snl_turns.proofs.instants.round.Given as goal
@@ -9,8 +10,8 @@ use Rattle.snl_turns.proofs.instants.round.Given as goal
 -- what was told, and the turns that are left
 abbrev pub invariant-loop-set : goal.invariant-loop-set
 invariant-loop-set g l = let sets = l.whole.plan.now.sets.items in record {
-  on_way : IsOnWay (g.S.Sink.told l.fn.sink) (g.S.Sink.told l.sink) (round_from (sets_from (loaded l.whole) 0 sets) false (record (world_of l.fn.store) { due = None }))
-      (round_from (sets_from (loaded l.whole) l.set (drop l.set sets)) l.moved (world_of l.store));
+  on_way : IsOnWay (g.S.Sink.told l.fn.sink) (g.S.Sink.told l.sink) (round_from (sets_from (loaded l.whole) 0 sets) Stayed (record (world_of l.fn.store) { due = None }))
+      (round_from (sets_from (loaded l.whole) l.set (drop l.set sets)) l.before (world_of l.store));
   room : room_of l.operands ≡ room_of l.fn.operands;
   none_failed : g.S.Sink.failures l.sink ≡ g.S.Sink.failures l.fn.sink;
 }

@@ -3,7 +3,7 @@ use Rattle.snl_lines.proofs.Doing.{IsOnWay, on_way-start}
 use Rattle.snl_store.specs.Views.{world_of}
 use Rattle.snl_turns.specs.Instant.{all_rounds, rounds_of}
 use Rattle.snl_turns.specs.Wholes.{loaded, program_of}
-use Rattle.snl_turns.proofs.OneByOne.{round-goes_on, round-ends, round-stops}
+use Rattle.snl_turns.proofs.OneByOne.{round-goes_on, round-ends, round-exits, round-stops}
 use Rattle.snl_turns.proofs.instants.rounds.Goals as goal
 
 pub loop-round-init : goal.loop-round-init
@@ -18,13 +18,21 @@ loop-round-init g c =
       none_failed = refl;
     }
 
-pub returns-in-Ok-false-clause-does : goal.returns-in-Ok-false-clause-does
-returns-in-Ok-false-clause-does g c =
+pub returns-in-Ok-Stayed-clause-does : goal.returns-in-Ok-Stayed-clause-does
+returns-in-Ok-Stayed-clause-does g c =
     let end = c.from-round-end.result + 1 in
     let i = c.loop-round._round in
     let fuel : end - i ≡ suc (end - (i + 1)) = omega (arith, c.loop-round-test.true) in
     round-ends (program_of (loaded c.args.whole)) (world_of c.loop-round.store) (end - i) (end - (i + 1)) fuel _ _ _ c.loop-round.invariant.on_way _ _
-    (rw c.in-Ok-false.field-0-test at c.in-Ok-false.ensures.does)
+    (rw c.in-Ok-Stayed.field-0-is at c.in-Ok-Stayed.ensures.does)
+
+pub returns-in-Ok-Exited-clause-does : goal.returns-in-Ok-Exited-clause-does
+returns-in-Ok-Exited-clause-does g c =
+    let end = c.from-round-end.result + 1 in
+    let i = c.loop-round._round in
+    let fuel : end - i ≡ suc (end - (i + 1)) = omega (arith, c.loop-round-test.true) in
+    round-exits (program_of (loaded c.args.whole)) (world_of c.loop-round.store) (end - i) (end - (i + 1)) fuel _ _ _ c.loop-round.invariant.on_way _ _ _ _ _
+    (rw c.in-Ok-Exited.field-0-is at c.in-Ok-Exited.ensures.does) (rw c.as_slice.ensures.value at c.exit.ensures.does)
 
 pub returns-in-Err-clause-does : goal.returns-in-Err-clause-does
 returns-in-Err-clause-does g c =
@@ -40,7 +48,7 @@ loop-round-preserved g c =
     let fuel : end - i ≡ suc (end - (i + 1)) = omega (arith, c.loop-round-test.true) in
     record {
       on_way = round-goes_on (program_of (loaded c.args.whole)) (world_of c.loop-round.store) (end - i) (end - (i + 1)) fuel _ _ _ c.loop-round.invariant.on_way _ _
-          (rw c.in-Ok-true.field-0-test at c.in-Ok-true.ensures.does);
+          (rw c.in-Ok-Moved.field-0-is at c.in-Ok-Moved.ensures.does);
       room = c.round.ensures.room ∙ c.loop-round.invariant.room;
       none_failed = search rules;
     }

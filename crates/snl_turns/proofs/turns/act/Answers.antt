@@ -24,7 +24,7 @@ returns-in-Ok-clause-does g c =
     (same_setting c.args.stage c.args.operands.now c.requires.room) c.in-Ok.ensures.does
     in
     does-then (λ x. x) c.arrive.result (left_at (setting_on c.args.stage) code c.args.clause.block w) (arrived_by (set_on c.args.stage) c.args.from.now c.args.clause.target) c.in-Ok.left _ _ _ _ _ did
-    (rw c.unwrap_or.ensures at c.arrive.ensures.does)
+    (rw c.target_by.ensures at c.arrive.ensures.does)
 
 pub returns-in-Err-clause-does : goal.returns-in-Err-clause-does
 returns-in-Err-clause-does g c =

@@ -1,0 +1,7 @@
+//! The tests of all crates below: what only calls can show.
+//!
+//! They stand in a crate of their own, since the tests of a crate are proved together with the crate once more.
+#![tactic(auto)]
+
+#[cfg(test)]
+mod tests;

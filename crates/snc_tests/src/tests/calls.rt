@@ -1,0 +1,174 @@
+//! Each public call of the crates below, once.
+
+use crate::tests::PROGRAM;
+use arrayvec::ArrayVec;
+use snl_check::{Checked, Options, Severity, check};
+use snl_links::Macros;
+use snl_machine::{Event, Live, Machine, laws as machine, machine_if_run};
+use snl_text::{Kind, Lexed, lex};
+use snl_trace::{End, Feed, Sheet, TraceFault, laws as trace, read_line, run};
+use snl_tree::{ParseFault, laws as tree, parse};
+use std::alloc::Global;
+use std::process::Abort;
+use std::test::Fail;
+
+/// The program that tokens spell, checked.
+fn checked<'a>(alloc: Global, lexed: &Lexed<'a>) -> Result<Checked<'a>, Fail> {
+    let program = parse(alloc, lexed)?;
+    let outcome = check(alloc, program, Options::none())?;
+    Ok(outcome.checked.ok_or("not accepted")?)
+}
+
+/// The machine of [`PROGRAM`] with a budget of 10. It outlives the bytes of the source, which end here.
+fn loaded(alloc: Global) -> Result<Box<Machine>, Fail> {
+    let mut source = Vec::new(alloc);
+    source.extend_from_slice(PROGRAM)?;
+    let lexed = lex(alloc, source.as_slice())?;
+    let checked = checked(alloc, &lexed)?;
+    let macros = Macros {
+        text: b"".as_slice(),
+    };
+    let machine = machine_if_run(alloc, checked, &macros, 10)?.ok_or("does not run")?;
+    Ok(Box::new(alloc, machine)?)
+}
+
+#[test]
+fn tokens_of_a_program(rt: HostRuntime) -> Result<(), Fail> {
+    let lexed = lex(rt.alloc(), PROGRAM)?;
+    assert_eq!(rt; lexed.tokens.len(), 58);
+    assert_eq!(rt; lexed.eof.line, 15);
+    let second = lexed.tokens.get(1).ok_or("no second token")?;
+    assert!(rt; second.kind == Kind::Name && second.text == b"p".as_slice());
+    assert!(rt; second.pos.offset == 8 && second.pos.file == 0 && second.pos.line == 1);
+    Ok(())
+}
+
+#[test]
+fn messages_of_a_program(rt: HostRuntime) -> Result<(), Fail> {
+    let lexed = lex(rt.alloc(), PROGRAM)?;
+    let program = parse(rt.alloc(), &lexed)?;
+    let outcome = check(rt.alloc(), program, Options::none())?;
+    let message = outcome.messages.get(0).ok_or("no message")?;
+    assert!(rt; message.severity == Severity::Warning && message.number == 7);
+    assert_eq!(rt;
+        message.text.as_slice(),
+        b"state 'hi' has no clauses".as_slice()
+    );
+    assert_eq!(rt; outcome.messages.len(), 1);
+    Ok(())
+}
+
+#[test]
+fn events_of_a_machine(rt: HostRuntime) -> Result<(), Fail> {
+    let mut machine = loaded(rt.alloc())?;
+    takes_events(&rt, rt.alloc(), &mut machine)?;
+    takes_a_trace(&rt, rt.alloc(), &mut machine)?;
+    laws();
+    Ok(())
+}
+
+fn takes_events(rt: &impl Abort, alloc: Global, machine: &mut Machine) -> Result<(), Fail> {
+    let mut sheet = Sheet::new(alloc, 100, 3)?;
+    assert_eq!(rt; machine.channel(b"b"), Some(1));
+    assert_eq!(rt; machine.channel(b"c"), None);
+    assert_eq!(rt; machine.event(3, &Event::Up(0), &mut sheet)?, Live::Waiting);
+    assert_eq!(rt; machine.event(4, &Event::Up(1), &mut sheet)?, Live::Waiting);
+    let mut values = ArrayVec::new();
+    values.push(4);
+    let event = Event::Val(0, values);
+    assert!(rt; machine.fits(&event) && !machine.fits(&Event::Up(2)));
+    assert_eq!(rt; machine.event(5, &event, &mut sheet)?, Live::Running);
+    assert_eq!(rt; machine.time(), 5);
+    assert_eq!(rt;
+        sheet.text(),
+        b"5 start p\n5 put b 8\n5 go s lo hi\n".as_slice()
+    );
+    Ok(())
+}
+
+fn takes_a_trace(rt: &impl Abort, alloc: Global, machine: &mut Machine) -> Result<(), Fail> {
+    let mut sheet = Sheet::new(alloc, 100, 3)?;
+    let mut trace = Feed::new(b"6 tick\n5 tick\n", 4);
+    let end = run(machine, &mut trace, &mut sheet);
+    assert_eq!(rt; end, End::TraceFault(2, TraceFault::BackInTime));
+    assert_eq!(rt; machine.time(), 6);
+    Ok(())
+}
+
+/// Each law has no code.
+fn laws() {
+    tree::programs_differ_in_spelling();
+    tree::tokens_have_a_program_or_a_fault();
+    tree::tokens_have_one_answer();
+    machine::runs_its_program();
+    machine::stays_its_machine();
+    machine::rounds_end();
+    machine::time_is_the_events();
+    machine::time_never_falls();
+    machine::pieces_fit();
+    machine::first_holds();
+    machine::events_fit();
+    machine::reached_hold();
+    trace::text_begins();
+}
+
+/// Lines with what is wrong with them, after an event at 5.
+const BAD_LINES: [(&[u8], TraceFault); 24] = [
+    (b"5 tick \x80", TraceFault::NotAscii),
+    (b"5 tick\r\r", TraceFault::NotAscii),
+    (b"\0", TraceFault::NotAscii),
+    (b"x tick", TraceFault::BadTime),
+    (b"-5 tick", TraceFault::BadTime),
+    (b" # no comment", TraceFault::BadTime),
+    (b"1x tick", TraceFault::BadTime),
+    (b"00000000000000005 tick", TraceFault::BadTime),
+    (b"1000000000000001 tick", TraceFault::BadTime),
+    (b"4 tick", TraceFault::BackInTime),
+    (b"4 tock", TraceFault::BackInTime),
+    (b"5 tock a b", TraceFault::UnknownWord),
+    (b"5 down a", TraceFault::UnknownWord),
+    (b"5", TraceFault::FieldCount),
+    (b"5 tick a", TraceFault::FieldCount),
+    (b"5 up", TraceFault::FieldCount),
+    (b"5 up a b", TraceFault::FieldCount),
+    (b"5 val a", TraceFault::FieldCount),
+    (b"5 val zz +5", TraceFault::BadValue),
+    (b"5 val zz 9223372036854775808", TraceFault::BadValue),
+    (
+        b"5 val a 99999999999 00000000000000000001",
+        TraceFault::BadValue,
+    ),
+    (b"5 val a -", TraceFault::BadValue),
+    (b"5 val a 2147483648", TraceFault::OutOfRange),
+    (b"5 val a -2147483649 0", TraceFault::OutOfRange),
+];
+
+#[test]
+fn read_each_line_or_name_its_fault(rt: HostRuntime) -> Result<(), Fail> {
+    let machine = loaded(rt.alloc())?;
+    for (line, fault) in &BAD_LINES {
+        assert_eq!(rt; read_line(line, &machine, 5).err(), Some(*fault));
+    }
+    for line in [b"".as_slice(), b" \t", b"\r", b"#5 \x80\0", b"#"] {
+        assert!(rt; matches!(read_line(line, &machine, 5), Ok(None)));
+    }
+    let (ms, event) = read_line(b"\t1000000000000000  up b\t\r", &machine, 5)?.ok_or("no event")?;
+    assert!(rt; ms == 1_000_000_000_000_000 && matches!(event, Event::Up(1)));
+    let (ms, event) = read_line(
+        b"0000000000000005 val zz -9223372036854775808",
+        &machine,
+        5,
+    )?.ok_or("no event")?;
+    assert!(rt; ms == 5 && matches!(event, Event::Other));
+    let (_, event) = read_line(b"5 val a 1 2147483648", &machine, 5)?.ok_or("no event")?;
+    let Event::Val(0, values) = event else {
+        return Err("not a value".into());
+    };
+    assert_eq!(rt; values.as_slice(), [1i64, 2_147_483_648].as_slice());
+    let mut longest = vec![in rt.alloc(); b' '; 32_768]?;
+    assert!(rt; matches!(read_line(longest.as_slice(), &machine, 5), Ok(None)));
+    longest.push(b' ')?;
+    let fault = read_line(longest.as_slice(), &machine, 5).err();
+    assert_eq!(rt; fault, Some(TraceFault::LineTooLong));
+    Ok(())
+}

@@ -1,0 +1,5 @@
+use Rattle.snl_machine.proofs.Rounds.{time_never_falls}
+use Rattle.snl_machine.proofs.laws.time_never_falls.Goals as goal
+
+pub returns : goal.returns
+returns c = time_never_falls

@@ -1,0 +1,90 @@
+-- Laws of values: no variable of a copy ever holds a number that its type does not have.
+use Rattle.std.specs.Prelude.{◌≡◌, ◌<◌, ◌≤◌, ◌+◌, ◌-◌, ◌^◌, ◌&&◌, int_le, true, ℕ, ℤ, pos, List, [], ◌∷◌, length, Some, slice_get, slice_index_or}
+use Rattle.snl_syntax.specs.Programs.{ProgramTree}
+use Rattle.snl_code.specs.Heres.{here_in}
+use Rattle.snl_events.specs.declared.events.Event.{Event}
+use Rattle.snl_events.specs.Event.{line_of, is_event_fit}
+use Rattle.snl_links.specs.Links.{Link}
+use Rattle.snl_pieces.specs.declared.instrs.Variable.{Variable}
+use Rattle.snl_pieces.specs.declared.names.Placed.{Placed}
+use Rattle.snl_pieces.specs.Keeping.{PiecesKeep, world_after}
+use Rattle.snl_pieces.specs.Laws.{words_of}
+use Rattle.snl_pieces.specs.Names.{variable_in}
+use Rattle.snl_pieces.specs.World.{World, copy_of}
+use Rattle.snl_plans.specs.First.{first_world_of}
+use Rattle.snl_plans.specs.Initials.{held_among, held_sets}
+use Rattle.snl_plans.specs.Meaning.{program_meaning}
+use Rattle.snl_plans.specs.Places.{placed_in, channels, link_plans}
+use Rattle.snl_sites.specs.Variables.{Held, variables_of}
+use Rattle.snl_turns.specs.declared.plans.LinkPlan.{LinkPlan}
+use Rattle.snl_turns.specs.Arrivals.{is_in}
+
+-- The type of a variable has a number.
+abbrev pub Has : Variable → ℤ → Type 0
+Has v z = (int_le v.least z && int_le z v.greatest) ≡ true
+
+-- Each element of each variable is a number that its type has.
+abbrev pub Fit : List Placed → List ℤ → Type 0
+Fit vs words = (i k : ℕ) (x : Placed) → slice_get vs i ≡ Some x → k < x.variable.size → Has x.variable (slice_index_or words (x.variable.place + k) (pos 0))
+
+-- So it is in all copies.
+abbrev pub AllFit : ProgramTree → World → Type 0
+AllFit p w = (set : ℕ) → Fit (placed_in p set) (copy_of set w).words
+
+-- What the rules of types and sizes make sure of: a variable has an element, its type has 0, and no copy has more words than
+-- an index can count.
+pub record IsSized (p : ProgramTree) : Type 0 where
+  pub few : (set : ℕ) → words_of (variables_of p set) ≤ 2 ^ 64 - 1
+  pub some : (set i : ℕ) (x : Placed) → slice_get (placed_in p set) i ≡ Some x → 0 < x.variable.size
+  pub zero : (set i : ℕ) (x : Placed) → slice_get (placed_in p set) i ≡ Some x → Has x.variable (pos 0)
+
+-- What holds that before a condition or a block holds it after, also where the piece comes to a fault.
+abbrev pub PiecesFit : Type 0
+PiecesFit = (p : ProgramTree) (set : ℕ) → IsSized p → PiecesKeep (here_in p set) (λ w u. AllFit p w → AllFit p u)
+
+-- ---- links
+
+-- Each word of a link's buffer is a number that the link's type has.
+abbrev pub BuffersFit : List LinkPlan → List ℤ → Type 0
+BuffersFit plans buffers = (i k : ℕ) (l : LinkPlan) → slice_get plans i ≡ Some l → k < l.count → is_in l (slice_index_or buffers (l.from + k) (pos 0)) ≡ true
+
+-- Copies and buffers hold what their types have.
+abbrev pub Holds : ProgramTree → List Link → World → Type 0
+Holds p ls w = AllFit p w × BuffersFit (link_plans p ls) w.buffers
+
+-- How many words the buffers of some links have.
+abbrev pub counts : List Link → ℕ
+counts [] = 0
+counts (l ∷ ls) = l.count + counts ls
+
+-- What the rules make sure of: buffers have no more words than an index can count; a link ties elements that its variable
+-- has, in each copy that has the variable, and its type is that of the variable.
+pub record IsTied (p : ProgramTree) (ls : List Link) : Type 0 where
+  pub few : counts ls ≤ 2 ^ 64 - 1
+  pub within : (set i : ℕ) (l : Link) (v : Variable) → slice_get ls i ≡ Some l → variable_in (placed_in p set) l.variable.offset ≡ Some v → l.first + l.count ≤ v.size
+  pub type : (set i : ℕ) (l : Link) (t : LinkPlan) (v : Variable) → slice_get ls i ≡ Some l → slice_get (link_plans p ls) i ≡ Some t →
+      variable_in (placed_in p set) l.variable.offset ≡ Some v → (t.least ≡ v.least) × (t.greatest ≡ v.greatest)
+
+-- And the variable of each link stands in a copy; its type is the link's, and has 0.
+abbrev pub AreHeld : ProgramTree → List Link → Type 0
+AreHeld p ls = (i : ℕ) (l : Link) (t : LinkPlan) → slice_get ls i ≡ Some l → slice_get (link_plans p ls) i ≡ Some t →
+    (v : Held) × (held_among (held_sets p 0 p.state_sets) l.variable.offset ≡ Some v) × (t.least ≡ v.range.0) × (t.greatest ≡ v.range.1) × (is_in t (pos 0) ≡ true)
+
+-- Before the first event copies and buffers hold what their types have.
+abbrev pub FirstHolds : Type 0
+FirstHolds = (p : ProgramTree) (ls : List Link) → IsSized p → IsTied p ls → AreHeld p ls → Holds p ls (first_world_of p ls)
+
+-- A line of a trace keeps it: what holds that before an event that fits holds it after, also where the run comes to a fault.
+abbrev pub EventsFit : Type 0
+EventsFit = (p : ProgramTree) (ls : List Link) (budget ms : ℕ) (event : Event) (w : World) → IsSized p → IsTied p ls →
+    is_event_fit (length (channels ls)) (link_plans p ls) event ≡ true → Holds p ls w → Holds p ls (world_after (line_of (program_meaning p ls) budget ms event w))
+
+-- The worlds that a run comes to, over whatever lines, as long as each event fits: the first one, and those after a line.
+pub data Reached (p : ProgramTree) (ls : List Link) (budget : ℕ) : World → Type 0 where
+  Begins : Reached p ls budget (first_world_of p ls)
+  GoesOn : (w : World) (ms : ℕ) (event : Event) → Reached p ls budget w → is_event_fit (length (channels ls)) (link_plans p ls) event ≡ true →
+      Reached p ls budget (world_after (line_of (program_meaning p ls) budget ms event w))
+
+-- In all of them each variable and each buffer holds what its type has.
+abbrev pub ReachedHold : Type 0
+ReachedHold = (p : ProgramTree) (ls : List Link) (budget : ℕ) (w : World) → IsSized p → IsTied p ls → AreHeld p ls → Reached p ls budget w → Holds p ls w

@@ -1,0 +1,41 @@
+-- Laws of whole runs: the rounds of an instant end by themselves, and time never falls.
+use Rattle.std.specs.Prelude.{◌≡◌, ◌≤◌, ℕ, List, []}
+use Rattle.snl_syntax.specs.Programs.{ProgramTree}
+use Rattle.snl_events.specs.declared.events.Event.{Event}
+use Rattle.snl_events.specs.Event.{line_of}
+use Rattle.snl_links.specs.Links.{Link}
+use Rattle.snl_pieces.specs.declared.faults.Fault.{Fault}
+use Rattle.snl_pieces.specs.declared.live.Live.TheVariants.{Ended}
+use Rattle.snl_pieces.specs.Keeping.{world_after}
+use Rattle.snl_pieces.specs.Ran.{Ran, Gives, Faults, also}
+use Rattle.snl_pieces.specs.World.{World}
+use Rattle.snl_plans.specs.Meaning.{program_meaning}
+use Rattle.snl_turns.specs.declared.turns.Turned.TheVariants.{Stayed, Moved, Exited}
+use Rattle.snl_turns.specs.Instant.{Program, round_of, exited, all_rounds}
+
+-- Rounds from a world, one after another, until one has no transition, leads out of the program or faults, and what they
+-- give together. Nothing bounds how many there are.
+pub data Rounds (p : Program) : World → Ran (Unit {0}) → Type 0 where
+  -- one that has no transition is the last; the wake is the least due time that it noted
+  Last : (w u : World) (text : List ℕ) → round_of p w ≡ Gives Stayed u text → Rounds p w (also text (Gives tt (record u { wake = u.due }) []))
+  -- one that leads out of the program is the last
+  Leaves : (w u : World) (text : List ℕ) → round_of p w ≡ Gives Exited u text → Rounds p w (also text (exited p.name u))
+  -- one that faults is the last
+  Stops : (f : Fault) (line : ℕ) (w u : World) (text : List ℕ) → round_of p w ≡ Faults f line u text → Rounds p w (Faults f line u text)
+  -- after one that has a transition there are others
+  Again : (w u : World) (text : List ℕ) (r : Ran (Unit {0})) → round_of p w ≡ Gives Moved u text → Rounds p u r → Rounds p w (also text r)
+
+-- The rounds of an instant end because one has no transition, leads out of the program, or faults: never because the
+-- number of rounds is used up that `all_rounds` allows.
+abbrev pub RoundsEnd : Type 0
+RoundsEnd = (p : ProgramTree) (ls : List Link) (w : World) → Rounds (program_meaning p ls) w (all_rounds (program_meaning p ls) w)
+
+-- After an event the time is that of the event, unless the world had ended, also where the event came to a fault.
+abbrev pub TimeIsTheEvents : Type 0
+TimeIsTheEvents = (p : ProgramTree) (ls : List Link) (budget ms : ℕ) (event : Event) (w : World) → (w.phase ≡ Ended → ⊥) →
+    (world_after (line_of (program_meaning p ls) budget ms event w)).time ≡ ms
+
+-- So time never falls, as long as no event comes before the time of the last one.
+abbrev pub TimeNeverFalls : Type 0
+TimeNeverFalls = (p : ProgramTree) (ls : List Link) (budget ms : ℕ) (event : Event) (w : World) → w.time ≤ ms →
+    w.time ≤ (world_after (line_of (program_meaning p ls) budget ms event w)).time
