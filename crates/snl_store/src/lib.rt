@@ -11,7 +11,6 @@ mod words;
 
 pub use running::{evaluate, perform};
 pub use settings::Setting;
-pub use single::Lead;
 pub use steps::step;
 pub use stores::{Copy, Store};
 pub use words::{

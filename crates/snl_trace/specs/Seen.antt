@@ -3,6 +3,8 @@ use Rattle.std.specs.Prelude.{ℕ, List, Option, Some, option_map, Result, Ok, E
 use denote.Ref.{Bor}
 use Rattle.snl_events.specs.declared.events.Event.{Event}
 use Rattle.snl_events.specs.declared.events.Event.TheVariants as events
+use Rattle.snl_trace.specs.declared.reader.Heard.{Heard}
+use Rattle.snl_trace.specs.declared.reader.Heard.TheVariants as heard
 use Rattle.snl_trace.specs.declared.trace_faults.TraceFault.{TraceFault}
 use Rattle.snl_trace.specs.declared.words.Telling.{Telling}
 use Rattle.snl_trace.specs.declared.words.Telling.TheVariants as telling
@@ -29,9 +31,16 @@ time_seen time = (time.0, fields time.1.now)
 abbrev pub told_seen : List ℤ → Option (ℕ × Telling) → Option (ℕ × Told)
 told_seen values heard = option_map (λ at. (at.0, told values at.1)) heard
 
--- the time of an event that stands apart, if there is one
-abbrev pub event_seen : Event → Option ℕ → Option (ℕ × Event)
-event_seen event time = option_map (λ ms. (ms, event)) time
+-- the event that was heard, where the one with values stands apart
+abbrev pub event_heard : Event → Heard → Event
+event_heard room (heard.Up channel) = events.Up channel
+event_heard room heard.Values = room
+event_heard room heard.Tick = events.Tick
+event_heard room heard.Other = events.Other
+
+-- the time and the event that was heard, if one was
+abbrev pub event_seen : Event → Option (ℕ × Heard) → Option (ℕ × Event)
+event_seen room at = option_map (λ h. (h.0, event_heard room h.1)) at
 
 -- the time and an event, if it is one
 abbrev pub event_at_time : ℕ → Result Event TraceFault → Result (Option (ℕ × Event)) TraceFault

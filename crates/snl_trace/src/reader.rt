@@ -5,7 +5,7 @@ ghost use Rattle.snl_machine.specs.Lookup.{channel_of, fits_of};
 ghost use Rattle.snl_trace.specs.Fields.{fields};
 ghost use Rattle.snl_trace.specs.Grammar as grammar;
 ghost use Rattle.snl_trace.specs.Grammar.{told_of, read_of, if_fits, up_at};
-ghost use Rattle.snl_trace.specs.Seen.{seen, time_seen, told_seen, event_seen, event_at_time, HasRoom};
+ghost use Rattle.snl_trace.specs.Seen.{seen, time_seen, told_seen, event_heard, event_seen, event_at_time, HasRoom};
 
 use crate::fields::{first_field, is_ascii_text, is_silent};
 use crate::lines::without_return;
@@ -13,6 +13,19 @@ use crate::numbers::time;
 use crate::trace_faults::{LINE_LIMIT, TraceFault};
 use crate::words::{Telling, Values, heard};
 use snl_machine::{Event, Machine};
+
+/// What a line tells a machine.
+#[derive(Clone, Copy)]
+pub enum Heard {
+    /// A channel is connected.
+    Up(usize),
+    /// A channel has values: the event with them stands apart, in room that serves all lines.
+    Values,
+    /// Time has passed.
+    Tick,
+    /// Something about a channel that the program does not use.
+    Other,
+}
 
 /// What a line of a trace, without its newline, tells: a time in milliseconds and an event; None for a
 /// comment and a blank line; else what is wrong with it.
@@ -25,58 +38,61 @@ pub fn read_line(
 ) -> Result<Option<(u64, Event)>, TraceFault>
     ensures { result ≡ read_of (channel_of machine.now) (fits_of machine.now) last_ms line.now }
 {
-    let mut event = Event::Tick;
-    match read_event(line, machine, last_ms, &mut event)? {
+    let mut room = Event::Tick;
+    match read_event(line, machine, last_ms, &mut room)? {
         None => Ok(None),
-        Some(ms) => Ok(Some((ms, event))),
+        Some((ms, heard)) => Ok(Some((ms, event_of(heard, room)))),
     }
 }
 
-/// The same, with the event put in the place of another one; the answer is its time. So one room serves
-/// the values of all lines.
+/// The event that was heard, where the one with values stands apart.
+fn event_of(heard: Heard, room: Event) -> Event
+    ensures { result ≡ event_heard room heard }
+{
+    match heard {
+        Heard::Up(channel) => Event::Up(channel),
+        Heard::Values => room,
+        Heard::Tick => Event::Tick,
+        Heard::Other => Event::Other,
+    }
+}
+
+/// The same, with the values of a `val` put in the place of those that stood in `room`. So no line makes room for
+/// values anew.
 pub fn read_event(
     line: &[u8],
     machine: &Machine,
     last_ms: u64,
-    event: &mut Event,
-) -> Result<Option<u64>, TraceFault>
-    ensures { seen (event_seen event.new) result
+    room: &mut Event,
+) -> Result<Option<(u64, Heard)>, TraceFault>
+    ensures { seen (event_seen room.new) result
         ≡ read_of (channel_of machine.now) (fits_of machine.now) last_ms line.now }
 {
-    make_room(event);
-    match event {
+    make_room(room);
+    match room {
         Event::Val(channel, values) => match told(line, last_ms, values)? {
             None => Ok(None),
             Some((ms, Telling::Val(name))) => match machine.channel(name) {
                 Some(number) => {
                     *channel = number;
-                    fitting(ms, event, machine)
+                    fitting(ms, room, machine)
                 }
-                None => {
-                    *event = Event::Other;
-                    Ok(Some(ms))
-                }
+                None => Ok(Some((ms, Heard::Other))),
             },
-            Some((ms, Telling::Up(name))) => {
-                *event = up(name, machine);
-                Ok(Some(ms))
-            }
-            Some((ms, Telling::Tick)) => {
-                *event = Event::Tick;
-                Ok(Some(ms))
-            }
+            Some((ms, Telling::Up(name))) => Ok(Some((ms, up(name, machine)))),
+            Some((ms, Telling::Tick)) => Ok(Some((ms, Heard::Tick))),
         },
         _ => unreachable!(),
     }
 }
 
 /// Makes an event one with room for values, if it is none.
-fn make_room(event: &mut Event)
-    ensures { HasRoom event.new }
+fn make_room(room: &mut Event)
+    ensures { HasRoom room.new }
 {
-    match event {
+    match room {
         Event::Val(_, _) => {}
-        _ => *event = Event::Val(0, Values::new()),
+        _ => *room = Event::Val(0, Values::new()),
     }
 }
 
@@ -117,23 +133,23 @@ fn timed(line: &[u8], last_ms: u64) -> Result<(u64, &[u8]), TraceFault>
     Ok((ms, rest))
 }
 
-/// The event of a channel that is up.
-fn up(name: &[u8], machine: &Machine) -> Event
-    ensures { result ≡ up_at (channel_of machine.now name.now) }
+/// What is heard of a channel that is up.
+fn up(name: &[u8], machine: &Machine) -> Heard
+    ensures { (room : Event) → event_heard room result ≡ up_at (channel_of machine.now name.now) }
 {
     match machine.channel(name) {
-        Some(channel) => Event::Up(channel),
-        None => Event::Other,
+        Some(channel) => Heard::Up(channel),
+        None => Heard::Other,
     }
 }
 
-/// The time of an event that fits a machine.
-fn fitting(ms: u64, event: &Event, machine: &Machine) -> Result<Option<u64>, TraceFault>
-    ensures { seen (event_seen event.now) result
-        ≡ event_at_time ms (if_fits (fits_of machine.now event.now) event.now) }
+/// The time of an event with values that fits a machine.
+fn fitting(ms: u64, room: &Event, machine: &Machine) -> Result<Option<(u64, Heard)>, TraceFault>
+    ensures { seen (event_seen room.now) result
+        ≡ event_at_time ms (if_fits (fits_of machine.now room.now) room.now) }
 {
-    if machine.fits(event) {
-        Ok(Some(ms))
+    if machine.fits(room) {
+        Ok(Some((ms, Heard::Values)))
     } else {
         Err(TraceFault::OutOfRange)
     }
