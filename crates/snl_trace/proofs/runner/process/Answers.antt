@@ -11,7 +11,7 @@ use Rattle.snl_trace.proofs.runner.process.Goals as goal
 pub returns-in-Err-clause-does : goal.returns-in-Err-clause-does
 returns-in-Err-clause-does g c =
     let m = c.args.machine.now in
-    let view = λ (r : Result (Option (ℕ × Heard)) TraceFault). seen (event_seen c.read_event.new.event) r in
+    let view = λ (r : Result (Option (ℕ × Heard)) TraceFault). seen (event_seen c.read_event.new.room) r in
     gave-is _ _ _ _
     (ap (λ read. done_by (rules_of m) c.args.number read (world_held m))
     (read-is m c.time.result c.args.line.now (view c.read_event.result) c.read_event.ensures c.time.ensures ∙ ap view c.in-Err.is))
@@ -19,7 +19,7 @@ returns-in-Err-clause-does g c =
 pub returns-in-Ok-None-clause-does : goal.returns-in-Ok-None-clause-does
 returns-in-Ok-None-clause-does g c =
     let m = c.args.machine.now in
-    let view = λ (r : Result (Option (ℕ × Heard)) TraceFault). seen (event_seen c.read_event.new.event) r in
+    let view = λ (r : Result (Option (ℕ × Heard)) TraceFault). seen (event_seen c.read_event.new.room) r in
     gave-is _ _ _ _
     (ap (λ read. done_by (rules_of m) c.args.number read (world_held m))
     (read-is m c.time.result c.args.line.now (view c.read_event.result) c.read_event.ensures c.time.ensures
@@ -28,6 +28,6 @@ returns-in-Ok-None-clause-does g c =
 pub returns-in-Ok-Some-clause-does : goal.returns-in-Ok-Some-clause-does
 returns-in-Ok-Some-clause-does g c =
     let m = c.args.machine.now in
-    let view = λ (r : Result (Option (ℕ × Heard)) TraceFault). seen (event_seen c.read_event.new.event) r in
+    let view = λ (r : Result (Option (ℕ × Heard)) TraceFault). seen (event_seen c.read_event.new.room) r in
     rw (read-is m c.time.result c.args.line.now (view c.read_event.result) c.read_event.ensures c.time.ensures
     ∙ ap view (c.in-Ok-Some.is ∙ ap (λ (o : Option (ℕ × Heard)). Ok o) c.in-Ok-Some.field-0-is)) c.act_on.ensures.does
