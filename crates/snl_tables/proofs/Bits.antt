@@ -76,6 +76,7 @@ module _ (words : List ℕ) (count place word changed : ℕ) (held : count ≤ 6
   abbrev pub new : List ℕ
   new = slice_set words (place / 64) changed
 
+  -- the changed word
   here : slice_index_or new (place / 64) 0 ≡ changed
   here = get_or-set_same words (place / 64) changed 0 (omega (arith, held, within))
 
