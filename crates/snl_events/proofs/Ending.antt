@@ -48,5 +48,5 @@ answers_the_phase p budget ms event w after live old new did = by w.phase refl d
   where
     by : (phase : Live) → w.phase ≡ phase → line_by p budget ms event phase w ≡ Gives live after did.text → after.phase ≡ live
     by Ended at is = let stays : w ≡ after = cc in let same : Ended ≡ live = cc in ap (λ (v : World). v.phase) (sym stays) ∙ at ∙ same
-    by Waiting at is = closed-phase (instant_of p budget (applied p.links event (record w { time = ms }))) after live did.text is
-    by Running at is = closed-phase (instant_of p budget (applied p.links event (record w { time = ms }))) after live did.text is
+    by Waiting at is = closed-phase (instant_of p budget (applied p event (record w { time = ms }))) after live did.text is
+    by Running at is = closed-phase (instant_of p budget (applied p event (record w { time = ms }))) after live did.text is

@@ -11,11 +11,11 @@ use Rattle.snl_turns.specs.Arrivals.{connected, received, are_fit}
 use Rattle.snl_turns.specs.Instant.{Program, instant_of}
 
 -- What an event changes of channels and buffers.
-abbrev pub applied : List LinkPlan → Event → World → World
-applied ls (Up channel) w = connected channel w
-applied ls (Val channel values) w = received channel values.items ls w
-applied ls Tick w = w
-applied ls Other w = w
+abbrev pub applied : Program → Event → World → World
+applied p (Up channel) w = connected channel w
+applied p (Val channel values) w = received p channel values.items w
+applied p Tick w = w
+applied p Other w = w
 
 -- What an instant gives to who asked for it: a fault ends the run.
 abbrev pub closed : Ran (Unit {0}) → Ran Live
@@ -25,7 +25,7 @@ closed (Faults f line w text) = Faults f line (record w { phase = Ended }) text
 -- An event at a time, by how far the program has come: what has ended stays as it is, its time too.
 abbrev pub line_by : Program → ℕ → ℕ → Event → Live → World → Ran Live
 line_by p budget ms event Ended w = Gives Ended w []
-line_by p budget ms event _ w = closed (instant_of p budget (applied p.links event (record w { time = ms })))
+line_by p budget ms event _ w = closed (instant_of p budget (applied p event (record w { time = ms })))
 
 -- The same of the world as it is.
 abbrev pub line_of : Program → ℕ → ℕ → Event → World → Ran Live

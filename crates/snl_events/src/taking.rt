@@ -12,28 +12,29 @@ use crate::events::Event;
 use snl_lines::{Sink, Stop};
 use snl_pieces::{Live, Operands};
 use snl_store::Store;
-use snl_turns::{LinkPlan, Whole, connect, fit_links, instant, receive};
+use snl_turns::{Plan, Whole, connect, fit_links, instant, receive};
 
 /// Lets an event change the channels and the buffers of their links.
-fn apply(event: &Event, links: &[LinkPlan], store: &mut Store)
-    ensures { world_of store.new ≡ spec.applied links.now event.now (world_of store.old) }
+fn apply(event: &Event, whole: Whole, store: &mut Store)
+    ensures { world_of store.new ≡ spec.applied (program_of (loaded whole.entry)) event.now
+        (world_of store.old) }
 {
     match event {
         Event::Up(channel) => connect(*channel, store),
-        Event::Val(channel, values) => receive(*channel, values.as_slice(), links, store),
+        Event::Val(channel, values) => receive(*channel, values.as_slice(), whole, store),
         Event::Tick | Event::Other => {}
     }
 }
 
 /// Whether an event speaks of one of so many channels, and each value that a link of that channel keeps fits the type of
 /// the link's variable.
-pub fn fits(event: &Event, channels: usize, links: &[LinkPlan]) -> bool
-    ensures { result ≡ spec.is_event_fit channels links.now event.now }
+pub fn fits(event: &Event, channels: usize, plan: &Plan) -> bool
+    ensures { result ≡ spec.is_event_fit channels plan.now.links.items event.now }
 {
     match event {
         Event::Up(channel) => *channel < channels,
         Event::Val(channel, values) => {
-            *channel < channels && fit_links(*channel, values.as_slice(), links)
+            *channel < channels && fit_links(*channel, values.as_slice(), plan)
         }
         Event::Tick | Event::Other => true,
     }
@@ -67,7 +68,7 @@ pub fn take<S: Sink>(
         return Ok(Live::Ended);
     }
     store.time = ms;
-    apply(event, whole.plan.links.as_slice(), store);
+    apply(event, whole, store);
     match instant(whole, budget, store, operands, sink) {
         Ok(()) => Ok(store.phase),
         Err(stop) => {

@@ -17,6 +17,7 @@ use Rattle.snl_sites.specs.Variables.{variables_of}
 use Rattle.snl_turns.specs.declared.feeds.Feed.{Feed}
 use Rattle.snl_turns.specs.declared.plans.LinkPlan.{LinkPlan}
 use Rattle.snl_turns.specs.Arrivals.{is_of, is_in, is_link_fit, are_fit, all_marked, with_values, received_link, received_from}
+use Rattle.snl_turns.specs.Turn.{StateSet}
 use Rattle.snl_turns.specs.Refresh.{is_marked, with_mark, overwritten, copied_to, refreshed_link, refreshed_from}
 
 -- ---- words that are replaced
@@ -238,37 +239,38 @@ module _ (p : ProgramTree) (ls : List Link) (few : counts ls ≤ 2 ^ 64 - 1) whe
           subst (λ (x : LinkPlan). is_in x there ≡ true) one has
 
   -- values of a channel come to a link, if it is one of the channel
-  link-received : (channel : ℕ) (values : List ℤ) (number i : ℕ) (t : LinkPlan) (w : World) → slice_get plans i ≡ Some t → (not (is_of channel t) || is_link_fit values t) ≡ true →
-      BuffersFit plans w.buffers → BuffersFit plans (received_link channel values number t w).buffers
-  link-received channel values number i t w is_t fit holds = by (is_of channel t) t.is_monitored fit
+  link-received : (ss : List StateSet) (channel : ℕ) (values : List ℤ) (number i : ℕ) (t : LinkPlan) (w : World) → slice_get plans i ≡ Some t → (not (is_of channel t) || is_link_fit values t) ≡ true →
+      BuffersFit plans w.buffers → BuffersFit plans (received_link ss channel values number t w).buffers
+  link-received ss channel values number i t w is_t fit holds = by (is_of channel t) t.is_monitored fit
     where
       by : (b monitored : Bool) → (not b || is_link_fit values t) ≡ true →
-          BuffersFit plans (if b then (if monitored then all_marked number (with_values values t w) else with_values values t w) else w).buffers
+          BuffersFit plans (if b then (if monitored then all_marked ss number (with_values values t w) else with_values values t w) else w).buffers
       by true true fits = values-fit values w.buffers i t is_t fits holds
       by true false fits = values-fit values w.buffers i t is_t fits holds
       by false monitored fits = holds
 
   -- to links of the program
-  pub received-fits : (channel : ℕ) (values : List ℤ) (number : ℕ) (ts : List LinkPlan) (w : World) →
+  pub received-fits : (ss : List StateSet) (channel : ℕ) (values : List ℤ) (number : ℕ) (ts : List LinkPlan) (w : World) →
       ((i : ℕ) (t : LinkPlan) → slice_get ts i ≡ Some t → (j : ℕ) × (slice_get plans j ≡ Some t)) → are_fit channel values ts ≡ true →
-      BuffersFit plans w.buffers → BuffersFit plans (received_from channel values number ts w).buffers
-  received-fits channel values number [] w there fit holds = holds
-  received-fits channel values number (t ∷ ts) w there fit holds =
+      BuffersFit plans w.buffers → BuffersFit plans (received_from ss channel values number ts w).buffers
+  received-fits ss channel values number [] w there fit holds = holds
+  received-fits ss channel values number (t ∷ ts) w there fit holds =
       let halves = both-true (not (is_of channel t) || is_link_fit values t) (are_fit channel values ts) fit in
       let here = there 0 t refl in
-      received-fits channel values (number + 1) ts (received_link channel values number t w) (λ i u is. there (suc i) u is) halves.1
-      (link-received channel values number here.0 t w here.1 halves.0 holds)
+      received-fits ss channel values (number + 1) ts (received_link ss channel values number t w) (λ i u is. there (suc i) u is) halves.1
+      (link-received ss channel values number here.0 t w here.1 halves.0 holds)
 
 -- values leave copies as they are
-link-copies : (channel : ℕ) (values : List ℤ) (number : ℕ) (t : LinkPlan) (w : World) → (received_link channel values number t w).copies ≡ w.copies
-link-copies channel values number t w = by (is_of channel t) t.is_monitored
+link-copies : (ss : List StateSet) (channel : ℕ) (values : List ℤ) (number : ℕ) (t : LinkPlan) (w : World) → (received_link ss channel values number t w).copies ≡ w.copies
+link-copies ss channel values number t w = by (is_of channel t) t.is_monitored
   where
-    by : (b monitored : Bool) → (if b then (if monitored then all_marked number (with_values values t w) else with_values values t w) else w).copies ≡ w.copies
+    by : (b monitored : Bool) → (if b then (if monitored then all_marked ss number (with_values values t w) else with_values values t w) else w).copies ≡ w.copies
     by true true = refl
     by true false = refl
     by false monitored = refl
 
 -- at all links
-pub received-copies : (channel : ℕ) (values : List ℤ) (number : ℕ) (ts : List LinkPlan) (w : World) → (received_from channel values number ts w).copies ≡ w.copies
-received-copies channel values number [] w = refl
-received-copies channel values number (t ∷ ts) w = received-copies channel values (number + 1) ts (received_link channel values number t w) ∙ link-copies channel values number t w
+pub received-copies : (ss : List StateSet) (channel : ℕ) (values : List ℤ) (number : ℕ) (ts : List LinkPlan) (w : World) → (received_from ss channel values number ts w).copies ≡ w.copies
+received-copies ss channel values number [] w = refl
+received-copies ss channel values number (t ∷ ts) w =
+    received-copies ss channel values (number + 1) ts (received_link ss channel values number t w) ∙ link-copies ss channel values number t w

@@ -79,13 +79,14 @@ module _ (p : ProgramTree) (ls : List Link) (sized : IsSized p) (tied : IsTied p
   }
 
   -- an event that fits
-  event-holds : (event : Event) (w : World) → is_event_fit (length (channels ls)) (link_plans p ls) event ≡ true → Stays w (applied (link_plans p ls) event w)
+  event-holds : (event : Event) (w : World) → is_event_fit (length (channels ls)) (link_plans p ls) event ≡ true → Stays w (applied (program_meaning p ls) event w)
   event-holds (Up channel) w fit holds = holds
   event-holds (Val channel values) w fit holds =
       let halves = both-true (nat_lt channel (length (channels ls))) (are_fit channel values.items (link_plans p ls)) fit in
-      let v = record w { valued = _ } in (
-        subst (λ (cs : List Copy). AllFit p (record w { copies = cs })) (sym (received-copies channel values.items 0 (link_plans p ls) v)) holds.0,
-        received-fits p ls tied.few channel values.items 0 (link_plans p ls) v (λ i t is. (i, is)) halves.1 holds.1,
+      let v = record w { valued = _ } in
+      let ss = (program_meaning p ls).sets in (
+        subst (λ (cs : List Copy). AllFit p (record w { copies = cs })) (sym (received-copies ss channel values.items 0 (link_plans p ls) v)) holds.0,
+        received-fits p ls tied.few ss channel values.items 0 (link_plans p ls) v (λ i t is. (i, is)) halves.1 holds.1,
       )
   event-holds Tick w fit holds = holds
   event-holds Other w fit holds = holds
@@ -103,7 +104,7 @@ events_fit p ls budget ms event w sized tied fit holds = by w.phase
     q = program_meaning p ls
 
     there : World
-    there = applied q.links event (record w { time = ms })
+    there = applied q event (record w { time = ms })
 
     on : Holds p ls (world_after (closed (instant_of q budget there)))
     on = closed-holds p ls sized tied (instant_of q budget there)

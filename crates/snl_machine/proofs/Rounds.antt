@@ -16,6 +16,7 @@ use Rattle.snl_plans.specs.Meaning.{program_meaning}
 use Rattle.snl_turns.specs.declared.plans.LinkPlan.{LinkPlan}
 use Rattle.snl_turns.specs.declared.turns.Turned.{Turned}
 use Rattle.snl_turns.specs.declared.turns.Turned.TheVariants.{Stayed, Moved, Exited}
+use Rattle.snl_turns.specs.Turn.{StateSet}
 use Rattle.snl_turns.specs.Arrivals.{is_of, all_marked, with_values, received_link, received_from}
 use Rattle.snl_turns.specs.Instant.{Program, round_of, unless_still, rounds_of, instant_of}
 
@@ -87,25 +88,26 @@ time-steady = record {
 }
 
 -- values that come to a link
-link-time : (channel : ℕ) (values : List ℤ) (number : ℕ) (l : LinkPlan) (w : World) → Same w (received_link channel values number l w)
-link-time channel values number l w = by (is_of channel l) l.is_monitored
+link-time : (ss : List StateSet) (channel : ℕ) (values : List ℤ) (number : ℕ) (l : LinkPlan) (w : World) → Same w (received_link ss channel values number l w)
+link-time ss channel values number l w = by (is_of channel l) l.is_monitored
   where
-    by : (b monitored : Bool) → Same w (if b then (if monitored then all_marked number (with_values values l w) else with_values values l w) else w)
+    by : (b monitored : Bool) → Same w (if b then (if monitored then all_marked ss number (with_values values l w) else with_values values l w) else w)
     by true true = refl
     by true false = refl
     by false monitored = refl
 
 -- values that come to links
-links-time : (channel : ℕ) (values : List ℤ) (number : ℕ) (ls : List LinkPlan) (w : World) → Same w (received_from channel values number ls w)
-links-time channel values number [] w = refl
-links-time channel values number (l ∷ ls) w = links-time channel values (number + 1) ls (received_link channel values number l w) ∙ link-time channel values number l w
+links-time : (ss : List StateSet) (channel : ℕ) (values : List ℤ) (number : ℕ) (ls : List LinkPlan) (w : World) → Same w (received_from ss channel values number ls w)
+links-time ss channel values number [] w = refl
+links-time ss channel values number (l ∷ ls) w =
+    links-time ss channel values (number + 1) ls (received_link ss channel values number l w) ∙ link-time ss channel values number l w
 
 -- an event
-applied-time : (ls : List LinkPlan) (event : Event) (w : World) → Same w (applied ls event w)
-applied-time ls (Up channel) w = refl
-applied-time ls (Val channel values) w = links-time channel values.items _ ls _
-applied-time ls Tick w = refl
-applied-time ls Other w = refl
+applied-time : (p : Program) (event : Event) (w : World) → Same w (applied p event w)
+applied-time p (Up channel) w = refl
+applied-time p (Val channel values) w = links-time p.sets channel values.items _ p.links _
+applied-time p Tick w = refl
+applied-time p Other w = refl
 
 -- what an instant gives to who asked for it
 closed-time : (r : Ran (Unit {0})) → (world_after (closed r)).time ≡ (world_after r).time
@@ -120,13 +122,13 @@ time_is_the_events p ls budget ms event w not_ended = by w.phase refl
     q = program_meaning p ls
 
     there : World
-    there = applied q.links event (record w { time = ms })
+    there = applied q event (record w { time = ms })
 
     on : (world_after (closed (instant_of q budget there))).time ≡ ms
     on =
         closed-time (instant_of q budget there)
         ∙ instant-keeps p ls Same Same (loosely Same Same time-steady p ls) there.phase (record there { ticks = budget })
-        ∙ applied-time q.links event (record w { time = ms })
+        ∙ applied-time q event (record w { time = ms })
 
     by : (phase : Live) → w.phase ≡ phase → (world_after (line_by q budget ms event phase w)).time ≡ ms
     by Waiting is = on

@@ -64,7 +64,7 @@ impl Machine {
     pub fn fits(&self, event: &Event) -> bool
         ensures { result ≡ fits_of self.now event.now }
     {
-        fits(event, self.names.len(), self.plan.links.as_slice())
+        fits(event, self.names.len(), &self.plan)
     }
 
     /// Does what a line of a trace asks for at a time in milliseconds, and hands the lines of the run to the sink. A

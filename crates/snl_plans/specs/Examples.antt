@@ -98,7 +98,7 @@ lines_of (Faults f line w text) = text
 
 -- Channel `a` has a value at a time, in a world.
 abbrev pub valued : ℕ → ℤ → World → Ran (Unit {0})
-valued ms z w = instant_of meant 100 (received 0 (z ∷ []) meant.links (record w { time = ms }))
+valued ms z w = instant_of meant 100 (received meant 0 (z ∷ []) (record w { time = ms }))
 
 -- With 1 it starts, and waits for more than 3; with 7 the clause fires.
 abbrev pub RunExample : Type 0

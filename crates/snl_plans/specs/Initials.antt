@@ -1,6 +1,5 @@
 -- What variables, and the buffers of their links, begin with.
 use Rattle.std.specs.Prelude.{ℕ, zero, suc, ◌+◌, ℤ, pos, int_le, ◌&&◌, ◌==◌, List, [], ◌∷◌, Option, None, Some, slice_get, if◌then◌else◌}
-use Rattle.std.specs.List.{flat_map}
 use Rattle.snl_syntax.specs.Expressions.{ExprTree}
 use Rattle.snl_syntax.specs.Programs.{StateSetTree, ProgramTree}
 use Rattle.snl_links.specs.Links.{Link}

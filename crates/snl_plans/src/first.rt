@@ -5,6 +5,7 @@ ghost use Rattle.snl_syntax.specs.view.Programs.{program_view};
 ghost use Rattle.snl_links.specs.LinkViews.{link_view};
 ghost use Rattle.snl_store.specs.Views.{copy_view, world_of};
 ghost use Rattle.snl_plans.specs.First as spec;
+ghost use Rattle.snl_tables.specs.Marks as tables;
 ghost use Rattle.snl_plans.specs.Initials.{held_sets};
 ghost use Rattle.snl_plans.specs.Sets.{names_in, sets_of};
 
@@ -15,7 +16,8 @@ use snl_pieces::Live;
 use snl_sites::Held;
 use snl_store::{Copy, Store};
 use snl_syntax::Program;
-use snl_turns::LinkPlan;
+use snl_tables::Marks;
+use snl_turns::{LinkPlan, ties_of};
 use std::alloc::{AllocError, Global};
 
 /// The copies of all state sets.
@@ -47,25 +49,14 @@ fn names_of(alloc: Global, names: &IndexSet<Vec<u8>>) -> Result<Vec<Vec<u8>>, Al
     Ok(kept)
 }
 
-/// The channels of links.
-fn ties_of(alloc: Global, links: &[LinkPlan]) -> Result<Vec<Option<usize>>, AllocError>
-    ensures { IfOk result (λ ties. ties.items ≡ map (λ l. l.channel) links.now) }
-{
-    let mut ties = Vec::new(alloc);
-    for link in links {
-        ties.push(link.channel)?;
-    }
-    Ok(ties)
-}
-
 /// No link is marked for any state set.
-fn marks_of(alloc: Global, sets: &[Vec<Held>], links: usize) -> Result<Vec<Vec<bool>>, AllocError>
-    ensures { IfOk result (λ marks. map (λ of_set. of_set.items) marks.items
+fn marks_of(alloc: Global, sets: &[Vec<Held>], links: usize) -> Result<Vec<Marks>, AllocError>
+    ensures { IfOk result (λ marks. map tables.marks_of marks.items
         ≡ map (λ vs. replicate links false) (sets_of sets.now)) }
 {
     let mut marks = Vec::new(alloc);
     for _variables in sets {
-        let of_set = vec![in alloc; false; links]?;
+        let of_set = Marks::new(alloc, links)?;
         marks.push(of_set)?;
     }
     Ok(marks)
@@ -96,6 +87,7 @@ fn store_by(
         ties: ties_of(alloc, plans)?,
         buffers: first_buffers(alloc, sets, links)?,
         marks: marks_of(alloc, sets, links.len())?,
+        awaited: 0,
     })
 }
 

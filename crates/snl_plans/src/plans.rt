@@ -201,9 +201,5 @@ pub fn plan_of<'a>(
     let name = Vec::from_slice(alloc, program.name.text)?;
     let links_planned = link_plans(alloc, links, names, copies)?;
     let sets = set_plans(alloc, program, program.state_sets.as_slice(), code, links)?;
-    Ok(Plan {
-        name,
-        links: links_planned,
-        sets,
-    })
+    Plan::new(alloc, name, links_planned, sets)
 }

@@ -83,6 +83,7 @@ fn shifted_right(left: i64, count: i64) -> Result<i64, Fault>
 
 /// What a binary operator makes of both of its operands (SNL Reference, "Expressions"): any one but
 /// `&&` and `||`. Kinds that are no such operator give the right operand, as the comma does.
+#[inline(always)]
 pub fn computed(operator: Kind, left: i64, right: i64) -> Result<i64, Fault>
     ensures { result ≡ spec.computed operator left right }
 {
@@ -109,6 +110,7 @@ pub fn computed(operator: Kind, left: i64, right: i64) -> Result<i64, Fault>
 
 /// What a prefix operator other than `++` and `--` makes of its operand. Other kinds give the
 /// operand, as `+` does.
+#[inline(always)]
 pub fn computed_prefix(operator: Kind, operand: i64) -> Result<i64, Fault>
     ensures { result ≡ spec.computed_prefix operator operand }
 {

@@ -3,6 +3,7 @@
 ghost use Rattle.std.specs.Prelude.{◌≡◌, ◌+◌, [], false, pos, slice_get, slice_index_or, slice_set};
 
 use snl_pieces::{Live, Variable};
+use snl_tables::Marks;
 
 /// What a state set has for itself.
 #[derive(Drop)]
@@ -41,7 +42,10 @@ pub struct Store {
     /// The elements of the buffers of all links, one link after another.
     pub buffers: Vec<i64>,
     /// By state set, then by link: whether a value came that the copy does not have yet.
-    pub marks: Vec<Vec<bool>>,
+    pub marks: Vec<Marks>,
+    /// The number of a link that the start waited for when this was last looked at. No part of the world: it says only
+    /// where to look first.
+    pub awaited: usize,
 }
 
 impl Copy {

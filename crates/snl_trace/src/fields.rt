@@ -21,11 +21,16 @@ fn is_text(byte: u8) -> bool
     matches!(byte, b' '..=b'~' | b'\t')
 }
 
-/// Whether all bytes of a line may stand in the line of an event.
+/// Whether all bytes of a line may stand in the line of an event. It looks at all of them without a branch, which the
+/// compiler turns into a look at sixteen at once.
 pub fn is_ascii_text(line: &[u8]) -> bool
     ensures { result ≡ list_all spec.is_text line.now }
 {
-    line.iter().all(|byte| is_text(*byte))
+    let mut all = true;
+    for byte in line {
+        all &= is_text(*byte);
+    }
+    all
 }
 
 /// Whether the first byte of a text is this one.

@@ -5,3 +5,4 @@ pub mod Rooms
 pub mod OneByOne
 pub mod Opening
 pub mod Facts
+pub mod Rows

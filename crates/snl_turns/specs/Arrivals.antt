@@ -1,35 +1,51 @@
 -- Values and connections that come from channels.
-use Rattle.std.specs.Prelude.{ℕ, ◌+◌, ℤ, int_le, Bool, true, false, not, ◌&&◌, ◌||◌, ◌==◌, List, [], ◌∷◌, None, Some, map, take, slice_set, if◌then◌else◌}
+use Rattle.std.specs.Prelude.{ℕ, ◌+◌, ℤ, int_le, Bool, true, false, not, ◌&&◌, ◌||◌, ◌==◌, List, [], ◌∷◌, None, Some, is_some, take, slice_get, slice_index_or, slice_set, if◌then◌else◌}
 use Rattle.std.specs.List.{list_all}
 use Rattle.snl_pieces.specs.World.{World}
+use Rattle.snl_turns.specs.declared.feeds.Feed.{Feed}
 use Rattle.snl_turns.specs.declared.plans.LinkPlan.{LinkPlan}
+use Rattle.snl_turns.specs.Instant.{Program}
 use Rattle.snl_turns.specs.Refresh.{overwritten}
+use Rattle.snl_turns.specs.Turn.{StateSet}
 
 -- Whether a link is tied to a channel.
 abbrev pub is_of : ℕ → LinkPlan → Bool
 is_of channel l = elim l.channel [ None ↦ false | Some c ↦ c == channel ]
 
--- The world in which a link is marked for every state set.
-abbrev pub all_marked : ℕ → World → World
-all_marked link w = record w { marks = map (λ of_set. slice_set of_set link true) w.marks }
+-- Whether a copy with these feeds has the variable of a link.
+abbrev pub takes : List Feed → ℕ → Bool
+takes feeds link = elim (slice_get feeds link) [ None ↦ false | Some f ↦ is_some f.to ]
+
+-- Marks after a link was marked for a state set, if its copy has the variable.
+abbrev pub marked_by : List Feed → ℕ → ℕ → List (List Bool) → List (List Bool)
+marked_by feeds set link marks = if takes feeds link then slice_set marks set (slice_set (slice_index_or marks set []) link true) else marks
+
+-- Marks after that was done for some state sets.
+abbrev pub marked_for : List StateSet → ℕ → List (List Bool) → List (List Bool)
+marked_for [] link marks = marks
+marked_for (s ∷ ss) link marks = marked_for ss link (marked_by s.feeds s.set link marks)
+
+-- The world in which a link is marked for them.
+abbrev pub all_marked : List StateSet → ℕ → World → World
+all_marked ss link w = record w { marks = marked_for ss link w.marks }
 
 -- The world in which values came to the buffer of a link: missing ones leave what was there, surplus ones are dropped.
 abbrev pub with_values : List ℤ → LinkPlan → World → World
 with_values values l w = record w { buffers = overwritten w.buffers l.from (take l.count values) }
 
 -- Values of a channel, at a link of this number.
-abbrev pub received_link : ℕ → List ℤ → ℕ → LinkPlan → World → World
-received_link channel values number l w =
-    if is_of channel l then (if l.is_monitored then all_marked number (with_values values l w) else with_values values l w) else w
+abbrev pub received_link : List StateSet → ℕ → List ℤ → ℕ → LinkPlan → World → World
+received_link ss channel values number l w =
+    if is_of channel l then (if l.is_monitored then all_marked ss number (with_values values l w) else with_values values l w) else w
 
 -- The same at the links from a number on.
-abbrev pub received_from : ℕ → List ℤ → ℕ → List LinkPlan → World → World
-received_from channel values number [] w = w
-received_from channel values number (l ∷ ls) w = received_from channel values (number + 1) ls (received_link channel values number l w)
+abbrev pub received_from : List StateSet → ℕ → List ℤ → ℕ → List LinkPlan → World → World
+received_from ss channel values number [] w = w
+received_from ss channel values number (l ∷ ls) w = received_from ss channel values (number + 1) ls (received_link ss channel values number l w)
 
--- A channel has values.
-abbrev pub received : ℕ → List ℤ → List LinkPlan → World → World
-received channel values ls w = received_from channel values 0 ls (record w { valued = slice_set w.valued channel true })
+-- A channel of a program has values.
+abbrev pub received : Program → ℕ → List ℤ → World → World
+received p channel values w = received_from p.sets channel values 0 p.links (record w { valued = slice_set w.valued channel true })
 
 -- A channel is connected.
 abbrev pub connected : ℕ → World → World

@@ -4,3 +4,4 @@ pub mod Plans
 pub mod Instant
 pub mod Wholes
 pub mod Arrivals
+pub mod Linked

@@ -1,13 +1,18 @@
 //! Values and connections that come from channels.
 
-ghost use Rattle.std.specs.Prelude.{◌≡◌, ◌+◌, map, slice_set, take, true};
+ghost use Rattle.std.specs.Prelude.{◌≡◌, ◌+◌, [], map, slice_set, slice_index_or, take, true};
 ghost use Rattle.std.specs.List.{list_all};
 ghost use Rattle.snl_store.specs.Views.{world_of};
+ghost use Rattle.snl_tables.specs.Marks.{marks_of};
 ghost use Rattle.snl_turns.specs.Arrivals as spec;
+ghost use Rattle.snl_turns.specs.Linked.{received_at, received_over, is_fit_at};
 ghost use Rattle.snl_turns.specs.Refresh.{overwritten};
+ghost use Rattle.snl_turns.specs.Wholes.{loaded, program_of};
 
-use crate::plans::LinkPlan;
+use crate::feeds::Feed;
+use crate::plans::{LinkPlan, Plan, Whole};
 use snl_store::Store;
+use snl_tables::Marks;
 
 /// Whether a link is tied to a channel.
 fn is_of(link: LinkPlan, channel: usize) -> bool
@@ -46,57 +51,103 @@ fn put_after(buffers: &mut Vec<i64>, from: usize, after: usize, value: i64)
     }
 }
 
-/// Marks a link for a state set.
-fn mark_in(of_set: &mut Vec<bool>, link: usize)
-    ensures { of_set.new.items ≡ slice_set of_set.old.items link true }
+/// Whether a copy with these feeds has the variable of a link.
+fn takes(feeds: &[Feed], link: usize) -> bool
+    ensures { result ≡ spec.takes feeds.now link }
 {
-    if let Some(mark) = of_set.get_mut(link) {
-        *mark = true;
+    match feeds.get(link) {
+        Some(feed) => feed.to.is_some(),
+        None => false,
     }
 }
 
-/// Marks a link for every state set.
-fn mark(marks: &mut [Vec<bool>], link: usize)
-    ensures { map (λ of_set. of_set.items) marks.new
-        ≡ map (λ of_set. slice_set of_set link true) (map (λ of_set. of_set.items) marks.old) }
+/// Marks a link for a state set.
+fn mark_in(marks: &mut Vec<Marks>, set: usize, link: usize)
+    ensures { map marks_of marks.new.items ≡ slice_set (map marks_of marks.old.items) set
+        (slice_set (slice_index_or (map marks_of marks.old.items) set []) link true) }
 {
-    for of_set in marks.iter_mut() {
-        mark_in(of_set, link);
+    if let Some(of_set) = marks.get_mut(set) {
+        of_set.mark(link);
+    }
+}
+
+/// Marks a link for a state set with these feeds, if its copy has the link's variable.
+fn mark_by(feeds: &[Feed], set: usize, link: usize, marks: &mut Vec<Marks>)
+    ensures { map marks_of marks.new.items
+        ≡ spec.marked_by feeds.now set link (map marks_of marks.old.items) }
+{
+    if takes(feeds, link) {
+        mark_in(marks, set, link);
+    }
+}
+
+/// Marks a link for every state set whose copy has its variable.
+fn mark(link: usize, whole: Whole, marks: &mut Vec<Marks>)
+    ensures { map marks_of marks.new.items ≡ spec.marked_for (program_of (loaded whole.entry)).sets
+        link (map marks_of marks.old.items) }
+{
+    for (set, plan) in whole.plan.sets.iter().enumerate() {
+        mark_by(plan.feeds.as_slice(), set, link, marks);
     }
 }
 
 /// Values of a channel, at a link of this number.
-fn receive_link(channel: usize, values: &[i64], number: usize, link: LinkPlan, store: &mut Store)
-    ensures { world_of store.new
-        ≡ spec.received_link channel values.now number link (world_of store.old) }
+fn receive_link(
+    channel: usize,
+    values: &[i64],
+    number: usize,
+    link: LinkPlan,
+    whole: Whole,
+    store: &mut Store,
+)
+    ensures { world_of store.new ≡ spec.received_link (program_of (loaded whole.entry)).sets
+        channel values.now number link (world_of store.old) }
 {
     if is_of(link, channel) {
         fill(&mut store.buffers, link.from, kept(link, values));
         if link.is_monitored {
-            mark(store.marks.as_mut_slice(), number);
+            mark(number, whole, &mut store.marks);
         }
     }
 }
 
-/// Puts values into the buffer of each link of a channel, and marks the monitored ones.
-fn receive_all(channel: usize, values: &[i64], links: &[LinkPlan], store: &mut Store)
-    ensures { world_of store.new
-        ≡ spec.received_from channel values.now 0 links.now (world_of store.old) }
+/// The same at a number; nothing where there is no such link.
+fn receive_at(channel: usize, values: &[i64], number: usize, whole: Whole, store: &mut Store)
+    ensures { world_of store.new ≡ received_at (program_of (loaded whole.entry)) channel values.now
+        number (world_of store.old) }
 {
-    for (number, link) in links.iter().enumerate() {
-        receive_link(channel, values, number, *link, store);
+    if let Some(link) = whole.plan.links.get(number) {
+        receive_link(channel, values, number, *link, whole, store);
     }
 }
 
+/// The same at some numbers, one after another.
+fn receive_over(row: &[usize], channel: usize, values: &[i64], whole: Whole, store: &mut Store)
+    ensures { world_of store.new ≡ received_over (program_of (loaded whole.entry)) channel
+        values.now row.now (world_of store.old) }
+{
+    for number in row {
+        receive_at(channel, values, *number, whole, store);
+    }
+}
+
+/// Puts values into the buffer of each link of a channel, and marks the monitored ones.
+fn receive_all(channel: usize, values: &[i64], whole: Whole, store: &mut Store)
+    ensures { world_of store.new ≡ spec.received_from (program_of (loaded whole.entry)).sets
+        channel values.now 0 (program_of (loaded whole.entry)).links (world_of store.old) }
+{
+    receive_over(whole.plan.links_of(channel), channel, values, whole, store);
+}
+
 /// A channel has values: each of its links takes as many as it has elements. Missing ones leave what was there.
-pub fn receive(channel: usize, values: &[i64], links: &[LinkPlan], store: &mut Store)
-    ensures { world_of store.new
-        ≡ spec.received channel values.now links.now (world_of store.old) }
+pub fn receive(channel: usize, values: &[i64], whole: Whole, store: &mut Store)
+    ensures { world_of store.new ≡ spec.received (program_of (loaded whole.entry)) channel
+        values.now (world_of store.old) }
 {
     if let Some(valued) = store.valued.get_mut(channel) {
         *valued = true;
     }
-    receive_all(channel, values, links, store);
+    receive_all(channel, values, whole, store);
 }
 
 /// A channel is connected.
@@ -120,14 +171,27 @@ fn fit_link(link: LinkPlan, values: &[i64]) -> bool
     true
 }
 
-/// Whether of some values each link of a channel can take those that it has elements for.
-pub fn fit_links(channel: usize, values: &[i64], links: &[LinkPlan]) -> bool
-    ensures { result ≡ spec.are_fit channel values.now links.now }
+/// The same of the link of a number, if there is one.
+fn fit_at(number: usize, values: &[i64], links: &[LinkPlan]) -> bool
+    ensures { result ≡ is_fit_at links.now values.now number }
 {
-    for link in links {
-        if is_of(*link, channel) && !fit_link(*link, values) {
-            return false;
-        }
+    match links.get(number) {
+        Some(link) => fit_link(*link, values),
+        None => true,
     }
-    true
+}
+
+/// The same of the links of some numbers.
+fn fit_over(row: &[usize], values: &[i64], links: &[LinkPlan]) -> bool
+    ensures { result ≡ list_all (is_fit_at links.now values.now) row.now }
+{
+    row.iter().all(|number| fit_at(*number, values, links))
+}
+
+/// Whether of some values each link of a channel can take those that it has elements for.
+#[tactic(auto, using(crate::proofs::Rows::over_fits))]
+pub fn fit_links(channel: usize, values: &[i64], plan: &Plan) -> bool
+    ensures { result ≡ spec.are_fit channel values.now plan.now.links.items }
+{
+    fit_over(plan.links_of(channel), values, plan.links.as_slice())
 }

@@ -1,8 +1,9 @@
 //! The refresh: values that came to links are copied into the variables of a state set.
 
-ghost use Rattle.std.specs.Prelude.{◌≡◌, ◌+◌, false, pos, slice_index_or};
+ghost use Rattle.std.specs.Prelude.{◌≡◌, ◌+◌, [], false, pos, slice_index_or};
 ghost use Rattle.snl_pieces.specs.World.{words_at};
 ghost use Rattle.snl_store.specs.Views.{copy_view, world_of};
+ghost use Rattle.snl_tables.specs.Marks.{IsFirst};
 ghost use Rattle.snl_turns.specs.Refresh as spec;
 
 use snl_store::{Copy, Store};
@@ -51,13 +52,13 @@ fn copy_link(feed: Feed, set: usize, store: &mut Store)
     }
 }
 
-/// Whether a value came to a link that a state set's copy does not have yet.
-fn is_marked(store: &Store, set: usize, link: usize) -> bool
-    ensures { result ≡ spec.is_marked set link (world_of store.now) }
+/// The first marked link of a state set from a number on.
+fn next_marked(store: &Store, set: usize, from: usize) -> Option<usize>
+    ensures { IsFirst (slice_index_or (world_of store.now).marks set []) from result }
 {
     match store.marks.get(set) {
-        Some(marks) => marks.get(link).copied().unwrap_or(false),
-        None => false,
+        Some(marks) => marks.first_from(from),
+        None => None,
     }
 }
 
@@ -66,27 +67,30 @@ fn unmark(store: &mut Store, set: usize, link: usize)
     ensures { world_of store.new ≡ spec.with_mark set link false (world_of store.old) }
 {
     if let Some(marks) = store.marks.get_mut(set) {
-        if let Some(mark) = marks.get_mut(link) {
-            *mark = false;
-        }
+        marks.unmark(link);
     }
 }
 
-/// The refresh of a link.
-fn refresh_link(number: usize, feed: Feed, set: usize, store: &mut Store)
-    ensures { world_of store.new ≡ spec.refreshed_link set number feed (world_of store.old) }
+/// The refresh of a link that is marked.
+fn take_in(link: usize, feed: Feed, set: usize, store: &mut Store)
+    ensures { world_of store.new
+        ≡ spec.with_mark set link false (spec.copied_to set feed.to feed (world_of store.old)) }
 {
-    if is_marked(store, set, number) {
-        copy_link(feed, set, store);
-        unmark(store, set, number);
-    }
+    copy_link(feed, set, store);
+    unmark(store, set, link);
 }
 
-/// The refresh of a state set: the buffer of each link that is marked for it is copied, and the mark is taken away.
+/// The refresh of a state set: the buffer of each link that is marked for it is copied, and the mark is taken away. It
+/// looks at marked links alone.
 pub fn refresh(feeds: &[Feed], set: usize, store: &mut Store)
     ensures { world_of store.new ≡ spec.refreshed set feeds.now (world_of store.old) }
 {
-    for (number, feed) in feeds.iter().enumerate() {
-        refresh_link(number, *feed, set, store);
+    let mut from = 0;
+    while let Some(link) = next_marked(store, set, from) {
+        match feeds.get(link) {
+            Some(feed) => take_in(link, *feed, set, store),
+            None => return,
+        }
+        from = link + 1;
     }
 }

@@ -11,5 +11,5 @@ mod turns;
 pub use arrivals::{connect, fit_links, receive};
 pub use feeds::{Feed, refresh};
 pub use instants::{instant, rounds};
-pub use plans::{ClausePlan, LinkPlan, Plan, SetPlan, Stage, StatePlan, Target, Whole};
+pub use plans::{ClausePlan, LinkPlan, Plan, SetPlan, Stage, StatePlan, Target, Whole, ties_of};
 pub use turns::{Turned, turn};

@@ -1,8 +1,15 @@
 //! What a machine keeps of the state sets of a program, beside their code.
 
+ghost use Rattle.std.specs.Prelude.{◌≡◌, map, IfOk};
+ghost use Rattle.snl_tables.specs.Rows.{numbers_of};
+ghost use Rattle.snl_turns.specs.Linked.{HasRows};
+ghost use Rattle.std.proofs.Props.{props};
+
 use crate::feeds::Feed;
 use snl_pieces::Instr;
 use snl_store::Setting;
+use snl_tables::Rows;
+use std::alloc::{AllocError, Global};
 
 /// Where a clause leads (SNL Reference, "State Transitions").
 #[derive(Clone, Copy)]
@@ -85,6 +92,49 @@ pub struct Plan {
     pub links: Vec<LinkPlan>,
     /// In the order of the source.
     pub sets: Vec<SetPlan>,
+    /// By channel: the numbers of its links.
+    rows: Rows,
+    ghost known: { HasRows rows links.items } by { Prim.hlevel props },
+}
+
+/// The channels of links.
+pub fn ties_of(alloc: Global, links: &[LinkPlan]) -> Result<Vec<Option<usize>>, AllocError>
+    ensures { IfOk result (λ ties. ties.items ≡ map (λ l. l.channel) links.now) }
+{
+    let mut ties = Vec::new(alloc);
+    for link in links {
+        ties.push(link.channel)?;
+    }
+    Ok(ties)
+}
+
+impl Plan {
+    /// The plan of a program of this name. The only error is that memory ends.
+    pub fn new(
+        alloc: Global,
+        name: Vec<u8>,
+        links: Vec<LinkPlan>,
+        sets: Vec<SetPlan>,
+    ) -> Result<Plan, AllocError>
+        ensures { IfOk result (λ plan. (plan.name ≡ name) × (plan.links ≡ links)
+            × (plan.sets ≡ sets)) }
+    {
+        let ties = ties_of(alloc, links.as_slice())?;
+        let rows = Rows::new(alloc, ties.as_slice())?;
+        Ok(Plan {
+            name,
+            links,
+            sets,
+            rows,
+        })
+    }
+
+    /// The numbers of the links of a channel, in their order. It takes no walk over the others.
+    pub fn links_of(&self, channel: usize) -> &[usize]
+        ensures { result.now ≡ numbers_of channel 0 (map (λ l. l.channel) self.now.links.items) }
+    {
+        self.rows.row(channel)
+    }
 }
 
 /// What an instant of a program runs on.

@@ -1,6 +1,7 @@
 //! The start of a program, once its channels are there.
 
-ghost use Rattle.std.specs.Prelude.{◌≡◌, ◌-◌, ◌^◌, ◌<◌};
+ghost use Rattle.std.specs.Prelude.{◌≡◌, ◌-◌, ◌^◌, ◌<◌, false, is_none};
+ghost use Rattle.std.specs.Bool.{OnTrue};
 ghost use Rattle.std.specs.List.{list_all};
 ghost use Rattle.snl_lines.specs.Devices.{counted, stopped_by_sink};
 ghost use Rattle.snl_lines.specs.Does.{Does};
@@ -33,16 +34,45 @@ fn is_ready(link: LinkPlan, store: &Store) -> bool
         && (is_so(store.valued.as_slice(), link.channel) || !link.is_monitored)
 }
 
-/// Whether those of all links are.
-pub fn are_ready(links: &[LinkPlan], store: &Store) -> bool
-    ensures { result ≡ list_all (spec.is_link_ready (world_of store.now)) links.now }
+/// Whether the link that the start waited for when this was last looked at still is not ready.
+fn is_awaited(links: &[LinkPlan], store: &Store) -> bool
+    ensures { OnTrue result (list_all (spec.is_link_ready (world_of store.now)) links.now
+        ≡ false) }
 {
-    for link in links {
+    match links.get(store.awaited) {
+        Some(link) => !is_ready(*link, store),
+        None => false,
+    }
+}
+
+/// The number of the first link that is not ready, if there is one.
+fn first_missing(links: &[LinkPlan], store: &Store) -> Option<usize>
+    ensures { is_none result ≡ list_all (spec.is_link_ready (world_of store.now)) links.now }
+{
+    for (number, link) in links.iter().enumerate() {
         if !is_ready(*link, store) {
-            return false;
+            return Some(number);
         }
     }
-    true
+    None
+}
+
+/// Whether those of all links are. The link that was not when this was last asked is looked at first, so as long as it
+/// is not ready no other one is looked at.
+pub fn are_ready(links: &[LinkPlan], store: &mut Store) -> bool
+    ensures value { result ≡ list_all (spec.is_link_ready (world_of store.old)) links.now }
+    ensures same { world_of store.new ≡ world_of store.old }
+{
+    if is_awaited(links, store) {
+        return false;
+    }
+    match first_missing(links, store) {
+        Some(number) => {
+            store.awaited = number;
+            false
+        }
+        None => true,
+    }
 }
 
 /// Every state set takes in the values that came.

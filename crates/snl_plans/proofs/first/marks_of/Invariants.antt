@@ -1,9 +1,10 @@
 use Rattle.std.proofs.Common.{◌≡◌, ◌++◌, drop, map, replicate, false}
 use Rattle.snl_plans.specs.Sets.{sets_of}
+use Rattle.snl_tables.specs.Marks as tables
 use Rattle.snl_plans.proofs.first.marks_of.Given as goal
 
 -- marks so far, and those that are left
 abbrev pub invariant-loop-variables : goal.invariant-loop-variables
 invariant-loop-variables l =
-    map (λ of_set. of_set.items) l.marks.items ++ map (λ vs. replicate l.links false) (sets_of (drop l._variables-index l.sets))
+    map tables.marks_of l.marks.items ++ map (λ vs. replicate l.links false) (sets_of (drop l._variables-index l.sets))
     ≡ map (λ vs. replicate l.links false) (sets_of l.sets)

@@ -1,9 +1,10 @@
-use Rattle.std.proofs.Common.{◌≡◌, map, slice_set, true}
-use Rattle.snl_turns.proofs.Changes.{ahead}
+use Rattle.std.proofs.Common.{◌≡◌, drop, map}
+use Rattle.snl_tables.specs.Marks.{marks_of}
+use Rattle.snl_turns.specs.Arrivals.{marked_for}
+use Rattle.snl_turns.specs.Wholes.{loaded, sets_from}
 use Rattle.snl_turns.proofs.arrivals.mark.Given as goal
 
--- state sets so far are marked, so the rest decides
-abbrev pub invariant-loop-of_set : goal.invariant-loop-of_set
-invariant-loop-of_set l =
-    ahead (λ of_set. of_set.items) (λ of_set. slice_set of_set l.link true) l.of_set-index l.marks
-    ≡ map (λ of_set. slice_set of_set l.link true) (map (λ of_set. of_set.items) l.fn.marks)
+-- what is left of the state sets gives what all of them give
+abbrev pub invariant-loop-set : goal.invariant-loop-set
+invariant-loop-set l = let sets = l.whole.plan.now.sets.items in
+    marked_for (sets_from (loaded l.whole) l.set (drop l.set sets)) l.link (map marks_of l.marks.items) ≡ marked_for (sets_from (loaded l.whole) 0 sets) l.link (map marks_of l.fn.marks.items)

@@ -1,5 +1,5 @@
 use Rattle.std.proofs.Common.{◌≡◌, ◌++◌, drop, map}
-use Rattle.snl_plans.proofs.first.ties_of.Given as goal
+use Rattle.snl_turns.proofs.plans.ties_of.Given as goal
 
 -- ties so far, and those that are left
 abbrev pub invariant-loop-link : goal.invariant-loop-link

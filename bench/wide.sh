@@ -1,0 +1,57 @@
+#!/usr/bin/env bash
+# What an event costs in a wide program: values, ticks, and both in turn, with 1,000 monitored channels and with one.
+#
+#   bench/wide.sh [LINES]          1,000,000 lines where none are given
+#
+# The values of the wide program come to its channels round robin. The last figure is of a program that never starts, since one
+# of its channels is never there. The time of a start over an empty trace is taken off.
+. "$(dirname "$0")/timing.sh"
+lines=${1:-1000000}
+
+# a program with so many channels, whose conditions look at the first and the last one
+wide() {
+    awk -v count="$1" 'BEGIN {
+        print "program wide\noption +s;"
+        for (k = 0; k < count; k++) printf "int v%d; assign v%d to \"CHANNEL:%d\"; monitor v%d;\n", k, k, k, k
+        printf "ss all {\n  state low { when (v0 + v%d > 1000000) {} state high }\n  state high { when (v0 < 0) {} state low }\n}\n", count - 1
+    }'
+}
+
+# a trace for so many channels: each is up and has a value, and then lines of a kind follow
+trace() {
+    awk -v count="$1" -v kind="$2" -v lines="$3" 'BEGIN {
+        for (k = 0; k < count; k++) printf "0 up CHANNEL:%d\n0 val CHANNEL:%d 0\n", k, k
+        for (i = 0; i < lines; i++)
+            if (kind == "values" || kind == "both" && i % 2 == 0) printf "%d val CHANNEL:%d %d\n", i + 1, (kind == "both" ? i / 2 : i) % count, i % 1000
+            else printf "%d tick\n", i + 1
+    }'
+}
+
+# the seconds of a run over a trace
+run() {
+    local whole empty
+    whole=$(best "$1" "$program" "$2")
+    empty=$(best "$work/empty" "$program" "$2")
+    awk -v whole="$whole" -v empty="$empty" 'BEGIN { printf "%.4f\n", whole - empty }'
+}
+
+wide 1 > "$work/one.st"
+wide 1000 > "$work/wide.st"
+for kind in values ticks both; do
+    trace 1 "$kind" "$lines" > "$work/one.trace"
+    trace 1000 "$kind" "$lines" > "$work/wide.trace"
+    one=$(run "$work/one.trace" "$work/one.st")
+    many=$(run "$work/wide.trace" "$work/wide.st")
+    [ "$kind" = values ] && values=$many
+    awk -v kind="$kind" -v lines="$lines" -v one="$one" -v many="$many" -v values="$values" 'BEGIN {
+        printf "%s: %.2f million lines a second with one channel, %.2f with 1,000: %.2f times as long; %.2f of a value\n",
+            kind, lines / one / 1e6, lines / many / 1e6, many / one, many / values
+    }'
+done
+
+# all channels but the last are there
+trace 1000 values "$lines" | grep -v 'up CHANNEL:999$' > "$work/wide.trace"
+many=$(run "$work/wide.trace" "$work/wide.st")
+awk -v lines="$lines" -v many="$many" -v values="$values" 'BEGIN {
+    printf "waiting: %.2f million lines a second with 1,000: %.2f of a value\n", lines / many / 1e6, many / values
+}'
