@@ -19,7 +19,7 @@ returns-in-Ok-clause-does g c =
     let starts = instant-starts p c.args.budget w c.in-Waiting.is ready in
     let after = world_of c.start.new.store in
     let began = subst (λ (v : World). Gave {A = Unit {0}} c.in-Ok.field-0 after (g.S.Sink.told c.args.sink.now) (g.S.Sink.told c.start.new.sink) (started p v))
-        c.if-not-are_ready.ensures.same c.in-Ok.ensures.does in
+    c.if-not-are_ready.ensures.same c.in-Ok.ensures.does in
     subst (λ (r : Ran (Unit {0})). Does (λ x. x) c.rounds-in-Ok.result (world_of c.rounds-in-Ok.new.store) (g.S.Sink.told c.args.sink.now) (g.S.Sink.told c.rounds-in-Ok.new.sink) r) (sym starts)
     (does-then (λ x. x) _ (started p u) (λ _ v. all_rounds p v) _ _ _ _ _ _ began c.rounds-in-Ok.ensures.does)
 
