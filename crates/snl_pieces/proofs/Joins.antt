@@ -1,7 +1,7 @@
 -- The code of a word, and how such codes are joined.
 use Rattle.std.proofs.Common.{◌≡◌, ◌∙◌, ◌+◌, ◌<◌, ◌≤◌, ℕ, ℤ, pos, Bool, true, false, List, [], ◌∷◌, ◌++◌, Some, refl, ap, subst, arith, length, length-append, slice_get, if◌then◌else◌}
 use Rattle.std.proofs.lemmas.Bool.{lt-ltb}
-use Rattle.snl_sites.specs.Arithmetic.{is_zero}
+use Rattle.snl_arithmetic.specs.Arithmetic.{is_zero}
 use Rattle.snl_pieces.specs.declared.instrs.Instr.{Instr}
 use Rattle.snl_pieces.specs.declared.instrs.Instr.TheVariants.{Push, Apply, Settle, Drop, Jump}
 use Rattle.snl_pieces.specs.ExpressionCode.{joint_code, joint_depth}

@@ -1,7 +1,7 @@
 -- Code of a statement: where it leads, and how such facts are joined.
 use Rattle.std.proofs.Common.{◌≡◌, ◌∙◌, ◌+◌, ◌≤◌, ℕ, ℤ, Bool, true, false, List, [], ◌∷◌, ◌++◌, Option, None, Some, refl, sym, ap, subst, arith, length, length-append, if◌then◌else◌}
 use Rattle.snl_syntax.specs.Expressions.{ExprTree}
-use Rattle.snl_sites.specs.Arithmetic.{is_zero}
+use Rattle.snl_arithmetic.specs.Arithmetic.{is_zero}
 use Rattle.snl_pieces.specs.declared.instrs.Instr.{Instr}
 use Rattle.snl_pieces.specs.declared.instrs.Instr.TheVariants.{Drop, JumpIfZero}
 use Rattle.snl_pieces.specs.BlockCode.{dropped_code, test_code, maybe_depth}

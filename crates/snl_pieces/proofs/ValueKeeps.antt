@@ -4,7 +4,7 @@ use Rattle.std.specs.Prelude.{not}
 use Rattle.snl_text.specs.declared.tokens.Pos.{Pos}
 use Rattle.snl_text.specs.declared.tokens.Token.{Token}
 use Rattle.snl_syntax.specs.Expressions.{ExprTree, TermList, ArgumentList, constant, parenthesized, named, element, call, postfix, prefix, chain, conditional, assignment, no_terms, term, no_arguments, value, text}
-use Rattle.snl_sites.specs.Arithmetic.{is_zero}
+use Rattle.snl_arithmetic.specs.Arithmetic.{is_zero}
 use Rattle.snl_pieces.specs.declared.instrs.Variable.{Variable}
 use Rattle.snl_sites.specs.Constants.{predefined}
 use Rattle.snl_sites.specs.Uses.{declared_in}

@@ -4,7 +4,7 @@ use Rattle.std.specs.Prelude.{nat_le, take, drop}
 use Rattle.std.proofs.lemmas.Bool.{lt-ltb, le-leb}
 use Rattle.snl_text.specs.declared.kinds.Kind.{Kind}
 use Rattle.snl_text.specs.declared.tokens.Token.{Token}
-use Rattle.snl_sites.specs.Arithmetic.{is_zero}
+use Rattle.snl_arithmetic.specs.Arithmetic.{is_zero}
 use Rattle.snl_pieces.specs.declared.instrs.Instr.{Instr}
 use Rattle.snl_pieces.specs.declared.instrs.Instr.TheVariants.{Push, Load, Check, Peek, Store, StoreAt, Apply, ApplyPrefix, Jump, JumpIfZero, Print}
 use Rattle.snl_pieces.specs.declared.instrs.Variable.{Variable}

@@ -4,7 +4,7 @@ use Rattle.std.specs.List.{flat_map}
 use Rattle.snl_syntax.specs.Expressions.{ExprTree}
 use Rattle.snl_syntax.specs.Declarations.{InitialiserTree, DeclaratorTree, DeclarationTree, single, listed}
 use Rattle.snl_syntax.specs.Statements.{StatementTree, StatementList, BlockTree, nested, empty, expression, break_loop, continue_loop, change_state, if_then, if_else, while_loop, for_loop, no_statements, statement, block}
-use Rattle.snl_sites.specs.Arithmetic.{is_zero}
+use Rattle.snl_arithmetic.specs.Arithmetic.{is_zero}
 use Rattle.snl_sites.specs.Types.{listed_values}
 use Rattle.snl_pieces.specs.declared.faults.Fault.TheVariants.{BudgetSpent}
 use Rattle.snl_pieces.specs.declared.instrs.Variable.{Variable}

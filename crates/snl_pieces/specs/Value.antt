@@ -7,7 +7,7 @@ use Rattle.snl_text.specs.Numbers.{whole_value, decimal_value}
 use Rattle.snl_text.specs.Quotes.{character_value}
 use Rattle.snl_syntax.specs.Expressions.{ExprTree, TermList, ArgumentList, constant, parenthesized, named, element, call, postfix, prefix, chain, conditional, assignment, no_terms, term, no_arguments, value, text}
 use Rattle.snl_syntax.specs.Kinds.{is}
-use Rattle.snl_sites.specs.Arithmetic.{is_zero}
+use Rattle.snl_arithmetic.specs.Arithmetic.{is_zero}
 use Rattle.snl_pieces.specs.declared.instrs.Variable.{Variable}
 pub use Rattle.snl_pieces.specs.declared.operators.Function.{Function}
 pub use Rattle.snl_pieces.specs.declared.operators.Function.TheVariants.{Prints, Delays, Puts, Others}

@@ -5,10 +5,10 @@ use Rattle.snl_text.specs.declared.kinds.Kind.TheVariants.{Whole, Character, Bar
 use Rattle.snl_text.specs.Numbers.{whole_value}
 use Rattle.snl_text.specs.Quotes.{character_value}
 use Rattle.snl_syntax.specs.Expressions.{ExprTree, TermList, constant, parenthesized, named, element, call, postfix, prefix, chain, conditional, assignment, no_terms, term}
-use Rattle.snl_sites.specs.declared.arithmetic.Fault.{Fault}
+use Rattle.snl_arithmetic.specs.declared.arithmetic.Fault.{Fault}
 use Rattle.snl_sites.specs.declared.constants.Constant.{Constant}
 use Rattle.snl_sites.specs.declared.constants.Constant.TheVariants.{Varies, Faults, Worth}
-use Rattle.snl_sites.specs.Arithmetic.{is_zero, truth, computed, computed_prefix}
+use Rattle.snl_arithmetic.specs.Arithmetic.{is_zero, truth, computed, computed_prefix}
 
 -- The names that stand for numbers where no declaration hides them.
 abbrev pub predefined : List ℕ → Option ℤ

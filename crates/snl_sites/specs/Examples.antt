@@ -7,13 +7,11 @@ use Rattle.snl_syntax.specs.Expressions.{ExprTree, constant, parenthesized, name
 use Rattle.snl_syntax.specs.Declarations.{DeclaratorTree}
 use Rattle.snl_syntax.specs.Statements.{while_loop, break_loop}
 use Rattle.snl_syntax.specs.Definitions.{DefinitionTree, declaration, event_flags}
-use Rattle.snl_sites.specs.declared.arithmetic.Fault.TheVariants.{Overflow, Division, Shift}
 use Rattle.snl_sites.specs.declared.constants.Constant.TheVariants.{Varies, Faults, Worth}
 use Rattle.snl_sites.specs.declared.sites.Meaning.TheVariants.{Variable, Flag, Number, Nothing}
 use Rattle.snl_sites.specs.declared.sites.Purpose.TheVariants.{Read, Ignored}
 use Rattle.snl_sites.specs.declared.sites.Size.TheVariants.{Scalar, Array, Wrong}
 use Rattle.snl_sites.specs.declared.sites.Site.TheVariants.{Use, Decimal, Call, Format, Leave}
-use Rattle.snl_sites.specs.Arithmetic.{computed}
 use Rattle.snl_sites.specs.Constants.{constant_of}
 use Rattle.snl_sites.specs.Numbered.{number_of}
 use Rattle.snl_sites.specs.Scopes.{scope_of, meaning}
@@ -62,20 +60,6 @@ ints names = declaration (record { type_name = record { word = sign kind.Int; se
 -- a declared name with its sizes
 abbrev pub sized : Token → List ExprTree → DeclaratorTree
 sized t sizes = record { name = t; sizes = sizes; initial = None }
-
--- ---- arithmetic: the ends of the range, signs, shifts
-abbrev pub ArithmeticExamples : Type 0
-ArithmeticExamples =
-    (computed kind.Percent (negsuc 9223372036854775807) (negsuc 0) ≡ Ok (pos 0))
-    × (computed kind.Slash (negsuc 9223372036854775807) (negsuc 0) ≡ Err Overflow)
-    × (computed kind.Slash (negsuc 6) (pos 2) ≡ Ok (negsuc 2))
-    × (computed kind.Percent (negsuc 6) (pos 2) ≡ Ok (negsuc 0))
-    × (computed kind.Slash (pos 1) (pos 0) ≡ Err Division)
-    × (computed kind.LessLess (pos 1) (pos 64) ≡ Err Shift)
-    × (computed kind.LessLess (negsuc 0) (pos 63) ≡ Ok (negsuc 9223372036854775807))
-    × (computed kind.LessLess (pos 1) (pos 63) ≡ Err Overflow)
-    × (computed kind.GreaterGreater (negsuc 7) (pos 1) ≡ Ok (negsuc 3))
-    × (computed kind.Caret (negsuc 3) (pos 5) ≡ Ok (negsuc 6))
 
 -- ---- constants: `0 && 1 / 0` is 0, and `0 && x` is no constant; `1 / 0` faults; `TRUE` is 1 where nothing hides it
 abbrev pub ConstantExamples : Type 0

@@ -1,4 +1,3 @@
-pub mod Arithmetic
 pub mod Constants
 pub mod Scopes
 pub mod Calls

@@ -13,7 +13,7 @@ use Rattle.snl_sites.specs.declared.sites.Sort.{Sort}
 use Rattle.snl_sites.specs.declared.sites.Sort.TheVariants.{Assign, Monitor, Sync, Queue}
 use Rattle.snl_sites.specs.declared.sites.Site.{Site}
 use Rattle.snl_sites.specs.declared.sites.Site.TheVariants.{Defined, QueueSize, Setting, Use, Target, Clause, State, StateSet}
-use Rattle.snl_sites.specs.Arithmetic.{is_zero}
+use Rattle.snl_arithmetic.specs.Arithmetic.{is_zero}
 use Rattle.snl_sites.specs.Constants.{constant_of}
 use Rattle.snl_sites.specs.Numbered.{number_of, is_later}
 use Rattle.snl_sites.specs.Options.{refused}

@@ -1,15 +1,15 @@
 //! Constant expressions, and what they are worth.
 
 ghost use Rattle.std.specs.Prelude.{◌≡◌, is_some, map};
-ghost use Rattle.snl_sites.specs.Arithmetic.{truth};
+ghost use Rattle.snl_arithmetic.specs.Arithmetic.{truth};
 ghost use Rattle.snl_syntax.specs.view.Expressions.{view, pair_of};
 ghost use Rattle.snl_syntax.specs.view.Lists.{term_list};
 ghost use Rattle.snl_sites.specs.Constants as spec;
 ghost use Rattle.snl_sites.specs.Scopes.{is_hidden};
 ghost use Rattle.snl_sites.specs.Chains.{scopes_of};
 
-use crate::arithmetic::{Fault, computed, computed_prefix};
 use crate::scopes::Scopes;
+use snl_arithmetic::{Fault, computed, computed_prefix};
 use snl_syntax::{Expr, Term};
 use snl_text::{Kind, Token, character_value, whole_value};
 

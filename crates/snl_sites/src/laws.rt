@@ -1,7 +1,7 @@
 //! Laws of the definitions that the sites speak of, and examples. Each function is its contract.
 
 ghost use Rattle.snl_sites.specs.Laws.{BindingIsOne, DeclaredIsMeant, PlaceIsMeant};
-ghost use Rattle.snl_sites.specs.Examples.{ArithmeticExamples, ConstantExamples, ScopeExamples, SiteExamples};
+ghost use Rattle.snl_sites.specs.Examples.{ConstantExamples, ScopeExamples, SiteExamples};
 
 /// What a name means by the relation is what it is bound to.
 pub fn binding_is_one()
@@ -16,11 +16,6 @@ pub fn place_is_meant()
 /// What a program's sites say of an offset is what the first name there means.
 pub fn declared_is_meant()
     ensures { DeclaredIsMeant }
-{}
-
-/// The ends of the range, signs and shifts.
-pub fn examples_of_arithmetic()
-    ensures { ArithmeticExamples }
 {}
 
 /// Constant expressions, and some that are none.

@@ -2,7 +2,6 @@
 //! which expressions are constant, how its calls are formed.
 #![tactic(auto)]
 
-mod arithmetic;
 mod block_variables;
 mod calls;
 mod constants;
@@ -30,7 +29,6 @@ mod tokens;
 mod uses;
 mod variables;
 
-pub use arithmetic::{Fault, computed, computed_prefix};
 pub use calls::{Form, form_of};
 pub use constants::{Constant, constant_of, predefined};
 pub use initialisers::range_of;
@@ -39,5 +37,6 @@ pub use programs::sites_of;
 pub use scopes::{Declared, Scope, Scopes};
 pub use set_variables::{push_parts, variables_of};
 pub use sites::{Extent, Meaning, Part, Purpose, Site, Size, Sort};
+pub use snl_arithmetic::{Fault, computed, computed_prefix};
 pub use uses::declared_in;
 pub use variables::{Held, push_definitions};

@@ -4,8 +4,8 @@ use Rattle.std.specs.Int.{cast_signed, cast_unsigned, int_shr, w64}
 use Rattle.std.specs.Ordering.{int_eq}
 use Rattle.snl_text.specs.declared.kinds.Kind.{Kind}
 use Rattle.snl_text.specs.declared.kinds.Kind.TheVariants.{Comma, Bar, Caret, Ampersand, EqualEqual, BangEqual, Less, LessEqual, Greater, GreaterEqual, LessLess, GreaterGreater, Plus, Minus, Star, Slash, Percent, Bang, Tilde}
-use Rattle.snl_sites.specs.declared.arithmetic.Fault.{Fault}
-use Rattle.snl_sites.specs.declared.arithmetic.Fault.TheVariants.{Overflow, Division, Shift}
+use Rattle.snl_arithmetic.specs.declared.arithmetic.Fault.{Fault}
+use Rattle.snl_arithmetic.specs.declared.arithmetic.Fault.TheVariants.{Overflow, Division, Shift}
 
 -- A number lies in -2^63 .. 2^63-1.
 abbrev pub is_in_range : ℤ → Bool

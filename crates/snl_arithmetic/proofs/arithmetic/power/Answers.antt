@@ -2,7 +2,7 @@ use Rattle.std.proofs.Common.{◌≡◌, ◌<◌, ◌^◌, ◌*◌, ◌%◌, ℕ
 use Rattle.std.proofs.Math.Pow.{pow-lt}
 use Rattle.std.proofs.Math.Nat.{mod-eq_of_lt}
 use Rattle.std.proofs.lemmas.Int.{to_z_pos}
-use Rattle.snl_sites.proofs.arithmetic.power.Goals as goal
+use Rattle.snl_arithmetic.proofs.arithmetic.power.Goals as goal
 
 small : (n : ℕ) → n < 63 → 2 ^ n < 2 ^ 63
 small n h = pow-lt h

@@ -1,7 +1,7 @@
 //! Arithmetic over -2^63 .. 2^63-1, with its faults.
 
 ghost use Rattle.std.specs.Prelude.{◌≡◌, ◌<◌, ◌^◌, pos, ◌*ℤ◌};
-ghost use Rattle.snl_sites.specs.Arithmetic as spec;
+ghost use Rattle.snl_arithmetic.specs.Arithmetic as spec;
 
 use snl_text::Kind;
 

@@ -1,0 +1,7 @@
+//! Arithmetic of programs: what operators make of whole numbers of 64 bits, and when they fault.
+#![tactic(auto)]
+
+mod arithmetic;
+pub mod laws;
+
+pub use arithmetic::{Fault, computed, computed_prefix};
