@@ -1,3 +1,4 @@
+pub mod Adding
 pub mod Doing
 pub mod Parts
 pub mod Writing

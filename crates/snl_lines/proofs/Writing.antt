@@ -1,7 +1,7 @@
 -- Laws of what a sink tells, and of texts in pieces.
 use Rattle.std.proofs.Common.{◌≡◌, ℕ, List, [], ◌∷◌, ◌++◌, Option, None, Some, refl, ap, sym, ◌∙◌, append_assoc, append-nil, ◌+◌, ◌<◌, arith, length-drop, take, drop, map, length, get_or, Result, Ok, Err, IsErr}
 use Rattle.std.proofs.Math.Seq.{take-add}
-use Rattle.std.proofs.lemmas.List.{take-append-drop, take_more, map-append}
+use Rattle.std.proofs.lemmas.List.{take-append-drop, drop_more}
 use Rattle.snl_lines.specs.Devices.{told_more, IsCutShort, Wrote}
 use Rattle.snl_lines.specs.Lines.{joined}
 
@@ -14,11 +14,6 @@ told_more-told_more (Some before) a b = ap Some (append_assoc before a b)
 pub told_more-nil : (told : Option (List ℕ)) → told_more told [] ≡ told
 told_more-nil None = refl
 told_more-nil (Some before) = ap Some (append-nil before)
-
--- pieces in two parts
-pub joined-append : (a b : List (List ℕ)) → joined (a ++ b) ≡ joined a ++ joined b
-joined-append [] b = refl
-joined-append (x ∷ a) b = ap (λ t. x ++ t) (joined-append a b) ∙ sym (append_assoc x (joined a) (joined b))
 
 -- a text of which i bytes were taken, and then n more
 pub takes-more : (told mid new : Option (List ℕ)) (text : List ℕ) (i n : ℕ) →
@@ -52,43 +47,7 @@ failed-wrote (Err fault) text old new is cut = cut
 pub takes-nothing : (mid new : Option (List ℕ)) (text : List ℕ) (n : ℕ) → new ≡ told_more mid (take n text) → n ≡ 0 → new ≡ mid
 takes-nothing mid new text n takes is = takes ∙ ap (λ k. told_more mid (take k text)) is ∙ told_more-nil mid
 
--- one piece more
-pub joined-more : {A : Type 0} (f : A → List ℕ) (pieces : List A) (i : ℕ) (d : A) → i < length pieces →
-    joined (map f (take (i + 1) pieces)) ≡ joined (map f (take i pieces)) ++ f (get_or pieces i d)
-joined-more f pieces i d within =
-    ap (λ ps. joined (map f ps)) (take_more pieces i d within)
-    ∙ ap joined (map-append f (take i pieces) (get_or pieces i d ∷ []))
-    ∙ joined-append (map f (take i pieces)) (f (get_or pieces i d) ∷ [])
-    ∙ ap (λ t. joined (map f (take i pieces)) ++ t) (append-nil (f (get_or pieces i d)))
-
--- the pieces up to one, and those after it
-joined-parts : {A : Type 0} (f : A → List ℕ) (pieces : List A) (i : ℕ) (d : A) → i < length pieces →
-    joined (map f pieces) ≡ (joined (map f (take i pieces)) ++ f (get_or pieces i d)) ++ joined (map f (drop (i + 1) pieces))
-joined-parts f pieces i d within =
-    ap (λ ps. joined (map f ps)) (sym (take-append-drop (i + 1) pieces))
-    ∙ ap joined (map-append f (take (i + 1) pieces) (drop (i + 1) pieces))
-    ∙ joined-append (map f (take (i + 1) pieces)) (map f (drop (i + 1) pieces))
-    ∙ ap (λ t. t ++ joined (map f (drop (i + 1) pieces))) (joined-more f pieces i d within)
-
--- pieces that are cut short in one of them
-pub joined-cut : {A : Type 0} (f : A → List ℕ) (pieces : List A) (i : ℕ) (d : A) (told mid new : Option (List ℕ)) → i < length pieces →
-    mid ≡ told_more told (joined (map f (take i pieces))) → IsCutShort (f (get_or pieces i d)) mid new → IsCutShort (joined (map f pieces)) told new
-joined-cut f pieces i d told mid new within so_far cut = let before = joined (map f (take i pieces)) in let after = joined (map f (drop (i + 1) pieces)) in record {
-  taken = before ++ cut.taken;
-  rest = cut.rest ++ after;
-  is = joined-parts f pieces i d within
-      ∙ ap (λ t. (before ++ t) ++ after) cut.is
-      ∙ ap (λ t. t ++ after) (sym (append_assoc before cut.taken cut.rest))
-      ∙ append_assoc (before ++ cut.taken) cut.rest after;
-  lost = append-lost cut.rest after cut.lost;
-  told = cut.told ∙ ap (λ o. told_more o cut.taken) so_far ∙ told_more-told_more told before cut.taken;
-}
-
--- pieces of which one more was taken
-pub joined-goes_on : {A : Type 0} (f : A → List ℕ) (pieces : List A) (i : ℕ) (d : A) (told mid new : Option (List ℕ)) → i < length pieces →
-    mid ≡ told_more told (joined (map f (take i pieces))) → new ≡ told_more mid (f (get_or pieces i d)) →
-    new ≡ told_more told (joined (map f (take (i + 1) pieces)))
-joined-goes_on f pieces i d told mid new within so_far more =
-    more ∙ ap (λ o. told_more o (f (get_or pieces i d))) so_far
-    ∙ told_more-told_more told (joined (map f (take i pieces))) (f (get_or pieces i d))
-    ∙ ap (told_more told) (sym (joined-more f pieces i d within))
+-- some pieces: the first of them, and the others
+pub pieces-here : {A : Type 0} (f : A → List ℕ) (pieces : List A) (i : ℕ) (d : A) → i < length pieces →
+    joined (map f (drop i pieces)) ≡ f (get_or pieces i d) ++ joined (map f (drop (i + 1) pieces))
+pieces-here f pieces i d within = ap (λ ps. joined (map f ps)) (drop_more pieces i d within)

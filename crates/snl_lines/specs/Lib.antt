@@ -1,3 +1,4 @@
 pub mod Devices
 pub mod Does
+pub mod Held
 pub mod Lines

@@ -2,13 +2,13 @@
 #![tactic(auto)]
 
 mod faults;
+mod held;
 mod lines;
 mod printing;
 mod sinks;
 
 pub use faults::{Stop, fault_text};
-pub use lines::{
-    write_exit, write_fault, write_go, write_number, write_pieces, write_put, write_start,
-};
+pub use held::Line;
+pub use lines::{add_number, add_put, write_exit, write_fault, write_go, write_start};
 pub use printing::write_print;
 pub use sinks::{Sink, SinkFault};

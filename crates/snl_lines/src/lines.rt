@@ -1,10 +1,12 @@
 //! The lines that a run writes.
 
-ghost use Rattle.std.specs.Prelude.{◌≡◌, ◌-◌, ◌^◌, ◌<◌, ◌∷◌, [], is_err, map};
+ghost use Rattle.std.specs.Prelude.{◌≡◌, ◌-◌, ◌^◌, ◌<◌, ◌∷◌, ◌++◌, [], is_err, map};
 ghost use Rattle.std.specs.Fmt.{signed_decimal};
 ghost use Rattle.snl_lines.specs.Devices.{counted, Wrote};
+ghost use Rattle.snl_lines.specs.Held.{Adds};
 ghost use Rattle.snl_lines.specs.Lines.{joined, start_line, go_line, exit_line, fault_line, put_front, space};
 
+use crate::held::Line;
 use crate::sinks::{Sink, SinkFault};
 use itoa::Buffer;
 
@@ -76,52 +78,41 @@ pub fn write_fault<'t, S: Sink>(
 }
 
 /// The front of a line of `pvPut`: `MS put CHANNEL`. The values follow.
-pub fn write_put<'t, S: Sink>(sink: &mut S, ms: u64, channel: &'t [u8]) -> Result<(), SinkFault>
+pub fn add_put<'t, S: Sink>(
+    line: &mut Line,
+    ms: u64,
+    channel: &'t [u8],
+    sink: &mut S,
+) -> Result<(), SinkFault>
     requires { S.failures sink.old < 2 ^ 64 - 1 }
-    ensures told { Wrote result (put_front ms channel.now) (S.told sink.old) (S.told sink.new) }
+    ensures told { Adds result (line.old.held.items ++ put_front ms channel.now)
+        line.new.held.items (S.told sink.old) (S.told sink.new) }
     ensures failures { S.failures sink.new ≡ counted (is_err result) (S.failures sink.old) }
 {
     let mut time = Buffer::new();
-    write_pieces(sink, &[time.format(ms).as_bytes(), b" put ", channel])
+    line.add_all(&[time.format(ms).as_bytes(), b" put ", channel], sink)
 }
 
 /// A blank and a number.
-pub fn write_number<S: Sink>(sink: &mut S, number: i64) -> Result<(), SinkFault>
+pub fn add_number<S: Sink>(line: &mut Line, number: i64, sink: &mut S) -> Result<(), SinkFault>
     requires { S.failures sink.old < 2 ^ 64 - 1 }
-    ensures told { Wrote result (joined (space ∷ signed_decimal number ∷ [])) (S.told sink.old)
-        (S.told sink.new) }
+    ensures told { Adds result
+        (line.old.held.items ++ joined (space ∷ signed_decimal number ∷ []))
+        line.new.held.items (S.told sink.old) (S.told sink.new) }
     ensures failures { S.failures sink.new ≡ counted (is_err result) (S.failures sink.old) }
 {
     let mut digits = Buffer::new();
-    write_pieces(sink, &[b" ", digits.format(number).as_bytes()])
+    line.add_all(&[b" ", digits.format(number).as_bytes()], sink)
 }
 
-/// Hands pieces to a sink, one after another.
-pub fn write_pieces<S: Sink>(sink: &mut S, pieces: &[&[u8]]) -> Result<(), SinkFault>
+/// Hands a line to a sink that is made of pieces.
+fn write_pieces<S: Sink>(sink: &mut S, pieces: &[&[u8]]) -> Result<(), SinkFault>
     requires { S.failures sink.old < 2 ^ 64 - 1 }
     ensures told { Wrote result (joined (map (λ piece. piece.now) pieces.now)) (S.told sink.old)
         (S.told sink.new) }
     ensures failures { S.failures sink.new ≡ counted (is_err result) (S.failures sink.old) }
 {
-    for piece in pieces {
-        write_whole(sink, piece)?;
-    }
-    Ok(())
-}
-
-/// Hands a piece to a sink until it has taken all of it, however few bytes it takes a call.
-pub fn write_whole<S: Sink>(sink: &mut S, piece: &[u8]) -> Result<(), SinkFault>
-    requires { S.failures sink.old < 2 ^ 64 - 1 }
-    ensures told { Wrote result piece.now (S.told sink.old) (S.told sink.new) }
-    ensures failures { S.failures sink.new ≡ counted (is_err result) (S.failures sink.old) }
-{
-    let mut written = 0;
-    while written < piece.len() {
-        let taken = sink.write(&piece[written..])?;
-        if taken == 0 {
-            return Err(SinkFault);
-        }
-        written += taken;
-    }
-    Ok(())
+    let mut line = Line::new();
+    line.add_all(pieces, sink)?;
+    line.send(sink)
 }

@@ -1,11 +1,12 @@
 //! The line of a `printf`: its format with the numbers in it.
 
-ghost use Rattle.std.specs.Prelude.{◌≡◌, ◌-◌, ◌^◌, ◌<◌, [], drop, is_err};
+ghost use Rattle.std.specs.Prelude.{◌≡◌, ◌-◌, ◌^◌, ◌<◌, ◌++◌, [], drop, is_err};
 ghost use Rattle.snl_lines.specs.Devices.{counted, Wrote};
+ghost use Rattle.snl_lines.specs.Held.{Adds};
 ghost use Rattle.snl_lines.specs.Lines.{print_front};
 ghost use Rattle.snl_pieces.specs.Printing as spec;
 
-use crate::lines::{write_pieces, write_whole};
+use crate::held::Line;
 use crate::sinks::{Sink, SinkFault};
 use itoa::Buffer;
 use snl_sites::formats::{Place, converts, next};
@@ -24,23 +25,28 @@ pub fn write_print<'t, S: Sink>(
         (S.told sink.old) (S.told sink.new) }
     ensures failures { S.failures sink.new ≡ counted (is_err result) (S.failures sink.old) }
 {
-    write_front(sink, ms, state_set)?;
-    write_text(sink, unquoted(format), numbers)?;
-    write_whole(sink, b"\n")
+    let mut line = Line::new();
+    add_front(&mut line, ms, state_set, sink)?;
+    add_text(&mut line, unquoted(format), numbers, sink)?;
+    line.add(b"\n", sink)?;
+    line.send(sink)
 }
 
 /// What stands in front of the text.
-fn write_front<'t, S: Sink>(sink: &mut S, ms: u64, state_set: &'t [u8]) -> Result<(), SinkFault>
+fn add_front<'t, S: Sink>(
+    line: &mut Line,
+    ms: u64,
+    state_set: &'t [u8],
+    sink: &mut S,
+) -> Result<(), SinkFault>
     requires { S.failures sink.old < 2 ^ 64 - 1 }
-    ensures told { Wrote result (print_front ms state_set.now) (S.told sink.old)
-        (S.told sink.new) }
+    ensures told { Adds result (line.old.held.items ++ print_front ms state_set.now)
+        line.new.held.items (S.told sink.old) (S.told sink.new) }
     ensures failures { S.failures sink.new ≡ counted (is_err result) (S.failures sink.old) }
 {
     let mut time = Buffer::new();
-    write_pieces(
-        sink,
-        &[time.format(ms).as_bytes(), b" print ", state_set, b" "],
-    )
+    let ms = time.format(ms).as_bytes();
+    line.add_all(&[ms, b" print ", state_set, b" "], sink)
 }
 
 /// A string without its quotes.
@@ -64,16 +70,22 @@ fn after_first(numbers: &[i64]) -> &[i64]
 }
 
 /// What the bytes of a format write.
-fn write_text<S: Sink>(sink: &mut S, text: &[u8], numbers: &[i64]) -> Result<(), SinkFault>
+fn add_text<S: Sink>(
+    line: &mut Line,
+    text: &[u8],
+    numbers: &[i64],
+    sink: &mut S,
+) -> Result<(), SinkFault>
     requires { S.failures sink.old < 2 ^ 64 - 1 }
-    ensures told { Wrote result (spec.shown Place.Plain numbers.now text.now) (S.told sink.old)
-        (S.told sink.new) }
+    ensures told { Adds result
+        (line.old.held.items ++ spec.shown Place.Plain numbers.now text.now)
+        line.new.held.items (S.told sink.old) (S.told sink.new) }
     ensures failures { S.failures sink.new ≡ counted (is_err result) (S.failures sink.old) }
 {
     let mut place = Place::Plain;
     let mut left = numbers;
     for byte in text {
-        write_byte(sink, place, *byte, left)?;
+        add_byte(line, place, *byte, left, sink)?;
         if converts(place, *byte) {
             left = after_first(left);
         }
@@ -83,67 +95,68 @@ fn write_text<S: Sink>(sink: &mut S, text: &[u8], numbers: &[i64]) -> Result<(),
 }
 
 /// What a byte of a format writes. A conversion writes the first of the numbers.
-fn write_byte<S: Sink>(
-    sink: &mut S,
+fn add_byte<S: Sink>(
+    line: &mut Line,
     place: Place,
     byte: u8,
     numbers: &[i64],
+    sink: &mut S,
 ) -> Result<(), SinkFault>
     requires { S.failures sink.old < 2 ^ 64 - 1 }
-    ensures told { Wrote result (spec.shown_byte place byte numbers.now) (S.told sink.old)
-        (S.told sink.new) }
+    ensures told { Adds result (line.old.held.items ++ spec.shown_byte place byte numbers.now)
+        line.new.held.items (S.told sink.old) (S.told sink.new) }
     ensures failures { S.failures sink.new ≡ counted (is_err result) (S.failures sink.old) }
 {
     match place {
-        Place::Plain => write_plain(sink, byte),
+        Place::Plain => add_plain(line, byte, sink),
         Place::Escaped => {
             if byte == b'"' {
-                write_whole(sink, &[byte])
+                line.add(&[byte], sink)
             } else {
-                write_whole(sink, &[b'\\', byte])
+                line.add(&[b'\\', byte], sink)
             }
         }
         Place::Percent => {
             if byte == b'%' {
-                write_whole(sink, &[byte])
+                line.add(&[byte], sink)
             } else if byte == b'd' {
-                write_first(sink, numbers)
+                add_first(line, numbers, sink)
             } else {
-                write_whole(sink, &[])
+                line.add(&[], sink)
             }
         }
-        Place::Long => write_first(sink, numbers),
+        Place::Long => add_first(line, numbers, sink),
     }
 }
 
 /// A byte that stands for itself. A tab is written as `\t`; what begins an escape or a conversion writes nothing.
-fn write_plain<S: Sink>(sink: &mut S, byte: u8) -> Result<(), SinkFault>
+fn add_plain<S: Sink>(line: &mut Line, byte: u8, sink: &mut S) -> Result<(), SinkFault>
     requires { S.failures sink.old < 2 ^ 64 - 1 }
-    ensures told { Wrote result (spec.shown_byte Place.Plain byte []) (S.told sink.old)
-        (S.told sink.new) }
+    ensures told { Adds result (line.old.held.items ++ spec.shown_byte Place.Plain byte [])
+        line.new.held.items (S.told sink.old) (S.told sink.new) }
     ensures failures { S.failures sink.new ≡ counted (is_err result) (S.failures sink.old) }
 {
     if byte == b'\\' || byte == b'%' {
-        write_whole(sink, &[])
+        line.add(&[], sink)
     } else if byte == b'\t' {
-        write_whole(sink, b"\\t")
+        line.add(b"\\t", sink)
     } else {
-        write_whole(sink, &[byte])
+        line.add(&[byte], sink)
     }
 }
 
 /// The first of some numbers, in decimals; nothing where there is none.
-fn write_first<S: Sink>(sink: &mut S, numbers: &[i64]) -> Result<(), SinkFault>
+fn add_first<S: Sink>(line: &mut Line, numbers: &[i64], sink: &mut S) -> Result<(), SinkFault>
     requires { S.failures sink.old < 2 ^ 64 - 1 }
-    ensures told { Wrote result (spec.first_shown numbers.now) (S.told sink.old)
-        (S.told sink.new) }
+    ensures told { Adds result (line.old.held.items ++ spec.first_shown numbers.now)
+        line.new.held.items (S.told sink.old) (S.told sink.new) }
     ensures failures { S.failures sink.new ≡ counted (is_err result) (S.failures sink.old) }
 {
     match numbers {
         [first, ..] => {
             let mut digits = Buffer::new();
-            write_whole(sink, digits.format(*first).as_bytes())
+            line.add(digits.format(*first).as_bytes(), sink)
         }
-        [] => write_whole(sink, &[]),
+        [] => line.add(&[], sink),
     }
 }

@@ -1,6 +1,6 @@
 use Rattle.std.proofs.Common.{◌≡◌, ◌-◌, ◌≤◌, length, take}
 use Rattle.snl_lines.specs.Devices.{told_more}
-use Rattle.snl_lines.proofs.lines.write_whole.Given as goal
+use Rattle.snl_lines.proofs.held.write_whole.Given as goal
 
 abbrev pub invariant-loop-written : goal.invariant-loop-written
 invariant-loop-written g l = record {

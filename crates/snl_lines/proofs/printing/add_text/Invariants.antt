@@ -1,11 +1,12 @@
 use Rattle.std.proofs.Common.{◌≡◌, drop}
 use Rattle.snl_sites.specs.declared.formats.Place.TheVariants.{Plain}
 use Rattle.snl_pieces.specs.Printing.{shown}
-use Rattle.snl_lines.proofs.Parts.{IsPartTold}
-use Rattle.snl_lines.proofs.printing.write_text.Given as goal
+use Rattle.snl_lines.proofs.Adding.{IsAdded}
+use Rattle.snl_lines.proofs.printing.add_text.Given as goal
 
 abbrev pub invariant-loop-byte : goal.invariant-loop-byte
 invariant-loop-byte g l = record {
-  told : IsPartTold (shown Plain l.fn.numbers l.text) (shown l.place l.left (drop l.byte-index l.text)) (g.S.Sink.told l.fn.sink) (g.S.Sink.told l.sink);
+  added : IsAdded (shown Plain l.fn.numbers l.text) (shown l.place l.left (drop l.byte-index l.text)) l.fn.line.held.items l.line.held.items
+      (g.S.Sink.told l.fn.sink) (g.S.Sink.told l.sink);
   none_failed : g.S.Sink.failures l.sink ≡ g.S.Sink.failures l.fn.sink;
 }

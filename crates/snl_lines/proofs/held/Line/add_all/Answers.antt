@@ -1,14 +1,25 @@
-use Rattle.std.proofs.Common.{rules}
-use Rattle.snl_lines.proofs.Writing.{failed-wrote, joined-cut, joined-goes_on}
-use Rattle.snl_lines.proofs.lines.write_pieces.Goals as goal
+use Rattle.std.proofs.Common.{rules, ap, map}
+use Rattle.std.proofs.lemmas.List.{drop_all}
+use Rattle.snl_lines.specs.Lines.{joined}
+use Rattle.snl_lines.proofs.Adding.{added-all, added-as, added-cut, added-more, added-start, failed-adds}
+use Rattle.snl_lines.proofs.Writing.{pieces-here}
+use Rattle.snl_lines.proofs.held.Line.add_all.Goals as goal
 
-pub returns-in_err-write_whole-clause-told : goal.returns-in_err-write_whole-clause-told
-returns-in_err-write_whole-clause-told g c =
-    failed-wrote _ _ _ _ c.from_residual.ensures.0
-    (joined-cut (λ piece. piece.now) c.args.pieces.now c.loop-piece.piece-index _ _ _ _ c.loop-piece-test.true c.loop-piece.invariant.told c.in_err-write_whole.ensures.told)
+pub loop-piece-init : goal.loop-piece-init
+loop-piece-init g c = record {
+  added = added-start _ _ _;
+  none_failed = search rules;
+}
+
+pub returns-in_err-add-clause-told : goal.returns-in_err-add-clause-told
+returns-in_err-add-clause-told g c =
+    failed-adds _ _ _ _ _ c.from_residual.ensures.0
+    (added-cut _ _ _ _ _ _ _ _ (added-as _ _ _ _ _ _ _ (pieces-here (λ piece. piece.now) c.args.pieces.now c.loop-piece.piece-index _ c.loop-piece-test.true) c.loop-piece.invariant.added)
+    c.in_err-add.ensures.told)
 
 pub loop-piece-preserved : goal.loop-piece-preserved
 loop-piece-preserved g c = record {
-  told = joined-goes_on (λ piece. piece.now) c.args.pieces.now c.loop-piece.piece-index _ _ _ _ c.loop-piece-test.true c.loop-piece.invariant.told c.in_ok-write_whole.ensures.told;
+  added = added-more _ _ _ _ _ _ _ _ _ (added-as _ _ _ _ _ _ _ (pieces-here (λ piece. piece.now) c.args.pieces.now c.loop-piece.piece-index _ c.loop-piece-test.true) c.loop-piece.invariant.added)
+      c.in_ok-add.ensures.told;
   none_failed = search rules;
 }

@@ -1,10 +1,11 @@
-use Rattle.std.proofs.Common.{◌≡◌, take, map}
-use Rattle.snl_lines.specs.Devices.{told_more}
+use Rattle.std.proofs.Common.{◌≡◌, drop, map}
 use Rattle.snl_lines.specs.Lines.{joined}
-use Rattle.snl_lines.proofs.lines.write_pieces.Given as goal
+use Rattle.snl_lines.proofs.Adding.{IsAdded}
+use Rattle.snl_lines.proofs.held.Line.add_all.Given as goal
 
 abbrev pub invariant-loop-piece : goal.invariant-loop-piece
 invariant-loop-piece g l = record {
-  told : g.S.Sink.told l.sink ≡ told_more (g.S.Sink.told l.initial.sink) (joined (map (λ piece. piece.now) (take l.piece-index l.pieces)));
+  added : IsAdded (joined (map (λ piece. piece.now) l.pieces)) (joined (map (λ piece. piece.now) (drop l.piece-index l.pieces))) l.initial.self.held.items l.self.held.items
+      (g.S.Sink.told l.initial.sink) (g.S.Sink.told l.sink);
   none_failed : g.S.Sink.failures l.sink ≡ g.S.Sink.failures l.initial.sink;
 }
