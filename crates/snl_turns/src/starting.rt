@@ -1,6 +1,6 @@
 //! The start of a program, once its channels are there.
 
-ghost use Rattle.std.specs.Prelude.{◌≡◌, ◌-◌, ◌^◌, ◌<◌, false, is_none};
+ghost use Rattle.std.specs.Prelude.{◌≡◌, ◌-◌, ◌^◌, ◌<◌, false, is_none, IfSome, Some, option_map, slice_get};
 ghost use Rattle.std.specs.Bool.{OnTrue};
 ghost use Rattle.std.specs.List.{list_all};
 ghost use Rattle.snl_lines.specs.Devices.{counted, stopped_by_sink};
@@ -47,7 +47,10 @@ fn is_awaited(links: &[LinkPlan], store: &Store) -> bool
 
 /// The number of the first link that is not ready, if there is one.
 fn first_missing(links: &[LinkPlan], store: &Store) -> Option<usize>
-    ensures { is_none result ≡ list_all (spec.is_link_ready (world_of store.now)) links.now }
+    ensures none { is_none result
+        ≡ list_all (spec.is_link_ready (world_of store.now)) links.now }
+    ensures which { IfSome result (λ number. option_map (spec.is_link_ready (world_of store.now))
+        (slice_get links.now number) ≡ Some false) }
 {
     for (number, link) in links.iter().enumerate() {
         if !is_ready(*link, store) {
