@@ -1,22 +1,12 @@
 -- Laws of the fields of a text.
-use Rattle.std.proofs.Common.{◌≡◌, ℕ, zero, suc, ◌<◌, ◌≤◌, ◌||◌, true, false, List, [], ◌∷◌, ◌++◌, Option, None, Some, length, take, drop, get_or, nat_eq, refl, sym, ap, ◌∙◌, subst, arith, drop-cons}
-use Rattle.std.specs.Option.{unwrap_or}
+use Rattle.std.proofs.Common.{◌≡◌, ℕ, zero, suc, inl, inr, ◌+◌, ◌<◌, ◌≤◌, ◌||◌, true, false, List, [], ◌∷◌, ◌++◌, Option, None, Some, length, take, drop, get_or, nat_eq, refl, sym, ap, ◌∙◌, subst, arith, append-nil, drop-cons, length-drop}
 use Rattle.std.specs.List.{All}
-use Rattle.std.proofs.lemmas.Bool.{false_from_ne_true, false≢true, ne_eqb}
+use Rattle.std.proofs.Math.Nat.{eq-or-lt_of_le}
+use Rattle.std.proofs.Math.Seq.{drop-append_seam}
+use Rattle.std.proofs.lemmas.Bool.{cases_Bool, false_from_ne_true, false≢true, ne_eqb}
 use Rattle.std.proofs.lemmas.List.{take-append-drop, get_or-take, get_or_default, length-take-le, take_all, drop_all}
 use Rattle.std.proofs.lemmas.List.Splits.{slice_split-cons_yes, slice_split_at, slice_split_none}
-use Rattle.memchr.specs.Find.{IsFirstByte, Passes}
-use Rattle.bstr.specs.Bytes.{is_in}
-use Rattle.snl_trace.specs.Fields.{is_blank, is_filled, fields, begins_with, begins_blank}
-
--- the set of the two blanks
-is_in-blanks : (x : ℕ) → is_in (32 ∷ 9 ∷ []) x ≡ is_blank x
-unfolding is_in
-is_in-blanks x =
-    elim (nat_eq x 32) as (λ b. (b || (nat_eq x 9 || false)) ≡ (b || nat_eq x 9)) [
-      | true ↦ refl
-      | false ↦ elim (nat_eq x 9) as (λ b. (b || false) ≡ b) [ true ↦ refl | false ↦ refl ]
-    ]
+use Rattle.snl_trace.specs.Fields.{is_blank, is_filled, fields, front, at_end, begins_with, begins_blank}
 
 -- another first byte, or none
 pub begins_with_not : (first : ℕ) (text : List ℕ) → (get_or text 0 0 ≡ first → ⊥) → begins_with first text ≡ false
@@ -54,12 +44,79 @@ fields-all : (xs : List ℕ) → All (λ x. is_blank x ≡ false) xs → is_fill
 unfolding fields
 fields-all xs none filled = rw (slice_split_none is_blank xs none, filled) refl
 
+-- a part in front that is a field, and what stands behind it
+fields-parts : (f rest : List ℕ) → All (λ x. is_blank x ≡ false) f → is_filled f ≡ true → at_end rest ≡ true → fields (f ++ rest) ≡ f ∷ fields rest
+fields-parts f [] plain filled ends = ap fields (append-nil f) ∙ fields-all f plain filled ∙ ap (λ z. f ∷ z) (sym fields-nil)
+fields-parts f (y ∷ ys) plain filled ends = fields-at f y ys plain filled ends ∙ ap (λ z. f ∷ z) (sym (fields_blank y ys ends))
+
+-- a byte that is no blank belongs to the front
+pub front-more : (b : ℕ) (bs : List ℕ) → is_blank b ≡ false → front (b ∷ bs) ≡ b ∷ front bs
+unfolding front
+front-more b bs plain = rw plain refl
+
+-- no byte stands before a blank that a text begins with
+pub front-none : (rest : List ℕ) → at_end rest ≡ true → front rest ≡ []
+unfolding front
+front-none [] ends = refl
+front-none (b ∷ bs) ends = rw ends refl
+
+-- a text is a front without a blank, and a rest that ends it
+record IsFrontCut (text begun : List ℕ) : Type 0 where
+  rest : List ℕ
+  is : text ≡ begun ++ rest
+  ends : at_end rest ≡ true
+  plain : All (λ x. is_blank x ≡ false) begun
+
+-- one byte more is no blank either
+plain-more : (b : ℕ) (bs : List ℕ) → is_blank b ≡ false → All (λ x. is_blank x ≡ false) bs → All (λ x. is_blank x ≡ false) (b ∷ bs)
+plain-more b bs here later zero d below = here
+plain-more b bs here later (suc j) d below = later j d (omega (arith, below))
+
+-- so is each text cut by its front
+front-cut : (text : List ℕ) → IsFrontCut text (front text)
+unfolding front
+front-cut [] = record { rest = []; is = refl; ends = refl; plain = λ j d below. absurd (omega (arith, below)) }
+front-cut (b ∷ bs) = elim (cases_Bool (is_blank b)) [
+  | inl blank ↦ subst (IsFrontCut (b ∷ bs)) (sym (front-none (b ∷ bs) blank)) record { rest = b ∷ bs; is = refl; ends = blank; plain = λ j d below. absurd (omega (arith, below)) }
+  | inr plain ↦ (let c = front-cut bs in
+      subst (IsFrontCut (b ∷ bs)) (sym (front-more b bs plain)) record { rest = c.rest; is = ap (λ z. b ∷ z) c.is; ends = c.ends; plain = plain-more b (front bs) plain c.plain })
+]
+
+-- the front of a text that begins with a field is not empty
+front-filled : (text : List ℕ) → begins_blank text ≡ false → 0 < length text → is_filled (front text) ≡ true
+front-filled [] trimmed filled = absurd (omega arith)
+front-filled (b ∷ bs) trimmed filled = ap is_filled (front-more b bs trimmed)
+
+-- it is the first field
+pub fields-front : (text : List ℕ) → begins_blank text ≡ false → 0 < length text → fields text ≡ front text ∷ fields (drop (length (front text)) text)
+fields-front text trimmed filled =
+    let c = front-cut text in
+    let behind : drop (length (front text)) text ≡ c.rest = ap (drop (length (front text))) c.is ∙ drop-append_seam (front text) c.rest in
+    ap fields c.is ∙ fields-parts (front text) c.rest c.plain (front-filled text trimmed filled) c.ends ∙ ap (λ r. front text ∷ fields r) (sym behind)
+
+-- so less is left behind it
+pub front-shorter : (text : List ℕ) → begins_blank text ≡ false → 0 < length text → length (drop (length (front text)) text) < length text
+front-shorter [] trimmed filled = absurd (omega arith)
+front-shorter (b ∷ bs) trimmed filled =
+    let one : length (front (b ∷ bs)) ≡ suc (length (front bs)) = ap length (front-more b bs trimmed) in
+    omega (arith, one, length-drop (length (front (b ∷ bs))) (b ∷ bs))
+
+-- no byte before a place is a blank
+abbrev pub NoneBefore : List ℕ → ℕ → Type 0
+NoneBefore text k = (j : ℕ) → j < k → is_blank (get_or text j 0) ≡ false
+
+-- and neither is the byte at it
+pub none-more : (text : List ℕ) (k : ℕ) → NoneBefore text k → is_blank (get_or text k 0) ≡ false → NoneBefore text (k + 1)
+none-more text k none here j below = elim (eq-or-lt_of_le (omega (arith, below))) [
+  | inl same ↦ ap (λ n. is_blank (get_or text n 0)) same ∙ here
+  | inr before ↦ none j before
+]
+
 -- up to a place before which there is no blank, there is none
-none_before : (text : List ℕ) (k : ℕ) → k ≤ length text → ((j : ℕ) → 0 ≤ j → j < k → Passes (is_in (32 ∷ 9 ∷ [])) text j → ⊥) → All (λ x. is_blank x ≡ false) (take k text)
+none_before : (text : List ℕ) (k : ℕ) → k ≤ length text → NoneBefore text k → All (λ x. is_blank x ≡ false) (take k text)
 none_before text k within none j d below =
     let early : j < k = omega (arith, length-take-le k text within) in
-    let same : get_or (take k text) j d ≡ get_or text j 0 = get_or-take k text j d early ∙ get_or_default text j d 0 (omega arith) in
-    ap is_blank same ∙ sym (is_in-blanks (get_or text j 0)) ∙ false_from_ne_true _ (none j (omega arith) early)
+    ap is_blank (get_or-take k text j d early ∙ get_or_default text j d 0 (omega arith)) ∙ none j early
 
 -- a text that is not empty has its first byte in front
 filled_take : (k : ℕ) (text : List ℕ) → 0 < k → 0 < length text → is_filled (take k text) ≡ true
@@ -72,37 +129,22 @@ is_filled_more : (text : List ℕ) → 0 < length text → is_filled text ≡ tr
 is_filled_more [] filled = absurd (omega arith)
 is_filled_more (b ∷ bs) filled = refl
 
--- the first blank of a text that begins with a field is not its first byte
-later : (text : List ℕ) (k : ℕ) → begins_blank text ≡ false → 0 < length text → Passes (is_in (32 ∷ 9 ∷ [])) text k → 0 < k
-later [] k trimmed filled passes = absurd (omega arith)
-later (b ∷ bs) zero trimmed filled passes = absurd (false≢true (sym trimmed ∙ sym (is_in-blanks b) ∙ passes))
-later (b ∷ bs) (suc k) trimmed filled passes = omega arith
+-- where a text begins with a field, that does not end before its first byte
+pub cut-shorter : (text : List ℕ) (k : ℕ) → begins_blank text ≡ false → 0 < length text → (k < length text → is_blank (get_or text k 0) ≡ true) → 0 < k
+cut-shorter [] k trimmed filled ends = absurd (omega arith)
+cut-shorter (b ∷ bs) zero trimmed filled ends = absurd (false≢true (sym trimmed ∙ ends (omega arith)))
+cut-shorter (b ∷ bs) (suc k) trimmed filled ends = omega arith
+
+-- where no field goes on, a text ends or a blank stands
+ends-at : (text : List ℕ) (k : ℕ) → k ≤ length text → (k < length text → is_blank (get_or text k 0) ≡ true) → at_end (drop k text) ≡ true
+ends-at text k within ends = elim (eq-or-lt_of_le within) [
+  | inl all ↦ ap at_end (drop_all k text (omega (arith, all)))
+  | inr before ↦ ap at_end (drop-cons text k 0 before) ∙ ends before
+]
 
 -- the first field of a text that begins with one ends at the first blank, or with the text
-pub fields-cut : (text : List ℕ) (r : Option ℕ) → begins_blank text ≡ false → 0 < length text → IsFirstByte (is_in (32 ∷ 9 ∷ [])) text r
-    → fields text ≡ take (unwrap_or r (length text)) text ∷ fields (drop (unwrap_or r (length text)) text)
-fields-cut text None trimmed filled first =
-    let all : take (length text) text ≡ text = take_all (length text) text (omega arith) in
-    let none = none_before text (length text) (omega arith) first in
-    rw (all, drop_all (length text) text (omega arith), fields-nil)
-    (fields-all text (let P : List ℕ → Type 0 = λ xs. All (λ x. is_blank x ≡ false) xs in subst P all none) (is_filled_more text filled))
-fields-cut text (Some k) trimmed filled first =
-    let within : k < length text = first.0.high in
-    let blank : is_blank (get_or text k 0) ≡ true = sym (is_in-blanks (get_or text k 0)) ∙ first.1 in
-    let none = none_before text k (omega arith) first.0.before in
-    let more : 0 < k = later text k trimmed filled first.1 in
-    let behind : drop k text ≡ get_or text k 0 ∷ drop (suc k) text = drop-cons text k 0 within in
-    let parts : take k text ++ get_or text k 0 ∷ drop (suc k) text ≡ text = ap (λ z. take k text ++ z) (sym behind) ∙ take-append-drop k text in
-    ap fields (sym parts)
-    ∙ fields-at (take k text) (get_or text k 0) (drop (suc k) text) none (filled_take k text more filled) blank
-    ∙ ap (λ z. take k text ∷ z) (sym (ap fields behind ∙ fields_blank (get_or text k 0) (drop (suc k) text) blank))
-
--- and it is no empty field, so that less is left
-pub cut-shorter : (text : List ℕ) (r : Option ℕ) → begins_blank text ≡ false → 0 < length text → IsFirstByte (is_in (32 ∷ 9 ∷ [])) text r → 0 < unwrap_or r (length text)
-cut-shorter text None trimmed filled first = filled
-cut-shorter text (Some k) trimmed filled first = later text k trimmed filled first.1
-
--- the first blank of a text lies within it; otherwise its length stands in the place
-pub cut-within : (text : List ℕ) (r : Option ℕ) → IsFirstByte (is_in (32 ∷ 9 ∷ [])) text r → unwrap_or r (length text) ≤ length text
-cut-within text None first = omega arith
-cut-within text (Some k) first = let within : k < length text = first.0.high in omega arith
+pub fields-cut : (text : List ℕ) (k : ℕ) → begins_blank text ≡ false → 0 < length text → k ≤ length text → NoneBefore text k → (k < length text → is_blank (get_or text k 0) ≡ true)
+    → fields text ≡ take k text ∷ fields (drop k text)
+fields-cut text k trimmed filled within none ends =
+    ap fields (sym (take-append-drop k text))
+    ∙ fields-parts (take k text) (drop k text) (none_before text k within none) (filled_take k text (cut-shorter text k trimmed filled ends) filled) (ends-at text k within ends)

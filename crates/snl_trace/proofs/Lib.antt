@@ -5,5 +5,6 @@ pub mod ReadLaws
 pub mod RunLaws
 pub mod ShortLaws
 pub mod SourceLaws
+pub mod TimedLaws
 pub mod RunOverLaws
 pub mod ValueLaws

@@ -186,6 +186,15 @@ takes-line rules (Some e) front a w told none did = λ more.
     ap (lines_to last_line a.begun) (append_assoc front (10 ∷ []) more) ∙ lines_to-newline last_line a.begun front more (plain front none) in
     subst (λ (ls : List (List ℕ)). EndsIn rules e ls a w told) (sym lines) (ends-here rules e (a.begun ++ front) (lines_from [] more) a w told did)
 
+-- and a line that no bytes before it begin
+pub takes-whole : (rules : Rules) (result : Option End) (front begun : List ℕ) (number : ℕ) (v w : World) (old new : Option (List ℕ)) →
+    begun ≡ [] → All (λ byte. byte ≢ 10) front → LineDoes result w old new (line_done rules number front v) →
+    Takes rules result (front ++ 10 ∷ []) (record { begun = begun; number = number; world = v; told = old }) (record { begun = begun; number = number + 1; world = w; told = new })
+takes-whole rules result front begun number v w old new is none did =
+    let at : List ℕ → Place = λ b. record { begun = b; number = number; world = v; told = old } in
+    let P : List ℕ → Type 0 = λ b. Takes rules result (front ++ 10 ∷ []) (at b) (record { begun = b; number = number + 1; world = w; told = new }) in
+    subst P (sym is) (takes-line rules result front (at []) w new none did)
+
 -- bytes without one go on the line
 pub takes-more : (rules : Rules) (left : List ℕ) (a : Place) → All (λ byte. byte ≢ 10) left →
     Reaches rules left a (record a { begun = a.begun ++ left })

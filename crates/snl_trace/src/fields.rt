@@ -6,9 +6,9 @@ ghost use Rattle.std.specs.List.{list_all};
 ghost use Rattle.snl_trace.specs.Fields as spec;
 ghost use Rattle.snl_trace.specs.Fields.{fields, begins_blank};
 
-use bstr::ByteSlice;
-
-fn is_blank(byte: u8) -> bool
+/// Whether a byte is a space or a tab.
+#[inline(always)]
+pub fn is_blank(byte: u8) -> bool
     ensures { result ≡ spec.is_blank byte }
 {
     matches!(byte, b' ' | b'\t')
@@ -58,7 +58,8 @@ pub fn is_silent(line: &[u8]) -> bool
 
 /// A text without the blanks that it begins with.
 #[tactic(auto, using(crate::proofs::FieldLaws::fields_blank, crate::proofs::FieldLaws::begins_blank_empty))]
-fn trimmed(text: &[u8]) -> &[u8]
+#[inline(always)]
+pub fn trimmed(text: &[u8]) -> &[u8]
     ensures same { fields result.now ≡ fields text.now }
     ensures begins { begins_blank result.now ≡ false }
     ensures shorter { length result.now ≤ length text.now }
@@ -74,6 +75,7 @@ fn trimmed(text: &[u8]) -> &[u8]
 }
 
 /// Where the field ends with which a text begins.
+#[inline(always)]
 fn field_end(text: &[u8]) -> usize
     requires filled { 0 < length text.now }
     requires begins { begins_blank text.now ≡ false }
@@ -81,11 +83,16 @@ fn field_end(text: &[u8]) -> usize
     ensures more { 0 < result }
     ensures within { result ≤ length text.now }
 {
-    text.find_byteset(b" \t").unwrap_or(text.len())
+    let mut end = 0;
+    while end < text.len() && !is_blank(text[end]) {
+        end += 1;
+    }
+    end
 }
 
 /// The first field of a text, and the text behind it; None where there is no field.
 #[tactic(auto, using(crate::proofs::FieldLaws::fields_empty))]
+#[inline(always)]
 pub fn first_field(text: &[u8]) -> Option<(&[u8], &[u8])>
     ensures cut { MatchOption result (fields text.now ≡ [])
         (λ cut. fields text.now ≡ cut.0.now ∷ fields cut.1.now) }

@@ -7,7 +7,7 @@ ghost use Rattle.snl_trace.specs.Grammar as grammar;
 ghost use Rattle.snl_trace.specs.Grammar.{told_of, read_of, if_fits, up_at};
 ghost use Rattle.snl_trace.specs.Seen.{seen, time_seen, told_seen, event_heard, event_seen, event_at_time, HasRoom};
 
-use crate::fields::{first_field, is_ascii_text, is_silent};
+use crate::fields::{is_ascii_text, is_silent, trimmed};
 use crate::lines::without_return;
 use crate::numbers::time;
 use crate::trace_faults::{LINE_LIMIT, TraceFault};
@@ -121,16 +121,18 @@ pub fn told<'a>(
 }
 
 /// The time of a line, and the text behind it.
-#[tactic(auto, unfolding(crate::specs::Grammar::timed))]
 fn timed(line: &[u8], last_ms: u64) -> Result<(u64, &[u8]), TraceFault>
     ensures { seen time_seen result ≡ grammar.timed last_ms (fields line.now) }
 {
-    let (field, rest) = first_field(line).ok_or(TraceFault::BadTime)?;
-    let ms = time(field).ok_or(TraceFault::BadTime)?;
-    if ms < last_ms {
-        return Err(TraceFault::BackInTime);
+    match time(trimmed(line)) {
+        None => Err(TraceFault::BadTime),
+        Some((ms, rest)) => {
+            if ms < last_ms {
+                return Err(TraceFault::BackInTime);
+            }
+            Ok((ms, rest))
+        }
     }
-    Ok((ms, rest))
 }
 
 /// What is heard of a channel that is up.

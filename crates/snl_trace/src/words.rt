@@ -6,7 +6,7 @@ ghost use Rattle.snl_trace.specs.Grammar as grammar;
 ghost use Rattle.snl_trace.specs.Grammar.{told_by, kept, values_of, kept_values, up_with, val_with, tick_with, ended, word_of};
 ghost use Rattle.snl_trace.specs.Seen.{seen, told};
 
-use crate::fields::first_field;
+use crate::fields::{first_field, trimmed};
 use crate::numbers::value;
 use crate::trace_faults::TraceFault;
 use arrayvec::ArrayVec;
@@ -18,16 +18,22 @@ pub type Values = ArrayVec<i64, VALUES_KEPT>;
 /// The words of a trace.
 #[derive(Clone, Copy, Debug, PartialEq, Eq)]
 pub enum Word {
+    /// A channel is connected.
     Up,
+    /// A channel has values.
     Val,
+    /// Time passes.
     Tick,
 }
 
 /// What a line tells, with a channel by its name. The values of a `val` stand apart.
 #[derive(Clone, Copy, Debug)]
 pub enum Telling<'a> {
+    /// The channel of this name is connected.
     Up(&'a [u8]),
+    /// The channel of this name has values.
     Val(&'a [u8]),
+    /// Time passes.
     Tick,
 }
 
@@ -114,16 +120,20 @@ fn keep_values(rest: &[u8], values: &mut Values) -> Result<(), TraceFault>
 }
 
 /// Puts the values of the fields in place of those that stood there.
-#[tactic(auto, using(crate::proofs::ValueLaws::kept_after_start, crate::proofs::ValueLaws::kept_after_more, crate::proofs::ValueLaws::kept_after_bad, crate::proofs::ValueLaws::kept_after_end))]
+#[tactic(auto, using(crate::proofs::ValueLaws::kept_after_start))]
 fn all_values(rest: &[u8], values: &mut Values) -> Result<(), TraceFault>
     ensures { seen (λ _. values.new.items) result ≡ kept (values_of (fields rest.now)) }
 {
     values.clear();
-    let mut left = rest;
-    while let Some((field, behind)) = first_field(left) {
-        let value = value(field).ok_or(TraceFault::BadValue)?;
-        keep(values, value);
-        left = behind;
+    let mut left = trimmed(rest);
+    while !left.is_empty() {
+        match value(left) {
+            None => return Err(TraceFault::BadValue),
+            Some((value, behind)) => {
+                keep(values, value);
+                left = trimmed(behind);
+            }
+        }
     }
     Ok(())
 }

@@ -1,11 +1,12 @@
-use Rattle.snl_trace.proofs.FieldLaws.{fields-cut, cut-shorter, cut-within}
+use Rattle.std.proofs.Common.{arith, rules}
+use Rattle.snl_trace.proofs.FieldLaws.{fields-cut}
 use Rattle.snl_trace.proofs.fields.field_end.Goals as goal
 
-pub returns-clause-cut : goal.returns-clause-cut
-returns-clause-cut c = rw c.unwrap_or.ensures (fields-cut c.args.text.now c.find_byteset.result c.requires.begins c.requires.filled c.find_byteset.ensures)
+pub returns-else-not-is_blank-clause-cut : goal.returns-else-not-is_blank-clause-cut
+returns-else-not-is_blank-clause-cut c =
+    fields-cut c.args.text.now c.loop-end.end c.requires.begins c.requires.filled c.loop-end.invariant.within c.loop-end.invariant.none (λ before. search rules)
 
-pub returns-clause-more : goal.returns-clause-more
-returns-clause-more c = rw c.unwrap_or.ensures (cut-shorter c.args.text.now c.find_byteset.result c.requires.begins c.requires.filled c.find_byteset.ensures)
-
-pub returns-clause-within : goal.returns-clause-within
-returns-clause-within c = rw c.unwrap_or.ensures (cut-within c.args.text.now c.find_byteset.result c.find_byteset.ensures)
+pub returns-after-loop-end-clause-cut : goal.returns-after-loop-end-clause-cut
+returns-after-loop-end-clause-cut c =
+    fields-cut c.args.text.now c.loop-end.end c.requires.begins c.requires.filled c.loop-end.invariant.within c.loop-end.invariant.none
+    (λ before. absurd (omega (arith, before, c.loop-end-test.false)))

@@ -1,9 +1,10 @@
-use Rattle.std.proofs.Common.{◌≡◌, ◌∙◌, ◌++◌, ◌∷◌, [], ℕ, List, sym, subst, append_assoc}
+use Rattle.std.proofs.Common.{rules, ◌≡◌, ◌∙◌, ◌++◌, ◌∷◌, [], ℕ, List, sym, subst, append_assoc}
+use Rattle.std.proofs.lemmas.List.{nil_from_length}
 use Rattle.snl_trace.specs.declared.runner.End.TheVariants as end
 use Rattle.snl_trace.specs.Lines.{lines_from}
 use Rattle.snl_trace.specs.Run.{rules_of}
 use Rattle.snl_trace.specs.RunOver.{standing, EndsIn}
-use Rattle.snl_trace.proofs.RunOverLaws.{takes-line, takes-long, rules-long}
+use Rattle.snl_trace.proofs.RunOverLaws.{takes-line, takes-long, takes-whole, rules-long}
 use Rattle.snl_trace.proofs.runner.take_line.Goals as goal
 
 pub returns-in-Err-clause-does : goal.returns-in-Err-clause-does
@@ -14,10 +15,17 @@ returns-in-Err-clause-does g c = λ more.
     (sym (append_assoc c.args.text.now (10 ∷ []) more))
     (takes-long (rules_of m) (rules-long m) c.in-Err.fault c.args.text.now from c.in-Err.ensures.fault c.requires.text c.in-Err.ensures.long ((10 ∷ []) ++ more))
 
+pub returns-then-is_empty-clause-does : goal.returns-then-is_empty-clause-does
+returns-then-is_empty-clause-does g c =
+    let m = c.args.machine.now in
+    let none : c.args.line.now.items ≡ [] = nil_from_length c.args.line.now.items (search rules) in
+    rw c.process_next.ensures.number
+    (takes-whole (rules_of m) c.process_next.result c.args.text.now c.args.line.now.items c.args.number.now _ _ _ _ none c.requires.text c.process_next.ensures.does)
+
 pub returns-clause-does : goal.returns-clause-does
 returns-clause-does g c =
     let m = c.args.machine.now in
     let from = standing c.args.line.now.items c.args.number.now m (g.S.Sink.told c.args.sink.now) in
     let line : c.as_slice.result.now ≡ c.args.line.now.items ++ c.args.text.now = c.as_slice.ensures.value ∙ c.in_default.ensures.ok in
-    rw c.clear.ensures
-    (takes-line (rules_of m) c.process-ending.result c.args.text.now from _ _ c.requires.text (rw line at c.process-ending.ensures.does))
+    rw (c.clear.ensures, c.process_next-ending.ensures.number)
+    (takes-line (rules_of m) c.process_next-ending.result c.args.text.now from _ _ c.requires.text (rw line at c.process_next-ending.ensures.does))
