@@ -1,4 +1,4 @@
-//! The tests of all crates below: what only calls can show.
+//! The tests of `snc`: what only calls can show.
 //!
 //! They stand in a crate of their own, since the tests of a crate are proved together with the crate once more.
 #![tactic(auto)]

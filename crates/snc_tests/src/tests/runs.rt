@@ -2,9 +2,10 @@
 
 ghost use Rattle.std.specs.Prelude.{◌<◌};
 
-use crate::tests::{PROGRAM, job};
+use crate::tests::job;
 use snc::{DEFAULT_BUDGET, Status, session};
 use snl_machine::Fault;
+use snl_tests::PROGRAM;
 use snl_trace::{End, Feed, Sheet, Source, SourceFault, TraceFault};
 use std::alloc::{AllocError, Global};
 use std::process::Abort;
@@ -97,6 +98,18 @@ y =
 x * x * x * x;
 } state w } }";
 
+/// Writes a line of more than 128 bytes, and a line holds no more than these back.
+const LONG: &[u8] = b"program l option +s; int x; assign x to \"a\"; monitor x;
+ss s { state w { when (x > 0) {
+printf(\"..................20..................40..................60..................80.................100.................120.................140 %d\", x); x = 0;
+} state w } }";
+
+/// What it writes.
+const LONG_LINES: &[u8] = b"1 start l
+1 print s ..................20..................40..................60..................80.................100.................120.................140 7
+1 go s w w
+";
+
 const WELL: Row = Row {
     program: PROGRAM,
     budget: DEFAULT_BUDGET,
@@ -108,7 +121,7 @@ const WELL: Row = Row {
     status: Status::Well,
 };
 
-const ROWS: [Row; 13] = [
+const ROWS: [Row; 14] = [
     // The worked examples: a run, an empty trace, a time that goes back.
     WELL,
     Row {
@@ -196,6 +209,13 @@ const ROWS: [Row; 13] = [
         status: Status::ProgramFault,
         ..WELL
     },
+    // A line of more than 128 bytes.
+    Row {
+        program: LONG,
+        trace: b"0 up a\n1 val a 7\n",
+        lines: LONG_LINES,
+        ..WELL
+    },
     // A trace that fails before its first byte.
     Row {
         trace: b"",
@@ -216,6 +236,15 @@ const FULL: Row = Row {
     ..WELL
 };
 
+/// The output has room for the first line and 20 bytes more, and the second line has more than 128.
+const FULL_IN_A_LONG_LINE: Row = Row {
+    program: LONG,
+    trace: b"0 up a\n1 val a 7\n",
+    room: 30,
+    lines: b"1 start l\n1 print s ..........",
+    ..FULL
+};
+
 #[test]
 fn runs_in_any_pieces(rt: HostRuntime) -> Result<(), Fail> {
     for row in &ROWS {
@@ -225,6 +254,7 @@ fn runs_in_any_pieces(rt: HostRuntime) -> Result<(), Fail> {
         }
     }
     FULL.runs(&rt, rt.alloc(), 1)?;
+    FULL_IN_A_LONG_LINE.runs(&rt, rt.alloc(), 1)?;
     Ok(())
 }
 

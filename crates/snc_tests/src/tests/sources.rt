@@ -1,7 +1,8 @@
 //! Sources and what `report` and `session` say of them: worked examples, options of the call, tables.
 
-use crate::tests::{PROGRAM, WARNING, job};
+use crate::tests::{WARNING, job};
 use snc::{DEFAULT_BUDGET, Options, Status, report, session};
+use snl_tests::PROGRAM;
 use snl_trace::{Feed, Sheet};
 use std::test::Fail;
 

@@ -1,6 +1,6 @@
-//! Each public call of the crates below, once.
+//! Each public call, once.
 
-use crate::tests::PROGRAM;
+use crate::PROGRAM;
 use arrayvec::ArrayVec;
 use snl_check::{Checked, Options, Severity, check};
 use snl_links::Macros;
