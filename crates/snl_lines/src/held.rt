@@ -16,7 +16,7 @@ const HELD: usize = 128;
 #[derive(Drop)]
 pub struct Line {
     /// What the sink does not have yet.
-    pub held: ArrayVec<u8, HELD>,
+    held: ArrayVec<u8, HELD>,
 }
 
 impl Line {

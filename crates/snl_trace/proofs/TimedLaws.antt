@@ -5,7 +5,7 @@ use Rattle.snl_trace.specs.declared.trace_faults.TraceFault.TheVariants.{BadTime
 use Rattle.snl_trace.specs.Fields.{fields, front, begins_blank}
 use Rattle.snl_trace.specs.Numbers.{number_of, time_of}
 use Rattle.snl_trace.specs.Grammar.{◌>>=◌, in_order, timed}
-use Rattle.snl_trace.proofs.FieldLaws.{fields-front, fields_empty, front-none}
+use Rattle.snl_trace.proofs.FieldLaws.{fields-front, fields_empty}
 
 -- a text without a time
 pub timed-none : (last : ℕ) (text : List ℕ) → begins_blank text ≡ false → time_of (front text) ≡ None → timed last (fields text) ≡ Err BadTime

@@ -1,4 +1,4 @@
-use Rattle.std.proofs.Common.{◌≡◌, ◌∙◌, ◌++◌, [], ap, sym, append-nil}
+use Rattle.std.proofs.Common.{◌∙◌, ◌++◌, [], ap, sym, append-nil}
 use Rattle.snl_pieces.specs.Printing.{shown, between_quotes, print_line}
 use Rattle.snl_sites.specs.declared.formats.Place.TheVariants.{Plain}
 use Rattle.snl_lines.specs.Lines.{newline}

@@ -1,4 +1,4 @@
-use Rattle.std.proofs.Common.{◌≡◌, ◌≤◌, ◌-◌, length}
+use Rattle.std.proofs.Common.{◌≤◌, ◌-◌, length}
 use Rattle.snl_trace.proofs.FieldLaws.{NoneBefore}
 use Rattle.snl_trace.proofs.fields.field_end.Given as goal
 

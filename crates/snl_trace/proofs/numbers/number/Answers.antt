@@ -1,4 +1,4 @@
-use Rattle.std.proofs.Common.{◌≡◌, ◌<◌, false, true, drop, arith, sym}
+use Rattle.std.proofs.Common.{◌≡◌, false, true, drop, arith, sym}
 use Rattle.std.proofs.lemmas.List.{take_rest}
 use Rattle.snl_trace.specs.Fields.{at_end}
 use Rattle.snl_trace.proofs.NumberLaws.{run-none, run-odd, run-read}

@@ -1,4 +1,4 @@
-use Rattle.std.proofs.Common.{◌≡◌, true, false, refl, sym, drop}
+use Rattle.std.proofs.Common.{◌≡◌, true, refl, sym, drop}
 use Rattle.std.proofs.lemmas.List.{take_rest}
 use Rattle.snl_trace.specs.Fields.{front, begins_with}
 use Rattle.snl_trace.specs.Numbers.{Reads, below_zero, number_of}

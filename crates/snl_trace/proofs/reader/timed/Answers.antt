@@ -1,4 +1,4 @@
-use Rattle.std.proofs.Common.{◌≡◌, ◌∙◌, Ok, sym, ap, arith}
+use Rattle.std.proofs.Common.{◌∙◌, Ok, sym, ap, arith}
 use Rattle.snl_trace.specs.Fields.{fields}
 use Rattle.snl_trace.specs.Grammar.{timed}
 use Rattle.snl_trace.proofs.TimedLaws.{timed-back, timed-none, timed-on}

@@ -1,7 +1,5 @@
-use Rattle.std.proofs.Common.{rules, ap, map}
-use Rattle.std.proofs.lemmas.List.{drop_all}
-use Rattle.snl_lines.specs.Lines.{joined}
-use Rattle.snl_lines.proofs.Adding.{added-all, added-as, added-cut, added-more, added-start, failed-adds}
+use Rattle.std.proofs.Common.{rules}
+use Rattle.snl_lines.proofs.Adding.{added-as, added-cut, added-more, added-start, failed-adds}
 use Rattle.snl_lines.proofs.Writing.{pieces-here}
 use Rattle.snl_lines.proofs.held.Line.add_all.Goals as goal
 
