@@ -5,6 +5,7 @@
 //! in `docs/TRACE.md`.
 #![tactic(auto)]
 
+mod events;
 mod fields;
 pub mod laws;
 mod lines;
