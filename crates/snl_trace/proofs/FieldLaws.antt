@@ -6,7 +6,8 @@ use Rattle.std.proofs.Math.Seq.{drop-append_seam}
 use Rattle.std.proofs.lemmas.Bool.{cases_Bool, false≢true, ne_eqb}
 use Rattle.std.proofs.lemmas.List.{take-append-drop, get_or-take, get_or_default, length-take-le, drop_all}
 use Rattle.std.proofs.lemmas.List.Splits.{slice_split-cons_yes, slice_split_at, slice_split_none}
-use Rattle.snl_trace.specs.Fields.{is_blank, is_filled, fields, front, at_end, begins_with, begins_blank}
+use Rattle.snl_trace.specs.Fields.{is_blank, is_filled, fields, begins_with, begins_blank}
+use Rattle.snl_trace.specs.Reading.{front, at_end}
 
 -- another first byte, or none
 pub begins_with_not : (first : ℕ) (text : List ℕ) → (get_or text 0 0 ≡ first → ⊥) → begins_with first text ≡ false

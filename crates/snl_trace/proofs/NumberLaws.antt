@@ -9,8 +9,9 @@ use Rattle.std.proofs.lemmas.List.Folds.{list_all-append}
 use Rattle.std.specs.Char.{is_ascii_digit}
 use Rattle.std.specs.List.{list_all}
 use Rattle.std.specs.Str.Parse.{digits_value}
-use Rattle.snl_trace.specs.Fields.{is_blank, begins_with, front, at_end}
-use Rattle.snl_trace.specs.Numbers.{IsRun, Reads, begins_with_digit, number_of, value_of, from_zero, below_zero}
+use Rattle.snl_trace.specs.Fields.{is_blank, begins_with}
+use Rattle.snl_trace.specs.Numbers.{number_of, value_of, from_zero, below_zero}
+use Rattle.snl_trace.specs.Reading.{front, at_end, IsRun, Reads, begins_with_digit}
 use Rattle.snl_trace.proofs.FieldLaws.{front-more, front-none}
 
 -- a digit more takes a power of ten more

@@ -2,9 +2,10 @@
 use Rattle.std.proofs.Common.{◌≡◌, ℕ, ◌<◌, ◌≤◌, false, List, [], ◌∷◌, None, Some, Ok, Err, length, drop, refl, sym, ap, ◌∙◌, arith}
 use Rattle.std.proofs.lemmas.Bool.{le-ltb, lt-ltb}
 use Rattle.snl_trace.specs.declared.trace_faults.TraceFault.TheVariants.{BadTime, BackInTime}
-use Rattle.snl_trace.specs.Fields.{fields, front, begins_blank}
+use Rattle.snl_trace.specs.Fields.{fields, begins_blank}
 use Rattle.snl_trace.specs.Numbers.{number_of, time_of}
 use Rattle.snl_trace.specs.Grammar.{◌>>=◌, in_order, timed}
+use Rattle.snl_trace.specs.Reading.{front}
 use Rattle.snl_trace.proofs.FieldLaws.{fields-front, fields_empty}
 
 -- a text without a time

@@ -5,5 +5,6 @@ pub mod Lines
 pub mod Numbers
 pub mod Run
 pub mod Sources
+pub mod Reading
 pub mod Seen
 pub mod RunOver

@@ -1,15 +1,9 @@
 -- The times and values that a field spells.
-use Rattle.std.specs.Prelude.{◌≡◌, ◌≤◌, ◌^◌, ◌-◌, ◌&&◌, ℕ, nat_le, Bool, true, false, List, [], ◌∷◌, take, Option, None, Some, option_map, length, ℤ, pos, if◌then◌else◌, neg_ℤ, drop}
-use denote.Ref.{Bor}
-use Rattle.snl_trace.specs.Fields.{front, begins_with}
+use Rattle.std.specs.Prelude.{◌^◌, ◌-◌, ◌&&◌, ℕ, nat_le, Bool, List, Option, None, Some, option_map, length, ℤ, pos, if◌then◌else◌, neg_ℤ, drop}
+use Rattle.snl_trace.specs.Fields.{begins_with}
 use Rattle.std.specs.Char.{is_ascii_digit}
 use Rattle.std.specs.List.{list_all}
 use Rattle.std.specs.Str.Parse.{digits_value}
-
--- whether the first byte is a digit
-abbrev pub begins_with_digit : List ℕ → Bool
-begins_with_digit [] = false
-begins_with_digit (byte ∷ bytes) = is_ascii_digit byte
 
 -- one to `most` digits, and nothing else
 abbrev pub is_numeral : ℕ → List ℕ → Bool
@@ -41,16 +35,3 @@ unfoldable pub value_of : List ℕ → Option ℤ
 value_of field =
     if begins_with 45 field then below_zero (number_of 19 (drop 1 field))
     else from_zero (number_of 19 field)
-
--- a text begins with so many digits and no more, at most `most`, and they spell a number
-pub record IsRun (number count most : ℕ) (text : List ℕ) : Type 0 where
-  pub within : count ≤ length text
-  pub few : count ≤ most
-  pub digits : list_all is_ascii_digit (take count text) ≡ true
-  pub spelled : number ≡ digits_value 10 (take count text)
-  pub stops : begins_with_digit (drop count text) ≡ false
-
--- what is read of the bytes before the first blank, and the text behind them
-abbrev pub Reads : {A : Type 0} → Option A → List ℕ → Option (A × Bor (List ℕ)) → Type 0
-Reads read text None = read ≡ None
-Reads read text (Some found) = (read ≡ Some found.0) × (found.1.now ≡ drop (length (front text)) text)

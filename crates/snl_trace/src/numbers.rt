@@ -1,10 +1,10 @@
 //! Times and values, as fields spell them. A field of digits is cut and read in one pass.
 
 ghost use Rattle.std.specs.Prelude.{◌≡◌, ◌≤◌, None, Some, IfSome, IfNone};
-ghost use Rattle.snl_trace.specs.Fields as fields;
-ghost use Rattle.snl_trace.specs.Fields.{front};
+ghost use Rattle.snl_trace.specs.Reading as reading;
 ghost use Rattle.snl_trace.specs.Numbers as spec;
-ghost use Rattle.snl_trace.specs.Numbers.{IsRun, Reads, number_of, time_of, value_of};
+ghost use Rattle.snl_trace.specs.Numbers.{number_of, time_of, value_of};
+ghost use Rattle.snl_trace.specs.Reading.{front, IsRun, Reads};
 
 use crate::fields::{begins_with, is_blank};
 use crate::trace_faults::TIME_LIMIT;
@@ -31,7 +31,7 @@ fn digits(text: &[u8], most: usize) -> Option<(u64, usize)>
 /// Whether no field goes on here.
 #[inline(always)]
 fn at_end(text: &[u8]) -> bool
-    ensures { result ≡ fields.at_end text.now }
+    ensures { result ≡ reading.at_end text.now }
 {
     match text {
         [] => true,

@@ -1,6 +1,6 @@
 use Rattle.std.proofs.Common.{◌≡◌, false, true, drop, arith, sym}
+use Rattle.snl_trace.specs.Reading.{at_end}
 use Rattle.std.proofs.lemmas.List.{take_rest}
-use Rattle.snl_trace.specs.Fields.{at_end}
 use Rattle.snl_trace.proofs.NumberLaws.{run-none, run-odd, run-read}
 use Rattle.snl_trace.proofs.numbers.number.Goals as goal
 

@@ -1,7 +1,8 @@
 use Rattle.std.proofs.Common.{◌≡◌, true, refl, sym, drop}
 use Rattle.std.proofs.lemmas.List.{take_rest}
-use Rattle.snl_trace.specs.Fields.{front, begins_with}
-use Rattle.snl_trace.specs.Numbers.{Reads, below_zero, number_of}
+use Rattle.snl_trace.specs.Fields.{begins_with}
+use Rattle.snl_trace.specs.Numbers.{below_zero, number_of}
+use Rattle.snl_trace.specs.Reading.{front, Reads}
 use Rattle.snl_trace.proofs.NumberLaws.{plain-value, reads-in, signed-behind, signed-value}
 use Rattle.snl_trace.proofs.numbers.value.Goals as goal
 

@@ -1,6 +1,7 @@
 use Rattle.std.proofs.Common.{◌≡◌, ◌<◌, ◌∷◌, [], ◌++◌, ◌∙◌, sym, ap, arith, rules, take, drop, length, FitsSigned, w64}
 use Rattle.std.proofs.lemmas.Int.{to_z-of_z}
-use Rattle.snl_trace.specs.Fields.{fields, front}
+use Rattle.snl_trace.specs.Fields.{fields}
+use Rattle.snl_trace.specs.Reading.{front}
 use Rattle.snl_trace.proofs.FieldLaws.{fields-front, fields_empty, front-shorter}
 use Rattle.snl_trace.proofs.ValueLaws.{kept_after, kept_after_bad, kept_after_end, kept_after_more, take-within}
 use Rattle.snl_trace.proofs.words.all_values.Goals as goal
