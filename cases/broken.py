@@ -17,7 +17,9 @@ def cases(root):
         for byte in (0x00, 0x80, ord("(")):
             spoilt = source[:count] + bytes([byte]) + source[count + 1 :]
             if spoilt != source:
-                yield of_source(f"a source whose byte {count} is {byte}", spoilt)
+                # The name of a channel may have any bytes, but for a byte 0, which no string has.
+                in_name = source[:count].count(b'"') % 2 == 1 and source[count] != ord('"') and byte != 0
+                yield of_source(f"a source whose byte {count} is {byte}", spoilt, in_name)
     for count in range(len(trace)):
         yield of_trace(f"the first {count} bytes of a trace", source, trace[:count])
     for seed in range(100):
@@ -32,9 +34,9 @@ def some_bytes(numbers, text):
     return bytes(numbers.choices(pool, k=numbers.randrange(256)))
 
 
-def of_source(name, source):
-    """None of these is a program: where its last brace is missing, where a parenthesis is one too many, and so on."""
-    return Case(f"broken: {name}", source, stderr=MESSAGE, statuses=(1,))
+def of_source(name, source, is_program=False):
+    """Most of these are no programs: where the last brace is missing, where a parenthesis is one too many, and so on."""
+    return Case(f"broken: {name}", source, stderr=MESSAGE, statuses=(0,) if is_program else (1,))
 
 
 def of_trace(name, source, trace):

@@ -9,6 +9,8 @@ from dataclasses import dataclass, field
 from pathlib import Path
 
 SECONDS = 60
+# Any lines, and one at least.
+ANY = re.compile(rb"[^\n]*\n?")
 
 
 @dataclass
@@ -56,6 +58,8 @@ def differences(name, wanted, found):
     """Lines that tell where a stream is not as it has to be."""
     if isinstance(wanted, Path) or found == wanted:
         return []
+    if wanted is ANY and not found:
+        return [f"{name} is empty"]
     if isinstance(wanted, re.Pattern):
         bad = [it for it in found.splitlines(keepends=True) if not wanted.fullmatch(it)]
         return [f"{name} has the line {it!r}" for it in bad[:5]]

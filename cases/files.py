@@ -2,13 +2,11 @@
 import re
 from pathlib import Path
 
-from case import Case
+from case import ANY, Case
 
 REPEATED = re.compile(rb"`\[(\d+) (.*?)`\]", re.DOTALL)
 ESCAPE = re.compile(rb"`(\n|[0-9A-F]{2})")
 NOT_YET = b"p.st:1: error: E05 not run yet\n"
-# Lines of a text for the user of a call.
-ANY = re.compile(rb"[^\n]*\n?")
 # Lines that may be said of a program that is read to its end.
 READ = re.compile(rb"[^:\n]+:\d+: (error: E(04|[123]\d)|warning: W\d) [^\n]+\n")
 
@@ -129,7 +127,7 @@ def of_tables(name, source, tables, stderr=b""):
 def not_in_readme(root):
     """An example that the README calls, and whose output does not stand there in a block of its own."""
     readme = (root / "README.md").read_text()
-    called = re.findall(r"^bin/snlrun examples/(\w+)\.st < examples/\1\.trace$", readme, re.MULTILINE)
+    called = re.findall(r"^bin/(?:try )?snlrun examples/(\w+)\.st < examples/\1\.trace$", readme, re.MULTILINE)
     outputs = {it: (root / f"examples/{it}.out").read_text() for it in called}
     missing = [it for it, lines in outputs.items() if f"```\n{lines}```\n" not in readme]
     return [f"FAILED README.md: it has not what examples/{it}.out has" for it in missing]

@@ -21,7 +21,7 @@ use Rattle.snl_syntax.specs.declared.programs.Program.{Program}
 use Rattle.snl_syntax.specs.Begins.{Spells, IsUnexpected, IsTooDeep}
 use Rattle.snl_syntax.specs.Programs.{ProgramTree, IsProgram, programs}
 use Rattle.snl_syntax.specs.view.Programs.{first_place, program_view}
-use Rattle.snl_sites.specs.declared.options.Options.{Options}
+use Rattle.snl_resolve.specs.declared.options.Options.{Options}
 use Rattle.snl_messages.specs.Messages.{Said, IsInOrder}
 use Rattle.snl_messages.specs.Says.{IsSaid}
 use Rattle.snl_messages.specs.Silence.{options_in_force}
@@ -31,14 +31,14 @@ use Rattle.snl_check.specs.Runs.{does_run}
 use Rattle.snl_machine.specs.declared.machine.Machine.{Machine}
 use Rattle.snl_machine.specs.MachineOf.{IsMachineOf, Task, task_held, task_of, world_held}
 use Rattle.snl_machine.proofs.Tasks.{runs_its_program}
-use Rattle.snl_pieces.specs.World.{World}
+use Rattle.snl_meaning.specs.World.{World}
 use Rattle.snl_trace.specs.Run.{rules_by, rules_of}
 use Rattle.snl_trace.specs.RunOver.{RunsOver, standing}
 use Rattle.snl_trace.specs.declared.runner.End.{End}
 use Rattle.snc.specs.declared.jobs.Status.TheVariants.{Well, SourceErrors}
 use Rattle.snl_links.specs.Links.{Link, links}
 use Rattle.snl_links.specs.Tables.{tables}
-use Rattle.snl_plans.specs.First.{first_world_of}
+use Rattle.snl_load.specs.First.{first_world_of}
 use Rattle.snc.specs.Judging.{AreNamesBefore, ReadsNames, HasFault, HasTokens, IsJudged, IsSaidOf, IsTreeSaid, NoErrors, error_at, names_of, nesting_error, not_yet, syntax_error}
 use Rattle.snc.specs.Outcomes.{IsReport, IsRunOf, IsSession, at_first, status_of, tables_text}
 use Rattle.snc.specs.Texts.{line_of, text_of}

@@ -14,9 +14,12 @@ use Rattle.snl_text.specs.declared.tokens.Token.{Token}
 use Rattle.snl_syntax.specs.Begins.{Spells, IsUnexpected, IsTooDeep}
 use Rattle.snl_syntax.specs.Programs.{ProgramTree, IsProgram, programs}
 use Rattle.snl_syntax.specs.view.Programs.{first_place}
-use Rattle.snl_sites.specs.declared.options.Options.{Options}
+use Rattle.snl_resolve.specs.declared.options.Options.{Options}
 use Rattle.snl_messages.specs.declared.messages.Severity.TheVariants.{Error}
+use Rattle.snl_messages.specs.declared.refusals.Refusal.{Refusal}
+use Rattle.snl_messages.specs.declared.refusals.Refusal.TheVariants.{Unexpected, EndOfFile, TooDeep, NoTokens, NotYet}
 use Rattle.snl_messages.specs.Messages.{Said, IsInOrder}
+use Rattle.snl_messages.specs.Refusals.{number_of, words_of}
 use Rattle.snl_messages.specs.Says.{IsSaid}
 use Rattle.snc.specs.Texts.{text_of}
 
@@ -48,7 +51,7 @@ pub record IsFaultSaid (fault : LexFault) (messages : List Said) : Type 0 where
   pub words : List ℕ
   pub at : fault_pos fault ≡ Some pos
   pub says : fault_text fault ≡ Some words
-  pub messages_are : messages ≡ error_at pos 3 words ∷ []
+  pub messages_are : messages ≡ error_at pos (number_of NoTokens) words ∷ []
 
 -- the source is no row of tokens, by a fault
 pub record HasFault (source : List ℕ) (fault : LexFault) : Type 0 where
@@ -60,22 +63,22 @@ pub record HasTokens (source : List ℕ) (lexed : Lexed) : Type 0 where
   pub within : length source ≤ 1048576
   pub is : IsLexed source lexed
 
--- an error at a token, whose text stands after some words, with a quote after it
-abbrev pub token_error : ℕ → List ℕ → Token → Said
-token_error number words t = error_at t.pos number (words ++ (t.text.now ++ codes "'"))
+-- an error that quotes its token
+abbrev pub token_error : Refusal → Token → Said
+token_error why t = error_at t.pos (number_of why) (words_of why ++ (t.text.now ++ codes "'"))
 
 -- E01, at a token or at the end of the file
 abbrev pub syntax_error : Lexed → Option Token → Said
-syntax_error lexed None = error_at lexed.eof 1 (codes "syntax error at end of file")
-syntax_error lexed (Some t) = token_error 1 (codes "syntax error at '") t
+syntax_error lexed None = error_at lexed.eof (number_of EndOfFile) (words_of EndOfFile)
+syntax_error lexed (Some t) = token_error Unexpected t
 
 -- E02, at a token
 abbrev pub nesting_error : Token → Said
-nesting_error t = token_error 2 (codes "nesting deeper than 64 at '") t
+nesting_error t = token_error TooDeep t
 
 -- E05, at the word `program`: the program is right, and does not run yet
 abbrev pub not_yet : ProgramTree → Said
-not_yet whole = error_at whole.word.pos 5 (codes "not run yet")
+not_yet whole = error_at whole.word.pos (number_of NotYet) (words_of NotYet)
 
 -- E01, alone: no program goes on with one of the tokens, or they end too early
 pub record IsStuck (lexed : Lexed) (messages : List Said) (tree : Option ProgramTree) : Type 0 where

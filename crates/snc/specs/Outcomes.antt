@@ -1,16 +1,16 @@
 -- What `report` and `session` answer.
 use Rattle.std.specs.Prelude.{◌≡◌, ◌⊎◌, ℕ, Bool, true, false, List, [], ◌∷◌, Option, None, Some}
 use Rattle.snl_syntax.specs.Programs.{ProgramTree}
-use Rattle.snl_sites.specs.declared.options.Options.{Options}
+use Rattle.snl_resolve.specs.declared.options.Options.{Options}
 use Rattle.snl_messages.specs.Messages.{Said}
 use Rattle.snl_messages.specs.Silence.{options_in_force}
 use Rattle.snl_check.specs.Runs.{does_run}
 use Rattle.snl_links.specs.Links.{Link, links}
 use Rattle.snl_links.specs.Tables.{tables}
-use Rattle.snl_lines.specs.Devices.{counted}
+use Rattle.snl_output.specs.Devices.{counted}
 use Rattle.snl_machine.specs.MachineOf.{task_of}
-use Rattle.snl_pieces.specs.World.{World}
-use Rattle.snl_plans.specs.First.{first_world_of}
+use Rattle.snl_meaning.specs.World.{World}
+use Rattle.snl_load.specs.First.{first_world_of}
 use Rattle.snl_trace.specs.Ends.{source_failed, sink_failed}
 use Rattle.snl_trace.specs.Run.{rules_by}
 use Rattle.snl_trace.specs.RunOver.{Place, RunsOver}

@@ -13,5 +13,5 @@ mod sessions;
 pub use jobs::{Report, Status};
 pub use reports::report;
 pub use sessions::session;
-pub use snc_words::{DEFAULT_BUDGET, Job, Tool, WordsFault, read_words};
+pub use snc_args::{DEFAULT_BUDGET, Job, Tool, WordsFault, read_words};
 pub use snl_check::Options;

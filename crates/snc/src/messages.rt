@@ -4,12 +4,14 @@ ghost use Rattle.std.specs.Prelude.{◌≡◌, ◌<◌, [], ◌∷◌, ◌++◌,
 ghost use Rattle.std.specs.Option.{option_map};
 ghost use Rattle.snl_syntax.specs.view.Programs.{program_view};
 ghost use Rattle.snl_messages.specs.Silence.{options_in_force};
+ghost use Rattle.snl_messages.specs.Refusals.{number_of};
 ghost use Rattle.snc.specs.Judging.{IsJudged, error_at, nesting_error, syntax_error, token_error};
 ghost use Rattle.snc.specs.Texts.{text_of};
 ghost use Rattle.snc.specs.ReportSteps.{AreNamesOf, AreTokensTold, IsFaultTold, IsTreeTold};
 
 use crate::lines::{Names, push_line, push_lines};
 use snl_check::{Checked, Options, Outcome, Severity, check};
+use snl_messages::Refusal;
 use snl_syntax::Program;
 use snl_text::{LexFault, Lexed, Pos, Token, lex};
 use snl_tree::{ParseFault, parse};
@@ -66,7 +68,7 @@ fn fault_judged<'a>(
         read: file,
         marked: marked.as_slice(),
     };
-    let found = refused(alloc, names, pos, 3, text.as_bytes())?;
+    let found = refused(alloc, names, pos, Refusal::NoTokens, text.as_bytes())?;
     Ok(found)
 }
 
@@ -140,7 +142,13 @@ fn tree_judged<'a>(
     ensures options { IfOk result (λ f. IfSome f.checked (λ c. c.options
         ≡ options_in_force (program_view c.program) given)) }
 {
-    let late = refused_text(alloc, names, program.word.pos, 5, b"not run yet")?;
+    let late = refused_text(
+        alloc,
+        names,
+        program.word.pos,
+        Refusal::NotYet,
+        Refusal::NotYet.words(),
+    )?;
     let Outcome {
         messages: said,
         checked,
@@ -168,11 +176,17 @@ fn syntax_fault<'a>(
 {
     match token_at(lexed, k) {
         Some(token) => {
-            let found = token_fault(alloc, token, names, 1, b"syntax error at '")?;
+            let found = token_fault(alloc, token, names, Refusal::Unexpected)?;
             Ok(found)
         }
         None => {
-            let found = refused(alloc, names, lexed.eof, 1, b"syntax error at end of file")?;
+            let found = refused(
+                alloc,
+                names,
+                lexed.eof,
+                Refusal::EndOfFile,
+                Refusal::EndOfFile.words(),
+            )?;
             Ok(found)
         }
     }
@@ -185,25 +199,24 @@ fn nesting_fault<'a>(alloc: Global, token: Token, names: Names) -> Result<Findin
         (nesting_error token.entry ∷ [])) }
     ensures none { IfOk result (λ f. f.checked ≡ None) }
 {
-    let found = token_fault(alloc, token, names, 2, b"nesting deeper than 64 at '")?;
+    let found = token_fault(alloc, token, names, Refusal::TooDeep)?;
     Ok(found)
 }
 
-/// An error at a token, whose text stands after some words, with a quote after it.
+/// An error that quotes its token.
 fn token_fault<'a>(
     alloc: Global,
     token: Token,
     names: Names,
-    number: u8,
-    words: &[u8],
+    why: Refusal,
 ) -> Result<Findings<'a>, AllocError>
     ensures text { IfOk result (λ f. f.messages.items
         ≡ text_of names.entry.read.now (map (λ name. name.now) names.entry.marked.now)
-        (token_error number words.now token.entry ∷ [])) }
+        (token_error why token.entry ∷ [])) }
     ensures none { IfOk result (λ f. f.checked ≡ None) }
 {
-    let text = words_at(alloc, words, token.text)?;
-    let found = refused(alloc, names, token.pos, number, text.as_slice())?;
+    let text = words_at(alloc, why.words(), token.text)?;
+    let found = refused(alloc, names, token.pos, why, text.as_slice())?;
     Ok(found)
 }
 
@@ -237,15 +250,15 @@ fn refused_text(
     alloc: Global,
     names: Names,
     pos: Pos,
-    number: u8,
+    why: Refusal,
     text: &[u8],
 ) -> Result<Vec<u8>, AllocError>
     ensures { IfOk result (λ line. line.items
         ≡ text_of names.entry.read.now (map (λ name. name.now) names.entry.marked.now)
-        (error_at pos number text.now ∷ [])) }
+        (error_at pos (number_of why) text.now ∷ [])) }
 {
     let mut line = Vec::new(alloc);
-    push_line(&mut line, names, pos, Severity::Error, number, text)?;
+    push_line(&mut line, names, pos, Severity::Error, why.number(), text)?;
     Ok(line)
 }
 
@@ -254,15 +267,15 @@ fn refused<'a>(
     alloc: Global,
     names: Names,
     pos: Pos,
-    number: u8,
+    why: Refusal,
     text: &[u8],
 ) -> Result<Findings<'a>, AllocError>
     ensures text { IfOk result (λ f. f.messages.items
         ≡ text_of names.entry.read.now (map (λ name. name.now) names.entry.marked.now)
-        (error_at pos number text.now ∷ [])) }
+        (error_at pos (number_of why) text.now ∷ [])) }
     ensures none { IfOk result (λ f. f.checked ≡ None) }
 {
-    let messages = refused_text(alloc, names, pos, number, text)?;
+    let messages = refused_text(alloc, names, pos, why, text)?;
     Ok(Findings {
         messages,
         late: Vec::new(alloc),

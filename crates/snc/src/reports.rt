@@ -9,7 +9,7 @@ ghost use Rattle.snc.specs.ReportSteps.{asked_tables};
 
 use crate::jobs::{Report, Status};
 use crate::messages::judged;
-use snc_words::Job;
+use snc_args::Job;
 use snl_check::Checked;
 use snl_links::tables_of;
 use snl_syntax::Program;

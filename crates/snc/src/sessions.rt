@@ -6,7 +6,7 @@ ghost use Rattle.snc.specs.Outcomes.{IsSession, status_of};
 
 use crate::jobs::Status;
 use crate::messages::{Findings, judged};
-use snc_words::Job;
+use snc_args::Job;
 use snl_links::Macros;
 use snl_machine::{Sink, machine_if_run};
 use snl_trace::{End, Source, run};

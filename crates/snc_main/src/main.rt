@@ -4,7 +4,7 @@
 #![tactic(auto)]
 
 use snc::{Job, Status, Tool, report};
-use snc_shell::{job_of, source_of, tell, write};
+use snc_cli::{job_of, source_of, tell, write};
 use std::process::ExitCode;
 
 fn main(rt: HostRuntime) -> ExitCode {

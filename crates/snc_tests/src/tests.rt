@@ -1,4 +1,4 @@
-//! What only calls can show: budgets, devices that fail or cut, messages and tables.
+//! What only calls can show: budgets, devices that fail or cut, messages and tables, what words ask for.
 //!
 //! What a program's text shows stands in the folder `cases/` at the root, and runs on the built program.
 
@@ -7,6 +7,7 @@ use std::alloc::{AllocError, Global};
 
 mod runs;
 mod sources;
+mod words;
 
 /// What is to be said of [`snl_tests::PROGRAM`].
 pub const WARNING: &[u8] = b"p.st:12: warning: W7 state 'hi' has no clauses\n";

@@ -1,7 +1,7 @@
 -- Examples of arithmetic: the ends of the range, signs, shifts.
 use Rattle.std.specs.Prelude.{◌≡◌, pos, negsuc, Ok, Err}
 use Rattle.snl_text.specs.declared.kinds.Kind.TheVariants as kind
-use Rattle.snl_arithmetic.specs.declared.arithmetic.Fault.TheVariants.{Overflow, Division, Shift}
+use Rattle.snl_arithmetic.specs.declared.arithmetic.ArithmeticFault.TheVariants.{Overflow, Division, Shift}
 use Rattle.snl_arithmetic.specs.Arithmetic.{computed}
 
 -- what operators make of numbers at the ends

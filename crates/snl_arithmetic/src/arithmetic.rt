@@ -7,7 +7,7 @@ use snl_text::Kind;
 
 /// What may go wrong with an operation.
 #[derive(Clone, Copy)]
-pub enum Fault {
+pub enum ArithmeticFault {
     /// The result leaves -2^63 .. 2^63-1.
     Overflow,
     /// `/` or `%` by 0.
@@ -16,20 +16,20 @@ pub enum Fault {
     Shift,
 }
 
-fn divided(left: i64, right: i64) -> Result<i64, Fault>
+fn divided(left: i64, right: i64) -> Result<i64, ArithmeticFault>
     ensures { result ≡ spec.computed Kind.Slash left right }
 {
     if right == 0 {
-        return Err(Fault::Division);
+        return Err(ArithmeticFault::Division);
     }
-    left.checked_div(right).ok_or(Fault::Overflow)
+    left.checked_div(right).ok_or(ArithmeticFault::Overflow)
 }
 
-fn remainder(left: i64, right: i64) -> Result<i64, Fault>
+fn remainder(left: i64, right: i64) -> Result<i64, ArithmeticFault>
     ensures { result ≡ spec.computed Kind.Percent left right }
 {
     if right == 0 {
-        return Err(Fault::Division);
+        return Err(ArithmeticFault::Division);
     }
     if right == -1 {
         return Ok(0);
@@ -37,10 +37,10 @@ fn remainder(left: i64, right: i64) -> Result<i64, Fault>
     Ok(left % right)
 }
 
-fn multiplied(left: i64, right: i64) -> Result<i64, Fault>
+fn multiplied(left: i64, right: i64) -> Result<i64, ArithmeticFault>
     ensures { result ≡ spec.in_range (left *ℤ right) }
 {
-    left.checked_mul(right).ok_or(Fault::Overflow)
+    left.checked_mul(right).ok_or(ArithmeticFault::Overflow)
 }
 
 /// A power of two.
@@ -51,7 +51,7 @@ fn power(count: u64) -> i64
     (1u64 << count) as i64
 }
 
-fn shifted_left(left: i64, count: i64) -> Result<i64, Fault>
+fn shifted_left(left: i64, count: i64) -> Result<i64, ArithmeticFault>
     ensures { result ≡ spec.computed Kind.LessLess left count }
 {
     match u64::try_from(count) {
@@ -62,21 +62,21 @@ fn shifted_left(left: i64, count: i64) -> Result<i64, Fault>
                 match left {
                     0 => Ok(0),
                     -1 => Ok(i64::MIN),
-                    _ => Err(Fault::Overflow),
+                    _ => Err(ArithmeticFault::Overflow),
                 }
             } else {
-                Err(Fault::Shift)
+                Err(ArithmeticFault::Shift)
             }
         }
-        Err(_) => Err(Fault::Shift),
+        Err(_) => Err(ArithmeticFault::Shift),
     }
 }
 
-fn shifted_right(left: i64, count: i64) -> Result<i64, Fault>
+fn shifted_right(left: i64, count: i64) -> Result<i64, ArithmeticFault>
     ensures { result ≡ spec.computed Kind.GreaterGreater left count }
 {
     if count < 0 || 63 < count {
-        return Err(Fault::Shift);
+        return Err(ArithmeticFault::Shift);
     }
     Ok(left >> (count as u32))
 }
@@ -84,7 +84,7 @@ fn shifted_right(left: i64, count: i64) -> Result<i64, Fault>
 /// What a binary operator makes of both of its operands (SNL Reference, "Expressions"): any one but
 /// `&&` and `||`. Kinds that are no such operator give the right operand, as the comma does.
 #[inline(always)]
-pub fn computed(operator: Kind, left: i64, right: i64) -> Result<i64, Fault>
+pub fn computed(operator: Kind, left: i64, right: i64) -> Result<i64, ArithmeticFault>
     ensures { result ≡ spec.computed operator left right }
 {
     match operator {
@@ -99,9 +99,9 @@ pub fn computed(operator: Kind, left: i64, right: i64) -> Result<i64, Fault>
         Kind::GreaterEqual => Ok(i64::from(left >= right)),
         Kind::LessLess => shifted_left(left, right),
         Kind::GreaterGreater => shifted_right(left, right),
-        Kind::Plus => left.checked_add(right).ok_or(Fault::Overflow),
-        Kind::Minus => left.checked_sub(right).ok_or(Fault::Overflow),
-        Kind::Star => left.checked_mul(right).ok_or(Fault::Overflow),
+        Kind::Plus => left.checked_add(right).ok_or(ArithmeticFault::Overflow),
+        Kind::Minus => left.checked_sub(right).ok_or(ArithmeticFault::Overflow),
+        Kind::Star => left.checked_mul(right).ok_or(ArithmeticFault::Overflow),
         Kind::Slash => divided(left, right),
         Kind::Percent => remainder(left, right),
         _ => Ok(right),
@@ -111,11 +111,11 @@ pub fn computed(operator: Kind, left: i64, right: i64) -> Result<i64, Fault>
 /// What a prefix operator other than `++` and `--` makes of its operand. Other kinds give the
 /// operand, as `+` does.
 #[inline(always)]
-pub fn computed_prefix(operator: Kind, operand: i64) -> Result<i64, Fault>
+pub fn computed_prefix(operator: Kind, operand: i64) -> Result<i64, ArithmeticFault>
     ensures { result ≡ spec.computed_prefix operator operand }
 {
     match operator {
-        Kind::Minus => operand.checked_neg().ok_or(Fault::Overflow),
+        Kind::Minus => operand.checked_neg().ok_or(ArithmeticFault::Overflow),
         Kind::Bang => Ok(i64::from(operand == 0)),
         Kind::Tilde => Ok(!operand),
         _ => Ok(operand),

@@ -4,4 +4,4 @@
 mod arithmetic;
 pub mod laws;
 
-pub use arithmetic::{Fault, computed, computed_prefix};
+pub use arithmetic::{ArithmeticFault, computed, computed_prefix};

@@ -4,7 +4,7 @@ use Rattle.std.proofs.lemmas.Bool.{false≢true}
 use Rattle.std.proofs.lemmas.List.Elements.{Contains-append_left, Contains-append_right, Contains-append_cases, Contains-push, Contains-push_cases}
 use Rattle.snl_syntax.specs.declared.programs.Program.{Program}
 use Rattle.snl_syntax.specs.view.Programs.{program_view}
-use Rattle.snl_sites.specs.declared.options.Options.{Options}
+use Rattle.snl_resolve.specs.declared.options.Options.{Options}
 use Rattle.snl_messages.specs.declared.messages.Severity.{Severity}
 use Rattle.snl_messages.specs.declared.messages.Severity.TheVariants.{Error, Warning}
 use Rattle.snl_messages.specs.Messages.{Said, said}
@@ -13,7 +13,7 @@ use Rattle.snl_messages.specs.Silence.{options_in_force}
 use Rattle.snl_check.specs.declared.findings.Findings.{Findings}
 use Rattle.snl_check.specs.Accepted.{IsAccepted, has_no_error}
 use Rattle.snl_check.specs.Findings.{AreFindings}
-use Rattle.snl_sites.specs.Programs.{sites}
+use Rattle.snl_resolve.specs.Programs.{sites}
 use Rattle.snl_check.specs.Runs.{do_sites_run}
 use Rattle.snl_check.specs.Tables.{IsTableOf}
 

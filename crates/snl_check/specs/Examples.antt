@@ -3,15 +3,15 @@ use Rattle.std.specs.Prelude.{◌≡◌, ℕ, true, false, List, [], ◌∷◌, 
 use Rattle.snl_text.specs.declared.kinds.Kind.TheVariants.{Name}
 use Rattle.snl_text.specs.declared.tokens.Pos.{Pos}
 use Rattle.snl_syntax.specs.Programs.{ProgramTree}
-use Rattle.snl_sites.specs.declared.options.Options.{Options}
-use Rattle.snl_sites.specs.declared.sites.Meaning.{Meaning}
-use Rattle.snl_sites.specs.declared.sites.Meaning.TheVariants.{Variable, Flag, Number, Nothing}
-use Rattle.snl_sites.specs.declared.sites.Purpose.TheVariants.{Read}
-use Rattle.snl_sites.specs.declared.sites.Site.{Site}
-use Rattle.snl_sites.specs.declared.sites.Site.TheVariants.{Use}
-use Rattle.snl_sites.specs.declared.sites.Size.TheVariants.{Scalar}
-use Rattle.snl_sites.specs.Options.{no_options, after_option}
-use Rattle.snl_sites.specs.Uses.{declared_in}
+use Rattle.snl_resolve.specs.declared.options.Options.{Options}
+use Rattle.snl_resolve.specs.declared.sites.Meaning.{Meaning}
+use Rattle.snl_resolve.specs.declared.sites.Meaning.TheVariants.{Variable, Flag, Number, Nothing}
+use Rattle.snl_resolve.specs.declared.sites.Purpose.TheVariants.{Read}
+use Rattle.snl_resolve.specs.declared.sites.Site.{Site}
+use Rattle.snl_resolve.specs.declared.sites.Site.TheVariants.{Use}
+use Rattle.snl_resolve.specs.declared.sites.Size.TheVariants.{Scalar}
+use Rattle.snl_resolve.specs.Options.{no_options, after_option}
+use Rattle.snl_resolve.specs.Uses.{declared_in}
 use Rattle.snl_check.specs.Runs.{waits, does_run}
 use Rattle.snl_check.specs.Tables.{or_later}
 

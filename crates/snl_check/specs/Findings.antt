@@ -2,12 +2,12 @@
 use Rattle.std.specs.Prelude.{◌≡◌, ◌↔◌, map, Contains}
 use Rattle.snl_syntax.specs.declared.programs.Program.{Program}
 use Rattle.snl_syntax.specs.view.Programs.{program_view}
-use Rattle.snl_sites.specs.declared.options.Options.{Options}
+use Rattle.snl_resolve.specs.declared.options.Options.{Options}
 use Rattle.snl_messages.specs.Messages.{Said, IsInOrder, said}
 use Rattle.snl_messages.specs.Says.{IsSaid}
 use Rattle.snl_messages.specs.Silence.{options_in_force}
 use Rattle.snl_check.specs.declared.findings.Findings.{Findings}
-use Rattle.snl_sites.specs.Programs.{sites}
+use Rattle.snl_resolve.specs.Programs.{sites}
 use Rattle.snl_check.specs.Runs.{do_sites_run}
 use Rattle.snl_check.specs.Tables.{IsTableOf}
 

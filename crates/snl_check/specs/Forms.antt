@@ -1,7 +1,6 @@
 -- The forms of programs that run: those of definitions, states and state sets.
-use Rattle.std.specs.Prelude.{◌-◌, ℕ, nat_lt, ◌==◌, Bool, true, false, ◌&&◌, ◌||◌, List, [], ◌∷◌, length, Option, Some, None, slice_range}
+use Rattle.std.specs.Prelude.{◌-◌, ℕ, nat_lt, ◌==◌, Bool, true, false, not, ◌&&◌, List, length, Option, Some, None, slice_range}
 use Rattle.std.specs.List.{list_all}
-use Rattle.std.specs.Char.{is_ascii_alphanumeric}
 use Rattle.snl_syntax.specs.Definitions.{NamesTree, one_name, ChannelsTree, DefinitionTree, declaration, assign, monitor, setting}
 use Rattle.snl_syntax.specs.Programs.{StateTree, StateSetTree, ProgramTree}
 
@@ -12,13 +11,13 @@ is_missing (Some a) = false
 
 -- ---- definitions
 
--- A letter, a digit, or one of `_ : . -`.
-abbrev pub is_channel_byte : ℕ → Bool
-is_channel_byte b = is_ascii_alphanumeric b || (((b == 95 || b == 58) || b == 46) || b == 45)
+-- No `{`, with which a macro begins.
+abbrev pub begins_no_macro : ℕ → Bool
+begins_no_macro b = not (b == 123)
 
--- One such byte or more between the quotes.
+-- One such byte or more between the quotes: a channel, whatever the macros are.
 abbrev pub is_channel_name : List ℕ → Bool
-is_channel_name text = nat_lt 2 (length text) && list_all is_channel_byte (slice_range text 1 (length text - 1))
+is_channel_name text = nat_lt 2 (length text) && list_all begins_no_macro (slice_range text 1 (length text - 1))
 
 -- One string that names a channel.
 abbrev pub is_one_string : NamesTree → Bool
@@ -52,11 +51,6 @@ does_state_run s = (list_all does_definition_run s.definitions && is_missing s.e
 abbrev pub does_state_set_run : StateSetTree → Bool
 does_state_set_run s = list_all does_definition_run s.definitions && list_all does_state_run s.states
 
--- One state set, and no other.
-abbrev pub is_one_set : List StateSetTree → Bool
-is_one_set (s ∷ []) = does_state_set_run s
-is_one_set _ = false
-
--- A program of one state set, without entry and exit blocks.
+-- A program of such state sets, without entry and exit blocks.
 abbrev pub has_forms_that_run : ProgramTree → Bool
-has_forms_that_run p = ((list_all does_part_run p.definitions && is_missing p.entry) && is_one_set p.state_sets) && is_missing p.exit
+has_forms_that_run p = ((list_all does_part_run p.definitions && is_missing p.entry) && list_all does_state_set_run p.state_sets) && is_missing p.exit

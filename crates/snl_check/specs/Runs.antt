@@ -1,13 +1,16 @@
 -- Which programs run.
-use Rattle.std.specs.Prelude.{Bool, true, not, ◌&&◌, ◌||◌, ℕ, List, codes, bytes_eq, unwrap_or}
+use Rattle.std.specs.Prelude.{Bool, true, false, not, ◌&&◌, List, Option, Some, unwrap_or}
 use Rattle.std.specs.List.{list_all}
 use Rattle.snl_syntax.specs.Programs.{ProgramTree}
-use Rattle.snl_sites.specs.declared.options.Options.{Options}
-use Rattle.snl_sites.specs.declared.sites.Purpose.{Purpose}
-use Rattle.snl_sites.specs.declared.sites.Purpose.TheVariants.{Channel}
-use Rattle.snl_sites.specs.declared.sites.Site.{Site}
-use Rattle.snl_sites.specs.declared.sites.Site.TheVariants.{Declaration, Use, Call}
-use Rattle.snl_sites.specs.Programs.{sites}
+use Rattle.snl_resolve.specs.declared.builtins.Builtin.{Builtin}
+use Rattle.snl_resolve.specs.declared.builtins.Builtin.TheVariants.{Printf, PvPut}
+use Rattle.snl_resolve.specs.declared.options.Options.{Options}
+use Rattle.snl_resolve.specs.declared.sites.Purpose.{Purpose}
+use Rattle.snl_resolve.specs.declared.sites.Purpose.TheVariants.{Channel}
+use Rattle.snl_resolve.specs.declared.sites.Site.{Site}
+use Rattle.snl_resolve.specs.declared.sites.Site.TheVariants.{Declaration, Use, Call}
+use Rattle.snl_resolve.specs.Builtins.{builtin_of}
+use Rattle.snl_resolve.specs.Programs.{sites}
 use Rattle.snl_check.specs.Forms.{has_forms_that_run}
 
 -- The program waits for its channels before it starts, but under `-c`.
@@ -15,8 +18,10 @@ abbrev pub waits : Options → Bool
 waits options = unwrap_or options.c true
 
 -- Of the functions these run.
-abbrev pub does_call_run : List ℕ → Bool
-does_call_run name = bytes_eq name (codes "printf") || bytes_eq name (codes "pvPut")
+abbrev pub does_call_run : Option Builtin → Bool
+does_call_run (Some Printf) = true
+does_call_run (Some PvPut) = true
+does_call_run _ = false
 
 -- A use of an element's channel does not run.
 abbrev pub does_use_run : Purpose → Bool → Bool
@@ -27,7 +32,7 @@ does_use_run p has_subscript = true
 abbrev pub does_site_run : Site → Bool
 does_site_run (Declaration x is_flag later words) = not is_flag
 does_site_run (Use p x m has_subscript) = does_use_run p has_subscript
-does_site_run (Call f known fitting stands) = does_call_run f.text.now
+does_site_run (Call f known fitting stands) = does_call_run (builtin_of f.text.now)
 does_site_run _ = true
 
 -- Nothing of that stands at these places.

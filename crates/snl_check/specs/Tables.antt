@@ -5,8 +5,8 @@ use Rattle.std.specs.HashMap.{HashMap}
 use Rattle.snl_text.specs.declared.tokens.Pos.{Pos}
 use Rattle.snl_syntax.specs.declared.programs.Program.{Program}
 use Rattle.snl_syntax.specs.view.Programs.{program_view}
-use Rattle.snl_sites.specs.declared.sites.Site.{Site}
-use Rattle.snl_sites.specs.Uses.{declared_in, declared_of}
+use Rattle.snl_resolve.specs.declared.sites.Site.{Site}
+use Rattle.snl_resolve.specs.Uses.{declared_in, declared_of}
 
 -- What is found, or else what comes later.
 abbrev pub or_later : Option (Option Pos) → Option Pos → Option Pos

@@ -3,8 +3,8 @@
 ghost use Rattle.std.specs.Prelude.{◌≡◌, ◌↔◌, map, Contains, IfOk, IfSome, IsSome};
 ghost use Rattle.std.proofs.Props.{props};
 ghost use Rattle.snl_syntax.specs.view.Programs.{program_view};
-ghost use Rattle.snl_sites.specs.Programs.{sites};
-ghost use Rattle.snl_sites.specs.Uses.{declared_of};
+ghost use Rattle.snl_resolve.specs.Programs.{sites};
+ghost use Rattle.snl_resolve.specs.Uses.{declared_of};
 ghost use Rattle.snl_messages.specs.Messages.{Said, IsInOrder, said};
 ghost use Rattle.snl_messages.specs.Says.{IsSaid};
 ghost use Rattle.snl_messages.specs.Silence as silence;
@@ -16,7 +16,7 @@ use crate::findings::{Examined, Findings, examine_owned};
 use crate::runs::does_run;
 use crate::uses::{Places, declared_at};
 use snl_messages::Message;
-use snl_sites::Options;
+use snl_resolve::Options;
 use snl_syntax::Program;
 use snl_text::Pos;
 use std::alloc::{AllocError, Global};
@@ -63,7 +63,7 @@ impl<'a> Checked<'a> {
         declared_at(&self.places, offset)
     }
 
-    /// Whether the program runs: it has one state set and none of the forms that don't run yet, and waits for
+    /// Whether the program runs: it has none of the forms that don't run yet, and waits for
     /// its channels before it starts.
     pub fn runs(&self) -> bool
         ensures { result ≡ runs.does_run self.now.options (program_view self.now.program) }

@@ -5,12 +5,12 @@ ghost use Rattle.snl_messages.specs.Messages.{said};
 ghost use Rattle.snl_check.specs.Accepted.{has_no_error};
 ghost use Rattle.snl_check.specs.Findings.{AreFindings};
 ghost use Rattle.snl_check.specs.declared.findings.Findings as declared;
-ghost use Rattle.snl_sites.specs.declared.options.Options as sites;
+ghost use Rattle.snl_resolve.specs.declared.options.Options as sites;
 
 use crate::runs::do_sites_run;
 use crate::uses::{Places, places_of};
 use snl_messages::{Message, Severity, messages_of, options_in_force};
-use snl_sites::{Options, sites_of};
+use snl_resolve::{Options, sites_of};
 use snl_syntax::Program;
 use std::alloc::{AllocError, Global};
 

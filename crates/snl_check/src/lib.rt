@@ -12,4 +12,4 @@ mod uses;
 
 pub use checked::{Checked, Outcome, check};
 pub use snl_messages::{Message, Severity};
-pub use snl_sites::Options;
+pub use snl_resolve::Options;

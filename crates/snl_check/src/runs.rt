@@ -2,11 +2,11 @@
 
 ghost use Rattle.std.specs.Prelude.{◌≡◌};
 ghost use Rattle.snl_syntax.specs.view.Programs.{program_view};
-ghost use Rattle.snl_sites.specs.Programs.{sites};
+ghost use Rattle.snl_resolve.specs.Programs.{sites};
 ghost use Rattle.snl_check.specs.Runs as spec;
 
 use crate::forms::has_forms_that_run;
-use snl_sites::{Options, Purpose, Site};
+use snl_resolve::{Builtin, Options, Purpose, Site, builtin_of};
 use snl_syntax::Program;
 
 /// Whether a program waits for its channels before it starts (Compiling SNL Programs, "Options").
@@ -26,10 +26,10 @@ pub fn does_run(options: Options, program: &Program, do_sites_run: bool) -> bool
 }
 
 /// Whether a function runs: `printf` and `pvPut` do.
-fn does_call_run(name: &[u8]) -> bool
-    ensures { result ≡ spec.does_call_run name.now }
+fn does_call_run(builtin: Option<Builtin>) -> bool
+    ensures { result ≡ spec.does_call_run builtin }
 {
-    name == b"printf".as_slice() || name == b"pvPut".as_slice()
+    matches!(builtin, Some(Builtin::Printf | Builtin::PvPut))
 }
 
 /// Whether a use of a name runs: that of the channel of an element does not.
@@ -53,7 +53,7 @@ fn does_site_run(site: &Site) -> bool
             has_subscript,
             ..
         } => does_use_run(*purpose, *has_subscript),
-        Site::Call { name, .. } => does_call_run(name.text),
+        Site::Call { name, .. } => does_call_run(builtin_of(name.text)),
         _ => true,
     }
 }

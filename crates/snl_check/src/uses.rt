@@ -2,39 +2,17 @@
 
 ghost use Rattle.std.specs.Prelude.{◌≡◌, ℕ, Option, None, OnOk, IfOk};
 ghost use Rattle.snl_text.specs.declared.tokens.Pos.{Pos};
-ghost use Rattle.snl_sites.specs.Uses as spec;
+ghost use Rattle.snl_resolve.specs.Uses as spec;
 ghost use Rattle.snl_check.specs.Tables.{IsUseTable, place_in};
 
 use indexmap::IndexMap;
-use snl_sites::{Meaning, Site};
-use snl_text::{Pos, Token};
+use snl_resolve::{Site, place_of, use_at};
+use snl_text::Pos;
 use std::alloc::{AllocError, Global};
 
 /// The places of the declarations that names mean, by the offsets of the names; None for a
 /// predefined name and for one that is not declared.
 pub type Places = IndexMap<usize, Option<Pos>>;
-
-/// The place of the declaration that a name means.
-fn place_of(meaning: Meaning) -> Option<Pos>
-    ensures { result ≡ spec.place_of meaning }
-{
-    match meaning {
-        Meaning::Variable(declared, _) | Meaning::Flag(declared) => Some(declared),
-        Meaning::Number | Meaning::Nothing => None,
-    }
-}
-
-/// The name that a site uses, with what it means there.
-fn use_at<'a>(site: &Site<'a>) -> Option<(Token<'a>, Meaning)>
-    ensures { result ≡ spec.use_at site.now }
-{
-    match site {
-        Site::Use { name, meaning, .. } | Site::Defined { name, meaning, .. } => {
-            Some((*name, *meaning))
-        }
-        _ => None,
-    }
-}
 
 /// Notes what the name means that a site uses; of two names at one offset the first.
 fn note_use(site: &Site, places: &mut Places) -> Result<(), AllocError>

@@ -4,8 +4,8 @@ use Rattle.std.specs.Prelude.{option_map, option_and_then}
 use Rattle.snl_syntax.specs.Expressions.{ExprTree}
 use Rattle.snl_syntax.specs.Programs.{ProgramTree}
 use Rattle.snl_syntax.specs.Statements.{BlockTree}
-use Rattle.snl_pieces.specs.BlockCode.{maybe_depth, block_depth}
-use Rattle.snl_pieces.specs.ExpressionCode.{expression_depth}
+use Rattle.snl_emit.specs.BlockCode.{maybe_depth, block_depth}
+use Rattle.snl_emit.specs.ExpressionCode.{expression_depth}
 use Rattle.snl_code.specs.declared.starts.Piece.{Piece}
 use Rattle.snl_code.specs.declared.starts.Piece.TheVariants.{ProgramEntry, ProgramExit, Entry, Exit, Condition, Block}
 use Rattle.snl_code.specs.Depths.{greatest, depth_if_there, clause_depth, state_depth, set_depth, program_depth}

@@ -9,12 +9,12 @@ use Rattle.snl_syntax.specs.Expressions.{ExprTree, constant, parenthesized, name
 use Rattle.snl_syntax.specs.view.Expressions.{list_before}
 use Rattle.snl_syntax.specs.Declarations.{DeclaratorTree}
 use Rattle.snl_syntax.specs.view.Declarations.{value_list, declarator_view, declaration_view}
-use Rattle.snl_sites.specs.Types.{listed_values}
-use Rattle.snl_sites.proofs.ListLaws.{listed_of}
-use Rattle.snl_pieces.specs.BlockCode.{entered_depth}
-use Rattle.snl_pieces.specs.Effect.{names_of}
-use Rattle.snl_pieces.specs.ExpressionCode.{target_depth}
-use Rattle.snl_pieces.specs.ExpressionCode.{values_depth as deepest}
+use Rattle.snl_resolve.specs.Types.{listed_values}
+use Rattle.snl_resolve.proofs.ListLaws.{listed_of}
+use Rattle.snl_emit.specs.BlockCode.{entered_depth}
+use Rattle.snl_meaning.specs.Effect.{names_of}
+use Rattle.snl_emit.specs.ExpressionCode.{target_depth}
+use Rattle.snl_emit.specs.ExpressionCode.{values_depth as deepest}
 use Rattle.snl_code.specs.DepthParts.{value_depth, held_after}
 use Rattle.snl_code.specs.Depths.{capped}
 

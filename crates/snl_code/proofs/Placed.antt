@@ -1,17 +1,17 @@
--- Each piece of a program has its place in the program's code.
+-- Each piece of a program has its address in the program's code.
 use Rattle.std.proofs.Common.{map, ◌≡◌, ◌∙◌, ◌+◌, ℕ, zero, suc, List, [], ◌∷◌, ◌++◌, Option, None, Some, refl, sym, ap, subst, arith, append-nil, append_assoc, length, slice_get, option_map, option_and_then}
 use Rattle.snl_syntax.specs.Expressions.{ExprTree}
 use Rattle.snl_syntax.specs.Programs.{ClauseTree, StateTree, StateSetTree, ProgramTree}
 use Rattle.snl_syntax.specs.Statements.{BlockTree}
-use Rattle.snl_pieces.specs.declared.instrs.Instr.{Instr}
-use Rattle.snl_pieces.specs.BlockCode.{condition_piece, block_piece}
-use Rattle.snl_pieces.specs.Names.{Here, format_at}
+use Rattle.snl_meaning.specs.declared.instrs.Instr.{Instr}
+use Rattle.snl_emit.specs.BlockCode.{condition_piece, block_piece}
+use Rattle.snl_meaning.specs.Names.{Here, format_at}
 use Rattle.snl_code.specs.Depths.{capped, program_depth}
 use Rattle.snl_code.specs.Heres.{here_in}
-use Rattle.snl_sites.specs.Programs.{sites}
+use Rattle.snl_resolve.specs.Programs.{sites}
 use Rattle.std.specs.List.{flat_map}
-use Rattle.snl_pieces.specs.Right.{HasAt}
-use Rattle.snl_pieces.proofs.Pieces.{conditions-right, blocks-right}
+use Rattle.snl_meaning.specs.Endings.{HasAt}
+use Rattle.snl_emit.proofs.Pieces.{conditions-right, blocks-right}
 use Rattle.snl_code.specs.declared.code.Code.{Code}
 use Rattle.snl_code.specs.declared.starts.ClauseStarts.{ClauseStarts}
 use Rattle.snl_code.specs.declared.starts.Piece.{Piece}
@@ -101,7 +101,7 @@ module _ (p : ProgramTree) (whole : List Instr) (set : ℕ) where
   entry-placed k None (Some t) f = absurd f
   entry-placed k (Some s) None f = absurd f
 
-  -- the place of a state's clauses
+  -- the addresses of a state's clauses
   clauses-at : (s : StateTree) (before after : List Instr) → whole ≡ before ++ (state_code h 0 s ++ after)
       → whole ≡ (before ++ maybe_code (block_piece h) s.entry) ++ (row_code (clause_code h) 0 s.clauses ++ (maybe_code (block_piece h) s.exit ++ after))
   clauses-at s before after e =
@@ -203,7 +203,7 @@ module _ (p : ProgramTree) where
       (subst (λ n. Found (set_code p) (set_starts p) (program_code p) n (slice_get p.state_sets set) (slice_get (program_starts p).sets set)) n
       (row-found (set_code p) (set_starts p) p.state_sets 0 first last (program_code p) refl set))
 
-  -- each piece has its place, where the code is right for it
+  -- each piece has its address, where the code is right for it
   all-placed : (piece : Piece) → IsPlaced p (program_code p) (piece_of p piece) (start_in (program_starts p) piece)
   all-placed ProgramEntry = block-placed p (program_code p) 0 p.entry [] (middle ++ last) refl
   all-placed ProgramExit =

@@ -5,8 +5,9 @@ use Rattle.snl_text.specs.declared.tokens.Token.{Token}
 use Rattle.snl_syntax.specs.declared.expressions.Argument.{Argument, Value', Text}
 use Rattle.snl_syntax.specs.view.Expressions.{view}
 use Rattle.snl_syntax.specs.Expressions.{ExprTree, ArgumentList}
-use Rattle.snl_pieces.specs.ExpressionCode.{expression_depth, target_depth, signed_depth, joint_depth, called_depth, print_depth, wait_depth, put_depth}
-use Rattle.snl_pieces.specs.Value.{sign_of, joint_of, function_of}
+use Rattle.snl_emit.specs.ExpressionCode.{expression_depth, target_depth, signed_depth, joint_depth, called_depth, print_depth, wait_depth, put_depth}
+use Rattle.snl_meaning.specs.Value.{sign_of, joint_of}
+use Rattle.snl_resolve.specs.Builtins.{builtin_of}
 
 -- A sign with its operand.
 abbrev pub sign_depth : Kind → ExprTree → ℕ
@@ -18,7 +19,7 @@ term_depth t = joint_depth (joint_of t.0.kind) (expression_depth t.1)
 
 -- A call with its arguments.
 abbrev pub call_depth : List ℕ → ArgumentList → ℕ
-call_depth name all = called_depth (function_of name) (print_depth all) (wait_depth all) (put_depth all)
+call_depth name all = called_depth (builtin_of name) (print_depth all) (wait_depth all) (put_depth all)
 
 -- An argument of `printf`, while some values are held.
 abbrev pub value_depth : ℕ → Argument → ℕ

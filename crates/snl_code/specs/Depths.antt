@@ -3,7 +3,7 @@
 use Rattle.std.specs.Prelude.{ℕ, ◌-◌, ◌^◌, min, max, List, [], ◌∷◌, Option, None, Some}
 use Rattle.snl_syntax.specs.Definitions.{DefinitionTree, declaration, assign, monitor, sync, sync_queue}
 use Rattle.snl_syntax.specs.Programs.{ClauseTree, StateTree, StateSetTree, ProgramTree}
-use Rattle.snl_pieces.specs.BlockCode.{maybe_depth, block_depth, entered_depth}
+use Rattle.snl_emit.specs.BlockCode.{maybe_depth, block_depth, entered_depth}
 
 -- A count that stops at the greatest number of 64 bits.
 abbrev pub capped : ℕ → ℕ

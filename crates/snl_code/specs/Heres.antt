@@ -2,10 +2,10 @@
 use Rattle.std.specs.Prelude.{ℕ, List, [], map, Option, None, Some, slice_get}
 use Rattle.snl_text.specs.declared.tokens.Token.{Token}
 use Rattle.snl_syntax.specs.Programs.{ProgramTree, StateSetTree}
-use Rattle.snl_sites.specs.Programs.{sites}
-use Rattle.snl_sites.specs.Variables.{variables_of}
+use Rattle.snl_resolve.specs.Programs.{sites}
+use Rattle.snl_resolve.specs.Variables.{variables_of}
 use Rattle.snl_links.specs.Links.{links}
-use Rattle.snl_pieces.specs.Names.{Here, placed_from}
+use Rattle.snl_meaning.specs.Names.{Here, placed_from}
 
 -- The name of a state set, if there is one.
 abbrev pub name_by : Option StateSetTree → List ℕ

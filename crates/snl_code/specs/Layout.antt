@@ -1,9 +1,9 @@
 -- The code of a program: that of its pieces in the order of the source, and where each of them begins.
 use Rattle.std.specs.Prelude.{ℕ, suc, List, [], ◌∷◌, ◌++◌, Option, None, Some, length}
 use Rattle.snl_syntax.specs.Programs.{ClauseTree, StateTree, StateSetTree, ProgramTree}
-use Rattle.snl_pieces.specs.declared.instrs.Instr.{Instr}
-use Rattle.snl_pieces.specs.BlockCode.{condition_piece, block_piece}
-use Rattle.snl_pieces.specs.Names.{Here}
+use Rattle.snl_meaning.specs.declared.instrs.Instr.{Instr}
+use Rattle.snl_emit.specs.BlockCode.{condition_piece, block_piece}
+use Rattle.snl_meaning.specs.Names.{Here}
 use Rattle.snl_code.specs.Heres.{here_in}
 use Rattle.snl_code.specs.declared.starts.ClauseStarts.{ClauseStarts}
 use Rattle.snl_code.specs.Starts.{StateTable, ProgramTable}

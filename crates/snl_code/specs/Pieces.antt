@@ -4,12 +4,12 @@ use Rattle.std.specs.List.{flat_map}
 use Rattle.snl_syntax.specs.Expressions.{ExprTree}
 use Rattle.snl_syntax.specs.Programs.{ClauseTree, StateTree, ProgramTree}
 use Rattle.snl_syntax.specs.Statements.{BlockTree}
-use Rattle.snl_sites.specs.Programs.{sites}
-use Rattle.snl_pieces.specs.declared.instrs.Instr.{Instr}
-use Rattle.snl_pieces.specs.BlockCode.{block_depth}
-use Rattle.snl_pieces.specs.ExpressionCode.{expression_depth}
-use Rattle.snl_pieces.specs.Names.{format_at}
-use Rattle.snl_pieces.specs.Right.{IsConditionAt, IsBlockAt}
+use Rattle.snl_resolve.specs.Programs.{sites}
+use Rattle.snl_meaning.specs.declared.instrs.Instr.{Instr}
+use Rattle.snl_emit.specs.BlockCode.{block_depth}
+use Rattle.snl_emit.specs.ExpressionCode.{expression_depth}
+use Rattle.snl_meaning.specs.Names.{format_at}
+use Rattle.snl_emit.specs.Right.{IsConditionAt, IsBlockAt}
 use Rattle.snl_code.specs.declared.code.Code.{Code}
 use Rattle.snl_code.specs.declared.starts.Piece.{Piece}
 use Rattle.snl_code.specs.declared.starts.Piece.TheVariants.{ProgramEntry, ProgramExit, Entry, Exit, Condition, Block}
@@ -53,12 +53,12 @@ DepthIsEnough = (p : ProgramTree) (name : Piece) (piece : PieceTree) → piece_o
 
 -- ---- the code of a program
 
--- The code at a place is right for a piece, with room for as many operands as the piece needs at once.
+-- The code at an address is right for a piece, with room for as many operands as the piece needs at once.
 abbrev pub IsPieceAt : ProgramTree → List Instr → ℕ → PieceTree → Type 0
 IsPieceAt p code start (Test set e) = (room : ℕ) → expression_depth e ≤ room → IsConditionAt (here_in p set) code room start e
 IsPieceAt p code start (Action set b) = (room : ℕ) → block_depth b ≤ room → IsBlockAt (here_in p set) code room start b
 
--- There is a place for a piece where there is a piece, and the code there is right for it.
+-- There is an address for a piece where there is a piece, and the code there is right for it.
 abbrev pub IsPlaced : ProgramTree → List Instr → Option PieceTree → Option ℕ → Type 0
 IsPlaced p code (Some piece) (Some start) = IsPieceAt p code start piece
 IsPlaced p code None None = Unit {0}
@@ -68,7 +68,7 @@ IsPlaced p code _ _ = ⊥
 abbrev pub texts_of : Code → List (List ℕ)
 texts_of c = map (λ t. t.items) c.texts.items
 
--- Code is that of a program: each piece of the program has its place, where the code is right for it; no other piece
+-- Code is that of a program: each piece of the program has its address, where the code is right for it; no other piece
 -- has one; its texts are the strings of the program; and its depth is that of the program, or 2^64 - 1 where that is more.
 pub record IsCodeOf (p : ProgramTree) (c : Code) : Type 0 where
   pub placed : (piece : Piece) → IsPlaced p c.instrs.items (piece_of p piece) (start_in (table_of c) piece)

@@ -6,8 +6,8 @@ ghost use Rattle.snl_syntax.specs.view.Declarations.{declarator_view, declaratio
 ghost use Rattle.snl_syntax.specs.view.Lists.{statement_list};
 ghost use Rattle.snl_syntax.specs.view.Shown.{shown};
 ghost use Rattle.snl_syntax.specs.view.Statements.{statement_view, statement_views, declaration_views, block_view};
-ghost use Rattle.snl_pieces.specs.BlockCode as spec;
-ghost use Rattle.snl_pieces.specs.Effect.{names_of, values_of};
+ghost use Rattle.snl_emit.specs.BlockCode as spec;
+ghost use Rattle.snl_meaning.specs.Effect.{names_of, values_of};
 ghost use Rattle.snl_code.specs.Depths.{capped};
 
 use crate::depths::{expression_depth, larger, maybe_depth};

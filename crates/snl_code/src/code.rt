@@ -1,13 +1,13 @@
 //! The code of a program, as it is read.
 
 ghost use Rattle.std.specs.Prelude.{◌≡◌, ◌<◌, Some, length, slice_get, option_map};
-ghost use Rattle.snl_pieces.specs.Names.{text_of};
+ghost use Rattle.snl_meaning.specs.Names.{text_of};
 ghost use Rattle.snl_code.specs.Pieces.{texts_of};
 ghost use Rattle.snl_code.specs.Starts.{table_of, start_in, state_table};
 ghost use Rattle.snl_code.specs.Starts as spec;
 
 use crate::starts::{ClauseStarts, Piece, StateStarts};
-use snl_pieces::Instr;
+use snl_meaning::Instr;
 
 /// The flat code of a program. It owns all that it holds.
 #[derive(Drop)]

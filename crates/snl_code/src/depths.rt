@@ -5,13 +5,14 @@ ghost use Rattle.snl_syntax.specs.Expressions.{no_arguments};
 ghost use Rattle.snl_syntax.specs.view.Lists.{term_list};
 ghost use Rattle.snl_syntax.specs.view.Expressions.{view, boxed, pair_of, list_before};
 ghost use Rattle.snl_syntax.specs.view.Shown.{shown};
-ghost use Rattle.snl_pieces.specs.BlockCode as block;
-ghost use Rattle.snl_pieces.specs.ExpressionCode as spec;
+ghost use Rattle.snl_emit.specs.BlockCode as block;
+ghost use Rattle.snl_emit.specs.ExpressionCode as spec;
 ghost use Rattle.snl_code.specs.Depths.{capped};
-ghost use Rattle.snl_pieces.specs.Value.{compound_of as compound};
+ghost use Rattle.snl_meaning.specs.Value.{compound_of as compound};
 ghost use Rattle.snl_code.specs.DepthParts as parts;
 
-use snl_pieces::{Function, Joint, Sign, compound_of, function_of, joint_of, sign_of};
+use snl_meaning::{Joint, Sign, compound_of, joint_of, sign_of};
+use snl_resolve::{Builtin, builtin_of};
 use snl_syntax::{Argument, Expr, Term};
 use snl_text::{Kind, Token};
 
@@ -125,11 +126,11 @@ fn call_depth(arguments: &[Argument], name: Token) -> usize
     ensures { result
         ≡ capped (parts.call_depth name.entry.text.now (list_before arguments.now no_arguments)) }
 {
-    match function_of(name.text) {
-        Function::Prints => print_depth(arguments),
-        Function::Delays => wait_depth(arguments),
-        Function::Puts => put_depth(arguments),
-        Function::Others => 1,
+    match builtin_of(name.text) {
+        Some(Builtin::Delay) => wait_depth(arguments),
+        Some(Builtin::Printf) => print_depth(arguments),
+        Some(Builtin::PvPut) => put_depth(arguments),
+        Some(Builtin::Ask(_)) | None => 1,
     }
 }
 

@@ -5,13 +5,14 @@ ghost use Rattle.snl_syntax.specs.view.Shown.{shown, held};
 ghost use Rattle.snl_syntax.specs.view.Expressions.{view, boxed};
 ghost use Rattle.snl_syntax.specs.view.Statements.{block_view};
 ghost use Rattle.snl_syntax.specs.view.Programs.{clause_view, state_view};
-ghost use Rattle.snl_pieces.specs.BlockCode.{condition_piece, block_piece};
-ghost use Rattle.snl_pieces.specs.Known.{here_of};
+ghost use Rattle.snl_emit.specs.BlockCode.{condition_piece, block_piece};
+ghost use Rattle.snl_meaning.specs.Known.{here_of};
 ghost use Rattle.snl_code.specs.Layout as spec;
 ghost use Rattle.snl_code.specs.Starts.{state_table};
 
 use crate::starts::{ClauseStarts, StateStarts};
-use snl_pieces::{Instr, Known, emit_block, emit_expression};
+use snl_emit::{emit_block, emit_expression};
+use snl_meaning::{Instr, Known};
 use snl_syntax::{Block, Clause, Expr, State};
 use std::alloc::{AllocError, Global};
 

@@ -5,7 +5,7 @@ ghost use Rattle.snl_syntax.specs.view.Definitions.{definition_view};
 ghost use Rattle.snl_syntax.specs.view.Programs.{clause_view, state_view, state_set_view, program_view};
 ghost use Rattle.snl_syntax.specs.view.Shown.{shown, held};
 ghost use Rattle.snl_syntax.specs.view.Statements.{block_view};
-ghost use Rattle.snl_pieces.specs.BlockCode as blocks;
+ghost use Rattle.snl_emit.specs.BlockCode as blocks;
 ghost use Rattle.snl_code.specs.Depths as spec;
 
 use crate::block_depths::{block_depth, names_depth};

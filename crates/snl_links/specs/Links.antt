@@ -1,19 +1,20 @@
 -- The links of a program: what its definitions say of the elements of variables, and the links that follow from that.
-use Rattle.std.specs.Prelude.{ℕ, suc, Bool, false, ◌&&◌, ◌==◌, List, [], ◌∷◌, ◌++◌, map, length, slice_range, ◌-◌, true, Option, None, Some, option_map, if◌then◌else◌}
+use Rattle.std.specs.Prelude.{ℕ, suc, Bool, false, ◌&&◌, ◌==◌, List, [], ◌∷◌, ◌++◌, map, true, Option, None, Some, option_map, if◌then◌else◌}
 use Rattle.std.specs.List.{flat_map, list_any}
 use Rattle.std.specs.Option.{option_or}
 use Rattle.snl_text.specs.declared.tokens.Pos.{Pos}
 use Rattle.snl_text.specs.declared.tokens.Token.{Token}
 use Rattle.snl_syntax.specs.Definitions.{PlaceTree, one_name, name_list, ChannelsTree, FlagTree, DefinitionTree, assign, monitor, sync, sync_queue}
 use Rattle.snl_syntax.specs.Programs.{StateTree, StateSetTree, ProgramTree}
-use Rattle.snl_sites.specs.declared.sites.Extent.{Extent}
-use Rattle.snl_sites.specs.declared.sites.Extent.TheVariants.{Whole, Front, Element}
-use Rattle.snl_sites.specs.declared.sites.Meaning.{Meaning}
-use Rattle.snl_sites.specs.declared.sites.Meaning.TheVariants.{Flag}
-use Rattle.snl_sites.specs.declared.sites.Part.{Part}
-use Rattle.snl_sites.specs.Parts.{part_of}
-use Rattle.snl_sites.specs.Programs.{queue_size, program_scopes}
-use Rattle.snl_sites.specs.Scopes.{Scope, scope_of, meaning, is_hidden}
+use Rattle.snl_resolve.specs.Formats.{unquoted}
+use Rattle.snl_resolve.specs.declared.sites.Extent.{Extent}
+use Rattle.snl_resolve.specs.declared.sites.Extent.TheVariants.{Whole, Front, Element}
+use Rattle.snl_resolve.specs.declared.sites.Meaning.{Meaning}
+use Rattle.snl_resolve.specs.declared.sites.Meaning.TheVariants.{Flag}
+use Rattle.snl_resolve.specs.declared.sites.Part.{Part}
+use Rattle.snl_resolve.specs.Parts.{part_of}
+use Rattle.snl_resolve.specs.Programs.{queue_size, program_scopes}
+use Rattle.snl_resolve.specs.Scopes.{Scope, scope_of, meaning, is_hidden}
 use Rattle.snl_links.specs.declared.ties.Named.{Named}
 use Rattle.snl_links.specs.declared.ties.Tie.{Tie}
 use Rattle.snl_links.specs.Macros.{macros_of, value_of, replaced}
@@ -107,9 +108,6 @@ first_sync variable k (s ∷ more) = option_or (sync_by variable k s) (first_syn
 -- ---- links, with the names of channels as spelled
 
 -- A text without its quotes; nothing where there is no text.
-abbrev pub unquoted : List ℕ → List ℕ
-unquoted text = slice_range text 1 (length text - 1)
-
 abbrev pub spelled : Option Token → List ℕ
 spelled None = []
 spelled (Some t) = unquoted t.text.now

@@ -5,7 +5,7 @@ use Rattle.std.specs.Option.{option_or}
 use Rattle.std.specs.Fmt.{decimal}
 use Rattle.snl_syntax.specs.Definitions.{DefinitionTree, setting}
 use Rattle.snl_syntax.specs.Programs.{TargetTree, to_state, to_exit, ClauseTree, StateTree, StateSetTree, ProgramTree}
-use Rattle.snl_sites.specs.Options.{is_on, is_among}
+use Rattle.snl_resolve.specs.Options.{is_on, is_among}
 use Rattle.snl_links.specs.declared.ties.Named.{Named}
 use Rattle.snl_links.specs.declared.ties.Tie.{Tie}
 use Rattle.snl_links.specs.Links.{spelled, ties}

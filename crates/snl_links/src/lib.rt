@@ -6,7 +6,6 @@ pub mod laws;
 mod links;
 mod macros;
 mod said;
-mod scoping;
 mod tables;
 mod texts;
 mod ties;

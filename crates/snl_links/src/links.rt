@@ -8,6 +8,7 @@ ghost use Rattle.snl_links.specs.MacroTables.{value_in};
 
 use crate::macros::MacroTable;
 use crate::ties::{Named, Tie, ties_of};
+use snl_resolve::formats::unquoted;
 use snl_syntax::Program;
 use snl_text::{Pos, Token};
 use std::alloc::{AllocError, Global};
@@ -36,16 +37,6 @@ pub struct Link {
     pub flag: Option<Pos>,
     /// How many items the queue has; 0 where there is none.
     pub queue: u64,
-}
-
-/// A text without its quotes.
-fn unquoted(text: &[u8]) -> &[u8]
-    ensures { result.now ≡ spec.unquoted text.now }
-{
-    match text {
-        [_, inner @ .., _] => inner,
-        _ => b"",
-    }
 }
 
 /// A text that may be missing, without its quotes.

@@ -4,7 +4,7 @@ ghost use Rattle.std.specs.Prelude.{◌≡◌, ◌++◌, map, codes, OnOk, OnErr
 ghost use Rattle.std.specs.List.{flat_map};
 ghost use Rattle.snl_syntax.specs.view.Definitions.{definition_view};
 ghost use Rattle.snl_syntax.specs.view.Programs.{target_view, clause_view, state_view, state_set_view, program_view};
-ghost use Rattle.snl_sites.specs.Options.{is_among};
+ghost use Rattle.snl_resolve.specs.Options.{is_among};
 ghost use Rattle.snl_links.specs.Appended.{Begun};
 ghost use Rattle.snl_links.specs.Tables as spec;
 
@@ -12,6 +12,7 @@ use crate::appending::put_pieces;
 use crate::links::spelled;
 use crate::ties::{Named, Tie, ties_of};
 use itoa::Buffer;
+use snl_resolve::has_letter;
 use snl_syntax::{Clause, Def, Program, State, StateSet, Target};
 use snl_text::Kind;
 use std::alloc::{AllocError, Global};
@@ -114,18 +115,6 @@ fn put_channels(ties: &[Tie], out: &mut Vec<u8>) -> Result<(), AllocError>
         put_channel(tie, out)?;
     }
     Ok(())
-}
-
-/// Whether one of the letters is this one.
-fn has_letter(letters: &[u8], letter: u8) -> bool
-    ensures { result ≡ is_among letters.now letter }
-{
-    for next in letters {
-        if letter == *next {
-            return true;
-        }
-    }
-    false
 }
 
 /// The sign that an option gives to a letter, `true` for `+`.

@@ -1,8 +1,9 @@
 //! Texts as bytes: cut at a mark, and without the blanks round them.
 
 ghost use Rattle.std.specs.Prelude.{◌≡◌, ◌≤◌, ◌<◌, length, option_map, IfSome, bytes_eq};
-ghost use Rattle.snl_text.specs.Bytes.{is_blank};
 ghost use Rattle.snl_links.specs.Texts as spec;
+
+use snl_text::is_blank;
 
 /// A text cut at the first byte that is a mark.
 #[derive(Clone, Copy)]
@@ -31,13 +32,6 @@ pub fn cut_at(text: &[u8], mark: u8) -> Cut<'_>
         before: text,
         after: None,
     }
-}
-
-/// Space, tab, CR, newline, form feed or vertical tab.
-fn is_blank(byte: u8) -> bool
-    ensures { result ≡ is_blank byte }
-{
-    byte == b' ' || matches!(byte, b'\t'..=b'\r')
 }
 
 fn without_leading(text: &[u8]) -> &[u8]

@@ -9,7 +9,7 @@ ghost use Rattle.snl_links.specs.Links as spec;
 ghost use Rattle.snl_links.specs.LinkViews.{said_view, synced_view};
 
 use crate::said::{Said, push_said};
-use snl_sites::{Extent, Part};
+use snl_resolve::{Extent, Part};
 use snl_syntax::{ChannelNames, Channels, Program};
 use snl_text::{Pos, Token};
 use std::alloc::{AllocError, Global};

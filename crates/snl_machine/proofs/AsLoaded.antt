@@ -5,14 +5,14 @@ use Rattle.snl_code.specs.declared.code.Code.{Code}
 use Rattle.snl_code.specs.Pieces.{IsCodeOf}
 use Rattle.snl_code.specs.Starts.{table_of}
 use Rattle.snl_links.specs.Links.{Link}
-use Rattle.snl_pieces.specs.World.{World}
-use Rattle.snl_turns.specs.declared.plans.LinkPlan.{LinkPlan}
-use Rattle.snl_turns.specs.declared.plans.Plan.{Plan}
-use Rattle.snl_plans.specs.First.{first_world, first_world_of}
-use Rattle.snl_plans.specs.Initials.{held_sets}
-use Rattle.snl_plans.specs.Places.{channels}
-use Rattle.snl_plans.specs.Plans.{PlainPlan, plan_view, program_plan}
-use Rattle.snl_plans.specs.Right.{IsLoadedOf}
+use Rattle.snl_meaning.specs.World.{World}
+use Rattle.snl_schedule.specs.declared.plans.LinkPlan.{LinkPlan}
+use Rattle.snl_schedule.specs.declared.plans.Plan.{Plan}
+use Rattle.snl_load.specs.First.{first_world, first_world_of}
+use Rattle.snl_load.specs.Initials.{held_sets}
+use Rattle.snl_load.specs.Places.{channels}
+use Rattle.snl_load.specs.Plans.{PlainPlan, plan_view, program_plan}
+use Rattle.snl_load.specs.Right.{IsLoadedOf}
 use Rattle.snl_machine.specs.Holding.{loaded_by}
 
 module _ (p : ProgramTree) (ls given : List Link) (code : Code) (plan : Plan) (links-are : given ≡ ls) (planned : plan_view plan ≡ program_plan p given (table_of code)) where

@@ -6,22 +6,22 @@ use Rattle.snl_syntax.specs.Expressions.{ExprTree}
 use Rattle.snl_syntax.specs.Programs.{StateSetTree, ProgramTree}
 use Rattle.snl_links.specs.Links.{Link}
 use Rattle.snl_machine.specs.Ranges.{Has, AllFit, IsSized, counts, FirstHolds}
-use Rattle.snl_pieces.specs.declared.instrs.Variable.{Variable}
-use Rattle.snl_pieces.specs.declared.names.Placed.{Placed}
-use Rattle.snl_pieces.specs.Effect.{values_of}
-use Rattle.snl_pieces.specs.Laws.{words_of}
-use Rattle.snl_pieces.specs.Names.{behind, variable_from, placed_from}
-use Rattle.snl_pieces.specs.World.{Copy, no_copy, copy_of}
-use Rattle.snl_plans.specs.First.{first_copy, first_world_of}
-use Rattle.snl_plans.specs.Initials.{worth_in, first_by, first_element, first_elements, all_elements, held_among, buffer_by, first_buffer, held_sets}
-use Rattle.snl_plans.specs.Places.{place_after, channels, placed_sets, for_each_set, link_plan, link_plans_from}
-use Rattle.snl_sites.specs.declared.constants.Constant.{Constant}
-use Rattle.snl_sites.specs.declared.constants.Constant.TheVariants.{Varies, Faults, Worth}
-use Rattle.snl_sites.specs.Constants.{constant_of}
-use Rattle.snl_sites.specs.Scopes.{elements, is_hidden}
-use Rattle.snl_sites.specs.Variables.{Held, variables_of}
-use Rattle.snl_turns.specs.declared.plans.LinkPlan.{LinkPlan}
-use Rattle.snl_turns.specs.Arrivals.{is_in}
+use Rattle.snl_meaning.specs.declared.instrs.Variable.{Variable}
+use Rattle.snl_meaning.specs.declared.names.Placed.{Placed}
+use Rattle.snl_meaning.specs.Effect.{values_of}
+use Rattle.snl_meaning.specs.Laws.{words_of}
+use Rattle.snl_meaning.specs.Names.{behind, variable_from, placed_from}
+use Rattle.snl_meaning.specs.World.{SetMemory, no_copy, copy_of}
+use Rattle.snl_load.specs.First.{first_copy, first_world_of}
+use Rattle.snl_load.specs.Initials.{worth_in, first_by, first_element, first_elements, all_elements, held_among, buffer_by, first_buffer, held_sets}
+use Rattle.snl_load.specs.Places.{place_after, channels, placed_sets, for_each_set, link_plan, link_plans_from}
+use Rattle.snl_resolve.specs.declared.constants.Constant.{Constant}
+use Rattle.snl_resolve.specs.declared.constants.Constant.TheVariants.{Varies, Faults, Worth}
+use Rattle.snl_resolve.specs.Constants.{constant_of}
+use Rattle.snl_resolve.specs.Scopes.{elements, is_hidden}
+use Rattle.snl_resolve.specs.Variables.{Held, variables_of}
+use Rattle.snl_schedule.specs.declared.plans.LinkPlan.{LinkPlan}
+use Rattle.snl_schedule.specs.Arrivals.{is_in}
 
 -- ---- what an element begins with
 
@@ -95,7 +95,7 @@ copy-at f k [] i = inr refl
 copy-at f k (g ∷ gs) zero = inl (ap (λ (n : ℕ). first_copy (f n)) (let e : k ≡ k + 0 = omega arith in e))
 copy-at f k (g ∷ gs) (suc i) = by (copy-at f (k + 1) gs i)
   where
-    there : Copy
+    there : SetMemory
     there = slice_index_or (map first_copy (for_each_set f (k + 1) gs)) i no_copy
 
     by : (there ≡ first_copy (f (k + 1 + i))) ⊎ (there ≡ no_copy) → (there ≡ first_copy (f (k + suc i))) ⊎ (there ≡ no_copy)
@@ -106,17 +106,17 @@ copy-at f k (g ∷ gs) (suc i) = by (copy-at f (k + 1) gs i)
 first-fits : (p : ProgramTree) (ls : List Link) → IsSized p → AllFit p (first_world_of p ls)
 first-fits p ls sized set i k x is less = by (copy-at (variables_of p) 0 p.state_sets set)
   where
-    there : Copy
+    there : SetMemory
     there = copy_of set (first_world_of p ls)
 
     nought : Has x.variable (pos 0)
     nought = sized.zero set i x is
 
     by : (there ≡ first_copy (variables_of p (0 + set))) ⊎ (there ≡ no_copy) → Has x.variable (slice_index_or there.words (x.variable.place + k) (pos 0))
-    by (inr none) = subst (λ (c : Copy). Has x.variable (slice_index_or c.words (x.variable.place + k) (pos 0))) (sym none) nought
+    by (inr none) = subst (λ (c : SetMemory). Has x.variable (slice_index_or c.words (x.variable.place + k) (pos 0))) (sym none) nought
     by (inl here) =
         let e : 0 + set ≡ set = omega arith in
-        subst (λ (c : Copy). Has x.variable (slice_index_or c.words (x.variable.place + k) (pos 0)))
+        subst (λ (c : SetMemory). Has x.variable (slice_index_or c.words (x.variable.place + k) (pos 0)))
         (sym (here ∙ ap (λ (n : ℕ). first_copy (variables_of p n)) e))
         (words-fit (variables_of p set) [] 0 i k x refl (let few = sized.few set in omega (arith, few)) is less nought)
 

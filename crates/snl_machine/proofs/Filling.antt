@@ -7,18 +7,18 @@ use Rattle.snl_syntax.specs.Programs.{ProgramTree}
 use Rattle.snl_links.specs.Links.{Link}
 use Rattle.snl_machine.specs.Ranges.{Has, Fit, AllFit, IsSized, BuffersFit, counts}
 use Rattle.snl_machine.proofs.Fitting.{set-index, found, one-word, changed-fits}
-use Rattle.snl_pieces.specs.declared.instrs.Variable.{Variable}
-use Rattle.snl_pieces.specs.declared.names.Placed.{Placed}
-use Rattle.snl_pieces.specs.Names.{variable_in}
-use Rattle.snl_pieces.specs.World.{World, copy_of, words_at}
-use Rattle.snl_pieces.proofs.Apart.{variables_lie_within}
-use Rattle.snl_plans.specs.Places.{place_after, channels, placed_in, placed_sets, fed_at, feeds_from, link_plan, link_plans_from, link_plans}
-use Rattle.snl_sites.specs.Variables.{variables_of}
-use Rattle.snl_turns.specs.declared.feeds.Feed.{Feed}
-use Rattle.snl_turns.specs.declared.plans.LinkPlan.{LinkPlan}
-use Rattle.snl_turns.specs.Arrivals.{is_of, is_in, is_link_fit, are_fit, all_marked, with_values, received_link, received_from}
-use Rattle.snl_turns.specs.Turn.{StateSet}
-use Rattle.snl_turns.specs.Refresh.{is_marked, with_mark, overwritten, copied_to, refreshed_link, refreshed_from}
+use Rattle.snl_meaning.specs.declared.instrs.Variable.{Variable}
+use Rattle.snl_meaning.specs.declared.names.Placed.{Placed}
+use Rattle.snl_meaning.specs.Names.{variable_in}
+use Rattle.snl_meaning.specs.World.{World, copy_of, words_at}
+use Rattle.snl_meaning.proofs.Apart.{variables_lie_within}
+use Rattle.snl_load.specs.Places.{place_after, channels, placed_in, placed_sets, fed_at, feeds_from, link_plan, link_plans_from, link_plans}
+use Rattle.snl_resolve.specs.Variables.{variables_of}
+use Rattle.snl_schedule.specs.declared.feeds.LinkFeed.{LinkFeed}
+use Rattle.snl_schedule.specs.declared.plans.LinkPlan.{LinkPlan}
+use Rattle.snl_schedule.specs.Arrivals.{is_of, is_in, is_link_fit, are_fit, all_marked, with_values, received_link, received_from}
+use Rattle.snl_schedule.specs.Turn.{StateSet}
+use Rattle.snl_schedule.specs.Refresh.{is_marked, with_mark, overwritten, copied_to, refreshed_link, refreshed_from}
 
 -- ---- words that are replaced
 
@@ -111,7 +111,7 @@ module _ (p : ProgramTree) (sized : IsSized p) (set : ℕ) where
       AllFit p w → AllFit p (refreshed_link set number (record { to = fed_at (placed_in p set) l; from = at; count = l.count }) w)
   link-fits names copies l at number w tied fill all = by (is_marked set number w)
     where
-      f : Feed
+      f : LinkFeed
       f = record { to = fed_at (placed_in p set) l; from = at; count = l.count }
 
       by : (b : Bool) → AllFit p (if b then with_mark set number false (copied_to set f.to f w) else w)
@@ -119,7 +119,7 @@ module _ (p : ProgramTree) (sized : IsSized p) (set : ℕ) where
       by false = all
 
 -- a refresh leaves buffers as they are
-link-buffers : (set number : ℕ) (f : Feed) (w : World) → (refreshed_link set number f w).buffers ≡ w.buffers
+link-buffers : (set number : ℕ) (f : LinkFeed) (w : World) → (refreshed_link set number f w).buffers ≡ w.buffers
 link-buffers set number f w = by (is_marked set number w) f.to
   where
     by : (b : Bool) (to : Option ℕ) → (if b then with_mark set number false (copied_to set to f w) else w).buffers ≡ w.buffers
@@ -128,7 +128,7 @@ link-buffers set number f w = by (is_marked set number w) f.to
     by false to = refl
 
 -- that of all links
-pub refreshed-buffers : (set number : ℕ) (fs : List Feed) (w : World) → (refreshed_from set number fs w).buffers ≡ w.buffers
+pub refreshed-buffers : (set number : ℕ) (fs : List LinkFeed) (w : World) → (refreshed_from set number fs w).buffers ≡ w.buffers
 refreshed-buffers set number [] w = refl
 refreshed-buffers set number (f ∷ fs) w = refreshed-buffers set (number + 1) fs (refreshed_link set number f w) ∙ link-buffers set number f w
 
@@ -143,7 +143,7 @@ module _ (p : ProgramTree) (sized : IsSized p) (set : ℕ) (names : List (List �
       AllFit p (refreshed_from set number (feeds_from (placed_in p set) at ks) w)
   refreshed-fits [] at number w tied fit all = all
   refreshed-fits (l ∷ ks) at number w tied fit all =
-      let f : Feed = record { to = fed_at (placed_in p set) l; from = at; count = l.count } in
+      let f : LinkFeed = record { to = fed_at (placed_in p set) l; from = at; count = l.count } in
       let next = place_after at l.count in
       let u = refreshed_link set number f w in
       let step = link-fits p sized set names copies l at number w (λ v is. tied 0 l (link_plan names copies at l) v refl refl is)

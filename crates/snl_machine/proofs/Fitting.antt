@@ -5,16 +5,16 @@ use Rattle.std.proofs.lemmas.Bool.{ltb-true, ltb-false}
 use Rattle.snl_syntax.specs.Programs.{ProgramTree}
 use Rattle.snl_code.specs.Heres.{here_in}
 use Rattle.snl_machine.specs.Ranges.{Has, Fit, AllFit, IsSized, PiecesFit}
-use Rattle.snl_pieces.specs.declared.instrs.Variable.{Variable}
-use Rattle.snl_pieces.specs.declared.names.Placed.{Placed}
-use Rattle.snl_pieces.specs.Keeping.{IsKept, MayStore, PiecesKeep}
-use Rattle.snl_pieces.specs.Names.{variable_in}
-use Rattle.snl_pieces.specs.Words.{natural, is_subscript}
-use Rattle.snl_pieces.specs.World.{Copy, World, no_copy, copy_of, zeroed}
-use Rattle.snl_pieces.proofs.Apart.{variables_are_apart}
-use Rattle.snl_pieces.proofs.Keeping.{pieces-keep}
-use Rattle.snl_plans.specs.Places.{placed_in}
-use Rattle.snl_sites.specs.Variables.{variables_of}
+use Rattle.snl_meaning.specs.declared.instrs.Variable.{Variable}
+use Rattle.snl_meaning.specs.declared.names.Placed.{Placed}
+use Rattle.snl_meaning.specs.Keeping.{IsKept, MayStore, PiecesKeep}
+use Rattle.snl_meaning.specs.Names.{variable_in}
+use Rattle.snl_meaning.specs.Words.{natural, is_subscript}
+use Rattle.snl_meaning.specs.World.{SetMemory, World, no_copy, copy_of, zeroed}
+use Rattle.snl_meaning.proofs.Apart.{variables_are_apart}
+use Rattle.snl_meaning.proofs.Keeping.{pieces-keep}
+use Rattle.snl_load.specs.Places.{placed_in}
+use Rattle.snl_resolve.specs.Variables.{variables_of}
 
 -- ---- lists
 
@@ -97,7 +97,7 @@ module _ (p : ProgramTree) (sized : IsSized p) where
   }
 
   -- other words in a copy, of which each is as it was or one that the type of its variable has
-  pub changed-fits : (set : ℕ) (c : Copy) (w : World) → (Fit (placed_in p set) (copy_of set w).words → Fit (placed_in p set) c.words) →
+  pub changed-fits : (set : ℕ) (c : SetMemory) (w : World) → (Fit (placed_in p set) (copy_of set w).words → Fit (placed_in p set) c.words) →
       AllFit p w → AllFit p (record w { copies = slice_set w.copies set c })
   changed-fits set c w fits all other = by (set-index w.copies set other c no_copy)
     where
@@ -105,8 +105,8 @@ module _ (p : ProgramTree) (sized : IsSized p) where
       new = record w { copies = slice_set w.copies set c }
 
       by : (copy_of other new ≡ copy_of other w) ⊎ ((set ≡ other) × (copy_of other new ≡ c)) → Fit (placed_in p other) (copy_of other new).words
-      by (inl same) = subst (λ (d : Copy). Fit (placed_in p other) d.words) (sym same) (all other)
-      by (inr this) = subst (λ (d : Copy). Fit (placed_in p other) d.words) (sym this.1) (subst (λ (n : ℕ). Fit (placed_in p n) c.words) this.0 (fits (all set)))
+      by (inl same) = subst (λ (d : SetMemory). Fit (placed_in p other) d.words) (sym same) (all other)
+      by (inr this) = subst (λ (d : SetMemory). Fit (placed_in p other) d.words) (sym this.1) (subst (λ (n : ℕ). Fit (placed_in p n) c.words) this.0 (fits (all set)))
 
   -- a store
   store-fits : (set : ℕ) (v : Variable) (k z : ℤ) (words : List ℤ) → May set v k → Has v z → Fit (placed_in p set) words → Fit (placed_in p set) (slice_set words (v.place + natural k) z)

@@ -2,29 +2,29 @@
 use Rattle.std.proofs.Common.{◌≡◌, ◌∙◌, refl, sym, subst, ℕ, true, List, length, nat_lt}
 use Rattle.snl_syntax.specs.Programs.{ProgramTree}
 use Rattle.snl_code.specs.Heres.{here_in}
-use Rattle.snl_events.specs.declared.events.Event.{Event}
-use Rattle.snl_events.specs.declared.events.Event.TheVariants.{Up, Val, Tick, Other}
-use Rattle.snl_events.specs.Event.{applied, closed, line_by, is_event_fit}
+use Rattle.snl_schedule.specs.declared.events.Event.{Event}
+use Rattle.snl_schedule.specs.declared.events.Event.TheVariants.{Up, Val, Tick, Other}
+use Rattle.snl_schedule.specs.Event.{applied, closed, line_by, is_event_fit}
 use Rattle.snl_links.specs.Links.{Link}
 use Rattle.snl_machine.specs.Ranges.{AllFit, BuffersFit, Holds, IsSized, IsTied, EventsFit, Begins, GoesOn, ReachedHold}
 use Rattle.snl_machine.proofs.Beginning.{first_holds}
 use Rattle.snl_machine.proofs.Filling.{refreshed-fits, refreshed-buffers, received-fits, received-copies, both-true}
 use Rattle.snl_machine.proofs.Fitting.{changed-fits, pieces-fit}
 use Rattle.snl_machine.proofs.Steady.{IsSteady, instant-keeps}
-use Rattle.snl_pieces.specs.declared.live.Live.{Live}
-use Rattle.snl_pieces.specs.declared.live.Live.TheVariants.{Waiting, Running, Ended}
-use Rattle.snl_pieces.specs.Effect.{held_by, block_effect}
-use Rattle.snl_pieces.specs.Keeping.{PiecesKeep, world_after}
-use Rattle.snl_pieces.specs.Ran.{Ran, Gives, Faults}
-use Rattle.snl_pieces.specs.World.{Copy, World, copy_of}
-use Rattle.snl_pieces.proofs.Keeping.{pieces-keep}
-use Rattle.snl_pieces.proofs.Ticks.{Any, any-may}
-use Rattle.snl_plans.specs.Meaning.{program_meaning}
-use Rattle.snl_plans.specs.Places.{channels, placed_sets, feeds_in, link_plans}
-use Rattle.snl_turns.specs.Arrivals.{are_fit}
-use Rattle.snl_turns.specs.Instant.{Program, instant_of}
-use Rattle.snl_turns.specs.Refresh.{refreshed}
-use Rattle.snl_turns.specs.Turn.{entered_in}
+use Rattle.snl_meaning.specs.declared.live.Live.{Live}
+use Rattle.snl_meaning.specs.declared.live.Live.TheVariants.{Waiting, Running, Ended}
+use Rattle.snl_meaning.specs.Effect.{held_by, block_effect}
+use Rattle.snl_meaning.specs.Keeping.{PiecesKeep, world_after}
+use Rattle.snl_meaning.specs.Ran.{Ran, Gives, Faults}
+use Rattle.snl_meaning.specs.World.{SetMemory, World, copy_of}
+use Rattle.snl_meaning.proofs.Keeping.{pieces-keep}
+use Rattle.snl_meaning.proofs.Ticks.{Any, any-may}
+use Rattle.snl_load.specs.Meaning.{program_meaning}
+use Rattle.snl_load.specs.Places.{channels, placed_sets, feeds_in, link_plans}
+use Rattle.snl_schedule.specs.Arrivals.{are_fit}
+use Rattle.snl_schedule.specs.Instant.{Program, instant_of}
+use Rattle.snl_schedule.specs.Refresh.{refreshed}
+use Rattle.snl_schedule.specs.Turn.{entered_in}
 
 -- no piece changes a buffer
 buffers-stay : (p : ProgramTree) (set : ℕ) → PiecesKeep (here_in p set) (λ w u. u.buffers ≡ w.buffers)
@@ -85,7 +85,7 @@ module _ (p : ProgramTree) (ls : List Link) (sized : IsSized p) (tied : IsTied p
       let halves = both-true (nat_lt channel (length (channels ls))) (are_fit channel values.items (link_plans p ls)) fit in
       let v = record w { valued = _ } in
       let ss = (program_meaning p ls).sets in (
-        subst (λ (cs : List Copy). AllFit p (record w { copies = cs })) (sym (received-copies ss channel values.items 0 (link_plans p ls) v)) holds.0,
+        subst (λ (cs : List SetMemory). AllFit p (record w { copies = cs })) (sym (received-copies ss channel values.items 0 (link_plans p ls) v)) holds.0,
         received-fits p ls tied.few ss channel values.items 0 (link_plans p ls) v (λ i t is. (i, is)) halves.1 holds.1,
       )
   event-holds Tick w fit holds = holds

@@ -1,24 +1,24 @@
 -- Rounds end by themselves, and time never falls.
 use Rattle.std.proofs.Common.{◌≡◌, ◌∙◌, ◌+◌, ◌<◌, ◌≤◌, refl, ap, sym, arith, ℕ, zero, suc, ℤ, Bool, true, false, List, [], ◌∷◌, if◌then◌else◌}
 use Rattle.snl_syntax.specs.Programs.{ProgramTree}
-use Rattle.snl_events.specs.declared.events.Event.{Event}
-use Rattle.snl_events.specs.declared.events.Event.TheVariants.{Up, Val, Tick, Other}
-use Rattle.snl_events.specs.Event.{applied, closed, line_by}
+use Rattle.snl_schedule.specs.declared.events.Event.{Event}
+use Rattle.snl_schedule.specs.declared.events.Event.TheVariants.{Up, Val, Tick, Other}
+use Rattle.snl_schedule.specs.Event.{applied, closed, line_by}
 use Rattle.snl_links.specs.Links.{Link}
 use Rattle.snl_machine.specs.Rounds.{Rounds, Last, Leaves, Stops, Again, RoundsEnd, TimeIsTheEvents, TimeNeverFalls}
 use Rattle.snl_machine.proofs.Steady.{IsLoose, loosely, Turns, round-turns, instant-keeps}
-use Rattle.snl_pieces.specs.declared.live.Live.{Live}
-use Rattle.snl_pieces.specs.declared.live.Live.TheVariants.{Waiting, Running, Ended}
-use Rattle.snl_pieces.specs.Keeping.{world_after}
-use Rattle.snl_pieces.specs.Ran.{Ran, Gives, Faults, then_do}
-use Rattle.snl_pieces.specs.World.{World}
-use Rattle.snl_plans.specs.Meaning.{program_meaning}
-use Rattle.snl_turns.specs.declared.plans.LinkPlan.{LinkPlan}
-use Rattle.snl_turns.specs.declared.turns.Turned.{Turned}
-use Rattle.snl_turns.specs.declared.turns.Turned.TheVariants.{Stayed, Moved, Exited}
-use Rattle.snl_turns.specs.Turn.{StateSet}
-use Rattle.snl_turns.specs.Arrivals.{is_of, all_marked, with_values, received_link, received_from}
-use Rattle.snl_turns.specs.Instant.{Program, round_of, unless_still, rounds_of, instant_of}
+use Rattle.snl_meaning.specs.declared.live.Live.{Live}
+use Rattle.snl_meaning.specs.declared.live.Live.TheVariants.{Waiting, Running, Ended}
+use Rattle.snl_meaning.specs.Keeping.{world_after}
+use Rattle.snl_meaning.specs.Ran.{Ran, Gives, Faults, then_do}
+use Rattle.snl_meaning.specs.World.{World}
+use Rattle.snl_load.specs.Meaning.{program_meaning}
+use Rattle.snl_schedule.specs.declared.plans.LinkPlan.{LinkPlan}
+use Rattle.snl_schedule.specs.declared.turns.Turned.{Turned}
+use Rattle.snl_schedule.specs.declared.turns.Turned.TheVariants.{Stayed, Moved, Exited}
+use Rattle.snl_schedule.specs.Turn.{StateSet}
+use Rattle.snl_schedule.specs.Arrivals.{is_of, all_marked, with_values, received_link, received_from}
+use Rattle.snl_schedule.specs.Instant.{Program, round_of, unless_still, rounds_of, instant_of}
 
 -- ---- ticks
 

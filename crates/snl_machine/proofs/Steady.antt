@@ -2,27 +2,27 @@
 use Rattle.std.proofs.Common.{◌≡◌, ◌+◌, refl, ℕ, zero, suc, Bool, true, false, List, [], ◌∷◌, Option, None, Some, map, slice_get, if◌then◌else◌}
 use Rattle.snl_syntax.specs.Programs.{ClauseTree, StateTree, StateSetTree, ProgramTree}
 use Rattle.snl_links.specs.Links.{Link}
-use Rattle.snl_lines.specs.Lines.{start_line}
-use Rattle.snl_pieces.specs.declared.live.Live.{Live}
-use Rattle.snl_pieces.specs.declared.live.Live.TheVariants.{Waiting, Running, Ended}
-use Rattle.snl_pieces.specs.Effect.{Way, Done, Broken, Continued, Left, block_effect}
-use Rattle.snl_pieces.specs.Keeping.{IsKept, PiecesKeep, world_after}
-use Rattle.snl_pieces.specs.Ran.{Ran, Gives, Faults, also, then_do}
-use Rattle.snl_pieces.specs.Words.{spent_of}
-use Rattle.snl_pieces.specs.World.{Copy, World, copy_of}
-use Rattle.snl_pieces.proofs.Keeping.{pieces-keep}
-use Rattle.snl_pieces.proofs.Ticks.{Any, any-may}
+use Rattle.snl_output.specs.Lines.{start_line}
+use Rattle.snl_meaning.specs.declared.live.Live.{Live}
+use Rattle.snl_meaning.specs.declared.live.Live.TheVariants.{Waiting, Running, Ended}
+use Rattle.snl_meaning.specs.Effect.{Way, Done, Broken, Continued, Left, block_effect}
+use Rattle.snl_meaning.specs.Keeping.{IsKept, PiecesKeep, world_after}
+use Rattle.snl_meaning.specs.Ran.{Ran, Gives, Faults, also, then_do}
+use Rattle.snl_meaning.specs.Words.{spent_of}
+use Rattle.snl_meaning.specs.World.{SetMemory, World, copy_of}
+use Rattle.snl_meaning.proofs.Keeping.{pieces-keep}
+use Rattle.snl_meaning.proofs.Ticks.{Any, any-may}
 use Rattle.snl_code.specs.Heres.{here_in}
-use Rattle.snl_plans.specs.Meaning.{left_for, clause_meaning, state_meaning, set_meanings, program_meaning}
-use Rattle.snl_plans.specs.Places.{feeds_in}
-use Rattle.snl_turns.specs.declared.feeds.Feed.{Feed}
-use Rattle.snl_turns.specs.declared.plans.Target.{Target}
-use Rattle.snl_turns.specs.declared.plans.Target.TheVariants as to
-use Rattle.snl_turns.specs.declared.turns.Turned.{Turned}
-use Rattle.snl_turns.specs.declared.turns.Turned.TheVariants.{Stayed, Moved, Exited}
-use Rattle.snl_turns.specs.Instant.{Program, later, is_exit, unless_exited, round_from, round_of, unless_still, rounds_of, is_ready, refreshed_sets, begun_sets, started, all_rounds, instant_by}
-use Rattle.snl_turns.specs.Refresh.{is_marked, with_mark, copied_to, refreshed_link, refreshed_from, refreshed}
-use Rattle.snl_turns.specs.Turn.{entered_in, Clause, State, StateSet, chosen, chosen_if, arrived, target_by, arrived_by, acted, transition, fired, tried, told_fault, turn_after, turn_of}
+use Rattle.snl_load.specs.Meaning.{left_for, clause_meaning, state_meaning, set_meanings, program_meaning}
+use Rattle.snl_load.specs.Places.{feeds_in}
+use Rattle.snl_schedule.specs.declared.feeds.LinkFeed.{LinkFeed}
+use Rattle.snl_schedule.specs.declared.plans.Destination.{Destination}
+use Rattle.snl_schedule.specs.declared.plans.Destination.TheVariants as to
+use Rattle.snl_schedule.specs.declared.turns.Turned.{Turned}
+use Rattle.snl_schedule.specs.declared.turns.Turned.TheVariants.{Stayed, Moved, Exited}
+use Rattle.snl_schedule.specs.Instant.{Program, later, is_exit, unless_exited, round_from, round_of, unless_still, rounds_of, is_ready, refreshed_sets, begun_sets, started, all_rounds, instant_by}
+use Rattle.snl_schedule.specs.Refresh.{is_marked, with_mark, copied_to, refreshed_link, refreshed_from, refreshed}
+use Rattle.snl_schedule.specs.Turn.{entered_in, Clause, State, StateSet, chosen, chosen_if, arrived, target_by, arrived_by, acted, transition, fired, tried, told_fault, turn_after, turn_of}
 
 -- A relation between a world and a later one that each change of a run of a program keeps, and one that a tick makes
 -- stronger.
@@ -44,7 +44,7 @@ pub record IsSteady (p : ProgramTree) (ls : List Link) (R S : World → World �
 pub record IsLoose (R S : World → World → Type 0) : Type 0 where
   pub nothing : (w : World) → R w w
   pub both : (u v w : World) → R u v → R v w → R u w
-  pub copies : (x : List Copy) (w : World) → R w (record w { copies = x })
+  pub copies : (x : List SetMemory) (w : World) → R w (record w { copies = x })
   pub marks : (x : List (List Bool)) (w : World) → R w (record w { marks = x })
   pub due : (x : Option ℕ) (w : World) → R w (record w { due = x })
   pub wake : (x : Option ℕ) (w : World) → R w (record w { wake = x })
@@ -67,12 +67,12 @@ module _ (R S : World → World → Type 0) (s : IsLoose R S) where
   }
 
   -- a refresh
-  copied-keeps : (set : ℕ) (to : Option ℕ) (f : Feed) (w : World) → R w (copied_to set to f w)
+  copied-keeps : (set : ℕ) (to : Option ℕ) (f : LinkFeed) (w : World) → R w (copied_to set to f w)
   copied-keeps set None f w = s.nothing w
   copied-keeps set (Some to) f w = s.copies _ w
 
   -- one link
-  link-keeps : (set number : ℕ) (f : Feed) (w : World) → R w (refreshed_link set number f w)
+  link-keeps : (set number : ℕ) (f : LinkFeed) (w : World) → R w (refreshed_link set number f w)
   link-keeps set number f w = by (is_marked set number w)
     where
       there : World
@@ -83,7 +83,7 @@ module _ (R S : World → World → Type 0) (s : IsLoose R S) where
       by false = s.nothing w
 
   -- links
-  links-keep : (set number : ℕ) (fs : List Feed) (w : World) → R w (refreshed_from set number fs w)
+  links-keep : (set number : ℕ) (fs : List LinkFeed) (w : World) → R w (refreshed_from set number fs w)
   links-keep set number [] w = s.nothing w
   links-keep set number (f ∷ fs) w = s.both w (refreshed_link set number f w) _ (link-keeps set number f w) (links-keep set (number + 1) fs (refreshed_link set number f w))
 
@@ -213,7 +213,7 @@ module _ (p : ProgramTree) (ls : List Link) (R S : World → World → Type 0) (
   turns-after w u (Faults f line v text) h k = s.both w u v h k
 
   -- where a transition leads
-  arrived-keeps : (g : StateSet) (from : List ℕ) (target : Target) (w u : World) → S w u → Turns w (arrived g from target u)
+  arrived-keeps : (g : StateSet) (from : List ℕ) (target : Destination) (w u : World) → S w u → Turns w (arrived g from target u)
   arrived-keeps g from (to.State state) w u h = s.after w u _ h (s.enters g.set state u)
   arrived-keeps g from to.Exit w u h = h
 

@@ -1,12 +1,12 @@
 -- What a machine runs.
 use Rattle.std.proofs.Common.{◌∙◌, ap, subst, sym}
 use Rattle.snl_code.specs.declared.code.Code.{Code}
-use Rattle.snl_turns.specs.declared.plans.Plan.{Plan}
+use Rattle.snl_schedule.specs.declared.plans.Plan.{Plan}
 use Rattle.snl_machine.specs.Holding.{loaded_by}
 use Rattle.snl_machine.specs.Laws.{RunsItsProgram, StaysItsMachine}
-use Rattle.snl_plans.specs.Right.{IsLoadedOf}
-use Rattle.snl_plans.specs.Sets.{names_in}
-use Rattle.snl_plans.proofs.Meant.{plans_are_right}
+use Rattle.snl_load.specs.Right.{IsLoadedOf}
+use Rattle.snl_load.specs.Sets.{names_in}
+use Rattle.snl_load.proofs.Meant.{plans_are_right}
 
 -- a machine of a program runs what the program means
 pub runs_its_program : RunsItsProgram

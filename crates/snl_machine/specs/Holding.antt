@@ -1,8 +1,8 @@
 -- What a machine has loaded.
 use Rattle.snl_code.specs.declared.code.Code.{Code}
 use Rattle.snl_code.specs.Pieces.{texts_of}
-use Rattle.snl_turns.specs.declared.plans.Plan.{Plan}
-use Rattle.snl_turns.specs.Wholes.{Loaded}
+use Rattle.snl_schedule.specs.declared.plans.Plan.{Plan}
+use Rattle.snl_schedule.specs.Loaded.{Loaded}
 
 -- A plan with its code.
 abbrev pub loaded_by : Plan → Code → Loaded

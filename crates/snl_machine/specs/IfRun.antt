@@ -7,7 +7,7 @@ use Rattle.snl_check.specs.Runs.{does_run}
 use Rattle.snl_links.specs.Links.{links}
 use Rattle.snl_machine.specs.declared.machine.Machine.{Machine}
 use Rattle.snl_machine.specs.MachineOf.{IsMachineOf, world_held}
-use Rattle.snl_plans.specs.First.{first_world_of}
+use Rattle.snl_load.specs.First.{first_world_of}
 
 -- A machine is that of a program with the links that these macros give it, and has not begun.
 pub record IsLoaded (whole : ProgramTree) (macros : List ℕ) (budget : ℕ) (m : Machine) : Type 0 where

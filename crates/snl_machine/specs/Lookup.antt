@@ -1,10 +1,10 @@
 -- What a machine says of channels and of events.
 use Rattle.std.specs.Prelude.{ℕ, Bool, List, Option, length}
-use Rattle.snl_events.specs.declared.events.Event.{Event}
-use Rattle.snl_events.specs.Event.{is_event_fit}
+use Rattle.snl_schedule.specs.declared.events.Event.{Event}
+use Rattle.snl_schedule.specs.Event.{is_event_fit}
 use Rattle.snl_machine.specs.declared.machine.Machine.{Machine}
 use Rattle.snl_machine.specs.MachineOf.{task_held}
-use Rattle.snl_plans.specs.Names.{place_of}
+use Rattle.snl_load.specs.Names.{place_of}
 
 -- The number of the channel of a name, if the machine's program has one.
 abbrev pub channel_of : Machine → List ℕ → Option ℕ

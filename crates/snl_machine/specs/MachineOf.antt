@@ -2,14 +2,14 @@
 use Rattle.std.specs.Prelude.{◌≡◌, ℕ, List}
 use Rattle.snl_syntax.specs.Programs.{ProgramTree}
 use Rattle.snl_links.specs.Links.{Link}
-use Rattle.snl_pieces.specs.World.{World}
-use Rattle.snl_store.specs.Views.{world_of}
-use Rattle.snl_turns.specs.Instant.{Program}
-use Rattle.snl_turns.specs.Wholes.{program_of}
-use Rattle.snl_plans.specs.Meaning.{program_meaning}
-use Rattle.snl_plans.specs.Places.{channels}
-use Rattle.snl_plans.specs.Right.{IsLoadedOf}
-use Rattle.snl_plans.specs.Sets.{names_in}
+use Rattle.snl_meaning.specs.World.{World}
+use Rattle.snl_vm.specs.Views.{world_of}
+use Rattle.snl_schedule.specs.Instant.{Program}
+use Rattle.snl_schedule.specs.Loaded.{program_of}
+use Rattle.snl_load.specs.Meaning.{program_meaning}
+use Rattle.snl_load.specs.Places.{channels}
+use Rattle.snl_load.specs.Right.{IsLoadedOf}
+use Rattle.snl_load.specs.Sets.{names_in}
 use Rattle.snl_machine.specs.Holding.{loaded_by}
 use Rattle.snl_machine.specs.declared.machine.Machine.{Machine}
 

@@ -2,22 +2,22 @@
 use Rattle.std.specs.Prelude.{◌≡◌, ◌<◌, ◌≤◌, ◌+◌, ◌-◌, ◌^◌, ◌&&◌, int_le, true, ℕ, ℤ, pos, List, [], ◌∷◌, length, Some, slice_get, slice_index_or}
 use Rattle.snl_syntax.specs.Programs.{ProgramTree}
 use Rattle.snl_code.specs.Heres.{here_in}
-use Rattle.snl_events.specs.declared.events.Event.{Event}
-use Rattle.snl_events.specs.Event.{line_of, is_event_fit}
+use Rattle.snl_schedule.specs.declared.events.Event.{Event}
+use Rattle.snl_schedule.specs.Event.{line_of, is_event_fit}
 use Rattle.snl_links.specs.Links.{Link}
-use Rattle.snl_pieces.specs.declared.instrs.Variable.{Variable}
-use Rattle.snl_pieces.specs.declared.names.Placed.{Placed}
-use Rattle.snl_pieces.specs.Keeping.{PiecesKeep, world_after}
-use Rattle.snl_pieces.specs.Laws.{words_of}
-use Rattle.snl_pieces.specs.Names.{variable_in}
-use Rattle.snl_pieces.specs.World.{World, copy_of}
-use Rattle.snl_plans.specs.First.{first_world_of}
-use Rattle.snl_plans.specs.Initials.{held_among, held_sets}
-use Rattle.snl_plans.specs.Meaning.{program_meaning}
-use Rattle.snl_plans.specs.Places.{placed_in, channels, link_plans}
-use Rattle.snl_sites.specs.Variables.{Held, variables_of}
-use Rattle.snl_turns.specs.declared.plans.LinkPlan.{LinkPlan}
-use Rattle.snl_turns.specs.Arrivals.{is_in}
+use Rattle.snl_meaning.specs.declared.instrs.Variable.{Variable}
+use Rattle.snl_meaning.specs.declared.names.Placed.{Placed}
+use Rattle.snl_meaning.specs.Keeping.{PiecesKeep, world_after}
+use Rattle.snl_meaning.specs.Laws.{words_of}
+use Rattle.snl_meaning.specs.Names.{variable_in}
+use Rattle.snl_meaning.specs.World.{World, copy_of}
+use Rattle.snl_load.specs.First.{first_world_of}
+use Rattle.snl_load.specs.Initials.{held_among, held_sets}
+use Rattle.snl_load.specs.Meaning.{program_meaning}
+use Rattle.snl_load.specs.Places.{placed_in, channels, link_plans}
+use Rattle.snl_resolve.specs.Variables.{Held, variables_of}
+use Rattle.snl_schedule.specs.declared.plans.LinkPlan.{LinkPlan}
+use Rattle.snl_schedule.specs.Arrivals.{is_in}
 
 -- The type of a variable has a number.
 abbrev pub Has : Variable → ℤ → Type 0

@@ -1,17 +1,17 @@
 -- Laws of whole runs: the rounds of an instant end by themselves, and time never falls.
 use Rattle.std.specs.Prelude.{◌≡◌, ◌≤◌, ℕ, List, []}
 use Rattle.snl_syntax.specs.Programs.{ProgramTree}
-use Rattle.snl_events.specs.declared.events.Event.{Event}
-use Rattle.snl_events.specs.Event.{line_of}
+use Rattle.snl_schedule.specs.declared.events.Event.{Event}
+use Rattle.snl_schedule.specs.Event.{line_of}
 use Rattle.snl_links.specs.Links.{Link}
-use Rattle.snl_pieces.specs.declared.faults.Fault.{Fault}
-use Rattle.snl_pieces.specs.declared.live.Live.TheVariants.{Ended}
-use Rattle.snl_pieces.specs.Keeping.{world_after}
-use Rattle.snl_pieces.specs.Ran.{Ran, Gives, Faults, also}
-use Rattle.snl_pieces.specs.World.{World}
-use Rattle.snl_plans.specs.Meaning.{program_meaning}
-use Rattle.snl_turns.specs.declared.turns.Turned.TheVariants.{Stayed, Moved, Exited}
-use Rattle.snl_turns.specs.Instant.{Program, round_of, exited, all_rounds}
+use Rattle.snl_meaning.specs.declared.faults.Fault.{Fault}
+use Rattle.snl_meaning.specs.declared.live.Live.TheVariants.{Ended}
+use Rattle.snl_meaning.specs.Keeping.{world_after}
+use Rattle.snl_meaning.specs.Ran.{Ran, Gives, Faults, also}
+use Rattle.snl_meaning.specs.World.{World}
+use Rattle.snl_load.specs.Meaning.{program_meaning}
+use Rattle.snl_schedule.specs.declared.turns.Turned.TheVariants.{Stayed, Moved, Exited}
+use Rattle.snl_schedule.specs.Instant.{Program, round_of, exited, all_rounds}
 
 -- Rounds from a world, one after another, until one has no transition, leads out of the program or faults, and what they
 -- give together. Nothing bounds how many there are.

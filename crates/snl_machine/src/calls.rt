@@ -3,28 +3,27 @@
 ghost use Rattle.std.specs.Prelude.{◌≡◌, ◌-◌, ◌^◌, ◌<◌, true, IfOk, OnErr};
 ghost use Rattle.snl_syntax.specs.view.Programs.{program_view};
 ghost use Rattle.snl_check.specs.Runs.{does_run};
-ghost use Rattle.snl_events.specs.Event.{line_of};
+ghost use Rattle.snl_schedule.specs.Event.{line_of};
 ghost use Rattle.snl_links.specs.Links.{links};
-ghost use Rattle.snl_lines.specs.Devices.{counted, stopped_by_sink};
-ghost use Rattle.snl_lines.specs.Does.{Does};
+ghost use Rattle.snl_output.specs.Devices.{counted, stopped_by_sink};
+ghost use Rattle.snl_output.specs.Does.{Does};
 ghost use Rattle.snl_machine.specs.Lookup.{channel_of, fits_of};
 ghost use Rattle.snl_machine.specs.MachineOf.{IsMachineOf, task_held, world_held};
-ghost use Rattle.snl_plans.specs.First.{first_world_of};
+ghost use Rattle.snl_load.specs.First.{first_world_of};
 
 use crate::machine::Machine;
 use crate::making::machine_of;
 use snl_check::Checked;
-use snl_events::{Event, fits, take};
-use snl_lines::{Sink, Stop};
 use snl_links::Macros;
-use snl_pieces::Live;
-use snl_plans::channel_number;
-use snl_turns::Whole;
+use snl_load::channel_number;
+use snl_meaning::Live;
+use snl_output::{Sink, Stop};
+use snl_schedule::{Event, ProgramContext, fits, take};
 use std::alloc::{AllocError, Global};
 
 impl Machine {
     /// Makes the machine of a program that runs, with the macros of the run. It waits for its start. All the room that a
-    /// run takes is made here, and nothing of the program or of its source is kept. The budget is the number of steps that
+    /// run takes is made here, and nothing of the program or of its source is kept. The budget is the number of ticks that
     /// one instant may take, 1 to 1,000,000,000.
     ///
     /// Fails only where that room was not to be had.
@@ -86,7 +85,7 @@ impl Machine {
         ensures failures { S.failures sink.new
             ≡ counted (stopped_by_sink result) (S.failures sink.old) }
     {
-        let whole = Whole {
+        let program = ProgramContext {
             plan: &self.plan,
             code: self.code.instrs(),
             formats: self.code.texts(),
@@ -95,7 +94,7 @@ impl Machine {
         take(
             ms,
             event,
-            whole,
+            program,
             self.budget,
             &mut self.store,
             &mut self.operands,

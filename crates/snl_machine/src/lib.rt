@@ -12,6 +12,6 @@ mod making;
 
 pub use loading::{MayRun, machine_if_run};
 pub use machine::Machine;
-pub use snl_events::{Event, VALUES_KEPT};
-pub use snl_lines::{Sink, SinkFault, Stop};
-pub use snl_pieces::{Fault, Live};
+pub use snl_meaning::{Fault, Live};
+pub use snl_output::{Sink, SinkFault, Stop};
+pub use snl_schedule::{Event, VALUES_KEPT};

@@ -54,7 +54,7 @@ impl<'a> MayRun for Checked<'a> {
 }
 
 /// The machine of a checked program, which is dropped then; None where it does not run yet. The budget is the number of
-/// steps that one instant may take, 1 to 1,000,000,000. The only error is that memory ends.
+/// ticks that one instant may take, 1 to 1,000,000,000. The only error is that memory ends.
 pub fn machine_if_run<T: MayRun + Drop>(
     alloc: Global,
     checked: T,

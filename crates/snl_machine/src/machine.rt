@@ -1,16 +1,15 @@
 //! `Machine`: a program with its code and its store.
 
 ghost use Rattle.std.specs.Prelude.{◌≡◌};
-ghost use Rattle.snl_pieces.specs.Stack.{room_of};
-ghost use Rattle.snl_turns.specs.Wholes.{CanRunLoaded};
+ghost use Rattle.snl_vm.specs.Stack.{room_of};
+ghost use Rattle.snl_schedule.specs.Loaded.{CanRunLoaded};
 ghost use Rattle.snl_machine.specs.Holding.{loaded_by};
-ghost use Rattle.snl_turns.proofs.Facts.{loaded-fact};
+ghost use Rattle.snl_schedule.proofs.Facts.{loaded-fact};
 
 use indexmap::IndexSet;
 use snl_code::Code;
-use snl_pieces::Operands;
-use snl_store::Store;
-use snl_turns::Plan;
+use snl_schedule::Plan;
+use snl_vm::{Operands, Store};
 
 /// A program with its store. It owns all that it holds, and nothing of the source.
 #[derive(Drop)]
@@ -20,7 +19,7 @@ pub struct Machine {
     pub(crate) code: Code,
     /// The names of the channels, by their numbers.
     pub(crate) names: IndexSet<Vec<u8>>,
-    /// How many steps an instant may take.
+    /// How many ticks an instant may take.
     pub(crate) budget: u32,
     pub(crate) store: Store,
     pub(crate) operands: Operands,

@@ -4,6 +4,7 @@ pub mod Findings
 pub mod Given
 pub mod Lists
 pub mod Messages
+pub mod Refusals
 pub mod Says
 pub mod Silence
 pub mod Wordings

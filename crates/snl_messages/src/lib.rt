@@ -8,9 +8,11 @@ mod matters;
 mod messages;
 mod ordering;
 mod places;
+mod refusals;
 mod reports;
 mod silence;
 
 pub use messages::{Message, Severity};
+pub use refusals::Refusal;
 pub use reports::messages_of;
 pub use silence::options_in_force;

@@ -3,8 +3,8 @@
 ghost use Rattle.std.specs.Prelude.{◌≡◌, IfOk};
 ghost use Rattle.snl_messages.specs.Findings as spec;
 
+use snl_resolve::Site;
 use snl_rules::Rule;
-use snl_sites::Site;
 use snl_text::Token;
 use std::alloc::{AllocError, Global};
 

@@ -2,7 +2,7 @@
 
 ghost use Rattle.std.specs.Prelude.{◌≡◌, ◌↔◌, ◌⊎◌, true, map, Contains, OnOk, IfOk};
 ghost use Rattle.snl_syntax.specs.view.Programs.{program_view};
-ghost use Rattle.snl_sites.specs.Programs as spec;
+ghost use Rattle.snl_resolve.specs.Programs as spec;
 ghost use Rattle.snl_messages.specs.Findings.{Finding};
 ghost use Rattle.snl_messages.specs.Entries.{finding_in};
 ghost use Rattle.snl_messages.specs.Given.{IsGiven};
@@ -18,8 +18,8 @@ use crate::gathering::{
 use crate::messages::Message;
 use crate::ordering::in_order;
 use crate::silence::{options_in_force, silence};
+use snl_resolve::{Options, Site, sites_of};
 use snl_rules::{Broken, broken_rules, is_overfull, overfull_sets, unreached};
-use snl_sites::{Options, Site, sites_of};
 use snl_syntax::Program;
 use snl_text::Token;
 use std::alloc::{AllocError, Global};

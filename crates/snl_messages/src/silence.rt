@@ -7,7 +7,7 @@ ghost use Rattle.snl_messages.specs.Entries.{finding_in, severity_by};
 ghost use Rattle.snl_messages.specs.Silence as spec;
 
 use crate::entries::Entry;
-use snl_sites::Options;
+use snl_resolve::Options;
 use snl_syntax::{Def, Program};
 use snl_text::Kind;
 

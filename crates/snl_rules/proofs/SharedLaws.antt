@@ -2,8 +2,8 @@
 use Rattle.std.proofs.Common.{◌≡◌, ℕ, ◌+◌, ◌-◌, ◌^◌, min, List, [], ◌∷◌, ◌++◌, ap, ◌∙◌, append_assoc, sum_by, arith}
 use Rattle.std.proofs.lemmas.List.Sums.{sum_by-append}
 use Rattle.snl_syntax.specs.Programs.{ProgramTree}
-use Rattle.snl_sites.specs.Programs.{program_scopes}
-use Rattle.snl_sites.specs.Variables.{Held, by_definitions, by_parts}
+use Rattle.snl_resolve.specs.Programs.{program_scopes}
+use Rattle.snl_resolve.specs.Variables.{Held, by_definitions, by_parts}
 use Rattle.snl_rules.specs.declared.words.Shared.{Shared}
 use Rattle.snl_rules.specs.Words.{variable_words, set_words}
 use Rattle.snl_rules.specs.Counts.{IsSharedIn, capped, own_words_in}

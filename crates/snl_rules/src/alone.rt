@@ -4,7 +4,7 @@ ghost use Rattle.std.specs.Prelude.{◌≡◌, ◌++◌, not, OnOk};
 ghost use Rattle.snl_rules.specs.Rules as spec;
 
 use crate::rules::Rule;
-use snl_sites::{Meaning, Purpose, Site, Size};
+use snl_resolve::{Meaning, Purpose, Site, Size};
 use std::alloc::AllocError;
 
 /// Adds a rule, where a test holds.

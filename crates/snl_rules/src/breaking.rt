@@ -10,7 +10,7 @@ use crate::alone::tell_alone;
 use crate::facts::{Known, Seen};
 use crate::rules::{Broken, Rule};
 use crate::together::tell_together;
-use snl_sites::Site;
+use snl_resolve::Site;
 use std::alloc::{AllocError, Global};
 
 /// The rules that a site breaks.

@@ -7,7 +7,7 @@ ghost use Rattle.snl_rules.specs.Tests as tests;
 ghost use Rattle.snl_rules.specs.ElementTables as spec;
 
 use indexmap::{IndexMap, IndexSet};
-use snl_sites::{Extent, Part, Site, Sort};
+use snl_resolve::{Extent, Part, Site, Sort};
 use std::alloc::{AllocError, Global};
 
 /// The sorts of definitions that a table is of.

@@ -11,7 +11,7 @@ ghost use Rattle.snl_rules.specs.ElementTables as spec;
 
 use crate::elements::{Elements, Naming, part_at};
 use indexmap::{IndexMap, IndexSet};
-use snl_sites::{Extent, Meaning, Part, Site};
+use snl_resolve::{Extent, Meaning, Part, Site};
 use std::alloc::{AllocError, Global};
 
 /// State sets in a program.

@@ -8,7 +8,7 @@ ghost use Rattle.snl_rules.specs.Counts.{capped};
 
 use crate::queues::queue_sizes;
 use indexmap::IndexMap;
-use snl_sites::{Extent, Part, Site, Sort};
+use snl_resolve::{Extent, Part, Site, Sort};
 use std::alloc::{AllocError, Global};
 
 /// How many elements a definition names.

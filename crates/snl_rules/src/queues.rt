@@ -2,12 +2,12 @@
 
 ghost use Rattle.std.specs.Prelude.{◌≡◌, ℕ, nat_eq, Some, OnOk, IfOk};
 ghost use Rattle.std.specs.HashMap.{get};
-ghost use Rattle.snl_sites.specs.Scopes.{or_in};
+ghost use Rattle.snl_resolve.specs.Scopes.{or_in};
 ghost use Rattle.snl_rules.specs.Words as spec;
 ghost use Rattle.snl_rules.specs.Counts.{IsQueueTable};
 
 use indexmap::IndexMap;
-use snl_sites::{Part, Site, Sort};
+use snl_resolve::{Part, Site, Sort};
 use std::alloc::{AllocError, Global};
 
 /// The variable that a `syncQ` names, by the place of its declaration, and the size of its queue.

@@ -1,6 +1,6 @@
 //! The rules, and what breaks one.
 
-use snl_sites::Site;
+use snl_resolve::Site;
 
 /// A rule that a site of a program can break. docs/MESSAGES.md tells each by its number.
 #[derive(Clone, Copy)]

@@ -1,7 +1,7 @@
 //! The rules that a site breaks beside the sites before it and all sites.
 
 ghost use Rattle.std.specs.Prelude.{◌≡◌, ◌++◌, OnOk, Some};
-ghost use Rattle.snl_sites.specs.Scopes.{is_array};
+ghost use Rattle.snl_resolve.specs.Scopes.{is_array};
 ghost use Rattle.snl_rules.specs.Tests as tests;
 ghost use Rattle.snl_rules.specs.ElementTables as spec;
 
@@ -9,7 +9,7 @@ use crate::alone::tell_when;
 use crate::elements::Elements;
 use crate::facts::{Known, Seen, channels_at, is_over};
 use crate::rules::Rule;
-use snl_sites::{Extent, Meaning, Part, Purpose, Site, Size, Sort};
+use snl_resolve::{Extent, Meaning, Part, Purpose, Site, Size, Sort};
 use std::alloc::AllocError;
 
 /// Whether some element of a part is named.

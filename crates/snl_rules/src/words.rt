@@ -4,13 +4,13 @@ ghost use Rattle.std.specs.Prelude.{◌≡◌, ◌++◌, ◌+◌, ◌↔◌, [],
 ghost use Rattle.std.specs.List.{Contains, sum_by};
 ghost use Rattle.snl_text.specs.declared.tokens.Token.{Token};
 ghost use Rattle.snl_syntax.specs.view.Programs.{state_set_view, program_view};
-ghost use Rattle.snl_sites.specs.Held.{held_view};
-ghost use Rattle.snl_sites.specs.Programs as program_sites;
+ghost use Rattle.snl_resolve.specs.Held.{held_view};
+ghost use Rattle.snl_resolve.specs.Programs as program_sites;
 ghost use Rattle.snl_rules.specs.Words as spec;
 ghost use Rattle.snl_rules.specs.Counts.{IsSharedIn, capped, own_words_in, overfull_at, overfull_from};
 
 use crate::link_words::words_of_all_links;
-use snl_sites::{Held, Scope, Scopes, Site, push_definitions, push_parts};
+use snl_resolve::{Held, Scope, Scopes, Site, push_definitions, push_parts};
 use snl_syntax::{Program, StateSet};
 use snl_text::Token;
 use std::alloc::{AllocError, Global};

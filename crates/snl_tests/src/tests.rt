@@ -1,4 +1,6 @@
-//! What only calls can show: places in bytes, each public call once.
+//! What only calls can show: places in bytes, small tables, each call that a user of the crates makes.
 
 mod calls;
+mod programs;
+mod tables;
 mod tokens;

@@ -12,7 +12,8 @@ pub fn byte_at(bytes: &[u8], place: usize) -> u8
     if place < bytes.len() { bytes[place] } else { 0 }
 }
 
-/// A byte that parts tokens and is no part of one.
+/// Whether a byte parts tokens and is no part of one: a space, a tab, a line feed, a vertical tab, a form feed or a
+/// carriage return.
 pub fn is_blank(byte: u8) -> bool
     ensures { result ≡ is_blank byte }
 {

@@ -19,6 +19,7 @@ mod signs;
 mod tokens;
 mod words;
 
+pub use classes::is_blank;
 pub use faults::LexFault;
 pub use kinds::Kind;
 pub use lexer::{SOURCE_LIMIT, lex};

@@ -1,6 +1,6 @@
 -- Laws of reading a line.
 use Rattle.std.proofs.Common.{◌≡◌, ℕ, Bool, List, Option, Some, Result, Ok, ℤ, ap, ◌∙◌}
-use Rattle.snl_events.specs.declared.events.Event.{Event}
+use Rattle.snl_schedule.specs.declared.events.Event.{Event}
 use Rattle.snl_trace.specs.declared.trace_faults.TraceFault.{TraceFault}
 use Rattle.snl_trace.specs.Grammar.{Told, Val, ◌>>=◌, told_of, event_at, val_at, val_of, if_fits, read_of}
 use Rattle.snl_trace.specs.Seen.{event_at_time}

@@ -1,12 +1,12 @@
 -- Laws of the run over lines.
 use Rattle.std.proofs.Common.{◌≡◌, ℕ, ◌+◌, List, [], ◌∷◌, ◌++◌, Option, None, Some, Result, Ok, Err, length, refl, sym, ap, ◌∙◌, arith, append_assoc, append-nil, add-zero}
-use Rattle.snl_events.specs.declared.events.Event.{Event}
-use Rattle.snl_pieces.specs.declared.live.Live.{Live}
-use Rattle.snl_pieces.specs.declared.live.Live.TheVariants as live
-use Rattle.snl_pieces.specs.Ran.{Ran, Gives, Faults, also, then_do}
-use Rattle.snl_lines.specs.Does.{text_of}
-use Rattle.snl_pieces.specs.World.{World}
-use Rattle.snl_lines.proofs.Doing.{also-nil}
+use Rattle.snl_schedule.specs.declared.events.Event.{Event}
+use Rattle.snl_meaning.specs.declared.live.Live.{Live}
+use Rattle.snl_meaning.specs.declared.live.Live.TheVariants as live
+use Rattle.snl_meaning.specs.Ran.{Ran, Gives, Faults, also, then_do}
+use Rattle.snl_output.specs.Does.{text_of}
+use Rattle.snl_meaning.specs.World.{World}
+use Rattle.snl_output.proofs.Doing.{also-nil}
 use Rattle.snl_trace.specs.declared.runner.End.{End}
 use Rattle.snl_trace.specs.declared.runner.End.TheVariants as end
 use Rattle.snl_trace.specs.declared.trace_faults.TraceFault.{TraceFault}

@@ -3,21 +3,21 @@ use Rattle.std.proofs.Common.{◌≡◌, ℕ, ◌+◌, ◌<◌, List, [], ◌∷
 use Rattle.std.proofs.lemmas.Bool.{lt-ltb}
 use Rattle.std.proofs.lemmas.List.Elements.{All-get_or}
 use Rattle.std.specs.Option.{unwrap_or}
-use Rattle.snl_events.specs.declared.events.Event.{Event}
-use Rattle.snl_pieces.specs.declared.live.Live.{Live}
-use Rattle.snl_pieces.specs.declared.live.Live.TheVariants as live
-use Rattle.snl_lines.specs.declared.faults.Stop.{Stop}
-use Rattle.snl_lines.specs.declared.faults.Stop.TheVariants as stop
+use Rattle.snl_schedule.specs.declared.events.Event.{Event}
+use Rattle.snl_meaning.specs.declared.live.Live.{Live}
+use Rattle.snl_meaning.specs.declared.live.Live.TheVariants as live
+use Rattle.snl_output.specs.declared.faults.Stop.{Stop}
+use Rattle.snl_output.specs.declared.faults.Stop.TheVariants as stop
 use Rattle.snl_machine.specs.declared.machine.Machine.{Machine}
-use Rattle.snl_lines.specs.Devices.{told_more, IsCutShort, stopped_by_sink}
-use Rattle.snl_lines.specs.Does.{Gave, Does}
+use Rattle.snl_output.specs.Devices.{told_more, IsCutShort, stopped_by_sink}
+use Rattle.snl_output.specs.Does.{Gave, Does}
 use Rattle.snl_machine.specs.MachineOf.{task_held, world_held}
 use Rattle.snl_machine.specs.Lookup.{channel_of, fits_of}
-use Rattle.snl_pieces.specs.Ran.{Ran, Gives, also, then_do}
-use Rattle.snl_lines.specs.Does.{text_of}
-use Rattle.snl_pieces.specs.World.{World}
-use Rattle.snl_lines.proofs.Doing.{faulted-then, cut-then}
-use Rattle.snl_lines.proofs.Writing.{told_more-told_more, told_more-nil}
+use Rattle.snl_meaning.specs.Ran.{Ran, Gives, also, then_do}
+use Rattle.snl_output.specs.Does.{text_of}
+use Rattle.snl_meaning.specs.World.{World}
+use Rattle.snl_output.proofs.Doing.{faulted-then, cut-then}
+use Rattle.snl_output.proofs.Writing.{told_more-told_more, told_more-nil}
 use Rattle.snl_trace.specs.declared.runner.End.{End}
 use Rattle.snl_trace.specs.declared.runner.End.TheVariants as end
 use Rattle.snl_trace.specs.declared.trace_faults.TraceFault.{TraceFault}

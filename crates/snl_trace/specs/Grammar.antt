@@ -2,8 +2,8 @@
 use Rattle.std.specs.Prelude.{ℕ, List, [], ◌∷◌, Option, None, Some, Result, Ok, Err, Bool, ℤ, length, take, option_map, nat_lt, if◌then◌else◌, codes}
 use Rattle.std.specs.List.{list_all}
 use Rattle.std.specs.Str.{bytes_eq}
-use Rattle.snl_events.specs.declared.events.Event.{Event}
-use Rattle.snl_events.specs.declared.events.Event.TheVariants as events
+use Rattle.snl_schedule.specs.declared.events.Event.{Event}
+use Rattle.snl_schedule.specs.declared.events.Event.TheVariants as events
 use Rattle.snl_trace.specs.declared.trace_faults.TraceFault.{TraceFault}
 use Rattle.snl_trace.specs.declared.trace_faults.TraceFault.TheVariants.{NotAscii, BadTime, BackInTime, UnknownWord, FieldCount, BadValue, OutOfRange, LineTooLong}
 use Rattle.snl_trace.specs.declared.words.Word.{Word}

@@ -1,17 +1,17 @@
 -- The run over a trace: one line after another, from a world on, up to the first that ends it.
 use Rattle.std.specs.Prelude.{ℕ, ◌+◌, List, [], ◌∷◌, length, Option, None, Some, Result, Ok, Err}
-use Rattle.snl_events.specs.declared.events.Event.{Event}
-use Rattle.snl_pieces.specs.declared.live.Live.{Live}
-use Rattle.snl_pieces.specs.declared.live.Live.TheVariants as live
+use Rattle.snl_schedule.specs.declared.events.Event.{Event}
+use Rattle.snl_meaning.specs.declared.live.Live.{Live}
+use Rattle.snl_meaning.specs.declared.live.Live.TheVariants as live
 use Rattle.snl_machine.specs.declared.machine.Machine.{Machine}
-use Rattle.snl_lines.specs.declared.faults.Stop.{Stop}
-use Rattle.snl_lines.specs.declared.faults.Stop.TheVariants as stop
-use Rattle.snl_events.specs.Event.{line_of}
+use Rattle.snl_output.specs.declared.faults.Stop.{Stop}
+use Rattle.snl_output.specs.declared.faults.Stop.TheVariants as stop
+use Rattle.snl_schedule.specs.Event.{line_of}
 use Rattle.snl_machine.specs.MachineOf.{Task, task_held}
-use Rattle.snl_events.specs.Event.{is_event_fit}
-use Rattle.snl_plans.specs.Names.{place_of}
-use Rattle.snl_pieces.specs.Ran.{Ran, Gives, then_do}
-use Rattle.snl_pieces.specs.World.{World}
+use Rattle.snl_schedule.specs.Event.{is_event_fit}
+use Rattle.snl_load.specs.Names.{place_of}
+use Rattle.snl_meaning.specs.Ran.{Ran, Gives, then_do}
+use Rattle.snl_meaning.specs.World.{World}
 use Rattle.snl_trace.specs.declared.runner.End.{End}
 use Rattle.snl_trace.specs.declared.runner.End.TheVariants as end
 use Rattle.snl_trace.specs.declared.trace_faults.TraceFault.{TraceFault}

@@ -2,11 +2,11 @@
 use Rattle.std.specs.Prelude.{◌≡◌, ℕ, ◌+◌, List, [], ◌∷◌, ◌++◌, Option, None, Some, All, length}
 use Rattle.snl_machine.specs.declared.machine.Machine.{Machine}
 use Rattle.snl_machine.specs.MachineOf.{world_held}
-use Rattle.snl_lines.specs.Devices.{told_more, IsCutShort}
-use Rattle.snl_lines.specs.Does.{Gave, Faulted}
-use Rattle.snl_pieces.specs.Ran.{Ran, Gives}
-use Rattle.snl_lines.specs.Does.{text_of}
-use Rattle.snl_pieces.specs.World.{World}
+use Rattle.snl_output.specs.Devices.{told_more, IsCutShort}
+use Rattle.snl_output.specs.Does.{Gave, Faulted}
+use Rattle.snl_meaning.specs.Ran.{Ran, Gives}
+use Rattle.snl_output.specs.Does.{text_of}
+use Rattle.snl_meaning.specs.World.{World}
 use Rattle.snl_trace.specs.declared.runner.End.{End}
 use Rattle.snl_trace.specs.declared.runner.End.TheVariants as end
 use Rattle.snl_trace.specs.Lines.{IsShortEnough, lines_to, lines_from, whole_lines}

@@ -1,8 +1,8 @@
 -- What the functions of the crate return, in the words of the grammar.
 use Rattle.std.specs.Prelude.{ℕ, List, Option, Some, option_map, Result, Ok, Err, ℤ}
 use denote.Ref.{Bor}
-use Rattle.snl_events.specs.declared.events.Event.{Event}
-use Rattle.snl_events.specs.declared.events.Event.TheVariants as events
+use Rattle.snl_schedule.specs.declared.events.Event.{Event}
+use Rattle.snl_schedule.specs.declared.events.Event.TheVariants as events
 use Rattle.snl_trace.specs.declared.reader.Heard.{Heard}
 use Rattle.snl_trace.specs.declared.reader.Heard.TheVariants as heard
 use Rattle.snl_trace.specs.declared.trace_faults.TraceFault.{TraceFault}

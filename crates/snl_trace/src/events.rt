@@ -1,7 +1,7 @@
 //! Room for the events of all lines.
 
 ghost use Rattle.std.specs.Prelude.{◌≡◌};
-ghost use Rattle.snl_events.specs.declared.events.Event.TheVariants as event;
+ghost use Rattle.snl_schedule.specs.declared.events.Event.TheVariants as event;
 
 use snl_machine::Event;
 

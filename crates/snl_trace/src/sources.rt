@@ -13,7 +13,7 @@ pub struct SourceFault;
 /// nothing), and counts its failures.
 pub trait Source {
     ghost use Rattle.std.specs.Prelude.{◌≡◌, ◌+◌, ◌-◌, ◌^◌, ◌<◌, ◌≤◌, ℕ, List, Option, IfOk, OnErr, length, is_err};
-    ghost use Rattle.snl_lines.specs.Devices.{counted};
+    ghost use Rattle.snl_output.specs.Devices.{counted};
     ghost use Rattle.snl_trace.specs.Sources.{IsGiven, IsShort};
 
     ghost rest: { Self → Option (List ℕ) };

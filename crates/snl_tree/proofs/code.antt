@@ -3,6 +3,7 @@ pub mod Loops
 pub mod Forms
 pub mod Rows
 pub mod Building
+pub mod Boxed
 pub mod Turns
 pub mod ValueTurns
 pub mod Climbing

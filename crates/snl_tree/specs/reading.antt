@@ -7,3 +7,4 @@ pub mod Statements
 pub mod StatementSteps
 pub mod Programs
 pub mod Moves
+pub mod Sources

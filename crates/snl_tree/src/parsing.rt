@@ -2,7 +2,7 @@
 
 ghost use Rattle.std.specs.Prelude.{◌≡◌, ◌<◌, ℕ, IfOk, List, Err};
 ghost use Rattle.snl_syntax.specs.Begins.{Spells, IsUnexpected, IsTooDeep};
-ghost use Rattle.snl_tree.specs.Answers.{IsOnly, IsOnlyFault};
+ghost use Rattle.snl_tree.specs.Answers.{IsOnly, IsOnlyFault, fault_of, answer_of, unboxed_of};
 ghost use Rattle.snl_syntax.specs.Programs.{ProgramTree, IsProgram, programs};
 ghost use Rattle.snl_syntax.specs.view.Shown.{held};
 ghost use Rattle.snl_syntax.specs.view.Programs.{Carries, program_view};
@@ -44,9 +44,45 @@ pub fn parse<'a>(alloc: Global, lexed: &Lexed<'a>) -> Result<Program<'a>, ParseF
         → IsOnlyFault result (ParseFault.TooDeep k) }
     ensures carried { IfOk result (λ p. Carries p lexed.now) }
 {
-    match parse_within(alloc, lexed, NESTING_LIMIT) {
-        Ok(program) => Ok(Box::into_inner(program)),
+    unboxed(parse_within(alloc, lexed, NESTING_LIMIT))
+}
+
+/// What is found, out of its box.
+fn unboxed<T: Drop>(found: Result<Box<T>, ParseFault>) -> Result<T, ParseFault>
+    ensures { result ≡ unboxed_of found }
+{
+    match found {
+        Ok(found) => Ok(Box::into_inner(found)),
         Err(fault) => Err(fault),
+    }
+}
+
+/// The fault of a reader that halts at the token of this number.
+fn fault(halt: Halt, place: usize) -> ParseFault
+    ensures { result ≡ fault_of halt place }
+{
+    match halt {
+        Halt::Stuck => ParseFault::Unexpected(place),
+        Halt::Deep => ParseFault::TooDeep(place),
+        Halt::Memory => ParseFault::Memory,
+    }
+}
+
+/// What is found in so many tokens, where none is left after it; else the fault at the first that is left.
+/// No more are left than there were, unless memory ended, where the place does not count.
+fn answer<T: Drop>(found: Result<T, Halt>, count: usize, left: usize) -> Result<T, ParseFault>
+    ensures { result ≡ answer_of found count left }
+{
+    let place = count.saturating_sub(left);
+    match found {
+        Ok(found) => {
+            if left == 0 {
+                Ok(found)
+            } else {
+                Err(ParseFault::Unexpected(place))
+            }
+        }
+        Err(halt) => Err(fault(halt, place)),
     }
 }
 
@@ -69,16 +105,6 @@ fn parse_within<'a>(
 {
     let tokens = lexed.tokens.as_slice();
     let mut cursor = Cursor { left: tokens };
-    match program(alloc, &mut cursor, limit, lexed) {
-        Ok(program) => {
-            if cursor.left.is_empty() {
-                Ok(program)
-            } else {
-                Err(ParseFault::Unexpected(tokens.len() - cursor.left.len()))
-            }
-        }
-        Err(Halt::Stuck) => Err(ParseFault::Unexpected(tokens.len() - cursor.left.len())),
-        Err(Halt::Deep) => Err(ParseFault::TooDeep(tokens.len() - cursor.left.len())),
-        Err(Halt::Memory) => Err(ParseFault::Memory),
-    }
+    let found = program(alloc, &mut cursor, limit, lexed);
+    answer(found, tokens.len(), cursor.left.len())
 }

@@ -7,7 +7,7 @@ mod devices;
 
 use devices::{Lines, Output, Trace};
 use snc::{Job, Status, Tool, session};
-use snc_shell::{job_of, source_of, tell};
+use snc_cli::{job_of, source_of, tell};
 use snl_trace::End;
 use std::cell::RefCell;
 use std::io::BufWriter;

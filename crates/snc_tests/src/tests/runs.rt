@@ -83,7 +83,7 @@ ss s { state w {
 when (x == 0)
 {} state w } }";
 
-/// Takes three steps in each instant that brings a 0.
+/// Takes three ticks in each instant that brings a 0.
 const THREE_STEPS: &[u8] = b"program q option +s; int x; assign x to \"a\"; monitor x;
 ss s { state w {
 when (x < 3) { x = x + 1; } state w

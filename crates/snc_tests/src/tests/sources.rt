@@ -1,4 +1,4 @@
-//! Sources and what `report` and `session` say of them: worked examples, options of the call, tables.
+//! What `report` and `session` say of sources: a fault of each kind, options of the call, tables.
 
 use crate::tests::{WARNING, job};
 use snc::{DEFAULT_BUDGET, Options, Status, report, session};
@@ -7,98 +7,33 @@ use snl_trace::{Feed, Sheet};
 use std::test::Fail;
 
 /// Sources with an error, and what is to be said of them.
-const REFUSED: [(&[u8], &[u8]); 12] = [
-    // The worked examples: the end of the file, and 65 parentheses; with 64 and a complete rest it is a program.
+const REFUSED: [(&[u8], &[u8]); 4] = [
     (
         b"program v\nss s {\nstate w { when (1",
         b"p.st:3: error: E01 syntax error at end of file\n",
-    ),
-    (
-        b"program v\nss s {\nstate w { when (\
-          (((((((((((((((((((((((((((((((((((((((((((((((((((((((((((((((((",
-        b"p.st:3: error: E02 nesting deeper than 64 at '('\n",
-    ),
-    // The worked examples behind a marker.
-    (
-        b"# 40 \"q.stt\"\nprogram v\nss s { state a { when (1) { x = ; } state a } }\n",
-        b"q.stt:41: error: E01 syntax error at ';'\n",
-    ),
-    (
-        b"# 40 \"q.stt\"\nprogram v\nss s { state a { when (1) { x = y ? 1 : z = 2; } state a } }\n",
-        b"q.stt:41: error: E01 syntax error at '='\n",
     ),
     (
         b"# 40 \"q.stt\"\nprogram v\nss s { state a { when (1) { x = 09; } state a } }\n",
         b"q.stt:41: error: E03 bad number\n",
     ),
     (
-        b"# 40 \"q.stt\"\nprogram v\nss s { state a { when (1) { x = 1.5e3; } state a } }\n",
-        b"q.stt:41: error: E03 bad number\n",
-    ),
-    (
-        b"# 40 \"q.stt\"\nprogram v\nss s { state a { when (1) { x = 'ab'; } state a } }\n",
-        b"q.stt:41: error: E03 bad byte\n",
-    ),
-    // A marker gives the place of a token of several lines.
-    (
-        b"# 40 \"q.stt\"\nprogram /* a\ncomment */ p option +;",
-        b"q.stt:41: error: E01 syntax error at ';'\n",
-    ),
-    (
         b"# 7 \"q.stt\"\n\nprogram p option -s; ss s { state w { when (x) {} state w } }",
         b"q.stt:8: warning: W1 not in safe mode, safe mode is used\nq.stt:8: error: E13 'x' is not declared\n",
     ),
-    (b"", b"p.st:1: error: E01 syntax error at end of file\n"),
     (
         b"program p option +s; %{ int c; }% ss s { state w {\n%% int d;\nwhen (0x0A) {} state w } }",
         b"p.st:1: error: E10 embedded C is not supported\np.st:2: error: E10 embedded C is not supported\n",
     ),
-    (
-        b"program p
-option +s;
-int x, x;
-assign y to \"a\";
-assign x to \"a\";
-assign x to \"b\";
-int n;
-monitor n;
-ss s {
-  state a { when (z > 1) { pvPut(n); } state nowhere }
-  state a { }
-}
-",
-        b"p.st:3: error: E14 'x' is declared twice
-p.st:4: error: E13 'y' is not declared
-p.st:6: error: E19 'x' is assigned twice
-p.st:8: error: E20 'n' is not assigned
-p.st:10: error: E13 'z' is not declared
-p.st:10: error: E20 'n' is not assigned
-p.st:10: error: E25 no state 'nowhere' in this state set
-p.st:11: error: E24 state 'a' is defined twice
-p.st:11: warning: W2 state 'a' cannot be reached
-p.st:11: warning: W7 state 'a' has no clauses
-",
-    ),
 ];
 
 /// Sources with no error that do not run yet, and the warnings about them.
-const NOT_YET: [(&[u8], &[u8]); 4] = [
-    (
-        b"program v\nss s {\nstate w { when (\
-          ((((((((((((((((((((((((((((((((((((((((((((((((((((((((((((((((1\
-          ))))))))))))))))))))))))))))))))))))))))))))))))))))))))))))))))) {} exit } } exit { }",
-        b"p.st:1: warning: W1 not in safe mode, safe mode is used\n",
-    ),
+const NOT_YET: [(&[u8], &[u8]); 2] = [
     (
         b"program p option +s; evflag f; ss s { state a { } }",
         b"p.st:1: warning: W7 state 'a' has no clauses\n",
     ),
     (
         b"program p option +s; ss s { state a { when (delay(1)) {} state a } }",
-        b"",
-    ),
-    (
-        b"program p option +s; option -c; ss s { state a { when (1) {} state a } }",
         b"",
     ),
 ];

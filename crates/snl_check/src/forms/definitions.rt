@@ -10,25 +10,25 @@ ghost use Rattle.snl_syntax.specs.view.Shown.{shown};
 
 use snl_syntax::{Assign, ChannelNames, Channels, Def, Place};
 
-/// Whether the byte may stand in the name of a channel.
-fn is_channel_byte(byte: u8) -> bool
-    ensures { result ≡ spec.is_channel_byte byte }
+/// Whether no macro begins at a byte.
+fn begins_no_macro(byte: u8) -> bool
+    ensures { result ≡ spec.begins_no_macro byte }
 {
-    byte.is_ascii_alphanumeric() || matches!(byte, b'_' | b':' | b'.' | b'-')
+    byte != b'{'
 }
 
-/// Whether the bytes may stand in the name of a channel.
-fn are_channel_bytes(name: &[u8]) -> bool
-    ensures { result ≡ list_all spec.is_channel_byte name.now }
+/// Whether no macro begins in a text.
+fn has_no_macro(name: &[u8]) -> bool
+    ensures { result ≡ list_all spec.begins_no_macro name.now }
 {
-    name.iter().all(|byte| is_channel_byte(*byte))
+    name.iter().all(|byte| begins_no_macro(*byte))
 }
 
-/// Whether a string, with its quotes, names a channel: one or more letters, digits and `_ : . -`.
+/// Whether a string, with its quotes, names a channel whatever the macros are: one byte or more without a `{`.
 fn is_channel_name(text: &[u8]) -> bool
     ensures { result ≡ spec.is_channel_name text.now }
 {
-    text.len() > 2 && are_channel_bytes(&text[1..text.len() - 1])
+    text.len() > 2 && has_no_macro(&text[1..text.len() - 1])
 }
 
 /// Whether it is one string that names a channel.

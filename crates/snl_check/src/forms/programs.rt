@@ -1,4 +1,4 @@
-//! States, the state set and the whole of programs that run.
+//! States, state sets and the whole of programs that run.
 
 ghost use Rattle.std.specs.Prelude.{◌≡◌, map};
 ghost use Rattle.std.specs.List.{list_all};
@@ -36,14 +36,16 @@ fn does_state_set_run(set: &StateSet) -> bool
     do_definitions_run(set.definitions.as_slice()) && do_states_run(set.states.as_slice())
 }
 
-/// Whether there is one such state set, and no other.
-fn is_one_set(sets: &[StateSet]) -> bool
-    ensures { result ≡ spec.is_one_set (map state_set_view sets.now) }
+/// Whether all are such state sets.
+fn do_state_sets_run(sets: &[StateSet]) -> bool
+    ensures { result ≡ list_all spec.does_state_set_run (map state_set_view sets.now) }
 {
-    match sets {
-        [set] => does_state_set_run(set),
-        _ => false,
+    for set in sets {
+        if !does_state_set_run(set) {
+            return false;
+        }
     }
+    true
 }
 
 /// Whether the forms of a program run, those of its blocks and conditions apart.
@@ -52,6 +54,6 @@ pub fn has_forms_that_run(program: &Program) -> bool
 {
     do_parts_run(program.definitions.as_slice())
         && program.entry.is_none()
-        && is_one_set(program.state_sets.as_slice())
+        && do_state_sets_run(program.state_sets.as_slice())
         && program.exit.is_none()
 }

@@ -1,11 +1,12 @@
 -- From what a parse says of its answer to what it says of the tokens: a fault they have is the one given.
-use Rattle.std.proofs.Common.{◌≡◌, ℕ, List, Result, Ok, Err, IfOk, refl, ap}
+use Rattle.std.proofs.Common.{◌≡◌, ℕ, List, Result, Ok, Err, IfOk, Box, Global, refl, ap}
 use Rattle.snl_text.specs.declared.tokens.Token.{Token}
 use Rattle.snl_tree.specs.declared.faults.ParseFault.{ParseFault}
 use Rattle.snl_tree.specs.declared.faults.ParseFault.TheVariants.{Unexpected, TooDeep, Memory}
 use Rattle.snl_syntax.specs.Begins.{Spells, IsUnexpected, IsTooDeep}
 use Rattle.snl_syntax.specs.Programs.{ProgramTree, IsProgram, programs}
-use Rattle.snl_tree.specs.Answers.{IsOnlyFault}
+use Rattle.snl_tree.specs.Answers.{IsOnly, IsOnlyFault, unboxed_of}
+use Rattle.snl_syntax.specs.view.Shown.{held}
 use Rattle.snl_tree.proofs.grammar.OneAnswer.{spelled_not_unexpected, spelled_not_too_deep, one_unexpected, one_too_deep, unexpected_not_too_deep}
 
 -- what each answer says of the tokens
@@ -29,3 +30,30 @@ only_too_deep view limit ts (Ok a) s k d = spelled_not_too_deep programs limit t
 only_too_deep view limit ts (Err (Unexpected j)) s k d = absurd (unexpected_not_too_deep programs limit ts j k (s.unexpected j refl) d)
 only_too_deep view limit ts (Err (TooDeep j)) s k d = ap (λ z. TooDeep z) (one_too_deep programs limit ts j k (s.too_deep j refl) d)
 only_too_deep view limit ts (Err Memory) s k d = tt
+
+-- what is in the box is well formed and spelled out of it too
+unboxed_found : {A : Type 0} (view : A → ProgramTree) (limit : ℕ) (ts : List Token) (r : Result (Box A Global) ParseFault)
+    → IfOk r (λ b. IsProgram limit (view b.value) × Spells programs (view b.value) ts)
+    → IfOk (unboxed_of r) (λ a. IsProgram limit (view a) × Spells programs (view a) ts)
+unboxed_found view limit ts (Ok b) h = h
+unboxed_found view limit ts (Err fault) h = tt
+
+-- what is in the box is the only one out of it
+pub unboxed_only : {A B : Type 0} (view : A → B) (tree : B) (r : Result (Box A Global) ParseFault) → IsOnly (held view) r tree → IsOnly view (unboxed_of r) tree
+unboxed_only view tree (Ok b) h = h
+unboxed_only view tree (Err (Unexpected k)) h = h
+unboxed_only view tree (Err (TooDeep k)) h = h
+unboxed_only view tree (Err Memory) h = h
+
+-- a fault out of the box is the fault that there was
+unboxed_fault : {A : Type 0} (f : ParseFault) (r : Result (Box A Global) ParseFault) → unboxed_of r ≡ Err f → r ≡ Err f
+unboxed_fault f (Ok b) e = absurd cc
+unboxed_fault f (Err fault) e = let same : fault ≡ f = cc in ap (λ z. Err z) same
+
+-- an answer says the same of the tokens out of its box
+pub unboxed_says : {A : Type 0} (view : A → ProgramTree) (limit : ℕ) (ts : List Token) (r : Result (Box A Global) ParseFault) → Says (held view) limit ts r → Says view limit ts (unboxed_of r)
+unboxed_says view limit ts r s = record {
+  found = unboxed_found view limit ts r s.found;
+  unexpected = λ k e. s.unexpected k (unboxed_fault (Unexpected k) r e);
+  too_deep = λ k e. s.too_deep k (unboxed_fault (TooDeep k) r e);
+}

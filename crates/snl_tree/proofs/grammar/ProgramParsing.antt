@@ -1,8 +1,8 @@
 -- What the tokens are, as a program, by what was read of them.
-use Rattle.std.proofs.Common.{◌≡◌, ℕ, zero, suc, ◌+◌, ◌-◌, ◌<◌, ◌≤◌, List, [], ◌∷◌, Option, Some, None, Ok, Err, inl, inr, length, refl, ap, subst, arith}
+use Rattle.std.proofs.Common.{◌≡◌, ℕ, zero, suc, ◌+◌, ◌-◌, ◌<◌, List, [], ◌∷◌, Option, Some, None, Ok, Err, inl, inr, length, refl, ap, subst, arith}
 use Rattle.snl_text.specs.declared.tokens.Token.{Token}
 use Rattle.snl_text.specs.declared.kinds.Kind.{Kind}
-use Rattle.snl_tree.specs.reading.Readers.{Stuck, Deep, Read, left}
+use Rattle.snl_tree.specs.reading.Readers.{Stuck, Deep, Read}
 use Rattle.snl_syntax.specs.Sequences.{IfThere, Each, EachOfSome}
 use Rattle.snl_syntax.specs.Begins.{Sort, Spells, Begins, IsUnexpected, IsTooDeep}
 use Rattle.snl_syntax.specs.Definitions.{IsDefinition, IsPart}
@@ -10,7 +10,7 @@ use Rattle.snl_syntax.specs.Statements.{BlockTree, block, IsBlock}
 use Rattle.snl_syntax.specs.Programs.{StateTree, StateSetTree, ProgramTree, program_slots, IsClause, IsState, IsStateSet, IsProgram, programs}
 use Rattle.snl_tree.specs.reading.Programs.{program_at}
 use Rattle.snl_tree.specs.Answers.{HasProgram}
-use Rattle.snl_tree.proofs.spelling.Laws.{Sound, ends}
+use Rattle.snl_tree.proofs.spelling.Laws.{Sound}
 use Rattle.snl_tree.proofs.grammar.DefinitionLaws.{right_definition, right_part}
 use Rattle.snl_tree.proofs.grammar.ProgramLaws.{right_program}
 use Rattle.snl_tree.proofs.grammar.Theorem.{shape_of, unexpected, too_deep, one_tree, unambiguous}
@@ -110,10 +110,6 @@ too_deep_later n ts k d = record {
   at = λ b. d.at (begins_now n _ b);
   beyond = (suc d.beyond.0, later_begins d.beyond.0 _ d.beyond.1);
 }
-
--- what is left is no more than there was
-pub program_ends : (n : ℕ) (ts : List Token) → length (left (program_at (suc n) ts)) ≤ length ts
-program_ends n ts = ends (shape_of later none n) (program_at (suc n)) (right_program.reads n) ts
 
 -- what was read of them
 

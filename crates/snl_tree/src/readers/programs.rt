@@ -12,7 +12,9 @@ ghost use Rattle.snl_syntax.specs.view.Expressions.{boxed};
 ghost use Rattle.snl_syntax.specs.view.Statements.{block_view};
 ghost use Rattle.snl_syntax.specs.view.Programs.{Carries, target_view, clause_view, clause_views, state_view, state_views, state_set_view, state_set_views, program_view};
 
-use crate::readers::boxes::programs::{boxed_program, push_clause, push_state, push_state_set};
+use crate::readers::boxes::programs::{
+    boxed_program, push_clause, push_state, push_state_set, source_parts,
+};
 use crate::readers::cursor::{Cursor, Halt, at, before, sign, token};
 use crate::readers::definitions::{definitions, parts};
 use crate::readers::expressions::level;
@@ -249,6 +251,7 @@ pub fn program<'t, 'a>(
     let entry = entry(alloc, cursor, depth)?;
     let state_sets = state_sets(alloc, cursor, depth)?;
     let exit = exit(alloc, cursor, depth)?;
+    let source = source_parts(alloc, lexed)?;
     boxed_program(
         alloc,
         word,
@@ -258,6 +261,6 @@ pub fn program<'t, 'a>(
         entry,
         state_sets,
         exit,
-        lexed,
+        source,
     )
 }

@@ -1,5 +1,7 @@
 use Rattle.std.proofs.Common.{◌∙◌, ap, sym, map, [], ◌∷◌}
-use Rattle.snc.specs.Judging.{syntax_error}
+use Rattle.snl_messages.specs.declared.refusals.Refusal.TheVariants.{EndOfFile}
+use Rattle.snl_messages.specs.Refusals.{number_of}
+use Rattle.snc.specs.Judging.{error_at, syntax_error}
 use Rattle.snc.specs.Texts.{text_of}
 use Rattle.snc.proofs.messages.syntax_fault.Goals as goal
 
@@ -7,6 +9,7 @@ pub returns-in_ok-found-in-None-clause-text : goal.returns-in_ok-found-in-None-c
 returns-in_ok-found-in-None-clause-text c =
     let names = map (λ name. name.now) c.args.names.marked.now in
     c.in_ok-found-in-None.ensures.text
+    ∙ ap (λ t. text_of c.args.names.read.now names (error_at c.args.lexed.now.eof (number_of EndOfFile) t ∷ [])) c.words.ensures
     ∙ ap (λ o. text_of c.args.names.read.now names (syntax_error c.args.lexed.now o ∷ [])) (sym c.in-None.is ∙ c.token_at.ensures)
 
 pub returns-in_ok-found-in-Some-clause-text : goal.returns-in_ok-found-in-Some-clause-text

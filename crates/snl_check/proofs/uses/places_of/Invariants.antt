@@ -1,5 +1,5 @@
 use Rattle.std.proofs.Common.{◌≡◌, ℕ, drop}
-use Rattle.snl_sites.specs.Uses.{declared_in}
+use Rattle.snl_resolve.specs.Uses.{declared_in}
 use Rattle.snl_check.specs.Tables.{place_in}
 use Rattle.snl_check.proofs.uses.places_of.Given as goal
 

@@ -1,7 +1,7 @@
 use Rattle.std.proofs.Common.{◌∙◌, ap, sym}
 use Rattle.snl_syntax.specs.view.Statements.{statement_view}
 use Rattle.snl_syntax.proofs.StatementRows.{view_block}
-use Rattle.snl_pieces.specs.BlockCode.{statement_depth}
+use Rattle.snl_emit.specs.BlockCode.{statement_depth}
 use Rattle.snl_code.specs.Depths.{capped}
 use Rattle.snl_code.proofs.block_depths.+depths.Goals as goal
 

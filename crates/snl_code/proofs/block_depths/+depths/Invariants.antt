@@ -2,7 +2,7 @@ use Rattle.std.proofs.Common.{◌≡◌, map, drop}
 use Rattle.std.specs.Prelude.{max}
 use Rattle.snl_syntax.specs.view.Lists.{statement_list}
 use Rattle.snl_syntax.specs.view.Statements.{statement_view}
-use Rattle.snl_pieces.specs.BlockCode.{statements_depth}
+use Rattle.snl_emit.specs.BlockCode.{statements_depth}
 use Rattle.snl_code.specs.Depths.{capped}
 use Rattle.snl_code.proofs.block_depths.+depths.Given as goal
 

@@ -1,8 +1,8 @@
 use Rattle.std.proofs.Common.{◌≡◌, map, drop}
 use Rattle.std.specs.Prelude.{max}
 use Rattle.snl_syntax.specs.view.Declarations.{declaration_view}
-use Rattle.snl_pieces.specs.BlockCode.{entered_depth}
-use Rattle.snl_pieces.specs.Effect.{names_of}
+use Rattle.snl_emit.specs.BlockCode.{entered_depth}
+use Rattle.snl_meaning.specs.Effect.{names_of}
 use Rattle.snl_code.specs.Depths.{capped}
 use Rattle.snl_code.proofs.block_depths.declarations_depth.Given as goal
 

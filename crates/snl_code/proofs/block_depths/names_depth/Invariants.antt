@@ -1,7 +1,7 @@
 use Rattle.std.proofs.Common.{◌≡◌, map, drop}
 use Rattle.std.specs.Prelude.{max}
 use Rattle.snl_syntax.specs.view.Declarations.{declarator_view}
-use Rattle.snl_pieces.specs.BlockCode.{entered_depth}
+use Rattle.snl_emit.specs.BlockCode.{entered_depth}
 use Rattle.snl_code.specs.Depths.{capped}
 use Rattle.snl_code.proofs.block_depths.names_depth.Given as goal
 

@@ -1,6 +1,6 @@
 use Rattle.std.proofs.Common.{◌∙◌, ap, map}
 use Rattle.std.specs.List.{flat_map}
-use Rattle.snl_pieces.specs.Names.{format_at}
+use Rattle.snl_meaning.specs.Names.{format_at}
 use Rattle.snl_syntax.specs.view.Programs.{state_set_view, program_view}
 use Rattle.snl_code.proofs.Placed.{code-made}
 use Rattle.snl_code.proofs.compiling.code_of.Goals as goal

@@ -1,6 +1,6 @@
 use Rattle.std.proofs.Common.{◌≡◌, ◌++◌, drop, map}
 use Rattle.std.specs.List.{flat_map}
-use Rattle.snl_pieces.specs.Names.{format_at}
+use Rattle.snl_meaning.specs.Names.{format_at}
 use Rattle.snl_code.proofs.compiling.texts_of.Given as goal
 
 abbrev pub invariant-loop-site : goal.invariant-loop-site

@@ -4,8 +4,8 @@ use Rattle.snl_syntax.specs.Expressions.{no_arguments}
 use Rattle.snl_syntax.specs.view.Expressions.{view, pair_of, list_before}
 use Rattle.snl_syntax.specs.view.Lists.{term_list}
 use Rattle.snl_syntax.proofs.Rows.{view_chain, view_call}
-use Rattle.snl_pieces.specs.ExpressionCode.{expression_depth, target_depth, terms_depth, held_depth}
-use Rattle.snl_pieces.specs.Value.{compound_of}
+use Rattle.snl_emit.specs.ExpressionCode.{expression_depth, target_depth, terms_depth, held_depth}
+use Rattle.snl_meaning.specs.Value.{compound_of}
 use Rattle.snl_code.specs.Depths.{capped}
 use Rattle.snl_code.specs.DepthParts.{call_depth}
 use Rattle.snl_code.proofs.DepthLaws.{capped_max, target_capped}

@@ -3,7 +3,7 @@ use Rattle.std.specs.Prelude.{max}
 use Rattle.snl_syntax.specs.Expressions.{no_arguments}
 use Rattle.snl_syntax.specs.view.Expressions.{pair_of, list_before}
 use Rattle.snl_syntax.specs.view.Lists.{term_list}
-use Rattle.snl_pieces.specs.ExpressionCode.{terms_depth, values_depth}
+use Rattle.snl_emit.specs.ExpressionCode.{terms_depth, values_depth}
 use Rattle.snl_code.specs.Depths.{capped}
 use Rattle.snl_code.proofs.depths.+depths.Given as goal
 

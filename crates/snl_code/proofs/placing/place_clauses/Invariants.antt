@@ -1,6 +1,6 @@
 use Rattle.std.proofs.Common.{◌≡◌, ◌++◌, drop, map}
 use Rattle.snl_syntax.specs.view.Programs.{clause_view}
-use Rattle.snl_pieces.specs.Known.{here_of}
+use Rattle.snl_meaning.specs.Known.{here_of}
 use Rattle.snl_code.specs.Layout.{row_code, row_starts, clause_code, clause_starts}
 use Rattle.snl_code.proofs.placing.place_clauses.Given as goal
 

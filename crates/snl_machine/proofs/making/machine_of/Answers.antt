@@ -2,8 +2,8 @@ use Rattle.std.proofs.Common.{◌∙◌, ◌<◌, ◌-◌, ◌^◌, ap, arith, m
 use Rattle.snl_syntax.specs.view.Programs.{program_view}
 use Rattle.snl_links.specs.Links.{links}
 use Rattle.snl_links.specs.LinkViews.{link_view}
-use Rattle.snl_plans.specs.Places.{channels}
-use Rattle.snl_plans.proofs.Meant.{plans_are_right}
+use Rattle.snl_load.specs.Places.{channels}
+use Rattle.snl_load.proofs.Meant.{plans_are_right}
 use Rattle.snl_machine.specs.Holding.{loaded_by}
 use Rattle.snl_machine.proofs.AsLoaded.{loaded-is, first-is}
 use Rattle.snl_machine.proofs.making.machine_of.Goals as goal

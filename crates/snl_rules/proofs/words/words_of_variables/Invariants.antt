@@ -1,5 +1,5 @@
 use Rattle.std.proofs.Common.{◌≡◌, ◌+◌, ◌-◌, ◌^◌, ◌≤◌, map, drop, sum_by}
-use Rattle.snl_sites.specs.Held.{held_view}
+use Rattle.snl_resolve.specs.Held.{held_view}
 use Rattle.snl_rules.specs.Words.{variable_words}
 use Rattle.snl_rules.specs.Counts.{capped}
 use Rattle.snl_rules.proofs.words.words_of_variables.Given as goal

@@ -1,6 +1,6 @@
 use Rattle.std.proofs.Common.{◌≡◌, ◌∙◌, ℕ, Option, Result, Ok, ap}
 use Rattle.snl_machine.specs.MachineOf.{world_held}
-use Rattle.snl_lines.proofs.Doing.{gave-is}
+use Rattle.snl_output.proofs.Doing.{gave-is}
 use Rattle.snl_trace.specs.declared.reader.Heard.{Heard}
 use Rattle.snl_trace.specs.declared.trace_faults.TraceFault.{TraceFault}
 use Rattle.snl_trace.specs.Run.{rules_of, done_by}

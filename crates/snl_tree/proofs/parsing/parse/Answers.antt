@@ -1,42 +1,42 @@
-use Rattle.std.proofs.Common.{◌≡◌, Ok, Err, ap}
-use Rattle.snl_tree.specs.declared.faults.ParseFault.TheVariants.{Unexpected, TooDeep}
-use Rattle.snl_syntax.specs.view.Shown.{held}
 use Rattle.snl_syntax.specs.view.Programs.{program_view}
-use Rattle.snl_tree.proofs.code.OnlyFaults.{only_unexpected, only_too_deep}
+use Rattle.snl_tree.proofs.code.OnlyFaults.{only_unexpected, only_too_deep, unboxed_only, unboxed_says}
 use Rattle.snl_tree.proofs.parsing.parse.Goals as goal
 
--- where a program is found no token is unexpected
-pub returns-in-Ok-clause-only_unexpected : goal.returns-in-Ok-clause-only_unexpected
-returns-in-Ok-clause-only_unexpected c = λ k u.
-    only_unexpected (held program_view) 64 c.args.lexed.now.tokens.items (Ok c.in-Ok.program)
-    record { found = c.in-Ok.ensures.found; unexpected = c.in-Ok.ensures.unexpected; too_deep = c.in-Ok.ensures.too_deep } k u
+-- the program given is well formed and spelled by the tokens
+pub returns-clause-found : goal.returns-clause-found
+returns-clause-found c =
+    let within = c.parse_within.ensures in
+    let says = unboxed_says program_view 64 c.args.lexed.now.tokens.items c.parse_within.result record { found = within.found; unexpected = within.unexpected; too_deep = within.too_deep } in
+    rw c.unboxed.ensures says.found
 
--- where a program is found no token is nested too deep
-pub returns-in-Ok-clause-only_too_deep : goal.returns-in-Ok-clause-only_too_deep
-returns-in-Ok-clause-only_too_deep c = λ k d.
-    only_too_deep (held program_view) 64 c.args.lexed.now.tokens.items (Ok c.in-Ok.program)
-    record { found = c.in-Ok.ensures.found; unexpected = c.in-Ok.ensures.unexpected; too_deep = c.in-Ok.ensures.too_deep } k d
+-- the program given is the one that the tokens spell
+pub returns-clause-only : goal.returns-clause-only
+returns-clause-only c = λ p g k. rw c.unboxed.ensures (unboxed_only program_view p c.parse_within.result (c.parse_within.ensures.only p g k))
 
 -- a token that is named as unexpected is so
-pub returns-in-Err-clause-unexpected : goal.returns-in-Err-clause-unexpected
-returns-in-Err-clause-unexpected c = λ k e.
-    let same : c.in-Err.fault ≡ Unexpected k = cc in
-    c.in-Err.ensures.unexpected k (ap (λ z. Err z) same)
+pub returns-clause-unexpected : goal.returns-clause-unexpected
+returns-clause-unexpected c = λ k e.
+    let within = c.parse_within.ensures in
+    let says = unboxed_says program_view 64 c.args.lexed.now.tokens.items c.parse_within.result record { found = within.found; unexpected = within.unexpected; too_deep = within.too_deep } in
+    says.unexpected k (rw c.unboxed.ensures at e)
 
 -- a token that is named as nested too deep is so
-pub returns-in-Err-clause-too_deep : goal.returns-in-Err-clause-too_deep
-returns-in-Err-clause-too_deep c = λ k e.
-    let same : c.in-Err.fault ≡ TooDeep k = cc in
-    c.in-Err.ensures.too_deep k (ap (λ z. Err z) same)
+pub returns-clause-too_deep : goal.returns-clause-too_deep
+returns-clause-too_deep c = λ k e.
+    let within = c.parse_within.ensures in
+    let says = unboxed_says program_view 64 c.args.lexed.now.tokens.items c.parse_within.result record { found = within.found; unexpected = within.unexpected; too_deep = within.too_deep } in
+    says.too_deep k (rw c.unboxed.ensures at e)
 
 -- a token that is unexpected is the fault given
-pub returns-in-Err-clause-only_unexpected : goal.returns-in-Err-clause-only_unexpected
-returns-in-Err-clause-only_unexpected c = λ k u.
-    only_unexpected (held program_view) 64 c.args.lexed.now.tokens.items (Err c.in-Err.fault)
-    record { found = c.in-Err.ensures.found; unexpected = c.in-Err.ensures.unexpected; too_deep = c.in-Err.ensures.too_deep } k u
+pub returns-clause-only_unexpected : goal.returns-clause-only_unexpected
+returns-clause-only_unexpected c = λ k u.
+    let within = c.parse_within.ensures in
+    let says = unboxed_says program_view 64 c.args.lexed.now.tokens.items c.parse_within.result record { found = within.found; unexpected = within.unexpected; too_deep = within.too_deep } in
+    rw c.unboxed.ensures (only_unexpected program_view 64 c.args.lexed.now.tokens.items _ says k u)
 
 -- a token that is nested too deep is the fault given
-pub returns-in-Err-clause-only_too_deep : goal.returns-in-Err-clause-only_too_deep
-returns-in-Err-clause-only_too_deep c = λ k d.
-    only_too_deep (held program_view) 64 c.args.lexed.now.tokens.items (Err c.in-Err.fault)
-    record { found = c.in-Err.ensures.found; unexpected = c.in-Err.ensures.unexpected; too_deep = c.in-Err.ensures.too_deep } k d
+pub returns-clause-only_too_deep : goal.returns-clause-only_too_deep
+returns-clause-only_too_deep c = λ k d.
+    let within = c.parse_within.ensures in
+    let says = unboxed_says program_view 64 c.args.lexed.now.tokens.items c.parse_within.result record { found = within.found; unexpected = within.unexpected; too_deep = within.too_deep } in
+    rw c.unboxed.ensures (only_too_deep program_view 64 c.args.lexed.now.tokens.items _ says k d)

@@ -1,6 +1,9 @@
 //! Programs in their boxes, and clauses, states and state sets in rows.
 
-ghost use Rattle.std.specs.Prelude.{◌≡◌, IfOk, drop};
+ghost use Rattle.std.specs.Prelude.{◌≡◌, IfOk, IfErr, drop};
+ghost use Rattle.snl_text.specs.declared.tokens.Lexed.{Lexed};
+ghost use Rattle.snl_tree.specs.declared.readers.cursor.Halt.TheVariants.{Memory};
+ghost use Rattle.snl_tree.specs.reading.Sources.{Holds};
 ghost use Rattle.snl_tree.specs.reading.Moves.{Appends, Builds};
 ghost use Rattle.snl_syntax.specs.view.Shown.{shown, held};
 ghost use Rattle.snl_syntax.specs.view.Expressions.{boxed};
@@ -106,7 +109,32 @@ fn beyond(tokens: &[Token]) -> Option<Pos>
     Some(tokens[TOKEN_LIMIT].pos)
 }
 
-/// A program, with what the source held between and after its tokens.
+/// What a program takes along of its source.
+#[derive(Drop)]
+pub struct SourceParts<'a> {
+    embedded: Vec<Pos>,
+    files: Vec<&'a [u8]>,
+    token_count: usize,
+    beyond: Option<Pos>,
+}
+
+/// What the source held between and after its tokens.
+pub fn source_parts<'a>(alloc: Global, lexed: &Lexed<'a>) -> Result<SourceParts<'a>, Halt>
+    ensures held { IfOk result (λ parts. Holds parts lexed.now) }
+    ensures memory { IfErr result (λ halt. halt ≡ Memory) }
+{
+    let embedded = Vec::from_slice(alloc, lexed.embedded.as_slice())?;
+    let files = Vec::from_slice(alloc, lexed.files.as_slice())?;
+    Ok(SourceParts {
+        embedded,
+        files,
+        token_count: lexed.tokens.len(),
+        beyond: beyond(lexed.tokens.as_slice()),
+    })
+}
+
+/// A program in its box, with these parts of its source.
+#[tactic(auto, using(crate::proofs::code::Building::in_a_box))]
 pub fn boxed_program<'a>(
     alloc: Global,
     word: Token<'a>,
@@ -116,7 +144,7 @@ pub fn boxed_program<'a>(
     entry: Option<Box<Block<'a>>>,
     state_sets: Vec<StateSet<'a>>,
     exit: Option<Box<Block<'a>>>,
-    lexed: &Lexed<'a>,
+    source: SourceParts<'a>,
 ) -> Result<Box<Program<'a>>, Halt>
     ensures tree { Builds (held program_view) result record {
       word = word.entry;
@@ -127,10 +155,9 @@ pub fn boxed_program<'a>(
       state_sets = state_set_views state_sets.entry;
       exit = shown (held block_view) exit.entry;
     } }
-    ensures carried { IfOk result (λ b. Carries b.value lexed.now) }
+    ensures carried { (lexed : Lexed) → Holds source.entry lexed
+        → IfOk result (λ b. Carries b.value lexed) }
 {
-    let embedded = Vec::from_slice(alloc, lexed.embedded.as_slice())?;
-    let files = Vec::from_slice(alloc, lexed.files.as_slice())?;
     let program = Program {
         word,
         name,
@@ -139,11 +166,10 @@ pub fn boxed_program<'a>(
         entry,
         state_sets,
         exit,
-        embedded,
-        files,
-        token_count: lexed.tokens.len(),
-        beyond: beyond(lexed.tokens.as_slice()),
+        embedded: source.embedded,
+        files: source.files,
+        token_count: source.token_count,
+        beyond: source.beyond,
     };
-    let found = in_box(alloc, program)?;
-    Ok(found)
+    in_box(alloc, program)
 }

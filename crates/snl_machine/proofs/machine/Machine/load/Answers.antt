@@ -2,7 +2,7 @@ use Rattle.std.proofs.Common.{◌≡◌, IfOk, subst}
 use Rattle.snl_syntax.specs.declared.programs.Program.{Program}
 use Rattle.snl_syntax.specs.view.Programs.{program_view}
 use Rattle.snl_links.specs.Links.{links}
-use Rattle.snl_plans.specs.First.{first_world_of}
+use Rattle.snl_load.specs.First.{first_world_of}
 use Rattle.snl_machine.specs.MachineOf.{IsMachineOf, world_held}
 use Rattle.snl_machine.proofs.machine.Machine.load.Goals as goal
 

@@ -1,0 +1,92 @@
+-- Code that is made from its end, form by form.
+use Rattle.std.proofs.Common.{◌≡◌, ◌∙◌, ℕ, Bool, true, false, List, [], ◌∷◌, ◌++◌, refl, sym, ap, append_assoc, map, Vec, Box, Global, None, Option}
+use Rattle.snl_text.specs.declared.kinds.Kind.{Kind}
+use Rattle.snl_text.specs.declared.tokens.Token.{Token}
+use Rattle.snl_syntax.specs.Expressions.{ExprTree, assignment, postfix, prefix, no_arguments}
+use Rattle.snl_syntax.specs.declared.expressions.Expr.{Expr, Chain, Call, Assignment, Postfix, Prefix}
+use Rattle.snl_syntax.specs.declared.expressions.Term.{Term}
+use Rattle.snl_syntax.specs.declared.expressions.Argument.{Argument}
+use Rattle.snl_syntax.specs.view.Lists.{term_list}
+use Rattle.snl_syntax.specs.view.Expressions.{view, pair_of, list_before}
+use Rattle.snl_syntax.proofs.Rows.{view_chain, view_call}
+use Rattle.snl_meaning.specs.declared.instrs.Instr.{Instr}
+use Rattle.snl_meaning.specs.declared.instrs.Instr.TheVariants.{Adjust, AdjustAt, Push}
+use Rattle.std.specs.Prelude.{pos}
+use Rattle.snl_meaning.specs.Names.{Here}
+use Rattle.snl_emit.specs.ExpressionCode.{expression_code, terms_code, target_code, signed_code}
+use Rattle.snl_emit.specs.Emission.{sign_code, call_code, put_target_code}
+use Rattle.snl_emit.specs.Targets.{place_code, stored_code, adjust_code, put_instr}
+use Rattle.snl_meaning.specs.declared.operators.Sign.{Sign}
+use Rattle.snl_meaning.specs.declared.operators.Sign.TheVariants.{Steps, Alone}
+use Rattle.snl_meaning.specs.Value.{sign_of, compound_of}
+use Rattle.snl_emit.proofs.TargetCode.{target-cut, step-cut, put-cut}
+
+-- an assignment: the store, then the right side, then the place
+assignment-made : (h : Here) (e r : ExprTree) (op : Token) (old stored right new : List Instr)
+    → stored ≡ stored_code h (compound_of op.kind) op.pos.line e ++ old → right ≡ expression_code h r ++ stored
+    → new ≡ place_code h (compound_of op.kind) e ++ right → new ≡ expression_code h (assignment e op r) ++ old
+assignment-made h e r op old stored right new es er en =
+    let o = compound_of op.kind in
+    let n = op.pos.line in
+    en ∙ ap (λ l. place_code h o e ++ l) (er ∙ ap (λ l. expression_code h r ++ l) es ∙ sym (append_assoc (expression_code h r) (stored_code h o n e) old))
+    ∙ sym (append_assoc (place_code h o e) (expression_code h r ++ stored_code h o n e) old) ∙ ap (λ l. l ++ old) (sym (target-cut h e o n (expression_code h r)))
+
+-- a sign's code, by what it does
+signed-cut : (s : Sign) (h : Here) (e : ExprTree) (n : ℕ) (is_before : Bool)
+    → signed_code s (λ by. target_code h e (λ v x. Adjust v by n x.pos.line is_before ∷ []) (λ v x. AdjustAt v by n x.pos.line is_before ∷ []) (Push (pos 0) ∷ [])) (expression_code h e) n
+    ≡ signed_code s (λ by. place_code h None e ++ adjust_code h by n is_before e ∷ []) (expression_code h e) n
+signed-cut (Steps by) h e n is_before = step-cut h e by n is_before
+signed-cut (Alone op) h e n is_before = refl
+
+-- a sign after its operand
+postfix-is : (h : Here) (e : ExprTree) (op : Token) → expression_code h (postfix e op) ≡ sign_code h op true e
+postfix-is h e op = signed-cut (sign_of op.kind) h e op.pos.line true
+
+-- a sign before its operand
+prefix-is : (h : Here) (e : ExprTree) (op : Token) → expression_code h (prefix op e) ≡ sign_code h op false e
+prefix-is h e op = signed-cut (sign_of op.kind) h e op.pos.line false
+
+-- A chain: its terms, and then its first operand.
+pub chain-made : (h : Here) (e d : Expr) (b : Box Expr Global) (v : Vec Term Global) (items : List Term) (old mid new : List Instr)
+    → e ≡ Chain b v → d ≡ b.value → items ≡ v.items → mid ≡ terms_code h (term_list (map pair_of items)) ++ old → new ≡ expression_code h (view d) ++ mid
+    → new ≡ expression_code h (view e) ++ old
+chain-made h e d b v items old mid new ee ed ei em en =
+    en ∙ (λ j. expression_code h (view (ed j)) ++ em j) ∙ (λ j. expression_code h (view b.value) ++ (terms_code h (term_list (map pair_of (ei j))) ++ old))
+    ∙ sym (append_assoc (expression_code h (view b.value)) (terms_code h (term_list (map pair_of v.items))) old)
+    ∙ ap (λ x. expression_code h x ++ old) (sym (ap view ee ∙ view_chain b v))
+
+-- A call, with its arguments in a vector.
+pub call-made : (h : Here) (e : Expr) (f : Token) (v : Vec Argument Global) (items : List Argument) (old new : List Instr)
+    → e ≡ Call f v → items ≡ v.items → new ≡ call_code h f (list_before items no_arguments) ++ old → new ≡ expression_code h (view e) ++ old
+call-made h e f v items old new ee ei en =
+    en ∙ (λ j. call_code h f (list_before (ei j) no_arguments) ++ old) ∙ ap (λ x. expression_code h x ++ old) (sym (ap view ee ∙ view_call f v))
+
+-- An assignment, with its parts in boxes.
+pub assigned-made : (h : Here) (a : Expr) (b r : Box Expr Global) (d d2 d3 : Expr) (op : Token) (o : Option Kind) (old stored right new : List Instr)
+    → a ≡ Assignment b op r → o ≡ compound_of op.kind → d ≡ b.value → d2 ≡ r.value → d3 ≡ b.value
+    → stored ≡ stored_code h o op.pos.line (view d) ++ old → right ≡ expression_code h (view d2) ++ stored
+    → new ≡ place_code h o (view d3) ++ right → new ≡ expression_code h (view a) ++ old
+assigned-made h a b r d d2 d3 op o old stored right new ea eo ed e2 e3 es er en =
+    assignment-made h (view b.value) (view r.value) op old stored right new
+    (es ∙ (λ j. stored_code h (eo j) op.pos.line (view (ed j)) ++ old)) (er ∙ (λ j. expression_code h (view (e2 j)) ++ stored))
+    (en ∙ (λ j. place_code h (eo j) (view (e3 j)) ++ right)) ∙ ap (λ x. expression_code h (view x) ++ old) (sym ea)
+
+-- A sign after its operand, which stands in a box.
+pub postfix-made : (h : Here) (a d : Expr) (b : Box Expr Global) (op : Token) (old new : List Instr)
+    → a ≡ Postfix b op → d ≡ b.value → new ≡ sign_code h op true (view d) ++ old → new ≡ expression_code h (view a) ++ old
+postfix-made h a d b op old new ea ed en =
+    en ∙ (λ j. sign_code h op true (view (ed j)) ++ old) ∙ ap (λ l. l ++ old) (sym (postfix-is h (view b.value) op))
+    ∙ ap (λ x. expression_code h (view x) ++ old) (sym ea)
+
+-- A sign before its operand.
+pub prefix-made : (h : Here) (a d : Expr) (b : Box Expr Global) (op : Token) (old new : List Instr)
+    → a ≡ Prefix op b → d ≡ b.value → new ≡ sign_code h op false (view d) ++ old → new ≡ expression_code h (view a) ++ old
+prefix-made h a d b op old new ea ed en =
+    en ∙ (λ j. sign_code h op false (view (ed j)) ++ old) ∙ ap (λ l. l ++ old) (sym (prefix-is h (view b.value) op))
+    ∙ ap (λ x. expression_code h (view x) ++ old) (sym ea)
+
+-- `pvPut`: its instruction, and then the place.
+pub put-made : (h : Here) (e : ExprTree) (old mid new : List Instr) → mid ≡ put_instr h e ∷ old → new ≡ place_code h None e ++ mid
+    → new ≡ put_target_code h e ++ old
+put-made h e old mid new em en =
+    en ∙ ap (λ l. place_code h None e ++ l) em ∙ sym (append_assoc (place_code h None e) (put_instr h e ∷ []) old) ∙ ap (λ l. l ++ old) (sym (put-cut h e))

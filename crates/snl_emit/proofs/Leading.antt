@@ -1,0 +1,123 @@
+-- Code of a statement: where it leads, and how such facts are joined.
+use Rattle.std.proofs.Common.{◌≡◌, ◌∙◌, ◌+◌, ◌≤◌, ℕ, ℤ, Bool, true, false, List, [], ◌∷◌, ◌++◌, Option, None, Some, refl, sym, ap, subst, arith, length, length-append, if◌then◌else◌}
+use Rattle.snl_syntax.specs.Expressions.{ExprTree}
+use Rattle.snl_arithmetic.specs.Arithmetic.{is_zero}
+use Rattle.snl_meaning.specs.declared.instrs.Instr.{Instr}
+use Rattle.snl_meaning.specs.declared.instrs.Instr.TheVariants.{Drop, JumpIfZero}
+use Rattle.snl_emit.specs.BlockCode.{dropped_code, test_code, maybe_depth}
+use Rattle.snl_meaning.specs.Effect.{Way, Done, Broken, Continued, Left, if_done, holds, held_by, dropped, evaluated}
+use Rattle.snl_emit.specs.ExpressionCode.{expression_code, expression_depth}
+use Rattle.snl_meaning.specs.Names.{Here}
+use Rattle.snl_meaning.specs.Ran.{Ran, Gives, Faults, also, then_do}
+use Rattle.snl_meaning.specs.Endings.{HasAt}
+use Rattle.snl_meaning.specs.Run.{PieceContext, context_of, Exit, LeftFor}
+use Rattle.snl_meaning.specs.Value.{value_of, either}
+use Rattle.snl_meaning.specs.World.{World}
+use Rattle.snl_meaning.proofs.Following.{has_front, has_back, Quiet, Continues, run_at, Follows, quiet-step, follows-then, follows-to, follows-here, continues-here, continues-quiet, continues-then, quiet-none, quiet-if_zero}
+use Rattle.snl_emit.proofs.ValueCode.{value-follows}
+
+-- where a statement leads: on after it, out of the loop, to where the loop goes on, or to another state
+abbrev pub led : PieceContext → List Instr → ℕ → ℕ → ℕ → Way → World → ℕ → Ran Exit
+led g code after out again Done u = run_at g code after [] u
+led g code after out again Broken u = run_at g code out [] u
+led g code after out again Continued u = run_at g code again [] u
+led g code after out again (Left state) u = λ k. Gives (LeftFor state) u []
+
+-- no operands
+abbrev pub idle : {A : Type 0} → A → List ℤ
+idle _ = []
+
+module _ (g : PieceContext) (code : List Instr) where
+  -- the addresses under other names
+  pub renamed : (at : ℕ) (w : World) (r : Ran Way) (n n' o o' a a' : ℕ) → n ≡ n' → o ≡ o' → a ≡ a' →
+      Continues (run_at g code at [] w) r (led g code n o a) → Continues (run_at g code at [] w) r (led g code n' o' a')
+  renamed at w r n n' o o' a a' e f d h =
+      subst (λ (x : ℕ). Continues (run_at g code at [] w) r (led g code n' o' x)) d
+      (subst (λ (x : ℕ). Continues (run_at g code at [] w) r (led g code n' x a)) f (subst (λ (x : ℕ). Continues (run_at g code at [] w) r (led g code x o a)) e h))
+
+  -- nothing is left to do
+  pub continues-done : (at : ℕ) (u : World) (to out again : ℕ) → at ≡ to → Continues (run_at g code at [] u) (Gives Done u []) (led g code to out again)
+  continues-done at u to out again is =
+      continues-here g code Done at [] u at [] (led g code to out again) (quiet-none g code at [] u) (ap (λ n. run_at g code n [] u) (sym is))
+
+  -- what is done goes on to another address
+  pub goes_on_to : (at : ℕ) (w : World) (r : Ran Way) (n n' o a : ℕ) → ((u : World) → Quiet g code n [] u n' []) →
+      Continues (run_at g code at [] w) r (led g code n o a) → Continues (run_at g code at [] w) r (led g code n' o a)
+  goes_on_to at w (Gives Done u text) n n' o a on f = record { by = λ k. let b = (on u).by k in let j = f.by b.0 in (j.0, j.1 ∙ ap (also text) b.1) }
+  goes_on_to at w (Gives Broken u text) n n' o a on f = record { by = λ k. f.by k }
+  goes_on_to at w (Gives Continued u text) n n' o a on f = record { by = λ k. f.by k }
+  goes_on_to at w (Gives (Left state) u text) n n' o a on f = record { by = λ k. f.by k }
+  goes_on_to at w (Faults fault line u text) n n' o a on f = record { by = λ k. f.by k }
+
+  -- to another state
+  pub left-for : (state : ℕ) (u : World) (onward : Way → World → ℕ → Ran Exit) → onward (Left state) u ≡ (λ k. Gives (LeftFor state) u []) →
+      Continues (λ k. Gives (LeftFor state) u []) (Gives (Left state) u []) onward
+  left-for state u onward is = record { by = λ k. (0, sym (ap (λ (f : ℕ → Ran Exit). also [] (f k)) is)) }
+
+  -- what follows a statement
+  pub goes_on : (go : World → Ran Way) (behind away elsewhere after out again : ℕ) → away ≡ out → elsewhere ≡ again →
+      ((u : World) → Continues (run_at g code behind [] u) (go u) (led g code after out again)) →
+      (way : Way) (u : World) → Continues (led g code behind away elsewhere way u) (if_done go way u) (led g code after out again)
+  goes_on go behind away elsewhere after out again is so f Done u = f u
+  goes_on go behind away elsewhere after out again is so f Broken u =
+      continues-here g code Broken away [] u away [] (led g code after out again) (quiet-none g code away [] u) (ap (λ n. run_at g code n [] u) (sym is))
+  goes_on go behind away elsewhere after out again is so f Continued u =
+      continues-here g code Continued elsewhere [] u elsewhere [] (led g code after out again) (quiet-none g code elsewhere [] u) (ap (λ n. run_at g code n [] u) (sym so))
+  goes_on go behind away elsewhere after out again is so f (Left state) u = left-for state u (led g code after out again) refl
+
+-- one of two, after the jump that chooses
+module _ (g : PieceContext) (code : List Instr) {A : Type 0} (test second : ℕ) (held failed : World → Ran A) (onward : A → World → ℕ → Ran Exit)
+    (jump : (z : ℤ) (w : World) → Quiet g code test (z ∷ []) w (if is_zero z then second else test + 1) [])
+    (h : (u : World) → Continues (run_at g code (test + 1) [] u) (held u) onward) (f : (u : World) → Continues (run_at g code second [] u) (failed u) onward) where
+  -- it goes on as the chosen one
+  pub continues-either : (z : ℤ) (u : World) → Continues (run_at g code test (z ∷ []) u) (either held failed z u) onward
+  continues-either z u = by (is_zero z) (jump z u)
+    where
+      by : (b : Bool) → Quiet g code test (z ∷ []) u (if b then second else test + 1) [] → Continues (run_at g code test (z ∷ []) u) (if b then failed u else held u) onward
+      by true q = continues-quiet g code test (z ∷ []) u second [] (failed u) onward q (f u)
+      by false q = continues-quiet g code test (z ∷ []) u (test + 1) [] (held u) onward q (h u)
+
+module _ (h : Here) (room : ℕ) (code : List Instr) where
+  -- what the code runs with
+  abbrev g : PieceContext
+  g = context_of h room
+
+  -- a condition that may be missing
+  pub tests : (o : Option ExprTree) (at : ℕ) (w : World) → HasAt code at (test_code h o) → maybe_depth o ≤ room →
+      Follows g code at [] w (held_by h o w) (λ (b : Bool). if b then at + length (test_code h o) else at + length (test_code h o) + 1) idle
+  tests None at w has free = let e : at ≡ at + 0 = omega arith in
+      follows-here g code true at [] w _ idle (subst (λ n. Quiet g code at [] w n []) e (quiet-none g code at [] w))
+  tests (Some c) at w has free =
+      let cc' = expression_code h c in
+      let k = has_back code at cc' (JumpIfZero 1 ∷ []) has in
+      let behind : at + length cc' + 1 ≡ at + length (cc' ++ JumpIfZero 1 ∷ []) = omega (arith, length-append cc' (JumpIfZero 1 ∷ [])) in
+      let beyond : at + length cc' + 1 + 1 ≡ at + length (cc' ++ JumpIfZero 1 ∷ []) + 1 = omega (arith, behind) in
+      follows-then g code at [] w (value_of h c w) holds (λ _. at + length cc') (λ z. z ∷ []) _ idle
+      (value-follows h room code c at [] w (has_front code at cc' _ has) (omega (arith, free)))
+      (λ z u. by z u _ _ (is_zero z) (quiet-if_zero g code 1 (at + length cc') _ _ z [] u k.0 beyond behind))
+    where
+      by : (z : ℤ) (u : World) (on beyond : ℕ) (b : Bool) → Quiet g code (at + length (expression_code h c)) (z ∷ []) u (if b then beyond else on) [] →
+          Follows g code (at + length (expression_code h c)) (z ∷ []) u (Gives (if b then false else true) u []) (λ (x : Bool). if x then on else beyond) idle
+      by z u on beyond true q = follows-here g code false (at + length (expression_code h c)) (z ∷ []) u (λ (x : Bool). if x then on else beyond) idle q
+      by z u on beyond false q = follows-here g code true (at + length (expression_code h c)) (z ∷ []) u (λ (x : Bool). if x then on else beyond) idle q
+
+  -- an expression for what it does, and what follows
+  pub drops : {A : Type 0} (e : ExprTree) (go : ℤ → World → Ran A) (at : ℕ) (w : World) (onward : A → World → ℕ → Ran Exit) → HasAt code at (expression_code h e ++ Drop ∷ []) →
+      expression_depth e ≤ room → ((z : ℤ) (u : World) → Continues (run_at g code (at + length (expression_code h e) + 1) [] u) (go z u) onward) →
+      Continues (run_at g code at [] w) (then_do (value_of h e w) go) onward
+  drops e go at w onward has free f =
+      let ec = expression_code h e in
+      let k = has_back code at ec (Drop ∷ []) has in
+      continues-then (run_at g code at [] w) (value_of h e w) go (λ z u. run_at g code (at + length ec) (z ∷ []) u) onward
+      (value-follows h room code e at [] w (has_front code at ec _ has) (omega (arith, free)))
+      (λ z u. continues-quiet g code (at + length ec) (z ∷ []) u (at + length ec + 1) [] (go z u) onward (quiet-step g code Drop (at + length ec) (z ∷ []) u _ [] k.0 refl) (f z u))
+
+  -- the same of one that may be missing
+  pub drops-maybe : (o : Option ExprTree) (at : ℕ) (w : World) → HasAt code at (dropped_code h o) → maybe_depth o ≤ room →
+      Follows g code at [] w (evaluated h o w) (λ _. at + length (dropped_code h o)) idle
+  drops-maybe None at w has free = let e : at ≡ at + 0 = omega arith in follows-here g code tt at [] w _ idle (subst (λ n. Quiet g code at [] w n []) e (quiet-none g code at [] w))
+  drops-maybe (Some e) at w has free =
+      let ec = expression_code h e in
+      let is : at + length ec + 1 ≡ at + length (ec ++ Drop ∷ []) = omega (arith, length-append ec (Drop ∷ [])) in
+      drops e dropped at w _ has free
+      (λ z u. follows-to g code (at + length ec + 1) [] u (Gives tt u []) _ _ idle is (follows-here g code tt (at + length ec + 1) [] u _ idle (quiet-none g code (at + length ec + 1) [] u)))

@@ -1,0 +1,15 @@
+pub mod Joins
+pub mod WordCode
+pub mod DepthPositive
+pub mod ValueCode
+pub mod Leading
+pub mod Loops
+pub mod Entering
+pub mod StatementCode
+pub mod Pieces
+pub mod DepthWithin
+pub mod TargetCode
+pub mod Emitting
+pub mod EntryCode
+pub mod DecimalSmall
+pub mod LoopCode

@@ -1,0 +1,181 @@
+-- The code of an expression gives its value.
+use Rattle.std.proofs.Common.{◌≡◌, ◌+◌, ◌<◌, ◌≤◌, ℕ, ℤ, pos, Bool, true, false, List, [], ◌∷◌, ◌++◌, Some, refl, subst, arith, length, length-append, slice_get}
+use Rattle.std.specs.Prelude.{max, not}
+use Rattle.snl_text.specs.declared.kinds.Kind.{Kind}
+use Rattle.snl_text.specs.declared.tokens.Token.{Token}
+use Rattle.snl_syntax.specs.Expressions.{ExprTree, TermList, ArgumentList, constant, parenthesized, named, element, call, postfix, prefix, chain, conditional, assignment, no_terms, term, no_arguments, value, text}
+use Rattle.snl_meaning.specs.declared.instrs.Instr.{Instr}
+use Rattle.snl_meaning.specs.declared.instrs.Instr.TheVariants.{Push, Get, Adjust, AdjustAt, Print, Wait, Put}
+use Rattle.snl_meaning.specs.declared.instrs.Variable.{Variable}
+use Rattle.snl_emit.specs.ExpressionCode.{CodeOn, expression_code, terms_code, target_code, values_code, print_code, wait_code, put_call_code, expression_depth, terms_depth, target_depth, values_depth, print_depth, wait_depth, put_depth, joint_code, joint_depth, at_code, get_code, put_code, put_at_code, held_depth, count_values}
+use Rattle.snl_meaning.specs.Names.{Here, sense_of, format_number, link_number}
+use Rattle.snl_meaning.specs.Ran.{Ran}
+use Rattle.snl_meaning.specs.Endings.{HasAt}
+use Rattle.snl_meaning.specs.Run.{PieceContext, context_of}
+use Rattle.snl_resolve.specs.Builtins.{builtin_of}
+use Rattle.snl_meaning.specs.Value.{OnVariable, OnElement, constant_of, joint_of, compound_of, sign_of, is_decimal, joined_by, put_at, at_subscript, value_of, chained, at_target, print_of, printing_with, wait_of, put_of}
+use Rattle.snl_meaning.specs.Words.{gives, read, adjusted, put_to, waited}
+use Rattle.snl_meaning.specs.World.{World}
+use Rattle.snl_emit.proofs.DepthPositive.{depth-positive}
+use Rattle.snl_meaning.proofs.Following.{has_front, has_back, follows-then, follows-to}
+use Rattle.snl_emit.proofs.Joins.{Runs, Codes, CodesOn, codes-pushes, on-one, codes-more, on-more, codes-then, on-then, on-none, on-joint}
+use Rattle.snl_emit.proofs.WordCode.{codes-name, codes-at_name, codes-called, on-subscript, on-put, codes-put, codes-signed, codes-either, runs-print}
+
+module _ (h : Here) (room : ℕ) (code : List Instr) where
+  -- what the code runs with
+  abbrev g : PieceContext
+  g = context_of h room
+
+  -- 0 is pushed
+  pushes-zero : (d : ℕ) → 1 ≤ d → Codes g code (gives (pos 0)) (Push (pos 0) ∷ []) d
+  pushes-zero d some = codes-pushes g code (Push (pos 0)) (gives (pos 0)) (λ at s w. refl) d some
+
+  -- `++` or `--` of a variable
+  adjusts : (op_line : ℕ) (by : Kind) (is_before : Bool) (x : Token) (d : ℕ) → 1 ≤ d → (v : Variable) →
+      Codes g code (adjusted h.set v by op_line x.pos.line is_before (pos 0)) (Adjust v by op_line x.pos.line is_before ∷ []) d
+  adjusts op_line by is_before x d some v =
+      codes-pushes g code (Adjust v by op_line x.pos.line is_before) (adjusted h.set v by op_line x.pos.line is_before (pos 0)) (λ at s w. refl) d some
+
+  -- `++` or `--` of an element
+  adjusts-at : (op_line : ℕ) (by : Kind) (is_before : Bool) (x : Token) (d : ℕ) → (v : Variable) →
+      CodesOn g code (adjusted h.set v by op_line x.pos.line is_before) (AdjustAt v by op_line x.pos.line is_before ∷ []) d
+  adjusts-at op_line by is_before x d v =
+      on-one g code (AdjustAt v by op_line x.pos.line is_before) (adjusted h.set v by op_line x.pos.line is_before) (λ at x s w. refl) d
+
+  -- `printf` after arguments that were taken
+  abbrev PrintsFrom : ℕ → ArgumentList → Type 0
+  PrintsFrom f all = (taken : List ℤ) (n last at : ℕ) (s : List ℤ) (w : World) → length taken + count_values all ≡ n → last ≡ at + length (values_code h all) →
+      slice_get code last ≡ Some (Print f n) → HasAt code at (values_code h all) → length s < room → length s + values_depth (length taken) all ≤ room →
+      Runs g code at (taken ++ s) w (printing_with h f all taken w) (last + 1) s
+
+  -- `printf` with all of its arguments
+  codes-print : (f : ℕ) (all : ArgumentList) → PrintsFrom f all →
+      Codes g code (printing_with h f all []) (values_code h all ++ Print f (count_values all) ∷ []) (max 1 (values_depth 0 all))
+  codes-print f all follow at s w has free =
+      let ac = values_code h all in
+      let e : at + length ac + 1 ≡ at + length (ac ++ Print f (count_values all) ∷ []) = omega (arith, length-append ac (Print f (count_values all) ∷ [])) in
+      follows-to g code at s w _ _ _ (λ z. z ∷ s) e
+      (follow [] (count_values all) (at + length ac) at s w (omega arith) refl (has_back code at ac _ has).0 (has_front code at ac _ has) (omega arith) (omega arith))
+
+  mutual
+    -- an expression
+    pub value-follows : (e : ExprTree) → Codes g code (value_of h e) (expression_code h e) (expression_depth e)
+    value-follows (constant t) = codes-pushes g code (Push (constant_of t.kind t.text.now)) (gives (constant_of t.kind t.text.now)) (λ at s w. refl) 1 (omega arith)
+    value-follows (parenthesized e) = value-follows e
+    value-follows (named x) = codes-name g code (sense_of h x) 1 (omega arith)
+    value-follows (element x b e) =
+        codes-then g code (value_of h e) (at_subscript (sense_of h x) b.pos.line (read h.set) (gives (pos 0)))
+        (expression_code h e) (at_code (sense_of h x) b.pos.line get_code (Push (pos 0) ∷ [])) (expression_depth e) (value-follows e)
+        (on-subscript g code (sense_of h x) b.pos.line (read h.set) (gives (pos 0)) get_code (Push (pos 0) ∷ []) (expression_depth e)
+        (λ v. on-one g code (Get v) (read h.set v) (λ at x s w. refl) (expression_depth e)) (pushes-zero (expression_depth e) (depth-positive e)))
+    value-follows (call f all) =
+        codes-called g code (builtin_of f.text.now) (print_of h all) (wait_of h all) (put_of h all) (print_code h all) (wait_code h all) (put_call_code h all)
+        (print_depth all) (wait_depth all) (put_depth all) (print-follows all) (wait-follows all) (put-follows all)
+    value-follows (postfix e op) =
+        codes-signed g code (sign_of op.kind) _ (value_of h e) _ (expression_code h e) op.pos.line (target_depth e 2 3) (expression_depth e)
+        (λ by. target-follows e _ _ (gives (pos 0)) (λ v x. Adjust v by op.pos.line x.pos.line true ∷ []) (λ v x. AdjustAt v by op.pos.line x.pos.line true ∷ [])
+        (Push (pos 0) ∷ []) 2 3 (omega arith)
+        (λ x v. adjusts op.pos.line by true x 2 (omega arith) v) (λ x v. adjusts-at op.pos.line by true x 3 v) (pushes-zero 2 (omega arith))) (value-follows e)
+    value-follows (prefix op e) =
+        codes-signed g code (sign_of op.kind) _ (value_of h e) _ (expression_code h e) op.pos.line (target_depth e 2 3) (expression_depth e)
+        (λ by. target-follows e _ _ (gives (pos 0)) (λ v x. Adjust v by op.pos.line x.pos.line false ∷ []) (λ v x. AdjustAt v by op.pos.line x.pos.line false ∷ [])
+        (Push (pos 0) ∷ []) 2 3 (omega arith)
+        (λ x v. adjusts op.pos.line by false x 2 (omega arith) v) (λ x v. adjusts-at op.pos.line by false x 3 v) (pushes-zero 2 (omega arith))) (value-follows e)
+    value-follows (chain e rest) =
+        let d = max (expression_depth e) (terms_depth rest) in
+        let l : expression_depth e ≤ d = omega arith in
+        let r : terms_depth rest ≤ d = omega arith in
+        codes-then g code (value_of h e) (chained h rest) (expression_code h e) (terms_code h rest) d
+        (codes-more g code _ _ _ d l (value-follows e)) (on-more g code _ _ _ d r (chain-follows rest))
+    value-follows (conditional c a b) =
+        let d = expression_depth (conditional c a b) in
+        let l : expression_depth c ≤ d = omega arith in
+        let m : expression_depth a ≤ d = omega arith in
+        let r : expression_depth b ≤ d = omega arith in
+        codes-either g code (value_of h c) (value_of h a) (value_of h b) (expression_code h c) (expression_code h a) (expression_code h b) d
+        (codes-more g code _ _ _ d l (value-follows c)) (codes-more g code _ _ _ d m (value-follows a)) (codes-more g code _ _ _ d r (value-follows b))
+    value-follows (assignment e op r) =
+        let o = compound_of op.kind in
+        let rc = expression_code h r in
+        let d = expression_depth r in
+        let n : d ≤ d + held_depth o = omega arith in
+        target-follows e (λ v x. put_at o op.pos.line (value_of h r) h.set v x.pos.line (pos 0)) (λ v x. put_at o op.pos.line (value_of h r) h.set v x.pos.line) (value_of h r)
+        (λ v x. put_code o op.pos.line rc v x.pos.line) (λ v x. put_at_code o op.pos.line rc x.pos.line v) rc (d + held_depth o) (d + held_depth o + 1) (omega arith)
+        (λ x v. codes-put g code o op.pos.line (value_of h r) rc d x.pos.line (value-follows r) v)
+        (λ x v. on-put g code o op.pos.line (value_of h r) rc d x.pos.line (value-follows r) v)
+        (codes-more g code (value_of h r) rc d (d + held_depth o) n (value-follows r))
+
+    -- the operators and operands of one level
+    chain-follows : (ts : TermList) → CodesOn g code (chained h ts) (terms_code h ts) (terms_depth ts)
+    chain-follows no_terms = on-none g code 0
+    chain-follows (term op e rest) =
+        let j = joint_of op.kind in
+        let d = max (joint_depth j (expression_depth e)) (terms_depth rest) in
+        let l : joint_depth j (expression_depth e) ≤ d = omega arith in
+        let r : terms_depth rest ≤ d = omega arith in
+        on-then g code (joined_by j op.pos.line (value_of h e)) (chained h rest) (joint_code j op.pos.line (expression_code h e)) (terms_code h rest) d
+        (on-more g code _ _ _ d l (on-joint g code j op.pos.line (value_of h e) (expression_code h e) (expression_depth e) (depth-positive e) (value-follows e)))
+        (on-more g code _ _ _ d r (chain-follows rest))
+
+    -- what is done at a target
+    target-follows : (e : ExprTree) (alone : OnVariable) (indexed : OnElement) (other : World → Ran ℤ) (ac ic : CodeOn) (oc : List Instr) (a i : ℕ) → a ≤ i →
+        ((x : Token) (v : Variable) → Codes g code (alone v x) (ac v x) a) → ((x : Token) (v : Variable) → CodesOn g code (indexed v x) (ic v x) i) → Codes g code other oc a →
+        Codes g code (at_target h e alone indexed other) (target_code h e ac ic oc) (target_depth e a i)
+    target-follows (parenthesized e) alone indexed other ac ic oc a i le f d k = target-follows e alone indexed other ac ic oc a i le f d k
+    target-follows (named x) alone indexed other ac ic oc a i le f d k = codes-at_name g code (sense_of h x) x alone other ac oc a (f x) k
+    target-follows (element x b e) alone indexed other ac ic oc a i le f d k =
+        let m = max (expression_depth e) i in
+        let l : expression_depth e ≤ m = omega arith in
+        let r : i ≤ m = omega arith in
+        let n : a ≤ m = omega arith in
+        codes-then g code (value_of h e) (at_subscript (sense_of h x) b.pos.line (λ v. indexed v x) other)
+        (expression_code h e) (at_code (sense_of h x) b.pos.line (λ v. ic v x) oc) m
+        (codes-more g code _ _ _ m l (value-follows e))
+        (on-subscript g code (sense_of h x) b.pos.line (λ v. indexed v x) other (λ v. ic v x) oc m (λ v. on-more g code _ _ _ m r (d x v)) (codes-more g code other oc a m n k))
+    target-follows (constant t) alone indexed other ac ic oc a i le f d k = k
+    target-follows (call n all) alone indexed other ac ic oc a i le f d k = k
+    target-follows (postfix e o) alone indexed other ac ic oc a i le f d k = k
+    target-follows (prefix o e) alone indexed other ac ic oc a i le f d k = k
+    target-follows (chain e rest) alone indexed other ac ic oc a i le f d k = k
+    target-follows (conditional b c e) alone indexed other ac ic oc a i le f d k = k
+    target-follows (assignment e o r) alone indexed other ac ic oc a i le f d k = k
+
+    -- `printf`
+    print-follows : (all : ArgumentList) → Codes g code (print_of h all) (print_code h all) (print_depth all)
+    print-follows no_arguments = pushes-zero 1 (omega arith)
+    print-follows (value e rest) = pushes-zero 1 (omega arith)
+    print-follows (text t rest) = codes-print (format_number h t) rest (printing-follows (format_number h t) rest)
+
+    -- the values of `printf`
+    printing-follows : (f : ℕ) (all : ArgumentList) → PrintsFrom f all
+    printing-follows f no_arguments taken n last at s w is is_last there has free enough =
+        let e : last ≡ at = omega arith in
+        let m : length taken ≡ n = omega arith in
+        let start : Runs g code last (taken ++ s) w (printing_with h f no_arguments taken w) (last + 1) s = runs-print g code f n last taken s w there m free in
+        subst (λ p. Runs g code p (taken ++ s) w (printing_with h f no_arguments taken w) (last + 1) s) e start
+    printing-follows f (text t rest) taken n last at s w is is_last there has free enough = printing-follows f rest taken n last at s w is is_last there has free enough
+    printing-follows f (value e rest) taken n last at s w is is_last there has free enough =
+        let ec = expression_code h e in
+        let rc = values_code h rest in
+        let next : last ≡ at + length ec + length rc = omega (arith, length-append ec rc) in
+        follows-then g code at (taken ++ s) w (value_of h e w) (λ z. printing_with h f rest (z ∷ taken)) (λ _. at + length ec) (λ z. z ∷ (taken ++ s)) (λ _. last + 1) (λ z. z ∷ s)
+        (value-follows e at (taken ++ s) w (has_front code at ec rc has) (omega (arith, length-append taken s)))
+        (λ z u. printing-follows f rest (z ∷ taken) n last (at + length ec) s u (omega arith) next there (has_back code at ec rc has) free (omega arith))
+
+    -- `delay`
+    wait-follows : (all : ArgumentList) → Codes g code (wait_of h all) (wait_code h all) (wait_depth all)
+    wait-follows no_arguments = pushes-zero 1 (omega arith)
+    wait-follows (text t rest) = pushes-zero 1 (omega arith)
+    wait-follows (value e rest) =
+        codes-then g code (value_of h e) (waited h.set (not (is_decimal e))) (expression_code h e) (Wait (not (is_decimal e)) ∷ []) (expression_depth e) (value-follows e)
+        (on-one g code (Wait (not (is_decimal e))) (waited h.set (not (is_decimal e))) (λ at x s w. refl) (expression_depth e))
+
+    -- `pvPut`
+    put-follows : (all : ArgumentList) → Codes g code (put_of h all) (put_call_code h all) (put_depth all)
+    put-follows no_arguments = pushes-zero 1 (omega arith)
+    put-follows (text t rest) = pushes-zero 1 (omega arith)
+    put-follows (value e rest) =
+        target-follows e (λ v x. put_to h.set v (link_number h x)) (λ v x. read h.set v) (gives (pos 0)) (λ v x. Put v (link_number h x) ∷ []) (λ v x. Get v ∷ [])
+        (Push (pos 0) ∷ []) 1 1 (omega arith)
+        (λ x v. codes-pushes g code (Put v (link_number h x)) (put_to h.set v (link_number h x)) (λ at s w. refl) 1 (omega arith))
+        (λ x v. on-one g code (Get v) (read h.set v) (λ at x s w. refl) 1) (pushes-zero 1 (omega arith))

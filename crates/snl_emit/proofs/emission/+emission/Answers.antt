@@ -1,0 +1,62 @@
+use Rattle.std.proofs.Common.{◌≡◌, ◌∙◌, ◌∷◌, ◌++◌, ap, arith, drop, reverse}
+use Rattle.std.proofs.lemmas.Result.{on_ok_weaker}
+use Rattle.snl_syntax.specs.Expressions.{no_arguments}
+use Rattle.snl_syntax.specs.view.Expressions.{view, list_before}
+use Rattle.snl_emit.specs.ExpressionCode.{values_code}
+use Rattle.snl_meaning.specs.Known.{here_of}
+use Rattle.snl_emit.proofs.Emitting.{assigned-made, postfix-made, prefix-made, chain-made, call-made, put-made}
+use Rattle.snl_emit.proofs.emission.+emission.Goals as goal
+
+pub emit_expression-returns-in-Call : goal.emit_expression-returns-in-Call
+emit_expression-returns-in-Call t c =
+    on_ok_weaker c.emit_call.result
+    (call-made (here_of c.args.known.now) c.args.expression.now c.in-Call.name c.in-Call.arguments c.as_slice.result.now
+    (reverse c.args.code.now.items) (reverse c.emit_call.new.code.items) c.in-Call.is c.as_slice.ensures.value)
+    c.emit_call.ensures
+
+pub emit_expression-returns-in-Postfix : goal.emit_expression-returns-in-Postfix
+emit_expression-returns-in-Postfix t c =
+    on_ok_weaker c.emit_sign.result
+    (postfix-made (here_of c.args.known.now) c.args.expression.now c.deref-in-Postfix.result.now c.in-Postfix.target c.in-Postfix.operator
+    (reverse c.args.code.now.items) (reverse c.emit_sign.new.code.items) c.in-Postfix.is c.deref-in-Postfix.ensures)
+    c.emit_sign.ensures
+
+pub emit_expression-returns-in-Prefix : goal.emit_expression-returns-in-Prefix
+emit_expression-returns-in-Prefix t c =
+    on_ok_weaker c.emit_sign-in-Prefix.result
+    (prefix-made (here_of c.args.known.now) c.args.expression.now c.deref-in-Prefix.result.now c.in-Prefix.operand c.in-Prefix.operator
+    (reverse c.args.code.now.items) (reverse c.emit_sign-in-Prefix.new.code.items) c.in-Prefix.is c.deref-in-Prefix.ensures)
+    c.emit_sign-in-Prefix.ensures
+
+pub emit_expression-returns-in_ok-emit_terms-in-Chain : goal.emit_expression-returns-in_ok-emit_terms-in-Chain
+emit_expression-returns-in_ok-emit_terms-in-Chain t c =
+    on_ok_weaker c.emit_expression-in-Chain.result
+    (chain-made (here_of c.args.known.now) c.args.expression.now c.deref-in-Chain.result.now c.in-Chain.first c.in-Chain.terms c.as_slice-in-Chain.result.now
+    (reverse c.args.code.now.items) (reverse c.emit_terms.new.code.items) (reverse c.emit_expression-in-Chain.new.code.items)
+    c.in-Chain.is c.deref-in-Chain.ensures c.as_slice-in-Chain.ensures.value c.in_ok-emit_terms-in-Chain.ensures)
+    c.emit_expression-in-Chain.ensures
+
+pub emit_expression-returns-in_ok-emit_expression-in-Assignment : goal.emit_expression-returns-in_ok-emit_expression-in-Assignment
+emit_expression-returns-in_ok-emit_expression-in-Assignment t c =
+    on_ok_weaker c.emit_place.result
+    (assigned-made (here_of c.args.known.now) c.args.expression.now c.in-Assignment.target c.in-Assignment.value
+    c.deref-in-Assignment.result.now c.deref-in-Assignment-2.result.now c.deref-in-Assignment-3.result.now c.in-Assignment.operator c.compound_of-joined.result
+    (reverse c.args.code.now.items) (reverse c.put_stored.new.code.items) (reverse c.emit_expression-in-Assignment.new.code.items) (reverse c.emit_place.new.code.items)
+    c.in-Assignment.is c.compound_of-joined.ensures c.deref-in-Assignment.ensures c.deref-in-Assignment-2.ensures c.deref-in-Assignment-3.ensures
+    c.in_ok-put_stored-in-Assignment.ensures c.in_ok-emit_expression-in-Assignment.ensures)
+    c.emit_place.ensures
+
+pub emit_values-returns : goal.emit_values-returns
+emit_values-returns t c =
+    let h = here_of c.args.known.now in
+    let all = c.args.arguments.now in
+    let none : c.loop-number.number ≡ 0 = omega (arith, c.loop-number-test.false) in
+    c.loop-number.invariant ∙ ap (λ n. values_code h (list_before (drop n all) no_arguments) ++ reverse c.args.code.now.items) none
+
+pub emit_put_of-returns : goal.emit_put_of-returns
+emit_put_of-returns t c =
+    on_ok_weaker c.emit_place.result
+    (put-made (here_of c.args.known.now) (view c.args.target.now)
+    (reverse c.args.code.now.items) (reverse c.put.new.code.items) (reverse c.emit_place.new.code.items)
+    (c.in_ok-put.ensures ∙ ap (λ i. i ∷ reverse c.args.code.now.items) c.put_instr.ensures))
+    c.emit_place.ensures

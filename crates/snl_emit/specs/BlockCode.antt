@@ -1,0 +1,158 @@
+-- The code of statements and blocks, and how many operands it needs at once.
+use Rattle.std.specs.Prelude.{ℕ, suc, ◌+◌, List, [], ◌∷◌, ◌++◌, Option, None, Some, length, max, nat_lt, if◌then◌else◌}
+use Rattle.snl_syntax.specs.Expressions.{ExprTree}
+use Rattle.snl_syntax.specs.Declarations.{DeclaratorTree}
+use Rattle.snl_syntax.specs.Statements.{StatementTree, StatementList, BlockTree, nested, empty, expression, break_loop, continue_loop, change_state, if_then, if_else, while_loop, for_loop, no_statements, statement, block}
+use Rattle.snl_meaning.specs.declared.instrs.Instr.{Instr}
+use Rattle.snl_meaning.specs.declared.instrs.Instr.TheVariants.{Drop, Jump, JumpIfZero, Tick, Clear, Begin, Leave, End}
+use Rattle.snl_meaning.specs.declared.instrs.Variable.{Variable}
+use Rattle.snl_meaning.specs.Effect.{variable_for, values_of, names_of}
+use Rattle.snl_emit.specs.ExpressionCode.{expression_code, expression_depth, if_code}
+use Rattle.snl_meaning.specs.Names.{Here, state_number}
+
+-- ---- the parts
+
+-- A condition, and what is done where it holds.
+abbrev pub when_code : List Instr → List Instr → List Instr
+when_code condition held = condition ++ (JumpIfZero (length held) ∷ held)
+
+-- What is done where a condition holds, behind a jump over it.
+abbrev pub held_code : List Instr → List Instr
+held_code held = JumpIfZero (length held) ∷ held
+
+-- The same, where a jump over something else stands behind it.
+abbrev pub first_code : List Instr → List Instr
+first_code held = JumpIfZero (length held + 1) ∷ held
+
+-- What is done where it fails, behind a jump over it.
+abbrev pub second_code : List Instr → List Instr
+second_code failed = Jump (length failed) ∷ failed
+
+-- An expression for what it does; it may be missing.
+abbrev pub dropped_code : Here → Option ExprTree → List Instr
+dropped_code h None = []
+dropped_code h (Some e) = expression_code h e ++ Drop ∷ []
+
+-- A condition that passes the next instruction where it fails; it may be missing.
+abbrev pub test_code : Here → Option ExprTree → List Instr
+test_code h None = []
+test_code h (Some e) = expression_code h e ++ JumpIfZero 1 ∷ []
+
+-- The depth of an expression that may be missing.
+abbrev pub maybe_depth : Option ExprTree → ℕ
+maybe_depth None = 0
+maybe_depth (Some e) = expression_depth e
+
+-- A loop: a jump to the test; the body; the step; the test, which passes the tick; a tick, and back to the body.
+abbrev pub loop_code : ℕ → List Instr → List Instr → List Instr → List Instr
+loop_code line body step test =
+    Jump (length body + length step) ∷ (body ++ (step ++ (test ++ Tick line (length test + length step + length body) ∷ [])))
+
+-- ---- the variables of a block
+
+-- The code that sets a variable of a block to 0.
+abbrev pub cleared_code : Option Variable → List Instr
+cleared_code None = []
+cleared_code (Some v) = Clear v ∷ []
+
+-- The same of all variables of a block.
+abbrev pub all_cleared_code : Here → List DeclaratorTree → List Instr
+all_cleared_code h [] = []
+all_cleared_code h (d ∷ ds) = cleared_code (variable_for h d) ++ all_cleared_code h ds
+
+-- The instruction that stores what an element begins with; where there is no such element, the number is dropped.
+abbrev pub begun_code : Option Variable → ℕ → ℕ → Instr
+begun_code None line k = Drop
+begun_code (Some v) line k = if nat_lt k v.size then Begin v k line else Drop
+
+-- The code of what a variable begins with, from an element on.
+abbrev pub begun_with_code : Here → Option Variable → (line k : ℕ) → List ExprTree → List Instr
+begun_with_code h v line k [] = []
+begun_with_code h v line k (e ∷ es) = (expression_code h e ++ begun_code v line k ∷ []) ++ begun_with_code h v line (suc k) es
+
+-- The same of all variables of a block.
+abbrev pub all_begun_code : Here → List DeclaratorTree → List Instr
+all_begun_code h [] = []
+all_begun_code h (d ∷ ds) = begun_with_code h (variable_for h d) d.name.pos.line 0 (values_of d.initial) ++ all_begun_code h ds
+
+-- The code of the entry of a block.
+abbrev pub entered_code : Here → List DeclaratorTree → List Instr
+entered_code h ds = all_cleared_code h ds ++ all_begun_code h ds
+
+-- The greatest depth of some values.
+abbrev pub values_depth : List ExprTree → ℕ
+values_depth [] = 0
+values_depth (e ∷ es) = max (expression_depth e) (values_depth es)
+
+-- The greatest depth in what some variables are declared with: their sizes, and what they begin with.
+abbrev pub entered_depth : List DeclaratorTree → ℕ
+entered_depth [] = 0
+entered_depth (d ∷ ds) = max (max (values_depth d.sizes) (values_depth (values_of d.initial))) (entered_depth ds)
+
+-- ---- statements
+
+-- Of a statement it is known how many instructions stand between its end and the end of the innermost loop, and
+-- between its end and the address where that loop goes on.
+abbrev mutual
+  -- a statement
+  pub statement_code : Here → (out again : ℕ) → StatementTree → List Instr
+  statement_code h out again (nested b) = block_code h out again b
+  statement_code h out again empty = []
+  statement_code h out again (expression e) = expression_code h e ++ Drop ∷ []
+  statement_code h out again (break_loop t) = Jump out ∷ []
+  statement_code h out again (continue_loop t) = Jump again ∷ []
+  statement_code h out again (change_state t x) = Leave (state_number h x) ∷ []
+  statement_code h out again (if_then c s) = when_code (expression_code h c) (statement_code h out again s)
+  statement_code h out again (if_else c s e) =
+      let second = statement_code h out again e in
+      if_code (expression_code h c) (statement_code h (out + 1 + length second) (again + 1 + length second) s) second
+  statement_code h out again (while_loop t c s) =
+      let test = test_code h (Some c) in loop_code t.pos.line (statement_code h (length test + 1) 0 s) [] test
+  statement_code h out again (for_loop t parts s) =
+      let test = test_code h parts.condition in
+      let step = dropped_code h parts.step in
+      dropped_code h parts.start ++ loop_code t.pos.line (statement_code h (length step + length test + 1) 0 s) step test
+
+  -- statements, one after another
+  pub statements_code : Here → (out again : ℕ) → StatementList → List Instr
+  statements_code h out again no_statements = []
+  statements_code h out again (statement s rest) =
+      let after = statements_code h out again rest in statement_code h (out + length after) (again + length after) s ++ after
+
+  -- a block: the entry, then its statements
+  pub block_code : Here → (out again : ℕ) → BlockTree → List Instr
+  block_code h out again (block ds all) = entered_code h (names_of ds) ++ statements_code h out again all
+
+abbrev mutual
+  -- a statement
+  pub statement_depth : StatementTree → ℕ
+  statement_depth (nested b) = block_depth b
+  statement_depth empty = 0
+  statement_depth (expression e) = expression_depth e
+  statement_depth (break_loop t) = 0
+  statement_depth (continue_loop t) = 0
+  statement_depth (change_state t x) = 0
+  statement_depth (if_then c s) = max (expression_depth c) (statement_depth s)
+  statement_depth (if_else c s e) = max (expression_depth c) (max (statement_depth s) (statement_depth e))
+  statement_depth (while_loop t c s) = max (expression_depth c) (statement_depth s)
+  statement_depth (for_loop t parts s) =
+      max (max (maybe_depth parts.start) (maybe_depth parts.condition)) (max (maybe_depth parts.step) (statement_depth s))
+
+  -- statements
+  pub statements_depth : StatementList → ℕ
+  statements_depth no_statements = 0
+  statements_depth (statement s rest) = max (statement_depth s) (statements_depth rest)
+
+  -- a block, with what its variables are declared with
+  pub block_depth : BlockTree → ℕ
+  block_depth (block ds all) = max (entered_depth (names_of ds)) (statements_depth all)
+
+-- ---- pieces
+
+-- The piece of a condition.
+abbrev pub condition_piece : Here → ExprTree → List Instr
+condition_piece h e = expression_code h e ++ End ∷ []
+
+-- The piece of a block.
+abbrev pub block_piece : Here → BlockTree → List Instr
+block_piece h b = block_code h 0 0 b ++ End ∷ []

@@ -1,0 +1,49 @@
+-- The code of single forms, as it is made.
+use Rattle.std.specs.Prelude.{ℕ, ◌+◌, ◌-◌, List, [], ◌∷◌, ◌++◌, pos, Bool, None, length, reverse, set}
+use Rattle.snl_text.specs.declared.tokens.Token.{Token}
+use Rattle.snl_syntax.specs.declared.expressions.Argument.{Argument, Value', Text}
+use Rattle.snl_syntax.specs.view.Expressions.{view}
+use Rattle.snl_syntax.specs.Expressions.{ExprTree, ArgumentList}
+use Rattle.snl_meaning.specs.declared.instrs.Instr.{Instr}
+use Rattle.snl_meaning.specs.declared.instrs.Instr.TheVariants.{Push, Jump, Tick, Get, Put}
+use Rattle.snl_syntax.specs.Statements.{StatementTree}
+use Rattle.snl_emit.specs.BlockCode.{statement_code}
+use Rattle.snl_emit.specs.ExpressionCode.{expression_code, target_code, joint_code, signed_code, at_code, get_code, called_code, print_code, wait_code, put_call_code}
+use Rattle.snl_meaning.specs.Names.{Here, link_number}
+use Rattle.snl_meaning.specs.declared.names.Sense.{Sense}
+use Rattle.snl_emit.specs.Targets.{place_code, adjust_code}
+use Rattle.snl_meaning.specs.Value.{joint_of, sign_of}
+use Rattle.snl_resolve.specs.Builtins.{builtin_of}
+
+-- The read of an element, after its subscript.
+abbrev pub element_code : Sense → ℕ → List Instr
+element_code x line = at_code x line get_code (Push (pos 0) ∷ [])
+
+-- An operator with its operand.
+abbrev pub term_code : Here → Token × ExprTree → List Instr
+term_code h t = joint_code (joint_of t.0.kind) t.0.pos.line (expression_code h t.1)
+
+-- A sign with its operand.
+abbrev pub sign_code : Here → Token → Bool → ExprTree → List Instr
+sign_code h op is_before e =
+    signed_code (sign_of op.kind) (λ by. place_code h None e ++ adjust_code h by op.pos.line is_before e ∷ []) (expression_code h e) op.pos.line
+
+-- A call with its arguments.
+abbrev pub call_code : Here → Token → ArgumentList → List Instr
+call_code h f all = called_code (builtin_of f.text.now) (print_code h all) (wait_code h all) (put_call_code h all)
+
+-- `pvPut` of a target.
+abbrev pub put_target_code : Here → ExprTree → List Instr
+put_target_code h e = target_code h e (λ v x. Put v (link_number h x) ∷ []) (λ v x. Get v ∷ []) (Push (pos 0) ∷ [])
+
+-- An argument of `printf`.
+abbrev pub value_code : Here → Argument → List Instr
+value_code h (Value' p e) = expression_code h (view e)
+value_code h (Text t) = []
+
+-- The body of a loop, behind a jump to its test, before code in which the loop's tick stands after so many instructions
+-- and the test begins after others. The tick leads back to the body.
+abbrev pub turn_code : Here → (line end test : ℕ) → StatementTree → List Instr → List Instr
+turn_code h line end test s code =
+    let body = statement_code h (length code - end) 0 s in
+    Jump (length body + (length code - test)) ∷ (body ++ reverse (set code end (Tick line (length body + (length code - end - 1)))))

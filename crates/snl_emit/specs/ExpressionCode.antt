@@ -1,0 +1,214 @@
+-- The code of an expression, and how many operands it needs at once. The code pushes the value.
+use Rattle.std.specs.Prelude.{ℕ, suc, ◌+◌, pos, true, false, not, List, [], ◌∷◌, ◌++◌, Option, None, Some, length, max}
+use Rattle.snl_text.specs.declared.kinds.Kind.{Kind}
+use Rattle.snl_text.specs.declared.tokens.Token.{Token}
+use Rattle.snl_syntax.specs.Expressions.{ExprTree, TermList, ArgumentList, constant, parenthesized, named, element, call, postfix, prefix, chain, conditional, assignment, no_terms, term, no_arguments, value, text}
+use Rattle.snl_meaning.specs.declared.instrs.Instr.{Instr}
+use Rattle.snl_meaning.specs.declared.instrs.Instr.TheVariants.{Push, Load, Check, Get, Peek, Store, StoreAt, Adjust, AdjustAt, Apply, ApplyPrefix, Settle, Drop, Jump, JumpIfZero, Print, Wait, Put}
+use Rattle.snl_meaning.specs.declared.instrs.Variable.{Variable}
+use Rattle.snl_meaning.specs.Names.{Here, sense_of, format_number, link_number}
+use Rattle.snl_meaning.specs.declared.names.Sense.{Sense}
+use Rattle.snl_meaning.specs.declared.names.Sense.TheVariants.{Varies, Stands}
+use Rattle.snl_resolve.specs.Builtins.{builtin_of}
+use Rattle.snl_meaning.specs.Value.{constant_of, joint_of, compound_of, sign_of, is_decimal}
+use Rattle.snl_meaning.specs.declared.operators.Joint.{Joint}
+use Rattle.snl_meaning.specs.declared.operators.Joint.TheVariants.{And, Or, Sequel, Operation}
+use Rattle.snl_meaning.specs.declared.operators.Sign.{Sign}
+use Rattle.snl_meaning.specs.declared.operators.Sign.TheVariants.{Steps, Alone}
+use Rattle.snl_resolve.specs.declared.builtins.Builtin.{Builtin}
+use Rattle.snl_resolve.specs.declared.builtins.Builtin.TheVariants.{Delay, Printf, PvPut, Ask}
+
+-- ---- the parts
+
+-- An operator with the code of its operand, after what stands left of it.
+abbrev pub joint_code : Joint → ℕ → List Instr → List Instr
+joint_code And line right = JumpIfZero (length right + 2) ∷ (right ++ Settle ∷ Jump 1 ∷ Push (pos 0) ∷ [])
+joint_code Or line right = JumpIfZero 2 ∷ Push (pos 1) ∷ Jump (length right + 1) ∷ (right ++ Settle ∷ [])
+joint_code Sequel line right = Drop ∷ right
+joint_code (Operation op) line right = right ++ Apply op line ∷ []
+
+-- How much room an operator needs beside its operand.
+abbrev pub joint_depth : Joint → ℕ → ℕ
+joint_depth (Operation op) depth = depth + 1
+joint_depth _ depth = depth
+
+-- A condition, and one of two.
+abbrev pub if_code : List Instr → List Instr → List Instr → List Instr
+if_code condition held failed = condition ++ (JumpIfZero (length held + 1) ∷ (held ++ Jump (length failed) ∷ failed))
+
+-- The instruction of a name that is read.
+abbrev pub name_code : Sense → Instr
+name_code (Varies v) = Load v
+name_code (Stands z) = Push z
+
+-- After a subscript.
+abbrev pub at_code : Sense → ℕ → (Variable → List Instr) → List Instr → List Instr
+at_code (Varies v) line go other = Check v line ∷ go v
+at_code (Stands z) line go other = Drop ∷ other
+
+-- The code that reads an element by the subscript on top.
+abbrev pub get_code : Variable → List Instr
+get_code v = Get v ∷ []
+
+-- An assignment to an element, after its subscript was checked.
+abbrev pub put_at_code : Option Kind → ℕ → List Instr → ℕ → Variable → List Instr
+put_at_code None op_line right line v = right ++ StoreAt v line ∷ []
+put_at_code (Some op) op_line right line v = Peek v ∷ ((right ++ Apply op op_line ∷ []) ++ StoreAt v line ∷ [])
+
+-- An assignment to a variable.
+abbrev pub put_code : Option Kind → ℕ → List Instr → Variable → ℕ → List Instr
+put_code None op_line right v line = right ++ Store v line ∷ []
+put_code (Some op) op_line right v line = Load v ∷ ((right ++ Apply op op_line ∷ []) ++ Store v line ∷ [])
+
+-- What an assignment holds while its right side is computed, beside a subscript.
+abbrev pub held_depth : Option Kind → ℕ
+held_depth None = 0
+held_depth (Some op) = 1
+
+-- The code of what is done to a variable, with the use of its name.
+abbrev pub CodeOn : Type 0
+CodeOn = Variable → Token → List Instr
+
+-- The code of what is done to a name, or for a name that is no variable of something else.
+abbrev pub at_name_code : Sense → Token → CodeOn → List Instr → List Instr
+at_name_code (Varies v) x alone other = alone v x
+at_name_code (Stands z) x alone other = other
+
+-- The code of a sign before or after an operand.
+abbrev pub signed_code : Sign → (Kind → List Instr) → List Instr → ℕ → List Instr
+signed_code (Steps op) stepping operand line = stepping op
+signed_code (Alone op) stepping operand line = operand ++ ApplyPrefix op line ∷ []
+
+-- How much room a sign needs.
+abbrev pub signed_depth : Sign → ℕ → ℕ → ℕ
+signed_depth (Steps op) stepping operand = stepping
+signed_depth (Alone op) stepping operand = operand
+
+-- The code of a call.
+abbrev pub called_code : Option Builtin → (print wait put : List Instr) → List Instr
+called_code None print wait put = Push (pos 0) ∷ []
+called_code (Some Delay) print wait put = wait
+called_code (Some Printf) print wait put = print
+called_code (Some PvPut) print wait put = put
+called_code (Some (Ask query)) print wait put = Push (pos 0) ∷ []
+
+-- How much room a call needs.
+abbrev pub called_depth : Option Builtin → (print wait put : ℕ) → ℕ
+called_depth None print wait put = 1
+called_depth (Some Delay) print wait put = wait
+called_depth (Some Printf) print wait put = print
+called_depth (Some PvPut) print wait put = put
+called_depth (Some (Ask query)) print wait put = 1
+
+-- How many arguments are expressions.
+abbrev pub count_values : ArgumentList → ℕ
+count_values no_arguments = 0
+count_values (text t rest) = count_values rest
+count_values (value e rest) = suc (count_values rest)
+
+-- ---- the code
+
+abbrev mutual
+  -- an expression
+  pub expression_code : Here → ExprTree → List Instr
+  expression_code h (constant t) = Push (constant_of t.kind t.text.now) ∷ []
+  expression_code h (parenthesized e) = expression_code h e
+  expression_code h (named x) = name_code (sense_of h x) ∷ []
+  expression_code h (element x b e) = expression_code h e ++ at_code (sense_of h x) b.pos.line get_code (Push (pos 0) ∷ [])
+  expression_code h (call f all) = called_code (builtin_of f.text.now) (print_code h all) (wait_code h all) (put_call_code h all)
+  expression_code h (postfix e op) =
+      signed_code (sign_of op.kind) (λ by. target_code h e (λ v x. Adjust v by op.pos.line x.pos.line true ∷ [])
+      (λ v x. AdjustAt v by op.pos.line x.pos.line true ∷ []) (Push (pos 0) ∷ [])) (expression_code h e) op.pos.line
+  expression_code h (prefix op e) =
+      signed_code (sign_of op.kind) (λ by. target_code h e (λ v x. Adjust v by op.pos.line x.pos.line false ∷ [])
+      (λ v x. AdjustAt v by op.pos.line x.pos.line false ∷ []) (Push (pos 0) ∷ [])) (expression_code h e) op.pos.line
+  expression_code h (chain e rest) = expression_code h e ++ terms_code h rest
+  expression_code h (conditional c a b) = if_code (expression_code h c) (expression_code h a) (expression_code h b)
+  expression_code h (assignment e op r) =
+      target_code h e (λ v x. put_code (compound_of op.kind) op.pos.line (expression_code h r) v x.pos.line)
+      (λ v x. put_at_code (compound_of op.kind) op.pos.line (expression_code h r) x.pos.line v) (expression_code h r)
+
+  -- the operators and operands of one level
+  pub terms_code : Here → TermList → List Instr
+  terms_code h no_terms = []
+  terms_code h (term op e rest) = joint_code (joint_of op.kind) op.pos.line (expression_code h e) ++ terms_code h rest
+
+  -- what is done at a target, after its subscript
+  pub target_code : Here → ExprTree → CodeOn → CodeOn → List Instr → List Instr
+  target_code h (parenthesized e) alone indexed other = target_code h e alone indexed other
+  target_code h (named x) alone indexed other = at_name_code (sense_of h x) x alone other
+  target_code h (element x b e) alone indexed other =
+      expression_code h e ++ at_code (sense_of h x) b.pos.line (λ v. indexed v x) other
+  target_code h _ alone indexed other = other
+
+  -- `printf`: its values, then its line
+  pub print_code : Here → ArgumentList → List Instr
+  print_code h (text t rest) = values_code h rest ++ Print (format_number h t) (count_values rest) ∷ []
+  print_code h _ = Push (pos 0) ∷ []
+
+  -- the values of arguments; a string has none
+  pub values_code : Here → ArgumentList → List Instr
+  values_code h no_arguments = []
+  values_code h (text t rest) = values_code h rest
+  values_code h (value e rest) = expression_code h e ++ values_code h rest
+
+  -- `delay`: the time, then the look at the clock
+  pub wait_code : Here → ArgumentList → List Instr
+  wait_code h (value e rest) = expression_code h e ++ Wait (not (is_decimal e)) ∷ []
+  wait_code h _ = Push (pos 0) ∷ []
+
+  -- `pvPut`: what is done at its target
+  pub put_call_code : Here → ArgumentList → List Instr
+  put_call_code h (value e rest) = target_code h e (λ v x. Put v (link_number h x) ∷ []) (λ v x. Get v ∷ []) (Push (pos 0) ∷ [])
+  put_call_code h _ = Push (pos 0) ∷ []
+
+-- ---- the depth
+
+-- The greatest number of operands at once. It does not look at what names mean. A constant, a variable and a call
+-- without an expression need 1; an operator holds what is left of it while its operand is computed.
+abbrev mutual
+  -- an expression
+  pub expression_depth : ExprTree → ℕ
+  expression_depth (constant t) = 1
+  expression_depth (parenthesized e) = expression_depth e
+  expression_depth (named x) = 1
+  expression_depth (element x b e) = expression_depth e
+  expression_depth (call f all) = called_depth (builtin_of f.text.now) (print_depth all) (wait_depth all) (put_depth all)
+  expression_depth (postfix e op) = signed_depth (sign_of op.kind) (target_depth e 2 3) (expression_depth e)
+  expression_depth (prefix op e) = signed_depth (sign_of op.kind) (target_depth e 2 3) (expression_depth e)
+  expression_depth (chain e rest) = max (expression_depth e) (terms_depth rest)
+  expression_depth (conditional c a b) = max (expression_depth c) (max (expression_depth a) (expression_depth b))
+  expression_depth (assignment e op r) =
+      target_depth e (expression_depth r + held_depth (compound_of op.kind)) (expression_depth r + held_depth (compound_of op.kind) + 1)
+
+  -- the operators and operands of one level
+  pub terms_depth : TermList → ℕ
+  terms_depth no_terms = 0
+  terms_depth (term op e rest) = max (joint_depth (joint_of op.kind) (expression_depth e)) (terms_depth rest)
+
+  -- of a target: what is done there to a variable, or to an element after its subscript
+  pub target_depth : ExprTree → ℕ → ℕ → ℕ
+  target_depth (parenthesized e) alone indexed = target_depth e alone indexed
+  target_depth (element x b e) alone indexed = max (expression_depth e) indexed
+  target_depth _ alone indexed = alone
+
+  -- `printf`
+  pub print_depth : ArgumentList → ℕ
+  print_depth (text t rest) = max 1 (values_depth 0 rest)
+  print_depth _ = 1
+
+  -- after so many values
+  pub values_depth : ℕ → ArgumentList → ℕ
+  values_depth k no_arguments = 0
+  values_depth k (text t rest) = values_depth k rest
+  values_depth k (value e rest) = max (expression_depth e + k) (values_depth (suc k) rest)
+
+  -- `delay`
+  pub wait_depth : ArgumentList → ℕ
+  wait_depth (value e rest) = expression_depth e
+  wait_depth _ = 1
+
+  -- `pvPut`
+  pub put_depth : ArgumentList → ℕ
+  put_depth (value e rest) = target_depth e 1 1
+  put_depth _ = 1

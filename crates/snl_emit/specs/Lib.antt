@@ -1,0 +1,5 @@
+pub mod ExpressionCode
+pub mod Targets
+pub mod BlockCode
+pub mod Emission
+pub mod Right

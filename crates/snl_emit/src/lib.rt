@@ -1,0 +1,14 @@
+//! Makes the flat code of one condition or one block, with the law that it does what the piece means.
+#![tactic(auto)]
+
+mod constants;
+mod emission;
+mod entries;
+pub mod laws;
+mod parts;
+mod rows;
+mod statements;
+mod targets;
+
+pub use emission::emit_expression;
+pub use statements::emit_block;

@@ -1,0 +1,208 @@
+//! The code of what is done at a target, after its subscript and the right side.
+
+ghost use Rattle.std.specs.Prelude.{◌≡◌, ◌∷◌, ◌++◌, reverse, OnOk};
+ghost use Rattle.snl_syntax.specs.view.Expressions.{view};
+ghost use Rattle.snl_meaning.specs.Known.{here_of};
+ghost use Rattle.snl_emit.specs.Targets as spec;
+
+use crate::rows::put;
+use snl_meaning::{Instr, Known, Sense};
+use snl_syntax::Expr;
+use snl_text::Kind;
+use std::alloc::AllocError;
+
+/// A store, and before it the operator of a compound assignment.
+fn put_joined(
+    code: &mut Vec<Instr>,
+    operator: Option<Kind>,
+    operator_line: usize,
+    store: Instr,
+) -> Result<(), AllocError>
+    ensures { OnOk result (reverse code.new.items
+        ≡ spec.joined_code operator operator_line store ++ reverse code.old.items) }
+{
+    put(code, store)?;
+    match operator {
+        None => Ok(()),
+        Some(operator) => put(
+            code,
+            Instr::Apply {
+                operator,
+                line: operator_line,
+            },
+        ),
+    }
+}
+
+/// The store to a name.
+fn put_stored_alone(
+    code: &mut Vec<Instr>,
+    sense: Sense,
+    operator: Option<Kind>,
+    operator_line: usize,
+    line: usize,
+) -> Result<(), AllocError>
+    ensures { OnOk result (reverse code.new.items
+        ≡ spec.stored_alone sense operator operator_line line ++ reverse code.old.items) }
+{
+    match sense {
+        Sense::Varies(variable) => {
+            put_joined(
+                code,
+                operator,
+                operator_line,
+                Instr::Store { variable, line },
+            )
+        }
+        Sense::Stands(_) => Ok(()),
+    }
+}
+
+/// The store to an element.
+fn put_stored_at(
+    code: &mut Vec<Instr>,
+    sense: Sense,
+    operator: Option<Kind>,
+    operator_line: usize,
+    line: usize,
+) -> Result<(), AllocError>
+    ensures { OnOk result (reverse code.new.items
+        ≡ spec.stored_at sense operator operator_line line ++ reverse code.old.items) }
+{
+    match sense {
+        Sense::Varies(variable) => put_joined(
+            code,
+            operator,
+            operator_line,
+            Instr::StoreAt { variable, line },
+        ),
+        Sense::Stands(_) => Ok(()),
+    }
+}
+
+/// What an assignment does at its target after its right side. The only error is that memory ends.
+pub fn put_stored<'a>(
+    target: &Expr<'a>,
+    known: &Known<'_, 'a>,
+    operator: Option<Kind>,
+    operator_line: usize,
+    code: &mut Vec<Instr>,
+) -> Result<(), AllocError>
+    ensures { OnOk result (reverse code.new.items
+        ≡ spec.stored_code (here_of known.now) operator operator_line (view target.now)
+        ++ reverse code.old.items) }
+{
+    match target {
+        Expr::Parenthesized(inner) => put_stored(inner, known, operator, operator_line, code),
+        Expr::Named(name) => {
+            let sense = known.sense(*name);
+            put_stored_alone(code, sense, operator, operator_line, name.pos.line)
+        }
+        Expr::Element { name, .. } => {
+            let sense = known.sense(*name);
+            put_stored_at(code, sense, operator, operator_line, name.pos.line)
+        }
+        _ => Ok(()),
+    }
+}
+
+/// `++` or `--` of a name.
+fn adjusted_alone(
+    sense: Sense,
+    operator: Kind,
+    operator_line: usize,
+    line: usize,
+    is_before: bool,
+) -> Instr
+    ensures { result ≡ spec.adjust_alone sense operator operator_line line is_before }
+{
+    match sense {
+        Sense::Varies(variable) => Instr::Adjust {
+            variable,
+            operator,
+            operator_line,
+            line,
+            is_before,
+        },
+        Sense::Stands(_) => Instr::Push(0),
+    }
+}
+
+/// The same of an element.
+fn adjusted_at(
+    sense: Sense,
+    operator: Kind,
+    operator_line: usize,
+    line: usize,
+    is_before: bool,
+) -> Instr
+    ensures { result ≡ spec.adjust_at sense operator operator_line line is_before }
+{
+    match sense {
+        Sense::Varies(variable) => Instr::AdjustAt {
+            variable,
+            operator,
+            operator_line,
+            line,
+            is_before,
+        },
+        Sense::Stands(_) => Instr::Push(0),
+    }
+}
+
+/// The instruction of `++` or `--` at a target, after its subscript.
+pub fn adjusted<'a>(
+    target: &Expr<'a>,
+    known: &Known<'_, 'a>,
+    operator: Kind,
+    operator_line: usize,
+    is_before: bool,
+) -> Instr
+    ensures { result ≡ spec.adjust_code (here_of known.now) operator operator_line is_before
+        (view target.now) }
+{
+    match target {
+        Expr::Parenthesized(inner) => adjusted(inner, known, operator, operator_line, is_before),
+        Expr::Named(name) => {
+            let sense = known.sense(*name);
+            adjusted_alone(sense, operator, operator_line, name.pos.line, is_before)
+        }
+        Expr::Element { name, .. } => {
+            let sense = known.sense(*name);
+            adjusted_at(sense, operator, operator_line, name.pos.line, is_before)
+        }
+        _ => Instr::Push(0),
+    }
+}
+
+/// `pvPut` of a name by its link.
+fn put_alone(sense: Sense, link: usize) -> Instr
+    ensures { result ≡ spec.put_alone sense link }
+{
+    match sense {
+        Sense::Varies(variable) => Instr::Put { variable, link },
+        Sense::Stands(_) => Instr::Push(0),
+    }
+}
+
+/// The same of an element.
+fn put_element(sense: Sense) -> Instr
+    ensures { result ≡ spec.put_element sense }
+{
+    match sense {
+        Sense::Varies(variable) => Instr::Get(variable),
+        Sense::Stands(_) => Instr::Push(0),
+    }
+}
+
+/// The instruction of `pvPut` at a target, after its subscript.
+pub fn put_instr<'a>(target: &Expr<'a>, known: &Known<'_, 'a>) -> Instr
+    ensures { result ≡ spec.put_instr (here_of known.now) (view target.now) }
+{
+    match target {
+        Expr::Parenthesized(inner) => put_instr(inner, known),
+        Expr::Named(name) => put_alone(known.sense(*name), known.link(*name)),
+        Expr::Element { name, .. } => put_element(known.sense(*name)),
+        _ => Instr::Push(0),
+    }
+}

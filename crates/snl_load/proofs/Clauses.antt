@@ -1,0 +1,85 @@
+-- The clauses of a program, run by their plans.
+use Rattle.std.proofs.Common.{◌≡◌, ◌∙◌, ◌≤◌, ◌+◌, ℕ, zero, suc, List, [], ◌∷◌, Option, None, Some, refl, ap, subst, arith, map, slice_get, option_map, option_and_then, unwrap_or}
+use Rattle.snl_syntax.specs.Programs.{ClauseTree, ProgramTree}
+use Rattle.snl_code.specs.declared.starts.Piece.{Piece}
+use Rattle.snl_code.specs.declared.starts.Piece.TheVariants.{Condition, Block}
+use Rattle.snl_code.specs.Depths.{program_depth}
+use Rattle.snl_code.specs.Heres.{here_in}
+use Rattle.snl_code.specs.Pieces.{IsPlaced, PieceTree, Test, Action, piece_of, clause_at}
+use Rattle.snl_code.specs.Starts.{ProgramTable, start_in}
+use Rattle.snl_code.proofs.Deepest.{depth_is_enough}
+use Rattle.snl_meaning.specs.declared.instrs.Instr.{Instr}
+use Rattle.snl_meaning.specs.Effect.{held_by, block_effect}
+use Rattle.snl_meaning.specs.Ran.{then_do}
+use Rattle.snl_meaning.specs.Endings.{IsOver}
+use Rattle.snl_meaning.specs.Run.{PieceContext, context_of, run_of}
+use Rattle.snl_meaning.specs.World.{World}
+use Rattle.snl_vm.specs.Running.{left_at}
+use Rattle.snl_schedule.specs.declared.plans.ClausePlan.{ClausePlan}
+use Rattle.snl_schedule.specs.Plans.{clause_of, held_at, CanTest, CanRun, CanRunAll}
+use Rattle.snl_load.specs.Meaning.{clause_meaning, left_for}
+use Rattle.snl_load.specs.Plans.{clause_plan, clause_plans}
+use Rattle.snl_load.proofs.Pieces.{condition-means, block-means}
+
+module _ (p : ProgramTree) (code : List Instr) (t : ProgramTable) (room set : ℕ) (placed : (name : Piece) → IsPlaced p code (piece_of p name) (start_in t name))
+    (enough : program_depth p ≤ room) (state : ℕ) where
+  abbrev pub context : PieceContext
+  context = context_of (here_in p set) room
+
+  -- the condition of a clause
+  condition : (k : ℕ) (c : ClauseTree) → clause_at p set state k ≡ Some c →
+      ((w : World) → held_at context code (start_in t (Condition set state k)) w ≡ held_by (here_in p set) c.condition w) × CanTest context code (start_in t (Condition set state k))
+  condition k c at =
+      let name = Condition set state k in
+      let is : piece_of p name ≡ option_map (Test set) c.condition = ap (option_and_then (λ d. option_map (Test set) d.condition)) at in
+      condition-means p code room set c.condition (start_in t name) (subst (λ (o : Option PieceTree). IsPlaced p code o (start_in t name)) is (placed name))
+      (λ x there. omega (arith, enough, depth_is_enough p name (Test set x) (is ∙ ap (option_map (Test set)) there)))
+
+  -- the block of a clause
+  block : (k : ℕ) (c : ClauseTree) → clause_at p set state k ≡ Some c → let start = unwrap_or (start_in t (Block set state k)) 0 in
+      ((w : World) → left_at context code start w ≡ then_do (block_effect (here_in p set) c.block w) left_for) × ((w : World) → IsOver (run_of context code start w))
+  block k c at =
+      let name = Block set state k in by (start_in t name) (subst (λ (o : Option PieceTree). IsPlaced p code o (start_in t name)) is (placed name))
+    where
+      is : piece_of p (Block set state k) ≡ Some (Action set c.block)
+      is = ap (option_map (λ d. Action set d.block)) at
+
+      by : (start : Option ℕ) → IsPlaced p code (Some (Action set c.block)) start →
+          ((w : World) → left_at context code (unwrap_or start 0) w ≡ then_do (block_effect (here_in p set) c.block w) left_for)
+          × ((w : World) → IsOver (run_of context code (unwrap_or start 0) w))
+      by None there = absurd there
+      by (Some start) there = block-means p code room set c.block start there (omega (arith, enough, depth_is_enough p (Block set state k) (Action set c.block) is))
+
+  -- a clause means what its plan runs
+  clause-means : (k : ℕ) (c : ClauseTree) → clause_at p set state k ≡ Some c → clause_of context code (clause_plan (here_in p set).states t set state k c) ≡ clause_meaning (here_in p set) c
+  clause-means k c at =
+      let tests = (condition k c at).0 in
+      let acts = (block k c at).0 in
+      let m = clause_meaning (here_in p set) c in
+      λ j. record { holds = λ w. tests w j; acts = λ w. acts w j; target = m.target; line = m.line }
+
+  -- and it can run
+  clause-runs : (k : ℕ) (c : ClauseTree) → clause_at p set state k ≡ Some c → CanRun context code (clause_plan (here_in p set).states t set state k c)
+  clause-runs k c at = record { condition = (condition k c at).1; block = (block k c at).1 }
+
+  -- clauses that stand in the state from a number on
+  abbrev pub StandFrom : ℕ → List ClauseTree → Type 0
+  StandFrom k cs = (j n : ℕ) (c : ClauseTree) → n ≡ k + j → slice_get cs j ≡ Some c → clause_at p set state n ≡ Some c
+
+  -- those behind the first
+  next : (k : ℕ) (c : ClauseTree) (cs : List ClauseTree) → StandFrom k (c ∷ cs) → StandFrom (k + 1) cs
+  next k c cs stand j n d is there = stand (suc j) n d (omega (arith, is)) there
+
+  -- clauses mean what their plans run
+  pub clauses-mean : (k : ℕ) (cs : List ClauseTree) → StandFrom k cs →
+      map (clause_of context code) (clause_plans (here_in p set).states t set state k cs) ≡ map (clause_meaning (here_in p set)) cs
+  clauses-mean k [] stand = refl
+  clauses-mean k (c ∷ cs) stand = λ j. clause-means k c (stand 0 k c (omega arith) refl) j ∷ clauses-mean (k + 1) cs (next k c cs stand) j
+
+  -- and they can run
+  pub clauses-run : (k : ℕ) (cs : List ClauseTree) → StandFrom k cs → CanRunAll context code (clause_plans (here_in p set).states t set state k cs)
+  clauses-run k [] stand i c there = absurd (cc)
+  clauses-run k (d ∷ cs) stand zero c there =
+      let is : clause_plan (here_in p set).states t set state k d ≡ c = cc in
+      subst (λ (x : ClausePlan). CanRun context code x) is (clause-runs k d (stand 0 k d (omega arith) refl))
+  clauses-run k (d ∷ cs) stand (suc i) c there = clauses-run (k + 1) cs (next k d cs stand) i c there

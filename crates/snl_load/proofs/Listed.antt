@@ -1,0 +1,22 @@
+-- The values of a list in braces, and what elements begin with.
+use Rattle.std.proofs.Common.{◌≡◌, ◌∙◌, ◌+◌, ◌-◌, ◌<◌, sym, ap, arith, ℕ, suc, ℤ, Bool, List, [], ◌∷◌, ◌++◌, append_assoc}
+use Rattle.snl_syntax.specs.Expressions.{ExprTree}
+use Rattle.snl_syntax.specs.view.Declarations.{value_list}
+use Rattle.snl_resolve.specs.Types.{listed_values}
+use Rattle.snl_resolve.specs.Variables.{Held}
+use Rattle.snl_emit.proofs.EntryCode as code
+use Rattle.snl_load.specs.Initials.{first_element, first_elements}
+
+-- they are those that are written
+pub values_listed : (es : List ExprTree) (comma : Bool) → listed_values (value_list es comma) ≡ es
+values_listed = code.values_listed
+
+-- one element more was added
+pub elements-more : (v : Held) (from n : ℕ) (words : List ℤ) (i : ℕ) → i < n →
+    (words ++ first_element v (from + i) ∷ []) ++ first_elements v (from + (i + 1)) (n - (i + 1)) ≡ words ++ first_elements v (from + i) (n - i)
+elements-more v from n words i less =
+    let left : n - i ≡ suc (n - (i + 1)) = omega (arith, less) in
+    let later : from + (i + 1) ≡ from + i + 1 = omega arith in
+    append_assoc words (first_element v (from + i) ∷ []) (first_elements v (from + (i + 1)) (n - (i + 1)))
+    ∙ ap (λ k. words ++ first_element v (from + i) ∷ first_elements v k (n - (i + 1))) later
+    ∙ sym (ap (λ m. words ++ first_elements v (from + i) m) left)

@@ -1,0 +1,117 @@
+-- The state sets of a program, run by their plans.
+use Rattle.std.proofs.Common.{◌≡◌, ◌∙◌, ◌≤◌, ◌+◌, ℕ, zero, suc, List, [], ◌∷◌, Option, Some, refl, ap, sym, subst, arith, map, slice_get, option_and_then}
+use Rattle.snl_syntax.specs.Programs.{StateTree, StateSetTree, ProgramTree}
+use Rattle.snl_code.specs.declared.code.Code.{Code}
+use Rattle.snl_code.specs.declared.starts.Piece.{Piece}
+use Rattle.snl_code.specs.Depths.{program_depth}
+use Rattle.snl_code.specs.Heres.{here_in, name_by, states_by}
+use Rattle.snl_code.specs.Pieces.{IsPlaced, piece_of, state_at}
+use Rattle.snl_code.specs.Starts.{table_of, start_in}
+use Rattle.snl_links.specs.Links.{Link}
+use Rattle.snl_meaning.specs.declared.instrs.Instr.{Instr}
+use Rattle.snl_meaning.specs.Names.{formats_of}
+use Rattle.snl_meaning.specs.Run.{PieceContext, context_of}
+use Rattle.snl_schedule.specs.declared.plans.SetPlan.{SetPlan}
+use Rattle.snl_schedule.specs.Plans.{set_of, state_of, CanRunSet}
+use Rattle.snl_schedule.specs.Loaded.{Loaded, context_in, sets_from}
+use Rattle.snl_load.specs.Meaning.{state_meaning, set_meaning, set_meanings}
+use Rattle.snl_load.specs.Plans.{PlainPlan, PlainSet, set_view, state_view, state_plans, set_plan, set_plans}
+use Rattle.snl_load.specs.Right.{IsLoadedOf, PlansAreRight}
+use Rattle.snl_load.proofs.Sets.{states-mean, states-run}
+
+module _ (p : ProgramTree) (ls : List Link) (c : Code) (t : Loaded) (is : IsLoadedOf p ls c t) where
+  -- the code that runs has the pieces
+  pieces : (name : Piece) → IsPlaced p t.code (piece_of p name) (start_in (table_of c) name)
+  pieces name = subst (λ (code : List Instr). IsPlaced p code (piece_of p name) (start_in (table_of c) name)) (sym is.code) (is.code_is.placed name)
+
+  -- there is room for all of them
+  enough : program_depth p ≤ t.room
+  enough = omega (arith, is.room, is.counted, is.code_is.depth)
+
+  -- the code of a state set runs with what is known of it
+  contexts : (k : ℕ) (g : StateSetTree) (plan : SetPlan) → slice_get p.state_sets k ≡ Some g → set_view plan ≡ set_plan p ls (table_of c) k g →
+      context_in t k plan ≡ context_of (here_in p k) t.room
+  contexts k g plan at one =
+      let names : plan.name.items ≡ name_by (slice_get p.state_sets k) = ap (λ (v : PlainSet). v.name) one ∙ sym (ap name_by at) in
+      let texts : t.formats ≡ formats_of (here_in p k) = is.formats ∙ is.code_is.texts in
+      λ j. record { set = k; name = names j; formats = texts j; room = t.room }
+
+  -- the states of a state set stand in it
+  stands : (k : ℕ) (g : StateSetTree) → slice_get p.state_sets k ≡ Some g → (j n : ℕ) (s : StateTree) → n ≡ 0 + j → slice_get g.states j ≡ Some s → state_at p k n ≡ Some s
+  stands k g at j n s same there =
+      let same' : n ≡ j = omega (arith, same) in
+      ap (λ (i : ℕ). state_at p k i) same' ∙ ap (option_and_then (λ h. slice_get h.states j)) at ∙ there
+
+  -- its states are planned with the names that the code knows
+  states-planned : (k : ℕ) (g : StateSetTree) (plan : SetPlan) → slice_get p.state_sets k ≡ Some g → set_view plan ≡ set_plan p ls (table_of c) k g →
+      map state_view plan.states.items ≡ state_plans (here_in p k).states (table_of c) k 0 g.states
+  states-planned k g plan at one =
+      ap (λ (v : PlainSet). v.states) one ∙ ap (λ (o : Option StateSetTree). state_plans (states_by o) (table_of c) k 0 g.states) (sym at)
+
+  -- a state set means what its plan runs
+  set-means : (k : ℕ) (g : StateSetTree) (plan : SetPlan) → slice_get p.state_sets k ≡ Some g → set_view plan ≡ set_plan p ls (table_of c) k g →
+      set_of (context_in t k plan) t.code plan ≡ set_meaning p ls k g
+  set-means k g plan at one =
+      let names = ap (λ (v : PlainSet). v.name) one in
+      let feeds = ap (λ (v : PlainSet). v.feeds) one in
+      let states : map (state_of (context_in t k plan) t.code) plan.states.items ≡ map (state_meaning (here_in p k)) g.states =
+      ap (λ (s : PieceContext). map (state_of s t.code) plan.states.items) (contexts k g plan at one)
+      ∙ states-mean p t.code (table_of c) t.room k pieces enough 0 g.states plan.states.items (stands k g at) (states-planned k g plan at one)
+      in λ j. record { set = k; name = names j; states = states j; feeds = feeds j }
+
+  -- and it can run
+  set-runs : (k : ℕ) (g : StateSetTree) (plan : SetPlan) → slice_get p.state_sets k ≡ Some g → set_view plan ≡ set_plan p ls (table_of c) k g →
+      CanRunSet (context_in t k plan) t.code plan.states.items
+  set-runs k g plan at one =
+      subst (λ (s : PieceContext). CanRunSet s t.code plan.states.items) (sym (contexts k g plan at one))
+      (states-run p t.code (table_of c) t.room k pieces enough 0 g.states plan.states.items (stands k g at) (states-planned k g plan at one))
+
+  -- state sets that stand in the program from a number on
+  abbrev pub StandFrom : ℕ → List StateSetTree → Type 0
+  StandFrom k gs = (j n : ℕ) (g : StateSetTree) → n ≡ k + j → slice_get gs j ≡ Some g → slice_get p.state_sets n ≡ Some g
+
+  -- those behind the first
+  next : (k : ℕ) (g : StateSetTree) (gs : List StateSetTree) → StandFrom k (g ∷ gs) → StandFrom (k + 1) gs
+  next k g gs stand j n d same there = stand (suc j) n d (omega (arith, same)) there
+
+  -- state sets mean what their plans run
+  sets-mean : (k : ℕ) (gs : List StateSetTree) (plans : List SetPlan) → StandFrom k gs → map set_view plans ≡ set_plans p ls (table_of c) k gs →
+      sets_from t k plans ≡ set_meanings p ls k gs
+  sets-mean k [] [] stand same = refl
+  sets-mean k [] (plan ∷ plans) stand same = absurd (cc)
+  sets-mean k (g ∷ gs) [] stand same = absurd (cc)
+  sets-mean k (g ∷ gs) (plan ∷ plans) stand same =
+      let one : set_view plan ≡ set_plan p ls (table_of c) k g = cc in
+      let rest : map set_view plans ≡ set_plans p ls (table_of c) (k + 1) gs = cc in
+      λ j. set-means k g plan (stand 0 k g (omega arith) refl) one j ∷ sets-mean (k + 1) gs plans (next k g gs stand) rest j
+
+  -- and they can run
+  sets-run : (k : ℕ) (gs : List StateSetTree) (plans : List SetPlan) → StandFrom k gs → map set_view plans ≡ set_plans p ls (table_of c) k gs →
+      (i n : ℕ) (plan : SetPlan) → n ≡ k + i → slice_get plans i ≡ Some plan → CanRunSet (context_in t n plan) t.code plan.states.items
+  sets-run k gs [] stand same i n plan at there = absurd (cc)
+  sets-run k [] (first ∷ plans) stand same i n plan at there = absurd (cc)
+  sets-run k (g ∷ gs) (first ∷ plans) stand same zero n plan at there =
+      let this : first ≡ plan = cc in
+      let here : k ≡ n = omega (arith, at) in
+      let one : set_view first ≡ set_plan p ls (table_of c) k g = cc in
+      subst (λ (x : SetPlan). CanRunSet (context_in t n x) t.code x.states.items) this
+      (subst (λ (m : ℕ). CanRunSet (context_in t m first) t.code first.states.items) here (set-runs k g first (stand 0 k g (omega arith) refl) one))
+  sets-run k (g ∷ gs) (first ∷ plans) stand same (suc i) n plan at there =
+      let rest : map set_view plans ≡ set_plans p ls (table_of c) (k + 1) gs = cc in
+      sets-run (k + 1) gs plans (next k g gs stand) rest i n plan (omega (arith, at)) there
+
+-- all state sets stand in the program
+all-stand : (p : ProgramTree) (j n : ℕ) (g : StateSetTree) → n ≡ 0 + j → slice_get p.state_sets j ≡ Some g → slice_get p.state_sets n ≡ Some g
+all-stand p j n g is there = let same : n ≡ j = omega (arith, is) in ap (λ (i : ℕ). slice_get p.state_sets i) same ∙ there
+
+-- what a plan runs is what its program means
+pub plans_are_right : PlansAreRight
+plans_are_right p ls c t is =
+    let names = ap (λ (v : PlainPlan). v.name) is.plan in
+    let links = ap (λ (v : PlainPlan). v.links) is.plan in
+    let plans = ap (λ (v : PlainPlan). v.sets) is.plan in
+    let all = t.plan.sets.items in
+    let sets = sets-mean p ls c t is 0 p.state_sets all (all-stand p) plans in (
+      λ j. record { name = names j; links = links j; sets = sets j },
+      λ k s there. sets-run p ls c t is 0 p.state_sets all (all-stand p) plans k k s (omega arith) there,
+    )

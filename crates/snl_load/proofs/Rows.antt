@@ -1,0 +1,26 @@
+-- Rows that have one member for each state set.
+use Rattle.std.proofs.Common.{◌≡◌, ◌∙◌, ◌+◌, ◌<◌, ℕ, zero, suc, List, [], ◌∷◌, ◌++◌, refl, ap, sym, arith, append_assoc, drop, length, map}
+use Rattle.std.proofs.lemmas.List.{map-append}
+use Rattle.snl_syntax.specs.Programs.{StateSetTree}
+use Rattle.snl_load.specs.Places.{for_each_set}
+
+module _ {A B : Type 0} (view : B → A) (f : ℕ → A) where
+  -- what is left begins with the member of this state set
+  row-drop : (k : ℕ) (gs : List StateSetTree) (i : ℕ) → i < length gs → for_each_set f k (drop i gs) ≡ f k ∷ for_each_set f (k + 1) (drop (suc i) gs)
+  row-drop k [] i within = absurd (omega (arith, within))
+  row-drop k (g ∷ gs) zero within = refl
+  row-drop k (g ∷ gs) (suc i) within = row-drop k gs i (omega (arith, within))
+
+  -- one member more is there
+  pub row-more : (gs : List StateSetTree) (i : ℕ) (rows more : List B) (new : B) (all : List A) → i < length gs → more ≡ rows ++ new ∷ [] → view new ≡ f i →
+      map view rows ++ for_each_set f i (drop i gs) ≡ all → map view more ++ for_each_set f (i + 1) (drop (i + 1) gs) ≡ all
+  row-more gs i rows more new all within is this before =
+      let one_more : i + 1 ≡ suc i = omega arith in
+      let rest = for_each_set f (i + 1) (drop (i + 1) gs) in
+      ap (λ (l : List B). map view l ++ rest) is
+      ∙ ap (λ (l : List A). l ++ rest) (map-append view rows (new ∷ []))
+      ∙ append_assoc (map view rows) (view new ∷ []) rest
+      ∙ ap (λ (c : A). map view rows ++ c ∷ rest) this
+      ∙ ap (λ (n : ℕ). map view rows ++ f i ∷ for_each_set f (i + 1) (drop n gs)) one_more
+      ∙ sym (ap (λ (l : List A). map view rows ++ l) (row-drop i gs i within))
+      ∙ before

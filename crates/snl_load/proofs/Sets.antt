@@ -1,0 +1,74 @@
+-- The states of a state set, run by their plans.
+use Rattle.std.proofs.Common.{◌≡◌, ◌∙◌, ◌≤◌, ◌+◌, ℕ, zero, suc, List, [], ◌∷◌, Some, refl, ap, sym, subst, arith, map, slice_get, option_and_then}
+use Rattle.snl_syntax.specs.Programs.{ClauseTree, StateTree, ProgramTree}
+use Rattle.snl_code.specs.declared.starts.Piece.{Piece}
+use Rattle.snl_code.specs.Depths.{program_depth}
+use Rattle.snl_code.specs.Heres.{here_in}
+use Rattle.snl_code.specs.Pieces.{IsPlaced, piece_of, clause_at, state_at}
+use Rattle.snl_code.specs.Starts.{ProgramTable, start_in}
+use Rattle.snl_meaning.specs.declared.instrs.Instr.{Instr}
+use Rattle.snl_meaning.specs.Run.{PieceContext, context_of}
+use Rattle.snl_schedule.specs.declared.plans.ClausePlan.{ClausePlan}
+use Rattle.snl_schedule.specs.declared.plans.StatePlan.{StatePlan}
+use Rattle.snl_schedule.specs.Plans.{clause_of, state_of, CanRunAll, CanRunSet}
+use Rattle.snl_load.specs.Meaning.{state_meaning}
+use Rattle.snl_load.specs.Plans.{PlainState, state_view, state_plan, state_plans}
+use Rattle.snl_load.proofs.Clauses.{clauses-mean, clauses-run}
+
+module _ (p : ProgramTree) (code : List Instr) (t : ProgramTable) (room set : ℕ) (placed : (name : Piece) → IsPlaced p code (piece_of p name) (start_in t name))
+    (enough : program_depth p ≤ room) where
+  abbrev pub context : PieceContext
+  context = context_of (here_in p set) room
+
+  -- the clauses of a state stand in it
+  stands : (k : ℕ) (s : StateTree) → state_at p set k ≡ Some s → (j n : ℕ) (c : ClauseTree) → n ≡ 0 + j → slice_get s.clauses j ≡ Some c → clause_at p set k n ≡ Some c
+  stands k s at j n c is there =
+      let same : n ≡ j = omega (arith, is) in
+      ap (λ (i : ℕ). clause_at p set k i) same ∙ ap (option_and_then (λ d. slice_get d.clauses j)) at ∙ there
+
+  -- a state means what its plan runs
+  state-means : (k : ℕ) (s : StateTree) (plan : StatePlan) → state_at p set k ≡ Some s → state_view plan ≡ state_plan (here_in p set).states t set k s →
+      state_of context code plan ≡ state_meaning (here_in p set) s
+  state-means k s plan at is =
+      let names = ap (λ (v : PlainState). v.name) is in
+      let clauses = ap (λ (v : PlainState). map (clause_of context code) v.clauses) is ∙ clauses-mean p code t room set placed enough k 0 s.clauses (stands k s at) in
+      λ j. record { name = names j; clauses = clauses j }
+
+  -- and its clauses can run
+  state-runs : (k : ℕ) (s : StateTree) (plan : StatePlan) → state_at p set k ≡ Some s → state_view plan ≡ state_plan (here_in p set).states t set k s →
+      CanRunAll context code plan.clauses.items
+  state-runs k s plan at is =
+      subst (λ (cs : List ClausePlan). CanRunAll context code cs) (sym (ap (λ (v : PlainState). v.clauses) is))
+      (clauses-run p code t room set placed enough k 0 s.clauses (stands k s at))
+
+  -- states that stand in the state set from a number on
+  abbrev pub StandFrom : ℕ → List StateTree → Type 0
+  StandFrom k ss = (j n : ℕ) (s : StateTree) → n ≡ k + j → slice_get ss j ≡ Some s → state_at p set n ≡ Some s
+
+  -- those behind the first
+  next : (k : ℕ) (s : StateTree) (ss : List StateTree) → StandFrom k (s ∷ ss) → StandFrom (k + 1) ss
+  next k s ss stand j n d is there = stand (suc j) n d (omega (arith, is)) there
+
+  -- states mean what their plans run
+  pub states-mean : (k : ℕ) (ss : List StateTree) (plans : List StatePlan) → StandFrom k ss → map state_view plans ≡ state_plans (here_in p set).states t set k ss →
+      map (state_of context code) plans ≡ map (state_meaning (here_in p set)) ss
+  states-mean k [] [] stand is = refl
+  states-mean k [] (plan ∷ plans) stand is = absurd (cc)
+  states-mean k (s ∷ ss) [] stand is = absurd (cc)
+  states-mean k (s ∷ ss) (plan ∷ plans) stand is =
+      let one : state_view plan ≡ state_plan (here_in p set).states t set k s = cc in
+      let rest : map state_view plans ≡ state_plans (here_in p set).states t set (k + 1) ss = cc in
+      λ j. state-means k s plan (stand 0 k s (omega arith) refl) one j ∷ states-mean (k + 1) ss plans (next k s ss stand) rest j
+
+  -- and they can run
+  pub states-run : (k : ℕ) (ss : List StateTree) (plans : List StatePlan) → StandFrom k ss → map state_view plans ≡ state_plans (here_in p set).states t set k ss →
+      CanRunSet context code plans
+  states-run k ss [] stand is i plan there = absurd (cc)
+  states-run k [] (first ∷ plans) stand is i plan there = absurd (cc)
+  states-run k (s ∷ ss) (first ∷ plans) stand is zero plan there =
+      let same : first ≡ plan = cc in
+      let one : state_view first ≡ state_plan (here_in p set).states t set k s = cc in
+      subst (λ (x : StatePlan). CanRunAll context code x.clauses.items) same (state-runs k s first (stand 0 k s (omega arith) refl) one)
+  states-run k (s ∷ ss) (first ∷ plans) stand is (suc i) plan there =
+      let rest : map state_view plans ≡ state_plans (here_in p set).states t set (k + 1) ss = cc in
+      states-run (k + 1) ss plans (next k s ss stand) rest i plan there

@@ -1,0 +1,36 @@
+-- The world before the first event.
+use Rattle.std.specs.Prelude.{ℕ, false, List, Option, None, map, length, replicate}
+use Rattle.std.specs.List.{flat_map}
+use Rattle.snl_syntax.specs.Programs.{ProgramTree}
+use Rattle.snl_links.specs.Links.{Link}
+use Rattle.snl_meaning.specs.declared.live.Live.TheVariants.{Waiting}
+use Rattle.snl_meaning.specs.World.{SetMemory, World}
+use Rattle.snl_resolve.specs.Variables.{Held}
+use Rattle.snl_load.specs.Initials.{all_elements, first_buffer, held_sets}
+use Rattle.snl_load.specs.Places.{channels, link_plans}
+
+-- A copy whose variables are what they begin with, in the first state.
+abbrev pub first_copy : List Held → SetMemory
+first_copy vs = record { words = flat_map all_elements vs; state = 0; entered = 0 }
+
+-- What waits for its start, with these variables in its copies, channels, channels of links and links: no time has
+-- passed, variables and buffers are what they begin with, no channel is connected or valued, and nothing is marked.
+abbrev pub first_world : List (List Held) → List (List ℕ) → List (Option ℕ) → List Link → World
+first_world sets names ties ls = record {
+  time = 0;
+  phase = Waiting;
+  ticks = 0;
+  wake = None;
+  due = None;
+  copies = map first_copy sets;
+  channels = names;
+  ups = replicate (length names) false;
+  valued = replicate (length names) false;
+  ties = ties;
+  buffers = flat_map (first_buffer sets) ls;
+  marks = map (λ vs. replicate (length ls) false) sets;
+}
+
+-- A program that waits for its start.
+abbrev pub first_world_of : ProgramTree → List Link → World
+first_world_of p ls = first_world (held_sets p 0 p.state_sets) (channels ls) (map (λ l. l.channel) (link_plans p ls)) ls

@@ -1,0 +1,52 @@
+-- What a program means: its clauses by the meaning of their conditions and blocks on the tree.
+use Rattle.std.specs.Prelude.{ℕ, ◌+◌, List, [], ◌∷◌, map, Option, None, Some}
+use Rattle.snl_text.specs.declared.tokens.Token.{Token}
+use Rattle.snl_syntax.specs.Programs.{TargetTree, to_state, to_exit, ClauseTree, StateTree, StateSetTree, ProgramTree}
+use Rattle.snl_code.specs.Heres.{here_in}
+use Rattle.snl_links.specs.Links.{Link}
+use Rattle.snl_meaning.specs.Effect.{Way, Left, held_by, block_effect}
+use Rattle.snl_meaning.specs.Names.{Here, or_first}
+use Rattle.snl_resolve.specs.Numbered.{number_of}
+use Rattle.snl_meaning.specs.Ran.{Ran, Gives, then_do}
+use Rattle.snl_meaning.specs.World.{World}
+use Rattle.snl_schedule.specs.declared.plans.Destination.{Destination}
+use Rattle.snl_schedule.specs.declared.plans.Destination.TheVariants.{State, Exit}
+use Rattle.snl_schedule.specs.Instant.{Program}
+use Rattle.snl_schedule.specs.Turn as turn
+use Rattle.snl_load.specs.Places.{feeds_in, link_plans}
+
+-- The state that a block leaves for, if it does.
+abbrev pub left_for : Way → World → Ran (Option ℕ)
+left_for (Left state) w = Gives (Some state) w []
+left_for _ w = Gives None w []
+
+-- Where a clause leads, by the names of the states.
+abbrev pub target_of : List Token → TargetTree → Destination
+target_of states (to_state x) = State (or_first (number_of states x.text.now))
+target_of states to_exit = Exit
+
+-- A clause: its condition, its block, where it leads, the line of its word.
+abbrev pub clause_meaning : Here → ClauseTree → turn.Clause
+clause_meaning h c = record {
+  holds = held_by h c.condition;
+  acts = λ w. then_do (block_effect h c.block w) left_for;
+  target = target_of h.states c.target;
+  line = c.word.pos.line;
+}
+
+-- A state.
+abbrev pub state_meaning : Here → StateTree → turn.State
+state_meaning h s = record { name = s.name.text.now; clauses = map (clause_meaning h) s.clauses }
+
+-- A state set of this number.
+abbrev pub set_meaning : ProgramTree → List Link → ℕ → StateSetTree → turn.StateSet
+set_meaning p ls k g = record { set = k; name = g.name.text.now; states = map (state_meaning (here_in p k)) g.states; feeds = feeds_in p ls k }
+
+-- State sets with numbers from k on.
+abbrev pub set_meanings : ProgramTree → List Link → ℕ → List StateSetTree → List turn.StateSet
+set_meanings p ls k [] = []
+set_meanings p ls k (g ∷ gs) = set_meaning p ls k g ∷ set_meanings p ls (k + 1) gs
+
+-- A program with these links.
+abbrev pub program_meaning : ProgramTree → List Link → Program
+program_meaning p ls = record { name = p.name.text.now; links = link_plans p ls; sets = set_meanings p ls 0 p.state_sets }

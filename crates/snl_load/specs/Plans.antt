@@ -1,0 +1,89 @@
+-- What it means that a plan is that of a program, with its code.
+use Rattle.std.specs.Prelude.{◌+◌, ℕ, List, [], ◌∷◌, map, unwrap_or}
+use Rattle.snl_text.specs.declared.tokens.Token.{Token}
+use Rattle.snl_syntax.specs.Programs.{ClauseTree, StateTree, StateSetTree, ProgramTree}
+use Rattle.snl_code.specs.declared.starts.Piece.TheVariants.{Condition, Block}
+use Rattle.snl_code.specs.Starts.{ProgramTable, start_in}
+use Rattle.snl_links.specs.Links.{Link}
+use Rattle.snl_schedule.specs.declared.feeds.LinkFeed.{LinkFeed}
+use Rattle.snl_schedule.specs.declared.plans.ClausePlan.{ClausePlan}
+use Rattle.snl_schedule.specs.declared.plans.LinkPlan.{LinkPlan}
+use Rattle.snl_schedule.specs.declared.plans.Plan.{Plan}
+use Rattle.snl_schedule.specs.declared.plans.SetPlan.{SetPlan}
+use Rattle.snl_schedule.specs.declared.plans.StatePlan.{StatePlan}
+use Rattle.snl_load.specs.Meaning.{target_of}
+use Rattle.snl_load.specs.Places.{feeds_in, link_plans}
+
+-- ---- plans without their vectors
+
+-- A state.
+pub record PlainState : Type 0 where
+  pub name : List ℕ
+  pub clauses : List ClausePlan
+
+-- A state set.
+pub record PlainSet : Type 0 where
+  pub name : List ℕ
+  pub states : List PlainState
+  pub feeds : List LinkFeed
+
+-- A program.
+pub record PlainPlan : Type 0 where
+  pub name : List ℕ
+  pub links : List LinkPlan
+  pub sets : List PlainSet
+
+-- What stands for a state,
+abbrev pub state_view : StatePlan → PlainState
+state_view s = record { name = s.name.items; clauses = s.clauses.items }
+
+-- for a state set,
+abbrev pub set_view : SetPlan → PlainSet
+set_view s = record { name = s.name.items; states = map state_view s.states.items; feeds = s.feeds.items }
+
+-- and for a program.
+abbrev pub plan_view : Plan → PlainPlan
+plan_view p = record { name = p.name.items; links = p.links.items; sets = map set_view p.sets.items }
+
+-- ---- the plan of a program
+
+-- The clause of a number, in a state of a state set with these states: where its pieces begin in the code, its state and
+-- the line of its word.
+abbrev pub clause_plan : List Token → ProgramTable → ℕ → ℕ → ℕ → ClauseTree → ClausePlan
+clause_plan states t set state k c = record {
+  condition = start_in t (Condition set state k);
+  block = unwrap_or (start_in t (Block set state k)) 0;
+  target = target_of states c.target;
+  line = c.word.pos.line;
+}
+
+-- Clauses with numbers from k on.
+abbrev pub clause_plans : List Token → ProgramTable → ℕ → ℕ → ℕ → List ClauseTree → List ClausePlan
+clause_plans states t set state k [] = []
+clause_plans states t set state k (c ∷ cs) = clause_plan states t set state k c ∷ clause_plans states t set state (k + 1) cs
+
+-- The state of a number.
+abbrev pub state_plan : List Token → ProgramTable → ℕ → ℕ → StateTree → PlainState
+state_plan states t set state s = record { name = s.name.text.now; clauses = clause_plans states t set state 0 s.clauses }
+
+-- States with numbers from k on.
+abbrev pub state_plans : List Token → ProgramTable → ℕ → ℕ → List StateTree → List PlainState
+state_plans states t set k [] = []
+state_plans states t set k (s ∷ ss) = state_plan states t set k s ∷ state_plans states t set (k + 1) ss
+
+-- The names of the states of a state set.
+abbrev pub names_of : StateSetTree → List Token
+names_of g = map (λ s. s.name) g.states
+
+-- The state set of a number.
+abbrev pub set_plan : ProgramTree → List Link → ProgramTable → ℕ → StateSetTree → PlainSet
+set_plan p ls t k g = record { name = g.name.text.now; states = state_plans (names_of g) t k 0 g.states; feeds = feeds_in p ls k }
+
+-- State sets with numbers from k on.
+abbrev pub set_plans : ProgramTree → List Link → ProgramTable → ℕ → List StateSetTree → List PlainSet
+set_plans p ls t k [] = []
+set_plans p ls t k (g ∷ gs) = set_plan p ls t k g ∷ set_plans p ls t (k + 1) gs
+
+-- A program with these links, whose pieces begin so in its code.
+abbrev pub program_plan : ProgramTree → List Link → ProgramTable → PlainPlan
+program_plan p ls t = record { name = p.name.text.now; links = link_plans p ls; sets = set_plans p ls t 0 p.state_sets }

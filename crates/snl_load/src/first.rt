@@ -1,0 +1,109 @@
+//! The store of a program before the first event.
+
+ghost use Rattle.std.specs.Prelude.{◌≡◌, map, false, length, replicate, IfOk};
+ghost use Rattle.snl_syntax.specs.view.Programs.{program_view};
+ghost use Rattle.snl_links.specs.LinkViews.{link_view};
+ghost use Rattle.snl_vm.specs.Views.{copy_view, world_of};
+ghost use Rattle.snl_load.specs.First as spec;
+ghost use Rattle.snl_vm.specs.Marks as tables;
+ghost use Rattle.snl_load.specs.Initials.{held_sets};
+ghost use Rattle.snl_load.specs.Sets.{names_in, sets_of};
+
+use crate::initials::{self, first_buffers, first_words};
+use indexmap::IndexSet;
+use snl_links::Link;
+use snl_meaning::Live;
+use snl_resolve::Held;
+use snl_schedule::{LinkPlan, ties_of};
+use snl_syntax::Program;
+use snl_vm::{Marks, SetMemory, Store};
+use std::alloc::{AllocError, Global};
+
+/// The copies of all state sets.
+fn first_copies(alloc: Global, sets: &[Vec<Held>]) -> Result<Vec<SetMemory>, AllocError>
+    ensures { IfOk result (λ made. map copy_view made.items
+        ≡ map spec.first_copy (sets_of sets.now)) }
+{
+    let mut made = Vec::new(alloc);
+    for variables in sets {
+        let words = first_words(alloc, variables.as_slice())?;
+        made.push(SetMemory {
+            words,
+            state: 0,
+            entered: 0,
+        })?;
+    }
+    Ok(made)
+}
+
+/// The names of channels, by their numbers.
+fn names_of(alloc: Global, names: &IndexSet<Vec<u8>>) -> Result<Vec<Vec<u8>>, AllocError>
+    ensures { IfOk result (λ kept. map (λ name. name.items) kept.items ≡ names_in names.now) }
+{
+    let mut kept = Vec::new(alloc);
+    for name in names.as_slice() {
+        let copied = Vec::from_slice(alloc, name.as_slice())?;
+        kept.push(copied)?;
+    }
+    Ok(kept)
+}
+
+/// No link is marked for any state set.
+fn marks_of(alloc: Global, sets: &[Vec<Held>], links: usize) -> Result<Vec<Marks>, AllocError>
+    ensures { IfOk result (λ marks. map tables.marks_of marks.items
+        ≡ map (λ vs. replicate links false) (sets_of sets.now)) }
+{
+    let mut marks = Vec::new(alloc);
+    for _variables in sets {
+        let of_set = Marks::new(alloc, links)?;
+        marks.push(of_set)?;
+    }
+    Ok(marks)
+}
+
+/// The store of a program that waits for its start, by its links with their plans, the names of its channels and the
+/// variables of its copies. The only error is that memory ends.
+fn store_by(
+    alloc: Global,
+    sets: &[Vec<Held>],
+    links: &[Link],
+    plans: &[LinkPlan],
+    names: &IndexSet<Vec<u8>>,
+) -> Result<Store, AllocError>
+    ensures { IfOk result (λ store. world_of store ≡ spec.first_world (sets_of sets.now)
+        (names_in names.now) (map (λ l. l.channel) plans.now) (map link_view links.now)) }
+{
+    Ok(Store {
+        time: 0,
+        phase: Live::Waiting,
+        ticks: 0,
+        wake: None,
+        due: None,
+        copies: first_copies(alloc, sets)?,
+        channels: names_of(alloc, names)?,
+        ups: vec![in alloc; false; names.len()]?,
+        valued: vec![in alloc; false; names.len()]?,
+        ties: ties_of(alloc, plans)?,
+        buffers: first_buffers(alloc, sets, links)?,
+        marks: marks_of(alloc, sets, links.len())?,
+        awaited: 0,
+    })
+}
+
+/// The store of a program that waits for its start, by its links with their plans and the names of its channels. The
+/// only error is that memory ends.
+pub fn store_of<'a>(
+    alloc: Global,
+    program: &Program<'a>,
+    links: &[Link],
+    plans: &[LinkPlan],
+    names: &IndexSet<Vec<u8>>,
+) -> Result<Store, AllocError>
+    ensures { IfOk result (λ store. world_of store
+        ≡ spec.first_world (held_sets (program_view program.now) 0
+        (program_view program.now).state_sets) (names_in names.now) (map (λ l. l.channel) plans.now)
+        (map link_view links.now)) }
+{
+    let sets = initials::held_sets(alloc, program)?;
+    store_by(alloc, sets.as_slice(), links, plans, names)
+}

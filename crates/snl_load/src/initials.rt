@@ -1,0 +1,162 @@
+//! What variables, and the buffers of their links, begin with.
+
+ghost use Rattle.std.specs.Prelude.{◌≡◌, ◌++◌, ◌+◌, map, option_map, slice_get, OnOk, IfOk};
+ghost use Rattle.std.specs.List.{flat_map};
+ghost use Rattle.snl_links.specs.LinkViews.{link_view};
+ghost use Rattle.snl_meaning.specs.Effect.{values_of};
+ghost use Rattle.snl_resolve.specs.Constants.{constant_of};
+ghost use Rattle.snl_resolve.specs.Held.{held_view};
+ghost use Rattle.snl_resolve.specs.Scopes.{is_hidden};
+ghost use Rattle.snl_syntax.specs.view.Declarations.{initialiser_view};
+ghost use Rattle.snl_syntax.specs.view.Expressions.{boxed, view};
+ghost use Rattle.snl_syntax.specs.view.Programs.{program_view};
+ghost use Rattle.snl_syntax.specs.view.Shown.{shown};
+ghost use Rattle.snl_load.specs.Initials as spec;
+ghost use Rattle.snl_load.specs.Sets.{sets_of};
+
+use snl_links::Link;
+use snl_resolve::{Constant, Held, Scopes, constant_of, variables_of};
+use snl_syntax::{Expr, Initialiser, Program};
+use std::alloc::{AllocError, Global};
+
+/// What a constant is worth in a range of numbers, and 0 where it has no place there.
+fn worth_in(range: (i64, i64), constant: Constant) -> i64
+    ensures { result ≡ spec.worth_in range constant }
+{
+    match constant {
+        Constant::Worth(number) if range.0 <= number && number <= range.1 => number,
+        _ => 0,
+    }
+}
+
+/// The value in a list that stands so many values after another one, if it is there.
+fn listed<'p, 'a>(each: &'p [Box<Expr<'a>>], from: usize, more: usize) -> Option<&'p Expr<'a>>
+    ensures { option_map (λ e. view e.now) result ≡ slice_get (map boxed each.now) (from + more) }
+{
+    if each.len() <= from || each.len() - from <= more {
+        return None;
+    }
+    Some(&*each[from + more])
+}
+
+/// The value that is written for the element that stands so many elements after another one, if one is written.
+#[tactic(auto, using(crate::proofs::Listed::values_listed))]
+fn value_for<'p, 'a>(
+    initial: &'p Option<Initialiser<'a>>,
+    from: usize,
+    more: usize,
+) -> Option<&'p Expr<'a>>
+    ensures { option_map (λ e. view e.now) result
+        ≡ slice_get (values_of (shown initialiser_view initial.now)) (from + more) }
+{
+    match initial {
+        None => None,
+        Some(Initialiser::Single(value)) => {
+            if from == 0 && more == 0 {
+                Some(value)
+            } else {
+                None
+            }
+        }
+        Some(Initialiser::List(values)) => listed(values.each.as_slice(), from, more),
+    }
+}
+
+/// What the element begins with that stands so many elements after another one.
+fn first_element(held: &Held, from: usize, more: usize) -> i64
+    ensures { result ≡ spec.first_element (held_view held.now) (from + more) }
+{
+    match value_for(held.initial, from, more) {
+        Some(value) => worth_in(held.range, constant_of(value, &Scopes::Outside)),
+        None => 0,
+    }
+}
+
+/// Adds what so many elements of a variable begin with, from one on.
+fn push_elements(
+    held: &Held,
+    from: usize,
+    count: usize,
+    words: &mut Vec<i64>,
+) -> Result<(), AllocError>
+    ensures { OnOk result (words.new.items
+        ≡ words.old.items ++ spec.first_elements (held_view held.now) from count) }
+{
+    for more in 0..count {
+        words.push(first_element(held, from, more))?;
+    }
+    Ok(())
+}
+
+/// What the variables of a copy begin with, one variable after another. The only error is that memory ends.
+pub fn first_words(alloc: Global, variables: &[Held]) -> Result<Vec<i64>, AllocError>
+    ensures { IfOk result (λ words. words.items
+        ≡ flat_map spec.all_elements (map held_view variables.now)) }
+{
+    let mut words = Vec::new(alloc);
+    for number in 0..variables.len() {
+        let held = &variables[number];
+        push_elements(held, 0, held.size.elements(), &mut words)?;
+    }
+    Ok(words)
+}
+
+/// The variable that is declared at an offset, among those of a copy.
+fn held_in<'p, 'a>(variables: &[Held<'p, 'a>], offset: usize) -> Option<Held<'p, 'a>>
+    ensures { option_map held_view result ≡ spec.held_in (map held_view variables.now) offset }
+{
+    for number in 0..variables.len() {
+        let held = variables[number];
+        if held.name.pos.offset == offset {
+            return Some(held);
+        }
+    }
+    None
+}
+
+/// The same, in the first copy that has it.
+fn held_among<'p, 'a>(sets: &[Vec<Held<'p, 'a>>], offset: usize) -> Option<Held<'p, 'a>>
+    ensures { option_map held_view result ≡ spec.held_among (sets_of sets.now) offset }
+{
+    for variables in sets {
+        if let Some(held) = held_in(variables.as_slice(), offset) {
+            return Some(held);
+        }
+    }
+    None
+}
+
+/// What the buffers of links of these copies' variables begin with, one buffer after another. The only error is that
+/// memory ends.
+pub fn first_buffers(
+    alloc: Global,
+    sets: &[Vec<Held>],
+    links: &[Link],
+) -> Result<Vec<i64>, AllocError>
+    ensures { IfOk result (λ words. words.items
+        ≡ flat_map (spec.first_buffer (sets_of sets.now)) (map link_view links.now)) }
+{
+    let mut words = Vec::new(alloc);
+    for link in links {
+        if let Some(held) = held_among(sets, link.variable.offset) {
+            push_elements(&held, link.first, link.count, &mut words)?;
+        }
+    }
+    Ok(words)
+}
+
+/// The variables of the copies of all state sets. The only error is that memory ends.
+pub fn held_sets<'p, 'a>(
+    alloc: Global,
+    program: &'p Program<'a>,
+) -> Result<Vec<Vec<Held<'p, 'a>>>, AllocError>
+    ensures { IfOk result (λ sets. sets_of sets.items
+        ≡ spec.held_sets (program_view program.now) 0 (program_view program.now).state_sets) }
+{
+    let mut sets = Vec::new(alloc);
+    for (set, _) in program.state_sets.iter().enumerate() {
+        let variables = variables_of(alloc, program, set)?;
+        sets.push(variables)?;
+    }
+    Ok(sets)
+}

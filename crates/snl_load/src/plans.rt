@@ -1,0 +1,207 @@
+//! The plan of a program.
+
+ghost use Rattle.std.specs.Prelude.{◌≡◌, ◌+◌, map, slice_get, IfOk};
+ghost use Rattle.snl_syntax.specs.view.Programs.{clause_view, program_view, state_view, state_set_view};
+ghost use Rattle.snl_syntax.specs.view.Programs as view;
+ghost use Rattle.snl_code.specs.Heres.{here_in};
+ghost use Rattle.snl_code.specs.Starts.{table_of};
+ghost use Rattle.snl_links.specs.LinkViews.{link_view};
+ghost use Rattle.snl_resolve.specs.Numbered.{number_of};
+ghost use Rattle.snl_load.specs.Meaning as meaning;
+ghost use Rattle.snl_load.specs.Places.{channels, placed_sets};
+ghost use Rattle.snl_load.specs.Plans as spec;
+ghost use Rattle.snl_load.specs.Sets.{copies_of, names_in};
+
+use crate::links::{feeds_of, link_plans};
+use indexmap::IndexSet;
+use snl_code::{Code, Piece, names_in, placed_of};
+use snl_links::Link;
+use snl_meaning::{Placed, number_in};
+use snl_schedule::{ClausePlan, Destination, Plan, SetPlan, StatePlan};
+use snl_syntax::{self as syntax, Clause, Program, State, StateSet};
+use snl_text::Token;
+use std::alloc::{AllocError, Global};
+
+/// Where a clause leads, by the names of the states.
+fn target_of(target: syntax::Target, states: &[Token]) -> Destination
+    ensures { result ≡ meaning.target_of states.now (view.target_view target.entry) }
+{
+    match target {
+        syntax::Target::State(name) => Destination::State(number_in(states, name.text).unwrap_or(
+            0,
+        )),
+        syntax::Target::Exit => Destination::Exit,
+    }
+}
+
+/// Which clause is meant: by the number of its state set, of its state there, and its own.
+#[derive(Clone, Copy)]
+struct Which {
+    set: usize,
+    state: usize,
+    clause: usize,
+}
+
+/// The plan of a clause.
+fn clause_plan(clause: &Clause, which: Which, states: &[Token], code: &Code) -> ClausePlan
+    ensures { result ≡ spec.clause_plan states.now (table_of code.now) which.set which.state
+        which.clause (clause_view clause.now) }
+{
+    let Which {
+        set,
+        state,
+        clause: number,
+    } = which;
+    ClausePlan {
+        condition: code.start(Piece::Condition {
+            set,
+            state,
+            clause: number,
+        }),
+        block: code
+            .start(Piece::Block {
+                set,
+                state,
+                clause: number,
+            })
+            .unwrap_or(0),
+        target: target_of(clause.target, states),
+        line: clause.word.pos.line,
+    }
+}
+
+/// The plans of the clauses of a state.
+fn clause_plans(
+    alloc: Global,
+    clauses: &[Clause],
+    set: usize,
+    state: usize,
+    states: &[Token],
+    code: &Code,
+) -> Result<Vec<ClausePlan>, AllocError>
+    ensures { IfOk result (λ plans. plans.items ≡ spec.clause_plans states.now (table_of code.now)
+        set state 0 (map clause_view clauses.now)) }
+{
+    let mut plans = Vec::new(alloc);
+    for (clause, one) in clauses.iter().enumerate() {
+        plans.push(clause_plan(one, Which { set, state, clause }, states, code))?;
+    }
+    Ok(plans)
+}
+
+/// The plan of a state.
+fn state_plan(
+    alloc: Global,
+    state: &State,
+    set: usize,
+    number: usize,
+    states: &[Token],
+    code: &Code,
+) -> Result<StatePlan, AllocError>
+    ensures { IfOk result (λ plan. spec.state_view plan ≡ spec.state_plan states.now
+        (table_of code.now) set number (state_view state.now)) }
+{
+    let name = Vec::from_slice(alloc, state.name.text)?;
+    let clauses = clause_plans(alloc, state.clauses.as_slice(), set, number, states, code)?;
+    Ok(StatePlan { name, clauses })
+}
+
+/// The plans of the states of a state set.
+fn state_plans(
+    alloc: Global,
+    states: &[State],
+    set: usize,
+    names: &[Token],
+    code: &Code,
+) -> Result<Vec<StatePlan>, AllocError>
+    ensures { IfOk result (λ plans. map spec.state_view plans.items ≡ spec.state_plans names.now
+        (table_of code.now) set 0 (map state_view states.now)) }
+{
+    let mut plans = Vec::new(alloc);
+    for (number, state) in states.iter().enumerate() {
+        let plan = state_plan(alloc, state, set, number, names, code)?;
+        plans.push(plan)?;
+    }
+    Ok(plans)
+}
+
+/// The plan of the states of a state set.
+fn states_of<'a>(
+    alloc: Global,
+    set: &StateSet<'a>,
+    number: usize,
+    code: &Code,
+) -> Result<Vec<StatePlan>, AllocError>
+    ensures { IfOk result (λ plans. map spec.state_view plans.items
+        ≡ spec.state_plans (spec.names_of (state_set_view set.now)) (table_of code.now) number 0
+        (state_set_view set.now).states) }
+{
+    let states = set.states.as_slice();
+    let names = names_in(alloc, set)?;
+    state_plans(alloc, states, number, names.as_slice(), code)
+}
+
+/// The plan of a state set.
+fn set_plan<'a>(
+    alloc: Global,
+    program: &Program<'a>,
+    set: &StateSet<'a>,
+    number: usize,
+    code: &Code,
+    links: &[Link],
+) -> Result<SetPlan, AllocError>
+    ensures { IfOk result (λ plan. spec.set_view plan ≡ spec.set_plan (program_view program.now)
+        (map link_view links.now) (table_of code.now) number (state_set_view set.now)) }
+{
+    let name = Vec::from_slice(alloc, set.name.text)?;
+    let states = states_of(alloc, set, number, code)?;
+    let places = placed_of(alloc, program, number)?;
+    let feeds = feeds_of(alloc, places.as_slice(), links)?;
+    Ok(SetPlan {
+        name,
+        states,
+        feeds,
+    })
+}
+
+/// The plans of all state sets.
+fn set_plans<'a>(
+    alloc: Global,
+    program: &Program<'a>,
+    sets: &[StateSet<'a>],
+    code: &Code,
+    links: &[Link],
+) -> Result<Vec<SetPlan>, AllocError>
+    ensures { IfOk result (λ plans. map spec.set_view plans.items ≡ spec.set_plans
+        (program_view program.now) (map link_view links.now) (table_of code.now) 0
+        (map state_set_view sets.now)) }
+{
+    let mut plans = Vec::new(alloc);
+    for (number, set) in sets.iter().enumerate() {
+        let plan = set_plan(alloc, program, set, number, code, links)?;
+        plans.push(plan)?;
+    }
+    Ok(plans)
+}
+
+/// The plan of a program whose code and links are given, with the names of its channels and the variables of its copies.
+/// The only error is that memory ends.
+pub fn plan_of<'a>(
+    alloc: Global,
+    program: &Program<'a>,
+    code: &Code,
+    links: &[Link],
+    names: &IndexSet<Vec<u8>>,
+    copies: &[Vec<Placed>],
+) -> Result<Plan, AllocError>
+    requires names { names_in names.now ≡ channels (map link_view links.now) }
+    requires copies { copies_of copies.now
+        ≡ placed_sets (program_view program.now) 0 (program_view program.now).state_sets }
+    ensures { IfOk result (λ plan. spec.plan_view plan ≡ spec.program_plan
+        (program_view program.now) (map link_view links.now) (table_of code.now)) }
+{
+    let name = Vec::from_slice(alloc, program.name.text)?;
+    let links_planned = link_plans(alloc, links, names, copies)?;
+    let sets = set_plans(alloc, program, program.state_sets.as_slice(), code, links)?;
+    Plan::new(alloc, name, links_planned, sets)
+}

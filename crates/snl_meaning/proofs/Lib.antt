@@ -1,0 +1,12 @@
+pub mod Following
+pub mod WordKeeps
+pub mod ValueKeeps
+pub mod EffectKeeps
+pub mod Ticks
+pub mod Nearer
+pub mod Ends
+pub mod Turns
+pub mod Texts
+pub mod Apart
+pub mod Keeping
+pub mod Forgetting

@@ -1,0 +1,107 @@
+-- No piece gives ticks back: what is kept of them.
+use Rattle.std.proofs.Common.{◌<◌, ◌≤◌, ℕ, zero, suc, ℤ, Bool, Option, arith}
+use Rattle.snl_text.specs.declared.kinds.Kind.{Kind}
+use Rattle.snl_syntax.specs.Expressions.{ExprTree}
+use Rattle.snl_syntax.specs.Statements.{StatementTree}
+use Rattle.snl_meaning.specs.declared.instrs.Variable.{Variable}
+use Rattle.snl_meaning.specs.Effect.{held_by, evaluated, effect_of}
+use Rattle.snl_meaning.specs.Keeping.{IsKept, MayStore, world_after}
+use Rattle.snl_meaning.specs.Names.{Here}
+use Rattle.snl_meaning.specs.Ran.{Ran, Gives, Faults}
+use Rattle.snl_meaning.specs.Words.{operated, operated_prefix, subscript, stored, adjusted, put_to, waited, spent_of, spent}
+use Rattle.snl_meaning.specs.World.{World}
+use Rattle.snl_meaning.proofs.EffectKeeps as effects
+use Rattle.snl_meaning.proofs.WordKeeps as words
+
+-- what is known of the world where a step gives a value
+abbrev pub Leaves : {A : Type 0} → (World → Type 0) → Ran A → Type 0
+Leaves P (Gives v w text) = P w
+Leaves P (Faults fault line w text) = Unit {0}
+
+-- fewer ticks are left
+pub record HasFewer (n : ℕ) (w : World) : Type 0 where
+  pub is : w.ticks < n
+
+-- fewer than n before, and so fewer than n after
+abbrev pub Keeps : {A : Type 0} → (World → Ran A) → Type 0
+Keeps word = (n : ℕ) (w : World) → w.ticks < n → Leaves (HasFewer n) (word w)
+
+-- any element may be stored to
+abbrev pub Any : Variable → ℤ → Type 0
+Any v k = Unit {0}
+
+-- those of a copy, too
+pub any-may : (h : Here) → MayStore h Any
+any-may h = record { first = λ offset v is. tt; element = λ offset v k is within. tt }
+
+-- no more than before
+abbrev pub NoMore : World → World → Type 0
+NoMore w u = u.ticks ≤ w.ticks
+
+-- each single change keeps that
+pub ticks-kept : (set : ℕ) → IsKept set Any NoMore
+ticks-kept set = record {
+  nothing = λ w. omega arith;
+  both = λ u v w a b. omega (arith, a, b);
+  stores = λ v k z w ok fits. omega arith;
+  clears = λ v w ok. omega arith;
+  notes = λ due w. omega arith;
+  spends = λ left w is. omega (arith, is);
+}
+
+-- what keeps them leaves fewer than there were
+pub few : {A : Type 0} (word : World → Ran A) → words.Keeps NoMore word → Keeps word
+few {A = A} word k n w less = by (word w) (k w)
+  where
+    by : (r : Ran A) → (world_after r).ticks ≤ w.ticks → Leaves (HasFewer n) r
+    by (Gives v u text) le = record { is = omega (arith, le, less) }
+    by (Faults fault line u text) le = tt
+
+-- a condition
+pub held-keeps : (h : Here) (e : Option ExprTree) → Keeps (held_by h e)
+held-keeps h e = few (held_by h e) (effects.held-keeps h Any NoMore (any-may h) (ticks-kept h.set) e)
+
+-- an expression for what it does
+pub evaluated-keeps : (h : Here) (e : Option ExprTree) → Keeps (evaluated h e)
+evaluated-keeps h e = few (evaluated h e) (effects.evaluated-keeps h Any NoMore (any-may h) (ticks-kept h.set) e)
+
+-- a statement
+pub effect-keeps : (h : Here) (s : StatementTree) → Keeps (effect_of h s)
+effect-keeps h s = few (effect_of h s) (effects.effect-keeps h Any NoMore (any-may h) (ticks-kept h.set) s)
+
+-- a binary operator
+pub keeps-operated : (op : Kind) (line : ℕ) (left right : ℤ) → Keeps (operated op line left right)
+keeps-operated op line left right = few (operated op line left right) (words.keeps-operated 0 Any NoMore (ticks-kept 0) op line left right)
+
+-- a prefix operator
+pub keeps-prefix : (op : Kind) (line : ℕ) (z : ℤ) → Keeps (operated_prefix op line z)
+keeps-prefix op line z = few (operated_prefix op line z) (words.keeps-prefix 0 Any NoMore (ticks-kept 0) op line z)
+
+-- the check of a subscript
+pub keeps-subscript : (v : Variable) (line : ℕ) (k : ℤ) → Keeps (subscript v line k)
+keeps-subscript v line k = few (subscript v line k) (words.keeps-subscript 0 Any NoMore (ticks-kept 0) v line k)
+
+-- a store
+pub keeps-stored : (set : ℕ) (v : Variable) (line : ℕ) (k z : ℤ) → Keeps (stored set v line k z)
+keeps-stored set v line k z = few (stored set v line k z) (words.keeps-stored set Any NoMore (ticks-kept set) v line k tt z)
+
+-- `++` and `--`
+pub keeps-adjusted : (set : ℕ) (v : Variable) (op : Kind) (op_line line : ℕ) (is_before : Bool) (k : ℤ) → Keeps (adjusted set v op op_line line is_before k)
+keeps-adjusted set v op op_line line is_before k =
+    few (adjusted set v op op_line line is_before k) (words.keeps-adjusted set Any NoMore (ticks-kept set) v op op_line line is_before k tt)
+
+-- `pvPut`
+pub keeps-put_to : (set : ℕ) (v : Variable) (link : ℕ) → Keeps (put_to set v link)
+keeps-put_to set v link = few (put_to set v link) (words.keeps-put_to set Any NoMore (ticks-kept set) v link)
+
+-- `delay`
+pub keeps-waited : (set : ℕ) (in_seconds : Bool) (z : ℤ) → Keeps (waited set in_seconds z)
+keeps-waited set in_seconds z = few (waited set in_seconds z) (words.keeps-waited set Any NoMore (ticks-kept set) in_seconds z)
+
+-- a tick leaves fewer than there were
+pub spent-falls : (n line : ℕ) (w : World) → w.ticks ≤ n → Leaves (HasFewer n) (spent line w)
+spent-falls n line w le = by w.ticks le
+  where
+    by : (left : ℕ) → left ≤ n → Leaves (HasFewer n) (spent_of line left w)
+    by zero k = tt
+    by (suc left) k = record { is = omega arith }

@@ -1,0 +1,48 @@
+-- What the pieces of a program can change: a relation that each single change keeps is kept by all of them.
+use Rattle.std.specs.Prelude.{◌≡◌, ◌≤◌, ◌&&◌, int_le, true, ℕ, suc, ℤ, pos, Option, Some}
+use Rattle.snl_syntax.specs.Expressions.{ExprTree}
+use Rattle.snl_syntax.specs.Statements.{BlockTree}
+use Rattle.snl_meaning.specs.declared.instrs.Variable.{Variable}
+use Rattle.snl_meaning.specs.Effect.{held_by, block_effect}
+use Rattle.snl_meaning.specs.Names.{Here, variable_at}
+use Rattle.snl_meaning.specs.Ran.{Ran, Gives, Faults}
+use Rattle.snl_meaning.specs.Words.{natural, is_subscript}
+use Rattle.snl_meaning.specs.World.{World, with_element, with_zeros}
+
+-- The world that a step leaves, also where it faults.
+abbrev pub world_after : {A : Type 0} → Ran A → World
+world_after (Gives v w text) = w
+world_after (Faults fault line w text) = w
+
+-- A relation between a world and a later one that holds where nothing changes, is handed on from change to change, and
+-- holds of each single change: a number is stored in an element that may be stored to and whose type has it, a variable is
+-- 0 again, a due time is noted, a tick is spent.
+pub record IsKept (set : ℕ) (May : Variable → ℤ → Type 0) (R : World → World → Type 0) : Type 0 where
+  pub nothing : (w : World) → R w w
+  pub both : (u v w : World) → R u v → R v w → R u w
+  pub stores : (v : Variable) (k z : ℤ) (w : World) → May v k → (int_le v.least z && int_le z v.greatest) ≡ true → R w (with_element set v (natural k) z w)
+  pub clears : (v : Variable) (w : World) → May v (pos 0) → R w (with_zeros set v w)
+  pub notes : (due : Option ℕ) (w : World) → R w (record w { due = due })
+  pub spends : (left : ℕ) (w : World) → w.ticks ≡ suc left → R w (record w { ticks = left })
+
+-- To the variables of a copy: to each element that one has.
+pub record MayStore (h : Here) (May : Variable → ℤ → Type 0) : Type 0 where
+  pub first : (offset : ℕ) (v : Variable) → variable_at h offset ≡ Some v → May v (pos 0)
+  pub element : (offset : ℕ) (v : Variable) (k : ℤ) → variable_at h offset ≡ Some v → is_subscript v.size k ≡ true → May v k
+
+-- It holds between the world before a condition or a block and the world after it, also after a fault.
+pub record PiecesKeep (h : Here) (R : World → World → Type 0) : Type 0 where
+  pub condition : (e : Option ExprTree) (w : World) → R w (world_after (held_by h e w))
+  pub block : (b : BlockTree) (w : World) → R w (world_after (block_effect h b w))
+
+-- Time stands still while a piece is at work,
+abbrev pub PiecesKeepTime : Type 0
+PiecesKeepTime = (h : Here) → PiecesKeep h (λ w u. u.time ≡ w.time)
+
+-- no piece gives ticks back,
+abbrev pub PiecesGiveNoTicks : Type 0
+PiecesGiveNoTicks = (h : Here) → PiecesKeep h (λ w u. u.ticks ≤ w.ticks)
+
+-- and none changes how far the program has come.
+abbrev pub PiecesKeepThePhase : Type 0
+PiecesKeepThePhase = (h : Here) → PiecesKeep h (λ w u. u.phase ≡ w.phase)

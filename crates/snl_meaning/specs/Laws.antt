@@ -1,0 +1,43 @@
+-- Laws of the meaning.
+use Rattle.std.specs.Prelude.{◌≡◌, ◌<◌, ◌≤◌, ◌+◌, ◌-◌, ◌^◌, ℕ, ℤ, List, [], ◌∷◌, ◌++◌, Option, Some, slice_get}
+use Rattle.snl_syntax.specs.Expressions.{ExprTree}
+use Rattle.snl_syntax.specs.Declarations.{DeclaratorTree, DeclarationTree}
+use Rattle.snl_syntax.specs.Statements.{StatementTree, StatementList, block}
+use Rattle.snl_meaning.specs.Effect.{held_by, evaluated, turns, looped, effect_of, variable_for, names_of, block_effect}
+use Rattle.snl_resolve.specs.Scopes.{elements}
+use Rattle.snl_resolve.specs.Variables.{Held}
+use Rattle.snl_meaning.specs.declared.instrs.Variable.{Variable}
+use Rattle.snl_meaning.specs.declared.names.Placed.{Placed}
+use Rattle.snl_meaning.specs.Names.{Here, text_number, text_of, placed_from}
+use Rattle.snl_meaning.specs.World.{World, with_element}
+
+-- A loop has turns enough: with any number of turns above the ticks that are left it does the same.
+abbrev pub TurnsAreEnough : Type 0
+TurnsAreEnough = (h : Here) (line : ℕ) (condition step : Option ExprTree) (s : StatementTree) (w : World) (n : ℕ) → w.ticks < n →
+    turns n line (held_by h condition) (effect_of h s) (evaluated h step) w ≡ looped line (held_by h condition) (effect_of h s) (evaluated h step) w
+
+-- A text among some is found by its number.
+abbrev pub TextsAreFound : Type 0
+TextsAreFound = (before after : List (List ℕ)) (text : List ℕ) →
+    text_of (before ++ text ∷ after) (text_number (before ++ text ∷ after) text) ≡ text
+
+-- How many words some variables have.
+abbrev pub words_of : List Held → ℕ
+words_of [] = 0
+words_of (v ∷ vs) = elements v.size + words_of vs
+
+-- No variable has a word outside its copy,
+abbrev pub VariablesLieWithin : Type 0
+VariablesLieWithin = (vs : List Held) (i : ℕ) (x : Placed) → words_of vs ≤ 2 ^ 64 - 1 → slice_get (placed_from 0 vs) i ≡ Some x →
+    x.variable.place + x.variable.size ≤ words_of vs
+
+-- and no two variables share a word: the words of the later one begin after those of the earlier one.
+abbrev pub VariablesAreApart : Type 0
+VariablesAreApart = (vs : List Held) (i j : ℕ) (x y : Placed) → words_of vs ≤ 2 ^ 64 - 1 → i < j →
+    slice_get (placed_from 0 vs) i ≡ Some x → slice_get (placed_from 0 vs) j ≡ Some y → x.variable.place + x.variable.size ≤ y.variable.place
+
+-- A block forgets what its variables were: with another number in an element of one of them, it does the same.
+abbrev pub BlocksForget : Type 0
+BlocksForget = (h : Here) (ds : List DeclarationTree) (all : StatementList) (w : World) (i k : ℕ) (d : DeclaratorTree) (v : Variable) (z : ℤ) →
+    slice_get (names_of ds) i ≡ Some d → variable_for h d ≡ Some v → k < v.size →
+    block_effect h (block ds all) (with_element h.set v k z w) ≡ block_effect h (block ds all) w

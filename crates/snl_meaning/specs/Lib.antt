@@ -1,0 +1,13 @@
+pub mod World
+pub mod Ran
+pub mod Names
+pub mod Printing
+pub mod Words
+pub mod Value
+pub mod Effect
+pub mod Run
+pub mod Endings
+pub mod Examples
+pub mod Known
+pub mod Laws
+pub mod Keeping

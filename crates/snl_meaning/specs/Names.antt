@@ -1,0 +1,127 @@
+-- What the names in a piece of code mean, by their declarations.
+use Rattle.std.specs.Prelude.{ℕ, suc, ◌+◌, ◌-◌, ◌^◌, min, ℤ, pos, ◌==◌, bytes_eq, length, List, [], ◌∷◌, Option, None, Some, slice_index_or, if◌then◌else◌}
+use Rattle.std.specs.List.{flat_map}
+use Rattle.snl_text.specs.declared.tokens.Pos.{Pos}
+use Rattle.snl_text.specs.declared.tokens.Token.{Token}
+use Rattle.snl_resolve.specs.declared.sites.Site.{Site}
+use Rattle.snl_resolve.specs.declared.sites.Site.TheVariants.{Format}
+use Rattle.snl_resolve.specs.Constants.{predefined}
+use Rattle.snl_resolve.specs.Numbered.{number_of}
+use Rattle.snl_resolve.specs.Scopes.{elements}
+use Rattle.snl_resolve.specs.Uses.{declared_in}
+use Rattle.snl_resolve.specs.Variables.{Held}
+use Rattle.snl_meaning.specs.declared.instrs.Variable.{Variable}
+use Rattle.snl_meaning.specs.declared.names.Placed.{Placed}
+pub use Rattle.snl_meaning.specs.declared.names.Sense.{Sense}
+pub use Rattle.snl_meaning.specs.declared.names.Sense.TheVariants.{Varies, Stands}
+
+-- Where a piece of code stands: what is known of its program, and on which state set's copy it runs.
+pub record Here : Type 0 where
+  -- the number of the state set, its name, and the names of its states
+  pub set : ℕ
+  pub set_name : List ℕ
+  pub states : List Token
+  -- what the names of the program mean, each at its place
+  pub sites : List Site
+  -- the variables of the copy, by their declarations
+  pub variables : List Placed
+  -- by link: where its variable is declared, in bytes
+  pub linked : List ℕ
+
+-- A variable whose words begin at a place of the copy.
+abbrev pub variable_from : ℕ → Held → Variable
+variable_from at v = record { place = at; size = elements v.size; least = v.range.0; greatest = v.range.1 }
+
+-- Where the words of the next variable begin. No program that the rules accept has as many words as 2^64 - 1.
+abbrev pub behind : ℕ → Held → ℕ
+behind at v = min (at + elements v.size) (2 ^ 64 - 1)
+
+-- Variables whose words stand one after another from a place on, each with the offset of its declaration.
+abbrev pub placed_from : ℕ → List Held → List Placed
+placed_from at [] = []
+placed_from at (v ∷ vs) = record { offset = v.name.pos.offset; variable = variable_from at v } ∷ placed_from (behind at v) vs
+
+-- ---- variables
+
+-- The variable that is declared at an offset, among some.
+abbrev pub variable_in : List Placed → ℕ → Option Variable
+variable_in [] offset = None
+variable_in (v ∷ vs) offset = if v.offset == offset then Some v.variable else variable_in vs offset
+
+-- The same among those of the copy.
+abbrev pub variable_at : Here → ℕ → Option Variable
+variable_at h offset = variable_in h.variables offset
+
+-- The same of a place, if there is one.
+abbrev pub variable_by : Here → Option Pos → Option Variable
+variable_by h None = None
+variable_by h (Some declared) = variable_at h declared.offset
+
+-- ---- names in expressions
+
+-- A number, or 0.
+abbrev pub or_zero : Option ℤ → ℤ
+or_zero None = pos 0
+or_zero (Some z) = z
+
+-- A variable where there is one, and otherwise a number.
+abbrev pub sense_by : Option Variable → Option ℤ → Sense
+sense_by (Some v) number = Varies v
+sense_by None number = Stands (or_zero number)
+
+-- The variable that its declaration makes, or else the number that its text is predefined to be. A name that is
+-- neither stands for 0; the rules refuse it.
+abbrev pub sense_of : Here → Token → Sense
+sense_of h x = sense_by (variable_by h (declared_in x.pos.offset h.sites)) (predefined x.text.now)
+
+-- ---- links
+
+-- The number of the link whose variable is declared at an offset; that after the last where there is none.
+abbrev pub link_in : List ℕ → ℕ → ℕ
+link_in [] offset = 0
+link_in (l ∷ ls) offset = if l == offset then 0 else suc (link_in ls offset)
+
+-- The same of a declaration that may be missing.
+abbrev pub link_by : List ℕ → Option Pos → ℕ
+link_by linked None = length linked
+link_by linked (Some declared) = link_in linked declared.offset
+
+-- The number of the link of a variable, by the use of its name.
+abbrev pub link_number : Here → Token → ℕ
+link_number h x = link_by h.linked (declared_in x.pos.offset h.sites)
+
+-- ---- states
+
+-- A number, or that of the first.
+abbrev pub or_first : Option ℕ → ℕ
+or_first None = 0
+or_first (Some n) = n
+
+-- The number of the state that is named, in its state set. An unknown name counts as the first state; the rules
+-- refuse it.
+abbrev pub state_number : Here → Token → ℕ
+state_number h x = or_first (number_of h.states x.text.now)
+
+-- ---- formats
+
+-- The string of a site, if it has one.
+abbrev pub format_at : Site → List (List ℕ)
+format_at (Format t is_good) = t.text.now ∷ []
+format_at _ = []
+
+-- The strings of the program, as spelled, in the order of the source.
+abbrev pub formats_of : Here → List (List ℕ)
+formats_of h = flat_map format_at h.sites
+
+-- The number of the first of some texts that is this one; that after the last where none is.
+abbrev pub text_number : List (List ℕ) → List ℕ → ℕ
+text_number [] text = 0
+text_number (t ∷ ts) text = if bytes_eq t text then 0 else suc (text_number ts text)
+
+-- The text of a number; none where there is no such number.
+abbrev pub text_of : List (List ℕ) → ℕ → List ℕ
+text_of texts n = slice_index_or texts n []
+
+-- The number of a string among those of the program.
+abbrev pub format_number : Here → Token → ℕ
+format_number h t = text_number (formats_of h) t.text.now

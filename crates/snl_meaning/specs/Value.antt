@@ -1,0 +1,203 @@
+-- The value of an expression, for a state set in a world. Operands go from left to right.
+use Rattle.std.specs.Prelude.{ℕ, ℤ, pos, Bool, true, false, not, List, [], ◌∷◌, Option, None, Some, option_map, if◌then◌else◌}
+use Rattle.snl_text.specs.declared.kinds.Kind.{Kind}
+use Rattle.snl_text.specs.declared.kinds.Kind.TheVariants as kind
+use Rattle.snl_text.specs.declared.tokens.Token.{Token}
+use Rattle.snl_text.specs.Numbers.{whole_value, decimal_value}
+use Rattle.snl_text.specs.Quotes.{character_value}
+use Rattle.snl_syntax.specs.Expressions.{ExprTree, TermList, ArgumentList, constant, parenthesized, named, element, call, postfix, prefix, chain, conditional, assignment, no_terms, term, no_arguments, value, text}
+use Rattle.snl_syntax.specs.Kinds.{is}
+use Rattle.snl_arithmetic.specs.Arithmetic.{is_zero}
+use Rattle.snl_meaning.specs.declared.instrs.Variable.{Variable}
+use Rattle.snl_resolve.specs.declared.builtins.Builtin.{Builtin}
+use Rattle.snl_resolve.specs.declared.builtins.Builtin.TheVariants.{Delay, Printf, PvPut, Ask}
+use Rattle.snl_resolve.specs.Builtins.{builtin_of}
+pub use Rattle.snl_meaning.specs.declared.operators.Joint.{Joint}
+pub use Rattle.snl_meaning.specs.declared.operators.Joint.TheVariants.{And, Or, Sequel, Operation}
+pub use Rattle.snl_meaning.specs.declared.operators.Sign.{Sign}
+pub use Rattle.snl_meaning.specs.declared.operators.Sign.TheVariants.{Steps, Alone}
+use Rattle.snl_meaning.specs.Names.{Here, Sense, Varies, Stands, sense_of, link_number, formats_of, format_number, text_of}
+use Rattle.snl_meaning.specs.Ran.{Ran, Gives, then_do}
+use Rattle.snl_meaning.specs.Words.{gives, operated, operated_prefix, settled, subscript, read, stored, adjusted, printed, put_to, waited}
+use Rattle.snl_meaning.specs.World.{World}
+
+-- ---- constants
+
+-- A number, or 0.
+abbrev pub or_none : Option ℕ → ℤ
+or_none None = pos 0
+or_none (Some n) = pos n
+
+-- What a constant is worth; a decimal one in thousandths.
+abbrev pub constant_of : Kind → List ℕ → ℤ
+constant_of kind.Whole t = or_none (whole_value t)
+constant_of kind.Character t = or_none (character_value t)
+constant_of kind.Decimal t = or_none (option_map (λ d. d.thousandths) (decimal_value t))
+constant_of _ t = pos 0
+
+-- ---- choices
+
+-- One of two, by a condition's number.
+abbrev pub either : {A : Type 0} → (World → Ran A) → (World → Ran A) → ℤ → World → Ran A
+either held failed z w = if is_zero z then failed w else held w
+
+-- `&&` and `||` evaluate what is right of them only where what is left does not decide.
+abbrev pub both : (World → Ran ℤ) → ℤ → World → Ran ℤ
+both right z w = if is_zero z then Gives (pos 0) w [] else then_do (right w) settled
+
+-- The same of `||`.
+abbrev pub one_of : (World → Ran ℤ) → ℤ → World → Ran ℤ
+one_of right z w = if is_zero z then then_do (right w) settled else Gives (pos 1) w []
+
+-- ---- operators
+
+-- How an operator joins what stands left of it and its operand.
+abbrev pub joint_of : Kind → Joint
+joint_of kind.AmpersandAmpersand = And
+joint_of kind.BarBar = Or
+joint_of kind.Comma = Sequel
+joint_of op = Operation op
+
+-- An operator with its operand, after what stands left of it.
+abbrev pub joined_by : Joint → ℕ → (World → Ran ℤ) → ℤ → World → Ran ℤ
+joined_by And line right left w = both right left w
+joined_by Or line right left w = one_of right left w
+joined_by Sequel line right left w = right w
+joined_by (Operation op) line right left w = then_do (right w) (operated op line left)
+
+-- The operator of a compound assignment.
+abbrev pub compound_of : Kind → Option Kind
+compound_of kind.PlusEqual = Some kind.Plus
+compound_of kind.MinusEqual = Some kind.Minus
+compound_of kind.StarEqual = Some kind.Star
+compound_of kind.SlashEqual = Some kind.Slash
+compound_of kind.PercentEqual = Some kind.Percent
+compound_of kind.AmpersandEqual = Some kind.Ampersand
+compound_of kind.BarEqual = Some kind.Bar
+compound_of kind.CaretEqual = Some kind.Caret
+compound_of kind.LessLessEqual = Some kind.LessLess
+compound_of kind.GreaterGreaterEqual = Some kind.GreaterGreater
+compound_of _ = None
+
+-- A sign before or after an operand: `++` and `--` add 1 or take 1 away; all others make a number of a number.
+abbrev pub sign_of : Kind → Sign
+sign_of kind.PlusPlus = Steps kind.Plus
+sign_of kind.MinusMinus = Steps kind.Minus
+sign_of op = Alone op
+
+-- A sign with its operand.
+abbrev pub signed : Sign → (Kind → World → Ran ℤ) → (World → Ran ℤ) → ℕ → World → Ran ℤ
+signed (Steps op) stepping operand line w = stepping op w
+signed (Alone op) stepping operand line w = then_do (operand w) (operated_prefix op line)
+
+-- ---- variables
+
+-- The value of a name.
+abbrev pub named_value : ℕ → Sense → World → Ran ℤ
+named_value set (Varies v) w = read set v (pos 0) w
+named_value set (Stands z) w = Gives z w []
+
+-- What goes on at a subscript, once it is checked; for a name that is no variable, something else.
+abbrev pub at_subscript : Sense → ℕ → (Variable → ℤ → World → Ran ℤ) → (World → Ran ℤ) → ℤ → World → Ran ℤ
+at_subscript (Varies v) line go other k w = then_do (subscript v line k w) (go v)
+at_subscript (Stands z) line go other k w = other w
+
+-- What is done to a variable, or to an element by its subscript; with the use of its name.
+abbrev pub OnVariable : Type 0
+OnVariable = Variable → Token → World → Ran ℤ
+
+-- The same of an element, by its subscript.
+abbrev pub OnElement : Type 0
+OnElement = Variable → Token → ℤ → World → Ran ℤ
+
+-- What is done to a name, or for a name that is no variable something else.
+abbrev pub at_name : Sense → Token → OnVariable → (World → Ran ℤ) → World → Ran ℤ
+at_name (Varies v) x alone other w = alone v x w
+at_name (Stands z) x alone other w = other w
+
+-- The number that an assignment stores: its right side, or with an operator what that makes of the old value, which
+-- is read first, and the right side.
+abbrev pub renewed : Option Kind → ℕ → (World → Ran ℤ) → ℕ → Variable → ℤ → World → Ran ℤ
+renewed None op_line right set v k w = right w
+renewed (Some op) op_line right set v k w = then_do (read set v k w) (λ old u. then_do (right u) (operated op op_line old))
+
+-- An assignment to an element.
+abbrev pub put_at : Option Kind → ℕ → (World → Ran ℤ) → ℕ → Variable → ℕ → ℤ → World → Ran ℤ
+put_at op op_line right set v line k w = then_do (renewed op op_line right set v k w) (stored set v line k)
+
+-- ---- calls
+
+-- A call, by its function. Those that do not run yet give 0, and so would an unknown one.
+abbrev pub called : Option Builtin → (print wait put : World → Ran ℤ) → World → Ran ℤ
+called None print wait put w = Gives (pos 0) w []
+called (Some Delay) print wait put w = wait w
+called (Some Printf) print wait put w = print w
+called (Some PvPut) print wait put w = put w
+called (Some (Ask query)) print wait put w = Gives (pos 0) w []
+
+-- A decimal constant, also in parentheses.
+abbrev pub is_decimal : ExprTree → Bool
+is_decimal (parenthesized e) = is_decimal e
+is_decimal (constant t) = is kind.Decimal t.kind
+is_decimal _ = false
+
+-- `printf` with its numbers.
+abbrev pub printing : Here → ℕ → List ℤ → World → Ran ℤ
+printing h format taken w = printed h.set_name (text_of (formats_of h) format) taken w
+
+-- ---- expressions
+
+abbrev mutual
+  -- an expression
+  pub value_of : Here → ExprTree → World → Ran ℤ
+  value_of h (constant t) w = Gives (constant_of t.kind t.text.now) w []
+  value_of h (parenthesized e) w = value_of h e w
+  value_of h (named x) w = named_value h.set (sense_of h x) w
+  value_of h (element x b e) w = then_do (value_of h e w) (at_subscript (sense_of h x) b.pos.line (read h.set) (gives (pos 0)))
+  value_of h (call f all) w = called (builtin_of f.text.now) (print_of h all) (wait_of h all) (put_of h all) w
+  value_of h (postfix e op) w =
+      signed (sign_of op.kind) (λ by. at_target h e (λ v x. adjusted h.set v by op.pos.line x.pos.line true (pos 0))
+      (λ v x. adjusted h.set v by op.pos.line x.pos.line true) (gives (pos 0))) (value_of h e) op.pos.line w
+  value_of h (prefix op e) w =
+      signed (sign_of op.kind) (λ by. at_target h e (λ v x. adjusted h.set v by op.pos.line x.pos.line false (pos 0))
+      (λ v x. adjusted h.set v by op.pos.line x.pos.line false) (gives (pos 0))) (value_of h e) op.pos.line w
+  value_of h (chain e rest) w = then_do (value_of h e w) (chained h rest)
+  value_of h (conditional c a b) w = then_do (value_of h c w) (either (value_of h a) (value_of h b))
+  value_of h (assignment e op r) w =
+      at_target h e (λ v x. put_at (compound_of op.kind) op.pos.line (value_of h r) h.set v x.pos.line (pos 0))
+      (λ v x. put_at (compound_of op.kind) op.pos.line (value_of h r) h.set v x.pos.line) (value_of h r) w
+
+  -- the operators and operands of one level, after what stands left of them
+  pub chained : Here → TermList → ℤ → World → Ran ℤ
+  chained h no_terms left w = Gives left w []
+  chained h (term op e rest) left w = then_do (joined_by (joint_of op.kind) op.pos.line (value_of h e) left w) (chained h rest)
+
+  -- what is done at a target, which may stand in parentheses and whose subscript comes first; where an expression is
+  -- no target, something else
+  pub at_target : Here → ExprTree → OnVariable → OnElement → (World → Ran ℤ) → World → Ran ℤ
+  at_target h (parenthesized e) alone indexed other w = at_target h e alone indexed other w
+  at_target h (named x) alone indexed other w = at_name (sense_of h x) x alone other w
+  at_target h (element x b e) alone indexed other w =
+      then_do (value_of h e w) (at_subscript (sense_of h x) b.pos.line (λ v. indexed v x) other)
+  at_target h _ alone indexed other w = other w
+
+  -- `printf` with its arguments
+  pub print_of : Here → ArgumentList → World → Ran ℤ
+  print_of h (text t rest) w = printing_with h (format_number h t) rest [] w
+  print_of h _ w = Gives (pos 0) w []
+
+  -- `printf` with a format and the arguments after it, with the numbers so far, the last one first
+  pub printing_with : Here → ℕ → ArgumentList → List ℤ → World → Ran ℤ
+  printing_with h format no_arguments taken w = printing h format taken w
+  printing_with h format (text t rest) taken w = printing_with h format rest taken w
+  printing_with h format (value e rest) taken w = then_do (value_of h e w) (λ z. printing_with h format rest (z ∷ taken))
+
+  -- `delay` with its argument
+  pub wait_of : Here → ArgumentList → World → Ran ℤ
+  wait_of h (value e rest) w = then_do (value_of h e w) (waited h.set (not (is_decimal e)))
+  wait_of h _ w = Gives (pos 0) w []
+
+  -- `pvPut` with its argument. An element does not run yet, and counts as its value.
+  pub put_of : Here → ArgumentList → World → Ran ℤ
+  put_of h (value e rest) w = at_target h e (λ v x. put_to h.set v (link_number h x)) (λ v x. read h.set v) (gives (pos 0)) w
+  put_of h _ w = Gives (pos 0) w []

@@ -1,0 +1,68 @@
+//! Laws of the meaning, and of steps of code. Each is a function without code, whose contract is the law.
+
+ghost use Rattle.snl_meaning.specs.Endings.{OnlyTicksLeadBack};
+ghost use Rattle.snl_meaning.specs.Examples.{ExpressionExamples, StatementExamples};
+ghost use Rattle.snl_meaning.specs.Keeping.{PiecesGiveNoTicks, PiecesKeepThePhase, PiecesKeepTime};
+ghost use Rattle.snl_meaning.specs.Laws.{BlocksForget, TextsAreFound, TurnsAreEnough, VariablesAreApart, VariablesLieWithin};
+
+/// Only an instruction that spends a tick leads back.
+pub fn only_ticks_lead_back()
+    ensures { OnlyTicksLeadBack }
+{}
+
+/// What some expressions are worth: order, faults and their lines, `delay`, `printf`.
+pub fn examples_of_expressions()
+    ensures { ExpressionExamples }
+{}
+
+/// What some statements do: loops, ticks, `break`, `continue`, the variables of a block, `state`.
+pub fn examples_of_statements()
+    ensures { StatementExamples }
+{}
+
+/// A loop has turns enough: with any number of them above the ticks that are left it does the same.
+pub fn turns_are_enough()
+    ensures { TurnsAreEnough }
+{}
+
+/// A text among some is found by its number.
+pub fn texts_are_found()
+    ensures { TextsAreFound }
+{}
+
+/// No variable has a word outside the copy of its state set.
+#[tactic(auto, using(crate::proofs::Apart::variables_lie_within))]
+pub fn variables_lie_within()
+    ensures { VariablesLieWithin }
+{}
+
+/// No two variables of a copy share a word.
+#[tactic(auto, using(crate::proofs::Apart::variables_are_apart))]
+pub fn variables_are_apart()
+    ensures { VariablesAreApart }
+{}
+
+/// Time stands still while a condition or a block is at work, also where it comes to a fault.
+#[tactic(auto, using(crate::proofs::Keeping::pieces_keep_time))]
+pub fn pieces_keep_time()
+    ensures { PiecesKeepTime }
+{}
+
+/// No condition and no block changes how far the program has come.
+#[tactic(auto, using(crate::proofs::Keeping::pieces_keep_the_phase))]
+pub fn pieces_keep_the_phase()
+    ensures { PiecesKeepThePhase }
+{}
+
+/// No condition and no block gives ticks back.
+#[tactic(auto, using(crate::proofs::Keeping::pieces_give_no_ticks))]
+pub fn pieces_give_no_ticks()
+    ensures { PiecesGiveNoTicks }
+{}
+
+/// A block forgets what its variables were before it is entered: with another number in an element of one of them, it
+/// does the same.
+#[tactic(auto, using(crate::proofs::Forgetting::blocks_forget))]
+pub fn blocks_forget()
+    ensures { BlocksForget }
+{}

@@ -1,0 +1,15 @@
+//! What expressions, statements and blocks mean, and what each instruction of flat code does. No code is made here.
+#![tactic(auto)]
+
+mod faults;
+mod instrs;
+pub mod laws;
+mod live;
+mod names;
+mod operators;
+
+pub use faults::Fault;
+pub use instrs::{Instr, Variable};
+pub use live::Live;
+pub use names::{Known, Placed, Sense, number_in, places_of, variable_in};
+pub use operators::{Joint, Sign, compound_of, is_decimal, joint_of, sign_of};

@@ -1,0 +1,118 @@
+//! The lines that a run writes.
+
+ghost use Rattle.std.specs.Prelude.{◌≡◌, ◌-◌, ◌^◌, ◌<◌, ◌∷◌, ◌++◌, [], is_err, map};
+ghost use Rattle.std.specs.Fmt.{signed_decimal};
+ghost use Rattle.snl_output.specs.Devices.{counted, Wrote};
+ghost use Rattle.snl_output.specs.Held.{Adds};
+ghost use Rattle.snl_output.specs.Lines.{joined, start_line, go_line, exit_line, fault_line, put_front, space};
+
+use crate::held::Line;
+use crate::sinks::{Sink, SinkFault};
+use itoa::Buffer;
+
+/// `MS start PROGRAM`
+pub fn write_start<'t, S: Sink>(sink: &mut S, ms: u64, program: &'t [u8]) -> Result<(), SinkFault>
+    requires { S.failures sink.old < 2 ^ 64 - 1 }
+    ensures told { Wrote result (start_line ms program.now) (S.told sink.old) (S.told sink.new) }
+    ensures failures { S.failures sink.new ≡ counted (is_err result) (S.failures sink.old) }
+{
+    let mut time = Buffer::new();
+    write_pieces(
+        sink,
+        &[time.format(ms).as_bytes(), b" start ", program, b"\n"],
+    )
+}
+
+/// `MS go STATE-SET FROM TO`
+pub fn write_go<'t, S: Sink>(
+    sink: &mut S,
+    ms: u64,
+    state_set: &'t [u8],
+    from: &'t [u8],
+    to: &'t [u8],
+) -> Result<(), SinkFault>
+    requires { S.failures sink.old < 2 ^ 64 - 1 }
+    ensures told { Wrote result (go_line ms state_set.now from.now to.now) (S.told sink.old)
+        (S.told sink.new) }
+    ensures failures { S.failures sink.new ≡ counted (is_err result) (S.failures sink.old) }
+{
+    let mut time = Buffer::new();
+    let ms = time.format(ms).as_bytes();
+    write_pieces(sink, &[ms, b" go ", state_set, b" ", from, b" ", to, b"\n"])
+}
+
+/// `MS exit PROGRAM`
+pub fn write_exit<'t, S: Sink>(sink: &mut S, ms: u64, program: &'t [u8]) -> Result<(), SinkFault>
+    requires { S.failures sink.old < 2 ^ 64 - 1 }
+    ensures told { Wrote result (exit_line ms program.now) (S.told sink.old) (S.told sink.new) }
+    ensures failures { S.failures sink.new ≡ counted (is_err result) (S.failures sink.old) }
+{
+    let mut time = Buffer::new();
+    write_pieces(
+        sink,
+        &[time.format(ms).as_bytes(), b" exit ", program, b"\n"],
+    )
+}
+
+/// `MS fault STATE-SET LINE TEXT`
+pub fn write_fault<'t, S: Sink>(
+    sink: &mut S,
+    ms: u64,
+    state_set: &'t [u8],
+    line: usize,
+    text: &'t [u8],
+) -> Result<(), SinkFault>
+    requires { S.failures sink.old < 2 ^ 64 - 1 }
+    ensures told { Wrote result (fault_line ms state_set.now line text.now) (S.told sink.old)
+        (S.told sink.new) }
+    ensures failures { S.failures sink.new ≡ counted (is_err result) (S.failures sink.old) }
+{
+    let mut time = Buffer::new();
+    let mut number = Buffer::new();
+    let ms = time.format(ms).as_bytes();
+    let line = number.format(line).as_bytes();
+    write_pieces(
+        sink,
+        &[ms, b" fault ", state_set, b" ", line, b" ", text, b"\n"],
+    )
+}
+
+/// The front of a line of `pvPut`: `MS put CHANNEL`. The values follow.
+pub fn add_put<'t, S: Sink>(
+    line: &mut Line,
+    ms: u64,
+    channel: &'t [u8],
+    sink: &mut S,
+) -> Result<(), SinkFault>
+    requires { S.failures sink.old < 2 ^ 64 - 1 }
+    ensures told { Adds result (line.old.held.items ++ put_front ms channel.now)
+        line.new.held.items (S.told sink.old) (S.told sink.new) }
+    ensures failures { S.failures sink.new ≡ counted (is_err result) (S.failures sink.old) }
+{
+    let mut time = Buffer::new();
+    line.add_all(&[time.format(ms).as_bytes(), b" put ", channel], sink)
+}
+
+/// A blank and a number.
+pub fn add_number<S: Sink>(line: &mut Line, number: i64, sink: &mut S) -> Result<(), SinkFault>
+    requires { S.failures sink.old < 2 ^ 64 - 1 }
+    ensures told { Adds result
+        (line.old.held.items ++ joined (space ∷ signed_decimal number ∷ []))
+        line.new.held.items (S.told sink.old) (S.told sink.new) }
+    ensures failures { S.failures sink.new ≡ counted (is_err result) (S.failures sink.old) }
+{
+    let mut digits = Buffer::new();
+    line.add_all(&[b" ", digits.format(number).as_bytes()], sink)
+}
+
+/// Hands a line to a sink that is made of pieces.
+fn write_pieces<S: Sink>(sink: &mut S, pieces: &[&[u8]]) -> Result<(), SinkFault>
+    requires { S.failures sink.old < 2 ^ 64 - 1 }
+    ensures told { Wrote result (joined (map (λ piece. piece.now) pieces.now)) (S.told sink.old)
+        (S.told sink.new) }
+    ensures failures { S.failures sink.new ≡ counted (is_err result) (S.failures sink.old) }
+{
+    let mut line = Line::new();
+    line.add_all(pieces, sink)?;
+    line.send(sink)
+}

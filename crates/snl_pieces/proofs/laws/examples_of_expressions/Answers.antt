@@ -1,7 +1,0 @@
-use Rattle.std.proofs.Common.{refl}
-use Rattle.snl_text.specs.Numbers.{decimal_value, whole_value, value_in, value_of, without_suffix}
-use Rattle.snl_pieces.proofs.laws.examples_of_expressions.Goals as goal
-
-pub returns : goal.returns
-unfolding decimal_value whole_value value_in value_of without_suffix
-returns c = (refl, refl, refl, refl, refl, refl, refl, refl, refl, refl)

@@ -1,8 +1,0 @@
-use Rattle.std.proofs.Common.{◌≡◌, ◌++◌, map, drop}
-use Rattle.snl_sites.specs.Held.{held_view}
-use Rattle.snl_pieces.specs.Names.{placed_from}
-use Rattle.snl_pieces.proofs.names.places_of.Given as goal
-
-abbrev pub invariant-loop-number : goal.invariant-loop-number
-invariant-loop-number l =
-    l.places.items ++ placed_from l.place (map held_view (drop l.number l.variables)) ≡ placed_from 0 (map held_view l.variables)

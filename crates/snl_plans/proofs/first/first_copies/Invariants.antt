@@ -1,9 +1,0 @@
-use Rattle.std.proofs.Common.{◌≡◌, ◌++◌, drop, map}
-use Rattle.snl_store.specs.Views.{copy_view}
-use Rattle.snl_plans.specs.First as spec
-use Rattle.snl_plans.specs.Sets.{sets_of}
-use Rattle.snl_plans.proofs.first.first_copies.Given as goal
-
--- copies so far, and those that are left
-abbrev pub invariant-loop-variables : goal.invariant-loop-variables
-invariant-loop-variables l = map copy_view l.made.items ++ map spec.first_copy (sets_of (drop l.variables-index l.sets)) ≡ map spec.first_copy (sets_of l.sets)

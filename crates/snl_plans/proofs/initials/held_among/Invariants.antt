@@ -1,8 +1,0 @@
-use Rattle.std.proofs.Common.{◌≡◌, drop}
-use Rattle.snl_plans.specs.Initials as spec
-use Rattle.snl_plans.specs.Sets.{sets_of}
-use Rattle.snl_plans.proofs.initials.held_among.Given as goal
-
--- no copy so far has it, so the rest decides
-abbrev pub invariant-loop-variables : goal.invariant-loop-variables
-invariant-loop-variables l = spec.held_among (sets_of (drop l.variables-index l.sets)) l.offset ≡ spec.held_among (sets_of l.sets) l.offset

@@ -1,9 +1,0 @@
-use Rattle.std.proofs.Common.{◌≡◌, ◌++◌, ◌+◌, ◌-◌}
-use Rattle.snl_sites.specs.Held.{held_view}
-use Rattle.snl_plans.specs.Initials.{first_elements}
-use Rattle.snl_plans.proofs.initials.push_elements.Given as goal
-
--- elements so far, and those that are left
-abbrev pub invariant-loop-more : goal.invariant-loop-more
-invariant-loop-more l =
-    l.words.items ++ first_elements (held_view l.held) (l.from + l.more) (l.count - l.more) ≡ l.fn.words.items ++ first_elements (held_view l.held) l.from l.count

@@ -1,5 +1,0 @@
-use Rattle.snl_plans.proofs.Meant as meant
-use Rattle.snl_plans.proofs.laws.plans_are_right.Goals as goal
-
-pub returns : goal.returns
-returns c = meant.plans_are_right

@@ -1,0 +1,10 @@
+use Rattle.std.proofs.Common.{◌≡◌, false, nat_eq, is_some}
+use Rattle.std.specs.Cmp.Lexicographic.{pointwise}
+use Rattle.std.specs.HashMap.{get_by}
+use Rattle.snl_resolve.proofs.TableLaws.{none_of, found_after}
+use Rattle.snl_resolve.proofs.scopes.note_first.Goals as goal
+
+pub returns-clause-firsts : goal.returns-clause-firsts
+returns-clause-firsts c =
+    let absent : is_some (get_by (λ key. pointwise nat_eq c.args.declared.name.text.now key.now) c.args.firsts.now) ≡ false = cc in
+    found_after c.args.firsts.now c.insert.new.self c.args.declared (none_of _ absent) c.in_ok-insert.ensures.entries

@@ -1,0 +1,131 @@
+//! The sites in expressions.
+
+ghost use Rattle.std.specs.Prelude.{◌≡◌, ◌++◌, map, OnOk};
+ghost use Rattle.snl_syntax.specs.view.Expressions.{view, pair_of, argument_of, list_before};
+ghost use Rattle.snl_syntax.specs.view.Lists.{term_list};
+ghost use Rattle.snl_syntax.specs.Expressions.{no_arguments};
+ghost use Rattle.snl_resolve.specs.Chains.{scopes_of};
+ghost use Rattle.snl_resolve.specs.Sites as spec;
+
+use crate::scopes::Scopes;
+use crate::sites::{Purpose, Site};
+use crate::tokens::{note_call, note_change, note_constant, note_format, note_prefix, note_use};
+use snl_syntax::{Argument, Expr, Term};
+use std::alloc::AllocError;
+
+/// Notes the sites in an expression that stands in a clause's condition or not, for a purpose.
+#[cycle(expression)]
+pub fn note_expression<'a>(
+    expression: &Expr<'a>,
+    in_condition: bool,
+    scopes: &Scopes<'_, 'a>,
+    purpose: Purpose,
+    sites: &mut Vec<Site<'a>>,
+) -> Result<(), AllocError>
+    ensures { OnOk result (sites.new.items ≡ sites.old.items
+        ++ spec.in_expression in_condition (scopes_of scopes.now) purpose (view expression.now)) }
+{
+    let inner = purpose.inner();
+    match expression {
+        Expr::Constant(token) => note_constant(purpose, *token, sites),
+        Expr::Named(name) => note_use(scopes, purpose, *name, false, sites),
+        Expr::Parenthesized(part) => {
+            note_expression(part, in_condition, scopes, purpose.in_parentheses(), sites)
+        }
+        Expr::Element { name, index, .. } => {
+            note_use(scopes, purpose, *name, true, sites)?;
+            note_expression(index, in_condition, scopes, inner, sites)
+        }
+        Expr::Call(name, arguments) => {
+            let arguments = arguments.as_slice();
+            let inside = note_call(arguments, purpose, in_condition, *name, sites)?;
+            note_arguments(arguments, in_condition, scopes, inside, sites)
+        }
+        Expr::Postfix(target, operator) => {
+            note_change(purpose, target, *operator, sites)?;
+            note_expression(target, in_condition, scopes, purpose.target(), sites)
+        }
+        Expr::Prefix(operator, operand) => {
+            let inside = note_prefix(operand, purpose, *operator, sites)?;
+            note_expression(operand, in_condition, scopes, inside, sites)
+        }
+        Expr::Chain(first, terms) => {
+            note_expression(first, in_condition, scopes, inner, sites)?;
+            note_terms(terms.as_slice(), in_condition, scopes, inner, sites)
+        }
+        Expr::Conditional { condition, yes, no } => {
+            note_expression(condition, in_condition, scopes, inner, sites)?;
+            note_expression(yes, in_condition, scopes, inner, sites)?;
+            note_expression(no, in_condition, scopes, inner, sites)
+        }
+        Expr::Assignment {
+            target,
+            operator,
+            value,
+        } => {
+            note_change(purpose, target, *operator, sites)?;
+            note_expression(target, in_condition, scopes, purpose.target(), sites)?;
+            note_expression(value, in_condition, scopes, inner, sites)
+        }
+    }
+}
+
+/// Notes the sites in the operands of a chain but the first.
+#[cycle(expression)]
+fn note_terms<'a>(
+    terms: &[Term<'a>],
+    in_condition: bool,
+    scopes: &Scopes<'_, 'a>,
+    purpose: Purpose,
+    sites: &mut Vec<Site<'a>>,
+) -> Result<(), AllocError>
+    ensures { OnOk result (sites.new.items ≡ sites.old.items
+        ++ spec.in_terms in_condition (scopes_of scopes.now) purpose (term_list
+        (map pair_of terms.now))) }
+{
+    for term in terms {
+        note_expression(&term.operand, in_condition, scopes, purpose, sites)?;
+    }
+    Ok(())
+}
+
+/// Notes the sites in the arguments of a call.
+#[cycle(expression)]
+fn note_arguments<'a>(
+    arguments: &[Argument<'a>],
+    in_condition: bool,
+    scopes: &Scopes<'_, 'a>,
+    purpose: Purpose,
+    sites: &mut Vec<Site<'a>>,
+) -> Result<(), AllocError>
+    ensures { OnOk result (sites.new.items ≡ sites.old.items
+        ++ spec.in_arguments in_condition (scopes_of scopes.now) purpose
+        (list_before arguments.now no_arguments)) }
+{
+    let mut left = arguments.len();
+    for argument in arguments {
+        left -= 1;
+        note_argument(argument, in_condition, scopes, purpose, left, sites)?;
+    }
+    Ok(())
+}
+
+/// Notes the sites in an argument, with so many arguments after it.
+#[cycle(expression)]
+fn note_argument<'a>(
+    argument: &Argument<'a>,
+    in_condition: bool,
+    scopes: &Scopes<'_, 'a>,
+    purpose: Purpose,
+    count: usize,
+    sites: &mut Vec<Site<'a>>,
+) -> Result<(), AllocError>
+    ensures { OnOk result (sites.new.items ≡ sites.old.items
+        ++ spec.in_argument in_condition (scopes_of scopes.now) purpose
+        (argument_of argument.now) count) }
+{
+    match argument {
+        Argument::Value(value) => note_expression(value, in_condition, scopes, purpose, sites),
+        Argument::Text(format) => note_format(purpose, *format, count, sites),
+    }
+}

@@ -1,0 +1,117 @@
+//! The variables that the copy of a state set holds.
+
+ghost use Rattle.std.specs.Prelude.{◌≡◌, ◌++◌, map, OnOk, IfOk};
+ghost use Rattle.std.specs.List.{flat_map};
+ghost use Rattle.snl_syntax.specs.view.Declarations.{declaration_view, declarator_view, type_view};
+ghost use Rattle.snl_syntax.specs.view.Definitions.{definition_view};
+ghost use Rattle.snl_resolve.specs.Chains.{scopes_of};
+ghost use Rattle.snl_resolve.specs.Scopes.{scope_of};
+ghost use Rattle.snl_resolve.specs.Variables as spec;
+ghost use Rattle.snl_resolve.specs.Held.{held_view};
+
+use crate::definition_scopes::definition_names;
+use crate::initialisers::range_of;
+use crate::rows::pushed;
+use crate::scopes::{Scope, Scopes};
+use crate::sites::Size;
+use crate::sizes::size_of;
+use snl_syntax::{Declaration, Declarator, Def, Initialiser, TypeName};
+use snl_text::Token;
+use std::alloc::{AllocError, Global};
+
+/// A variable of a state set's copy.
+#[derive(Clone, Copy)]
+pub struct Held<'p, 'a> {
+    /// Its name, with the place of its declaration.
+    pub name: Token<'a>,
+    /// The least and the greatest number of its type; those of `long` where the type is not
+    /// supported.
+    pub range: (i64, i64),
+    /// What its declaration says of its size.
+    pub size: Size,
+    /// What it begins with, if anything is written.
+    pub initial: &'p Option<Initialiser<'a>>,
+}
+
+/// The variable of a declared name.
+fn held_for<'p, 'a>(
+    declarator: &'p Declarator<'a>,
+    scopes: &Scopes<'_, 'a>,
+    type_name: TypeName<'a>,
+) -> Held<'p, 'a>
+    ensures { held_view result
+        ≡ spec.held_for (scopes_of scopes.now) (type_view type_name.entry)
+        (declarator_view declarator.now) }
+{
+    Held {
+        name: declarator.name,
+        range: range_of(type_name).unwrap_or((i64::MIN, i64::MAX)),
+        size: size_of(declarator.sizes.as_slice(), scopes),
+        initial: &declarator.initial,
+    }
+}
+
+/// Adds the variables of a declaration.
+pub fn push_held<'p, 'a>(
+    declared: &'p Declaration<'a>,
+    scopes: &Scopes<'_, 'a>,
+    kept: &mut Vec<Held<'p, 'a>>,
+) -> Result<(), AllocError>
+    ensures { OnOk result (map held_view kept.new.items ≡ map held_view kept.old.items
+        ++ spec.by_declaration (scopes_of scopes.now) (declaration_view declared.now)) }
+{
+    for declarator in &declared.names {
+        pushed(kept, held_for(declarator, scopes, declared.type_name))?;
+    }
+    Ok(())
+}
+
+/// Adds the variables of a definition.
+fn push_definition<'p, 'a>(
+    definition: &'p Def<'a>,
+    scopes: &Scopes<'_, 'a>,
+    kept: &mut Vec<Held<'p, 'a>>,
+) -> Result<(), AllocError>
+    ensures { OnOk result (map held_view kept.new.items ≡ map held_view kept.old.items
+        ++ spec.by_definition (scopes_of scopes.now) (definition_view definition.now)) }
+{
+    match definition {
+        Def::Declaration(declared) => push_held(declared, scopes, kept),
+        _ => Ok(()),
+    }
+}
+
+/// Adds the variables of each of some definitions.
+fn push_each<'p, 'a>(
+    definitions: &'p [Def<'a>],
+    scopes: &Scopes<'_, 'a>,
+    kept: &mut Vec<Held<'p, 'a>>,
+) -> Result<(), AllocError>
+    ensures { OnOk result (map held_view kept.new.items ≡ map held_view kept.old.items
+        ++ flat_map (spec.by_definition (scopes_of scopes.now))
+        (map definition_view definitions.now)) }
+{
+    for definition in definitions {
+        push_definition(definition, scopes, kept)?;
+    }
+    Ok(())
+}
+
+/// Adds the variables of definitions, in the order of the source; gives the scope that they make within
+/// others. The only error is that memory ends.
+pub fn push_definitions<'p, 'a>(
+    alloc: Global,
+    definitions: &'p [Def<'a>],
+    outer: &Scopes<'_, 'a>,
+    kept: &mut Vec<Held<'p, 'a>>,
+) -> Result<Scope<'a>, AllocError>
+    ensures scope { IfOk result (λ scope. scope
+        ≡ scope_of (scopes_of outer.now) (map definition_view definitions.now)) }
+    ensures kept { OnOk result (map held_view kept.new.items ≡ map held_view kept.old.items
+        ++ spec.by_definitions (scopes_of outer.now) (map definition_view definitions.now)) }
+{
+    let names = definition_names(alloc, definitions, outer)?;
+    let scope = Scope::of(alloc, names)?;
+    push_each(definitions, &Scopes::Within(&scope, outer), kept)?;
+    Ok(scope)
+}

@@ -1,0 +1,43 @@
+-- That a plan can run is a fact: it has one proof at most.
+use Rattle.std.proofs.Common.{ℕ, List, [], ◌∷◌, Option, None, Some, refl}
+use Rattle.snl_meaning.specs.declared.instrs.Instr.{Instr}
+use Rattle.snl_meaning.specs.Ran.{Ran, Gives, Faults}
+use Rattle.snl_meaning.specs.Endings.{IsOver}
+use Rattle.snl_meaning.specs.Run.{PieceContext, Exit, Over, LeftFor, Unfinished, Stuck, run_of}
+use Rattle.snl_vm.specs.Running.{LeavesValue}
+use Rattle.snl_schedule.specs.declared.plans.ClausePlan.{ClausePlan}
+use Rattle.snl_schedule.specs.Plans.{CanTest, CanRun}
+use Rattle.snl_schedule.specs.Loaded.{Loaded, CanRunLoaded}
+
+-- of a value that is left
+leaves-fact : (r : Ran Exit) → IsProp (LeavesValue r)
+leaves-fact (Gives (Over []) w text) x y = absurd x
+leaves-fact (Gives (Over (z ∷ s)) w text) x y = refl
+leaves-fact (Gives (LeftFor state) w text) x y = absurd x
+leaves-fact (Gives Unfinished w text) x y = absurd x
+leaves-fact (Gives Stuck w text) x y = absurd x
+leaves-fact (Faults f line w text) x y = refl
+
+-- of an end
+over-fact : (r : Ran Exit) → IsProp (IsOver r)
+over-fact (Gives (Over s) w text) x y = refl
+over-fact (Gives (LeftFor state) w text) x y = refl
+over-fact (Gives Unfinished w text) x y = absurd x
+over-fact (Gives Stuck w text) x y = absurd x
+over-fact (Faults f line w text) x y = refl
+
+-- of a condition
+test-fact : (g : PieceContext) (code : List Instr) (c : Option ℕ) → IsProp (CanTest g code c)
+test-fact g code None x y = refl
+test-fact g code (Some start) x y = λ j w. leaves-fact (run_of g code start w) (x w) (y w) j
+
+-- of a clause
+run-fact : (g : PieceContext) (code : List Instr) (c : ClausePlan) → IsProp (CanRun g code c)
+run-fact g code c x y = λ j. record {
+  condition = test-fact g code c.condition x.condition y.condition j;
+  block = λ w. over-fact (run_of g code c.block w) (x.block w) (y.block w) j;
+}
+
+-- of all that is loaded
+pub loaded-fact : (t : Loaded) → IsProp (CanRunLoaded t)
+loaded-fact t x y = λ j k s at i q there n c is. run-fact _ t.code c (x k s at i q there n c is) (y k s at i q there n c is) j

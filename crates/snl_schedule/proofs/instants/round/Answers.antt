@@ -1,0 +1,44 @@
+use Rattle.snl_schedule.specs.Loaded.{loaded}
+use Rattle.std.proofs.Common.{◌≡◌, ◌∙◌, ℕ, List, ap, sym, get_or, rules, ◌<◌, length}
+use Rattle.snl_schedule.specs.Plans.{set_of}
+use Rattle.snl_schedule.proofs.OneByOne.{turn-goes_on, turn-exits, turn-stops}
+use Rattle.snl_schedule.proofs.instants.round.Goals as goal
+
+pub returns-in-Err-clause-does : goal.returns-in-Err-clause-does
+returns-in-Err-clause-does g c =
+    let t = loaded c.args.program in
+    let sets = t.plan.sets.items in
+    let s = c.plan-item.result in
+    let within : c.loop-set.set < length sets = search rules in
+    let is : s ≡ get_or sets c.loop-set.set s = search rules in
+    let this-is = ap (λ (name : List ℕ). set_of (record { set = c.loop-set.set; name = name; formats = t.formats; room = t.room }) t.code s)
+    c.as_slice.ensures.value in
+    turn-stops t sets c.loop-set.set c.loop-set.before s within is _ this-is _ _ _ _ c.loop-set.invariant.on_way c.in-Err.stop _ _ c.in-Err.ensures.does
+
+pub returns-then-is_exit-clause-does : goal.returns-then-is_exit-clause-does
+returns-then-is_exit-clause-does g c =
+    let t = loaded c.args.program in
+    let sets = t.plan.sets.items in
+    let s = c.plan-item.result in
+    let within : c.loop-set.set < length sets = search rules in
+    let is : s ≡ get_or sets c.loop-set.set s = search rules in
+    let this-is = ap (λ (name : List ℕ). set_of (record { set = c.loop-set.set; name = name; formats = t.formats; room = t.room }) t.code s)
+    c.as_slice.ensures.value in
+    turn-exits t sets c.loop-set.set c.loop-set.before s within is _ this-is _ _ _ _ c.loop-set.invariant.on_way _ _ c.in-Ok.turned c.later-before.result c.later-before.ensures
+    (sym c.is_exit.ensures ∙ c.if-is_exit.true) c.in-Ok.ensures.does
+
+pub loop-set-preserved : goal.loop-set-preserved
+loop-set-preserved g c =
+    let t = loaded c.args.program in
+    let sets = t.plan.sets.items in
+    let s = c.plan-item.result in
+    let within : c.loop-set.set < length sets = search rules in
+    let is : s ≡ get_or sets c.loop-set.set s = search rules in
+    let this-is = ap (λ (name : List ℕ). set_of (record { set = c.loop-set.set; name = name; formats = t.formats; room = t.room }) t.code s)
+    c.as_slice.ensures.value in
+    record {
+      on_way = turn-goes_on t sets c.loop-set.set c.loop-set.before s within is _ this-is _ _ _ _ c.loop-set.invariant.on_way _ _ c.in-Ok.turned c.later-before.result c.later-before.ensures
+          (sym c.is_exit.ensures ∙ c.if-is_exit.false) c.in-Ok.ensures.does;
+      room = c.turn.ensures.room ∙ c.loop-set.invariant.room;
+      none_failed = search rules;
+    }

@@ -1,0 +1,9 @@
+pub mod Refresh
+pub mod Turn
+pub mod Plans
+pub mod Instant
+pub mod Loaded
+pub mod Arrivals
+pub mod Linked
+pub mod Event
+pub mod Laws

@@ -1,0 +1,38 @@
+-- What the plan of a program means, with its code.
+use Rattle.std.specs.Prelude.{◌≡◌, ◌+◌, ℕ, List, [], ◌∷◌, map, Some, slice_get}
+use Rattle.snl_meaning.specs.declared.instrs.Instr.{Instr}
+use Rattle.snl_meaning.specs.Run as run
+use Rattle.snl_schedule.specs.declared.plans.Plan.{Plan}
+use Rattle.snl_schedule.specs.declared.plans.SetPlan.{SetPlan}
+use Rattle.snl_schedule.specs.declared.plans.ProgramContext.{ProgramContext}
+use Rattle.snl_schedule.specs.Instant.{Program}
+use Rattle.snl_schedule.specs.Plans.{CanRunSet, set_of}
+use Rattle.snl_schedule.specs.Turn.{StateSet}
+
+-- What is loaded: the plan of a program, its code, its strings by their numbers, and the room of the operands.
+pub record Loaded : Type 0 where
+  pub plan : Plan
+  pub code : List Instr
+  pub formats : List (List ℕ)
+  pub room : ℕ
+
+-- What is handed on of that.
+abbrev pub loaded : ProgramContext → Loaded
+loaded t = record { plan = t.plan.now; code = t.code.now; formats = map (λ text. text.items) t.formats.now; room = t.room }
+
+-- What the code of a state set of this number runs with.
+abbrev pub context_in : Loaded → ℕ → SetPlan → run.PieceContext
+context_in t k s = record { set = k; name = s.name.items; formats = t.formats; room = t.room }
+
+-- State sets with numbers from k on.
+abbrev pub sets_from : Loaded → ℕ → List SetPlan → List StateSet
+sets_from t k [] = []
+sets_from t k (s ∷ ss) = set_of (context_in t k s) t.code s ∷ sets_from t (k + 1) ss
+
+-- What stands for the program.
+abbrev pub program_of : Loaded → Program
+program_of t = record { name = t.plan.name.items; links = t.plan.links.items; sets = sets_from t 0 t.plan.sets.items }
+
+-- The pieces of all state sets come to their ends in every world.
+abbrev pub CanRunLoaded : Loaded → Type 0
+CanRunLoaded t = (k : ℕ) (s : SetPlan) → slice_get t.plan.sets.items k ≡ Some s → CanRunSet (context_in t k s) t.code s.states.items

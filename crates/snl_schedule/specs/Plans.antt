@@ -1,0 +1,69 @@
+-- What the plan of a state set means, with the code of its pieces.
+use Rattle.std.specs.Prelude.{◌≡◌, ℕ, Bool, true, List, [], map, Option, None, Some, slice_get}
+use Rattle.snl_meaning.specs.declared.instrs.Instr.{Instr}
+use Rattle.snl_meaning.specs.Effect.{holds}
+use Rattle.snl_meaning.specs.Ran.{Ran, Gives, then_do}
+use Rattle.snl_meaning.specs.Endings.{IsOver}
+use Rattle.snl_meaning.specs.Run.{PieceContext, run_of}
+use Rattle.snl_meaning.specs.World.{World}
+use Rattle.snl_vm.specs.Running.{names_of, LeavesValue, value_at, left_at}
+use Rattle.snl_schedule.specs.declared.plans.ClausePlan.{ClausePlan}
+use Rattle.snl_schedule.specs.declared.plans.StatePlan.{StatePlan}
+use Rattle.snl_schedule.specs.declared.plans.SetPlan.{SetPlan}
+use Rattle.snl_schedule.specs.declared.plans.SetContext.{SetContext}
+use Rattle.snl_schedule.specs.Turn.{Clause, State, StateSet}
+
+-- Whether the condition whose code begins at an address holds. A missing one does.
+abbrev pub held_at : PieceContext → List Instr → Option ℕ → World → Ran Bool
+held_at g code None w = Gives true w []
+held_at g code (Some start) w = then_do (value_at g code start w) holds
+
+-- What stands for a clause,
+abbrev pub clause_of : PieceContext → List Instr → ClausePlan → Clause
+clause_of g code c = record { holds = held_at g code c.condition; acts = left_at g code c.block; target = c.target; line = c.line }
+
+-- for a state,
+abbrev pub state_of : PieceContext → List Instr → StatePlan → State
+state_of g code s = record { name = s.name.items; clauses = map (clause_of g code) s.clauses.items }
+
+-- and for a state set.
+abbrev pub set_of : PieceContext → List Instr → SetPlan → StateSet
+set_of g code s = record { set = g.set; name = g.name; states = map (state_of g code) s.states.items; feeds = s.feeds.items }
+
+-- The clause that was chosen, if one was.
+abbrev pub clause_by : PieceContext → List Instr → Option ClausePlan → Option Clause
+clause_by g code None = None
+clause_by g code (Some c) = Some (clause_of g code c)
+
+-- What the code of a state set runs with.
+abbrev pub context_on : SetContext → PieceContext
+context_on t = let n = names_of t.context in record { set = t.context.set; name = n.name; formats = n.formats; room = t.room }
+
+-- The state set of a context.
+abbrev pub set_on : SetContext → StateSet
+set_on t = set_of (context_on t) t.code.now t.plan.now
+
+-- ---- plans that can run
+
+-- The code at an address leaves a value in every world, if there is such an address.
+abbrev pub CanTest : PieceContext → List Instr → Option ℕ → Type 0
+CanTest g code None = Unit {0}
+CanTest g code (Some start) = (w : World) → LeavesValue (run_of g code start w)
+
+-- The pieces of a clause come to their ends in every world.
+pub record CanRun (g : PieceContext) (code : List Instr) (c : ClausePlan) : Type 0 where
+  pub condition : CanTest g code c.condition
+  pub block : (w : World) → IsOver (run_of g code c.block w)
+
+-- The same of a clause that may be missing.
+abbrev pub CanFire : PieceContext → List Instr → Option ClausePlan → Type 0
+CanFire g code None = Unit {0}
+CanFire g code (Some c) = CanRun g code c
+
+-- So do those of some clauses,
+abbrev pub CanRunAll : PieceContext → List Instr → List ClausePlan → Type 0
+CanRunAll g code cs = (k : ℕ) (c : ClausePlan) → slice_get cs k ≡ Some c → CanRun g code c
+
+-- and those of some states.
+abbrev pub CanRunSet : PieceContext → List Instr → List StatePlan → Type 0
+CanRunSet g code states = (k : ℕ) (s : StatePlan) → slice_get states k ≡ Some s → CanRunAll g code s.clauses.items

@@ -1,0 +1,158 @@
+//! What happens at one time: rounds of one turn for each state set.
+
+ghost use Rattle.std.specs.Prelude.{◌≡◌, ◌-◌, ◌^◌, ◌<◌};
+ghost use Rattle.snl_output.specs.Devices.{counted, stopped_by_sink};
+ghost use Rattle.snl_output.specs.Does.{Does};
+ghost use Rattle.snl_vm.specs.Stack.{room_of};
+ghost use Rattle.snl_vm.specs.Views.{world_of};
+ghost use Rattle.snl_schedule.specs.Instant as spec;
+ghost use Rattle.snl_schedule.specs.Loaded.{CanRunLoaded, loaded, program_of};
+
+use crate::plans::{ProgramContext, SetContext};
+use crate::starting::{are_ready, start};
+use crate::turns::{Turned, turn};
+use snl_meaning::Live;
+use snl_output::{Sink, Stop, write_exit};
+use snl_vm::{Operands, PieceContext, Store};
+
+/// What is known of a round after one more turn.
+fn later(before: Turned, turned: Turned) -> Turned
+    ensures { result ≡ spec.later before turned }
+{
+    match turned {
+        Turned::Stayed => before,
+        Turned::Moved | Turned::Exited => turned,
+    }
+}
+
+/// Whether a turn led out of the program.
+fn is_exit(turned: Turned) -> bool
+    ensures { result ≡ spec.is_exit turned }
+{
+    match turned {
+        Turned::Exited => true,
+        Turned::Stayed | Turned::Moved => false,
+    }
+}
+
+/// A turn of each state set, up to one that leads out of the program; answers whether one had a transition.
+fn round<S: Sink>(
+    program: ProgramContext,
+    store: &mut Store,
+    operands: &mut Operands,
+    sink: &mut S,
+) -> Result<Turned, Stop>
+    requires failures { S.failures sink.old < 2 ^ 64 - 1 }
+    requires room { room_of operands.old ≡ program.room }
+    requires runs { CanRunLoaded (loaded program) }
+    ensures does { Does (λ t. t) result (world_of store.new) (S.told sink.old) (S.told sink.new)
+        (spec.round_of (program_of (loaded program.entry)) (world_of store.old)) }
+    ensures room { room_of operands.new ≡ room_of operands.old }
+    ensures failures { S.failures sink.new
+        ≡ counted (stopped_by_sink result) (S.failures sink.old) }
+{
+    store.due = None;
+    let mut before = Turned::Stayed;
+    for (set, plan) in program.plan.sets.iter().enumerate() {
+        let context = PieceContext {
+            set,
+            name: plan.name.as_slice(),
+            formats: program.formats,
+        };
+        let state_set = SetContext {
+            plan,
+            code: program.code,
+            context,
+            room: program.room,
+        };
+        match turn(state_set, store, operands, sink) {
+            Ok(turned) => before = later(before, turned),
+            Err(stop) => return Err(stop),
+        }
+        if is_exit(before) {
+            return Ok(before);
+        }
+    }
+    Ok(before)
+}
+
+/// The end of a program by a transition that leads out of it: its line.
+fn exit<S: Sink>(name: &[u8], store: &mut Store, sink: &mut S) -> Result<(), Stop>
+    requires failures { S.failures sink.old < 2 ^ 64 - 1 }
+    ensures does { Does (λ x. x) result (world_of store.new) (S.told sink.old) (S.told sink.new)
+        (spec.exited name.now (world_of store.old)) }
+    ensures failures { S.failures sink.new
+        ≡ counted (stopped_by_sink result) (S.failures sink.old) }
+{
+    match write_exit(sink, store.time, name) {
+        Ok(()) => {
+            store.phase = Live::Ended;
+            Ok(())
+        }
+        Err(_) => Err(Stop::Sink),
+    }
+}
+
+/// Rounds until one has no transition, or leads out of the program. Each transition spends a tick, so there are no more
+/// rounds than ticks are left, and one.
+pub fn rounds<S: Sink>(
+    program: ProgramContext,
+    store: &mut Store,
+    operands: &mut Operands,
+    sink: &mut S,
+) -> Result<(), Stop>
+    requires failures { S.failures sink.old < 2 ^ 64 - 1 }
+    requires room { room_of operands.old ≡ program.room }
+    requires runs { CanRunLoaded (loaded program) }
+    ensures does { Does (λ x. x) result (world_of store.new) (S.told sink.old) (S.told sink.new)
+        (spec.all_rounds (program_of (loaded program.entry)) (world_of store.old)) }
+    ensures room { room_of operands.new ≡ room_of operands.old }
+    ensures failures { S.failures sink.new
+        ≡ counted (stopped_by_sink result) (S.failures sink.old) }
+{
+    for _round in 0..u64::from(store.ticks) + 1 {
+        match round(program, store, operands, sink) {
+            Ok(Turned::Moved) => {}
+            Ok(Turned::Stayed) => {
+                store.wake = store.due;
+                return Ok(());
+            }
+            Ok(Turned::Exited) => return exit(program.plan.name.as_slice(), store, sink),
+            Err(stop) => return Err(stop),
+        }
+    }
+    Ok(())
+}
+
+/// What happens at one time, with so many ticks: the start, if it is due, and rounds until one has no transition.
+pub fn instant<S: Sink>(
+    program: ProgramContext,
+    budget: u32,
+    store: &mut Store,
+    operands: &mut Operands,
+    sink: &mut S,
+) -> Result<(), Stop>
+    requires failures { S.failures sink.old < 2 ^ 64 - 1 }
+    requires room { room_of operands.old ≡ program.room }
+    requires runs { CanRunLoaded (loaded program) }
+    ensures does { Does (λ x. x) result (world_of store.new) (S.told sink.old) (S.told sink.new)
+        (spec.instant_of (program_of (loaded program.entry)) budget (world_of store.old)) }
+    ensures room { room_of operands.new ≡ room_of operands.old }
+    ensures failures { S.failures sink.new
+        ≡ counted (stopped_by_sink result) (S.failures sink.old) }
+{
+    store.ticks = budget;
+    match store.phase {
+        Live::Ended => Ok(()),
+        Live::Running => rounds(program, store, operands, sink),
+        Live::Waiting => {
+            if !are_ready(program.plan.links.as_slice(), store) {
+                return Ok(());
+            }
+            match start(program, store, sink) {
+                Ok(()) => rounds(program, store, operands, sink),
+                Err(stop) => Err(stop),
+            }
+        }
+    }
+}

@@ -1,0 +1,23 @@
+//! Laws of events. Each function is its contract, and does nothing.
+
+ghost use Rattle.snl_schedule.specs.Laws.{AnswersThePhase, EndedAnswersEnded, EndedStays};
+
+/// An event in a world that has ended gives that world, the answer that it has ended, and no text.
+#[tactic(auto, using(crate::proofs::Ending::ended_stays))]
+pub fn ended_stays()
+    ensures { EndedStays }
+{}
+
+/// After `Ended`, and after a stop, `take` answers `Ended` and writes nothing: whatever meets its clause `does` on a
+/// world that has ended gives that answer, leaves the world, and tells the sink nothing.
+#[tactic(auto, using(crate::proofs::Ending::ended_answers_ended))]
+pub fn ended_answers_ended()
+    ensures { EndedAnswersEnded }
+{}
+
+/// Whatever meets that clause and answers how far the program has come leaves a world that has come so far. So after
+/// `Ended` the world has ended; after a stop the clause `ended` says so.
+#[tactic(auto, using(crate::proofs::Ending::answers_the_phase))]
+pub fn answers_the_phase()
+    ensures { AnswersThePhase }
+{}

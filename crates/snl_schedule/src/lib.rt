@@ -1,0 +1,23 @@
+//! The scheduler: what a line of a trace does, the start of a program, and rounds, in which each state set has a turn.
+#![tactic(auto)]
+
+mod arrivals;
+mod events;
+mod feeds;
+mod instants;
+pub mod laws;
+mod plans;
+mod starting;
+mod taking;
+mod turns;
+
+pub use arrivals::{connect, fit_links, receive};
+pub use events::{Event, VALUES_KEPT};
+pub use feeds::{LinkFeed, refresh};
+pub use instants::{instant, rounds};
+pub use plans::{
+    ClausePlan, Destination, LinkPlan, Plan, ProgramContext, SetContext, SetPlan, StatePlan,
+    ties_of,
+};
+pub use taking::{fits, take};
+pub use turns::{Turned, turn};

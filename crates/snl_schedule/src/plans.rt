@@ -1,0 +1,150 @@
+//! What a machine keeps of the state sets of a program, beside their code.
+
+ghost use Rattle.std.specs.Prelude.{◌≡◌, map, IfOk};
+ghost use Rattle.snl_vm.specs.Rows.{numbers_of};
+ghost use Rattle.snl_schedule.specs.Linked.{HasRows};
+ghost use Rattle.std.proofs.Props.{props};
+
+use crate::feeds::LinkFeed;
+use snl_meaning::Instr;
+use snl_vm::{PieceContext, Rows};
+use std::alloc::{AllocError, Global};
+
+/// Where a clause leads (SNL Reference, "State Transitions").
+#[derive(Clone, Copy)]
+pub enum Destination {
+    /// To the state of this number.
+    State(usize),
+    /// Out of the program, which ends then.
+    Exit,
+}
+
+/// A clause.
+#[derive(Clone, Copy)]
+pub struct ClausePlan {
+    /// Where the code of its condition begins; None where it has none.
+    pub condition: Option<usize>,
+    /// Where the code of its block begins.
+    pub block: usize,
+    /// Where it leads.
+    pub target: Destination,
+    /// The line of the word `when`, from 1.
+    pub line: usize,
+}
+
+/// A state.
+#[derive(Drop)]
+pub struct StatePlan {
+    /// As spelled in the source.
+    pub name: Vec<u8>,
+    /// In the order of the source.
+    pub clauses: Vec<ClausePlan>,
+}
+
+/// A state set.
+#[derive(Drop)]
+pub struct SetPlan {
+    /// As spelled in the source.
+    pub name: Vec<u8>,
+    /// In the order of the source; the first is the initial one.
+    pub states: Vec<StatePlan>,
+    /// By link: which words of its copy take the values of the link.
+    pub feeds: Vec<LinkFeed>,
+}
+
+/// What a turn of a state set runs on.
+#[derive(Clone, Copy)]
+pub struct SetContext<'t> {
+    /// The state set.
+    pub plan: &'t SetPlan,
+    /// The code of the program.
+    pub code: &'t [Instr],
+    /// The number and the name of the state set, and the strings of the program.
+    pub context: PieceContext<'t>,
+    /// How many operands there is room for.
+    pub room: usize,
+}
+
+/// A link.
+#[derive(Clone, Copy)]
+pub struct LinkPlan {
+    /// The number of its channel; None where it has none.
+    pub channel: Option<usize>,
+    /// Whether a `monitor` names its elements: then each value marks the link.
+    pub is_monitored: bool,
+    /// Where its buffer begins among the buffers, in words.
+    pub from: usize,
+    /// How many elements it has, and so the words of its buffer.
+    pub count: usize,
+    /// The least number of its variable's type.
+    pub least: i64,
+    /// The greatest number of its variable's type.
+    pub greatest: i64,
+}
+
+/// A program.
+#[derive(Drop)]
+pub struct Plan {
+    /// As spelled in the source.
+    pub name: Vec<u8>,
+    /// In the order of the `assign` definitions.
+    pub links: Vec<LinkPlan>,
+    /// In the order of the source.
+    pub sets: Vec<SetPlan>,
+    /// By channel: the numbers of its links.
+    rows: Rows,
+    ghost known: { HasRows rows links.items } by { Prim.hlevel props },
+}
+
+/// The channels of links.
+pub fn ties_of(alloc: Global, links: &[LinkPlan]) -> Result<Vec<Option<usize>>, AllocError>
+    ensures { IfOk result (λ ties. ties.items ≡ map (λ l. l.channel) links.now) }
+{
+    let mut ties = Vec::new(alloc);
+    for link in links {
+        ties.push(link.channel)?;
+    }
+    Ok(ties)
+}
+
+impl Plan {
+    /// The plan of a program of this name. The only error is that memory ends.
+    pub fn new(
+        alloc: Global,
+        name: Vec<u8>,
+        links: Vec<LinkPlan>,
+        sets: Vec<SetPlan>,
+    ) -> Result<Plan, AllocError>
+        ensures { IfOk result (λ plan. (plan.name ≡ name) × (plan.links ≡ links)
+            × (plan.sets ≡ sets)) }
+    {
+        let ties = ties_of(alloc, links.as_slice())?;
+        let rows = Rows::new(alloc, ties.as_slice())?;
+        Ok(Plan {
+            name,
+            links,
+            sets,
+            rows,
+        })
+    }
+
+    /// The numbers of the links of a channel, in their order. It takes no walk over the others.
+    pub fn links_of(&self, channel: usize) -> &[usize]
+        ensures { result.now ≡ numbers_of channel 0 (map (λ l. l.channel) self.now.links.items) }
+    {
+        self.rows.row(channel)
+    }
+}
+
+/// What an instant of a program runs on.
+#[derive(Clone, Copy)]
+pub struct ProgramContext<'t> {
+    /// Of the program.
+    pub plan: &'t Plan,
+    /// The code of the program.
+    pub code: &'t [Instr],
+    /// The strings of the program, by their numbers.
+    pub formats: &'t [Vec<u8>],
+    /// How many operands there is room for.
+    pub room: usize,
+}

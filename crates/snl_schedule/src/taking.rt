@@ -1,0 +1,81 @@
+//! Events, one after another.
+
+ghost use Rattle.std.specs.Prelude.{◌≡◌, ◌-◌, ◌^◌, ◌<◌, OnErr};
+ghost use Rattle.snl_schedule.specs.Event as spec;
+ghost use Rattle.snl_output.specs.Devices.{counted, stopped_by_sink};
+ghost use Rattle.snl_output.specs.Does.{Does};
+ghost use Rattle.snl_vm.specs.Stack.{room_of};
+ghost use Rattle.snl_vm.specs.Views.{world_of};
+ghost use Rattle.snl_schedule.specs.Loaded.{CanRunLoaded, loaded, program_of};
+
+use crate::arrivals::{connect, fit_links, receive};
+use crate::events::Event;
+use crate::instants::instant;
+use crate::plans::{Plan, ProgramContext};
+use snl_meaning::Live;
+use snl_output::{Sink, Stop};
+use snl_vm::{Operands, Store};
+
+/// Lets an event change the channels and the buffers of their links.
+fn apply(event: &Event, program: ProgramContext, store: &mut Store)
+    ensures { world_of store.new ≡ spec.applied (program_of (loaded program.entry)) event.now
+        (world_of store.old) }
+{
+    match event {
+        Event::Up(channel) => connect(*channel, store),
+        Event::Val(channel, values) => receive(*channel, values.as_slice(), program, store),
+        Event::Tick | Event::Other => {}
+    }
+}
+
+/// Whether an event speaks of one of so many channels, and each value that a link of that channel keeps fits the type of
+/// the link's variable.
+pub fn fits(event: &Event, channels: usize, plan: &Plan) -> bool
+    ensures { result ≡ spec.is_event_fit channels plan.now.links.items event.now }
+{
+    match event {
+        Event::Up(channel) => *channel < channels,
+        Event::Val(channel, values) => {
+            *channel < channels && fit_links(*channel, values.as_slice(), plan)
+        }
+        Event::Tick | Event::Other => true,
+    }
+}
+
+/// Does what a line of a trace asks for at a time in milliseconds, with so many steps, and hands the lines of the run to
+/// the sink. After the end of a run it does nothing.
+///
+/// After a fault, and where the sink fails, the run has ended, and what was written stands.
+pub fn take<S: Sink>(
+    ms: u64,
+    event: &Event,
+    program: ProgramContext,
+    budget: u32,
+    store: &mut Store,
+    operands: &mut Operands,
+    sink: &mut S,
+) -> Result<Live, Stop>
+    requires failures { S.failures sink.old < 2 ^ 64 - 1 }
+    requires room { room_of operands.old ≡ program.room }
+    requires runs { CanRunLoaded (loaded program) }
+    ensures does { Does (λ live. live) result (world_of store.new) (S.told sink.old)
+        (S.told sink.new) (spec.line_of (program_of (loaded program.entry)) budget ms event.now
+        (world_of store.old)) }
+    ensures ended { OnErr result ((world_of store.new).phase ≡ Live.Ended) }
+    ensures room { room_of operands.new ≡ room_of operands.old }
+    ensures failures { S.failures sink.new
+        ≡ counted (stopped_by_sink result) (S.failures sink.old) }
+{
+    if store.phase == Live::Ended {
+        return Ok(Live::Ended);
+    }
+    store.time = ms;
+    apply(event, program, store);
+    match instant(program, budget, store, operands, sink) {
+        Ok(()) => Ok(store.phase),
+        Err(stop) => {
+            store.phase = Live::Ended;
+            Err(stop)
+        }
+    }
+}

@@ -1,0 +1,116 @@
+//! What a checked program tells: its options in force, where a name is declared, its links, its tables, its code.
+
+use crate::tests::calls::checked;
+use snl_check::{Checked, Options};
+use snl_code::{Code, Piece, compile};
+use snl_links::{Link, Macros, links_of, tables_of};
+use snl_meaning::Instr;
+use snl_text::{Pos, lex};
+use std::alloc::{AllocError, Global};
+use std::process::Abort;
+use std::test::Fail;
+
+/// Prints the value of its channel, and ends.
+const PRINTS: &[u8] = b"program p option +s; int x; assign x to \"c\"; monitor x;
+ss s { state a { when (x) { printf(\"%d\", x); } exit } }";
+
+/// The offsets of its first `x`, which declares the variable, and of the one in its condition.
+const DECLARED: usize = 25;
+
+const USED: usize = 79;
+
+const TABLES: &[u8] =
+    b"program p\nchannel x 0 1 \"c\" monitor - 0\nss s\nstate a +t+e+x\nwhen 1 exit\n";
+
+/// What a checked program tells.
+#[derive(Drop)]
+struct Told {
+    options: Options,
+    declared: Option<Pos>,
+    links: Vec<Link>,
+    tables: Vec<u8>,
+    code: Code,
+}
+
+/// What tells. A function that owns a checked program and lends it is dear to prove; one that owns a value of a type
+/// parameter is not.
+trait Tells {
+    fn told(&self, alloc: Global) -> Result<Told, AllocError>;
+}
+
+impl<'a> Tells for Checked<'a> {
+    fn told(&self, alloc: Global) -> Result<Told, AllocError> {
+        told_of(alloc, self)
+    }
+}
+
+fn told_of(alloc: Global, checked: &Checked) -> Result<Told, AllocError> {
+    let macros = Macros {
+        text: b"".as_slice(),
+    };
+    let mut tables = Vec::new(alloc);
+    tables_of(alloc, checked.program(), &mut tables)?;
+    Ok(Told {
+        options: checked.options(),
+        declared: checked.declared(USED),
+        links: links_of(alloc, checked.program(), &macros)?,
+        tables,
+        code: compile(alloc, checked.program())?,
+    })
+}
+
+fn told_by_owner<T: Tells + Drop>(alloc: Global, checked: T) -> Result<Told, AllocError> {
+    checked.told(alloc)
+}
+
+/// The instruction with which a piece begins.
+fn first_of(code: &Code, piece: Piece) -> Option<Instr> {
+    let number = code.start(piece)?;
+    if number < code.len() {
+        Some(code.instr(number))
+    } else {
+        None
+    }
+}
+
+#[test]
+fn what_a_program_tells(rt: HostRuntime) -> Result<(), Fail> {
+    let lexed = lex(rt.alloc(), PRINTS)?;
+    let told = told_by_owner(rt.alloc(), checked(rt.alloc(), &lexed)?)?;
+    assert!(rt;
+        told.options.s == Some(true) && told.options.w.is_none(),
+        "options"
+    );
+    assert!(rt;
+        matches!(told.declared, Some(pos) if pos.offset == DECLARED),
+        "declared"
+    );
+    assert_eq!(rt; told.tables.as_slice(), TABLES);
+    links_are_right(&rt, told.links.as_slice());
+    code_is_right(&rt, &told.code);
+    Ok(())
+}
+
+fn links_are_right(rt: &impl Abort, links: &[Link]) {
+    assert_eq!(rt; links.len(), 1);
+    for link in links {
+        assert_eq!(rt; link.name.as_slice(), b"c".as_slice());
+        assert!(rt; link.count == 1 && link.monitored, "link");
+    }
+}
+
+/// The condition pushes the variable and ends; the block pushes it, prints, drops what the call gives, and ends.
+fn code_is_right(rt: &impl Abort, code: &Code) {
+    assert_eq!(rt; code.len(), 6);
+    let (set, state, clause) = (0, 0, 0);
+    let condition = first_of(code, Piece::Condition { set, state, clause });
+    assert!(rt;
+        matches!(condition, Some(Instr::Load(variable)) if variable.size == 1),
+        "condition"
+    );
+    let block = first_of(code, Piece::Block { set, state, clause });
+    assert!(rt; matches!(block, Some(Instr::Load(_))), "block");
+    assert!(rt; code.start(Piece::Entry { set, state }).is_none(), "entry");
+    assert_eq!(rt; code.text(0), b"\"%d\"".as_slice());
+    assert!(rt; code.text(1).is_empty(), "no text");
+}

@@ -1,0 +1,23 @@
+-- The copies of a store, seen as those of its world.
+use Rattle.std.proofs.Common.{◌≡◌, ◌∙◌, ◌+◌, ◌-◌, ◌<◌, ℕ, zero, suc, ℤ, pos, List, [], ◌∷◌, ap, sym, arith, map, length, get_or, slice_set, slice_index_or}
+use Rattle.snl_meaning.specs.World.{no_copy, zeroed}
+use Rattle.snl_vm.specs.declared.stores.SetMemory.{SetMemory}
+use Rattle.snl_vm.specs.Views.{copy_view}
+
+-- one copy was changed in its words
+pub copy_changed : (cs : List SetMemory) (i : ℕ) (x new : SetMemory) (words : List ℤ → List ℤ) → i < length cs → x ≡ get_or cs i x
+    → copy_view new ≡ record (copy_view x) { words = words x.words.items }
+    → map copy_view (slice_set cs i new)
+    ≡ slice_set (map copy_view cs) i (record (slice_index_or (map copy_view cs) i no_copy) { words = words (slice_index_or (map copy_view cs) i no_copy).words })
+copy_changed [] i x new words within is changed = absurd (omega (arith, within))
+copy_changed (c ∷ cs) zero x new words within is changed =
+    ap (λ k. k ∷ map copy_view cs) (changed ∙ ap (λ (y : SetMemory). record (copy_view y) { words = words y.words.items }) is)
+copy_changed (c ∷ cs) (suc i) x new words within is changed = ap (λ ks. copy_view c ∷ ks) (copy_changed cs i x new words (omega (arith, within)) is changed)
+
+-- one word more is 0
+pub zeroed_more : (words : List ℤ) (place n count : ℕ) → n < count →
+    zeroed (slice_set words (place + n) (pos 0)) (place + (n + 1)) (count - (n + 1)) ≡ zeroed words (place + n) (count - n)
+zeroed_more words place n count less =
+    let after : place + (n + 1) ≡ suc (place + n) = omega arith in
+    let left : count - n ≡ suc (count - (n + 1)) = omega (arith, less) in
+    ap (λ p. zeroed (slice_set words (place + n) (pos 0)) p (count - (n + 1))) after ∙ sym (ap (zeroed words (place + n)) left)

@@ -1,0 +1,9 @@
+pub mod Topmost
+pub mod Bits
+pub mod RowLaws
+pub mod Copies
+pub mod Meets
+pub mod OperandLaws
+pub mod Elements
+pub mod Silence
+pub mod UnderWay

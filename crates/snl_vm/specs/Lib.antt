@@ -1,0 +1,6 @@
+pub mod Stack
+pub mod Marks
+pub mod Rows
+pub mod Views
+pub mod Running
+pub mod Steps

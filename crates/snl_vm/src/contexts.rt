@@ -1,0 +1,29 @@
+//! What code runs with: its state set, and the texts that its lines say.
+
+ghost use Rattle.std.specs.Prelude.{◌≡◌};
+
+/// What a piece of code runs with.
+#[derive(Clone, Copy)]
+pub struct PieceContext<'t> {
+    /// The number of the state set on whose copy it runs.
+    pub set: usize,
+    /// The name of that state set.
+    pub name: &'t [u8],
+    /// The strings of the program, as spelled with their quotes, by the numbers that instructions give them.
+    pub formats: &'t [Vec<u8>],
+}
+
+impl<'t> PieceContext<'t> {
+    ghost use Rattle.snl_meaning.specs.Names.{text_of};
+    ghost use Rattle.snl_vm.specs.Running.{names_of};
+
+    /// The string of a number; empty where there is none.
+    pub fn format(self, number: usize) -> &'t [u8]
+        ensures { result.now ≡ text_of (names_of self.entry).formats number }
+    {
+        match self.formats.get(number) {
+            Some(text) => text.as_slice(),
+            None => &[],
+        }
+    }
+}

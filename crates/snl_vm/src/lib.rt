@@ -1,0 +1,24 @@
+//! The virtual machine: the memory of a run, which has all that a run reads and changes, and the execution of flat code on it.
+#![tactic(auto)]
+
+mod contexts;
+mod marks;
+mod operands;
+mod rows;
+mod running;
+mod single;
+mod steps;
+mod stores;
+mod telling;
+mod words;
+
+pub use contexts::PieceContext;
+pub use marks::Marks;
+pub use operands::Operands;
+pub use rows::Rows;
+pub use running::{evaluate, perform};
+pub use steps::step;
+pub use stores::{SetMemory, Store};
+pub use words::{
+    Adjustment, Charge, adjust, checked_subscript, operate, operate_prefix, put_number, spend, wait,
+};

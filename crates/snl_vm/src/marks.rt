@@ -1,0 +1,90 @@
+//! Marks of places, 64 to a word, the lowest bit first.
+
+ghost use Rattle.std.specs.Prelude.{◌≡◌, ◌*◌, ◌≤◌, ◌<◌, true, false, length, replicate, slice_set, IfOk};
+
+use std::alloc::{AllocError, Global};
+
+/// Which of some places are marked.
+#[derive(Drop)]
+pub struct Marks {
+    words: Vec<u64>,
+    count: usize,
+    ghost held: { count ≤ 64 * length words.items },
+}
+
+impl Marks {
+    ghost use Rattle.snl_vm.specs.Marks.{marks_of, has, if_within, IsFirst};
+
+    /// So many places, none of them marked. The only error is that memory ends.
+    pub fn new(alloc: Global, count: usize) -> Result<Self, AllocError>
+        ensures { IfOk result (λ marks. marks_of marks ≡ replicate count false) }
+    {
+        Ok(Marks {
+            words: vec![in alloc; 0u64; count.div_ceil(64)]?,
+            count,
+        })
+    }
+
+    /// Whether a place is marked; one that is not there is not.
+    pub fn is_marked(&self, place: usize) -> bool
+        ensures { has (marks_of self.now) place ≡ result }
+    {
+        place < self.count && (self.words[place / 64] >> (place % 64)) & 1 == 1
+    }
+
+    /// Marks a place, if it is there.
+    pub fn mark(&mut self, place: usize)
+        ensures { marks_of self.new ≡ slice_set (marks_of self.old) place true }
+    {
+        if place < self.count {
+            self.words[place / 64] |= 1u64 << (place % 64);
+        }
+    }
+
+    /// Takes the mark of a place away.
+    pub fn unmark(&mut self, place: usize)
+        ensures { marks_of self.new ≡ slice_set (marks_of self.old) place false }
+    {
+        if place < self.count {
+            self.words[place / 64] &= !(1u64 << (place % 64));
+        }
+    }
+
+    /// The first marked place from one on. It looks at a word for 64 places.
+    pub fn first_from(&self, from: usize) -> Option<usize>
+        ensures { IsFirst (marks_of self.now) from result }
+    {
+        if self.count <= from {
+            return None;
+        }
+        let left = self.words[from / 64] >> (from % 64);
+        if left != 0 {
+            return self.within(from + left.trailing_zeros() as usize);
+        }
+        self.first_in(from / 64 + 1)
+    }
+
+    /// The first marked place of the words from one on.
+    fn first_in(&self, word: usize) -> Option<usize>
+        ensures { IsFirst (marks_of self.now) (64 * word) result }
+    {
+        for number in word..self.count.div_ceil(64) {
+            let left = self.words[number];
+            if left != 0 {
+                return self.within(number * 64 + left.trailing_zeros() as usize);
+            }
+        }
+        None
+    }
+
+    /// A place, if it is there.
+    fn within(&self, place: usize) -> Option<usize>
+        ensures { result ≡ if_within self.now.count place }
+    {
+        if place < self.count {
+            Some(place)
+        } else {
+            None
+        }
+    }
+}

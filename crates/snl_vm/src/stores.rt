@@ -1,0 +1,155 @@
+//! The store: all that a run reads and changes.
+
+ghost use Rattle.std.specs.Prelude.{◌≡◌, ◌+◌, [], false, pos, slice_get, slice_index_or, slice_set};
+
+use crate::marks::Marks;
+use snl_meaning::{Live, Variable};
+
+/// What a state set has for itself.
+#[derive(Drop)]
+pub struct SetMemory {
+    /// The elements of all its variables, one variable after another.
+    pub words: Vec<i64>,
+    /// The number of the state that it is in.
+    pub state: usize,
+    /// When it entered that, in milliseconds.
+    pub entered: u64,
+}
+
+/// All that a run reads and changes. Its vectors keep their lengths.
+#[derive(Drop)]
+pub struct Store {
+    /// In milliseconds; that of the last event, and 0 before the first.
+    pub time: u64,
+    /// How far the program has come.
+    pub phase: Live,
+    /// Ticks that are left in this instant.
+    pub ticks: u32,
+    /// When the next `delay` is due, in milliseconds, if one is.
+    pub wake: Option<u64>,
+    /// The least due time that a `delay` noted in this round, in milliseconds.
+    pub due: Option<u64>,
+    /// By state set.
+    pub copies: Vec<SetMemory>,
+    /// By channel: its name, which never changes.
+    pub channels: Vec<Vec<u8>>,
+    /// By channel: whether it is connected.
+    pub ups: Vec<bool>,
+    /// By channel: whether it was ever valued.
+    pub valued: Vec<bool>,
+    /// By link: the number of its channel, which never changes; None where it has no channel.
+    pub ties: Vec<Option<usize>>,
+    /// The elements of the buffers of all links, one link after another.
+    pub buffers: Vec<i64>,
+    /// By state set, then by link: whether a value came that the copy does not have yet.
+    pub marks: Vec<Marks>,
+    /// The number of a link that the start waited for when this was last looked at. No part of the world: it says only
+    /// where to look first.
+    pub awaited: usize,
+}
+
+impl SetMemory {
+    ghost use Rattle.snl_vm.specs.Views.{copy_view};
+    ghost use Rattle.snl_meaning.specs.World.{zeroed};
+
+    /// A word that stands so many words after a place; 0 where there is none.
+    pub fn word(&self, place: usize, after: usize) -> i64
+        ensures { slice_index_or self.now.words.items (place + after) (pos 0) ≡ result }
+    {
+        match place.checked_add(after) {
+            Some(at) => self.words.get(at).copied().unwrap_or(0),
+            None => 0,
+        }
+    }
+
+    /// Puts a number into such a word, where there is one.
+    pub fn set_word(&mut self, place: usize, after: usize, number: i64)
+        ensures { copy_view self.new ≡ record (copy_view self.old) {
+          words = slice_set self.old.words.items (place + after) number;
+        } }
+    {
+        if let Some(at) = place.checked_add(after) {
+            if let Some(word) = self.words.get_mut(at) {
+                *word = number;
+            }
+        }
+    }
+
+    /// Makes so many words 0 from a place on.
+    pub fn zero(&mut self, place: usize, count: usize)
+        ensures { copy_view self.new ≡ record (copy_view self.old) {
+          words = zeroed self.old.words.items place count;
+        } }
+    {
+        for number in 0..count {
+            self.set_word(place, number, 0);
+        }
+    }
+}
+
+impl Store {
+    ghost use Rattle.snl_vm.specs.Views.{world_of};
+    ghost use Rattle.snl_meaning.specs.World.{copy_of, element_of, with_element, with_zeros};
+
+    /// An element of a variable; 0 where there is none.
+    pub fn element(&self, set: usize, variable: Variable, element: usize) -> i64
+        ensures { element_of set variable element (world_of self.now) ≡ result }
+    {
+        match self.copies.get(set) {
+            Some(copy) => copy.word(variable.place, element),
+            None => 0,
+        }
+    }
+
+    /// Puts a number into an element, where there is one.
+    pub fn set_element(&mut self, set: usize, variable: Variable, element: usize, number: i64)
+        ensures { world_of self.new ≡ with_element set variable element number (world_of self.old) }
+    {
+        if let Some(copy) = self.copies.get_mut(set) {
+            copy.set_word(variable.place, element, number);
+        }
+    }
+
+    /// Makes all elements of a variable 0.
+    pub fn clear(&mut self, set: usize, variable: Variable)
+        ensures { world_of self.new ≡ with_zeros set variable (world_of self.old) }
+    {
+        if let Some(copy) = self.copies.get_mut(set) {
+            copy.zero(variable.place, variable.size);
+        }
+    }
+
+    /// When a state set entered its state, in milliseconds.
+    pub fn entered(&self, set: usize) -> u64
+        ensures { (copy_of set (world_of self.now)).entered ≡ result }
+    {
+        match self.copies.get(set) {
+            Some(copy) => copy.entered,
+            None => 0,
+        }
+    }
+
+    /// Whether a channel is connected.
+    pub fn is_up(&self, channel: usize) -> bool
+        ensures { slice_index_or (world_of self.now).ups channel false ≡ result }
+    {
+        self.ups.get(channel).copied().unwrap_or(false)
+    }
+
+    /// The name of a channel; empty where there is no such channel.
+    pub fn channel(&self, channel: usize) -> &[u8]
+        ensures { result.now ≡ slice_index_or (world_of self.now).channels channel [] }
+    {
+        match self.channels.get(channel) {
+            Some(name) => name.as_slice(),
+            None => &[],
+        }
+    }
+
+    /// What a link is tied to: None where there is no such link, and Some(None) where it has no channel.
+    pub fn tie(&self, link: usize) -> Option<Option<usize>>
+        ensures { slice_get (world_of self.now).ties link ≡ result }
+    {
+        self.ties.get(link).copied()
+    }
+}
