@@ -1,4 +1,4 @@
-"""Cases from docs/TRACE.md: the trace at its front, and each line of its table of examples with what is said of it."""
+"""Cases from docs/TRACE.md: its two runs, and each line of its table of examples with what is said of it."""
 import re
 
 from case import Case
@@ -8,21 +8,32 @@ option +s;
 int a; assign a to "a";
 ss s { state w { when (a > 1000000) {} state w } }
 """
-FRONT = re.compile(r"^```\n(# .*?)^```\n", re.MULTILINE | re.DOTALL)
+BLOCK = re.compile(r"^```\n(.*?)^```\n", re.MULTILINE | re.DOTALL)
 ROW = re.compile(r"^\| `([^`]+)` \| (.*) \|$", re.MULTILINE)
 FAULT = re.compile(r"`([^`]+)`")
 
 
 def examples(root):
-    """The trace at the front is no fault; a line of the table comes behind `5 up a`, and is an event or has its fault."""
+    """The trace at the front stands before its program, and its lines behind that; a whole run has its program first."""
     page = (root / "docs/TRACE.md").read_text()
-    yield Case("docs/TRACE.md: the first trace", SOURCE, FRONT.search(page)[1].encode())
-    for line, answer in ROW.findall(page.split("## Examples")[1]):
+    trace, program, lines = blocks(page)[:3]
+    yield Case("docs/TRACE.md: the first trace", program, trace, stdout=lines)
+    program, trace, lines, said = blocks(section(page, "A whole run"))
+    yield Case("docs/TRACE.md: a whole run", program, trace, stdout=lines, stderr=said, statuses=(6,))
+    for line, answer in ROW.findall(section(page, "Examples of single lines")):
         yield of_line(line, answer)
 
 
+def section(page, title):
+    return page.split(f"\n## {title}\n")[1].split("\n## ")[0]
+
+
+def blocks(text):
+    return [it.encode() for it in BLOCK.findall(text)]
+
+
 def of_line(line, answer):
-    """The case of a line with its answer, which begins with the text of a fault or with `an event`."""
+    """The case of a line that comes behind `5 up a`. Its answer begins with the text of a fault or with `an event`."""
     trace = b"5 up a\n%s\n" % line.encode()
     made = {"stdout": b"5 start t\n"}
     if not answer.startswith("an event"):
