@@ -3,12 +3,13 @@ use Rattle.std.specs.Prelude.{Bool, true, false, not, ◌&&◌, List, Option, So
 use Rattle.std.specs.List.{list_all}
 use Rattle.snl_syntax.specs.Programs.{ProgramTree}
 use Rattle.snl_resolve.specs.declared.builtins.Builtin.{Builtin}
-use Rattle.snl_resolve.specs.declared.builtins.Builtin.TheVariants.{Printf, PvPut}
+use Rattle.snl_resolve.specs.declared.builtins.Builtin.TheVariants.{Printf, PvPut, Ask}
+use Rattle.snl_resolve.specs.declared.builtins.Query.TheVariants.{EfClear, EfSet, EfTest, EfTestAndClear}
 use Rattle.snl_resolve.specs.declared.options.Options.{Options}
 use Rattle.snl_resolve.specs.declared.sites.Purpose.{Purpose}
 use Rattle.snl_resolve.specs.declared.sites.Purpose.TheVariants.{Channel}
 use Rattle.snl_resolve.specs.declared.sites.Site.{Site}
-use Rattle.snl_resolve.specs.declared.sites.Site.TheVariants.{Declaration, Use, Call}
+use Rattle.snl_resolve.specs.declared.sites.Site.TheVariants.{Use, Call}
 use Rattle.snl_resolve.specs.Builtins.{builtin_of}
 use Rattle.snl_resolve.specs.Programs.{sites}
 use Rattle.snl_check.specs.Forms.{has_forms_that_run}
@@ -21,6 +22,10 @@ waits options = unwrap_or options.c true
 abbrev pub does_call_run : Option Builtin → Bool
 does_call_run (Some Printf) = true
 does_call_run (Some PvPut) = true
+does_call_run (Some (Ask EfClear)) = true
+does_call_run (Some (Ask EfSet)) = true
+does_call_run (Some (Ask EfTest)) = true
+does_call_run (Some (Ask EfTestAndClear)) = true
 does_call_run _ = false
 
 -- A use of an element's channel does not run.
@@ -28,9 +33,8 @@ abbrev pub does_use_run : Purpose → Bool → Bool
 does_use_run Channel has_subscript = not has_subscript
 does_use_run p has_subscript = true
 
--- Not yet run: event flags, the channel of an element, and other functions.
+-- Not yet run: the channel of an element, and other functions.
 abbrev pub does_site_run : Site → Bool
-does_site_run (Declaration x is_flag later words) = not is_flag
 does_site_run (Use p x m has_subscript) = does_use_run p has_subscript
 does_site_run (Call f known fitting stands) = does_call_run (builtin_of f.text.now)
 does_site_run _ = true

@@ -6,7 +6,7 @@ ghost use Rattle.snl_resolve.specs.Programs.{sites};
 ghost use Rattle.snl_check.specs.Runs as spec;
 
 use crate::forms::has_forms_that_run;
-use snl_resolve::{Builtin, Options, Purpose, Site, builtin_of};
+use snl_resolve::{Builtin, Options, Purpose, Query, Site, builtin_of};
 use snl_syntax::Program;
 
 /// Whether a program waits for its channels before it starts (Compiling SNL Programs, "Options").
@@ -25,11 +25,18 @@ pub fn does_run(options: Options, program: &Program, do_sites_run: bool) -> bool
     has_forms_that_run(program) && do_sites_run && waits(options)
 }
 
-/// Whether a function runs: `printf` and `pvPut` do.
+/// Whether a function runs: `printf`, `pvPut` and those of event flags do.
 fn does_call_run(builtin: Option<Builtin>) -> bool
     ensures { result ≡ spec.does_call_run builtin }
 {
-    matches!(builtin, Some(Builtin::Printf | Builtin::PvPut))
+    match builtin {
+        Some(Builtin::Printf | Builtin::PvPut) => true,
+        Some(Builtin::Ask(query)) => matches!(
+            query,
+            Query::EfClear | Query::EfSet | Query::EfTest | Query::EfTestAndClear
+        ),
+        _ => false,
+    }
 }
 
 /// Whether a use of a name runs: that of the channel of an element does not.
@@ -42,12 +49,11 @@ fn does_use_run(purpose: Purpose, has_subscript: bool) -> bool
     }
 }
 
-/// Whether what stands at a site runs: no event flag, no channel of an element, no function but those two.
+/// Whether what stands at a site runs: no channel of an element, no function but those.
 fn does_site_run(site: &Site) -> bool
     ensures { result ≡ spec.does_site_run site.now }
 {
     match site {
-        Site::Declaration { is_flag, .. } => !*is_flag,
         Site::Use {
             purpose,
             has_subscript,

@@ -4,7 +4,6 @@ use Rattle.snl_text.specs.declared.tokens.Token.{Token}
 use Rattle.snl_syntax.specs.Programs.{ProgramTree, StateSetTree}
 use Rattle.snl_resolve.specs.Programs.{sites}
 use Rattle.snl_resolve.specs.Variables.{variables_of}
-use Rattle.snl_links.specs.Links.{links}
 use Rattle.snl_meaning.specs.Names.{Here, placed_from}
 
 -- The name of a state set, if there is one.
@@ -17,10 +16,6 @@ abbrev pub states_by : Option StateSetTree → List Token
 states_by None = []
 states_by (Some g) = map (λ s. s.name) g.states
 
--- By link: where its variable is declared. Macros change nothing but the names of channels.
-abbrev pub linked_in : ProgramTree → List ℕ
-linked_in p = map (λ l. l.variable.offset) (links p [])
-
 -- What is known on the copy of a state set. The words of its variables stand one after another.
 abbrev pub here_in : ProgramTree → ℕ → Here
 here_in p set = record {
@@ -29,5 +24,4 @@ here_in p set = record {
   states = states_by (slice_get p.state_sets set);
   sites = sites p;
   variables = placed_from 0 (variables_of p set);
-  linked = linked_in p;
 }

@@ -9,7 +9,6 @@ ghost use Rattle.snl_resolve.specs.Programs as programs;
 ghost use Rattle.snl_resolve.specs.Variables.{variables_of};
 ghost use Rattle.snl_emit.specs.BlockCode.{block_piece};
 ghost use Rattle.snl_meaning.specs.Names as names;
-ghost use Rattle.snl_links.specs.LinkViews.{link_view};
 ghost use Rattle.snl_code.specs.Heres as heres;
 ghost use Rattle.snl_code.specs.Layout as spec;
 ghost use Rattle.snl_code.specs.Pieces.{IsCodeOf};
@@ -19,7 +18,6 @@ use crate::code::Code;
 use crate::placing::{place_block, place_states};
 use crate::program_depths::program_depth;
 use crate::starts::StateStarts;
-use snl_links::{Link, Macros, links_of};
 use snl_meaning::{Instr, Known, Placed, places_of};
 use snl_resolve::{Site, sites_of, variables_of};
 use snl_syntax::{Block, Program, State, StateSet};
@@ -98,27 +96,6 @@ fn state_names<'a>(
     names_in(alloc, &sets[set])
 }
 
-/// Where the variables of links are declared, in bytes.
-fn offsets_of(alloc: Global, links: &[Link]) -> Result<Vec<usize>, AllocError>
-    ensures { IfOk result (λ offsets. offsets.items
-        ≡ map (λ l. l.variable.offset) (map link_view links.now)) }
-{
-    let mut offsets = Vec::new(alloc);
-    for link in links {
-        offsets.push(link.variable.offset)?;
-    }
-    Ok(offsets)
-}
-
-/// The same of the links of a program.
-fn linked_in<'a>(alloc: Global, program: &Program<'a>) -> Result<Vec<usize>, AllocError>
-    ensures { IfOk result (λ offsets. offsets.items
-        ≡ heres.linked_in (program_view program.now)) }
-{
-    let links = links_of(alloc, program, &Macros { text: b"" })?;
-    offsets_of(alloc, links.as_slice())
-}
-
 /// What is known of a state set, beside what the names of the program mean.
 #[derive(Drop)]
 struct Facts<'a> {
@@ -152,13 +129,11 @@ fn place_set<'a>(
     alloc: Global,
     program: &Program<'a>,
     sites: &[Site<'a>],
-    linked: &[usize],
     number: usize,
     set: &StateSet<'a>,
     code: &mut Vec<Instr>,
 ) -> Result<Vec<StateStarts>, AllocError>
     requires sites { sites.now ≡ programs.sites (program_view program.now) }
-    requires linked { linked.now ≡ heres.linked_in (program_view program.now) }
     ensures starts { IfOk result (λ starts. state_tables starts
         ≡ spec.set_starts (program_view program.now) number code.old.items
         (state_set_view set.now)) }
@@ -172,7 +147,6 @@ fn place_set<'a>(
         states: facts.states.as_slice(),
         sites,
         variables: facts.variables.as_slice(),
-        linked,
     };
     place_states(alloc, set.states.as_slice(), &known, code)
 }
@@ -182,12 +156,10 @@ fn place_sets<'a>(
     alloc: Global,
     program: &Program<'a>,
     sites: &[Site<'a>],
-    linked: &[usize],
     sets: &[StateSet<'a>],
     code: &mut Vec<Instr>,
 ) -> Result<Vec<Vec<StateStarts>>, AllocError>
     requires sites { sites.now ≡ programs.sites (program_view program.now) }
-    requires linked { linked.now ≡ heres.linked_in (program_view program.now) }
     ensures starts { IfOk result (λ starts. map state_tables starts.items
         ≡ spec.row_starts (spec.set_code (program_view program.now))
         (spec.set_starts (program_view program.now)) 0 code.old.items
@@ -198,7 +170,7 @@ fn place_sets<'a>(
 {
     let mut starts = Vec::new(alloc);
     for (number, set) in sets.iter().enumerate() {
-        let one = place_set(alloc, program, sites, linked, number, set, code)?;
+        let one = place_set(alloc, program, sites, number, set, code)?;
         starts.push(one)?;
     }
     Ok(starts)
@@ -209,12 +181,10 @@ fn place_own<'a>(
     alloc: Global,
     program: &Program<'a>,
     sites: &[Site<'a>],
-    linked: &[usize],
     block: &Option<Box<Block<'a>>>,
     code: &mut Vec<Instr>,
 ) -> Result<Option<usize>, AllocError>
     requires sites { sites.now ≡ programs.sites (program_view program.now) }
-    requires linked { linked.now ≡ heres.linked_in (program_view program.now) }
     ensures start { IfOk result (λ start. start
         ≡ spec.start_after code.old.items (shown (held block_view) block.now)) }
     ensures code { OnOk result (code.new.items ≡ code.old.items
@@ -228,33 +198,25 @@ fn place_own<'a>(
         states: facts.states.as_slice(),
         sites,
         variables: facts.variables.as_slice(),
-        linked,
     };
     place_block(alloc, block, &known, code)
 }
 
-/// The code of a program whose sites are given, and where the variables of its links are declared.
-fn code_of<'a>(
-    alloc: Global,
-    program: &Program<'a>,
-    sites: &[Site<'a>],
-    linked: &[usize],
-) -> Result<Code, AllocError>
+/// The code of a program whose sites are given.
+fn code_of<'a>(alloc: Global, program: &Program<'a>, sites: &[Site<'a>]) -> Result<Code, AllocError>
     requires sites { sites.now ≡ programs.sites (program_view program.now) }
-    requires linked { linked.now ≡ heres.linked_in (program_view program.now) }
     ensures { IfOk result (IsCodeOf (program_view program.now)) }
 {
     let mut instrs = Vec::new(alloc);
-    let entry = place_own(alloc, program, sites, linked, &program.entry, &mut instrs)?;
+    let entry = place_own(alloc, program, sites, &program.entry, &mut instrs)?;
     let sets = place_sets(
         alloc,
         program,
         sites,
-        linked,
         program.state_sets.as_slice(),
         &mut instrs,
     )?;
-    let exit = place_own(alloc, program, sites, linked, &program.exit, &mut instrs)?;
+    let exit = place_own(alloc, program, sites, &program.exit, &mut instrs)?;
     let texts = texts_of(alloc, sites)?;
     Ok(Code {
         instrs,
@@ -271,6 +233,5 @@ pub fn compile<'a>(alloc: Global, program: &Program<'a>) -> Result<Code, AllocEr
     ensures { IfOk result (IsCodeOf (program_view program.now)) }
 {
     let sites = sites_of(alloc, program)?;
-    let linked = linked_in(alloc, program)?;
-    code_of(alloc, program, sites.as_slice(), linked.as_slice())
+    code_of(alloc, program, sites.as_slice())
 }

@@ -6,7 +6,7 @@ use Rattle.snl_text.specs.declared.tokens.Token.{Token}
 use Rattle.snl_syntax.specs.Expressions.{ExprTree, constant, parenthesized, named, element, call, postfix, prefix, chain, conditional, assignment}
 use Rattle.snl_meaning.specs.declared.instrs.Instr.{Instr}
 use Rattle.snl_meaning.specs.declared.instrs.Instr.TheVariants.{Push, Load, Check, Peek, Store, StoreAt, Adjust, AdjustAt, Apply, Drop, Get, Put}
-use Rattle.snl_meaning.specs.Names.{Here, sense_of, link_number}
+use Rattle.snl_meaning.specs.Names.{Here, sense_of}
 use Rattle.snl_meaning.specs.declared.names.Sense.{Sense}
 use Rattle.snl_meaning.specs.declared.names.Sense.TheVariants.{Varies, Stands}
 use Rattle.snl_emit.specs.ExpressionCode.{expression_code, target_code, put_code, put_at_code, at_name_code, at_code}
@@ -79,10 +79,9 @@ step-cut h (conditional c a b) by n is_before = refl
 step-cut h (assignment e t r) by n is_before = refl
 
 -- `pvPut` of a name
-named-put : (s : Sense) (x : Token) (h : Here)
-    → at_name_code s x (λ v y. Put v (link_number h y) ∷ []) (Push (pos 0) ∷ []) ≡ old_code s None ++ put_alone s (link_number h x) ∷ []
-named-put (Varies v) x h = refl
-named-put (Stands z) x h = refl
+named-put : (s : Sense) (x : Token) → at_name_code s x (λ v y. Put v ∷ []) (Push (pos 0) ∷ []) ≡ old_code s None ++ put_alone s ∷ []
+named-put (Varies v) x = refl
+named-put (Stands z) x = refl
 
 -- the same of an element
 element-put : (s : Sense) (line : ℕ) → at_code s line (λ v. Get v ∷ []) (Push (pos 0) ∷ []) ≡ checked_code s line None ++ put_element s ∷ []
@@ -90,9 +89,9 @@ element-put (Varies v) line = refl
 element-put (Stands z) line = refl
 
 -- `pvPut` at any target
-pub put-cut : (h : Here) (e : ExprTree) → target_code h e (λ v x. Put v (link_number h x) ∷ []) (λ v x. Get v ∷ []) (Push (pos 0) ∷ []) ≡ place_code h None e ++ put_instr h e ∷ []
+pub put-cut : (h : Here) (e : ExprTree) → target_code h e (λ v x. Put v ∷ []) (λ v x. Get v ∷ []) (Push (pos 0) ∷ []) ≡ place_code h None e ++ put_instr h e ∷ []
 put-cut h (parenthesized e) = put-cut h e
-put-cut h (named x) = named-put (sense_of h x) x h
+put-cut h (named x) = named-put (sense_of h x) x
 put-cut h (element x b e) =
     ap (λ l. expression_code h e ++ l) (element-put (sense_of h x) b.pos.line)
     ∙ sym (append_assoc (expression_code h e) (checked_code (sense_of h x) b.pos.line None) (put_element (sense_of h x) ∷ []))

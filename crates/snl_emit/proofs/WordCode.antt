@@ -17,6 +17,7 @@ use Rattle.snl_meaning.specs.Endings.{HasAt}
 use Rattle.snl_meaning.specs.Run.{PieceContext, Sticks, goes_with, takes, with_room}
 use Rattle.snl_resolve.specs.declared.builtins.Builtin.{Builtin}
 use Rattle.snl_resolve.specs.declared.builtins.Builtin.TheVariants.{Delay, Printf, PvPut, Ask}
+use Rattle.snl_resolve.specs.declared.builtins.Query.{Query}
 use Rattle.snl_meaning.specs.Value.{OnVariable, at_name, called, either, renewed, put_at, at_subscript, named_value, signed}
 use Rattle.snl_meaning.specs.declared.operators.Sign.{Sign}
 use Rattle.snl_meaning.specs.declared.operators.Sign.TheVariants.{Steps, Alone}
@@ -77,14 +78,14 @@ module _ (g : PieceContext) (code : List Instr) where
   codes-at_name (Stands z) x alone other ac oc d f h = h
 
   -- a call
-  pub codes-called : (function : Option Builtin) (print wait put : World → Ran ℤ) (pc wc uc : List Instr) (d e i : ℕ) →
-      Codes g code print pc d → Codes g code wait wc e → Codes g code put uc i →
-      Codes g code (called function print wait put) (called_code function pc wc uc) (called_depth function d e i)
-  codes-called None print wait put pc wc uc d e i f h k = codes-pushes g code (Push (pos 0)) (gives (pos 0)) (λ at s w. refl) 1 (omega arith)
-  codes-called (Some Delay) print wait put pc wc uc d e i f h k = h
-  codes-called (Some Printf) print wait put pc wc uc d e i f h k = f
-  codes-called (Some PvPut) print wait put pc wc uc d e i f h k = k
-  codes-called (Some (Ask query)) print wait put pc wc uc d e i f h k = codes-pushes g code (Push (pos 0)) (gives (pos 0)) (λ at s w. refl) 1 (omega arith)
+  pub codes-called : (function : Option Builtin) (print wait put : World → Ran ℤ) (ask : Query → World → Ran ℤ) (pc wc uc : List Instr) (ac : Query → Instr) (d e i : ℕ) →
+      Codes g code print pc d → Codes g code wait wc e → Codes g code put uc i → ((query : Query) → Codes g code (ask query) (ac query ∷ []) 1) →
+      Codes g code (called function print wait put ask) (called_code function pc wc uc ac) (called_depth function d e i)
+  codes-called None print wait put ask pc wc uc ac d e i f h k a = codes-pushes g code (Push (pos 0)) (gives (pos 0)) (λ at s w. refl) 1 (omega arith)
+  codes-called (Some Delay) print wait put ask pc wc uc ac d e i f h k a = h
+  codes-called (Some Printf) print wait put ask pc wc uc ac d e i f h k a = f
+  codes-called (Some PvPut) print wait put ask pc wc uc ac d e i f h k a = k
+  codes-called (Some (Ask query)) print wait put ask pc wc uc ac d e i f h k a = a query
 
   -- a sign
   pub codes-signed : (sg : Sign) (stepping : Kind → World → Ran ℤ) (operand : World → Ran ℤ) (sc : Kind → List Instr) (oc : List Instr) (line d e : ℕ) →

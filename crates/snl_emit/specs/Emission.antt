@@ -8,8 +8,8 @@ use Rattle.snl_meaning.specs.declared.instrs.Instr.{Instr}
 use Rattle.snl_meaning.specs.declared.instrs.Instr.TheVariants.{Push, Jump, Tick, Get, Put}
 use Rattle.snl_syntax.specs.Statements.{StatementTree}
 use Rattle.snl_emit.specs.BlockCode.{statement_code}
-use Rattle.snl_emit.specs.ExpressionCode.{expression_code, target_code, joint_code, signed_code, at_code, get_code, called_code, print_code, wait_code, put_call_code}
-use Rattle.snl_meaning.specs.Names.{Here, link_number}
+use Rattle.snl_emit.specs.ExpressionCode.{expression_code, target_code, joint_code, signed_code, at_code, get_code, called_code, print_code, wait_code, put_call_code, ask_instr}
+use Rattle.snl_meaning.specs.Names.{Here}
 use Rattle.snl_meaning.specs.declared.names.Sense.{Sense}
 use Rattle.snl_emit.specs.Targets.{place_code, adjust_code}
 use Rattle.snl_meaning.specs.Value.{joint_of, sign_of}
@@ -30,11 +30,11 @@ sign_code h op is_before e =
 
 -- A call with its arguments.
 abbrev pub call_code : Here → Token → ArgumentList → List Instr
-call_code h f all = called_code (builtin_of f.text.now) (print_code h all) (wait_code h all) (put_call_code h all)
+call_code h f all = called_code (builtin_of f.text.now) (print_code h all) (wait_code h all) (put_call_code h all) (ask_instr h all)
 
 -- `pvPut` of a target.
 abbrev pub put_target_code : Here → ExprTree → List Instr
-put_target_code h e = target_code h e (λ v x. Put v (link_number h x) ∷ []) (λ v x. Get v ∷ []) (Push (pos 0) ∷ [])
+put_target_code h e = target_code h e (λ v x. Put v ∷ []) (λ v x. Get v ∷ []) (Push (pos 0) ∷ [])
 
 -- An argument of `printf`.
 abbrev pub value_code : Here → Argument → List Instr

@@ -4,9 +4,9 @@ use Rattle.snl_text.specs.declared.kinds.Kind.{Kind}
 use Rattle.snl_text.specs.declared.tokens.Token.{Token}
 use Rattle.snl_syntax.specs.Expressions.{ExprTree, TermList, ArgumentList, constant, parenthesized, named, element, call, postfix, prefix, chain, conditional, assignment, no_terms, term, no_arguments, value, text}
 use Rattle.snl_meaning.specs.declared.instrs.Instr.{Instr}
-use Rattle.snl_meaning.specs.declared.instrs.Instr.TheVariants.{Push, Load, Check, Get, Peek, Store, StoreAt, Adjust, AdjustAt, Apply, ApplyPrefix, Settle, Drop, Jump, JumpIfZero, Print, Wait, Put}
+use Rattle.snl_meaning.specs.declared.instrs.Instr.TheVariants.{Push, Load, Check, Get, Peek, Store, StoreAt, Adjust, AdjustAt, Apply, ApplyPrefix, Settle, Drop, Jump, JumpIfZero, Print, Wait, Put, Ask}
 use Rattle.snl_meaning.specs.declared.instrs.Variable.{Variable}
-use Rattle.snl_meaning.specs.Names.{Here, sense_of, format_number, link_number}
+use Rattle.snl_meaning.specs.Names.{Here, sense_of, format_number, flag_number}
 use Rattle.snl_meaning.specs.declared.names.Sense.{Sense}
 use Rattle.snl_meaning.specs.declared.names.Sense.TheVariants.{Varies, Stands}
 use Rattle.snl_resolve.specs.Builtins.{builtin_of}
@@ -16,7 +16,9 @@ use Rattle.snl_meaning.specs.declared.operators.Joint.TheVariants.{And, Or, Sequ
 use Rattle.snl_meaning.specs.declared.operators.Sign.{Sign}
 use Rattle.snl_meaning.specs.declared.operators.Sign.TheVariants.{Steps, Alone}
 use Rattle.snl_resolve.specs.declared.builtins.Builtin.{Builtin}
-use Rattle.snl_resolve.specs.declared.builtins.Builtin.TheVariants.{Delay, Printf, PvPut, Ask}
+use Rattle.snl_resolve.specs.declared.builtins.Builtin.TheVariants as builtin
+use Rattle.snl_resolve.specs.declared.builtins.Builtin.TheVariants.{Delay, Printf, PvPut}
+use Rattle.snl_resolve.specs.declared.builtins.Query.{Query}
 
 -- ---- the parts
 
@@ -85,12 +87,22 @@ signed_depth (Steps op) stepping operand = stepping
 signed_depth (Alone op) stepping operand = operand
 
 -- The code of a call.
-abbrev pub called_code : Option Builtin → (print wait put : List Instr) → List Instr
-called_code None print wait put = Push (pos 0) ∷ []
-called_code (Some Delay) print wait put = wait
-called_code (Some Printf) print wait put = print
-called_code (Some PvPut) print wait put = put
-called_code (Some (Ask query)) print wait put = Push (pos 0) ∷ []
+abbrev pub called_code : Option Builtin → (print wait put : List Instr) → (Query → Instr) → List Instr
+called_code None print wait put ask = Push (pos 0) ∷ []
+called_code (Some Delay) print wait put ask = wait
+called_code (Some Printf) print wait put ask = print
+called_code (Some PvPut) print wait put ask = put
+called_code (Some (builtin.Ask query)) print wait put ask = ask query ∷ []
+
+-- What is asked of an event flag, by its name; 0 where no name stands.
+abbrev pub ask_at_instr : Here → ExprTree → Query → Instr
+ask_at_instr h (named x) query = Ask query (flag_number h x)
+ask_at_instr h _ query = Push (pos 0)
+
+-- The same by the argument of a call.
+abbrev pub ask_instr : Here → ArgumentList → Query → Instr
+ask_instr h (value e rest) query = ask_at_instr h e query
+ask_instr h _ query = Push (pos 0)
 
 -- How much room a call needs.
 abbrev pub called_depth : Option Builtin → (print wait put : ℕ) → ℕ
@@ -98,7 +110,7 @@ called_depth None print wait put = 1
 called_depth (Some Delay) print wait put = wait
 called_depth (Some Printf) print wait put = print
 called_depth (Some PvPut) print wait put = put
-called_depth (Some (Ask query)) print wait put = 1
+called_depth (Some (builtin.Ask query)) print wait put = 1
 
 -- How many arguments are expressions.
 abbrev pub count_values : ArgumentList → ℕ
@@ -115,7 +127,7 @@ abbrev mutual
   expression_code h (parenthesized e) = expression_code h e
   expression_code h (named x) = name_code (sense_of h x) ∷ []
   expression_code h (element x b e) = expression_code h e ++ at_code (sense_of h x) b.pos.line get_code (Push (pos 0) ∷ [])
-  expression_code h (call f all) = called_code (builtin_of f.text.now) (print_code h all) (wait_code h all) (put_call_code h all)
+  expression_code h (call f all) = called_code (builtin_of f.text.now) (print_code h all) (wait_code h all) (put_call_code h all) (ask_instr h all)
   expression_code h (postfix e op) =
       signed_code (sign_of op.kind) (λ by. target_code h e (λ v x. Adjust v by op.pos.line x.pos.line true ∷ [])
       (λ v x. AdjustAt v by op.pos.line x.pos.line true ∷ []) (Push (pos 0) ∷ [])) (expression_code h e) op.pos.line
@@ -159,7 +171,7 @@ abbrev mutual
 
   -- `pvPut`: what is done at its target
   pub put_call_code : Here → ArgumentList → List Instr
-  put_call_code h (value e rest) = target_code h e (λ v x. Put v (link_number h x) ∷ []) (λ v x. Get v ∷ []) (Push (pos 0) ∷ [])
+  put_call_code h (value e rest) = target_code h e (λ v x. Put v ∷ []) (λ v x. Get v ∷ []) (Push (pos 0) ∷ [])
   put_call_code h _ = Push (pos 0) ∷ []
 
 -- ---- the depth

@@ -4,7 +4,7 @@ use Rattle.snl_text.specs.declared.kinds.Kind.{Kind}
 use Rattle.snl_syntax.specs.Expressions.{ExprTree, parenthesized, named, element}
 use Rattle.snl_meaning.specs.declared.instrs.Instr.{Instr}
 use Rattle.snl_meaning.specs.declared.instrs.Instr.TheVariants.{Push, Load, Check, Peek, Store, StoreAt, Adjust, AdjustAt, Apply, Drop, Get, Put}
-use Rattle.snl_meaning.specs.Names.{Here, sense_of, link_number}
+use Rattle.snl_meaning.specs.Names.{Here, sense_of}
 use Rattle.snl_meaning.specs.declared.names.Sense.{Sense}
 use Rattle.snl_meaning.specs.declared.names.Sense.TheVariants.{Varies, Stands}
 use Rattle.snl_emit.specs.ExpressionCode.{expression_code}
@@ -66,10 +66,10 @@ adjust_code h by op_line is_before (named x) = adjust_alone (sense_of h x) by op
 adjust_code h by op_line is_before (element x b e) = adjust_at (sense_of h x) by op_line x.pos.line is_before
 adjust_code h by op_line is_before _ = Push (pos 0)
 
--- `pvPut` of a variable by its link; 0 for a name that is none.
-abbrev pub put_alone : Sense → ℕ → Instr
-put_alone (Varies v) link = Put v link
-put_alone (Stands z) link = Push (pos 0)
+-- `pvPut` of a variable; 0 for a name that is none.
+abbrev pub put_alone : Sense → Instr
+put_alone (Varies v) = Put v
+put_alone (Stands z) = Push (pos 0)
 
 -- The same of an element, after its subscript.
 abbrev pub put_element : Sense → Instr
@@ -79,6 +79,6 @@ put_element (Stands z) = Push (pos 0)
 -- The instruction of `pvPut` at a target, after its subscript.
 abbrev pub put_instr : Here → ExprTree → Instr
 put_instr h (parenthesized e) = put_instr h e
-put_instr h (named x) = put_alone (sense_of h x) (link_number h x)
+put_instr h (named x) = put_alone (sense_of h x)
 put_instr h (element x b e) = put_element (sense_of h x)
 put_instr h _ = Push (pos 0)

@@ -14,7 +14,7 @@ ghost use Rattle.snl_meaning.specs.declared.instrs.Instr.TheVariants as instr;
 use crate::constants::constant_of;
 use crate::parts::{count_values, format_number, put_checked, put_old, put_read, read_name};
 use crate::rows::put;
-use crate::targets::{adjusted, put_instr, put_stored};
+use crate::targets::{adjusted, ask_instr, put_instr, put_stored};
 use snl_meaning::{Instr, Joint, Known, Sign, compound_of, is_decimal, joint_of, sign_of};
 use snl_resolve::{Builtin, builtin_of};
 use snl_syntax::{Argument, Expr, Term};
@@ -231,7 +231,8 @@ fn emit_call<'a>(
         Some(Builtin::Delay) => emit_wait(arguments, known, code),
         Some(Builtin::Printf) => emit_print(arguments, known, code),
         Some(Builtin::PvPut) => emit_put(arguments, known, code),
-        Some(Builtin::Ask(_)) | None => put(code, Instr::Push(0)),
+        Some(Builtin::Ask(query)) => put(code, ask_instr(arguments, known, query)),
+        None => put(code, Instr::Push(0)),
     }
 }
 

@@ -1,13 +1,16 @@
-//! The code of what is done at a target, after its subscript and the right side.
+//! The code of what is done at a target, after its subscript and the right side, and of what is asked by a name.
 
 ghost use Rattle.std.specs.Prelude.{◌≡◌, ◌∷◌, ◌++◌, reverse, OnOk};
-ghost use Rattle.snl_syntax.specs.view.Expressions.{view};
+ghost use Rattle.snl_syntax.specs.Expressions.{no_arguments};
+ghost use Rattle.snl_syntax.specs.view.Expressions.{view, list_before};
+ghost use Rattle.snl_emit.specs.ExpressionCode.{ask_at_instr, ask_instr};
 ghost use Rattle.snl_meaning.specs.Known.{here_of};
 ghost use Rattle.snl_emit.specs.Targets as spec;
 
 use crate::rows::put;
 use snl_meaning::{Instr, Known, Sense};
-use snl_syntax::Expr;
+use snl_resolve::Query;
+use snl_syntax::{Argument, Expr};
 use snl_text::Kind;
 use std::alloc::AllocError;
 
@@ -175,12 +178,12 @@ pub fn adjusted<'a>(
     }
 }
 
-/// `pvPut` of a name by its link.
-fn put_alone(sense: Sense, link: usize) -> Instr
-    ensures { result ≡ spec.put_alone sense link }
+/// `pvPut` of a name.
+fn put_alone(sense: Sense) -> Instr
+    ensures { result ≡ spec.put_alone sense }
 {
     match sense {
-        Sense::Varies(variable) => Instr::Put { variable, link },
+        Sense::Varies(variable) => Instr::Put(variable),
         Sense::Stands(_) => Instr::Push(0),
     }
 }
@@ -201,8 +204,32 @@ pub fn put_instr<'a>(target: &Expr<'a>, known: &Known<'_, 'a>) -> Instr
 {
     match target {
         Expr::Parenthesized(inner) => put_instr(inner, known),
-        Expr::Named(name) => put_alone(known.sense(*name), known.link(*name)),
+        Expr::Named(name) => put_alone(known.sense(*name)),
         Expr::Element { name, .. } => put_element(known.sense(*name)),
+        _ => Instr::Push(0),
+    }
+}
+
+/// What a call asks or tells of an event flag, by its name.
+fn ask_at_instr<'a>(argument: &Expr<'a>, known: &Known<'_, 'a>, query: Query) -> Instr
+    ensures { result ≡ ask_at_instr (here_of known.now) (view argument.now) query }
+{
+    match argument {
+        Expr::Named(name) => Instr::Ask {
+            query,
+            number: known.flag(*name),
+        },
+        _ => Instr::Push(0),
+    }
+}
+
+/// The same by the arguments of the call.
+pub fn ask_instr<'a>(arguments: &[Argument<'a>], known: &Known<'_, 'a>, query: Query) -> Instr
+    ensures { result
+        ≡ ask_instr (here_of known.now) (list_before arguments.now no_arguments) query }
+{
+    match arguments.first() {
+        Some(Argument::Value(argument)) => ask_at_instr(argument, known, query),
         _ => Instr::Push(0),
     }
 }

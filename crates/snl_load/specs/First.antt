@@ -7,30 +7,34 @@ use Rattle.snl_meaning.specs.declared.live.Live.TheVariants.{Waiting}
 use Rattle.snl_meaning.specs.World.{SetMemory, World}
 use Rattle.snl_resolve.specs.Variables.{Held}
 use Rattle.snl_load.specs.Initials.{all_elements, first_buffer, held_sets}
-use Rattle.snl_load.specs.Places.{channels, link_plans}
+use Rattle.snl_meaning.specs.declared.ties.Tied.{Tied}
+use Rattle.snl_load.specs.Places.{channels, flags_in, placed_sets, ties_in, homes_in}
 
 -- A copy whose variables are what they begin with, in the first state.
 abbrev pub first_copy : List Held → SetMemory
 first_copy vs = record { words = flat_map all_elements vs; state = 0; entered = 0 }
 
--- What waits for its start, with these variables in its copies, channels, channels of links and links: no time has
--- passed, variables and buffers are what they begin with, no channel is connected or valued, and nothing is marked.
-abbrev pub first_world : List (List Held) → List (List ℕ) → List (Option ℕ) → List Link → World
-first_world sets names ties ls = record {
+-- What waits for its start, with these variables in its copies, so many event flags, these channels, ties, homes and links: no time has passed, variables and buffers are what they begin with, no event flag is set, no channel is connected or
+-- valued, and nothing is marked.
+abbrev pub first_world : List (List Held) → ℕ → List (List ℕ) → List Tied → List (List (Option ℕ)) → List Link → World
+first_world sets flags names ties homes ls = record {
   time = 0;
   phase = Waiting;
   ticks = 0;
   wake = None;
   due = None;
   copies = map first_copy sets;
+  flags = replicate flags false;
   channels = names;
   ups = replicate (length names) false;
   valued = replicate (length names) false;
   ties = ties;
+  homes = homes;
   buffers = flat_map (first_buffer sets) ls;
   marks = map (λ vs. replicate (length ls) false) sets;
 }
 
 -- A program that waits for its start.
 abbrev pub first_world_of : ProgramTree → List Link → World
-first_world_of p ls = first_world (held_sets p 0 p.state_sets) (channels ls) (map (λ l. l.channel) (link_plans p ls)) ls
+first_world_of p ls =
+    first_world (held_sets p 0 p.state_sets) (length (flags_in p)) (channels ls) (ties_in p ls) (homes_in (placed_sets p 0 p.state_sets) ls) ls

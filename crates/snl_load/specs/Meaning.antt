@@ -13,7 +13,7 @@ use Rattle.snl_schedule.specs.declared.plans.Destination.{Destination}
 use Rattle.snl_schedule.specs.declared.plans.Destination.TheVariants.{State, Exit}
 use Rattle.snl_schedule.specs.Instant.{Program}
 use Rattle.snl_schedule.specs.Turn as turn
-use Rattle.snl_load.specs.Places.{feeds_in, link_plans}
+use Rattle.snl_load.specs.Places.{ties_in}
 
 -- The state that a block leaves for, if it does.
 abbrev pub left_for : Way → World → Ran (Option ℕ)
@@ -39,14 +39,14 @@ abbrev pub state_meaning : Here → StateTree → turn.State
 state_meaning h s = record { name = s.name.text.now; clauses = map (clause_meaning h) s.clauses }
 
 -- A state set of this number.
-abbrev pub set_meaning : ProgramTree → List Link → ℕ → StateSetTree → turn.StateSet
-set_meaning p ls k g = record { set = k; name = g.name.text.now; states = map (state_meaning (here_in p k)) g.states; feeds = feeds_in p ls k }
+abbrev pub set_meaning : ProgramTree → ℕ → StateSetTree → turn.StateSet
+set_meaning p k g = record { set = k; name = g.name.text.now; states = map (state_meaning (here_in p k)) g.states }
 
 -- State sets with numbers from k on.
-abbrev pub set_meanings : ProgramTree → List Link → ℕ → List StateSetTree → List turn.StateSet
-set_meanings p ls k [] = []
-set_meanings p ls k (g ∷ gs) = set_meaning p ls k g ∷ set_meanings p ls (k + 1) gs
+abbrev pub set_meanings : ProgramTree → ℕ → List StateSetTree → List turn.StateSet
+set_meanings p k [] = []
+set_meanings p k (g ∷ gs) = set_meaning p k g ∷ set_meanings p (k + 1) gs
 
 -- A program with these links.
 abbrev pub program_meaning : ProgramTree → List Link → Program
-program_meaning p ls = record { name = p.name.text.now; links = link_plans p ls; sets = set_meanings p ls 0 p.state_sets }
+program_meaning p ls = record { name = p.name.text.now; links = ties_in p ls; sets = set_meanings p 0 p.state_sets }

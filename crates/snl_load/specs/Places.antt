@@ -1,14 +1,14 @@
 -- Where the values of links stand: their channels, their buffers, and the words of their variables.
-use Rattle.std.specs.Prelude.{ℕ, ◌+◌, ◌-◌, ◌^◌, min, ℤ, pos, List, [], ◌∷◌, Option, None, Some, option_map}
+use Rattle.std.specs.Prelude.{ℕ, ◌+◌, ◌-◌, ◌^◌, min, ℤ, pos, List, [], ◌∷◌, map, Option, None, Some, option_map}
 use Rattle.std.specs.List.{flat_map}
 use Rattle.snl_syntax.specs.Programs.{StateSetTree, ProgramTree}
+use Rattle.snl_resolve.specs.Programs.{sites}
 use Rattle.snl_resolve.specs.Variables.{variables_of}
 use Rattle.snl_links.specs.Links.{Link}
 use Rattle.snl_meaning.specs.declared.instrs.Variable.{Variable}
 use Rattle.snl_meaning.specs.declared.names.Placed.{Placed}
-use Rattle.snl_meaning.specs.Names.{placed_from, variable_in}
-use Rattle.snl_schedule.specs.declared.feeds.LinkFeed.{LinkFeed}
-use Rattle.snl_schedule.specs.declared.plans.LinkPlan.{LinkPlan}
+use Rattle.snl_meaning.specs.Names.{placed_from, variable_in, number_at, flags_of}
+use Rattle.snl_meaning.specs.declared.ties.Tied.{Tied}
 use Rattle.snl_load.specs.Names.{place_of, once}
 
 -- ---- channels
@@ -41,20 +41,16 @@ for_each_set f k (g ∷ gs) = f k ∷ for_each_set f (k + 1) gs
 abbrev pub placed_sets : ProgramTree → ℕ → List StateSetTree → List (List Placed)
 placed_sets p = for_each_set (placed_in p)
 
--- ---- feeds
+-- ---- homes
 
--- Where the values of a link go in a copy that holds these variables, if it has the link's.
-abbrev pub fed_at : List Placed → Link → Option ℕ
-fed_at places l = option_map (λ v. place_after v.place l.first) (variable_in places l.variable.offset)
+-- Where the elements of a link begin in a copy that holds these variables, if it has the link's. A variable that is declared in
+-- a state set, or in a state of it, stands in the copy of that alone.
+abbrev pub home_in : List Placed → Link → Option ℕ
+home_in places l = option_map (λ v. place_after v.place l.first) (variable_in places l.variable.offset)
 
--- The feeds of links whose buffers begin from a place on.
-abbrev pub feeds_from : List Placed → ℕ → List Link → List LinkFeed
-feeds_from places at [] = []
-feeds_from places at (l ∷ ls) = record { to = fed_at places l; from = at; count = l.count } ∷ feeds_from places (place_after at l.count) ls
-
--- Those of a state set.
-abbrev pub feeds_in : ProgramTree → List Link → ℕ → List LinkFeed
-feeds_in p ls k = feeds_from (placed_in p k) 0 ls
+-- The same of all links in all copies.
+abbrev pub homes_in : List (List Placed) → List Link → List (List (Option ℕ))
+homes_in copies ls = map (λ places. map (home_in places) ls) copies
 
 -- ---- links
 
@@ -68,11 +64,12 @@ abbrev pub range_of : Option Variable → ℤ × ℤ
 range_of None = (pos 0, pos 0)
 range_of (Some v) = (v.least, v.greatest)
 
--- A link whose buffer begins at a place, among these channels and copies.
-abbrev pub link_plan : List (List ℕ) → List (List Placed) → ℕ → Link → LinkPlan
-link_plan names copies at l = let range = range_of (variable_among copies l.variable.offset) in record {
+-- A link whose buffer begins at a place, among these channels, event flags and copies.
+abbrev pub tie_of : List (List ℕ) → List ℕ → List (List Placed) → ℕ → Link → Tied
+tie_of names flags copies at l = let range = range_of (variable_among copies l.variable.offset) in record {
   channel = place_of names l.name;
   is_monitored = l.monitored;
+  flag = option_map (λ f. number_at flags f.offset) l.flag;
   from = at;
   count = l.count;
   least = range.0;
@@ -80,10 +77,14 @@ link_plan names copies at l = let range = range_of (variable_among copies l.vari
 }
 
 -- Links whose buffers begin from a place on.
-abbrev pub link_plans_from : List (List ℕ) → List (List Placed) → ℕ → List Link → List LinkPlan
-link_plans_from names copies at [] = []
-link_plans_from names copies at (l ∷ ls) = link_plan names copies at l ∷ link_plans_from names copies (place_after at l.count) ls
+abbrev pub ties_from : List (List ℕ) → List ℕ → List (List Placed) → ℕ → List Link → List Tied
+ties_from names flags copies at [] = []
+ties_from names flags copies at (l ∷ ls) = tie_of names flags copies at l ∷ ties_from names flags copies (place_after at l.count) ls
+
+-- The event flags of a program, by their declarations.
+abbrev pub flags_in : ProgramTree → List ℕ
+flags_in p = flags_of (sites p)
 
 -- Those of a program.
-abbrev pub link_plans : ProgramTree → List Link → List LinkPlan
-link_plans p ls = link_plans_from (channels ls) (placed_sets p 0 p.state_sets) 0 ls
+abbrev pub ties_in : ProgramTree → List Link → List Tied
+ties_in p ls = ties_from (channels ls) (flags_in p) (placed_sets p 0 p.state_sets) 0 ls

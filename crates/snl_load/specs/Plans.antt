@@ -5,14 +5,13 @@ use Rattle.snl_syntax.specs.Programs.{ClauseTree, StateTree, StateSetTree, Progr
 use Rattle.snl_code.specs.declared.starts.Piece.TheVariants.{Condition, Block}
 use Rattle.snl_code.specs.Starts.{ProgramTable, start_in}
 use Rattle.snl_links.specs.Links.{Link}
-use Rattle.snl_schedule.specs.declared.feeds.LinkFeed.{LinkFeed}
 use Rattle.snl_schedule.specs.declared.plans.ClausePlan.{ClausePlan}
-use Rattle.snl_schedule.specs.declared.plans.LinkPlan.{LinkPlan}
+use Rattle.snl_meaning.specs.declared.ties.Tied.{Tied}
 use Rattle.snl_schedule.specs.declared.plans.Plan.{Plan}
 use Rattle.snl_schedule.specs.declared.plans.SetPlan.{SetPlan}
 use Rattle.snl_schedule.specs.declared.plans.StatePlan.{StatePlan}
 use Rattle.snl_load.specs.Meaning.{target_of}
-use Rattle.snl_load.specs.Places.{feeds_in, link_plans}
+use Rattle.snl_load.specs.Places.{ties_in}
 
 -- ---- plans without their vectors
 
@@ -25,12 +24,11 @@ pub record PlainState : Type 0 where
 pub record PlainSet : Type 0 where
   pub name : List ℕ
   pub states : List PlainState
-  pub feeds : List LinkFeed
 
 -- A program.
 pub record PlainPlan : Type 0 where
   pub name : List ℕ
-  pub links : List LinkPlan
+  pub links : List Tied
   pub sets : List PlainSet
 
 -- What stands for a state,
@@ -39,7 +37,7 @@ state_view s = record { name = s.name.items; clauses = s.clauses.items }
 
 -- for a state set,
 abbrev pub set_view : SetPlan → PlainSet
-set_view s = record { name = s.name.items; states = map state_view s.states.items; feeds = s.feeds.items }
+set_view s = record { name = s.name.items; states = map state_view s.states.items }
 
 -- and for a program.
 abbrev pub plan_view : Plan → PlainPlan
@@ -76,14 +74,14 @@ abbrev pub names_of : StateSetTree → List Token
 names_of g = map (λ s. s.name) g.states
 
 -- The state set of a number.
-abbrev pub set_plan : ProgramTree → List Link → ProgramTable → ℕ → StateSetTree → PlainSet
-set_plan p ls t k g = record { name = g.name.text.now; states = state_plans (names_of g) t k 0 g.states; feeds = feeds_in p ls k }
+abbrev pub set_plan : ProgramTable → ℕ → StateSetTree → PlainSet
+set_plan t k g = record { name = g.name.text.now; states = state_plans (names_of g) t k 0 g.states }
 
 -- State sets with numbers from k on.
-abbrev pub set_plans : ProgramTree → List Link → ProgramTable → ℕ → List StateSetTree → List PlainSet
-set_plans p ls t k [] = []
-set_plans p ls t k (g ∷ gs) = set_plan p ls t k g ∷ set_plans p ls t (k + 1) gs
+abbrev pub set_plans : ProgramTable → ℕ → List StateSetTree → List PlainSet
+set_plans t k [] = []
+set_plans t k (g ∷ gs) = set_plan t k g ∷ set_plans t (k + 1) gs
 
 -- A program with these links, whose pieces begin so in its code.
 abbrev pub program_plan : ProgramTree → List Link → ProgramTable → PlainPlan
-program_plan p ls t = record { name = p.name.text.now; links = link_plans p ls; sets = set_plans p ls t 0 p.state_sets }
+program_plan p ls t = record { name = p.name.text.now; links = ties_in p ls; sets = set_plans t 0 p.state_sets }

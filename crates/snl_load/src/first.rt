@@ -7,14 +7,15 @@ ghost use Rattle.snl_vm.specs.Views.{copy_view, world_of};
 ghost use Rattle.snl_load.specs.First as spec;
 ghost use Rattle.snl_vm.specs.Marks as tables;
 ghost use Rattle.snl_load.specs.Initials.{held_sets};
-ghost use Rattle.snl_load.specs.Sets.{names_in, sets_of};
+ghost use Rattle.snl_load.specs.Places as places;
+ghost use Rattle.snl_load.specs.Sets.{copies_of, names_in, sets_of};
 
 use crate::initials::{self, first_buffers, first_words};
+use crate::links::{flags_in, homes_in};
 use indexmap::IndexSet;
 use snl_links::Link;
-use snl_meaning::Live;
+use snl_meaning::{Live, Placed, Tied};
 use snl_resolve::Held;
-use snl_schedule::{LinkPlan, ties_of};
 use snl_syntax::Program;
 use snl_vm::{Marks, SetMemory, Store};
 use std::alloc::{AllocError, Global};
@@ -61,17 +62,20 @@ fn marks_of(alloc: Global, sets: &[Vec<Held>], links: usize) -> Result<Vec<Marks
     Ok(marks)
 }
 
-/// The store of a program that waits for its start, by its links with their plans, the names of its channels and the
-/// variables of its copies. The only error is that memory ends.
+/// The store of a program that waits for its start, by its links with their ties, the names of its channels, how many
+/// event flags it has and the variables of its copies. The only error is that memory ends.
 fn store_by(
     alloc: Global,
     sets: &[Vec<Held>],
+    flags: usize,
     links: &[Link],
-    plans: &[LinkPlan],
+    ties: &[Tied],
+    copies: &[Vec<Placed>],
     names: &IndexSet<Vec<u8>>,
 ) -> Result<Store, AllocError>
-    ensures { IfOk result (λ store. world_of store ≡ spec.first_world (sets_of sets.now)
-        (names_in names.now) (map (λ l. l.channel) plans.now) (map link_view links.now)) }
+    ensures { IfOk result (λ store. world_of store ≡ spec.first_world (sets_of sets.now) flags
+        (names_in names.now) ties.now (places.homes_in (copies_of copies.now)
+        (map link_view links.now)) (map link_view links.now)) }
 {
     Ok(Store {
         time: 0,
@@ -80,30 +84,43 @@ fn store_by(
         wake: None,
         due: None,
         copies: first_copies(alloc, sets)?,
+        flags: vec![in alloc; false; flags]?,
         channels: names_of(alloc, names)?,
         ups: vec![in alloc; false; names.len()]?,
         valued: vec![in alloc; false; names.len()]?,
-        ties: ties_of(alloc, plans)?,
+        ties: Vec::from_slice(alloc, ties)?,
+        homes: homes_in(alloc, copies, links)?,
         buffers: first_buffers(alloc, sets, links)?,
         marks: marks_of(alloc, sets, links.len())?,
         awaited: 0,
     })
 }
 
-/// The store of a program that waits for its start, by its links with their plans and the names of its channels. The
-/// only error is that memory ends.
+/// The store of a program that waits for its start, by its links with their ties, the names of its channels and where the
+/// variables of its copies stand. The only error is that memory ends.
 pub fn store_of<'a>(
     alloc: Global,
     program: &Program<'a>,
     links: &[Link],
-    plans: &[LinkPlan],
+    ties: &[Tied],
+    copies: &[Vec<Placed>],
     names: &IndexSet<Vec<u8>>,
 ) -> Result<Store, AllocError>
     ensures { IfOk result (λ store. world_of store
         ≡ spec.first_world (held_sets (program_view program.now) 0
-        (program_view program.now).state_sets) (names_in names.now) (map (λ l. l.channel) plans.now)
-        (map link_view links.now)) }
+        (program_view program.now).state_sets) (length (places.flags_in (program_view program.now)))
+        (names_in names.now) ties.now (places.homes_in (copies_of copies.now)
+        (map link_view links.now)) (map link_view links.now)) }
 {
     let sets = initials::held_sets(alloc, program)?;
-    store_by(alloc, sets.as_slice(), links, plans, names)
+    let flags = flags_in(alloc, program)?;
+    store_by(
+        alloc,
+        sets.as_slice(),
+        flags.len(),
+        links,
+        ties,
+        copies,
+        names,
+    )
 }

@@ -12,9 +12,9 @@ ghost use Rattle.snl_load.specs.Places.{channels, placed_sets};
 ghost use Rattle.snl_load.specs.Plans as spec;
 ghost use Rattle.snl_load.specs.Sets.{copies_of, names_in};
 
-use crate::links::{feeds_of, link_plans};
+use crate::links::ties_in;
 use indexmap::IndexSet;
-use snl_code::{Code, Piece, names_in, placed_of};
+use snl_code::{Code, Piece, names_in};
 use snl_links::Link;
 use snl_meaning::{Placed, number_in};
 use snl_schedule::{ClausePlan, Destination, Plan, SetPlan, StatePlan};
@@ -142,43 +142,28 @@ fn states_of<'a>(
 }
 
 /// The plan of a state set.
-fn set_plan<'a>(
+fn set_plan(
     alloc: Global,
-    program: &Program<'a>,
-    set: &StateSet<'a>,
+    set: &StateSet,
     number: usize,
     code: &Code,
-    links: &[Link],
 ) -> Result<SetPlan, AllocError>
-    ensures { IfOk result (λ plan. spec.set_view plan ≡ spec.set_plan (program_view program.now)
-        (map link_view links.now) (table_of code.now) number (state_set_view set.now)) }
+    ensures { IfOk result (λ plan. spec.set_view plan ≡ spec.set_plan (table_of code.now) number
+        (state_set_view set.now)) }
 {
     let name = Vec::from_slice(alloc, set.name.text)?;
     let states = states_of(alloc, set, number, code)?;
-    let places = placed_of(alloc, program, number)?;
-    let feeds = feeds_of(alloc, places.as_slice(), links)?;
-    Ok(SetPlan {
-        name,
-        states,
-        feeds,
-    })
+    Ok(SetPlan { name, states })
 }
 
 /// The plans of all state sets.
-fn set_plans<'a>(
-    alloc: Global,
-    program: &Program<'a>,
-    sets: &[StateSet<'a>],
-    code: &Code,
-    links: &[Link],
-) -> Result<Vec<SetPlan>, AllocError>
+fn set_plans(alloc: Global, sets: &[StateSet], code: &Code) -> Result<Vec<SetPlan>, AllocError>
     ensures { IfOk result (λ plans. map spec.set_view plans.items ≡ spec.set_plans
-        (program_view program.now) (map link_view links.now) (table_of code.now) 0
-        (map state_set_view sets.now)) }
+        (table_of code.now) 0 (map state_set_view sets.now)) }
 {
     let mut plans = Vec::new(alloc);
     for (number, set) in sets.iter().enumerate() {
-        let plan = set_plan(alloc, program, set, number, code, links)?;
+        let plan = set_plan(alloc, set, number, code)?;
         plans.push(plan)?;
     }
     Ok(plans)
@@ -201,7 +186,7 @@ pub fn plan_of<'a>(
         (program_view program.now) (map link_view links.now) (table_of code.now)) }
 {
     let name = Vec::from_slice(alloc, program.name.text)?;
-    let links_planned = link_plans(alloc, links, names, copies)?;
-    let sets = set_plans(alloc, program, program.state_sets.as_slice(), code, links)?;
-    Plan::new(alloc, name, links_planned, sets)
+    let ties = ties_in(alloc, program, links, names, copies)?;
+    let sets = set_plans(alloc, program.state_sets.as_slice(), code)?;
+    Plan::new(alloc, name, ties, sets)
 }

@@ -14,13 +14,13 @@ use Rattle.snl_meaning.specs.Names.{behind, variable_from, placed_from}
 use Rattle.snl_meaning.specs.World.{SetMemory, no_copy, copy_of}
 use Rattle.snl_load.specs.First.{first_copy, first_world_of}
 use Rattle.snl_load.specs.Initials.{worth_in, first_by, first_element, first_elements, all_elements, held_among, buffer_by, first_buffer, held_sets}
-use Rattle.snl_load.specs.Places.{place_after, channels, placed_sets, for_each_set, link_plan, link_plans_from}
+use Rattle.snl_load.specs.Places.{place_after, channels, flags_in, placed_sets, for_each_set, tie_of, ties_from}
 use Rattle.snl_resolve.specs.declared.constants.Constant.{Constant}
 use Rattle.snl_resolve.specs.declared.constants.Constant.TheVariants.{Varies, Faults, Worth}
 use Rattle.snl_resolve.specs.Constants.{constant_of}
 use Rattle.snl_resolve.specs.Scopes.{elements, is_hidden}
 use Rattle.snl_resolve.specs.Variables.{Held, variables_of}
-use Rattle.snl_schedule.specs.declared.plans.LinkPlan.{LinkPlan}
+use Rattle.snl_meaning.specs.declared.ties.Tied.{Tied}
 use Rattle.snl_schedule.specs.Arrivals.{is_in}
 
 -- ---- what an element begins with
@@ -123,24 +123,24 @@ first-fits p ls sized set i k x is less = by (copy-at (variables_of p) 0 p.state
 -- ---- buffers
 
 -- what a link's buffer begins with, where its variable stands in a copy
-abbrev Begins : List (List Held) → Link → LinkPlan → Type 0
+abbrev Begins : List (List Held) → Link → Tied → Type 0
 Begins sets l t = (v : Held) × (held_among sets l.variable.offset ≡ Some v) × (t.least ≡ v.range.0) × (t.greatest ≡ v.range.1) × (is_in t (pos 0) ≡ true)
 
-module _ (names : List (List ℕ)) (copies : List (List Placed)) (sets : List (List Held)) where
+module _ (names : List (List ℕ)) (flags : List ℕ) (copies : List (List Placed)) (sets : List (List Held)) where
   -- the words of a link's buffer among those of others
-  buffer-fits : (ks : List Link) (before : List ℤ) (at i k : ℕ) (t : LinkPlan) → length before ≡ at → at + counts ks ≤ 2 ^ 64 - 1 →
-      ((j : ℕ) (l : Link) (u : LinkPlan) → slice_get ks j ≡ Some l → slice_get (link_plans_from names copies at ks) j ≡ Some u → Begins sets l u) →
-      slice_get (link_plans_from names copies at ks) i ≡ Some t → k < t.count → is_in t (slice_index_or (before ++ flat_map (first_buffer sets) ks) (t.from + k) (pos 0)) ≡ true
+  buffer-fits : (ks : List Link) (before : List ℤ) (at i k : ℕ) (t : Tied) → length before ≡ at → at + counts ks ≤ 2 ^ 64 - 1 →
+      ((j : ℕ) (l : Link) (u : Tied) → slice_get ks j ≡ Some l → slice_get (ties_from names flags copies at ks) j ≡ Some u → Begins sets l u) →
+      slice_get (ties_from names flags copies at ks) i ≡ Some t → k < t.count → is_in t (slice_index_or (before ++ flat_map (first_buffer sets) ks) (t.from + k) (pos 0)) ≡ true
   buffer-fits [] before at i k t long few held is less = absurd (cc)
   buffer-fits (l ∷ ks) before at zero k t long few held is less =
-      let here : link_plan names copies at l ≡ t = cc in
+      let here : tie_of names flags copies at l ≡ t = cc in
       let b = held 0 l t refl is in
       let v = b.0 in
-      let within : k < l.count = subst (λ (u : LinkPlan). k < u.count) (sym here) less in
+      let within : k < l.count = subst (λ (u : Tied). k < u.count) (sym here) less in
       let rest = flat_map (first_buffer sets) ks in
       let words = before ++ flat_map (first_buffer sets) (l ∷ ks) in
       let front : flat_map (first_buffer sets) (l ∷ ks) ≡ first_elements v l.first l.count ++ rest = ap (λ (o : Option Held). buffer_by o l ++ rest) b.1 in
-      let from : t.from + k ≡ length before + k = omega (arith, long, ap (λ (u : LinkPlan). u.from) (sym here)) in
+      let from : t.from + k ≡ length before + k = omega (arith, long, ap (λ (u : Tied). u.from) (sym here)) in
       let value : slice_index_or words (t.from + k) (pos 0) ≡ first_element v (l.first + k) =
       ap (λ (n : ℕ). slice_index_or words n (pos 0)) from ∙ index-behind before (flat_map (first_buffer sets) (l ∷ ks)) k
       ∙ ap (λ (m : List ℤ). slice_index_or m k (pos 0)) front ∙ index-front v l.first l.count k rest within in
@@ -151,7 +151,7 @@ module _ (names : List (List ℕ)) (copies : List (List Placed)) (sets : List (L
       subst (λ (m : ℤ). (int_le m z && int_le z t.greatest) ≡ true) (sym b.2) (subst (λ (g : ℤ). (int_le v.range.0 z && int_le z g) ≡ true) (sym b.3) has)
   buffer-fits (l ∷ ks) before at (suc i) k t long few held is less =
       let next : place_after at l.count ≡ at + l.count = omega (arith, few) in
-      let b = held 0 l (link_plan names copies at l) refl refl in
+      let b = held 0 l (tie_of names flags copies at l) refl refl in
       let own = first_buffer sets l in
       let count : length own ≡ l.count = ap (λ (o : Option Held). length (buffer_by o l)) b.1 ∙ length-elements b.0 l.first l.count in
       let longer : length (before ++ own) ≡ place_after at l.count =
@@ -164,5 +164,7 @@ pub first_holds : FirstHolds
 first_holds p ls sized tied held =
     let few = tied.few in (
       first-fits p ls sized,
-      λ i k t is less. buffer-fits (channels ls) (placed_sets p 0 p.state_sets) (held_sets p 0 p.state_sets) ls [] 0 i k t refl (omega (arith, few)) held is less,
+      λ i k t is less. buffer-fits (channels ls) (flags_in p) (placed_sets p 0 p.state_sets) (held_sets p 0 p.state_sets) ls [] 0 i k t refl (omega (arith, few)) held is less,
+      refl,
+      refl,
     )

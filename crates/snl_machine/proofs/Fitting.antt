@@ -84,11 +84,11 @@ module _ (p : ProgramTree) (sized : IsSized p) where
           cc
 
   -- an element of a variable of the copy may be stored to
-  abbrev May : ℕ → Variable → ℤ → Type 0
+  abbrev pub May : ℕ → Variable → ℤ → Type 0
   May set v k = (i : ℕ) × (x : Placed) × (slice_get (placed_in p set) i ≡ Some x) × (x.variable ≡ v) × (natural k < v.size)
 
   -- so may those that names mean
-  may : (set : ℕ) → MayStore (here_in p set) (May set)
+  pub may : (set : ℕ) → MayStore (here_in p set) (May set)
   may set = record {
     first = λ offset v is.
         let there = found (placed_in p set) offset v is in
@@ -141,13 +141,16 @@ module _ (p : ProgramTree) (sized : IsSized p) where
   Stays w u = AllFit p w → AllFit p u
 
   -- each change of a piece
-  kept : (set : ℕ) → IsKept set (May set) Stays
+  pub kept : (set : ℕ) → IsKept set (May set) Stays
   kept set = record {
     nothing = λ w all. all;
     both = λ u v w a b all. b (a all);
     stores = λ v k z w ok has. changed-fits set (record (copy_of set w) { words = slice_set (copy_of set w).words (v.place + natural k) z }) w
         (store-fits set v k z (copy_of set w).words ok has);
     clears = λ v w ok. changed-fits set (record (copy_of set w) { words = zeroed (copy_of set w).words v.place v.size }) w (zero-fits set v.place v.size (copy_of set w).words);
+    signals = λ flag now w all. all;
+    fills = λ place link t w home is all. all;
+    marks = λ marks w all. all;
     notes = λ due w all. all;
     spends = λ left w is all. all;
   }

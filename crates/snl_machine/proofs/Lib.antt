@@ -1,8 +1,11 @@
 pub mod AsLoaded
 pub mod Tasks
+pub mod Turning
 pub mod Steady
 pub mod Rounds
 pub mod Fitting
 pub mod Beginning
+pub mod Linked
 pub mod Filling
 pub mod Lines
+pub mod Apart

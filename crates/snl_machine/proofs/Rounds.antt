@@ -1,23 +1,24 @@
 -- Rounds end by themselves, and time never falls.
-use Rattle.std.proofs.Common.{◌≡◌, ◌∙◌, ◌+◌, ◌<◌, ◌≤◌, refl, ap, sym, arith, ℕ, zero, suc, ℤ, Bool, true, false, List, [], ◌∷◌, if◌then◌else◌}
+use Rattle.std.proofs.Common.{◌≡◌, ◌∙◌, ◌+◌, ◌<◌, ◌≤◌, refl, ap, sym, arith, ℕ, zero, suc, ℤ, Bool, true, false, List, [], ◌∷◌, Option, None, Some, take, if◌then◌else◌}
 use Rattle.snl_syntax.specs.Programs.{ProgramTree}
 use Rattle.snl_schedule.specs.declared.events.Event.{Event}
 use Rattle.snl_schedule.specs.declared.events.Event.TheVariants.{Up, Val, Tick, Other}
 use Rattle.snl_schedule.specs.Event.{applied, closed, line_by}
 use Rattle.snl_links.specs.Links.{Link}
 use Rattle.snl_machine.specs.Rounds.{Rounds, Last, Leaves, Stops, Again, RoundsEnd, TimeIsTheEvents, TimeNeverFalls}
-use Rattle.snl_machine.proofs.Steady.{IsLoose, loosely, Turns, round-turns, instant-keeps}
+use Rattle.snl_machine.proofs.Steady.{IsLoose, loosely, round-turns, instant-keeps}
+use Rattle.snl_machine.proofs.Turning.{Turns}
 use Rattle.snl_meaning.specs.declared.live.Live.{Live}
 use Rattle.snl_meaning.specs.declared.live.Live.TheVariants.{Waiting, Running, Ended}
 use Rattle.snl_meaning.specs.Keeping.{world_after}
 use Rattle.snl_meaning.specs.Ran.{Ran, Gives, Faults, then_do}
 use Rattle.snl_meaning.specs.World.{World}
 use Rattle.snl_load.specs.Meaning.{program_meaning}
-use Rattle.snl_schedule.specs.declared.plans.LinkPlan.{LinkPlan}
+use Rattle.snl_meaning.specs.declared.ties.Tied.{Tied}
 use Rattle.snl_schedule.specs.declared.turns.Turned.{Turned}
 use Rattle.snl_schedule.specs.declared.turns.Turned.TheVariants.{Stayed, Moved, Exited}
-use Rattle.snl_schedule.specs.Turn.{StateSet}
-use Rattle.snl_schedule.specs.Arrivals.{is_of, all_marked, with_values, received_link, received_from}
+use Rattle.snl_meaning.specs.Links.{all_marked, flagged, with_buffer}
+use Rattle.snl_schedule.specs.Arrivals.{is_of, received_link, received_from}
 use Rattle.snl_schedule.specs.Instant.{Program, round_of, unless_still, rounds_of, instant_of}
 
 -- ---- ticks
@@ -37,6 +38,8 @@ ticks-steady = record {
   both = λ u v w a b. omega (arith, a, b);
   copies = λ x w. omega arith;
   marks = λ x w. omega arith;
+  flags = λ x w. omega arith;
+  buffers = λ x w. omega arith;
   due = λ x w. omega arith;
   wake = λ x w. omega arith;
   phase = λ x w. omega arith;
@@ -49,12 +52,12 @@ ticks-steady = record {
 -- with more rounds than ticks they end by themselves
 rounds-end : (p : ProgramTree) (ls : List Link) (n : ℕ) (w : World) → w.ticks < n → Rounds (program_meaning p ls) w (rounds_of (program_meaning p ls) n w)
 rounds-end p ls zero w few = absurd (omega (arith, few))
-rounds-end p ls (suc n) w few = by (λ u. rounds-end p ls n u) (round_of (program_meaning p ls) w) refl (round-turns p ls NoMore Fewer (loosely NoMore Fewer ticks-steady p ls) w)
+rounds-end p ls (suc n) w few = by (λ u. rounds-end p ls n u) (round_of (program_meaning p ls) w) refl (round-turns p ls NoMore Fewer (loosely NoMore Fewer ticks-steady p) w)
   where
     q : Program
     q = program_meaning p ls
 
-    by : ((u : World) → u.ticks < n → Rounds q u (rounds_of q n u)) → (r : Ran Turned) → round_of q w ≡ r → Turns p ls NoMore Fewer (loosely NoMore Fewer ticks-steady p ls) w r →
+    by : ((u : World) → u.ticks < n → Rounds q u (rounds_of q n u)) → (r : Ran Turned) → round_of q w ≡ r → Turns NoMore Fewer w r →
         Rounds q w (then_do r (unless_still q.name (rounds_of q n)))
     by others (Gives Stayed u text) is h = Last w u text is
     by others (Gives Moved u text) is h = Again w u text (rounds_of q n u) is (others u (omega (arith, h, few)))
@@ -78,6 +81,8 @@ time-steady = record {
   both = λ u v w a b. b ∙ a;
   copies = λ x w. refl;
   marks = λ x w. refl;
+  flags = λ x w. refl;
+  buffers = λ x w. refl;
   due = λ x w. refl;
   wake = λ x w. refl;
   phase = λ x w. refl;
@@ -88,24 +93,27 @@ time-steady = record {
 }
 
 -- values that come to a link
-link-time : (ss : List StateSet) (channel : ℕ) (values : List ℤ) (number : ℕ) (l : LinkPlan) (w : World) → Same w (received_link ss channel values number l w)
-link-time ss channel values number l w = by (is_of channel l) l.is_monitored
+link-time : (channel : ℕ) (values : List ℤ) (number : ℕ) (l : Tied) (w : World) → Same w (received_link channel values number l w)
+link-time channel values number l w = by (is_of channel l) l.is_monitored l.flag
   where
-    by : (b monitored : Bool) → Same w (if b then (if monitored then all_marked ss number (with_values values l w) else with_values values l w) else w)
-    by true true = refl
-    by true false = refl
-    by false monitored = refl
+    there : World
+    there = with_buffer l (take l.count values) w
+
+    by : (b monitored : Bool) (flag : Option ℕ) → Same w (if b then (if monitored then all_marked None number (flagged flag there) else there) else w)
+    by true true None = refl
+    by true true (Some flag) = refl
+    by true false flag = refl
+    by false monitored flag = refl
 
 -- values that come to links
-links-time : (ss : List StateSet) (channel : ℕ) (values : List ℤ) (number : ℕ) (ls : List LinkPlan) (w : World) → Same w (received_from ss channel values number ls w)
-links-time ss channel values number [] w = refl
-links-time ss channel values number (l ∷ ls) w =
-    links-time ss channel values (number + 1) ls (received_link ss channel values number l w) ∙ link-time ss channel values number l w
+links-time : (channel : ℕ) (values : List ℤ) (number : ℕ) (ls : List Tied) (w : World) → Same w (received_from channel values number ls w)
+links-time channel values number [] w = refl
+links-time channel values number (l ∷ ls) w = links-time channel values (number + 1) ls (received_link channel values number l w) ∙ link-time channel values number l w
 
 -- an event
 applied-time : (p : Program) (event : Event) (w : World) → Same w (applied p event w)
 applied-time p (Up channel) w = refl
-applied-time p (Val channel values) w = links-time p.sets channel values.items _ p.links _
+applied-time p (Val channel values) w = links-time channel values.items _ p.links _
 applied-time p Tick w = refl
 applied-time p Other w = refl
 
@@ -127,7 +135,7 @@ time_is_the_events p ls budget ms event w not_ended = by w.phase refl
     on : (world_after (closed (instant_of q budget there))).time ≡ ms
     on =
         closed-time (instant_of q budget there)
-        ∙ instant-keeps p ls Same Same (loosely Same Same time-steady p ls) there.phase (record there { ticks = budget })
+        ∙ instant-keeps p ls Same Same (loosely Same Same time-steady p) there.phase (record there { ticks = budget })
         ∙ applied-time q event (record w { time = ms })
 
     by : (phase : Live) → w.phase ≡ phase → (world_after (line_by q budget ms event phase w)).time ≡ ms

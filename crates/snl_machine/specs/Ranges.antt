@@ -14,9 +14,9 @@ use Rattle.snl_meaning.specs.World.{World, copy_of}
 use Rattle.snl_load.specs.First.{first_world_of}
 use Rattle.snl_load.specs.Initials.{held_among, held_sets}
 use Rattle.snl_load.specs.Meaning.{program_meaning}
-use Rattle.snl_load.specs.Places.{placed_in, channels, link_plans}
+use Rattle.snl_load.specs.Places.{placed_in, placed_sets, channels, ties_in, homes_in}
 use Rattle.snl_resolve.specs.Variables.{Held, variables_of}
-use Rattle.snl_schedule.specs.declared.plans.LinkPlan.{LinkPlan}
+use Rattle.snl_meaning.specs.declared.ties.Tied.{Tied}
 use Rattle.snl_schedule.specs.Arrivals.{is_in}
 
 -- The type of a variable has a number.
@@ -45,12 +45,13 @@ PiecesFit = (p : ProgramTree) (set : ℕ) → IsSized p → PiecesKeep (here_in 
 -- ---- links
 
 -- Each word of a link's buffer is a number that the link's type has.
-abbrev pub BuffersFit : List LinkPlan → List ℤ → Type 0
-BuffersFit plans buffers = (i k : ℕ) (l : LinkPlan) → slice_get plans i ≡ Some l → k < l.count → is_in l (slice_index_or buffers (l.from + k) (pos 0)) ≡ true
+abbrev pub BuffersFit : List Tied → List ℤ → Type 0
+BuffersFit ties buffers = (i k : ℕ) (l : Tied) → slice_get ties i ≡ Some l → k < l.count → is_in l (slice_index_or buffers (l.from + k) (pos 0)) ≡ true
 
--- Copies and buffers hold what their types have.
+-- Copies and buffers hold what their types have; what links are tied to, and where their elements stand, is as the program
+-- says.
 abbrev pub Holds : ProgramTree → List Link → World → Type 0
-Holds p ls w = AllFit p w × BuffersFit (link_plans p ls) w.buffers
+Holds p ls w = AllFit p w × BuffersFit (ties_in p ls) w.buffers × (w.ties ≡ ties_in p ls) × (w.homes ≡ homes_in (placed_sets p 0 p.state_sets) ls)
 
 -- How many words the buffers of some links have.
 abbrev pub counts : List Link → ℕ
@@ -62,12 +63,12 @@ counts (l ∷ ls) = l.count + counts ls
 pub record IsTied (p : ProgramTree) (ls : List Link) : Type 0 where
   pub few : counts ls ≤ 2 ^ 64 - 1
   pub within : (set i : ℕ) (l : Link) (v : Variable) → slice_get ls i ≡ Some l → variable_in (placed_in p set) l.variable.offset ≡ Some v → l.first + l.count ≤ v.size
-  pub type : (set i : ℕ) (l : Link) (t : LinkPlan) (v : Variable) → slice_get ls i ≡ Some l → slice_get (link_plans p ls) i ≡ Some t →
+  pub type : (set i : ℕ) (l : Link) (t : Tied) (v : Variable) → slice_get ls i ≡ Some l → slice_get (ties_in p ls) i ≡ Some t →
       variable_in (placed_in p set) l.variable.offset ≡ Some v → (t.least ≡ v.least) × (t.greatest ≡ v.greatest)
 
 -- And the variable of each link stands in a copy; its type is the link's, and has 0.
 abbrev pub AreHeld : ProgramTree → List Link → Type 0
-AreHeld p ls = (i : ℕ) (l : Link) (t : LinkPlan) → slice_get ls i ≡ Some l → slice_get (link_plans p ls) i ≡ Some t →
+AreHeld p ls = (i : ℕ) (l : Link) (t : Tied) → slice_get ls i ≡ Some l → slice_get (ties_in p ls) i ≡ Some t →
     (v : Held) × (held_among (held_sets p 0 p.state_sets) l.variable.offset ≡ Some v) × (t.least ≡ v.range.0) × (t.greatest ≡ v.range.1) × (is_in t (pos 0) ≡ true)
 
 -- Before the first event copies and buffers hold what their types have.
@@ -77,12 +78,12 @@ FirstHolds = (p : ProgramTree) (ls : List Link) → IsSized p → IsTied p ls �
 -- A line of a trace keeps it: what holds that before an event that fits holds it after, also where the run comes to a fault.
 abbrev pub EventsFit : Type 0
 EventsFit = (p : ProgramTree) (ls : List Link) (budget ms : ℕ) (event : Event) (w : World) → IsSized p → IsTied p ls →
-    is_event_fit (length (channels ls)) (link_plans p ls) event ≡ true → Holds p ls w → Holds p ls (world_after (line_of (program_meaning p ls) budget ms event w))
+    is_event_fit (length (channels ls)) (ties_in p ls) event ≡ true → Holds p ls w → Holds p ls (world_after (line_of (program_meaning p ls) budget ms event w))
 
 -- The worlds that a run comes to, over whatever lines, as long as each event fits: the first one, and those after a line.
 pub data Reached (p : ProgramTree) (ls : List Link) (budget : ℕ) : World → Type 0 where
   Begins : Reached p ls budget (first_world_of p ls)
-  GoesOn : (w : World) (ms : ℕ) (event : Event) → Reached p ls budget w → is_event_fit (length (channels ls)) (link_plans p ls) event ≡ true →
+  GoesOn : (w : World) (ms : ℕ) (event : Event) → Reached p ls budget w → is_event_fit (length (channels ls)) (ties_in p ls) event ≡ true →
       Reached p ls budget (world_after (line_of (program_meaning p ls) budget ms event w))
 
 -- In all of them each variable and each buffer holds what its type has.

@@ -1,6 +1,6 @@
 //! Laws of machines. Each function is its contract, and does nothing.
 
-ghost use Rattle.snl_machine.specs.Laws.{RunsItsProgram, StaysItsMachine};
+ghost use Rattle.snl_machine.specs.Laws.{RunsItsProgram, StaysItsMachine, TurnsStayApart};
 ghost use Rattle.snl_machine.specs.Ranges.{EventsFit, FirstHolds, PiecesFit, ReachedHold};
 ghost use Rattle.snl_machine.specs.Rounds.{RoundsEnd, TimeIsTheEvents, TimeNeverFalls};
 
@@ -17,9 +17,13 @@ pub fn stays_its_machine()
     ensures { StaysItsMachine }
 {}
 
+/// A turn of a state set changes nothing of the copy of another one, also where it comes to a fault.
+pub fn turns_stay_apart()
+    ensures { TurnsStayApart }
+{}
+
 /// The rounds of an instant end because one has no transition, leads out of the program, or faults: never because the
 /// number of rounds is used up that an instant allows.
-#[tactic(auto, using(crate::proofs::Rounds::rounds_end))]
 pub fn rounds_end()
     ensures { RoundsEnd }
 {}

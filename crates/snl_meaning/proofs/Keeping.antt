@@ -18,6 +18,9 @@ pieces_keep_time h = pieces-keep h Any (λ w u. u.time ≡ w.time) (any-may h) (
   both = λ u v w a b. b ∙ a;
   stores = λ v k z w ok fits. refl;
   clears = λ v w ok. refl;
+  signals = λ flag now w. refl;
+  fills = λ place link t w home is. refl;
+  marks = λ marks w. refl;
   notes = λ due w. refl;
   spends = λ left w is. refl;
 })
@@ -29,6 +32,9 @@ pieces_keep_the_phase h = pieces-keep h Any (λ w u. u.phase ≡ w.phase) (any-m
   both = λ u v w a b. b ∙ a;
   stores = λ v k z w ok fits. refl;
   clears = λ v w ok. refl;
+  signals = λ flag now w. refl;
+  fills = λ place link t w home is. refl;
+  marks = λ marks w. refl;
   notes = λ due w. refl;
   spends = λ left w is. refl;
 })

@@ -3,12 +3,13 @@ use Rattle.std.proofs.Common.{◌<◌, ◌≤◌, ℕ, zero, suc, ℤ, Bool, Opt
 use Rattle.snl_text.specs.declared.kinds.Kind.{Kind}
 use Rattle.snl_syntax.specs.Expressions.{ExprTree}
 use Rattle.snl_syntax.specs.Statements.{StatementTree}
+use Rattle.snl_resolve.specs.declared.builtins.Query.{Query}
 use Rattle.snl_meaning.specs.declared.instrs.Variable.{Variable}
 use Rattle.snl_meaning.specs.Effect.{held_by, evaluated, effect_of}
 use Rattle.snl_meaning.specs.Keeping.{IsKept, MayStore, world_after}
 use Rattle.snl_meaning.specs.Names.{Here}
 use Rattle.snl_meaning.specs.Ran.{Ran, Gives, Faults}
-use Rattle.snl_meaning.specs.Words.{operated, operated_prefix, subscript, stored, adjusted, put_to, waited, spent_of, spent}
+use Rattle.snl_meaning.specs.Words.{operated, operated_prefix, subscript, stored, adjusted, put_to, asked, waited, spent_of, spent}
 use Rattle.snl_meaning.specs.World.{World}
 use Rattle.snl_meaning.proofs.EffectKeeps as effects
 use Rattle.snl_meaning.proofs.WordKeeps as words
@@ -45,6 +46,9 @@ ticks-kept set = record {
   both = λ u v w a b. omega (arith, a, b);
   stores = λ v k z w ok fits. omega arith;
   clears = λ v w ok. omega arith;
+  signals = λ flag now w. omega arith;
+  fills = λ place link t w home is. omega arith;
+  marks = λ marks w. omega arith;
   notes = λ due w. omega arith;
   spends = λ left w is. omega (arith, is);
 }
@@ -91,8 +95,12 @@ keeps-adjusted set v op op_line line is_before k =
     few (adjusted set v op op_line line is_before k) (words.keeps-adjusted set Any NoMore (ticks-kept set) v op op_line line is_before k tt)
 
 -- `pvPut`
-pub keeps-put_to : (set : ℕ) (v : Variable) (link : ℕ) → Keeps (put_to set v link)
-keeps-put_to set v link = few (put_to set v link) (words.keeps-put_to set Any NoMore (ticks-kept set) v link)
+pub keeps-put_to : (set : ℕ) (v : Variable) → Keeps (put_to set v)
+keeps-put_to set v = few (put_to set v) (words.keeps-put_to set Any NoMore (ticks-kept set) v)
+
+-- what is asked or told of a flag
+pub keeps-asked : (query : Query) (flag : ℕ) → Keeps (asked query flag)
+keeps-asked query flag = few (asked query flag) (words.keeps-asked 0 Any NoMore (ticks-kept 0) query flag)
 
 -- `delay`
 pub keeps-waited : (set : ℕ) (in_seconds : Bool) (z : ℤ) → Keeps (waited set in_seconds z)

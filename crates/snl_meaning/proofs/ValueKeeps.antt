@@ -8,14 +8,15 @@ use Rattle.snl_arithmetic.specs.Arithmetic.{is_zero}
 use Rattle.snl_meaning.specs.declared.instrs.Variable.{Variable}
 use Rattle.snl_resolve.specs.Constants.{predefined}
 use Rattle.snl_resolve.specs.Uses.{declared_in}
-use Rattle.snl_meaning.specs.Names.{Here, Varies, variable_at, variable_by, sense_by, sense_of, format_number, link_number}
+use Rattle.snl_meaning.specs.Names.{Here, Varies, variable_at, variable_by, sense_by, sense_of, format_number, flag_number}
 use Rattle.snl_meaning.specs.Ran.{Ran}
 use Rattle.snl_resolve.specs.Builtins.{builtin_of}
-use Rattle.snl_meaning.specs.Value.{OnVariable, OnElement, joint_of, compound_of, sign_of, is_decimal, joined_by, either, value_of, chained, at_target, print_of, printing_with, wait_of, put_of}
+use Rattle.snl_resolve.specs.declared.builtins.Query.{Query}
+use Rattle.snl_meaning.specs.Value.{OnVariable, OnElement, joint_of, compound_of, sign_of, is_decimal, joined_by, either, value_of, chained, at_target, print_of, printing_with, wait_of, put_of, ask_at, ask_of}
 use Rattle.snl_meaning.specs.Words.{gives, is_subscript, read}
 use Rattle.snl_meaning.specs.World.{World}
 use Rattle.snl_meaning.specs.Keeping.{IsKept, MayStore}
-use Rattle.snl_meaning.proofs.WordKeeps.{Keeps, KeepsOn, keeps-then, keeps-here, keeps-read, keeps-adjusted, keeps-joined, keeps-put, keeps-at_subscript, keeps-at_name, keeps-named, keeps-signed, keeps-called, keeps-put_to, keeps-waited, after-test}
+use Rattle.snl_meaning.proofs.WordKeeps.{Keeps, KeepsOn, keeps-then, keeps-here, keeps-read, keeps-adjusted, keeps-joined, keeps-put, keeps-at_subscript, keeps-at_name, keeps-named, keeps-signed, keeps-called, keeps-put_to, keeps-asked, keeps-waited, after-test}
 
 -- what a name means is a variable of the copy
 pub sense-held : (h : Here) (o : Option Pos) (number : Option ℤ) (v : Variable) → sense_by (variable_by h o) number ≡ Varies v → (offset : ℕ) × (variable_at h offset ≡ Some v)
@@ -35,6 +36,25 @@ module _ (h : Here) (May : Variable → ℤ → Type 0) (R : World → World →
   may-element : (x : Token) (v : Variable) (k : ℤ) → sense_of h x ≡ Varies v → is_subscript v.size k ≡ true → May v k
   may-element x v k is within = let at = sense-held h (declared_in x.pos.offset h.sites) (predefined x.text.now) v is in may.element at.0 v k at.1 within
 
+  -- what is asked of a flag, by an expression
+  ask_at-keeps : (e : ExprTree) (query : Query) → Keeps R (ask_at h e query)
+  ask_at-keeps (named x) query w = keeps-asked h.set May R kept query (flag_number h x) w
+  ask_at-keeps (constant t) query w = kept.nothing w
+  ask_at-keeps (parenthesized e) query w = kept.nothing w
+  ask_at-keeps (element x b e) query w = kept.nothing w
+  ask_at-keeps (call f all) query w = kept.nothing w
+  ask_at-keeps (postfix e op) query w = kept.nothing w
+  ask_at-keeps (prefix op e) query w = kept.nothing w
+  ask_at-keeps (chain e rest) query w = kept.nothing w
+  ask_at-keeps (conditional c a b) query w = kept.nothing w
+  ask_at-keeps (assignment e op r) query w = kept.nothing w
+
+  -- by an argument
+  ask-keeps : (all : ArgumentList) (query : Query) → Keeps R (ask_of h all query)
+  ask-keeps no_arguments query w = kept.nothing w
+  ask-keeps (text t rest) query w = kept.nothing w
+  ask-keeps (value e rest) query w = ask_at-keeps e query w
+
   mutual
     -- an expression
     pub value-keeps : (e : ExprTree) → Keeps R (value_of h e)
@@ -44,7 +64,9 @@ module _ (h : Here) (May : Variable → ℤ → Type 0) (R : World → World →
     value-keeps (element x b e) w =
         keeps-then h.set May R kept (value_of h e) _ (value-keeps e)
         (keeps-at_subscript h.set May R kept (sense_of h x) b.pos.line (read h.set) (gives (pos 0)) (λ v k is within. keeps-read h.set May R kept v k) (keeps-here h.set May R kept (pos 0))) w
-    value-keeps (call f all) w = keeps-called h.set May R kept (builtin_of f.text.now) (print_of h all) (wait_of h all) (put_of h all) (print-keeps all) (wait-keeps all) (put-keeps all) w
+    value-keeps (call f all) w =
+        keeps-called h.set May R kept (builtin_of f.text.now) (print_of h all) (wait_of h all) (put_of h all) (ask_of h all)
+        (print-keeps all) (wait-keeps all) (put-keeps all) (ask-keeps all) w
     value-keeps (postfix e op) w =
         keeps-signed h.set May R kept (sign_of op.kind) _ (value_of h e) op.pos.line
         (λ by. target-keeps e _ _ (gives (pos 0)) (λ v x ok. keeps-adjusted h.set May R kept v by op.pos.line x.pos.line true (pos 0) ok)
@@ -107,4 +129,5 @@ module _ (h : Here) (May : Variable → ℤ → Type 0) (R : World → World →
     put-keeps no_arguments w = kept.nothing w
     put-keeps (text t rest) w = kept.nothing w
     put-keeps (value e rest) w =
-        target-keeps e _ _ (gives (pos 0)) (λ v x ok. keeps-put_to h.set May R kept v (link_number h x)) (λ v x k ok. keeps-read h.set May R kept v k) (keeps-here h.set May R kept (pos 0)) w
+        target-keeps e _ _ (gives (pos 0)) (λ v x ok. keeps-put_to h.set May R kept v)
+        (λ v x k ok. keeps-read h.set May R kept v k) (keeps-here h.set May R kept (pos 0)) w

@@ -1,17 +1,18 @@
 -- Small expressions and statements, and what they do in a world.
-use Rattle.std.specs.Prelude.{◌≡◌, ℕ, ℤ, pos, negsuc, ◌++◌, true, false, List, [], ◌∷◌, codes, Option, None, Some}
+use Rattle.std.specs.Prelude.{◌≡◌, ℕ, ℤ, pos, negsuc, ◌++◌, Bool, true, false, List, [], ◌∷◌, codes, Option, None, Some}
 use Rattle.std.specs.Fmt.{signed_decimal}
 use Rattle.snl_text.specs.declared.kinds.Kind.{Kind}
 use Rattle.snl_text.specs.declared.kinds.Kind.TheVariants as kind
 use Rattle.snl_text.specs.declared.tokens.Token.{Token}
 use Rattle.snl_syntax.specs.Expressions.{ExprTree, constant, named, element, call, postfix, chain, assignment, no_terms, term, no_arguments, value, text}
 use Rattle.snl_syntax.specs.Statements.{StatementTree, StatementList, nested, expression, break_loop, continue_loop, change_state, if_then, while_loop, for_loop, no_statements, statement, block}
-use Rattle.snl_resolve.specs.declared.sites.Meaning.TheVariants.{Variable}
-use Rattle.snl_resolve.specs.declared.sites.Purpose.TheVariants.{Read}
-use Rattle.snl_resolve.specs.declared.sites.Site.TheVariants.{Use, Format}
+use Rattle.snl_resolve.specs.declared.sites.Meaning.TheVariants.{Variable, Flag}
+use Rattle.snl_resolve.specs.declared.sites.Purpose.TheVariants.{Read, Flagged}
+use Rattle.snl_resolve.specs.declared.sites.Site.TheVariants.{Declaration, Use, Format}
 use Rattle.snl_resolve.specs.declared.sites.Size.TheVariants.{Scalar, Array}
 use Rattle.snl_meaning.specs.declared.faults.Fault.TheVariants.{OutOfRange, DoesNotFit, BudgetSpent}
 use Rattle.snl_meaning.specs.declared.live.Live.TheVariants.{Running}
+use Rattle.snl_meaning.specs.declared.ties.Tied.{Tied}
 use Rattle.snl_meaning.specs.Effect.{Done, Left, effect_of}
 use Rattle.snl_meaning.specs.Names.{Here}
 use Rattle.snl_meaning.specs.Printing.{print_line, put_line}
@@ -43,6 +44,10 @@ a = token kind.Name 11 9 (codes "a")
 abbrev pub y : Token
 y = token kind.Name 12 10 (codes "y")
 
+-- the use of the event flag `f`, which is declared at 3
+abbrev pub f : Token
+f = token kind.Name 13 10 (codes "f")
+
 -- `"x %d\n"`
 abbrev pub format : Token
 format = token kind.Text 20 1 (codes "\"x %d\\n\"")
@@ -55,34 +60,52 @@ here = record {
   states = token kind.Name 30 1 (codes "p") ∷ token kind.Name 31 1 (codes "q") ∷ [];
   sites = Use Read x (Variable (record { offset = 0; file = 0; line = 1 }) Scalar) false
       ∷ Use Read a (Variable (record { offset = 1; file = 0; line = 1 }) (Array 2)) true
-      ∷ Use Read y (Variable (record { offset = 2; file = 0; line = 1 }) Scalar) false ∷ Format format true ∷ [];
+      ∷ Use Read y (Variable (record { offset = 2; file = 0; line = 1 }) Scalar) false
+      ∷ Declaration (token kind.Name 3 1 (codes "f")) true false 0 ∷ Use Flagged f (Flag (record { offset = 3; file = 0; line = 1 })) false ∷ Format format true ∷ [];
   variables = record { offset = 0; variable = record { place = 0; size = 1; least = negsuc 2147483647; greatest = pos 2147483647 } }
       ∷ record { offset = 1; variable = record { place = 1; size = 2; least = negsuc 127; greatest = pos 127 } }
       ∷ record { offset = 2; variable = record { place = 3; size = 1; least = negsuc 2147483647; greatest = pos 2147483647 } } ∷ [];
-  linked = 0 ∷ 1 ∷ [];
 }
 
+-- a link that is monitored, by its channel, its event flag, and where its buffer begins, of so many elements
+abbrev pub tied : Option ℕ → Option ℕ → ℕ → ℕ → Tied
+tied channel flag from count = record { channel = channel; is_monitored = true; flag = flag; from = from; count = count; least = negsuc 127; greatest = pos 127 }
+
 -- Half a second after the state was entered: x, y, how many ticks, and the least due time. The array has 5 and 6. `x` has
--- a link to a channel that is connected, and `a` one to a channel that is not.
-abbrev pub world : ℤ → ℤ → ℕ → Option ℕ → World
-world first last ticks due = record {
+-- a link to a channel that is connected, and `a` one to a channel that is not. The event flag is as it is told.
+abbrev pub flagged : Bool → ℤ → ℤ → ℕ → Option ℕ → World
+flagged now first last ticks due = record {
   time = 1500;
   ticks = ticks;
   due = due;
   phase = Running;
   wake = None;
   copies = record { words = first ∷ pos 5 ∷ pos 6 ∷ last ∷ []; state = 0; entered = 1000 } ∷ [];
+  flags = now ∷ [];
   channels = codes "up" ∷ codes "down" ∷ [];
   ups = true ∷ false ∷ [];
   valued = false ∷ false ∷ [];
-  ties = Some 0 ∷ Some 1 ∷ [];
-  buffers = pos 0 ∷ pos 0 ∷ pos 0 ∷ [];
+  ties = tied (Some 0) None 0 1 ∷ tied (Some 1) None 1 2 ∷ tied None (Some 0) 3 1 ∷ [];
+  homes = (Some 0 ∷ Some 1 ∷ None ∷ []) ∷ [];
+  buffers = pos 0 ∷ pos 0 ∷ pos 0 ∷ pos 0 ∷ [];
   marks = [];
 }
+
+-- the same with a flag that is not set
+abbrev pub world : ℤ → ℤ → ℕ → Option ℕ → World
+world = flagged false
 
 -- `x` is 0, `y` is 9, and 3 ticks are left
 abbrev pub start : World
 start = world (pos 0) (pos 9) 3 None
+
+-- Two state sets have `y`, whose link has no channel: it is synced to `f`. The state set at work has a mark of its own.
+abbrev pub linked : Bool → ℤ → Bool → World
+linked now number mark = record (flagged now (pos 0) (pos 9) 3 None) {
+  homes = (Some 0 ∷ Some 1 ∷ Some 3 ∷ []) ∷ (None ∷ None ∷ Some 0 ∷ []) ∷ (Some 0 ∷ None ∷ None ∷ []) ∷ [];
+  buffers = pos 0 ∷ pos 0 ∷ pos 0 ∷ number ∷ [];
+  marks = (false ∷ false ∷ true ∷ []) ∷ (false ∷ false ∷ mark ∷ []) ∷ (false ∷ false ∷ false ∷ []) ∷ [];
+}
 
 -- left, an operator, right
 abbrev pub binary : Kind → ExprTree → ExprTree → ExprTree
@@ -99,8 +122,12 @@ in_row (s ∷ ss) = statement s (in_row ss)
 
 -- ---- expressions
 
+-- `NAME(f)`
+abbrev pub flag_call : List ℕ → ExprTree
+flag_call name = call (token kind.Name 100 1 name) (value (named f) no_arguments)
+
 -- `x++ + x`, `0 && 1 / 0`, `a[2]`, `a[1] = 200`, `delay(1)`, `delay(0.5)`, `printf("x %d\n", x)`, and `pvPut` of `x`,
--- of `a`, and of `y`, which has no link
+-- of `a`, and of `y`, which has no link, and then one without a channel; `efSet(f)`, and `efTest(f)` and `efTestAndClear(f)` of a flag that is set
 abbrev pub ExpressionExamples : Type 0
 ExpressionExamples =
     (value_of here (binary kind.Plus (increased x) (named x)) start ≡ Gives (pos 1) (world (pos 1) (pos 9) 3 None) [])
@@ -114,6 +141,10 @@ ExpressionExamples =
     × (value_of here (call (token kind.Name 100 1 (codes "pvPut")) (value (named x) no_arguments)) start ≡ Gives (pos 0) start (put_line 1500 (codes "up") (pos 0 ∷ [])))
     × (value_of here (call (token kind.Name 100 1 (codes "pvPut")) (value (named a) no_arguments)) start ≡ Gives (negsuc 1) start [])
     × (value_of here (call (token kind.Name 100 1 (codes "pvPut")) (value (named y) no_arguments)) start ≡ Gives (negsuc 0) start [])
+    × (value_of here (call (token kind.Name 100 1 (codes "pvPut")) (value (named y) no_arguments)) (linked false (pos 0) false) ≡ Gives (pos 0) (linked true (pos 9) true) [])
+    × (value_of here (flag_call (codes "efSet")) start ≡ Gives (pos 0) (flagged true (pos 0) (pos 9) 3 None) [])
+    × (value_of here (flag_call (codes "efTest")) (flagged true (pos 0) (pos 9) 3 None) ≡ Gives (pos 1) (flagged true (pos 0) (pos 9) 3 None) [])
+    × (value_of here (flag_call (codes "efTestAndClear")) (flagged true (pos 0) (pos 9) 3 None) ≡ Gives (pos 1) start [])
 
 -- ---- statements
 

@@ -1,4 +1,5 @@
 pub mod World
+pub mod Links
 pub mod Ran
 pub mod Names
 pub mod Printing

@@ -1,10 +1,10 @@
 -- What the names in a piece of code mean, by their declarations.
-use Rattle.std.specs.Prelude.{ℕ, suc, ◌+◌, ◌-◌, ◌^◌, min, ℤ, pos, ◌==◌, bytes_eq, length, List, [], ◌∷◌, Option, None, Some, slice_index_or, if◌then◌else◌}
+use Rattle.std.specs.Prelude.{ℕ, true, suc, ◌+◌, ◌-◌, ◌^◌, min, ℤ, pos, ◌==◌, bytes_eq, length, List, [], ◌∷◌, Option, None, Some, slice_index_or, if◌then◌else◌}
 use Rattle.std.specs.List.{flat_map}
 use Rattle.snl_text.specs.declared.tokens.Pos.{Pos}
 use Rattle.snl_text.specs.declared.tokens.Token.{Token}
 use Rattle.snl_resolve.specs.declared.sites.Site.{Site}
-use Rattle.snl_resolve.specs.declared.sites.Site.TheVariants.{Format}
+use Rattle.snl_resolve.specs.declared.sites.Site.TheVariants.{Declaration, Format}
 use Rattle.snl_resolve.specs.Constants.{predefined}
 use Rattle.snl_resolve.specs.Numbered.{number_of}
 use Rattle.snl_resolve.specs.Scopes.{elements}
@@ -25,8 +25,6 @@ pub record Here : Type 0 where
   pub sites : List Site
   -- the variables of the copy, by their declarations
   pub variables : List Placed
-  -- by link: where its variable is declared, in bytes
-  pub linked : List ℕ
 
 -- A variable whose words begin at a place of the copy.
 abbrev pub variable_from : ℕ → Held → Variable
@@ -74,21 +72,30 @@ sense_by None number = Stands (or_zero number)
 abbrev pub sense_of : Here → Token → Sense
 sense_of h x = sense_by (variable_by h (declared_in x.pos.offset h.sites)) (predefined x.text.now)
 
--- ---- links
+-- ---- event flags
 
--- The number of the link whose variable is declared at an offset; that after the last where there is none.
-abbrev pub link_in : List ℕ → ℕ → ℕ
-link_in [] offset = 0
-link_in (l ∷ ls) offset = if l == offset then 0 else suc (link_in ls offset)
+-- The number of the first of some declarations that stands at an offset; that after the last where none does.
+abbrev pub number_at : List ℕ → ℕ → ℕ
+number_at [] offset = 0
+number_at (d ∷ ds) offset = if d == offset then 0 else suc (number_at ds offset)
 
 -- The same of a declaration that may be missing.
-abbrev pub link_by : List ℕ → Option Pos → ℕ
-link_by linked None = length linked
-link_by linked (Some declared) = link_in linked declared.offset
+abbrev pub number_by : List ℕ → Option Pos → ℕ
+number_by ds None = length ds
+number_by ds (Some declared) = number_at ds declared.offset
 
--- The number of the link of a variable, by the use of its name.
-abbrev pub link_number : Here → Token → ℕ
-link_number h x = link_by h.linked (declared_in x.pos.offset h.sites)
+-- Where a site declares an event flag, if it does.
+abbrev pub flag_at : Site → List ℕ
+flag_at (Declaration x true later words) = x.pos.offset ∷ []
+flag_at _ = []
+
+-- The event flags of a program, by their declarations, in the order of the source.
+abbrev pub flags_of : List Site → List ℕ
+flags_of sites = flat_map flag_at sites
+
+-- The number of an event flag, by the use of its name.
+abbrev pub flag_number : Here → Token → ℕ
+flag_number h x = number_by (flags_of h.sites) (declared_in x.pos.offset h.sites)
 
 -- ---- states
 

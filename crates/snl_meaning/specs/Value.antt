@@ -11,14 +11,15 @@ use Rattle.snl_arithmetic.specs.Arithmetic.{is_zero}
 use Rattle.snl_meaning.specs.declared.instrs.Variable.{Variable}
 use Rattle.snl_resolve.specs.declared.builtins.Builtin.{Builtin}
 use Rattle.snl_resolve.specs.declared.builtins.Builtin.TheVariants.{Delay, Printf, PvPut, Ask}
+use Rattle.snl_resolve.specs.declared.builtins.Query.{Query}
 use Rattle.snl_resolve.specs.Builtins.{builtin_of}
 pub use Rattle.snl_meaning.specs.declared.operators.Joint.{Joint}
 pub use Rattle.snl_meaning.specs.declared.operators.Joint.TheVariants.{And, Or, Sequel, Operation}
 pub use Rattle.snl_meaning.specs.declared.operators.Sign.{Sign}
 pub use Rattle.snl_meaning.specs.declared.operators.Sign.TheVariants.{Steps, Alone}
-use Rattle.snl_meaning.specs.Names.{Here, Sense, Varies, Stands, sense_of, link_number, formats_of, format_number, text_of}
+use Rattle.snl_meaning.specs.Names.{Here, Sense, Varies, Stands, sense_of, flag_number, formats_of, format_number, text_of}
 use Rattle.snl_meaning.specs.Ran.{Ran, Gives, then_do}
-use Rattle.snl_meaning.specs.Words.{gives, operated, operated_prefix, settled, subscript, read, stored, adjusted, printed, put_to, waited}
+use Rattle.snl_meaning.specs.Words.{gives, operated, operated_prefix, settled, subscript, read, stored, adjusted, printed, put_to, asked, waited}
 use Rattle.snl_meaning.specs.World.{World}
 
 -- ---- constants
@@ -127,13 +128,23 @@ put_at op op_line right set v line k w = then_do (renewed op op_line right set v
 
 -- ---- calls
 
--- A call, by its function. Those that do not run yet give 0, and so would an unknown one.
-abbrev pub called : Option Builtin → (print wait put : World → Ran ℤ) → World → Ran ℤ
-called None print wait put w = Gives (pos 0) w []
-called (Some Delay) print wait put w = wait w
-called (Some Printf) print wait put w = print w
-called (Some PvPut) print wait put w = put w
-called (Some (Ask query)) print wait put w = Gives (pos 0) w []
+-- A call, by its function. An unknown one would give 0; the rules refuse it.
+abbrev pub called : Option Builtin → (print wait put : World → Ran ℤ) → (ask : Query → World → Ran ℤ) → World → Ran ℤ
+called None print wait put ask w = Gives (pos 0) w []
+called (Some Delay) print wait put ask w = wait w
+called (Some Printf) print wait put ask w = print w
+called (Some PvPut) print wait put ask w = put w
+called (Some (Ask query)) print wait put ask w = ask query w
+
+-- What is asked of an event flag, by its name.
+abbrev pub ask_at : Here → ExprTree → Query → World → Ran ℤ
+ask_at h (named x) query w = asked query (flag_number h x) w
+ask_at h _ query w = Gives (pos 0) w []
+
+-- The same by the argument of a call.
+abbrev pub ask_of : Here → ArgumentList → Query → World → Ran ℤ
+ask_of h (value e rest) query w = ask_at h e query w
+ask_of h _ query w = Gives (pos 0) w []
 
 -- A decimal constant, also in parentheses.
 abbrev pub is_decimal : ExprTree → Bool
@@ -154,7 +165,7 @@ abbrev mutual
   value_of h (parenthesized e) w = value_of h e w
   value_of h (named x) w = named_value h.set (sense_of h x) w
   value_of h (element x b e) w = then_do (value_of h e w) (at_subscript (sense_of h x) b.pos.line (read h.set) (gives (pos 0)))
-  value_of h (call f all) w = called (builtin_of f.text.now) (print_of h all) (wait_of h all) (put_of h all) w
+  value_of h (call f all) w = called (builtin_of f.text.now) (print_of h all) (wait_of h all) (put_of h all) (ask_of h all) w
   value_of h (postfix e op) w =
       signed (sign_of op.kind) (λ by. at_target h e (λ v x. adjusted h.set v by op.pos.line x.pos.line true (pos 0))
       (λ v x. adjusted h.set v by op.pos.line x.pos.line true) (gives (pos 0))) (value_of h e) op.pos.line w
@@ -199,5 +210,5 @@ abbrev mutual
 
   -- `pvPut` with its argument. An element does not run yet, and counts as its value.
   pub put_of : Here → ArgumentList → World → Ran ℤ
-  put_of h (value e rest) w = at_target h e (λ v x. put_to h.set v (link_number h x)) (λ v x. read h.set v) (gives (pos 0)) w
+  put_of h (value e rest) w = at_target h e (λ v x. put_to h.set v) (λ v x. read h.set v) (gives (pos 0)) w
   put_of h _ w = Gives (pos 0) w []

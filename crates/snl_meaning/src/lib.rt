@@ -7,9 +7,11 @@ pub mod laws;
 mod live;
 mod names;
 mod operators;
+mod ties;
 
 pub use faults::Fault;
 pub use instrs::{Instr, Variable};
 pub use live::Live;
-pub use names::{Known, Placed, Sense, number_in, places_of, variable_in};
+pub use names::{Known, Placed, Sense, flags_of, number_at, number_in, places_of, variable_in};
 pub use operators::{Joint, Sign, compound_of, is_decimal, joint_of, sign_of};
+pub use ties::Tied;

@@ -1,6 +1,6 @@
 //! What the names in a piece of code mean.
 
-ghost use Rattle.std.specs.Prelude.{◌≡◌, map, IfOk};
+ghost use Rattle.std.specs.Prelude.{◌≡◌, length, map, IfOk};
 ghost use Rattle.snl_resolve.specs.Held.{held_view};
 ghost use Rattle.snl_resolve.specs.Numbered.{number_of};
 ghost use Rattle.snl_meaning.specs.Names as spec;
@@ -42,8 +42,6 @@ pub struct Known<'s, 'a> {
     pub sites: &'s [Site<'a>],
     /// The variables of the copy.
     pub variables: &'s [Placed],
-    /// By link: where its variable is declared, in bytes.
-    pub linked: &'s [usize],
 }
 
 fn variable_from(place: usize, held: &Held) -> Variable
@@ -90,16 +88,69 @@ pub fn variable_in(variables: &[Placed], offset: usize) -> Option<Variable>
     None
 }
 
-/// The number of the first link whose variable is declared at an offset; that after the last where there is none.
-fn link_in(linked: &[usize], offset: usize) -> usize
-    ensures { result ≡ spec.link_in linked.now offset }
+/// The number of the first of some declarations that stands at an offset, in bytes; that after the last where none does.
+pub fn number_at(declarations: &[usize], offset: usize) -> usize
+    ensures { result ≡ spec.number_at declarations.now offset }
 {
-    for number in 0..linked.len() {
-        if linked[number] == offset {
+    for number in 0..declarations.len() {
+        if declarations[number] == offset {
             return number;
         }
     }
-    linked.len()
+    declarations.len()
+}
+
+/// The event flags of a program, each by the offset of its declaration, in bytes, in the order of the source. The only
+/// error is that memory ends.
+pub fn flags_of(alloc: Global, sites: &[Site]) -> Result<Vec<usize>, AllocError>
+    ensures { IfOk result (λ flags. flags.items ≡ spec.flags_of sites.now) }
+{
+    let mut flags = Vec::new(alloc);
+    for site in sites {
+        if let Site::Declaration {
+            name,
+            is_flag: true,
+            ..
+        } = site
+        {
+            flags.push(name.pos.offset)?;
+        }
+    }
+    Ok(flags)
+}
+
+/// How many event flags a program has.
+fn flag_count(sites: &[Site]) -> usize
+    ensures { result ≡ length (spec.flags_of sites.now) }
+{
+    let mut count = 0;
+    for site in sites {
+        if let Site::Declaration { is_flag: true, .. } = site {
+            count += 1;
+        }
+    }
+    count
+}
+
+/// The number of the event flag that is declared at an offset, in bytes; that after the last where none is.
+fn flag_at(sites: &[Site], offset: usize) -> usize
+    ensures { result ≡ spec.number_at (spec.flags_of sites.now) offset }
+{
+    let mut number = 0;
+    for site in sites {
+        if let Site::Declaration {
+            name,
+            is_flag: true,
+            ..
+        } = site
+        {
+            if name.pos.offset == offset {
+                return number;
+            }
+            number += 1;
+        }
+    }
+    number
 }
 
 /// The number of the first of some names that is spelled so, from 0 on.
@@ -136,13 +187,13 @@ impl<'s, 'a> Known<'s, 'a> {
             None => Sense::Stands(predefined(name.text).unwrap_or(0)),
         }
     }
-    /// The number of the link of the variable that a name means; that after the last where there is none.
-    pub fn link(&self, name: Token<'a>) -> usize
-        ensures { result ≡ spec.link_number (here_of self.now) name.entry }
+    /// The number of the event flag that a name means; that after the last where there is none.
+    pub fn flag(&self, name: Token<'a>) -> usize
+        ensures { result ≡ spec.flag_number (here_of self.now) name.entry }
     {
         match declared_in(name.pos.offset, self.sites) {
-            Some(declared) => link_in(self.linked, declared.offset),
-            None => self.linked.len(),
+            Some(declared) => flag_at(self.sites, declared.offset),
+            None => flag_count(self.sites),
         }
     }
     /// The number of the state that is named, in the state set; 0 for an unknown name.

@@ -1,4 +1,3 @@
-pub mod Changes
 pub mod Choices
 pub mod Faulting
 pub mod Rooms
@@ -7,3 +6,4 @@ pub mod Opening
 pub mod Facts
 pub mod Rows
 pub mod Ending
+pub mod Staying

@@ -1,15 +1,13 @@
 -- The links of a channel are all that its values touch, and marked links all that a refresh touches.
-use Rattle.std.proofs.Common.{◌≡◌, ◌∙◌, ◌+◌, ◌-◌, ◌<◌, ◌≤◌, ◌==◌, refl, ℕ, zero, suc, ℤ, Bool, true, false, not, ◌&&◌, ◌||◌, List, [], ◌∷◌, Option, None, Some, ap, sym, arith, map, drop, get_or, length, slice_get, slice_index_or, if◌then◌else◌}
-use Rattle.std.proofs.Math.ListN.{drop_of_length-le}
+use Rattle.std.proofs.Common.{◌≡◌, ◌∙◌, ◌+◌, ◌-◌, ◌<◌, ◌≤◌, ◌==◌, refl, ℕ, zero, suc, ℤ, Bool, true, false, not, ◌&&◌, ◌||◌, List, [], ◌∷◌, Option, None, Some, ap, sym, arith, map, drop, take, length, slice_get, slice_index_or, if◌then◌else◌}
 use Rattle.std.proofs.Math.Seq.{drop-nil}
-use Rattle.std.proofs.lemmas.List.{drop_more}
 use Rattle.std.specs.List.{list_all}
 use Rattle.snl_meaning.specs.World.{World}
 use Rattle.snl_vm.specs.Marks.{IsFirst}
 use Rattle.snl_vm.specs.Rows.{has_key, numbers_of}
-use Rattle.snl_schedule.specs.declared.feeds.LinkFeed.{LinkFeed}
-use Rattle.snl_schedule.specs.declared.plans.LinkPlan.{LinkPlan}
-use Rattle.snl_schedule.specs.Arrivals.{is_of, is_link_fit, are_fit, all_marked, with_values, received_link, received_from}
+use Rattle.snl_meaning.specs.declared.ties.Tied.{Tied}
+use Rattle.snl_meaning.specs.Links.{home_of, with_buffer, noticed}
+use Rattle.snl_schedule.specs.Arrivals.{is_of, is_link_fit, are_fit, received_link, received_from}
 use Rattle.snl_schedule.specs.Instant.{Program}
 use Rattle.snl_schedule.specs.Linked.{received_over, is_fit_at}
 use Rattle.snl_schedule.specs.Refresh.{is_marked, with_mark, copied_to, refreshed_link, refreshed_from}
@@ -33,7 +31,7 @@ front-next : {A : Type 0} (xs : List A) (k : ℕ) (x : A) (rest : List A) → dr
 front-next xs k x rest is = let later : k + 1 ≡ suc k = omega arith in ap (λ n. drop n xs) later ∙ front-rest xs k x rest is
 
 -- a link of a channel has its key
-same-key : (channel : ℕ) (l : LinkPlan) → is_of channel l ≡ has_key channel l.channel
+same-key : (channel : ℕ) (l : Tied) → is_of channel l ≡ has_key channel l.channel
 same-key channel l = by l.channel
   where
     by : (o : Option ℕ) → ◌≡◌ {A = Bool} (elim o [ None ↦ false | Some c ↦ c == channel ]) (has_key channel o)
@@ -43,27 +41,26 @@ same-key channel l = by l.channel
 -- ---- values
 
 -- one link, before the others
-one-received : (p : Program) (channel : ℕ) (values : List ℤ) (k : ℕ) (l : LinkPlan) (ls : List LinkPlan) (numbers : List ℕ) (w : World) → slice_get p.links k ≡ Some l →
-    ((u : World) → received_over p channel values numbers u ≡ received_from p.sets channel values (k + 1) ls u) →
-    received_over p channel values (if has_key channel l.channel then k ∷ numbers else numbers) w ≡ received_from p.sets channel values (k + 1) ls (received_link p.sets channel values k l w)
+one-received : (p : Program) (channel : ℕ) (values : List ℤ) (k : ℕ) (l : Tied) (ls : List Tied) (numbers : List ℕ) (w : World) → slice_get p.links k ≡ Some l →
+    ((u : World) → received_over p channel values numbers u ≡ received_from channel values (k + 1) ls u) →
+    received_over p channel values (if has_key channel l.channel then k ∷ numbers else numbers) w ≡ received_from channel values (k + 1) ls (received_link channel values k l w)
 one-received p channel values k l ls numbers w at onward = by (has_key channel l.channel) refl
   where
     by : (b : Bool) → has_key channel l.channel ≡ b →
         received_over p channel values (if has_key channel l.channel then k ∷ numbers else numbers) w
-        ≡ received_from p.sets channel values (k + 1) ls (received_link p.sets channel values k l w)
+        ≡ received_from channel values (k + 1) ls (received_link channel values k l w)
     by true has =
         ap (λ (b : Bool). received_over p channel values (if b then k ∷ numbers else numbers) w) has
-        ∙ ap (λ (o : Option LinkPlan). received_over p channel values numbers (elim o [ None ↦ w | Some x ↦ received_link p.sets channel values k x w ])) at
-        ∙ onward (received_link p.sets channel values k l w)
+        ∙ ap (λ (o : Option Tied). received_over p channel values numbers (elim o [ None ↦ w | Some x ↦ received_link channel values k x w ])) at
+        ∙ onward (received_link channel values k l w)
     by false has =
         ap (λ (b : Bool). received_over p channel values (if b then k ∷ numbers else numbers) w) has
         ∙ onward w
-        ∙ ap (λ (b : Bool). received_from p.sets channel values (k + 1) ls (if b then (if l.is_monitored then all_marked p.sets k (with_values values l w) else with_values values l w) else w))
-        (sym (same-key channel l ∙ has))
+        ∙ ap (λ (b : Bool). received_from channel values (k + 1) ls (if b then noticed k l (with_buffer l (take l.count values) w) else w)) (sym (same-key channel l ∙ has))
 
 -- those of a channel are all links that take its values
-over-links : (p : Program) (channel : ℕ) (values : List ℤ) (k : ℕ) (ls : List LinkPlan) (w : World) → drop k p.links ≡ ls →
-    received_over p channel values (numbers_of channel k (map (λ l. l.channel) ls)) w ≡ received_from p.sets channel values k ls w
+over-links : (p : Program) (channel : ℕ) (values : List ℤ) (k : ℕ) (ls : List Tied) (w : World) → drop k p.links ≡ ls →
+    received_over p channel values (numbers_of channel k (map (λ l. l.channel) ls)) w ≡ received_from channel values k ls w
 over-links p channel values k [] w is = refl
 over-links p channel values k (l ∷ ls) w is =
     one-received p channel values k l ls (numbers_of channel (k + 1) (map (λ x. x.channel) ls)) w (front-get p.links k l ls is)
@@ -71,11 +68,11 @@ over-links p channel values k (l ∷ ls) w is =
 
 -- from the first on
 pub over_links : (p : Program) (channel : ℕ) (values : List ℤ) (w : World) →
-    received_over p channel values (numbers_of channel 0 (map (λ l. l.channel) p.links)) w ≡ received_from p.sets channel values 0 p.links w
+    received_over p channel values (numbers_of channel 0 (map (λ l. l.channel) p.links)) w ≡ received_from channel values 0 p.links w
 over_links p channel values w = over-links p channel values 0 p.links w refl
 
 -- one link, before the others
-one-fits : (all : List LinkPlan) (channel : ℕ) (values : List ℤ) (k : ℕ) (l : LinkPlan) (ls : List LinkPlan) (numbers : List ℕ) → slice_get all k ≡ Some l →
+one-fits : (all : List Tied) (channel : ℕ) (values : List ℤ) (k : ℕ) (l : Tied) (ls : List Tied) (numbers : List ℕ) → slice_get all k ≡ Some l →
     list_all (is_fit_at all values) numbers ≡ are_fit channel values ls →
     list_all (is_fit_at all values) (if has_key channel l.channel then k ∷ numbers else numbers) ≡ ((not (is_of channel l) || is_link_fit values l) && are_fit channel values ls)
 one-fits all channel values k l ls numbers at onward = by (has_key channel l.channel) refl
@@ -84,7 +81,7 @@ one-fits all channel values k l ls numbers at onward = by (has_key channel l.cha
         list_all (is_fit_at all values) (if has_key channel l.channel then k ∷ numbers else numbers) ≡ ((not (is_of channel l) || is_link_fit values l) && are_fit channel values ls)
     by true has =
         ap (λ (b : Bool). list_all (is_fit_at all values) (if b then k ∷ numbers else numbers)) has
-        ∙ ap (λ (o : Option LinkPlan). (elim o [ None ↦ true | Some x ↦ is_link_fit values x ]) && list_all (is_fit_at all values) numbers) at
+        ∙ ap (λ (o : Option Tied). (elim o [ None ↦ true | Some x ↦ is_link_fit values x ]) && list_all (is_fit_at all values) numbers) at
         ∙ ap (λ (c : Bool). is_link_fit values l && c) onward
         ∙ ap (λ (c : Bool). (not c || is_link_fit values l) && are_fit channel values ls) (sym (same-key channel l ∙ has))
     by false has =
@@ -93,7 +90,7 @@ one-fits all channel values k l ls numbers at onward = by (has_key channel l.cha
         ∙ ap (λ (c : Bool). (not c || is_link_fit values l) && are_fit channel values ls) (sym (same-key channel l ∙ has))
 
 -- values fit all links of a channel if they fit those of its row
-over-fits : (all : List LinkPlan) (channel : ℕ) (values : List ℤ) (k : ℕ) (ls : List LinkPlan) → drop k all ≡ ls →
+over-fits : (all : List Tied) (channel : ℕ) (values : List ℤ) (k : ℕ) (ls : List Tied) → drop k all ≡ ls →
     list_all (is_fit_at all values) (numbers_of channel k (map (λ l. l.channel) ls)) ≡ are_fit channel values ls
 over-fits all channel values k [] is = refl
 over-fits all channel values k (l ∷ ls) is =
@@ -101,29 +98,29 @@ over-fits all channel values k (l ∷ ls) is =
     (over-fits all channel values (k + 1) ls (front-next all k l ls is))
 
 -- from the first on
-pub over_fits : (all : List LinkPlan) (channel : ℕ) (values : List ℤ) →
+pub over_fits : (all : List Tied) (channel : ℕ) (values : List ℤ) →
     list_all (is_fit_at all values) (numbers_of channel 0 (map (λ l. l.channel) all)) ≡ are_fit channel values all
 over_fits all channel values = over-fits all channel values 0 all refl
 
 -- ---- marks
 
 -- no link from a number on is marked: the refresh of these changes nothing
-none-refreshed : (set from : ℕ) (fs : List LinkFeed) (w : World) → ((k : ℕ) → from ≤ k → is_marked set k w ≡ false) → refreshed_from set from fs w ≡ w
+pub none-refreshed : (set from : ℕ) (ts : List Tied) (w : World) → ((k : ℕ) → from ≤ k → is_marked set k w ≡ false) → refreshed_from set from ts w ≡ w
 none-refreshed set from [] w none = refl
-none-refreshed set from (f ∷ fs) w none =
-    ap (λ (b : Bool). refreshed_from set (from + 1) fs (if b then with_mark set from false (copied_to set f.to f w) else w)) (none from (omega arith))
-    ∙ none-refreshed set (from + 1) fs w (λ k less. none k (omega (arith, less)))
+none-refreshed set from (t ∷ ts) w none =
+    ap (λ (b : Bool). refreshed_from set (from + 1) ts (if b then with_mark set from false (copied_to set (home_of set from w) t w) else w)) (none from (omega arith))
+    ∙ none-refreshed set (from + 1) ts w (λ k less. none k (omega (arith, less)))
 
 -- those up to a number are not: the refresh goes on from there
-passed : (set from n : ℕ) (fs : List LinkFeed) (w : World) → ((k : ℕ) → from ≤ k → k < from + n → is_marked set k w ≡ false) →
-    refreshed_from set from fs w ≡ refreshed_from set (from + n) (drop n fs) w
-passed set from zero fs w none = let same : from ≡ from + 0 = omega arith in ap (λ k. refreshed_from set k fs w) same
+passed : (set from n : ℕ) (ts : List Tied) (w : World) → ((k : ℕ) → from ≤ k → k < from + n → is_marked set k w ≡ false) →
+    refreshed_from set from ts w ≡ refreshed_from set (from + n) (drop n ts) w
+passed set from zero ts w none = let same : from ≡ from + 0 = omega arith in ap (λ k. refreshed_from set k ts w) same
 passed set from (suc n) [] w none = refl
-passed set from (suc n) (f ∷ fs) w none =
+passed set from (suc n) (t ∷ ts) w none =
     let same : from + 1 + n ≡ from + suc n = omega arith in
-    ap (λ (b : Bool). refreshed_from set (from + 1) fs (if b then with_mark set from false (copied_to set f.to f w) else w)) (none from (omega arith) (omega arith))
-    ∙ passed set (from + 1) n fs w (λ k less more. none k (omega (arith, less)) (omega (arith, more)))
-    ∙ ap (λ k. refreshed_from set k (drop n fs) w) same
+    ap (λ (b : Bool). refreshed_from set (from + 1) ts (if b then with_mark set from false (copied_to set (home_of set from w) t w) else w)) (none from (omega arith) (omega arith))
+    ∙ passed set (from + 1) n ts w (λ k less more. none k (omega (arith, less)) (omega (arith, more)))
+    ∙ ap (λ k. refreshed_from set k (drop n ts) w) same
 
 -- what is left after what was left out
 drop-further : {A : Type 0} (xs : List A) (n k : ℕ) → drop k (drop n xs) ≡ drop (n + k) xs
@@ -131,30 +128,46 @@ drop-further xs zero k = let same : k ≡ 0 + k = omega arith in ap (λ n. drop 
 drop-further [] (suc n) k = drop-nil k ∙ sym (drop-nil (suc n + k))
 drop-further (x ∷ xs) (suc n) k = let same : suc n + k ≡ suc (n + k) = omega arith in drop-further xs n k ∙ sym (ap (λ m. drop m (x ∷ xs)) same)
 
-module _ (set from : ℕ) (fs : List LinkFeed) (w : World) where
+-- where no member stands there is none behind
+drop-none : {A : Type 0} (xs : List A) (n : ℕ) → slice_get xs n ≡ None → drop n xs ≡ []
+drop-none [] n none = drop-nil n
+drop-none (x ∷ xs) zero none = absurd (cc)
+drop-none (x ∷ xs) (suc n) none = drop-none xs n none
+
+-- where one stands the rest begins with it
+drop-some : {A : Type 0} (xs : List A) (n : ℕ) (x : A) → slice_get xs n ≡ Some x → drop n xs ≡ x ∷ drop (n + 1) xs
+drop-some [] n x some = absurd (cc)
+drop-some (y ∷ ys) zero x some = let same : y ≡ x = cc in ap (λ z. z ∷ ys) same
+drop-some (y ∷ ys) (suc n) x some = let same : suc n + 1 ≡ suc (n + 1) = omega arith in drop-some ys n x some ∙ sym (ap (λ m. x ∷ drop m (y ∷ ys)) same)
+
+-- what is copied leaves what links are tied to
+pub copied_ties : (set : ℕ) (home : Option ℕ) (t : Tied) (w : World) → (copied_to set home t w).ties ≡ w.ties
+copied_ties set None t w = refl
+copied_ties set (Some home) t w = refl
+
+module _ (set from : ℕ) (ts : List Tied) (w : World) where
   -- no link is marked from here on
-  pub nothing_left : IsFirst (slice_index_or w.marks set []) from None → refreshed_from set from (drop from fs) w ≡ w
-  nothing_left none = none-refreshed set from (drop from fs) w none
+  pub nothing_left : IsFirst (slice_index_or w.marks set []) from None → refreshed_from set from (drop from ts) w ≡ w
+  nothing_left none = none-refreshed set from (drop from ts) w none
 
   module _ (link : ℕ) (first : IsFirst (slice_index_or w.marks set []) from (Some link)) where
     -- the first that is
-    pub first_left : refreshed_from set from (drop from fs) w ≡ refreshed_from set link (drop link fs) w
+    pub first_left : refreshed_from set from (drop from ts) w ≡ refreshed_from set link (drop link ts) w
     first_left =
         let n = link - from in
         let there : from + n ≡ link = omega (arith, first.after) in
-        passed set from n (drop from fs) w (λ k less more. first.others k less (omega (arith, more, there)))
-        ∙ ap (λ xs. refreshed_from set (from + n) xs w) (drop-further fs from n)
-        ∙ ap (λ k. refreshed_from set k (drop k fs) w) there
+        passed set from n (drop from ts) w (λ k less more. first.others k less (omega (arith, more, there)))
+        ∙ ap (λ xs. refreshed_from set (from + n) xs w) (drop-further ts from n)
+        ∙ ap (λ k. refreshed_from set k (drop k ts) w) there
 
     -- it is none of these
-    pub none_left : length fs ≤ link → refreshed_from set from (drop from fs) w ≡ w
-    none_left beyond = first_left ∙ ap (λ xs. refreshed_from set link xs w) (drop_of_length-le fs beyond)
+    pub none_left : slice_get ts link ≡ None → refreshed_from set from (drop from ts) w ≡ w
+    none_left beyond = first_left ∙ ap (λ xs. refreshed_from set link xs w) (drop-none ts link beyond)
 
     -- it is refreshed, and then the others
-    pub one_left : (f : LinkFeed) → link < length fs → f ≡ get_or fs link f →
-        refreshed_from set (link + 1) (drop (link + 1) fs) (with_mark set link false (copied_to set f.to f w)) ≡ refreshed_from set from (drop from fs) w
-    one_left f within is =
-        ap (λ (b : Bool). refreshed_from set (link + 1) (drop (link + 1) fs) (if b then with_mark set link false (copied_to set f.to f w) else w)) (sym first.marked)
-        ∙ ap (λ (x : LinkFeed). refreshed_from set (link + 1) (drop (link + 1) fs) (refreshed_link set link x w)) is
-        ∙ sym (ap (λ xs. refreshed_from set link xs w) (drop_more fs link f within))
+    pub one_left : (t : Tied) → slice_get ts link ≡ Some t →
+        refreshed_from set (link + 1) (drop (link + 1) ts) (with_mark set link false (copied_to set (home_of set link w) t w)) ≡ refreshed_from set from (drop from ts) w
+    one_left t at =
+        ap (λ (b : Bool). refreshed_from set (link + 1) (drop (link + 1) ts) (if b then with_mark set link false (copied_to set (home_of set link w) t w) else w)) (sym first.marked)
+        ∙ sym (ap (λ xs. refreshed_from set link xs w) (drop-some ts link t at))
         ∙ sym first_left

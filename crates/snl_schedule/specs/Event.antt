@@ -6,7 +6,7 @@ use Rattle.snl_meaning.specs.declared.live.Live.{Live}
 use Rattle.snl_meaning.specs.declared.live.Live.TheVariants.{Ended}
 use Rattle.snl_meaning.specs.Ran.{Ran, Gives, Faults}
 use Rattle.snl_meaning.specs.World.{World}
-use Rattle.snl_schedule.specs.declared.plans.LinkPlan.{LinkPlan}
+use Rattle.snl_meaning.specs.declared.ties.Tied.{Tied}
 use Rattle.snl_schedule.specs.Arrivals.{connected, received, are_fit}
 use Rattle.snl_schedule.specs.Instant.{Program, instant_of}
 
@@ -32,7 +32,7 @@ abbrev pub line_of : Program → ℕ → ℕ → Event → World → Ran Live
 line_of p budget ms event w = line_by p budget ms event w.phase w
 
 -- Whether an event fits: its channel, where it has one, is one of so many, and its values fit the links of that.
-abbrev pub is_event_fit : ℕ → List LinkPlan → Event → Bool
+abbrev pub is_event_fit : ℕ → List Tied → Event → Bool
 is_event_fit channels ls (Up channel) = nat_lt channel channels
 is_event_fit channels ls (Val channel values) = nat_lt channel channels && are_fit channel values.items ls
 is_event_fit channels ls Tick = true

@@ -6,7 +6,7 @@ use Rattle.snl_meaning.specs.declared.live.Live.{Live}
 use Rattle.snl_meaning.specs.declared.live.Live.TheVariants.{Waiting, Running, Ended}
 use Rattle.snl_meaning.specs.Ran.{Ran, Gives, then_do}
 use Rattle.snl_meaning.specs.World.{World}
-use Rattle.snl_schedule.specs.declared.plans.LinkPlan.{LinkPlan}
+use Rattle.snl_meaning.specs.declared.ties.Tied.{Tied}
 use Rattle.snl_schedule.specs.declared.turns.Turned.{Turned}
 use Rattle.snl_schedule.specs.declared.turns.Turned.TheVariants.{Stayed, Moved, Exited}
 use Rattle.snl_schedule.specs.Refresh.{refreshed}
@@ -15,7 +15,7 @@ use Rattle.snl_schedule.specs.Turn.{StateSet, entered_in, turn_of}
 -- What a program is to its events: its name, its links and its state sets, each in their order.
 pub record Program : Type 0 where
   pub name : List ℕ
-  pub links : List LinkPlan
+  pub links : List Tied
   pub sets : List StateSet
 
 -- ---- rounds
@@ -71,7 +71,7 @@ is_so known None = true
 is_so known (Some channel) = slice_index_or known channel false
 
 -- The channel of a link is connected and, where the link is monitored, was valued.
-abbrev pub is_link_ready : World → LinkPlan → Bool
+abbrev pub is_link_ready : World → Tied → Bool
 is_link_ready w l = is_so w.ups l.channel && (is_so w.valued l.channel || not l.is_monitored)
 
 -- So are those of all links: the program can start.
@@ -81,7 +81,7 @@ is_ready p w = list_all (is_link_ready w) p.links
 -- Every state set is refreshed.
 abbrev pub refreshed_sets : List StateSet → World → World
 refreshed_sets [] w = w
-refreshed_sets (s ∷ ss) w = refreshed_sets ss (refreshed s.set s.feeds w)
+refreshed_sets (s ∷ ss) w = refreshed_sets ss (refreshed s.set w)
 
 -- Every state set enters its first state.
 abbrev pub begun_sets : List StateSet → World → World

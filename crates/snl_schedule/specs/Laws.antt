@@ -1,5 +1,5 @@
--- Laws of events: what has ended stays ended.
-use Rattle.std.specs.Prelude.{◌≡◌, ℕ, List, [], Option, Result, Ok}
+-- Laws of events: what has ended stays ended; what a refresh and what values leave as it is.
+use Rattle.std.specs.Prelude.{◌≡◌, ℕ, ℤ, false, List, [], Option, None, Result, Ok}
 use Rattle.snl_schedule.specs.declared.events.Event.{Event}
 use Rattle.snl_schedule.specs.Event.{line_of}
 use Rattle.snl_output.specs.declared.faults.Stop.{Stop}
@@ -8,7 +8,11 @@ use Rattle.snl_meaning.specs.declared.live.Live.{Live}
 use Rattle.snl_meaning.specs.declared.live.Live.TheVariants.{Ended}
 use Rattle.snl_meaning.specs.Ran.{Gives}
 use Rattle.snl_meaning.specs.World.{World}
+use Rattle.snl_meaning.specs.declared.ties.Tied.{Tied}
+use Rattle.snl_schedule.specs.Arrivals.{connected, received_link}
 use Rattle.snl_schedule.specs.Instant.{Program}
+use Rattle.snl_schedule.specs.Refresh.{is_marked, refreshed}
+use Rattle.snl_schedule.specs.Turn.{entered_in}
 
 -- what an event gives in a world that has ended: that world, the answer that it has ended, and no text
 abbrev pub EndedStays : Type 0
@@ -24,3 +28,16 @@ EndedAnswersEnded = (p : Program) (budget ms : ℕ) (event : Event) (w after : W
 abbrev pub AnswersThePhase : Type 0
 AnswersThePhase = (p : Program) (budget ms : ℕ) (event : Event) (w after : World) (live : Live) (old new : Option (List ℕ)) →
     Does {V = Live} (λ l. l) (Ok live) after old new (line_of p budget ms event w) → after.phase ≡ live
+
+-- A refresh without a mark changes nothing: what the state set stored stays.
+abbrev pub RefreshWithoutMarks : Type 0
+RefreshWithoutMarks = (set : ℕ) (w : World) → ((link : ℕ) → is_marked set link w ≡ false) → refreshed set w ≡ w
+
+-- A refresh, a new state and a connection change no event flag, nor do values at a link that is not synced, or not monitored.
+pub record FlagsStay : Type 0 where
+  pub refreshes : (set : ℕ) (w : World) → (refreshed set w).flags ≡ w.flags
+  pub enters : (set state : ℕ) (w : World) → (entered_in set state w).flags ≡ w.flags
+  pub connects : (channel : ℕ) (w : World) → (connected channel w).flags ≡ w.flags
+  pub unsynced : (channel : ℕ) (values : List ℤ) (number : ℕ) (t : Tied) (w : World) → t.flag ≡ None → (received_link channel values number t w).flags ≡ w.flags
+  pub unmonitored : (channel : ℕ) (values : List ℤ) (number : ℕ) (t : Tied) (w : World) → t.is_monitored ≡ false →
+      (received_link channel values number t w).flags ≡ w.flags

@@ -3,17 +3,17 @@ use Rattle.std.specs.Prelude.{◌≡◌, ℕ, ℤ, Bool, true, List, [], ◌∷�
 use Rattle.snl_vm.specs.declared.rows.Rows.{Rows}
 use Rattle.snl_vm.specs.Rows.{row_in, rows_of, numbers_of}
 use Rattle.snl_meaning.specs.World.{World}
-use Rattle.snl_schedule.specs.declared.plans.LinkPlan.{LinkPlan}
+use Rattle.snl_meaning.specs.declared.ties.Tied.{Tied}
 use Rattle.snl_schedule.specs.Arrivals.{received_link, is_link_fit}
 use Rattle.snl_schedule.specs.Instant.{Program}
 
 -- The row of each channel has the numbers of its links.
-abbrev pub HasRows : Rows → List LinkPlan → Type 0
+abbrev pub HasRows : Rows → List Tied → Type 0
 HasRows rows ls = (channel : ℕ) → row_in (rows_of rows) channel ≡ numbers_of channel 0 (map (λ l. l.channel) ls)
 
 -- Values of a channel, at the link of a number, if there is one.
 abbrev pub received_at : Program → ℕ → List ℤ → ℕ → World → World
-received_at p channel values number w = elim (slice_get p.links number) [ None ↦ w | Some l ↦ received_link p.sets channel values number l w ]
+received_at p channel values number w = elim (slice_get p.links number) [ None ↦ w | Some l ↦ received_link channel values number l w ]
 
 -- The same at the links of some numbers, one after another.
 abbrev pub received_over : Program → ℕ → List ℤ → List ℕ → World → World
@@ -21,5 +21,5 @@ received_over p channel values [] w = w
 received_over p channel values (n ∷ ns) w = received_over p channel values ns (received_at p channel values n w)
 
 -- Whether the link of a number can take some values, if there is one.
-abbrev pub is_fit_at : List LinkPlan → List ℤ → ℕ → Bool
+abbrev pub is_fit_at : List Tied → List ℤ → ℕ → Bool
 is_fit_at ls values number = elim (slice_get ls number) [ None ↦ true | Some l ↦ is_link_fit values l ]

@@ -28,7 +28,7 @@ state_of g code s = record { name = s.name.items; clauses = map (clause_of g cod
 
 -- and for a state set.
 abbrev pub set_of : PieceContext → List Instr → SetPlan → StateSet
-set_of g code s = record { set = g.set; name = g.name; states = map (state_of g code) s.states.items; feeds = s.feeds.items }
+set_of g code s = record { set = g.set; name = g.name; states = map (state_of g code) s.states.items }
 
 -- The clause that was chosen, if one was.
 abbrev pub clause_by : PieceContext → List Instr → Option ClausePlan → Option Clause

@@ -4,7 +4,6 @@ use Rattle.snl_output.specs.Lines.{go_line, fault_line, fault_text}
 use Rattle.snl_meaning.specs.Ran.{Ran, Gives, Faults, then_do}
 use Rattle.snl_meaning.specs.Words.{spent}
 use Rattle.snl_meaning.specs.World.{World, copy_of, with_copy}
-use Rattle.snl_schedule.specs.declared.feeds.LinkFeed.{LinkFeed}
 use Rattle.snl_schedule.specs.declared.plans.Destination.{Destination}
 use Rattle.snl_schedule.specs.declared.plans.Destination.TheVariants as to
 use Rattle.snl_schedule.specs.declared.turns.Turned.{Turned}
@@ -31,8 +30,6 @@ pub record StateSet : Type 0 where
   pub set : ℕ
   pub name : List ℕ
   pub states : List State
-  -- by link: which words of its copy take the values of the link
-  pub feeds : List LinkFeed
 
 -- What a number that names no state means.
 abbrev pub no_state : State
@@ -107,4 +104,4 @@ turn_after s w = told_fault s.name (tried s (slice_get s.states (copy_of s.set w
 
 -- A turn; which transition it had.
 abbrev pub turn_of : StateSet → World → Ran Turned
-turn_of s w = turn_after s (refreshed s.set s.feeds w)
+turn_of s w = turn_after s (refreshed s.set w)

@@ -1,6 +1,6 @@
 //! Laws of events. Each function is its contract, and does nothing.
 
-ghost use Rattle.snl_schedule.specs.Laws.{AnswersThePhase, EndedAnswersEnded, EndedStays};
+ghost use Rattle.snl_schedule.specs.Laws.{AnswersThePhase, EndedAnswersEnded, EndedStays, FlagsStay, RefreshWithoutMarks};
 
 /// An event in a world that has ended gives that world, the answer that it has ended, and no text.
 #[tactic(auto, using(crate::proofs::Ending::ended_stays))]
@@ -20,4 +20,17 @@ pub fn ended_answers_ended()
 #[tactic(auto, using(crate::proofs::Ending::answers_the_phase))]
 pub fn answers_the_phase()
     ensures { AnswersThePhase }
+{}
+
+/// A refresh without a mark changes nothing.
+#[tactic(auto, using(crate::proofs::Staying::refresh_without_marks))]
+pub fn refresh_without_marks()
+    ensures { RefreshWithoutMarks }
+{}
+
+/// A refresh, a new state and a connection change no event flag, nor do values at a link that is not synced, or not
+/// monitored.
+#[tactic(auto, using(crate::proofs::Staying::flags_stay))]
+pub fn flags_stay()
+    ensures { FlagsStay }
 {}

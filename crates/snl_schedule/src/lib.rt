@@ -3,21 +3,18 @@
 
 mod arrivals;
 mod events;
-mod feeds;
 mod instants;
 pub mod laws;
 mod plans;
+mod refreshing;
 mod starting;
 mod taking;
 mod turns;
 
 pub use arrivals::{connect, fit_links, receive};
 pub use events::{Event, VALUES_KEPT};
-pub use feeds::{LinkFeed, refresh};
 pub use instants::{instant, rounds};
-pub use plans::{
-    ClausePlan, Destination, LinkPlan, Plan, ProgramContext, SetContext, SetPlan, StatePlan,
-    ties_of,
-};
+pub use plans::{ClausePlan, Destination, Plan, ProgramContext, SetContext, SetPlan, StatePlan};
+pub use refreshing::refresh;
 pub use taking::{fits, take};
 pub use turns::{Turned, turn};

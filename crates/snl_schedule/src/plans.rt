@@ -5,8 +5,7 @@ ghost use Rattle.snl_vm.specs.Rows.{numbers_of};
 ghost use Rattle.snl_schedule.specs.Linked.{HasRows};
 ghost use Rattle.std.proofs.Props.{props};
 
-use crate::feeds::LinkFeed;
-use snl_meaning::Instr;
+use snl_meaning::{Instr, Tied};
 use snl_vm::{PieceContext, Rows};
 use std::alloc::{AllocError, Global};
 
@@ -48,8 +47,6 @@ pub struct SetPlan {
     pub name: Vec<u8>,
     /// In the order of the source; the first is the initial one.
     pub states: Vec<StatePlan>,
-    /// By link: which words of its copy take the values of the link.
-    pub feeds: Vec<LinkFeed>,
 }
 
 /// What a turn of a state set runs on.
@@ -65,30 +62,13 @@ pub struct SetContext<'t> {
     pub room: usize,
 }
 
-/// A link.
-#[derive(Clone, Copy)]
-pub struct LinkPlan {
-    /// The number of its channel; None where it has none.
-    pub channel: Option<usize>,
-    /// Whether a `monitor` names its elements: then each value marks the link.
-    pub is_monitored: bool,
-    /// Where its buffer begins among the buffers, in words.
-    pub from: usize,
-    /// How many elements it has, and so the words of its buffer.
-    pub count: usize,
-    /// The least number of its variable's type.
-    pub least: i64,
-    /// The greatest number of its variable's type.
-    pub greatest: i64,
-}
-
 /// A program.
 #[derive(Drop)]
 pub struct Plan {
     /// As spelled in the source.
     pub name: Vec<u8>,
     /// In the order of the `assign` definitions.
-    pub links: Vec<LinkPlan>,
+    pub links: Vec<Tied>,
     /// In the order of the source.
     pub sets: Vec<SetPlan>,
     /// By channel: the numbers of its links.
@@ -97,14 +77,14 @@ pub struct Plan {
 }
 
 /// The channels of links.
-pub fn ties_of(alloc: Global, links: &[LinkPlan]) -> Result<Vec<Option<usize>>, AllocError>
-    ensures { IfOk result (λ ties. ties.items ≡ map (λ l. l.channel) links.now) }
+fn channels_of(alloc: Global, links: &[Tied]) -> Result<Vec<Option<usize>>, AllocError>
+    ensures { IfOk result (λ channels. channels.items ≡ map (λ l. l.channel) links.now) }
 {
-    let mut ties = Vec::new(alloc);
+    let mut channels = Vec::new(alloc);
     for link in links {
-        ties.push(link.channel)?;
+        channels.push(link.channel)?;
     }
-    Ok(ties)
+    Ok(channels)
 }
 
 impl Plan {
@@ -112,14 +92,14 @@ impl Plan {
     pub fn new(
         alloc: Global,
         name: Vec<u8>,
-        links: Vec<LinkPlan>,
+        links: Vec<Tied>,
         sets: Vec<SetPlan>,
     ) -> Result<Plan, AllocError>
         ensures { IfOk result (λ plan. (plan.name ≡ name) × (plan.links ≡ links)
             × (plan.sets ≡ sets)) }
     {
-        let ties = ties_of(alloc, links.as_slice())?;
-        let rows = Rows::new(alloc, ties.as_slice())?;
+        let channels = channels_of(alloc, links.as_slice())?;
+        let rows = Rows::new(alloc, channels.as_slice())?;
         Ok(Plan {
             name,
             links,

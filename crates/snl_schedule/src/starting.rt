@@ -9,10 +9,10 @@ ghost use Rattle.snl_vm.specs.Views.{world_of};
 ghost use Rattle.snl_schedule.specs.Instant as spec;
 ghost use Rattle.snl_schedule.specs.Loaded.{loaded, program_of};
 
-use crate::feeds::refresh;
-use crate::plans::{LinkPlan, ProgramContext};
+use crate::plans::ProgramContext;
+use crate::refreshing::refresh;
 use crate::turns::enter;
-use snl_meaning::Live;
+use snl_meaning::{Live, Tied};
 use snl_output::{Sink, Stop, write_start};
 use snl_vm::Store;
 
@@ -27,7 +27,7 @@ fn is_so(known: &[bool], channel: Option<usize>) -> bool
 }
 
 /// Whether the channel of a link is connected and, where the link is monitored, was valued.
-fn is_ready(link: LinkPlan, store: &Store) -> bool
+fn is_ready(link: Tied, store: &Store) -> bool
     ensures { result ≡ spec.is_link_ready (world_of store.now) link }
 {
     is_so(store.ups.as_slice(), link.channel)
@@ -35,7 +35,7 @@ fn is_ready(link: LinkPlan, store: &Store) -> bool
 }
 
 /// Whether the link that the start waited for when this was last looked at still is not ready.
-fn is_awaited(links: &[LinkPlan], store: &Store) -> bool
+fn is_awaited(links: &[Tied], store: &Store) -> bool
     ensures { OnTrue result (list_all (spec.is_link_ready (world_of store.now)) links.now
         ≡ false) }
 {
@@ -46,7 +46,7 @@ fn is_awaited(links: &[LinkPlan], store: &Store) -> bool
 }
 
 /// The number of the first link that is not ready, if there is one.
-fn first_missing(links: &[LinkPlan], store: &Store) -> Option<usize>
+fn first_missing(links: &[Tied], store: &Store) -> Option<usize>
     ensures none { is_none result
         ≡ list_all (spec.is_link_ready (world_of store.now)) links.now }
     ensures which { IfSome result (λ number. option_map (spec.is_link_ready (world_of store.now))
@@ -62,7 +62,7 @@ fn first_missing(links: &[LinkPlan], store: &Store) -> Option<usize>
 
 /// Whether those of all links are. The link that was not when this was last asked is looked at first, so as long as it
 /// is not ready no other one is looked at.
-pub fn are_ready(links: &[LinkPlan], store: &mut Store) -> bool
+pub fn are_ready(links: &[Tied], store: &mut Store) -> bool
     ensures value { result ≡ list_all (spec.is_link_ready (world_of store.old)) links.now }
     ensures same { world_of store.new ≡ world_of store.old }
 {
@@ -83,8 +83,8 @@ fn refresh_sets(program: ProgramContext, store: &mut Store)
     ensures { world_of store.new ≡ spec.refreshed_sets (program_of (loaded program.entry)).sets
         (world_of store.old) }
 {
-    for (set, plan) in program.plan.sets.iter().enumerate() {
-        refresh(plan.feeds.as_slice(), set, store);
+    for (set, _) in program.plan.sets.iter().enumerate() {
+        refresh(set, store);
     }
 }
 

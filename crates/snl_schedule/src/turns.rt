@@ -9,8 +9,8 @@ ghost use Rattle.snl_vm.specs.Views.{world_of};
 ghost use Rattle.snl_schedule.specs.Plans.{CanTest, CanFire, CanRun, CanRunAll, CanRunSet, held_at, clause_of, clause_by, state_of, context_on, set_on};
 ghost use Rattle.snl_schedule.specs.Turn as spec;
 
-use crate::feeds::refresh;
 use crate::plans::{ClausePlan, Destination, SetContext, StatePlan};
+use crate::refreshing::refresh;
 use snl_output::{Sink, Stop, fault_text, write_fault, write_go};
 use snl_vm::{Operands, Store, evaluate, perform, spend};
 
@@ -324,11 +324,7 @@ pub fn turn<S: Sink>(
     ensures failures { S.failures sink.new
         ≡ counted (stopped_by_sink result) (S.failures sink.old) }
 {
-    refresh(
-        state_set.plan.feeds.as_slice(),
-        state_set.context.set,
-        store,
-    );
+    refresh(state_set.context.set, store);
     match try_clauses(state_set, store, operands, sink) {
         Ok(turned) => Ok(turned),
         Err(Stop::Sink) => Err(Stop::Sink),

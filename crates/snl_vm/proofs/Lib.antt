@@ -7,3 +7,5 @@ pub mod OperandLaws
 pub mod Elements
 pub mod Silence
 pub mod UnderWay
+pub mod Beginnings
+pub mod Changes

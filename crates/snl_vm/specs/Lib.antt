@@ -4,3 +4,4 @@ pub mod Rows
 pub mod Views
 pub mod Running
 pub mod Steps
+pub mod Homes

@@ -2,6 +2,8 @@
 #![tactic(auto)]
 
 mod contexts;
+mod homes;
+mod linking;
 mod marks;
 mod operands;
 mod rows;
@@ -13,6 +15,8 @@ mod telling;
 mod words;
 
 pub use contexts::PieceContext;
+pub use homes::Homes;
+pub use linking::{fill, notice, overwrite};
 pub use marks::Marks;
 pub use operands::Operands;
 pub use rows::Rows;

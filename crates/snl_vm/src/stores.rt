@@ -2,8 +2,9 @@
 
 ghost use Rattle.std.specs.Prelude.{◌≡◌, ◌+◌, [], false, pos, slice_get, slice_index_or, slice_set};
 
+use crate::homes::Homes;
 use crate::marks::Marks;
-use snl_meaning::{Live, Variable};
+use snl_meaning::{Live, Tied, Variable};
 
 /// What a state set has for itself.
 #[derive(Drop)]
@@ -31,14 +32,18 @@ pub struct Store {
     pub due: Option<u64>,
     /// By state set.
     pub copies: Vec<SetMemory>,
+    /// By event flag, which all state sets share: whether it is set.
+    pub flags: Vec<bool>,
     /// By channel: its name, which never changes.
     pub channels: Vec<Vec<u8>>,
     /// By channel: whether it is connected.
     pub ups: Vec<bool>,
     /// By channel: whether it was ever valued.
     pub valued: Vec<bool>,
-    /// By link: the number of its channel, which never changes; None where it has no channel.
-    pub ties: Vec<Option<usize>>,
+    /// By link: what never changes of it.
+    pub ties: Vec<Tied>,
+    /// By state set: where the elements of links begin in its copy, which never changes.
+    pub homes: Vec<Homes>,
     /// The elements of the buffers of all links, one link after another.
     pub buffers: Vec<i64>,
     /// By state set, then by link: whether a value came that the copy does not have yet.
@@ -89,16 +94,25 @@ impl SetMemory {
 
 impl Store {
     ghost use Rattle.snl_vm.specs.Views.{world_of};
-    ghost use Rattle.snl_meaning.specs.World.{copy_of, element_of, with_element, with_zeros};
+    ghost use Rattle.snl_meaning.specs.Links.{home_of, link_at};
+    ghost use Rattle.snl_meaning.specs.World.{copy_of, element_of, is_set, with_element, with_flag, with_zeros};
+
+    /// A word of a state set's copy that stands so many words after a place; 0 where there is none.
+    pub fn word(&self, set: usize, place: usize, after: usize) -> i64
+        ensures { slice_index_or (copy_of set (world_of self.now)).words (place + after) (pos 0)
+            ≡ result }
+    {
+        match self.copies.get(set) {
+            Some(copy) => copy.word(place, after),
+            None => 0,
+        }
+    }
 
     /// An element of a variable; 0 where there is none.
     pub fn element(&self, set: usize, variable: Variable, element: usize) -> i64
         ensures { element_of set variable element (world_of self.now) ≡ result }
     {
-        match self.copies.get(set) {
-            Some(copy) => copy.word(variable.place, element),
-            None => 0,
-        }
+        self.word(set, variable.place, element)
     }
 
     /// Puts a number into an element, where there is one.
@@ -129,6 +143,22 @@ impl Store {
         }
     }
 
+    /// Whether an event flag is set; one that is not there is not.
+    pub fn is_set(&self, flag: usize) -> bool
+        ensures { is_set flag (world_of self.now) ≡ result }
+    {
+        self.flags.get(flag).copied().unwrap_or(false)
+    }
+
+    /// Sets or clears an event flag, where there is one.
+    pub fn set_flag(&mut self, flag: usize, now: bool)
+        ensures { world_of self.new ≡ with_flag flag now (world_of self.old) }
+    {
+        if let Some(at) = self.flags.get_mut(flag) {
+            *at = now;
+        }
+    }
+
     /// Whether a channel is connected.
     pub fn is_up(&self, channel: usize) -> bool
         ensures { slice_index_or (world_of self.now).ups channel false ≡ result }
@@ -146,10 +176,30 @@ impl Store {
         }
     }
 
-    /// What a link is tied to: None where there is no such link, and Some(None) where it has no channel.
-    pub fn tie(&self, link: usize) -> Option<Option<usize>>
+    /// What never changes of a link, where there is such a link.
+    pub fn tie(&self, link: usize) -> Option<Tied>
         ensures { slice_get (world_of self.now).ties link ≡ result }
     {
         self.ties.get(link).copied()
+    }
+
+    /// The word of a state set's copy where the elements of a link begin, if the copy has them.
+    pub fn home(&self, set: usize, link: usize) -> Option<usize>
+        ensures { home_of set link (world_of self.now) ≡ result }
+    {
+        match self.homes.get(set) {
+            Some(homes) => homes.home(link),
+            None => None,
+        }
+    }
+
+    /// The link whose elements begin at a word of a state set's copy, if there is one.
+    pub fn link_at(&self, set: usize, place: usize) -> Option<usize>
+        ensures { link_at set place (world_of self.now) ≡ result }
+    {
+        match self.homes.get(set) {
+            Some(homes) => homes.link_at(place),
+            None => None,
+        }
     }
 }

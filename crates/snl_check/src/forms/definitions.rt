@@ -1,14 +1,14 @@
-//! The definitions of programs that run: variables, channels, monitors and options.
+//! The definitions of programs that run: variables, channels, monitors, event flags and options.
 
 ghost use Rattle.std.specs.Prelude.{◌≡◌, map};
 ghost use Rattle.std.specs.List.{list_all};
 ghost use Rattle.snl_syntax.specs.Definitions as tree;
 ghost use Rattle.snl_check.specs.Forms as spec;
-ghost use Rattle.snl_syntax.specs.view.Definitions.{assign_view, names_view, place_view};
+ghost use Rattle.snl_syntax.specs.view.Definitions.{assign_view, names_view, place_view, sync_view};
 ghost use Rattle.snl_syntax.specs.view.Definitions.{definition_view, channels_view};
 ghost use Rattle.snl_syntax.specs.view.Shown.{shown};
 
-use snl_syntax::{Assign, ChannelNames, Channels, Def, Place};
+use snl_syntax::{Assign, ChannelNames, Channels, Def, Place, Sync};
 
 /// Whether no macro begins at a byte.
 fn begins_no_macro(byte: u8) -> bool
@@ -24,14 +24,14 @@ fn has_no_macro(name: &[u8]) -> bool
     name.iter().all(|byte| begins_no_macro(*byte))
 }
 
-/// Whether a string, with its quotes, names a channel whatever the macros are: one byte or more without a `{`.
+/// Whether a string, with its quotes, names a channel whatever the macros are, or none: it has no `{`.
 fn is_channel_name(text: &[u8]) -> bool
     ensures { result ≡ spec.is_channel_name text.now }
 {
-    text.len() > 2 && has_no_macro(&text[1..text.len() - 1])
+    text.len() > 1 && has_no_macro(&text[1..text.len() - 1])
 }
 
-/// Whether it is one string that names a channel.
+/// Whether it is one string that names a channel or none.
 fn is_one_string(names: &ChannelNames) -> bool
     ensures { result ≡ spec.is_one_string (names_view names.now) }
 {
@@ -41,17 +41,17 @@ fn is_one_string(names: &ChannelNames) -> bool
     }
 }
 
-/// Whether it is `STRING` or `to STRING`.
+/// Whether it is `STRING` or `to STRING`, or nothing.
 fn is_one_channel(channels: &Option<Channels>) -> bool
     ensures { result ≡ spec.is_one_channel (shown channels_view channels.now) }
 {
     match channels {
         Some(channels) => is_one_string(&channels.names),
-        None => false,
+        None => true,
     }
 }
 
-/// Whether it is `assign NAME to STRING;`.
+/// Whether it is `assign NAME to STRING;` or `assign NAME;`.
 fn does_assign_run(assign: &Assign) -> bool
     ensures { result ≡ spec.does_definition_run (tree.assign (assign_view assign.now)) }
 {
@@ -65,14 +65,22 @@ fn does_monitor_run(place: &Place) -> bool
     place.subscript.is_none()
 }
 
-/// Whether it is one of the three.
+/// Whether it is `sync NAME to FLAG;`.
+fn does_sync_run(sync: &Sync) -> bool
+    ensures { result ≡ spec.does_definition_run (tree.sync (sync_view sync.now)) }
+{
+    sync.place.subscript.is_none()
+}
+
+/// Whether it is one of these, or declares variables or event flags.
 fn does_definition_run(definition: &Def) -> bool
     ensures { result ≡ spec.does_definition_run (definition_view definition.now) }
 {
     match definition {
-        Def::Declaration(_) => true,
+        Def::Declaration(_) | Def::EventFlags(_) => true,
         Def::Assign(assign) => does_assign_run(assign),
         Def::Monitor(place) => does_monitor_run(place),
+        Def::Sync(sync) => does_sync_run(sync),
         _ => false,
     }
 }

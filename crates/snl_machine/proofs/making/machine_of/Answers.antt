@@ -3,6 +3,7 @@ use Rattle.snl_syntax.specs.view.Programs.{program_view}
 use Rattle.snl_links.specs.Links.{links}
 use Rattle.snl_links.specs.LinkViews.{link_view}
 use Rattle.snl_load.specs.Places.{channels}
+use Rattle.snl_load.specs.Sets.{copies_of}
 use Rattle.snl_load.proofs.Meant.{plans_are_right}
 use Rattle.snl_machine.specs.Holding.{loaded_by}
 use Rattle.snl_machine.proofs.AsLoaded.{loaded-is, first-is}
@@ -42,5 +43,6 @@ returns-clause-first c =
     let ls = links p c.args.macros.now.text.now in
     let links-are = ap (map link_view) c.as_slice-links.ensures.value ∙ c.in_ok-links.ensures in
     let named-are = ap (map link_view) c.as_slice.ensures.value ∙ c.in_ok-links.ensures in
-    first-is p ls (map link_view c.as_slice-links.result.now) c.in_ok-code.code c.in_ok-plan.plan links-are c.in_ok-plan.ensures _ _ _
-    (c.in_ok-names.ensures ∙ ap channels named-are) c.as_slice-2.ensures.value c.in_ok-store.ensures
+    first-is p ls (map link_view c.as_slice-links.result.now) c.in_ok-code.code c.in_ok-plan.plan links-are c.in_ok-plan.ensures _ _ _ _
+    (c.in_ok-names.ensures ∙ ap channels named-are) c.as_slice-2.ensures.value (ap copies_of c.as_slice-copies.ensures.value ∙ c.in_ok-copies.ensures)
+    c.in_ok-store.ensures

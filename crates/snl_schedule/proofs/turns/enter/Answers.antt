@@ -1,7 +1,7 @@
 use Rattle.std.proofs.Common.{rules, ap, refl}
 use Rattle.snl_meaning.specs.World.{no_copy}
 use Rattle.snl_vm.specs.Views.{copy_view, world_of}
-use Rattle.snl_schedule.proofs.Changes.{view_changed}
+use Rattle.snl_vm.proofs.Changes.{view_changed}
 use Rattle.snl_schedule.proofs.turns.enter.Goals as goal
 
 pub returns-in-Some : goal.returns-in-Some

@@ -13,7 +13,7 @@ pub returns-in-Err-clause-does : goal.returns-in-Err-clause-does
 returns-in-Err-clause-does g c =
     let s = set_on c.args.state_set in
     let w = world_of c.args.store.now in
-    let fresh : world_of c.refresh.new.store ≡ refreshed s.set s.feeds w = c.refresh.ensures ∙ ap (λ fs. refreshed s.set fs w) c.as_slice.ensures.value in
+    let fresh : world_of c.refresh.new.store ≡ refreshed s.set w = c.refresh.ensures in
     let line = rw c.fault_text.ensures at c.in-Err.ensures.told in
     let did = (rw c.in-Err-Fault.field-0-is at c.in-Err-Fault.ensures.does) in
     let old = g.S.Sink.told c.args.sink.now in
@@ -25,7 +25,7 @@ pub returns-in-Err-Sink-clause-does : goal.returns-in-Err-Sink-clause-does
 returns-in-Err-Sink-clause-does g c =
     let s = set_on c.args.state_set in
     let w = world_of c.args.store.now in
-    let fresh : world_of c.refresh.new.store ≡ refreshed s.set s.feeds w = c.refresh.ensures ∙ ap (λ fs. refreshed s.set fs w) c.as_slice.ensures.value in
+    let fresh : world_of c.refresh.new.store ≡ refreshed s.set w = c.refresh.ensures in
     let v = world_of c.refresh.new.store in
     let did = (rw c.in-Err-Sink.field-0-is at c.in-Err-Sink.ensures.does) in
     let old = g.S.Sink.told c.args.sink.now in

@@ -1,6 +1,0 @@
-use Rattle.std.proofs.Common.{◌≡◌, ◌++◌, drop, map}
-use Rattle.snl_schedule.proofs.plans.ties_of.Given as goal
-
--- ties so far, and those that are left
-abbrev pub invariant-loop-link : goal.invariant-loop-link
-invariant-loop-link l = l.ties.items ++ map (λ k. k.channel) (drop l.link-index l.links) ≡ map (λ k. k.channel) l.links

@@ -1,0 +1,22 @@
+-- One member of a list changes, as its view does; words are copied one by one.
+use Rattle.std.proofs.Common.{◌≡◌, ◌∙◌, ◌+◌, ◌-◌, ◌<◌, ◌≤◌, refl, ℕ, zero, suc, ℤ, pos, List, [], ◌∷◌, ap, sym, arith, map, length, get_or, slice_set, slice_index_or}
+use Rattle.snl_meaning.specs.World.{words_at, overwritten}
+
+-- a member whose view was changed
+pub view_changed : {A B : Type 0} (view : A → B) (xs : List A) (i : ℕ) (x new : A) (d : B) (change : B → B) → i < length xs → x ≡ get_or xs i x
+    → view new ≡ change (view x) → map view (slice_set xs i new) ≡ slice_set (map view xs) i (change (slice_index_or (map view xs) i d))
+view_changed view [] i x new d change within is changed = absurd (omega (arith, within))
+view_changed view (y ∷ ys) zero x new d change within is changed = ap (λ k. k ∷ map view ys) (changed ∙ ap (λ z. change (view z)) is)
+view_changed view (y ∷ ys) (suc i) x new d change within is changed = ap (λ ks. view y ∷ ks) (view_changed view ys i x new d change (omega (arith, within)) is changed)
+
+-- one word more was copied
+pub overwritten_more : (words : List ℤ) (to from n count : ℕ) (buffers : List ℤ) (z : ℤ) → n < count → slice_index_or buffers (from + n) (pos 0) ≡ z →
+    overwritten (slice_set words (to + n) z) (to + (n + 1)) (words_at buffers (from + (n + 1)) (count - (n + 1))) ≡ overwritten words (to + n) (words_at buffers (from + n) (count - n))
+overwritten_more words to from n count buffers z less is =
+    let later : to + (n + 1) ≡ suc (to + n) = omega arith in
+    let later_from : from + (n + 1) ≡ suc (from + n) = omega arith in
+    let left : count - n ≡ suc (count - (n + 1)) = omega (arith, less) in
+    let rest = words_at buffers (suc (from + n)) (count - (n + 1)) in
+    ap (λ t. overwritten (slice_set words (to + n) z) t (words_at buffers (from + (n + 1)) (count - (n + 1)))) later
+    ∙ ap (λ f. overwritten (slice_set words (to + n) z) (suc (to + n)) (words_at buffers f (count - (n + 1)))) later_from
+    ∙ sym (ap (λ k. overwritten words (to + n) (words_at buffers (from + n) k)) left ∙ ap (λ y. overwritten words (to + n) (y ∷ rest)) is)
