@@ -3,7 +3,7 @@ use Rattle.std.specs.Prelude.{Bool, true, false, not, ◌&&◌, List, Option, So
 use Rattle.std.specs.List.{list_all}
 use Rattle.snl_syntax.specs.Programs.{ProgramTree}
 use Rattle.snl_resolve.specs.declared.builtins.Builtin.{Builtin}
-use Rattle.snl_resolve.specs.declared.builtins.Builtin.TheVariants.{Printf, PvPut, Ask}
+use Rattle.snl_resolve.specs.declared.builtins.Builtin.TheVariants.{Delay, Printf, PvPut, Ask}
 use Rattle.snl_resolve.specs.declared.builtins.Query.TheVariants.{EfClear, EfSet, EfTest, EfTestAndClear}
 use Rattle.snl_resolve.specs.declared.options.Options.{Options}
 use Rattle.snl_resolve.specs.declared.sites.Purpose.{Purpose}
@@ -20,6 +20,7 @@ waits options = unwrap_or options.c true
 
 -- Of the functions these run.
 abbrev pub does_call_run : Option Builtin → Bool
+does_call_run (Some Delay) = true
 does_call_run (Some Printf) = true
 does_call_run (Some PvPut) = true
 does_call_run (Some (Ask EfClear)) = true

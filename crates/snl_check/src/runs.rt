@@ -25,12 +25,12 @@ pub fn does_run(options: Options, program: &Program, do_sites_run: bool) -> bool
     has_forms_that_run(program) && do_sites_run && waits(options)
 }
 
-/// Whether a function runs: `printf`, `pvPut` and those of event flags do.
+/// Whether a function runs: `delay`, `printf`, `pvPut` and those of event flags do.
 fn does_call_run(builtin: Option<Builtin>) -> bool
     ensures { result ≡ spec.does_call_run builtin }
 {
     match builtin {
-        Some(Builtin::Printf | Builtin::PvPut) => true,
+        Some(Builtin::Delay | Builtin::Printf | Builtin::PvPut) => true,
         Some(Builtin::Ask(query)) => matches!(
             query,
             Query::EfClear | Query::EfSet | Query::EfTest | Query::EfTestAndClear

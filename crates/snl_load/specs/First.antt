@@ -14,7 +14,8 @@ use Rattle.snl_load.specs.Places.{channels, flags_in, placed_sets, ties_in, home
 abbrev pub first_copy : List Held → SetMemory
 first_copy vs = record { words = flat_map all_elements vs; state = 0; entered = 0 }
 
--- What waits for its start, with these variables in its copies, so many event flags, these channels, ties, homes and links: no time has passed, variables and buffers are what they begin with, no event flag is set, no channel is connected or
+-- What waits for its start, with these variables in its copies, so many event flags, these channels, ties, homes and links:
+-- no time has passed, variables and buffers are what they begin with, no event flag is set, no channel is connected or
 -- valued, and nothing is marked.
 abbrev pub first_world : List (List Held) → ℕ → List (List ℕ) → List Tied → List (List (Option ℕ)) → List Link → World
 first_world sets flags names ties homes ls = record {

@@ -96,8 +96,8 @@ fn store_by(
     })
 }
 
-/// The store of a program that waits for its start, by its links with their ties, the names of its channels and where the
-/// variables of its copies stand. The only error is that memory ends.
+/// The store of a program that waits for its start, by its links with their ties, the names of its channels and where
+/// the variables of its copies stand. The only error is that memory ends.
 pub fn store_of<'a>(
     alloc: Global,
     program: &Program<'a>,

@@ -147,8 +147,8 @@ fn ties_of(
     Ok(ties)
 }
 
-/// What never changes of the links of a program, with the names of its channels and the variables of its copies. The only
-/// error is that memory ends.
+/// What never changes of the links of a program, with the names of its channels and the variables of its copies. The
+/// only error is that memory ends.
 pub fn ties_in<'a>(
     alloc: Global,
     program: &Program<'a>,

@@ -39,7 +39,7 @@ module _ (p : ProgramTree) (set other : ℕ) (apart : set ≡ other → ⊥) whe
     signals = λ flag now w. refl;
     fills = λ place link t w home is. refl;
     marks = λ marks w. refl;
-    notes = λ due w. refl;
+    notes = λ t w late. refl;
     spends = λ left w is. refl;
   }
 

@@ -151,7 +151,7 @@ module _ (p : ProgramTree) (sized : IsSized p) where
     signals = λ flag now w all. all;
     fills = λ place link t w home is all. all;
     marks = λ marks w all. all;
-    notes = λ due w all. all;
+    notes = λ t w late all. all;
     spends = λ left w is all. all;
   }
 

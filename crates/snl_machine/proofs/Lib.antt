@@ -3,6 +3,7 @@ pub mod Tasks
 pub mod Turning
 pub mod Steady
 pub mod Rounds
+pub mod Wakes
 pub mod Fitting
 pub mod Beginning
 pub mod Linked

@@ -1,10 +1,10 @@
 -- A line of a trace keeps what copies and buffers hold within their types.
-use Rattle.std.proofs.Common.{◌≡◌, ◌∙◌, sym, subst, ℕ, true, List, length, nat_lt}
+use Rattle.std.proofs.Common.{◌≡◌, ◌∙◌, ◌-◌, sym, subst, ℕ, zero, suc, true, List, Option, None, Some, length, nat_lt}
 use Rattle.snl_syntax.specs.Programs.{ProgramTree}
 use Rattle.snl_code.specs.Heres.{here_in}
 use Rattle.snl_schedule.specs.declared.events.Event.{Event}
 use Rattle.snl_schedule.specs.declared.events.Event.TheVariants.{Up, Val, Tick, Other}
-use Rattle.snl_schedule.specs.Event.{applied, closed, line_by, is_event_fit}
+use Rattle.snl_schedule.specs.Event.{applied, closed, wake_before, woken, wakes_of, all_wakes, event_by, passed, line_by, is_event_fit}
 use Rattle.snl_links.specs.Links.{Link}
 use Rattle.snl_machine.specs.Ranges.{AllFit, Holds, IsSized, IsTied, EventsFit, Begins, GoesOn, ReachedHold}
 use Rattle.snl_machine.proofs.Beginning.{first_holds}
@@ -14,7 +14,7 @@ use Rattle.snl_machine.proofs.Steady.{IsSteady, instant-keeps}
 use Rattle.snl_meaning.specs.declared.live.Live.{Live}
 use Rattle.snl_meaning.specs.declared.live.Live.TheVariants.{Waiting, Running, Ended}
 use Rattle.snl_meaning.specs.Keeping.{IsKept, world_after}
-use Rattle.snl_meaning.specs.Ran.{Ran, Gives, Faults}
+use Rattle.snl_meaning.specs.Ran.{Ran, Gives, Faults, also, then_do}
 use Rattle.snl_meaning.specs.World.{SetMemory, World, copy_of}
 use Rattle.snl_meaning.proofs.Keeping.{pieces-keep}
 use Rattle.snl_load.specs.Meaning.{program_meaning}
@@ -37,7 +37,7 @@ module _ (p : ProgramTree) (ls : List Link) (sized : IsSized p) (tied : IsTied p
     signals = λ flag now w holds. holds;
     fills = filled_holds p ls sized tied set;
     marks = λ marks w holds. holds;
-    notes = λ due w holds. holds;
+    notes = λ t w late holds. holds;
     spends = λ left w is holds. holds;
   }
 
@@ -50,8 +50,8 @@ module _ (p : ProgramTree) (ls : List Link) (sized : IsSized p) (tied : IsTied p
     refreshes = refresh_holds p ls sized tied;
     enters = λ set state w holds.
         (changed-fits p sized set (record (copy_of set w) { state = state; entered = w.time }) w (λ fit. fit) holds.0, holds.1, holds.2, holds.3);
-    due = λ x w holds. holds;
-    wake = λ x w holds. holds;
+    opens = λ w holds. holds;
+    wakes = λ w holds. holds;
     phase = λ x w holds. holds;
     spends = λ left w is holds. holds;
     weaker = λ w u a. a;
@@ -86,13 +86,42 @@ events_fit p ls budget ms event w sized tied fit holds = by w.phase
     q : Program
     q = program_meaning p ls
 
-    there : World
-    there = applied q event (record w { time = ms })
+    -- text does not matter
+    also-holds : (text : List ℕ) (r : Ran (Unit {0})) → Holds p ls (world_after r) → Holds p ls (world_after (also text r))
+    also-holds text (Gives v u more) h = h
+    also-holds text (Faults f line u more) h = h
 
-    on : Holds p ls (world_after (closed (instant_of q budget there)))
-    on = closed-holds p ls sized tied (instant_of q budget there)
-        (instant-keeps p ls (Stays p ls sized tied) (Stays p ls sized tied) (holds-steady p ls sized tied) there.phase (record there { ticks = budget })
-        (event-holds p ls sized tied event (record w { time = ms }) fit holds))
+    -- one step and then another
+    then-holds : (r : Ran (Unit {0})) (go : World → Ran (Unit {0})) → Holds p ls (world_after r) → ((u : World) → Holds p ls u → Holds p ls (world_after (go u))) →
+        Holds p ls (world_after (then_do r (λ _ u. go u)))
+    then-holds (Gives v u text) go h k = also-holds text (go u) (k u h)
+    then-holds (Faults f line u text) go h k = h
+
+    -- an instant
+    instant-holds : (u : World) → Holds p ls u → Holds p ls (world_after (instant_of q budget u))
+    instant-holds u h = instant-keeps p ls (Stays p ls sized tied) (Stays p ls sized tied) (holds-steady p ls sized tied) u.phase (record u { ticks = budget }) h
+
+    -- wakes
+    wakes-hold : (n : ℕ) (u : World) → Holds p ls u → Holds p ls (world_after (wakes_of q budget ms n u))
+    wakes-hold zero u h = h
+    wakes-hold (suc n) u h = woken-holds (λ v. wakes-hold n v) (wake_before ms u)
+      where
+        woken-holds : ((v : World) → Holds p ls v → Holds p ls (world_after (wakes_of q budget ms n v))) → (o : Option ℕ) →
+            Holds p ls (world_after (woken q budget (wakes_of q budget ms n) o u))
+        woken-holds others None = h
+        woken-holds others (Some wake) =
+            then-holds (instant_of q budget (record u { time = wake })) (wakes_of q budget ms n) (instant-holds (record u { time = wake }) h) others
+
+    -- the event
+    happens-holds : (u : World) (phase : Live) → Holds p ls u → Holds p ls (world_after (event_by q budget ms event phase u))
+    happens-holds u Ended h = h
+    happens-holds u Waiting h = instant-holds (applied q event (record u { time = ms })) (event-holds p ls sized tied event (record u { time = ms }) fit h)
+    happens-holds u Running h = instant-holds (applied q event (record u { time = ms })) (event-holds p ls sized tied event (record u { time = ms }) fit h)
+
+    on : Holds p ls (world_after (closed (passed q budget ms event w)))
+    on =
+        closed-holds p ls sized tied (passed q budget ms event w)
+        (then-holds (all_wakes q budget ms w) (λ u. event_by q budget ms event u.phase u) (wakes-hold (ms - w.time) w holds) (λ u h. happens-holds u u.phase h))
 
     by : (phase : Live) → Holds p ls (world_after (line_by q budget ms event phase w))
     by Waiting = on

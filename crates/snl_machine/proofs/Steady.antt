@@ -1,5 +1,5 @@
 -- What every step of a run keeps of the world: turns, rounds, instants.
-use Rattle.std.proofs.Common.{◌≡◌, ◌+◌, refl, ℕ, zero, suc, ℤ, Bool, true, false, List, [], ◌∷◌, Option, None, Some, map, if◌then◌else◌}
+use Rattle.std.proofs.Common.{◌≡◌, ◌+◌, refl, ℕ, zero, suc, ℤ, pos, Bool, true, false, List, [], ◌∷◌, Option, None, Some, map, if◌then◌else◌}
 use Rattle.snl_syntax.specs.Programs.{ClauseTree, StateTree, StateSetTree, ProgramTree}
 use Rattle.snl_links.specs.Links.{Link}
 use Rattle.snl_output.specs.Lines.{start_line}
@@ -8,7 +8,9 @@ use Rattle.snl_meaning.specs.declared.live.Live.TheVariants.{Waiting, Running, E
 use Rattle.snl_meaning.specs.Effect.{Way, Done, Broken, Continued, Left, block_effect}
 use Rattle.snl_meaning.specs.Keeping.{IsKept, PiecesKeep, world_after}
 use Rattle.snl_meaning.specs.Ran.{Ran, Gives, Faults, also, then_do}
+use Rattle.std.specs.Prelude.{int_le}
 use Rattle.snl_meaning.specs.Links.{home_of}
+use Rattle.snl_meaning.specs.Words.{noted}
 use Rattle.snl_meaning.specs.World.{SetMemory, World}
 use Rattle.snl_meaning.proofs.Keeping.{pieces-keep}
 use Rattle.snl_meaning.proofs.Ticks.{Any, any-may}
@@ -30,15 +32,18 @@ pub record IsSteady (p : ProgramTree) (R S : World → World → Type 0) : Type 
   pub pieces : (set : ℕ) → PiecesKeep (here_in p set) R
   pub refreshes : (set : ℕ) (w : World) → R w (refreshed set w)
   pub enters : (set state : ℕ) (w : World) → R w (entered_in set state w)
-  pub due : (x : Option ℕ) (w : World) → R w (record w { due = x })
-  pub wake : (x : Option ℕ) (w : World) → R w (record w { wake = x })
+  -- at the beginning of a round no due time is noted
+  pub opens : (w : World) → R w (record w { due = None })
+  -- after the last one the wake is the least due time
+  pub wakes : (w : World) → R w (record w { wake = w.due })
   pub phase : (x : Live) (w : World) → R w (record w { phase = x })
   pub spends : (left : ℕ) (w : World) → w.ticks ≡ suc left → S w (record w { ticks = left })
   pub weaker : (w u : World) → S w u → R w u
   pub before : (u v w : World) → R u v → S v w → S u w
   pub after : (u v w : World) → S u v → R v w → S u w
 
--- A relation that any change of the copies, marks, event flags and buffers keeps.
+-- A relation that any change of the copies, marks, event flags and buffers keeps, and of due times those that pieces and
+-- rounds make.
 pub record IsLoose (R S : World → World → Type 0) : Type 0 where
   pub nothing : (w : World) → R w w
   pub both : (u v w : World) → R u v → R v w → R u w
@@ -46,8 +51,9 @@ pub record IsLoose (R S : World → World → Type 0) : Type 0 where
   pub marks : (x : List (List Bool)) (w : World) → R w (record w { marks = x })
   pub flags : (x : List Bool) (w : World) → R w (record w { flags = x })
   pub buffers : (x : List ℤ) (w : World) → R w (record w { buffers = x })
-  pub due : (x : Option ℕ) (w : World) → R w (record w { due = x })
-  pub wake : (x : Option ℕ) (w : World) → R w (record w { wake = x })
+  pub opens : (w : World) → R w (record w { due = None })
+  pub notes : (t : ℤ) (w : World) → int_le t (pos w.time) ≡ false → R w (record w { due = noted t w.due })
+  pub wakes : (w : World) → R w (record w { wake = w.due })
   pub phase : (x : Live) (w : World) → R w (record w { phase = x })
   pub spends : (left : ℕ) (w : World) → w.ticks ≡ suc left → S w (record w { ticks = left })
   pub weaker : (w u : World) → S w u → R w u
@@ -65,7 +71,7 @@ module _ (R S : World → World → Type 0) (s : IsLoose R S) where
     signals = λ flag now w. s.flags _ w;
     fills = λ place link t w home is. s.buffers _ w;
     marks = s.marks;
-    notes = s.due;
+    notes = s.notes;
     spends = λ left w is. s.weaker w (record w { ticks = left }) (s.spends left w is);
   }
 
@@ -98,8 +104,8 @@ module _ (R S : World → World → Type 0) (s : IsLoose R S) where
     pieces = λ set. pieces-keep (here_in p set) Any R (any-may (here_in p set)) (kept set);
     refreshes = λ set w. links-keep set 0 w.ties w;
     enters = λ set state w. s.copies _ w;
-    due = s.due;
-    wake = s.wake;
+    opens = s.opens;
+    wakes = s.wakes;
     phase = s.phase;
     spends = s.spends;
     weaker = s.weaker;
@@ -202,7 +208,7 @@ module _ (p : ProgramTree) (ls : List Link) (R S : World → World → Type 0) (
 
   -- a round
   pub round-turns : (w : World) → Turns R S w (round_of (program_meaning p ls) w)
-  round-turns w = round-keeps (program_meaning p ls).sets (sets-keep 0 p.state_sets) Stayed w (record w { due = None }) (s.due None w)
+  round-turns w = round-keeps (program_meaning p ls).sets (sets-keep 0 p.state_sets) Stayed w (record w { due = None }) (s.opens w)
 
   -- rounds
   rounds-keep : (n : ℕ) (w : World) → R w (world_after (rounds_of (program_meaning p ls) n w))
@@ -213,7 +219,7 @@ module _ (p : ProgramTree) (ls : List Link) (R S : World → World → Type 0) (
       q = program_meaning p ls
 
       by : ((u : World) → R u (world_after (rounds_of q n u))) → (r : Ran Turned) → Turns R S w r → R w (world_after (then_do r (unless_still q.name (rounds_of q n))))
-      by others (Gives Stayed u text) h = s.both w u (record u { wake = u.due }) h (s.wake u.due u)
+      by others (Gives Stayed u text) h = s.both w u (record u { wake = u.due }) h (s.wakes u)
       by others (Gives Moved u text) h = after-text w text (rounds_of q n u) (s.both w u (world_after (rounds_of q n u)) (s.weaker w u h) (others u))
       by others (Gives Exited u text) h = s.both w u (record u { phase = Ended }) (s.weaker w u h) (s.phase Ended u)
       by others (Faults f line u text) h = h
@@ -231,7 +237,7 @@ module _ (p : ProgramTree) (ls : List Link) (R S : World → World → Type 0) (
   begun-keeps (g ∷ gs) w = s.both w (entered_in g.set 0 w) (begun_sets gs (entered_in g.set 0 w)) (s.enters g.set 0 w) (begun-keeps gs (entered_in g.set 0 w))
 
   -- the start
-  started-keeps : (w : World) → R w (world_after (started (program_meaning p ls) w))
+  pub started-keeps : (w : World) → R w (world_after (started (program_meaning p ls) w))
   started-keeps w =
       let sets = (program_meaning p ls).sets in
       let u = record w { phase = Running } in

@@ -5,3 +5,4 @@ pub mod IfRun
 pub mod Laws
 pub mod Rounds
 pub mod Ranges
+pub mod Wakes

@@ -1,12 +1,8 @@
--- Laws of whole runs: the rounds of an instant end by themselves, and time never falls.
-use Rattle.std.specs.Prelude.{◌≡◌, ◌≤◌, ℕ, List, []}
+-- A law of whole runs: the rounds of an instant end by themselves.
+use Rattle.std.specs.Prelude.{◌≡◌, ℕ, List, []}
 use Rattle.snl_syntax.specs.Programs.{ProgramTree}
-use Rattle.snl_schedule.specs.declared.events.Event.{Event}
-use Rattle.snl_schedule.specs.Event.{line_of}
 use Rattle.snl_links.specs.Links.{Link}
 use Rattle.snl_meaning.specs.declared.faults.Fault.{Fault}
-use Rattle.snl_meaning.specs.declared.live.Live.TheVariants.{Ended}
-use Rattle.snl_meaning.specs.Keeping.{world_after}
 use Rattle.snl_meaning.specs.Ran.{Ran, Gives, Faults, also}
 use Rattle.snl_meaning.specs.World.{World}
 use Rattle.snl_load.specs.Meaning.{program_meaning}
@@ -29,13 +25,3 @@ pub data Rounds (p : Program) : World → Ran (Unit {0}) → Type 0 where
 -- number of rounds is used up that `all_rounds` allows.
 abbrev pub RoundsEnd : Type 0
 RoundsEnd = (p : ProgramTree) (ls : List Link) (w : World) → Rounds (program_meaning p ls) w (all_rounds (program_meaning p ls) w)
-
--- After an event the time is that of the event, unless the world had ended, also where the event came to a fault.
-abbrev pub TimeIsTheEvents : Type 0
-TimeIsTheEvents = (p : ProgramTree) (ls : List Link) (budget ms : ℕ) (event : Event) (w : World) → (w.phase ≡ Ended → ⊥) →
-    (world_after (line_of (program_meaning p ls) budget ms event w)).time ≡ ms
-
--- So time never falls, as long as no event comes before the time of the last one.
-abbrev pub TimeNeverFalls : Type 0
-TimeNeverFalls = (p : ProgramTree) (ls : List Link) (budget ms : ℕ) (event : Event) (w : World) → w.time ≤ ms →
-    w.time ≤ (world_after (line_of (program_meaning p ls) budget ms event w)).time

@@ -51,7 +51,7 @@ impl Machine {
         channel_number(&self.names, name)
     }
 
-    /// The time of the last event, in milliseconds; 0 before the first.
+    /// The time of the last event, in milliseconds, or of the wake at which the program ended; 0 before the first event.
     pub fn time(&self) -> u64
         ensures { result ≡ (world_held self.now).time }
     {

@@ -2,7 +2,8 @@
 
 ghost use Rattle.snl_machine.specs.Laws.{RunsItsProgram, StaysItsMachine, TurnsStayApart};
 ghost use Rattle.snl_machine.specs.Ranges.{EventsFit, FirstHolds, PiecesFit, ReachedHold};
-ghost use Rattle.snl_machine.specs.Rounds.{RoundsEnd, TimeIsTheEvents, TimeNeverFalls};
+ghost use Rattle.snl_machine.specs.Rounds.{RoundsEnd};
+ghost use Rattle.snl_machine.specs.Wakes.{TimeIsTheEvents, TimeIsTheEventsAlone, TimeNeverFalls, WakesEnd, WakesLieLater, WakesStayLater};
 
 /// A machine of a program runs what the program means on its tree.
 #[tactic(auto, using(crate::proofs::Tasks::runs_its_program))]
@@ -28,12 +29,33 @@ pub fn rounds_end()
     ensures { RoundsEnd }
 {}
 
-/// After an event the time is that of the event, unless the run had ended, also where the event came to a fault.
+/// All wakes before a time are run: they end because none comes before that time, the program ends or faults, and never
+/// because the number of wakes is used up that a line allows.
+pub fn wakes_end()
+    ensures { WakesEnd }
+{}
+
+/// After a line the wake of a program that runs lies after now, if it did so before.
+pub fn wakes_stay_later()
+    ensures { WakesStayLater }
+{}
+
+/// In every world that a run comes to, the wake of a program that runs lies after now.
+pub fn wakes_lie_later()
+    ensures { WakesLieLater }
+{}
+
+/// After a line the time is that of its event, unless the program has ended: it may have done so at a wake before.
 pub fn time_is_the_events()
     ensures { TimeIsTheEvents }
 {}
 
-/// Time never falls, as long as no event comes before the time of the last one.
+/// Where no wake comes before the event the time is that of the event, also where the event ends the program.
+pub fn time_is_the_events_alone()
+    ensures { TimeIsTheEventsAlone }
+{}
+
+/// Time never falls, and never passes that of the event, as long as no event comes before the time of the last one.
 pub fn time_never_falls()
     ensures { TimeNeverFalls }
 {}

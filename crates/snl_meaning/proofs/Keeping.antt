@@ -21,7 +21,7 @@ pieces_keep_time h = pieces-keep h Any (λ w u. u.time ≡ w.time) (any-may h) (
   signals = λ flag now w. refl;
   fills = λ place link t w home is. refl;
   marks = λ marks w. refl;
-  notes = λ due w. refl;
+  notes = λ t w late. refl;
   spends = λ left w is. refl;
 })
 
@@ -35,7 +35,7 @@ pieces_keep_the_phase h = pieces-keep h Any (λ w u. u.phase ≡ w.phase) (any-m
   signals = λ flag now w. refl;
   fills = λ place link t w home is. refl;
   marks = λ marks w. refl;
-  notes = λ due w. refl;
+  notes = λ t w late. refl;
   spends = λ left w is. refl;
 })
 

@@ -49,7 +49,7 @@ ticks-kept set = record {
   signals = λ flag now w. omega arith;
   fills = λ place link t w home is. omega arith;
   marks = λ marks w. omega arith;
-  notes = λ due w. omega arith;
+  notes = λ t w late. omega arith;
   spends = λ left w is. omega (arith, is);
 }
 

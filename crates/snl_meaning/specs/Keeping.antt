@@ -1,12 +1,12 @@
 -- What the pieces of a program can change: a relation that each single change keeps is kept by all of them.
-use Rattle.std.specs.Prelude.{◌≡◌, ◌≤◌, ◌&&◌, int_le, Bool, true, ℕ, suc, ℤ, pos, List, Option, Some, slice_get}
+use Rattle.std.specs.Prelude.{◌≡◌, ◌≤◌, ◌&&◌, int_le, Bool, true, false, ℕ, suc, ℤ, pos, List, Option, Some, slice_get}
 use Rattle.snl_syntax.specs.Expressions.{ExprTree}
 use Rattle.snl_syntax.specs.Statements.{BlockTree}
 use Rattle.snl_meaning.specs.declared.instrs.Variable.{Variable}
 use Rattle.snl_meaning.specs.Effect.{held_by, block_effect}
 use Rattle.snl_meaning.specs.Names.{Here, variable_at}
 use Rattle.snl_meaning.specs.Ran.{Ran, Gives, Faults}
-use Rattle.snl_meaning.specs.Words.{natural, is_subscript}
+use Rattle.snl_meaning.specs.Words.{natural, is_subscript, noted}
 use Rattle.snl_meaning.specs.World.{World, with_element, with_zeros, with_flag}
 use Rattle.snl_meaning.specs.declared.ties.Tied.{Tied}
 use Rattle.snl_meaning.specs.Links.{home_of, elements_at, with_buffer}
@@ -19,7 +19,7 @@ world_after (Faults fault line w text) = w
 -- A relation between a world and a later one that holds where nothing changes, is handed on from change to change, and
 -- holds of each single change: a number is stored in an element that may be stored to and whose type has it, a variable is
 -- 0 again, an event flag is set or cleared, elements of a link come from the copy to its buffer, links are marked, a due
--- time is noted, a tick is spent.
+-- time that has not come is noted, a tick is spent.
 pub record IsKept (set : ℕ) (May : Variable → ℤ → Type 0) (R : World → World → Type 0) : Type 0 where
   pub nothing : (w : World) → R w w
   pub both : (u v w : World) → R u v → R v w → R u w
@@ -29,7 +29,7 @@ pub record IsKept (set : ℕ) (May : Variable → ℤ → Type 0) (R : World →
   pub fills : (place link : ℕ) (t : Tied) (w : World) → home_of set link w ≡ Some place → slice_get w.ties link ≡ Some t →
       R w (with_buffer t (elements_at set place t w) w)
   pub marks : (marks : List (List Bool)) (w : World) → R w (record w { marks = marks })
-  pub notes : (due : Option ℕ) (w : World) → R w (record w { due = due })
+  pub notes : (t : ℤ) (w : World) → int_le t (pos w.time) ≡ false → R w (record w { due = noted t w.due })
   pub spends : (left : ℕ) (w : World) → w.ticks ≡ suc left → R w (record w { ticks = left })
 
 -- To the variables of a copy: to each element that one has.

@@ -14,7 +14,7 @@ abbrev pub begins_at : ℕ → Option ℕ → Bool
 begins_at place None = false
 begins_at place (Some home) = home == place
 
--- The first of some links, by numbers from one on, whose elements begin at a word.
+-- The first of some links, with numbers from one on, whose elements begin at a word.
 abbrev pub link_from : ℕ → List (Option ℕ) → ℕ → Option ℕ
 link_from number [] place = None
 link_from number (home ∷ homes) place = if begins_at place home then Some number else link_from (number + 1) homes place
@@ -27,7 +27,7 @@ link_at set place w = link_from 0 (slice_index_or w.homes set []) place
 abbrev pub elements_at : ℕ → ℕ → Tied → World → List ℤ
 elements_at set place t w = words_at (copy_of set w).words place t.count
 
--- The world with other elements there.
+-- The world in which numbers came to the buffer of a link.
 abbrev pub with_buffer : Tied → List ℤ → World → World
 with_buffer t zs w = record w { buffers = overwritten w.buffers t.from zs }
 

@@ -88,7 +88,8 @@ pub fn variable_in(variables: &[Placed], offset: usize) -> Option<Variable>
     None
 }
 
-/// The number of the first of some declarations that stands at an offset, in bytes; that after the last where none does.
+/// The number of the first of some declarations that stands at an offset, in bytes; that after the last where none
+/// does.
 pub fn number_at(declarations: &[usize], offset: usize) -> usize
     ensures { result ≡ spec.number_at declarations.now offset }
 {

@@ -1,6 +1,6 @@
 -- What has ended stays ended.
 use Rattle.std.proofs.Common.{◌≡◌, ◌∙◌, ℕ, List, [], ◌∷◌, ◌++◌, Option, Result, Ok, Err, refl, ap, sym, subst}
-use Rattle.snl_schedule.specs.Event.{applied, closed, line_by}
+use Rattle.snl_schedule.specs.Event.{closed, passed, line_by}
 use Rattle.snl_schedule.specs.Laws.{EndedStays, EndedAnswersEnded, AnswersThePhase}
 use Rattle.snl_output.specs.declared.faults.Stop.{Stop}
 use Rattle.snl_output.specs.declared.faults.Stop.TheVariants as stop
@@ -11,7 +11,6 @@ use Rattle.snl_meaning.specs.declared.live.Live.{Live}
 use Rattle.snl_meaning.specs.declared.live.Live.TheVariants.{Waiting, Running, Ended}
 use Rattle.snl_meaning.specs.Ran.{Ran, Gives, Faults}
 use Rattle.snl_meaning.specs.World.{World}
-use Rattle.snl_schedule.specs.Instant.{instant_of}
 
 -- what an event gives in a world that has ended
 pub ended_stays : EndedStays
@@ -48,5 +47,5 @@ answers_the_phase p budget ms event w after live old new did = by w.phase refl d
   where
     by : (phase : Live) → w.phase ≡ phase → line_by p budget ms event phase w ≡ Gives live after did.text → after.phase ≡ live
     by Ended at is = let stays : w ≡ after = cc in let same : Ended ≡ live = cc in ap (λ (v : World). v.phase) (sym stays) ∙ at ∙ same
-    by Waiting at is = closed-phase (instant_of p budget (applied p event (record w { time = ms }))) after live did.text is
-    by Running at is = closed-phase (instant_of p budget (applied p event (record w { time = ms }))) after live did.text is
+    by Waiting at is = closed-phase (passed p budget ms event w) after live did.text is
+    by Running at is = closed-phase (passed p budget ms event w) after live did.text is

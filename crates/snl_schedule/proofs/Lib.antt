@@ -7,3 +7,4 @@ pub mod Facts
 pub mod Rows
 pub mod Ending
 pub mod Staying
+pub mod Waking

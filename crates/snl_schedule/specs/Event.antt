@@ -1,10 +1,10 @@
--- What one line of a trace does.
-use Rattle.std.specs.Prelude.{ℕ, Bool, true, ◌&&◌, nat_lt, List, []}
+-- What one line of a trace does: first all wakes before its time, then the event.
+use Rattle.std.specs.Prelude.{ℕ, zero, suc, ◌-◌, Bool, true, ◌&&◌, nat_lt, List, [], Option, None, Some, if◌then◌else◌}
 use Rattle.snl_schedule.specs.declared.events.Event.{Event}
 use Rattle.snl_schedule.specs.declared.events.Event.TheVariants.{Up, Val, Tick, Other}
 use Rattle.snl_meaning.specs.declared.live.Live.{Live}
-use Rattle.snl_meaning.specs.declared.live.Live.TheVariants.{Ended}
-use Rattle.snl_meaning.specs.Ran.{Ran, Gives, Faults}
+use Rattle.snl_meaning.specs.declared.live.Live.TheVariants.{Running, Ended}
+use Rattle.snl_meaning.specs.Ran.{Ran, Gives, Faults, then_do}
 use Rattle.snl_meaning.specs.World.{World}
 use Rattle.snl_meaning.specs.declared.ties.Tied.{Tied}
 use Rattle.snl_schedule.specs.Arrivals.{connected, received, are_fit}
@@ -17,7 +17,43 @@ applied p (Val channel values) w = received p channel values.items w
 applied p Tick w = w
 applied p Other w = w
 
--- What an instant gives to who asked for it: a fault ends the run.
+-- ---- wakes
+
+-- The wake, by how far the program has come, if it comes before a time.
+abbrev pub wake_by : ℕ → Live → Option ℕ → Option ℕ
+wake_by ms Running (Some wake) = if nat_lt wake ms then Some wake else None
+wake_by ms _ _ = None
+
+-- The same of the world as it is.
+abbrev pub wake_before : ℕ → World → Option ℕ
+wake_before ms w = wake_by ms w.phase w.wake
+
+-- An instant at the wake, if there is one, and then the others.
+abbrev pub woken : Program → ℕ → (World → Ran (Unit {0})) → Option ℕ → World → Ran (Unit {0})
+woken p budget others None w = Gives tt w []
+woken p budget others (Some wake) w = then_do (instant_of p budget (record w { time = wake })) (λ _ u. others u)
+
+-- At most so many wakes before a time, one after another.
+abbrev pub wakes_of : Program → (budget ms n : ℕ) → World → Ran (Unit {0})
+wakes_of p budget ms zero w = Gives tt w []
+wakes_of p budget ms (suc n) w = woken p budget (wakes_of p budget ms n) (wake_before ms w) w
+
+-- Each wake lies after the one before it, so there are at most as many as there are milliseconds until then.
+abbrev pub all_wakes : Program → (budget ms : ℕ) → World → Ran (Unit {0})
+all_wakes p budget ms w = wakes_of p budget ms (ms - w.time) w
+
+-- ---- a line
+
+-- An event at its time, by how far the program has come then: what has ended stays as it is.
+abbrev pub event_by : Program → (budget ms : ℕ) → Event → Live → World → Ran (Unit {0})
+event_by p budget ms event Ended w = Gives tt w []
+event_by p budget ms event _ w = instant_of p budget (applied p event (record w { time = ms }))
+
+-- All wakes before the time of an event, and then the event.
+abbrev pub passed : Program → (budget ms : ℕ) → Event → World → Ran (Unit {0})
+passed p budget ms event w = then_do (all_wakes p budget ms w) (λ _ u. event_by p budget ms event u.phase u)
+
+-- What instants give to who asked for them: a fault ends the run.
 abbrev pub closed : Ran (Unit {0}) → Ran Live
 closed (Gives _ w text) = Gives w.phase w text
 closed (Faults f line w text) = Faults f line (record w { phase = Ended }) text
@@ -25,7 +61,7 @@ closed (Faults f line w text) = Faults f line (record w { phase = Ended }) text
 -- An event at a time, by how far the program has come: what has ended stays as it is, its time too.
 abbrev pub line_by : Program → ℕ → ℕ → Event → Live → World → Ran Live
 line_by p budget ms event Ended w = Gives Ended w []
-line_by p budget ms event _ w = closed (instant_of p budget (applied p event (record w { time = ms })))
+line_by p budget ms event _ w = closed (passed p budget ms event w)
 
 -- The same of the world as it is.
 abbrev pub line_of : Program → ℕ → ℕ → Event → World → Ran Live

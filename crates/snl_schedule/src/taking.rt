@@ -1,4 +1,4 @@
-//! Events, one after another.
+//! Events, one after another, each with the wakes before it.
 
 ghost use Rattle.std.specs.Prelude.{◌≡◌, ◌-◌, ◌^◌, ◌<◌, OnErr};
 ghost use Rattle.snl_schedule.specs.Event as spec;
@@ -42,8 +42,107 @@ pub fn fits(event: &Event, channels: usize, plan: &Plan) -> bool
     }
 }
 
-/// Does what a line of a trace asks for at a time in milliseconds, with so many steps, and hands the lines of the run to
-/// the sink. After the end of a run it does nothing.
+/// The wake, if the program runs and its wake comes before a time.
+fn next_wake(ms: u64, store: &Store) -> Option<u64>
+    ensures { result ≡ spec.wake_before ms (world_of store.now) }
+{
+    match (store.phase, store.wake) {
+        (Live::Running, Some(wake)) if wake < ms => Some(wake),
+        _ => None,
+    }
+}
+
+/// An instant at each wake before a time. Each wake lies after the one before it, so there are no more than
+/// milliseconds until that time.
+fn wake_up<S: Sink>(
+    ms: u64,
+    program: ProgramContext,
+    budget: u32,
+    store: &mut Store,
+    operands: &mut Operands,
+    sink: &mut S,
+) -> Result<(), Stop>
+    requires failures { S.failures sink.old < 2 ^ 64 - 1 }
+    requires room { room_of operands.old ≡ program.room }
+    requires runs { CanRunLoaded (loaded program) }
+    ensures does { Does (λ x. x) result (world_of store.new) (S.told sink.old) (S.told sink.new)
+        (spec.all_wakes (program_of (loaded program.entry)) budget ms (world_of store.old)) }
+    ensures room { room_of operands.new ≡ room_of operands.old }
+    ensures failures { S.failures sink.new
+        ≡ counted (stopped_by_sink result) (S.failures sink.old) }
+{
+    for _wake in store.time..ms {
+        match next_wake(ms, store) {
+            None => return Ok(()),
+            Some(wake) => {
+                store.time = wake;
+                match instant(program, budget, store, operands, sink) {
+                    Ok(()) => {}
+                    Err(stop) => return Err(stop),
+                }
+            }
+        }
+    }
+    Ok(())
+}
+
+/// An event at its time, unless the program has ended.
+fn happen<S: Sink>(
+    ms: u64,
+    event: &Event,
+    program: ProgramContext,
+    budget: u32,
+    store: &mut Store,
+    operands: &mut Operands,
+    sink: &mut S,
+) -> Result<(), Stop>
+    requires failures { S.failures sink.old < 2 ^ 64 - 1 }
+    requires room { room_of operands.old ≡ program.room }
+    requires runs { CanRunLoaded (loaded program) }
+    ensures does { Does (λ x. x) result (world_of store.new) (S.told sink.old) (S.told sink.new)
+        (spec.event_by (program_of (loaded program.entry)) budget ms event.now
+        (world_of store.old).phase (world_of store.old)) }
+    ensures room { room_of operands.new ≡ room_of operands.old }
+    ensures failures { S.failures sink.new
+        ≡ counted (stopped_by_sink result) (S.failures sink.old) }
+{
+    if store.phase == Live::Ended {
+        return Ok(());
+    }
+    store.time = ms;
+    apply(event, program, store);
+    instant(program, budget, store, operands, sink)
+}
+
+/// All wakes before the time of an event, and then the event.
+fn pass<S: Sink>(
+    ms: u64,
+    event: &Event,
+    program: ProgramContext,
+    budget: u32,
+    store: &mut Store,
+    operands: &mut Operands,
+    sink: &mut S,
+) -> Result<(), Stop>
+    requires failures { S.failures sink.old < 2 ^ 64 - 1 }
+    requires room { room_of operands.old ≡ program.room }
+    requires runs { CanRunLoaded (loaded program) }
+    ensures does { Does (λ x. x) result (world_of store.new) (S.told sink.old) (S.told sink.new)
+        (spec.passed (program_of (loaded program.entry)) budget ms event.now
+        (world_of store.old)) }
+    ensures room { room_of operands.new ≡ room_of operands.old }
+    ensures failures { S.failures sink.new
+        ≡ counted (stopped_by_sink result) (S.failures sink.old) }
+{
+    match wake_up(ms, program, budget, store, operands, sink) {
+        Ok(()) => happen(ms, event, program, budget, store, operands, sink),
+        Err(stop) => Err(stop),
+    }
+}
+
+/// Does what a line of a trace asks for at a time in milliseconds, with so many ticks for each instant, and hands the
+/// lines of the run to the sink. Before that it runs the program at each time before the line's at which a `delay` is
+/// over (SNL Reference, "delay"). After the end of a run it does nothing.
 ///
 /// After a fault, and where the sink fails, the run has ended, and what was written stands.
 pub fn take<S: Sink>(
@@ -69,9 +168,7 @@ pub fn take<S: Sink>(
     if store.phase == Live::Ended {
         return Ok(Live::Ended);
     }
-    store.time = ms;
-    apply(event, program, store);
-    match instant(program, budget, store, operands, sink) {
+    match pass(ms, event, program, budget, store, operands, sink) {
         Ok(()) => Ok(store.phase),
         Err(stop) => {
             store.phase = Live::Ended;

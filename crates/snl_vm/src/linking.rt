@@ -99,7 +99,8 @@ fn mark(but: Option<usize>, link: usize, homes: &[Homes], marks: &mut Vec<Marks>
     }
 }
 
-/// Numbers are new at a link: where it is monitored it is marked for all state sets that have its variable, but for one.
+/// Numbers are new at a link: where it is monitored it is marked for all state sets that have its variable, but for
+/// one.
 fn announce(but: Option<usize>, link: usize, tie: Tied, store: &mut Store)
     ensures { world_of store.new ≡ spec.marked but link tie (world_of store.old) }
 {
@@ -136,8 +137,8 @@ fn keep(set: usize, place: usize, tie: Tied, store: &mut Store)
     }
 }
 
-/// A state set puts the elements of a link that has no channel: they come to its buffer, its event flag is set, and where
-/// it is monitored it is marked for the other state sets.
+/// A state set puts the elements of a link that has no channel: they come to its buffer, its event flag is set, and
+/// where it is monitored it is marked for the other state sets.
 pub fn hand_over(set: usize, place: usize, link: usize, tie: Tied, store: &mut Store)
     ensures { world_of store.new ≡ spec.handed_over set place link tie (world_of store.old) }
 {

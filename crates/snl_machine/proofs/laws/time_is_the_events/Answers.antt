@@ -1,4 +1,4 @@
-use Rattle.snl_machine.proofs.Rounds.{time_is_the_events}
+use Rattle.snl_machine.proofs.Wakes.{time_is_the_events}
 use Rattle.snl_machine.proofs.laws.time_is_the_events.Goals as goal
 
 pub returns : goal.returns

@@ -1,4 +1,4 @@
-use Rattle.snl_machine.proofs.Rounds.{time_never_falls}
+use Rattle.snl_machine.proofs.Wakes.{time_never_falls}
 use Rattle.snl_machine.proofs.laws.time_never_falls.Goals as goal
 
 pub returns : goal.returns

@@ -1,0 +1,5 @@
+use Rattle.snl_machine.proofs.Wakes.{time_is_the_events_alone}
+use Rattle.snl_machine.proofs.laws.time_is_the_events_alone.Goals as goal
+
+pub returns : goal.returns
+returns c = time_is_the_events_alone

@@ -1,0 +1,19 @@
+use Rattle.snl_output.proofs.Doing.{does-then, stopped-then}
+use Rattle.snl_vm.specs.Views.{world_of}
+use Rattle.snl_schedule.specs.Event.{all_wakes, event_by}
+use Rattle.snl_schedule.specs.Loaded.{loaded, program_of}
+use Rattle.snl_schedule.proofs.taking.pass.Goals as goal
+
+pub returns-in-Ok-clause-does : goal.returns-in-Ok-clause-does
+returns-in-Ok-clause-does g c =
+    let p = program_of (loaded c.args.program) in
+    let event = c.args.event.now in
+    does-then (λ x. x) c.happen.result (all_wakes p c.args.budget c.args.ms (world_of c.args.store.now)) (λ _ u. event_by p c.args.budget c.args.ms event u.phase u) _ _ _ _ _ _
+    c.in-Ok.ensures.does c.happen.ensures.does
+
+pub returns-in-Err-clause-does : goal.returns-in-Err-clause-does
+returns-in-Err-clause-does g c =
+    let p = program_of (loaded c.args.program) in
+    let event = c.args.event.now in
+    stopped-then (λ x. x) (λ x. x) c.in-Err.stop (all_wakes p c.args.budget c.args.ms (world_of c.args.store.now)) (λ _ u. event_by p c.args.budget c.args.ms event u.phase u) _ _ _
+    c.in-Err.ensures.does
