@@ -1,0 +1,34 @@
+#!/usr/bin/env bash
+# How fast a program wakes: a trace of two lines, and a wake at each millisecond between them, each with one transition and its
+# line; beside a script of python3 that writes the same lines, in the same run.
+#
+#   bench/wakes.sh [WAKES]         10,000,000 wakes where none are given
+. "$(dirname "$0")/timing.sh"
+wakes=${1:-10000000}
+
+cat > "$work/p.st" <<'PROGRAM'
+program wakes
+option +s;
+ss s { state a { when (delay(0.001)) {} state a } }
+PROGRAM
+cat > "$work/p.py" <<PROGRAM
+import sys
+write = sys.stdout.write
+write("0 start wakes\n")
+for time in range(1, $wakes + 1):
+    write(f"{time} go s a a\n")
+PROGRAM
+printf '0 tick\n%s tick\n' "$wakes" > "$work/wakes.trace"
+
+run=$(best "$work/wakes.trace" "$program" "$work/p.st")
+mv "$work/out" "$work/ours"
+start=$(best "$work/empty" "$program" "$work/p.st")
+python=$(best "$work/empty" python3 "$work/p.py")
+cmp "$work/out" "$work/ours"
+empty=$(best "$work/empty" python3 "$work/empty")
+awk -v wakes="$wakes" -v run="$run" -v start="$start" -v python="$python" -v empty="$empty" 'BEGIN {
+    ours = run - start
+    theirs = python - empty
+    printf "%d wakes, %.3f s, %.2f million a second; python3 %.3f s, %.1f times as long\n",
+        wakes, ours, wakes / ours / 1e6, theirs, theirs / ours
+}'
