@@ -29,30 +29,27 @@ abbrev pub is_one_channel : Option ChannelsTree → Bool
 is_one_channel (Some c) = is_one_string c.names
 is_one_channel None = true
 
--- `TYPE NAME, NAME[SIZE], ..;`, `assign NAME to STRING;`, `assign NAME;`, `monitor NAME;`, `sync NAME to FLAG;` and `evflag FLAG, ..;`
+-- `TYPE NAME, NAME[SIZE], ..;`, `assign NAME to STRING;`, `assign NAME;`, `monitor NAME;`, `sync NAME to FLAG;`,
+-- `evflag FLAG, ..;` and `option +NAME;`. Which options are in force is asked elsewhere.
 abbrev pub does_definition_run : DefinitionTree → Bool
 does_definition_run (declaration d) = true
 does_definition_run (assign a) = is_missing a.place.subscript && is_one_channel a.channels
 does_definition_run (monitor p) = is_missing p.subscript
 does_definition_run (sync y) = is_missing y.place.subscript
 does_definition_run (event_flags names) = true
+does_definition_run (setting o) = true
 does_definition_run _ = false
-
--- Outside of state sets also an option; those in force are asked for elsewhere.
-abbrev pub does_part_run : DefinitionTree → Bool
-does_part_run (setting o) = true
-does_part_run d = does_definition_run d
 
 -- ---- state sets
 
--- `state NAME { DEFINITION .. CLAUSE .. }`, without entry and exit blocks. Its clauses may be of any form.
+-- `state NAME { DEFINITION .. CLAUSE .. }`, with entry and exit blocks or without. Its clauses and blocks may be of any form.
 abbrev pub does_state_run : StateTree → Bool
-does_state_run s = (list_all does_definition_run s.definitions && is_missing s.entry) && is_missing s.exit
+does_state_run s = list_all does_definition_run s.definitions
 
 -- `ss NAME { DEFINITION .. STATE .. }`
 abbrev pub does_state_set_run : StateSetTree → Bool
 does_state_set_run s = list_all does_definition_run s.definitions && list_all does_state_run s.states
 
--- A program of such state sets, without entry and exit blocks.
+-- A program of such definitions and state sets, with entry and exit blocks or without.
 abbrev pub has_forms_that_run : ProgramTree → Bool
-has_forms_that_run p = ((list_all does_part_run p.definitions && is_missing p.entry) && list_all does_state_set_run p.state_sets) && is_missing p.exit
+has_forms_that_run p = list_all does_definition_run p.definitions && list_all does_state_set_run p.state_sets

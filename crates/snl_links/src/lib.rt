@@ -11,4 +11,4 @@ mod texts;
 mod ties;
 
 pub use links::{Link, Macros, links_of};
-pub use tables::tables_of;
+pub use tables::{sign_in_force, tables_of};

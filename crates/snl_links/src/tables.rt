@@ -133,8 +133,9 @@ fn sign_by(letter: u8, definition: &Def) -> Option<bool>
     }
 }
 
-/// The sign of a letter that is in force among definitions (SNL Reference, "State Options").
-fn sign_in_force(letter: u8, definitions: &[Def]) -> bool
+/// The sign of a letter that is in force among the definitions of a state, `true` for `+`: that of the last option with the
+/// letter, and `+` where none has it (SNL Reference, "State Options").
+pub fn sign_in_force(letter: u8, definitions: &[Def]) -> bool
     ensures { result ≡ spec.sign_in_force letter (map definition_view definitions.now) }
 {
     let mut on = true;

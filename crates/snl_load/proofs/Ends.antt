@@ -5,7 +5,8 @@ use Rattle.snl_meaning.specs.Ran.{Ran, Gives, Faults, then_do}
 use Rattle.snl_meaning.specs.Endings.{IsOver}
 use Rattle.snl_emit.specs.Right.{ends_with, leads_to}
 use Rattle.snl_vm.specs.Running.{LeavesValue, value_left, state_left}
-use Rattle.snl_load.specs.Meaning.{left_for}
+use Rattle.snl_schedule.specs.Plans.{ended}
+use Rattle.snl_load.specs.Meaning.{left_for, finished}
 
 -- text with nothing behind it, twice
 nothing_behind : (text : List ℕ) → (text ++ []) ++ [] ≡ text
@@ -28,6 +29,18 @@ state-left (Gives Broken w text) = ap (λ t. Gives None w t) (append-nil (text +
 state-left (Gives Continued w text) = ap (λ t. Gives None w t) (append-nil (text ++ []))
 state-left (Gives (Left state) w text) = ap (λ t. Gives (Some state) w t) (append-nil (text ++ []))
 state-left (Faults f line w text) = refl
+
+-- text with nothing behind it, three times
+nothing_more : (text : List ℕ) → ((text ++ []) ++ []) ++ [] ≡ text ++ []
+nothing_more text = append-nil ((text ++ []) ++ []) ∙ append-nil (text ++ [])
+
+-- where an entry or an exit block leads does not count
+pub block-ended : (r : Ran Way) → then_do (then_do (then_do r leads_to) state_left) ended ≡ then_do r finished
+block-ended (Gives Done w text) = ap (λ t. Gives tt w t) (nothing_more text)
+block-ended (Gives Broken w text) = ap (λ t. Gives tt w t) (nothing_more text)
+block-ended (Gives Continued w text) = ap (λ t. Gives tt w t) (nothing_more text)
+block-ended (Gives (Left state) w text) = ap (λ t. Gives tt w t) (nothing_more text)
+block-ended (Faults f line w text) = refl
 
 -- a block's run comes to its end
 pub is-over : (r : Ran Way) → IsOver (then_do r leads_to)

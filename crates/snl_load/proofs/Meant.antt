@@ -1,22 +1,29 @@
 -- The state sets of a program, run by their plans.
-use Rattle.std.proofs.Common.{◌≡◌, ◌∙◌, ◌≤◌, ◌+◌, ℕ, zero, suc, List, [], ◌∷◌, Option, Some, refl, ap, sym, subst, arith, map, slice_get, option_and_then}
+use Rattle.std.proofs.Common.{◌≡◌, ◌∙◌, ◌≤◌, ◌+◌, ℕ, zero, suc, List, [], ◌∷◌, Option, Some, refl, ap, sym, subst, arith, map, slice_get, option_map, option_and_then}
 use Rattle.snl_syntax.specs.Programs.{StateTree, StateSetTree, ProgramTree}
 use Rattle.snl_code.specs.declared.code.Code.{Code}
+use Rattle.snl_syntax.specs.Statements.{BlockTree}
 use Rattle.snl_code.specs.declared.starts.Piece.{Piece}
+use Rattle.snl_code.specs.declared.starts.Piece.TheVariants.{ProgramEntry, ProgramExit}
 use Rattle.snl_code.specs.Depths.{program_depth}
 use Rattle.snl_code.specs.Heres.{here_in, name_by, states_by}
-use Rattle.snl_code.specs.Pieces.{IsPlaced, piece_of, state_at}
+use Rattle.snl_code.specs.Pieces.{IsPlaced, PieceTree, Action, piece_of, state_at}
 use Rattle.snl_code.specs.Starts.{table_of, start_in}
+use Rattle.snl_code.proofs.Deepest.{depth_is_enough}
 use Rattle.snl_links.specs.Links.{Link}
 use Rattle.snl_meaning.specs.declared.instrs.Instr.{Instr}
+use Rattle.snl_emit.specs.BlockCode.{block_depth}
 use Rattle.snl_meaning.specs.Names.{formats_of}
 use Rattle.snl_meaning.specs.Run.{PieceContext, context_of}
+use Rattle.snl_meaning.specs.World.{World}
 use Rattle.snl_schedule.specs.declared.plans.SetPlan.{SetPlan}
-use Rattle.snl_schedule.specs.Plans.{set_of, state_of, CanRunSet}
-use Rattle.snl_schedule.specs.Loaded.{Loaded, context_in, sets_from}
-use Rattle.snl_load.specs.Meaning.{state_meaning, set_meaning, set_meanings}
+use Rattle.snl_schedule.specs.Plans.{set_of, state_of, block_at, CanDo, CanRunSet}
+use Rattle.snl_schedule.specs.Instant.{first_name}
+use Rattle.snl_schedule.specs.Loaded.{Loaded, context_in, own_context, sets_from}
+use Rattle.snl_load.specs.Meaning.{block_meaning, state_meaning, set_meaning, set_meanings}
 use Rattle.snl_load.specs.Plans.{PlainPlan, PlainSet, set_view, state_view, state_plans, set_plan, set_plans}
 use Rattle.snl_load.specs.Right.{IsLoadedOf, PlansAreRight}
+use Rattle.snl_load.proofs.Pieces.{outer-means}
 use Rattle.snl_load.proofs.Sets.{states-mean, states-run}
 
 module _ (p : ProgramTree) (ls : List Link) (c : Code) (t : Loaded) (is : IsLoadedOf p ls c t) where
@@ -65,6 +72,24 @@ module _ (p : ProgramTree) (ls : List Link) (c : Code) (t : Loaded) (is : IsLoad
       subst (λ (s : PieceContext). CanRunSet s t.code plan.states.items) (sym (contexts k g plan at one))
       (states-run p t.code (table_of c) t.room k pieces enough 0 g.states plan.states.items (stands k g at) (states-planned k g plan at one))
 
+  -- the program's own blocks run with the copy and the name of the first state set
+  own-contexts : first_name (sets_from t 0 t.plan.sets.items) ≡ name_by (slice_get p.state_sets 0) → own_context t ≡ context_of (here_in p 0) t.room
+  own-contexts names =
+      let texts : t.formats ≡ formats_of (here_in p 0) = is.formats ∙ is.code_is.texts in
+      λ j. record { set = 0; name = names j; formats = texts j; room = t.room }
+
+  -- one of them does what its code does, and comes to its end
+  own : own_context t ≡ context_of (here_in p 0) t.room → (name : Piece) (start : Option ℕ) (b : Option BlockTree) → piece_of p name ≡ option_map (Action 0) b →
+      start ≡ start_in (table_of c) name → ((w : World) → block_at (own_context t) t.code start w ≡ block_meaning (here_in p 0) b w) × CanDo (own_context t) t.code start
+  own same name start b piece at =
+      let there = subst (λ (o : Option PieceTree). IsPlaced p t.code o (start_in (table_of c) name)) piece (pieces name) in
+      let fits : (x : BlockTree) → b ≡ Some x → block_depth x ≤ t.room =
+      λ x some. omega (arith, enough, depth_is_enough p name (Action 0 x) (piece ∙ ap (option_map (Action 0)) some)) in
+      let means = outer-means p t.code t.room 0 b (start_in (table_of c) name) there fits in (
+        λ w. ap (λ (s : PieceContext). block_at s t.code start w) same ∙ ap (λ (o : Option ℕ). block_at (context_of (here_in p 0) t.room) t.code o w) at ∙ means.0 w,
+        subst (λ (s : PieceContext). CanDo s t.code start) (sym same) (subst (λ (o : Option ℕ). CanDo (context_of (here_in p 0) t.room) t.code o) (sym at) means.1),
+      )
+
   -- state sets that stand in the program from a number on
   abbrev pub StandFrom : ℕ → List StateSetTree → Type 0
   StandFrom k gs = (j n : ℕ) (g : StateSetTree) → n ≡ k + j → slice_get gs j ≡ Some g → slice_get p.state_sets n ≡ Some g
@@ -99,6 +124,14 @@ module _ (p : ProgramTree) (ls : List Link) (c : Code) (t : Loaded) (is : IsLoad
       let rest : map set_view plans ≡ set_plans (table_of c) (k + 1) gs = cc in
       sets-run (k + 1) gs plans (next k g gs stand) rest i n plan (omega (arith, at)) there
 
+-- the first state set of a program has the name that the code knows
+first-name : (p : ProgramTree) → first_name (set_meanings p 0 p.state_sets) ≡ name_by (slice_get p.state_sets 0)
+first-name p = by p.state_sets
+  where
+    by : (gs : List StateSetTree) → first_name (set_meanings p 0 gs) ≡ name_by (slice_get gs 0)
+    by [] = refl
+    by (g ∷ gs) = refl
+
 -- all state sets stand in the program
 all-stand : (p : ProgramTree) (j n : ℕ) (g : StateSetTree) → n ≡ 0 + j → slice_get p.state_sets j ≡ Some g → slice_get p.state_sets n ≡ Some g
 all-stand p j n g is there = let same : n ≡ j = omega (arith, is) in ap (λ (i : ℕ). slice_get p.state_sets i) same ∙ there
@@ -110,7 +143,11 @@ plans_are_right p ls c t is =
     let links = ap (λ (v : PlainPlan). v.links) is.plan in
     let plans = ap (λ (v : PlainPlan). v.sets) is.plan in
     let all = t.plan.sets.items in
-    let sets = sets-mean p ls c t is 0 p.state_sets all (all-stand p) plans in (
-      λ j. record { name = names j; links = links j; sets = sets j },
-      λ k s there. sets-run p ls c t is 0 p.state_sets all (all-stand p) plans k k s (omega arith) there,
+    let sets = sets-mean p ls c t is 0 p.state_sets all (all-stand p) plans in
+    let first : first_name (sets_from t 0 all) ≡ name_by (slice_get p.state_sets 0) = ap first_name sets ∙ first-name p in
+    let context : own_context t ≡ context_of (here_in p 0) t.room = own-contexts p ls c t is first in
+    let entry = own p ls c t is context ProgramEntry t.plan.blocks.entry p.entry refl (ap (λ (v : PlainPlan). v.blocks.entry) is.plan) in
+    let exit = own p ls c t is context ProgramExit t.plan.blocks.exit p.exit refl (ap (λ (v : PlainPlan). v.blocks.exit) is.plan) in (
+      λ j. record { name = names j; links = links j; entry = λ w. entry.0 w j; sets = sets j; exit = λ w. exit.0 w j },
+      record { entry = entry.1; sets = λ k s there. sets-run p ls c t is 0 p.state_sets all (all-stand p) plans k k s (omega arith) there; exit = exit.1 },
     )

@@ -16,9 +16,9 @@ use Rattle.snl_meaning.specs.Run.{PieceContext, Exit, context_of, run_of}
 use Rattle.snl_meaning.specs.Value.{value_of}
 use Rattle.snl_meaning.specs.World.{World}
 use Rattle.snl_vm.specs.Running.{LeavesValue, value_left, left_at, state_left}
-use Rattle.snl_schedule.specs.Plans.{held_at, CanTest}
-use Rattle.snl_load.specs.Meaning.{left_for}
-use Rattle.snl_load.proofs.Ends.{value-left, leaves-value, state-left, is-over}
+use Rattle.snl_schedule.specs.Plans.{held_at, CanTest, block_at, CanDo, ended}
+use Rattle.snl_load.specs.Meaning.{left_for, block_meaning}
+use Rattle.snl_load.proofs.Ends.{value-left, leaves-value, state-left, block-ended, is-over}
 
 module _ (p : ProgramTree) (code : List Instr) (room set : ℕ) where
   abbrev pub context : PieceContext
@@ -45,5 +45,19 @@ module _ (p : ProgramTree) (code : List Instr) (room set : ℕ) where
       let right = placed room enough in
       let is : (w : World) → run_of context code start w ≡ then_do (block_effect (here_in p set) b w) leads_to = right.is in (
         λ w. ap (λ r. then_do r state_left) (is w) ∙ state-left (block_effect (here_in p set) b w),
+        λ w. subst (λ (r : Ran Exit). IsOver r) (sym (is w)) (is-over (block_effect (here_in p set) b w)),
+      )
+
+  -- an entry or an exit block does what its code does, and that comes to its end
+  pub outer-means : (b : Option BlockTree) (start : Option ℕ) → IsPlaced p code (option_map (Action set) b) start →
+      ((x : BlockTree) → b ≡ Some x → block_depth x ≤ room) →
+      ((w : World) → block_at context code start w ≡ block_meaning (here_in p set) b w) × CanDo context code start
+  outer-means None None placed enough = (λ w. refl, tt)
+  outer-means None (Some start) placed enough = absurd placed
+  outer-means (Some b) None placed enough = absurd placed
+  outer-means (Some b) (Some start) placed enough =
+      let right = placed room (enough b refl) in
+      let is : (w : World) → run_of context code start w ≡ then_do (block_effect (here_in p set) b w) leads_to = right.is in (
+        λ w. ap (λ r. then_do (then_do r state_left) ended) (is w) ∙ block-ended (block_effect (here_in p set) b w),
         λ w. subst (λ (r : Ran Exit). IsOver r) (sym (is w)) (is-over (block_effect (here_in p set) b w)),
       )

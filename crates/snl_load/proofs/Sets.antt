@@ -1,19 +1,24 @@
 -- The states of a state set, run by their plans.
-use Rattle.std.proofs.Common.{◌≡◌, ◌∙◌, ◌≤◌, ◌+◌, ℕ, zero, suc, List, [], ◌∷◌, Some, refl, ap, sym, subst, arith, map, slice_get, option_and_then}
+use Rattle.std.proofs.Common.{◌≡◌, ◌∙◌, ◌≤◌, ◌+◌, ℕ, zero, suc, List, [], ◌∷◌, Option, Some, refl, ap, sym, subst, arith, map, slice_get, option_map, option_and_then}
 use Rattle.snl_syntax.specs.Programs.{ClauseTree, StateTree, ProgramTree}
+use Rattle.snl_syntax.specs.Statements.{BlockTree}
 use Rattle.snl_code.specs.declared.starts.Piece.{Piece}
+use Rattle.snl_code.specs.declared.starts.Piece.TheVariants.{Entry, Exit}
 use Rattle.snl_code.specs.Depths.{program_depth}
 use Rattle.snl_code.specs.Heres.{here_in}
-use Rattle.snl_code.specs.Pieces.{IsPlaced, piece_of, clause_at, state_at}
+use Rattle.snl_code.specs.Pieces.{IsPlaced, PieceTree, Action, piece_of, clause_at, state_at}
 use Rattle.snl_code.specs.Starts.{ProgramTable, start_in}
+use Rattle.snl_code.proofs.Deepest.{depth_is_enough}
 use Rattle.snl_meaning.specs.declared.instrs.Instr.{Instr}
 use Rattle.snl_meaning.specs.Run.{PieceContext, context_of}
+use Rattle.snl_meaning.specs.World.{World}
 use Rattle.snl_schedule.specs.declared.plans.ClausePlan.{ClausePlan}
 use Rattle.snl_schedule.specs.declared.plans.StatePlan.{StatePlan}
-use Rattle.snl_schedule.specs.Plans.{clause_of, state_of, CanRunAll, CanRunSet}
-use Rattle.snl_load.specs.Meaning.{state_meaning}
+use Rattle.snl_schedule.specs.Plans.{clause_of, state_of, block_at, CanDo, CanRunAll, CanRunState, CanRunSet}
+use Rattle.snl_load.specs.Meaning.{block_meaning, state_meaning}
 use Rattle.snl_load.specs.Plans.{PlainState, state_view, state_plan, state_plans}
 use Rattle.snl_load.proofs.Clauses.{clauses-mean, clauses-run}
+use Rattle.snl_load.proofs.Pieces.{outer-means}
 
 module _ (p : ProgramTree) (code : List Instr) (t : ProgramTable) (room set : ℕ) (placed : (name : Piece) → IsPlaced p code (piece_of p name) (start_in t name))
     (enough : program_depth p ≤ room) where
@@ -26,20 +31,44 @@ module _ (p : ProgramTree) (code : List Instr) (t : ProgramTable) (room set : �
       let same : n ≡ j = omega (arith, is) in
       ap (λ (i : ℕ). clause_at p set k i) same ∙ ap (option_and_then (λ d. slice_get d.clauses j)) at ∙ there
 
+  -- an entry or an exit block of a state, where the code has its piece
+  outer : (name : Piece) (b : Option BlockTree) → piece_of p name ≡ option_map (Action set) b →
+      ((w : World) → block_at context code (start_in t name) w ≡ block_meaning (here_in p set) b w) × CanDo context code (start_in t name)
+  outer name b is =
+      outer-means p code room set b (start_in t name) (subst (λ (o : Option PieceTree). IsPlaced p code o (start_in t name)) is (placed name))
+      (λ x there. omega (arith, enough, depth_is_enough p name (Action set x) (is ∙ ap (option_map (Action set)) there)))
+
+  -- those of a state
+  entry : (k : ℕ) (s : StateTree) → state_at p set k ≡ Some s →
+      ((w : World) → block_at context code (start_in t (Entry set k)) w ≡ block_meaning (here_in p set) s.entry w) × CanDo context code (start_in t (Entry set k))
+  entry k s at = outer (Entry set k) s.entry (ap (option_and_then (λ d. option_map (Action set) d.entry)) at)
+
+  exit : (k : ℕ) (s : StateTree) → state_at p set k ≡ Some s →
+      ((w : World) → block_at context code (start_in t (Exit set k)) w ≡ block_meaning (here_in p set) s.exit w) × CanDo context code (start_in t (Exit set k))
+  exit k s at = outer (Exit set k) s.exit (ap (option_and_then (λ d. option_map (Action set) d.exit)) at)
+
   -- a state means what its plan runs
   state-means : (k : ℕ) (s : StateTree) (plan : StatePlan) → state_at p set k ≡ Some s → state_view plan ≡ state_plan (here_in p set).states t set k s →
       state_of context code plan ≡ state_meaning (here_in p set) s
   state-means k s plan at is =
       let names = ap (λ (v : PlainState). v.name) is in
+      let enters : (w : World) → block_at context code plan.blocks.entry w ≡ block_meaning (here_in p set) s.entry w =
+      λ w. ap (λ (v : PlainState). block_at context code v.blocks.entry w) is ∙ (entry k s at).0 w in
       let clauses = ap (λ (v : PlainState). map (clause_of context code) v.clauses) is ∙ clauses-mean p code t room set placed enough k 0 s.clauses (stands k s at) in
-      λ j. record { name = names j; clauses = clauses j }
+      let leaves : (w : World) → block_at context code plan.blocks.exit w ≡ block_meaning (here_in p set) s.exit w =
+      λ w. ap (λ (v : PlainState). block_at context code v.blocks.exit w) is ∙ (exit k s at).0 w in
+      let again = ap (λ (v : PlainState). v.again) is in
+      λ j. record { name = names j; entry = λ w. enters w j; clauses = clauses j; exit = λ w. leaves w j; again = again j }
 
-  -- and its clauses can run
+  -- and its pieces can run
   state-runs : (k : ℕ) (s : StateTree) (plan : StatePlan) → state_at p set k ≡ Some s → state_view plan ≡ state_plan (here_in p set).states t set k s →
-      CanRunAll context code plan.clauses.items
-  state-runs k s plan at is =
-      subst (λ (cs : List ClausePlan). CanRunAll context code cs) (sym (ap (λ (v : PlainState). v.clauses) is))
-      (clauses-run p code t room set placed enough k 0 s.clauses (stands k s at))
+      CanRunState context code plan
+  state-runs k s plan at is = record {
+    entry = subst (λ (start : Option ℕ). CanDo context code start) (sym (ap (λ (v : PlainState). v.blocks.entry) is)) (entry k s at).1;
+    clauses = subst (λ (cs : List ClausePlan). CanRunAll context code cs) (sym (ap (λ (v : PlainState). v.clauses) is))
+        (clauses-run p code t room set placed enough k 0 s.clauses (stands k s at));
+    exit = subst (λ (start : Option ℕ). CanDo context code start) (sym (ap (λ (v : PlainState). v.blocks.exit) is)) (exit k s at).1;
+  }
 
   -- states that stand in the state set from a number on
   abbrev pub StandFrom : ℕ → List StateTree → Type 0
@@ -68,7 +97,7 @@ module _ (p : ProgramTree) (code : List Instr) (t : ProgramTable) (room set : �
   states-run k (s ∷ ss) (first ∷ plans) stand is zero plan there =
       let same : first ≡ plan = cc in
       let one : state_view first ≡ state_plan (here_in p set).states t set k s = cc in
-      subst (λ (x : StatePlan). CanRunAll context code x.clauses.items) same (state-runs k s first (stand 0 k s (omega arith) refl) one)
+      subst (λ (x : StatePlan). CanRunState context code x) same (state-runs k s first (stand 0 k s (omega arith) refl) one)
   states-run k (s ∷ ss) (first ∷ plans) stand is (suc i) plan there =
       let rest : map state_view plans ≡ state_plans (here_in p set).states t set (k + 1) ss = cc in
       states-run (k + 1) ss plans (next k s ss stand) rest i plan there

@@ -84,7 +84,7 @@ meant = program_meaning doubling (links doubling [])
 
 -- Its world once both channels are connected.
 abbrev pub ready : World
-ready = connected 1 (connected 0 (first_world_of doubling (links doubling [])))
+ready = connected 1 true (connected 0 true (first_world_of doubling (links doubling [])))
 
 -- The world that is left.
 abbrev pub world_left : {A : Type 0} → Ran A → World

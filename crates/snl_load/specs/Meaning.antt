@@ -1,14 +1,18 @@
 -- What a program means: its clauses by the meaning of their conditions and blocks on the tree.
-use Rattle.std.specs.Prelude.{ℕ, ◌+◌, List, [], ◌∷◌, map, Option, None, Some}
+use Rattle.std.specs.Prelude.{ℕ, ◌+◌, not, List, [], ◌∷◌, map, Option, None, Some}
 use Rattle.snl_text.specs.declared.tokens.Token.{Token}
+use Rattle.snl_syntax.specs.Definitions.{DefinitionTree}
 use Rattle.snl_syntax.specs.Programs.{TargetTree, to_state, to_exit, ClauseTree, StateTree, StateSetTree, ProgramTree}
+use Rattle.snl_syntax.specs.Statements.{BlockTree}
 use Rattle.snl_code.specs.Heres.{here_in}
 use Rattle.snl_links.specs.Links.{Link}
+use Rattle.snl_links.specs.Tables.{sign_in_force}
 use Rattle.snl_meaning.specs.Effect.{Way, Left, held_by, block_effect}
 use Rattle.snl_meaning.specs.Names.{Here, or_first}
 use Rattle.snl_resolve.specs.Numbered.{number_of}
 use Rattle.snl_meaning.specs.Ran.{Ran, Gives, then_do}
 use Rattle.snl_meaning.specs.World.{World}
+use Rattle.snl_schedule.specs.declared.plans.Again.{Again}
 use Rattle.snl_schedule.specs.declared.plans.Destination.{Destination}
 use Rattle.snl_schedule.specs.declared.plans.Destination.TheVariants.{State, Exit}
 use Rattle.snl_schedule.specs.Instant.{Program}
@@ -19,6 +23,20 @@ use Rattle.snl_load.specs.Places.{ties_in}
 abbrev pub left_for : Way → World → Ran (Option ℕ)
 left_for (Left state) w = Gives (Some state) w []
 left_for _ w = Gives None w []
+
+-- An entry or an exit block is over: where it leads does not count.
+abbrev pub finished : Way → World → Ran (Unit {0})
+finished way w = Gives tt w []
+
+-- An entry or an exit block. A missing one does nothing.
+abbrev pub block_meaning : Here → Option BlockTree → World → Ran (Unit {0})
+block_meaning h None w = turn.nothing w
+block_meaning h (Some b) w = then_do (block_effect h b w) finished
+
+-- What a state does also where a transition leads from it to itself, by the letters `t`, `e` and `x` of its options: with
+-- `+t` it sets the time of its entry, with `-e` it does its entry block, with `-x` its exit block.
+abbrev pub again_of : List DefinitionTree → Again
+again_of defs = record { time = sign_in_force 116 defs; entry = not (sign_in_force 101 defs); exit = not (sign_in_force 120 defs) }
 
 -- Where a clause leads, by the names of the states.
 abbrev pub target_of : List Token → TargetTree → Destination
@@ -36,7 +54,13 @@ clause_meaning h c = record {
 
 -- A state.
 abbrev pub state_meaning : Here → StateTree → turn.State
-state_meaning h s = record { name = s.name.text.now; clauses = map (clause_meaning h) s.clauses }
+state_meaning h s = record {
+  name = s.name.text.now;
+  entry = block_meaning h s.entry;
+  clauses = map (clause_meaning h) s.clauses;
+  exit = block_meaning h s.exit;
+  again = again_of s.definitions;
+}
 
 -- A state set of this number.
 abbrev pub set_meaning : ProgramTree → ℕ → StateSetTree → turn.StateSet
@@ -47,6 +71,12 @@ abbrev pub set_meanings : ProgramTree → ℕ → List StateSetTree → List tur
 set_meanings p k [] = []
 set_meanings p k (g ∷ gs) = set_meaning p k g ∷ set_meanings p (k + 1) gs
 
--- A program with these links.
+-- A program with these links. Its own blocks run on the copy of the first state set.
 abbrev pub program_meaning : ProgramTree → List Link → Program
-program_meaning p ls = record { name = p.name.text.now; links = ties_in p ls; sets = set_meanings p 0 p.state_sets }
+program_meaning p ls = record {
+  name = p.name.text.now;
+  links = ties_in p ls;
+  entry = block_meaning (here_in p 0) p.entry;
+  sets = set_meanings p 0 p.state_sets;
+  exit = block_meaning (here_in p 0) p.exit;
+}

@@ -2,15 +2,17 @@
 use Rattle.std.specs.Prelude.{◌+◌, ℕ, List, [], ◌∷◌, map, unwrap_or}
 use Rattle.snl_text.specs.declared.tokens.Token.{Token}
 use Rattle.snl_syntax.specs.Programs.{ClauseTree, StateTree, StateSetTree, ProgramTree}
-use Rattle.snl_code.specs.declared.starts.Piece.TheVariants.{Condition, Block}
+use Rattle.snl_code.specs.declared.starts.Piece.TheVariants.{ProgramEntry, ProgramExit, Entry, Exit, Condition, Block}
 use Rattle.snl_code.specs.Starts.{ProgramTable, start_in}
 use Rattle.snl_links.specs.Links.{Link}
+use Rattle.snl_schedule.specs.declared.plans.Again.{Again}
+use Rattle.snl_schedule.specs.declared.plans.Blocks.{Blocks}
 use Rattle.snl_schedule.specs.declared.plans.ClausePlan.{ClausePlan}
 use Rattle.snl_meaning.specs.declared.ties.Tied.{Tied}
 use Rattle.snl_schedule.specs.declared.plans.Plan.{Plan}
 use Rattle.snl_schedule.specs.declared.plans.SetPlan.{SetPlan}
 use Rattle.snl_schedule.specs.declared.plans.StatePlan.{StatePlan}
-use Rattle.snl_load.specs.Meaning.{target_of}
+use Rattle.snl_load.specs.Meaning.{again_of, target_of}
 use Rattle.snl_load.specs.Places.{ties_in}
 
 -- ---- plans without their vectors
@@ -18,7 +20,9 @@ use Rattle.snl_load.specs.Places.{ties_in}
 -- A state.
 pub record PlainState : Type 0 where
   pub name : List ℕ
+  pub blocks : Blocks
   pub clauses : List ClausePlan
+  pub again : Again
 
 -- A state set.
 pub record PlainSet : Type 0 where
@@ -29,11 +33,12 @@ pub record PlainSet : Type 0 where
 pub record PlainPlan : Type 0 where
   pub name : List ℕ
   pub links : List Tied
+  pub blocks : Blocks
   pub sets : List PlainSet
 
 -- What stands for a state,
 abbrev pub state_view : StatePlan → PlainState
-state_view s = record { name = s.name.items; clauses = s.clauses.items }
+state_view s = record { name = s.name.items; blocks = s.blocks; clauses = s.clauses.items; again = s.again }
 
 -- for a state set,
 abbrev pub set_view : SetPlan → PlainSet
@@ -41,7 +46,7 @@ set_view s = record { name = s.name.items; states = map state_view s.states.item
 
 -- and for a program.
 abbrev pub plan_view : Plan → PlainPlan
-plan_view p = record { name = p.name.items; links = p.links.items; sets = map set_view p.sets.items }
+plan_view p = record { name = p.name.items; links = p.links.items; blocks = p.blocks; sets = map set_view p.sets.items }
 
 -- ---- the plan of a program
 
@@ -60,9 +65,22 @@ abbrev pub clause_plans : List Token → ProgramTable → ℕ → ℕ → ℕ �
 clause_plans states t set state k [] = []
 clause_plans states t set state k (c ∷ cs) = clause_plan states t set state k c ∷ clause_plans states t set state (k + 1) cs
 
+-- Where the own blocks of a state begin in the code,
+abbrev pub state_blocks : ProgramTable → ℕ → ℕ → Blocks
+state_blocks t set state = record { entry = start_in t (Entry set state); exit = start_in t (Exit set state) }
+
+-- and those of the program.
+abbrev pub program_blocks : ProgramTable → Blocks
+program_blocks t = record { entry = start_in t ProgramEntry; exit = start_in t ProgramExit }
+
 -- The state of a number.
 abbrev pub state_plan : List Token → ProgramTable → ℕ → ℕ → StateTree → PlainState
-state_plan states t set state s = record { name = s.name.text.now; clauses = clause_plans states t set state 0 s.clauses }
+state_plan states t set state s = record {
+  name = s.name.text.now;
+  blocks = state_blocks t set state;
+  clauses = clause_plans states t set state 0 s.clauses;
+  again = again_of s.definitions;
+}
 
 -- States with numbers from k on.
 abbrev pub state_plans : List Token → ProgramTable → ℕ → ℕ → List StateTree → List PlainState
@@ -84,4 +102,4 @@ set_plans t k (g ∷ gs) = set_plan t k g ∷ set_plans t (k + 1) gs
 
 -- A program with these links, whose pieces begin so in its code.
 abbrev pub program_plan : ProgramTree → List Link → ProgramTable → PlainPlan
-program_plan p ls t = record { name = p.name.text.now; links = ties_in p ls; sets = set_plans t 0 p.state_sets }
+program_plan p ls t = record { name = p.name.text.now; links = ties_in p ls; blocks = program_blocks t; sets = set_plans t 0 p.state_sets }

@@ -1,6 +1,7 @@
 //! The plan of a program.
 
 ghost use Rattle.std.specs.Prelude.{◌≡◌, ◌+◌, map, slice_get, IfOk};
+ghost use Rattle.snl_syntax.specs.view.Definitions.{definition_view};
 ghost use Rattle.snl_syntax.specs.view.Programs.{clause_view, program_view, state_view, state_set_view};
 ghost use Rattle.snl_syntax.specs.view.Programs as view;
 ghost use Rattle.snl_code.specs.Heres.{here_in};
@@ -15,10 +16,10 @@ ghost use Rattle.snl_load.specs.Sets.{copies_of, names_in};
 use crate::links::ties_in;
 use indexmap::IndexSet;
 use snl_code::{Code, Piece, names_in};
-use snl_links::Link;
+use snl_links::{Link, sign_in_force};
 use snl_meaning::{Placed, number_in};
-use snl_schedule::{ClausePlan, Destination, Plan, SetPlan, StatePlan};
-use snl_syntax::{self as syntax, Clause, Program, State, StateSet};
+use snl_schedule::{Again, Blocks, ClausePlan, Destination, Plan, SetPlan, StatePlan};
+use snl_syntax::{self as syntax, Clause, Def, Program, State, StateSet};
 use snl_text::Token;
 use std::alloc::{AllocError, Global};
 
@@ -89,6 +90,37 @@ fn clause_plans(
     Ok(plans)
 }
 
+/// What a state does also where a transition leads from it to itself, by its options.
+fn again_of(definitions: &[Def]) -> Again
+    ensures { result ≡ meaning.again_of (map definition_view definitions.now) }
+{
+    Again {
+        time: sign_in_force(b't', definitions),
+        entry: !sign_in_force(b'e', definitions),
+        exit: !sign_in_force(b'x', definitions),
+    }
+}
+
+/// Where the own blocks of a state begin in the code.
+fn state_blocks(set: usize, state: usize, code: &Code) -> Blocks
+    ensures { result ≡ spec.state_blocks (table_of code.now) set state }
+{
+    Blocks {
+        entry: code.start(Piece::Entry { set, state }),
+        exit: code.start(Piece::Exit { set, state }),
+    }
+}
+
+/// Where those of the program begin.
+fn program_blocks(code: &Code) -> Blocks
+    ensures { result ≡ spec.program_blocks (table_of code.now) }
+{
+    Blocks {
+        entry: code.start(Piece::ProgramEntry),
+        exit: code.start(Piece::ProgramExit),
+    }
+}
+
 /// The plan of a state.
 fn state_plan(
     alloc: Global,
@@ -103,7 +135,12 @@ fn state_plan(
 {
     let name = Vec::from_slice(alloc, state.name.text)?;
     let clauses = clause_plans(alloc, state.clauses.as_slice(), set, number, states, code)?;
-    Ok(StatePlan { name, clauses })
+    Ok(StatePlan {
+        name,
+        blocks: state_blocks(set, number, code),
+        clauses,
+        again: again_of(state.definitions.as_slice()),
+    })
 }
 
 /// The plans of the states of a state set.
@@ -188,5 +225,5 @@ pub fn plan_of<'a>(
     let name = Vec::from_slice(alloc, program.name.text)?;
     let ties = ties_in(alloc, program, links, names, copies)?;
     let sets = set_plans(alloc, program.state_sets.as_slice(), code)?;
-    Plan::new(alloc, name, ties, sets)
+    Plan::new(alloc, name, ties, program_blocks(code), sets)
 }

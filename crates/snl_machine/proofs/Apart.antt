@@ -2,23 +2,23 @@
 use Rattle.std.proofs.Common.{◌≡◌, ◌∙◌, ◌+◌, refl, sym, ℕ, Bool, true, false, List, [], ◌∷◌, Option, None, Some, map, if◌then◌else◌}
 use Rattle.std.specs.Prelude.{slice_set, slice_index_or}
 use Rattle.std.proofs.lemmas.List.{get_or-set_other}
-use Rattle.snl_syntax.specs.Programs.{ClauseTree, StateTree, StateSetTree, ProgramTree}
+use Rattle.snl_syntax.specs.Programs.{StateSetTree, ProgramTree}
 use Rattle.snl_code.specs.Heres.{here_in}
 use Rattle.snl_meaning.specs.declared.ties.Tied.{Tied}
-use Rattle.snl_meaning.specs.Effect.{Way, Done, Broken, Continued, Left, block_effect}
 use Rattle.snl_meaning.specs.Keeping.{IsKept, PiecesKeep, world_after}
 use Rattle.snl_meaning.specs.Links.{home_of}
 use Rattle.snl_meaning.specs.Ran.{Ran, Gives, Faults, also, then_do}
 use Rattle.snl_meaning.specs.World.{SetMemory, World, no_copy, copy_of}
 use Rattle.snl_meaning.proofs.Keeping.{pieces-keep}
 use Rattle.snl_meaning.proofs.Ticks.{Any, any-may}
-use Rattle.snl_load.specs.Meaning.{left_for, clause_meaning, state_meaning, set_meaning}
-use Rattle.snl_schedule.specs.declared.turns.Turned.{Turned}
-use Rattle.snl_schedule.specs.declared.turns.Turned.TheVariants.{Stayed, Moved, Exited}
+use Rattle.snl_load.specs.Meaning.{set_meaning}
+use Rattle.snl_schedule.specs.declared.transitions.Turned.{Turned}
+use Rattle.snl_schedule.specs.declared.transitions.Turned.TheVariants.{Stayed, Moved, Exited}
 use Rattle.snl_schedule.specs.Refresh.{is_marked, with_mark, copied_to, refreshed_link, refreshed_from, refreshed}
 use Rattle.snl_schedule.specs.Turn.{turn_of}
 use Rattle.snl_machine.specs.Laws.{TurnsStayApart}
-use Rattle.snl_machine.proofs.Turning.{ClausesKeep, StatesKeep, Turns, IsSteadyOn, turn-keeps}
+use Rattle.snl_machine.proofs.Parts.{states-keep}
+use Rattle.snl_machine.proofs.Turning.{Turns, IsSteadyOn, turn-keeps}
 
 module _ (p : ProgramTree) (set other : ℕ) (apart : set ≡ other → ⊥) where
   -- the other copy is as it was
@@ -47,25 +47,6 @@ module _ (p : ProgramTree) (set other : ℕ) (apart : set ≡ other → ⊥) whe
   pieces : PiecesKeep (here_in p set) Same
   pieces = pieces-keep (here_in p set) Any Same (any-may (here_in p set)) same-kept
 
-  -- a block, whatever it leaves for
-  left-same : (w : World) (r : Ran Way) → Same w (world_after r) → Same w (world_after (then_do r left_for))
-  left-same w (Gives Done u text) h = h
-  left-same w (Gives Broken u text) h = h
-  left-same w (Gives Continued u text) h = h
-  left-same w (Gives (Left state) u text) h = h
-  left-same w (Faults f line u text) h = h
-
-  -- clauses
-  clauses-same : (cs : List ClauseTree) → ClausesKeep Same (map (clause_meaning (here_in p set)) cs)
-  clauses-same [] = tt
-  clauses-same (c ∷ cs) =
-      (record { holds = pieces.condition c.condition; acts = λ w. left-same w (block_effect (here_in p set) c.block w) (pieces.block c.block w) }, clauses-same cs)
-
-  -- states
-  states-same : (qs : List StateTree) → StatesKeep Same (map (state_meaning (here_in p set)) qs)
-  states-same [] = tt
-  states-same (q ∷ qs) = (clauses-same q.clauses, states-same qs)
-
   -- the refresh of a link
   link-same : (number : ℕ) (t : Tied) (w : World) → Same w (refreshed_link set number t w)
   link-same number t w = by (is_marked set number w) (home_of set number w)
@@ -85,9 +66,9 @@ module _ (p : ProgramTree) (set other : ℕ) (apart : set ≡ other → ⊥) whe
   turn-same g = record {
     nothing = λ w. refl;
     both = λ u v w a b. b ∙ a;
-    states = states-same g.states;
+    states = states-keep p set Same (λ w. refl) (λ u v w a b. b ∙ a) pieces g.states;
     refreshes = λ w. links-same 0 w.ties w;
-    enters = λ state w. own-changes _ w;
+    enters = λ state is_timed w. own-changes _ w;
     spends = λ left w is. refl;
     weaker = λ w u a. a;
     before = λ u v w a b. b ∙ a;

@@ -1,6 +1,7 @@
 pub mod AsLoaded
 pub mod Tasks
 pub mod Turning
+pub mod Parts
 pub mod Steady
 pub mod Rounds
 pub mod Wakes

@@ -1,9 +1,9 @@
 -- A line of a trace keeps what copies and buffers hold within their types.
-use Rattle.std.proofs.Common.{◌≡◌, ◌∙◌, ◌-◌, sym, subst, ℕ, zero, suc, true, List, Option, None, Some, length, nat_lt}
+use Rattle.std.proofs.Common.{◌≡◌, ◌∙◌, ◌-◌, sym, subst, ℕ, zero, suc, true, List, Option, None, Some, length, nat_lt, if◌then◌else◌}
 use Rattle.snl_syntax.specs.Programs.{ProgramTree}
 use Rattle.snl_code.specs.Heres.{here_in}
 use Rattle.snl_schedule.specs.declared.events.Event.{Event}
-use Rattle.snl_schedule.specs.declared.events.Event.TheVariants.{Up, Val, Tick, Other}
+use Rattle.snl_schedule.specs.declared.events.Event.TheVariants.{Up, Down, Val, Tick, Other}
 use Rattle.snl_schedule.specs.Event.{applied, closed, wake_before, woken, wakes_of, all_wakes, event_by, passed, line_by, is_event_fit}
 use Rattle.snl_links.specs.Links.{Link}
 use Rattle.snl_machine.specs.Ranges.{AllFit, Holds, IsSized, IsTied, EventsFit, Begins, GoesOn, ReachedHold}
@@ -48,8 +48,12 @@ module _ (p : ProgramTree) (ls : List Link) (sized : IsSized p) (tied : IsTied p
     both = λ u v w a b holds. b (a holds);
     pieces = λ set. pieces-keep (here_in p set) (May p sized set) Stays (may p sized set) (holds-kept set);
     refreshes = refresh_holds p ls sized tied;
-    enters = λ set state w holds.
-        (changed-fits p sized set (record (copy_of set w) { state = state; entered = w.time }) w (λ fit. fit) holds.0, holds.1, holds.2, holds.3);
+    enters = λ set state is_timed w holds. (
+      changed-fits p sized set (record (copy_of set w) { state = state; entered = if is_timed then w.time else (copy_of set w).entered }) w (λ fit. fit) holds.0,
+      holds.1,
+      holds.2,
+      holds.3,
+    );
     opens = λ w holds. holds;
     wakes = λ w holds. holds;
     phase = λ x w holds. holds;
@@ -62,6 +66,7 @@ module _ (p : ProgramTree) (ls : List Link) (sized : IsSized p) (tied : IsTied p
   -- an event that fits
   event-holds : (event : Event) (w : World) → is_event_fit (length (channels ls)) (ties_in p ls) event ≡ true → Stays w (applied (program_meaning p ls) event w)
   event-holds (Up channel) w fit holds = holds
+  event-holds (Down channel) w fit holds = holds
   event-holds (Val channel values) w fit holds =
       let halves = both-true (nat_lt channel (length (channels ls))) (are_fit channel values.items (ties_in p ls)) fit in
       let v = record w { valued = _ } in

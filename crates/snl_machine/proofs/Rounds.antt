@@ -1,15 +1,15 @@
--- Rounds end by themselves.
+-- Rounds end by themselves, and no tick is given back.
 use Rattle.std.proofs.Common.{◌≡◌, ◌<◌, ◌≤◌, refl, arith, ℕ, zero, suc, List, []}
 use Rattle.snl_syntax.specs.Programs.{ProgramTree}
 use Rattle.snl_links.specs.Links.{Link}
-use Rattle.snl_machine.specs.Rounds.{Rounds, Last, Leaves, Stops, Again, RoundsEnd}
-use Rattle.snl_machine.proofs.Steady.{IsLoose, loosely, round-turns}
+use Rattle.snl_machine.specs.Rounds.{Rounds, Last, Leaves, Stops, Again, RoundsEnd, TicksWithinBudget}
+use Rattle.snl_machine.proofs.Steady.{IsLoose, loosely, round-turns, instant-keeps}
 use Rattle.snl_machine.proofs.Turning.{Turns}
 use Rattle.snl_meaning.specs.Ran.{Ran, Gives, Faults, then_do}
 use Rattle.snl_meaning.specs.World.{World}
 use Rattle.snl_load.specs.Meaning.{program_meaning}
-use Rattle.snl_schedule.specs.declared.turns.Turned.{Turned}
-use Rattle.snl_schedule.specs.declared.turns.Turned.TheVariants.{Stayed, Moved, Exited}
+use Rattle.snl_schedule.specs.declared.transitions.Turned.{Turned}
+use Rattle.snl_schedule.specs.declared.transitions.Turned.TheVariants.{Stayed, Moved, Exited}
 use Rattle.snl_schedule.specs.Instant.{Program, round_of, unless_still, rounds_of}
 
 -- ---- ticks
@@ -50,7 +50,7 @@ rounds-end p ls (suc n) w few = by (λ u. rounds-end p ls n u) (round_of (progra
     q = program_meaning p ls
 
     by : ((u : World) → u.ticks < n → Rounds q u (rounds_of q n u)) → (r : Ran Turned) → round_of q w ≡ r → Turns NoMore Fewer w r →
-        Rounds q w (then_do r (unless_still q.name (rounds_of q n)))
+        Rounds q w (then_do r (unless_still q (rounds_of q n)))
     by others (Gives Stayed u text) is h = Last w u text is
     by others (Gives Moved u text) is h = Again w u text (rounds_of q n u) is (others u (omega (arith, h, few)))
     by others (Gives Exited u text) is h = Leaves w u text is
@@ -59,3 +59,7 @@ rounds-end p ls (suc n) w few = by (λ u. rounds-end p ls n u) (round_of (progra
 -- so do those of an instant
 pub rounds_end : RoundsEnd
 rounds_end p ls w = rounds-end p ls (suc w.ticks) w (omega arith)
+
+-- an instant leaves no more ticks than its budget
+pub ticks_within_budget : TicksWithinBudget
+ticks_within_budget p ls budget w = instant-keeps p ls NoMore Fewer (loosely NoMore Fewer ticks-steady p) w.phase (record w { ticks = budget })

@@ -1,11 +1,9 @@
 -- What every step of a run keeps of the world: turns, rounds, instants.
-use Rattle.std.proofs.Common.{◌≡◌, ◌+◌, refl, ℕ, zero, suc, ℤ, pos, Bool, true, false, List, [], ◌∷◌, Option, None, Some, map, if◌then◌else◌}
-use Rattle.snl_syntax.specs.Programs.{ClauseTree, StateTree, StateSetTree, ProgramTree}
+use Rattle.std.proofs.Common.{◌≡◌, ◌+◌, refl, ℕ, zero, suc, ℤ, pos, Bool, true, false, List, [], ◌∷◌, Option, None, Some, if◌then◌else◌}
+use Rattle.snl_syntax.specs.Programs.{StateSetTree, ProgramTree}
 use Rattle.snl_links.specs.Links.{Link}
-use Rattle.snl_output.specs.Lines.{start_line}
 use Rattle.snl_meaning.specs.declared.live.Live.{Live}
 use Rattle.snl_meaning.specs.declared.live.Live.TheVariants.{Waiting, Running, Ended}
-use Rattle.snl_meaning.specs.Effect.{Way, Done, Broken, Continued, Left, block_effect}
 use Rattle.snl_meaning.specs.Keeping.{IsKept, PiecesKeep, world_after}
 use Rattle.snl_meaning.specs.Ran.{Ran, Gives, Faults, also, then_do}
 use Rattle.std.specs.Prelude.{int_le}
@@ -15,14 +13,15 @@ use Rattle.snl_meaning.specs.World.{SetMemory, World}
 use Rattle.snl_meaning.proofs.Keeping.{pieces-keep}
 use Rattle.snl_meaning.proofs.Ticks.{Any, any-may}
 use Rattle.snl_code.specs.Heres.{here_in}
-use Rattle.snl_load.specs.Meaning.{left_for, clause_meaning, state_meaning, set_meaning, set_meanings, program_meaning}
+use Rattle.snl_load.specs.Meaning.{set_meaning, set_meanings, program_meaning}
 use Rattle.snl_meaning.specs.declared.ties.Tied.{Tied}
-use Rattle.snl_schedule.specs.declared.turns.Turned.{Turned}
-use Rattle.snl_schedule.specs.declared.turns.Turned.TheVariants.{Stayed, Moved, Exited}
-use Rattle.snl_schedule.specs.Instant.{Program, later, is_exit, unless_exited, round_from, round_of, unless_still, rounds_of, is_ready, refreshed_sets, begun_sets, started, all_rounds, instant_by}
+use Rattle.snl_schedule.specs.declared.transitions.Turned.{Turned}
+use Rattle.snl_schedule.specs.declared.transitions.Turned.TheVariants.{Stayed, Moved, Exited}
+use Rattle.snl_schedule.specs.Instant.{Program, first_name, owned, later, is_exit, unless_exited, round_from, round_of, closed_by, exited, unless_still, rounds_of, is_ready, refreshed_sets, begun, begun_sets, opened, told_start, started, all_rounds, instant_by}
 use Rattle.snl_schedule.specs.Refresh.{is_marked, with_mark, copied_to, refreshed_link, refreshed_from, refreshed}
 use Rattle.snl_schedule.specs.Turn.{entered_in, StateSet, turn_of}
-use Rattle.snl_machine.proofs.Turning.{ClausesKeep, StatesKeep, Stands, Turns, IsSteadyOn, turns-also, turn-keeps}
+use Rattle.snl_machine.proofs.Parts.{block-keeps, states-keep}
+use Rattle.snl_machine.proofs.Turning.{Keeps, Stands, Turns, IsSteadyOn, after-text, told-after, then-keeps, turns-also, begun-keeps, turn-keeps}
 
 -- A relation between a world and a later one that each change of a run of a program keeps, and one that a tick makes
 -- stronger.
@@ -31,7 +30,7 @@ pub record IsSteady (p : ProgramTree) (R S : World → World → Type 0) : Type 
   pub both : (u v w : World) → R u v → R v w → R u w
   pub pieces : (set : ℕ) → PiecesKeep (here_in p set) R
   pub refreshes : (set : ℕ) (w : World) → R w (refreshed set w)
-  pub enters : (set state : ℕ) (w : World) → R w (entered_in set state w)
+  pub enters : (set state : ℕ) (is_timed : Bool) (w : World) → R w (entered_in set state is_timed w)
   -- at the beginning of a round no due time is noted
   pub opens : (w : World) → R w (record w { due = None })
   -- after the last one the wake is the least due time
@@ -103,7 +102,7 @@ module _ (R S : World → World → Type 0) (s : IsLoose R S) where
     both = s.both;
     pieces = λ set. pieces-keep (here_in p set) Any R (any-may (here_in p set)) (kept set);
     refreshes = λ set w. links-keep set 0 w.ties w;
-    enters = λ set state w. s.copies _ w;
+    enters = λ set state is_timed w. s.copies _ w;
     opens = s.opens;
     wakes = s.wakes;
     phase = s.phase;
@@ -121,41 +120,12 @@ module _ (p : ProgramTree) (ls : List Link) (R S : World → World → Type 0) (
   SetsKeep [] = Unit {0}
   SetsKeep (g ∷ gs) = IsSteadyOn g R S × SetsKeep gs
 
-  -- text does not matter
-  pub after-text : {A : Type 0} (w : World) (text : List ℕ) (r : Ran A) → R w (world_after r) → R w (world_after (also text r))
-  after-text w text (Gives v u more) h = h
-  after-text w text (Faults f line u more) h = h
-
-  -- the state that a block leaves for changes nothing
-  left-keeps : (way : Way) (w : World) → R w (world_after (left_for way w))
-  left-keeps Done w = s.nothing w
-  left-keeps Broken w = s.nothing w
-  left-keeps Continued w = s.nothing w
-  left-keeps (Left state) w = s.nothing w
-
-  -- one step of a piece and then what changes nothing
-  then-left : (w : World) (r : Ran Way) → R w (world_after r) → R w (world_after (then_do r left_for))
-  then-left w (Gives way u text) h = after-text w text (left_for way u) (s.both w u (world_after (left_for way u)) h (left-keeps way u))
-  then-left w (Faults f line u text) h = h
-
-  -- clauses of a program
-  clauses-keep : (set : ℕ) (cs : List ClauseTree) → ClausesKeep R (map (clause_meaning (here_in p set)) cs)
-  clauses-keep set [] = tt
-  clauses-keep set (c ∷ cs) =
-      let k = s.pieces set in
-      (record { holds = k.condition c.condition; acts = λ w. then-left w (block_effect (here_in p set) c.block w) (k.block c.block w) }, clauses-keep set cs)
-
-  -- states of a program
-  states-keep : (set : ℕ) (qs : List StateTree) → StatesKeep R (map (state_meaning (here_in p set)) qs)
-  states-keep set [] = tt
-  states-keep set (q ∷ qs) = (clauses-keep set q.clauses, states-keep set qs)
-
   -- a state set of a program
   set-keeps : (k : ℕ) (g : StateSetTree) → IsSteadyOn (set_meaning p k g) R S
   set-keeps k g = record {
     nothing = s.nothing;
     both = s.both;
-    states = states-keep k g.states;
+    states = states-keep p k R s.nothing s.both (s.pieces k) g.states;
     refreshes = s.refreshes k;
     enters = s.enters k;
     spends = s.spends;
@@ -210,6 +180,13 @@ module _ (p : ProgramTree) (ls : List Link) (R S : World → World → Type 0) (
   pub round-turns : (w : World) → Turns R S w (round_of (program_meaning p ls) w)
   round-turns w = round-keeps (program_meaning p ls).sets (sets-keep 0 p.state_sets) Stayed w (record w { due = None }) (s.opens w)
 
+  -- the end of the program
+  pub exited-keeps : Keeps R (exited (program_meaning p ls))
+  exited-keeps w =
+      let q = program_meaning p ls in
+      then-keeps R s.both w (owned q q.exit w) (λ _ u. closed_by q.name u)
+      (told-after R (first_name q.sets) w (q.exit w) (block-keeps p 0 R s.nothing s.both (s.pieces 0) p.exit w)) (λ _ u. s.phase Ended u)
+
   -- rounds
   rounds-keep : (n : ℕ) (w : World) → R w (world_after (rounds_of (program_meaning p ls) n w))
   rounds-keep zero w = s.nothing w
@@ -218,10 +195,10 @@ module _ (p : ProgramTree) (ls : List Link) (R S : World → World → Type 0) (
       q : Program
       q = program_meaning p ls
 
-      by : ((u : World) → R u (world_after (rounds_of q n u))) → (r : Ran Turned) → Turns R S w r → R w (world_after (then_do r (unless_still q.name (rounds_of q n))))
+      by : ((u : World) → R u (world_after (rounds_of q n u))) → (r : Ran Turned) → Turns R S w r → R w (world_after (then_do r (unless_still q (rounds_of q n))))
       by others (Gives Stayed u text) h = s.both w u (record u { wake = u.due }) h (s.wakes u)
-      by others (Gives Moved u text) h = after-text w text (rounds_of q n u) (s.both w u (world_after (rounds_of q n u)) (s.weaker w u h) (others u))
-      by others (Gives Exited u text) h = s.both w u (record u { phase = Ended }) (s.weaker w u h) (s.phase Ended u)
+      by others (Gives Moved u text) h = after-text R w text (rounds_of q n u) (s.both w u (world_after (rounds_of q n u)) (s.weaker w u h) (others u))
+      by others (Gives Exited u text) h = after-text R w text (exited q u) (s.both w u (world_after (exited q u)) (s.weaker w u h) (exited-keeps u))
       by others (Faults f line u text) h = h
 
   -- ---- an instant
@@ -232,17 +209,25 @@ module _ (p : ProgramTree) (ls : List Link) (R S : World → World → Type 0) (
   refreshed-keeps (g ∷ gs) all w = s.both w (refreshed g.set w) (refreshed_sets gs (refreshed g.set w)) (all.0.refreshes w) (refreshed-keeps gs all.1 (refreshed g.set w))
 
   -- their first states
-  begun-keeps : (gs : List StateSet) (w : World) → R w (begun_sets gs w)
-  begun-keeps [] w = s.nothing w
-  begun-keeps (g ∷ gs) w = s.both w (entered_in g.set 0 w) (begun_sets gs (entered_in g.set 0 w)) (s.enters g.set 0 w) (begun-keeps gs (entered_in g.set 0 w))
+  begins-keep : (gs : List StateSet) → SetsKeep gs → Keeps R (begun_sets gs)
+  begins-keep [] all w = s.nothing w
+  begins-keep (g ∷ gs) all w = then-keeps R s.both w (begun g w) (λ _ u. begun_sets gs u) (begun-keeps g R S all.0 w) (λ _ u. begins-keep gs all.1 u)
+
+  -- what follows the line of the start
+  opened-keeps : Keeps R (opened (program_meaning p ls))
+  opened-keeps w =
+      let q = program_meaning p ls in
+      let all = sets-keep 0 p.state_sets in
+      let u = refreshed_sets q.sets w in
+      then-keeps R s.both w (owned q q.entry u) (λ _ v. begun_sets q.sets v)
+      (told-after R (first_name q.sets) w (q.entry u) (s.both w u (world_after (q.entry u)) (refreshed-keeps q.sets all w)
+      (block-keeps p 0 R s.nothing s.both (s.pieces 0) p.entry u)))
+      (λ _ v. begins-keep q.sets all v)
 
   -- the start
-  pub started-keeps : (w : World) → R w (world_after (started (program_meaning p ls) w))
+  pub started-keeps : Keeps R (started (program_meaning p ls))
   started-keeps w =
-      let sets = (program_meaning p ls).sets in
-      let u = record w { phase = Running } in
-      let v = refreshed_sets sets u in
-      s.both w u (begun_sets sets v) (s.phase Running w) (s.both u v (begun_sets sets v) (refreshed-keeps sets (sets-keep 0 p.state_sets) u) (begun-keeps sets v))
+      let q = program_meaning p ls in then-keeps R s.both w (told_start q w) (λ _ u. opened q u) (s.phase Running w) (λ _ u. opened-keeps u)
 
   -- an instant, with the ticks that it has
   pub instant-keeps : (phase : Live) (w : World) → R w (world_after (instant_by (program_meaning p ls) phase w))
@@ -254,7 +239,5 @@ module _ (p : ProgramTree) (ls : List Link) (R S : World → World → Type 0) (
       q = program_meaning p ls
 
       by : (b : Bool) → R w (world_after (if b then then_do (started q w) (λ _ u. all_rounds q u) else Gives tt w []))
-      by true =
-          let u = world_after (started q w) in
-          after-text w (start_line w.time q.name) (all_rounds q u) (s.both w u (world_after (all_rounds q u)) (started-keeps w) (rounds-keep (suc u.ticks) u))
+      by true = then-keeps R s.both w (started q w) (λ _ u. all_rounds q u) (started-keeps w) (λ _ u. rounds-keep (suc u.ticks) u)
       by false = s.nothing w

@@ -1,31 +1,59 @@
 -- What a turn of a state set keeps of the world.
-use Rattle.std.proofs.Common.{◌≡◌, refl, ℕ, zero, suc, Bool, true, false, List, [], ◌∷◌, Option, None, Some, slice_get}
+use Rattle.std.proofs.Common.{◌≡◌, refl, ℕ, zero, suc, Bool, true, false, List, [], ◌∷◌, Option, None, Some, slice_index_or}
+use Rattle.snl_output.specs.Lines.{go_line}
 use Rattle.snl_meaning.specs.Keeping.{world_after}
 use Rattle.snl_meaning.specs.Ran.{Ran, Gives, Faults, also, then_do}
 use Rattle.snl_meaning.specs.Words.{spent_of}
 use Rattle.snl_meaning.specs.World.{World, copy_of}
 use Rattle.snl_schedule.specs.declared.plans.Destination.{Destination}
 use Rattle.snl_schedule.specs.declared.plans.Destination.TheVariants as to
-use Rattle.snl_schedule.specs.declared.turns.Turned.{Turned}
-use Rattle.snl_schedule.specs.declared.turns.Turned.TheVariants.{Stayed, Moved, Exited}
+use Rattle.snl_schedule.specs.declared.transitions.Turned.{Turned}
+use Rattle.snl_schedule.specs.declared.transitions.Turned.TheVariants.{Stayed, Moved, Exited}
+use Rattle.snl_schedule.specs.Instant.{begun}
 use Rattle.snl_schedule.specs.Refresh.{refreshed}
-use Rattle.snl_schedule.specs.Turn.{entered_in, Clause, State, StateSet, chosen, chosen_if, arrived, target_by, arrived_by, acted, transition, fired, tried, told_fault, turn_after, turn_of}
+use Rattle.snl_schedule.specs.Turn.{Clause, State, StateSet, no_state, state_in, chosen, chosen_if, is_due, if_due, entered_in, left_for, come_to, moved, crossed, arrived, target_by, arrived_by, acted, transition, fired, tried, told_fault, turn_after, turn_of}
 
 module _ (R : World → World → Type 0) where
+  -- what is done in any world
+  abbrev pub Keeps : {A : Type 0} → (World → Ran A) → Type 0
+  Keeps act = (w : World) → R w (world_after (act w))
+
   -- condition and block of a clause
   pub record ClauseKeeps (c : Clause) : Type 0 where
-    pub holds : (w : World) → R w (world_after (c.holds w))
-    pub acts : (w : World) → R w (world_after (c.acts w))
+    pub holds : Keeps c.holds
+    pub acts : Keeps c.acts
 
   -- those of all clauses of a state
   abbrev pub ClausesKeep : List Clause → Type 0
   ClausesKeep [] = Unit {0}
   ClausesKeep (c ∷ cs) = ClauseKeeps c × ClausesKeep cs
 
+  -- all pieces of a state
+  pub record StateKeeps (q : State) : Type 0 where
+    pub entry : Keeps q.entry
+    pub clauses : ClausesKeep q.clauses
+    pub exit : Keeps q.exit
+
   -- those of all states of a state set
   abbrev pub StatesKeep : List State → Type 0
   StatesKeep [] = Unit {0}
-  StatesKeep (q ∷ qs) = ClausesKeep q.clauses × StatesKeep qs
+  StatesKeep (q ∷ qs) = StateKeeps q × StatesKeep qs
+
+  -- text does not matter
+  pub after-text : {A : Type 0} (w : World) (text : List ℕ) (r : Ran A) → R w (world_after r) → R w (world_after (also text r))
+  after-text w text (Gives v u more) h = h
+  after-text w text (Faults f line u more) h = h
+
+  -- nor does the line of a fault
+  pub told-after : {A : Type 0} (name : List ℕ) (w : World) (r : Ran A) → R w (world_after r) → R w (world_after (told_fault name r))
+  told-after name w (Gives v u text) h = h
+  told-after name w (Faults f line u text) h = h
+
+  -- one step and then another
+  pub then-keeps : ((u v w : World) → R u v → R v w → R u w) → {A B : Type 0} (w : World) (r : Ran A) (go : A → World → Ran B) →
+      R w (world_after r) → ((a : A) → Keeps (go a)) → R w (world_after (then_do r go))
+  then-keeps both w (Gives a u text) go h k = after-text w text (go a u) (both w u (world_after (go a u)) h (k a u))
+  then-keeps both w (Faults f line u text) go h k = h
 
 module _ (R S : World → World → Type 0) where
   -- what is known after a turn: more, if there was a transition
@@ -46,7 +74,7 @@ pub record IsSteadyOn (g : StateSet) (R S : World → World → Type 0) : Type 0
   pub both : (u v w : World) → R u v → R v w → R u w
   pub states : StatesKeep R g.states
   pub refreshes : (w : World) → R w (refreshed g.set w)
-  pub enters : (state : ℕ) (w : World) → R w (entered_in g.set state w)
+  pub enters : (state : ℕ) (is_timed : Bool) (w : World) → R w (entered_in g.set state is_timed w)
   pub spends : (left : ℕ) (w : World) → w.ticks ≡ suc left → S w (record w { ticks = left })
   pub weaker : (w u : World) → S w u → R w u
   pub before : (u v w : World) → R u v → S v w → S u w
@@ -91,21 +119,50 @@ module _ (g : StateSet) (R S : World → World → Type 0) (s : IsSteadyOn g R S
   turns-after w u (Gives t v text) h k = stands-after w u v t h k
   turns-after w u (Faults f line v text) h k = s.both w u v h k
 
+  -- a step after a tick, and then one that tells of a transition
+  turns-then : {A : Type 0} (w u : World) (r : Ran A) (go : A → World → Ran Turned) → S w u → R u (world_after r) → ((a : A) (v : World) → S w v → Turns R S w (go a v)) →
+      Turns R S w (then_do r go)
+  turns-then w u (Gives a v text) go h k next = turns-also w text (go a v) (next a v (s.after w u v h k))
+  turns-then w u (Faults f line v text) go h k next = s.weaker w v (s.after w u v h k)
+
+  -- the state of a number
+  state-keeps : (qs : List State) → StatesKeep R qs → (n : ℕ) → StateKeeps R (slice_index_or qs n no_state)
+  state-keeps [] all n = record { entry = s.nothing; clauses = tt; exit = s.nothing }
+  state-keeps (q ∷ qs) all zero = all.0
+  state-keeps (q ∷ qs) all (suc n) = state-keeps qs all.1 n
+
+  -- what is done where it is due
+  due-keeps : (due : Bool) (act : World → Ran (Unit {0})) → Keeps R act → Keeps R (if_due due act)
+  due-keeps true act h w = h w
+  due-keeps false act h w = s.nothing w
+
+  -- the old state
+  left-keeps : (from to : ℕ) → Keeps R (left_for g from to)
+  left-keeps from to w = let q = state_in g from in due-keeps (is_due q.again.exit from to) q.exit (state-keeps g.states s.states from).exit w
+
+  -- the new one
+  come-keeps : (from to : ℕ) → Keeps R (come_to g from to)
+  come-keeps from to w =
+      let q = state_in g to in
+      let timed = is_due q.again.time from to in
+      let u = entered_in g.set to timed w in
+      s.both w u (world_after (come_to g from to w)) (s.enters to timed w) (due-keeps (is_due q.again.entry from to) q.entry (state-keeps g.states s.states to).entry u)
+
   -- where a transition leads
-  arrived-keeps : (from : List ℕ) (target : Destination) (w u : World) → S w u → Turns R S w (arrived g from target u)
-  arrived-keeps from (to.State state) w u h = s.after w u _ h (s.enters state u)
+  arrived-keeps : (from : ℕ) (target : Destination) (w u : World) → S w u → Turns R S w (arrived g from target u)
+  arrived-keeps from (to.State state) w u h =
+      turns-also w (go_line u.time g.name (state_in g from).name (state_in g state).name) (crossed g from state u)
+      (turns-then w u (left_for g from state u) (λ _ v. then_do (come_to g from state v) moved) h (left-keeps from state u)
+      (λ _ v k. turns-then w v (come_to g from state v) moved k (come-keeps from state v) (λ _ x m. m)))
   arrived-keeps from to.Exit w u h = h
 
-  -- the block and the state
-  acted-keeps : (from : List ℕ) (c : Clause) → ClauseKeeps R c → (w u : World) → S w u → Turns R S w (acted g from c u)
-  acted-keeps from c all w u h = by (c.acts u) (all.acts u)
-    where
-      by : (r : Ran (Option ℕ)) → R u (world_after r) → Turns R S w (then_do r (arrived_by g from c.target))
-      by (Gives left v text) k = turns-also w text (arrived g from (target_by left c.target) v) (arrived-keeps from (target_by left c.target) w v (s.after w u v h k))
-      by (Faults f line v text) k = s.weaker w v (s.after w u v h k)
+  -- the block and the states
+  acted-keeps : (from : ℕ) (c : Clause) → ClauseKeeps R c → (w u : World) → S w u → Turns R S w (acted g from c u)
+  acted-keeps from c all w u h =
+      turns-then w u (c.acts u) (arrived_by g from c.target) h (all.acts u) (λ left v k. arrived-keeps from (target_by left c.target) w v k)
 
   -- a transition
-  transition-keeps : (from : List ℕ) (c : Clause) → ClauseKeeps R c → (w : World) → Turns R S w (transition g from c w)
+  transition-keeps : (from : ℕ) (c : Clause) → ClauseKeeps R c → (w : World) → Turns R S w (transition g from c w)
   transition-keeps from c all w = by w.ticks refl
     where
       by : (left : ℕ) → w.ticks ≡ left → Turns R S w (then_do (spent_of c.line left w) (λ _ u. acted g from c u))
@@ -113,36 +170,31 @@ module _ (g : StateSet) (R S : World → World → Type 0) (s : IsSteadyOn g R S
       by (suc left) is = let u = record w { ticks = left } in turns-also w [] (acted g from c u) (acted-keeps from c all w u (s.spends left w is))
 
   -- a transition of the clause that was chosen
-  fired-keeps : (from : List ℕ) (w : World) (r : Ran (Option Clause)) → Chooses w r → Turns R S w (then_do r (fired g from))
+  fired-keeps : (from : ℕ) (w : World) (r : Ran (Option Clause)) → Chooses w r → Turns R S w (then_do r (fired g from))
   fired-keeps from w (Gives None u text) h = h
   fired-keeps from w (Gives (Some c) u text) h =
       turns-also w text (transition g from c u) (turns-after w u (transition g from c u) h.0 (transition-keeps from c h.1 u))
   fired-keeps from w (Faults f line u text) h = h
 
-  -- the clauses of a state
-  abbrev StateKeeps : Option State → Type 0
-  StateKeeps None = Unit {0}
-  StateKeeps (Some q) = ClausesKeep R q.clauses
-
-  -- of the state of a number
-  state-keeps : (qs : List State) → StatesKeep R qs → (n : ℕ) → StateKeeps (slice_get qs n)
-  state-keeps [] all n = tt
-  state-keeps (q ∷ qs) all zero = all.0
-  state-keeps (q ∷ qs) all (suc n) = state-keeps qs all.1 n
-
-  -- its conditions and the transition
-  tried-keeps : (q : Option State) → StateKeeps q → (w : World) → Turns R S w (tried g q w)
-  tried-keeps None all w = s.nothing w
-  tried-keeps (Some q) all w = fired-keeps q.name w (chosen q.clauses w) (chosen-keeps q.clauses all w)
+  -- the conditions of a state and the transition
+  tried-keeps : (from : ℕ) (w : World) → Turns R S w (tried g from w)
+  tried-keeps from w = let cs = (state_in g from).clauses in fired-keeps from w (chosen cs w) (chosen-keeps cs (state-keeps g.states s.states from).clauses w)
 
   -- the line of a fault
   told-keeps : (name : List ℕ) (w : World) (r : Ran Turned) → Turns R S w r → Turns R S w (told_fault name r)
   told-keeps name w (Gives t u text) h = h
   told-keeps name w (Faults f line u text) h = h
 
+  -- a first state
+  pub begun-keeps : Keeps R (begun g)
+  begun-keeps w =
+      let u = entered_in g.set 0 true w in
+      let q = state_in g 0 in
+      told-after R g.name w (q.entry u) (s.both w u (world_after (q.entry u)) (s.enters 0 true w) ((state-keeps g.states s.states 0).entry u))
+
   -- a turn
   pub turn-keeps : (w : World) → Turns R S w (turn_of g w)
   turn-keeps w =
       let u = refreshed g.set w in
-      let q = slice_get g.states (copy_of g.set u).state in
-      turns-after w u (turn_after g u) (s.refreshes w) (told-keeps g.name u (tried g q u) (tried-keeps q (state-keeps g.states s.states (copy_of g.set u).state) u))
+      let from = (copy_of g.set u).state in
+      turns-after w u (turn_after g u) (s.refreshes w) (told-keeps g.name u (tried g from u) (tried-keeps from u))

@@ -13,19 +13,20 @@ use Rattle.snl_meaning.specs.Ran.{Ran, Gives, Faults, also, then_do}
 use Rattle.snl_meaning.specs.Words.{least, noted}
 use Rattle.snl_meaning.specs.World.{World}
 use Rattle.snl_schedule.specs.declared.events.Event.{Event}
-use Rattle.snl_schedule.specs.declared.events.Event.TheVariants.{Up, Val, Tick, Other}
-use Rattle.snl_schedule.specs.declared.turns.Turned.{Turned}
-use Rattle.snl_schedule.specs.declared.turns.Turned.TheVariants.{Stayed, Moved, Exited}
+use Rattle.snl_schedule.specs.declared.events.Event.TheVariants.{Up, Down, Val, Tick, Other}
+use Rattle.snl_schedule.specs.declared.transitions.Turned.{Turned}
+use Rattle.snl_schedule.specs.declared.transitions.Turned.TheVariants.{Stayed, Moved, Exited}
 use Rattle.snl_schedule.specs.Arrivals.{is_of, received_link, received_from}
 use Rattle.snl_schedule.specs.Event.{applied, wake_by, wake_before, woken, wakes_of, all_wakes, event_by, passed, closed, line_by, line_of}
-use Rattle.snl_schedule.specs.Instant.{Program, exited, round_of, all_rounds, is_ready, started, instant_by, instant_of}
+use Rattle.snl_schedule.specs.Instant.{Program, first_name, owned, closed_by, exited, round_of, all_rounds, is_ready, started, instant_by, instant_of}
 use Rattle.snl_load.specs.Meaning.{program_meaning}
 use Rattle.snl_machine.specs.Ranges.{Reached, Begins, GoesOn}
 use Rattle.snl_machine.specs.Rounds.{Rounds, Last, Leaves, Stops, Again}
 use Rattle.snl_machine.specs.Wakes.{Wakes, NoneLeft, Faulty, Next, IsDueLater, KeepsDue, IsWakeLater, WakesLieLater, WakesEnd, WakesStayLater, TimeNeverFalls, TimeIsTheEvents, TimeIsTheEventsAlone}
 use Rattle.snl_machine.proofs.Rounds.{rounds_end}
-use Rattle.snl_machine.proofs.Steady.{IsLoose, loosely, round-turns, started-keeps}
-use Rattle.snl_machine.proofs.Turning.{Turns}
+use Rattle.snl_machine.proofs.Parts.{block-keeps}
+use Rattle.snl_machine.proofs.Steady.{IsLoose, IsSteady, loosely, round-turns, started-keeps}
+use Rattle.snl_machine.proofs.Turning.{Turns, told-after}
 
 -- a due time that is noted after now lies after it
 noted-later : (t : ℤ) (w : World) → int_le t (pos w.time) ≡ false → IsDueLater w → IsDueLater (record w { due = noted t w.due })
@@ -86,6 +87,7 @@ links-time channel values number (l ∷ ls) w = links-time channel values (numbe
 -- an event
 applied-time : (p : Program) (event : Event) (w : World) → Same w (applied p event w)
 applied-time p (Up channel) w = refl
+applied-time p (Down channel) w = refl
 applied-time p (Val channel values) w = links-time channel values.items _ p.links _
 applied-time p Tick w = refl
 applied-time p Other w = refl
@@ -125,14 +127,24 @@ module _ (tree : ProgramTree) (ls : List Link) where
   after-round w u Exited text is = subst (Turns KeepsDue KeepsDue (record w { due = None })) is (round-keeps w)
 
   -- the end of the program
-  exited-stands : (u : World) → Stands u (exited p.name u)
-  exited-stands u = (refl, not-running (record u { phase = Ended }) Ended refl (λ (e : Running ≡ Ended). absurd (cc)))
+  exited-stands : (u : World) → Stands u (exited p u)
+  exited-stands u = by (owned p p.exit u) (told-after KeepsDue (first_name p.sets) u (p.exit u) (leaves u))
+    where
+      s : IsSteady tree KeepsDue KeepsDue
+      s = loosely KeepsDue KeepsDue due-loose tree
+
+      leaves : (w : World) → KeepsDue w (world_after (p.exit w))
+      leaves = block-keeps tree 0 KeepsDue s.nothing s.both (s.pieces 0) tree.exit
+
+      by : (r : Ran (Unit {0})) → KeepsDue u (world_after r) → Stands u (then_do r (λ _ v. closed_by p.name v))
+      by (Gives a v text) h = (h.0, not-running (record v { phase = Ended }) Ended refl (λ (e : Running ≡ Ended). absurd (cc)))
+      by (Faults f line v text) h = h.0
 
   -- rounds
   rounds-stand : (w : World) (r : Ran (Unit {0})) → Rounds p w r → Stands w r
   rounds-stand _ _ (Last w u text is) =
       let k = after-round w u Stayed text is in (k.0, λ n runs at. k.1 (λ m none. absurd (cc)) n at)
-  rounds-stand _ _ (Leaves w u text is) = stands-also w text (exited p.name u) (stands-after w u (exited p.name u) (after-round w u Exited text is).0 (exited-stands u))
+  rounds-stand _ _ (Leaves w u text is) = stands-also w text (exited p u) (stands-after w u (exited p u) (after-round w u Exited text is).0 (exited-stands u))
   rounds-stand _ _ (Stops f line w u text is) =
       (subst (Turns KeepsDue KeepsDue (record w { due = None })) is (round-keeps w)).0
   rounds-stand _ _ (Again w u text r is rest) = stands-also w text r (stands-after w u r (after-round w u Moved text is).0 (rounds-stand u r rest))

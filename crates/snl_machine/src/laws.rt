@@ -2,7 +2,7 @@
 
 ghost use Rattle.snl_machine.specs.Laws.{RunsItsProgram, StaysItsMachine, TurnsStayApart};
 ghost use Rattle.snl_machine.specs.Ranges.{EventsFit, FirstHolds, PiecesFit, ReachedHold};
-ghost use Rattle.snl_machine.specs.Rounds.{RoundsEnd};
+ghost use Rattle.snl_machine.specs.Rounds.{RoundsEnd, TicksWithinBudget};
 ghost use Rattle.snl_machine.specs.Wakes.{TimeIsTheEvents, TimeIsTheEventsAlone, TimeNeverFalls, WakesEnd, WakesLieLater, WakesStayLater};
 
 /// A machine of a program runs what the program means on its tree.
@@ -27,6 +27,12 @@ pub fn turns_stay_apart()
 /// number of rounds is used up that an instant allows.
 pub fn rounds_end()
     ensures { RoundsEnd }
+{}
+
+/// An instant takes no more ticks than its budget: none is ever given back, and where none is left, each transition and
+/// each turn of a loop is a fault.
+pub fn ticks_within_budget()
+    ensures { TicksWithinBudget }
 {}
 
 /// All wakes before a time are run: they end because none comes before that time, the program ends or faults, and never

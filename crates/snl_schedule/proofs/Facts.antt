@@ -6,8 +6,9 @@ use Rattle.snl_meaning.specs.Endings.{IsOver}
 use Rattle.snl_meaning.specs.Run.{PieceContext, Exit, Over, LeftFor, Unfinished, Stuck, run_of}
 use Rattle.snl_vm.specs.Running.{LeavesValue}
 use Rattle.snl_schedule.specs.declared.plans.ClausePlan.{ClausePlan}
-use Rattle.snl_schedule.specs.Plans.{CanTest, CanRun}
-use Rattle.snl_schedule.specs.Loaded.{Loaded, CanRunLoaded}
+use Rattle.snl_schedule.specs.declared.plans.StatePlan.{StatePlan}
+use Rattle.snl_schedule.specs.Plans.{CanTest, CanDo, CanRun, CanRunState}
+use Rattle.snl_schedule.specs.Loaded.{Loaded, CanRunLoaded, context_in, own_context}
 
 -- of a value that is left
 leaves-fact : (r : Ran Exit) → IsProp (LeavesValue r)
@@ -31,6 +32,11 @@ test-fact : (g : PieceContext) (code : List Instr) (c : Option ℕ) → IsProp (
 test-fact g code None x y = refl
 test-fact g code (Some start) x y = λ j w. leaves-fact (run_of g code start w) (x w) (y w) j
 
+-- of an entry or an exit block
+do-fact : (g : PieceContext) (code : List Instr) (c : Option ℕ) → IsProp (CanDo g code c)
+do-fact g code None x y = refl
+do-fact g code (Some start) x y = λ j w. over-fact (run_of g code start w) (x w) (y w) j
+
 -- of a clause
 run-fact : (g : PieceContext) (code : List Instr) (c : ClausePlan) → IsProp (CanRun g code c)
 run-fact g code c x y = λ j. record {
@@ -38,6 +44,18 @@ run-fact g code c x y = λ j. record {
   block = λ w. over-fact (run_of g code c.block w) (x.block w) (y.block w) j;
 }
 
+-- of a state
+state-fact : (g : PieceContext) (code : List Instr) (s : StatePlan) → IsProp (CanRunState g code s)
+state-fact g code s x y = λ j. record {
+  entry = do-fact g code s.blocks.entry x.entry y.entry j;
+  clauses = λ n c is. run-fact g code c (x.clauses n c is) (y.clauses n c is) j;
+  exit = do-fact g code s.blocks.exit x.exit y.exit j;
+}
+
 -- of all that is loaded
 pub loaded-fact : (t : Loaded) → IsProp (CanRunLoaded t)
-loaded-fact t x y = λ j k s at i q there n c is. run-fact _ t.code c (x k s at i q there n c is) (y k s at i q there n c is) j
+loaded-fact t x y = λ j. record {
+  entry = do-fact (own_context t) t.code t.plan.blocks.entry x.entry y.entry j;
+  sets = λ k s at i q there. state-fact (context_in t k s) t.code q (x.sets k s at i q there) (y.sets k s at i q there) j;
+  exit = do-fact (own_context t) t.code t.plan.blocks.exit x.exit y.exit j;
+}

@@ -1,5 +1,5 @@
 -- The line of a fault, after what was written before.
-use Rattle.std.proofs.Common.{ℕ, List, ◌++◌, Option, ap, sym, ◌∙◌, append_assoc}
+use Rattle.std.proofs.Common.{◌≡◌, ℕ, List, ◌++◌, Option, ap, sym, ◌∙◌, append_assoc}
 use Rattle.snl_meaning.specs.declared.faults.Fault.{Fault}
 use Rattle.snl_output.specs.Devices.{told_more, IsCutShort}
 use Rattle.snl_output.specs.Does.{Faulted, text_of}
@@ -8,6 +8,15 @@ use Rattle.snl_meaning.specs.Ran.{Ran, Gives, Faults}
 use Rattle.snl_schedule.specs.Turn.{told_fault}
 use Rattle.snl_meaning.specs.World.{World}
 use Rattle.snl_output.proofs.Writing.{append-lost, told_more-told_more}
+
+-- a fault's line that was told
+pub told_fault-told : {A : Type 0} (set : List ℕ) (r : Ran A) (f : Fault) (line : ℕ) (w : World) (old mid new : Option (List ℕ)) →
+    Faulted f line w old mid r → new ≡ told_more mid (fault_line w.time set line (fault_text f)) → Faulted f line w old new (told_fault set r)
+told_fault-told set r f line w old mid new did told = let more = fault_line w.time set line (fault_text f) in record {
+  text = did.text ++ more;
+  is = ap (λ x. told_fault set x) did.is;
+  told = told ∙ ap (λ o. told_more o more) did.told ∙ told_more-told_more old did.text more;
+}
 
 -- a fault's line that is cut short
 pub told_fault-cut : {A : Type 0} (set : List ℕ) (r : Ran A) (f : Fault) (line : ℕ) (w : World) (old mid new : Option (List ℕ)) →

@@ -55,8 +55,8 @@ unmonitored-flags channel values number t w silent = by (is_of channel t) t.is_m
 pub flags_stay : FlagsStay
 flags_stay = record {
   refreshes = λ set w. links-flags set 0 w.ties w;
-  enters = λ set state w. refl;
-  connects = λ channel w. refl;
+  enters = λ set state is_timed w. refl;
+  connects = λ channel now w. refl;
   unsynced = unsynced-flags;
   unmonitored = unmonitored-flags;
 }

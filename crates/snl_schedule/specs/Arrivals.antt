@@ -23,9 +23,10 @@ received_from channel values number (l ∷ ls) w = received_from channel values 
 abbrev pub received : Program → ℕ → List ℤ → World → World
 received p channel values w = received_from channel values 0 p.links (record w { valued = slice_set w.valued channel true })
 
--- A channel is connected.
-abbrev pub connected : ℕ → World → World
-connected channel w = record w { ups = slice_set w.ups channel true }
+-- A channel is connected, or is not any more. Nothing else changes: values that came stay, and a program that has started
+-- goes on.
+abbrev pub connected : ℕ → Bool → World → World
+connected channel now w = record w { ups = slice_set w.ups channel now }
 
 -- ---- values that fit
 

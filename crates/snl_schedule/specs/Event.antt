@@ -1,7 +1,7 @@
 -- What one line of a trace does: first all wakes before its time, then the event.
-use Rattle.std.specs.Prelude.{ℕ, zero, suc, ◌-◌, Bool, true, ◌&&◌, nat_lt, List, [], Option, None, Some, if◌then◌else◌}
+use Rattle.std.specs.Prelude.{ℕ, zero, suc, ◌-◌, Bool, true, false, ◌&&◌, nat_lt, List, [], Option, None, Some, if◌then◌else◌}
 use Rattle.snl_schedule.specs.declared.events.Event.{Event}
-use Rattle.snl_schedule.specs.declared.events.Event.TheVariants.{Up, Val, Tick, Other}
+use Rattle.snl_schedule.specs.declared.events.Event.TheVariants.{Up, Down, Val, Tick, Other}
 use Rattle.snl_meaning.specs.declared.live.Live.{Live}
 use Rattle.snl_meaning.specs.declared.live.Live.TheVariants.{Running, Ended}
 use Rattle.snl_meaning.specs.Ran.{Ran, Gives, Faults, then_do}
@@ -12,7 +12,8 @@ use Rattle.snl_schedule.specs.Instant.{Program, instant_of}
 
 -- What an event changes of channels and buffers.
 abbrev pub applied : Program → Event → World → World
-applied p (Up channel) w = connected channel w
+applied p (Up channel) w = connected channel true w
+applied p (Down channel) w = connected channel false w
 applied p (Val channel values) w = received p channel values.items w
 applied p Tick w = w
 applied p Other w = w
@@ -70,6 +71,7 @@ line_of p budget ms event w = line_by p budget ms event w.phase w
 -- Whether an event fits: its channel, where it has one, is one of so many, and its values fit the links of that.
 abbrev pub is_event_fit : ℕ → List Tied → Event → Bool
 is_event_fit channels ls (Up channel) = nat_lt channel channels
+is_event_fit channels ls (Down channel) = nat_lt channel channels
 is_event_fit channels ls (Val channel values) = nat_lt channel channels && are_fit channel values.items ls
 is_event_fit channels ls Tick = true
 is_event_fit channels ls Other = true

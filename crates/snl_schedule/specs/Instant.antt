@@ -7,16 +7,30 @@ use Rattle.snl_meaning.specs.declared.live.Live.TheVariants.{Waiting, Running, E
 use Rattle.snl_meaning.specs.Ran.{Ran, Gives, then_do}
 use Rattle.snl_meaning.specs.World.{World}
 use Rattle.snl_meaning.specs.declared.ties.Tied.{Tied}
-use Rattle.snl_schedule.specs.declared.turns.Turned.{Turned}
-use Rattle.snl_schedule.specs.declared.turns.Turned.TheVariants.{Stayed, Moved, Exited}
+use Rattle.snl_schedule.specs.declared.transitions.Turned.{Turned}
+use Rattle.snl_schedule.specs.declared.transitions.Turned.TheVariants.{Stayed, Moved, Exited}
 use Rattle.snl_schedule.specs.Refresh.{refreshed}
-use Rattle.snl_schedule.specs.Turn.{StateSet, entered_in, turn_of}
+use Rattle.snl_schedule.specs.Turn.{StateSet, state_in, entered_in, told_fault, turn_of}
 
--- What a program is to its events: its name, its links and its state sets, each in their order.
+-- What a program is to its events: its name, its links and its state sets, each in their order, and its own two blocks,
+-- which run on the copy of the first state set.
 pub record Program : Type 0 where
   pub name : List ℕ
   pub links : List Tied
+  pub entry : World → Ran (Unit {0})
   pub sets : List StateSet
+  pub exit : World → Ran (Unit {0})
+
+-- ---- the program's own blocks
+
+-- The name of the first state set.
+abbrev pub first_name : List StateSet → List ℕ
+first_name [] = []
+first_name (s ∷ ss) = s.name
+
+-- One of the two blocks. The line of its fault names the first state set.
+abbrev pub owned : Program → (World → Ran (Unit {0})) → World → Ran (Unit {0})
+owned p block w = told_fault (first_name p.sets) (block w)
 
 -- ---- rounds
 
@@ -44,20 +58,24 @@ round_from (s ∷ ss) before w = then_do (turn_of s w) (λ turned. unless_exited
 abbrev pub round_of : Program → World → Ran Turned
 round_of p w = round_from p.sets Stayed (record w { due = None })
 
--- The end of a program by a transition that leads out of it: its line.
-abbrev pub exited : List ℕ → World → Ran (Unit {0})
-exited name w = Gives tt (record w { phase = Ended }) (exit_line w.time name)
+-- The last line of a program.
+abbrev pub closed_by : List ℕ → World → Ran (Unit {0})
+closed_by name w = Gives tt (record w { phase = Ended }) (exit_line w.time name)
+
+-- The end of a program by a transition that leads out of it: its exit block, and its line.
+abbrev pub exited : Program → World → Ran (Unit {0})
+exited p w = then_do (owned p p.exit w) (λ _ u. closed_by p.name u)
 
 -- What follows a round: others, if it had a transition. The wake is the least due time of the last one.
-abbrev pub unless_still : List ℕ → (World → Ran (Unit {0})) → Turned → World → Ran (Unit {0})
-unless_still name others Stayed w = Gives tt (record w { wake = w.due }) []
-unless_still name others Moved w = others w
-unless_still name others Exited w = exited name w
+abbrev pub unless_still : Program → (World → Ran (Unit {0})) → Turned → World → Ran (Unit {0})
+unless_still p others Stayed w = Gives tt (record w { wake = w.due }) []
+unless_still p others Moved w = others w
+unless_still p others Exited w = exited p w
 
 -- At most so many rounds, until one has no transition.
 abbrev pub rounds_of : Program → ℕ → World → Ran (Unit {0})
 rounds_of p zero w = Gives tt w []
-rounds_of p (suc n) w = then_do (round_of p w) (unless_still p.name (rounds_of p n))
+rounds_of p (suc n) w = then_do (round_of p w) (unless_still p (rounds_of p n))
 
 -- Each transition spends a tick, so there is at most one round more than ticks are left.
 abbrev pub all_rounds : Program → World → Ran (Unit {0})
@@ -83,14 +101,27 @@ abbrev pub refreshed_sets : List StateSet → World → World
 refreshed_sets [] w = w
 refreshed_sets (s ∷ ss) w = refreshed_sets ss (refreshed s.set w)
 
--- Every state set enters its first state.
-abbrev pub begun_sets : List StateSet → World → World
-begun_sets [] w = w
-begun_sets (s ∷ ss) w = begun_sets ss (entered_in s.set 0 w)
+-- A state set enters its first state: the time of its entry is now, and its entry block is done, whatever its options say.
+abbrev pub begun : StateSet → World → Ran (Unit {0})
+begun s w = told_fault s.name ((state_in s 0).entry (entered_in s.set 0 true w))
 
--- The start: its line, refresh, first states.
+-- Every state set does so, one after another.
+abbrev pub begun_sets : List StateSet → World → Ran (Unit {0})
+begun_sets [] w = Gives tt w []
+begun_sets (s ∷ ss) w = then_do (begun s w) (λ _ u. begun_sets ss u)
+
+-- What follows the line of the start: every state set is refreshed, then comes the program's entry block, then every state
+-- set enters its first state.
+abbrev pub opened : Program → World → Ran (Unit {0})
+opened p w = then_do (owned p p.entry (refreshed_sets p.sets w)) (λ _ u. begun_sets p.sets u)
+
+-- The line of the start.
+abbrev pub told_start : Program → World → Ran (Unit {0})
+told_start p w = Gives tt (record w { phase = Running }) (start_line w.time p.name)
+
+-- The start. It may fault, and what it spends are ticks of the first instant.
 abbrev pub started : Program → World → Ran (Unit {0})
-started p w = Gives tt (begun_sets p.sets (refreshed_sets p.sets (record w { phase = Running }))) (start_line w.time p.name)
+started p w = then_do (told_start p w) (λ _ u. opened p u)
 
 -- ---- an instant
 

@@ -1,5 +1,5 @@
 -- Laws of events: what has ended stays ended; what a refresh and what values leave as it is.
-use Rattle.std.specs.Prelude.{◌≡◌, ℕ, ℤ, false, List, [], Option, None, Result, Ok}
+use Rattle.std.specs.Prelude.{◌≡◌, ℕ, ℤ, Bool, false, List, [], Option, None, Result, Ok}
 use Rattle.snl_schedule.specs.declared.events.Event.{Event}
 use Rattle.snl_schedule.specs.Event.{line_of}
 use Rattle.snl_output.specs.declared.faults.Stop.{Stop}
@@ -33,11 +33,11 @@ AnswersThePhase = (p : Program) (budget ms : ℕ) (event : Event) (w after : Wor
 abbrev pub RefreshWithoutMarks : Type 0
 RefreshWithoutMarks = (set : ℕ) (w : World) → ((link : ℕ) → is_marked set link w ≡ false) → refreshed set w ≡ w
 
--- A refresh, a new state and a connection change no event flag, nor do values at a link that is not synced, or not monitored.
+-- A refresh, a new state and a connection, come or lost, change no event flag, nor do values at a link that is not synced, or not monitored.
 pub record FlagsStay : Type 0 where
   pub refreshes : (set : ℕ) (w : World) → (refreshed set w).flags ≡ w.flags
-  pub enters : (set state : ℕ) (w : World) → (entered_in set state w).flags ≡ w.flags
-  pub connects : (channel : ℕ) (w : World) → (connected channel w).flags ≡ w.flags
+  pub enters : (set state : ℕ) (is_timed : Bool) (w : World) → (entered_in set state is_timed w).flags ≡ w.flags
+  pub connects : (channel : ℕ) (now : Bool) (w : World) → (connected channel now w).flags ≡ w.flags
   pub unsynced : (channel : ℕ) (values : List ℤ) (number : ℕ) (t : Tied) (w : World) → t.flag ≡ None → (received_link channel values number t w).flags ≡ w.flags
   pub unmonitored : (channel : ℕ) (values : List ℤ) (number : ℕ) (t : Tied) (w : World) → t.is_monitored ≡ false →
       (received_link channel values number t w).flags ≡ w.flags

@@ -5,8 +5,8 @@ use Rattle.snl_meaning.specs.Run as run
 use Rattle.snl_schedule.specs.declared.plans.Plan.{Plan}
 use Rattle.snl_schedule.specs.declared.plans.SetPlan.{SetPlan}
 use Rattle.snl_schedule.specs.declared.plans.ProgramContext.{ProgramContext}
-use Rattle.snl_schedule.specs.Instant.{Program}
-use Rattle.snl_schedule.specs.Plans.{CanRunSet, set_of}
+use Rattle.snl_schedule.specs.Instant.{Program, first_name}
+use Rattle.snl_schedule.specs.Plans.{CanDo, CanRunSet, block_at, set_of}
 use Rattle.snl_schedule.specs.Turn.{StateSet}
 
 -- What is loaded: the plan of a program, its code, its strings by their numbers, and the room of the operands.
@@ -29,10 +29,22 @@ abbrev pub sets_from : Loaded → ℕ → List SetPlan → List StateSet
 sets_from t k [] = []
 sets_from t k (s ∷ ss) = set_of (context_in t k s) t.code s ∷ sets_from t (k + 1) ss
 
+-- What the code of the program's own blocks runs with: the copy and the name of the first state set.
+abbrev pub own_context : Loaded → run.PieceContext
+own_context t = record { set = 0; name = first_name (sets_from t 0 t.plan.sets.items); formats = t.formats; room = t.room }
+
 -- What stands for the program.
 abbrev pub program_of : Loaded → Program
-program_of t = record { name = t.plan.name.items; links = t.plan.links.items; sets = sets_from t 0 t.plan.sets.items }
+program_of t = record {
+  name = t.plan.name.items;
+  links = t.plan.links.items;
+  entry = block_at (own_context t) t.code t.plan.blocks.entry;
+  sets = sets_from t 0 t.plan.sets.items;
+  exit = block_at (own_context t) t.code t.plan.blocks.exit;
+}
 
--- The pieces of all state sets come to their ends in every world.
-abbrev pub CanRunLoaded : Loaded → Type 0
-CanRunLoaded t = (k : ℕ) (s : SetPlan) → slice_get t.plan.sets.items k ≡ Some s → CanRunSet (context_in t k s) t.code s.states.items
+-- All pieces come to their ends in every world.
+pub record CanRunLoaded (t : Loaded) : Type 0 where
+  pub entry : CanDo (own_context t) t.code t.plan.blocks.entry
+  pub sets : (k : ℕ) (s : SetPlan) → slice_get t.plan.sets.items k ≡ Some s → CanRunSet (context_in t k s) t.code s.states.items
+  pub exit : CanDo (own_context t) t.code t.plan.blocks.exit

@@ -6,17 +6,27 @@ use Rattle.snl_meaning.specs.Ran.{Ran, Gives, then_do}
 use Rattle.snl_meaning.specs.Endings.{IsOver}
 use Rattle.snl_meaning.specs.Run.{PieceContext, run_of}
 use Rattle.snl_meaning.specs.World.{World}
+use Rattle.snl_vm.specs.declared.contexts.PieceContext as declared
 use Rattle.snl_vm.specs.Running.{names_of, LeavesValue, value_at, left_at}
 use Rattle.snl_schedule.specs.declared.plans.ClausePlan.{ClausePlan}
 use Rattle.snl_schedule.specs.declared.plans.StatePlan.{StatePlan}
 use Rattle.snl_schedule.specs.declared.plans.SetPlan.{SetPlan}
 use Rattle.snl_schedule.specs.declared.plans.SetContext.{SetContext}
-use Rattle.snl_schedule.specs.Turn.{Clause, State, StateSet}
+use Rattle.snl_schedule.specs.Turn.{Clause, State, StateSet, nothing}
 
 -- Whether the condition whose code begins at an address holds. A missing one does.
 abbrev pub held_at : PieceContext → List Instr → Option ℕ → World → Ran Bool
 held_at g code None w = Gives true w []
 held_at g code (Some start) w = then_do (value_at g code start w) holds
+
+-- Where an entry or an exit block leads does not count.
+abbrev pub ended : Option ℕ → World → Ran (Unit {0})
+ended left w = Gives tt w []
+
+-- What the entry or the exit block does whose code begins at an address. A missing one does nothing.
+abbrev pub block_at : PieceContext → List Instr → Option ℕ → World → Ran (Unit {0})
+block_at g code None w = nothing w
+block_at g code (Some start) w = then_do (left_at g code start w) ended
 
 -- What stands for a clause,
 abbrev pub clause_of : PieceContext → List Instr → ClausePlan → Clause
@@ -24,7 +34,13 @@ clause_of g code c = record { holds = held_at g code c.condition; acts = left_at
 
 -- for a state,
 abbrev pub state_of : PieceContext → List Instr → StatePlan → State
-state_of g code s = record { name = s.name.items; clauses = map (clause_of g code) s.clauses.items }
+state_of g code s = record {
+  name = s.name.items;
+  entry = block_at g code s.blocks.entry;
+  clauses = map (clause_of g code) s.clauses.items;
+  exit = block_at g code s.blocks.exit;
+  again = s.again;
+}
 
 -- and for a state set.
 abbrev pub set_of : PieceContext → List Instr → SetPlan → StateSet
@@ -35,9 +51,13 @@ abbrev pub clause_by : PieceContext → List Instr → Option ClausePlan → Opt
 clause_by g code None = None
 clause_by g code (Some c) = Some (clause_of g code c)
 
+-- What code runs with in a context, with room for so many operands.
+abbrev pub context_for : declared.PieceContext → ℕ → PieceContext
+context_for c room = let n = names_of c in record { set = c.set; name = n.name; formats = n.formats; room = room }
+
 -- What the code of a state set runs with.
 abbrev pub context_on : SetContext → PieceContext
-context_on t = let n = names_of t.context in record { set = t.context.set; name = n.name; formats = n.formats; room = t.room }
+context_on t = context_for t.context t.room
 
 -- The state set of a context.
 abbrev pub set_on : SetContext → StateSet
@@ -49,6 +69,11 @@ set_on t = set_of (context_on t) t.code.now t.plan.now
 abbrev pub CanTest : PieceContext → List Instr → Option ℕ → Type 0
 CanTest g code None = Unit {0}
 CanTest g code (Some start) = (w : World) → LeavesValue (run_of g code start w)
+
+-- The block at an address comes to its end in every world, if there is such an address.
+abbrev pub CanDo : PieceContext → List Instr → Option ℕ → Type 0
+CanDo g code None = Unit {0}
+CanDo g code (Some start) = (w : World) → IsOver (run_of g code start w)
 
 -- The pieces of a clause come to their ends in every world.
 pub record CanRun (g : PieceContext) (code : List Instr) (c : ClausePlan) : Type 0 where
@@ -64,6 +89,12 @@ CanFire g code (Some c) = CanRun g code c
 abbrev pub CanRunAll : PieceContext → List Instr → List ClausePlan → Type 0
 CanRunAll g code cs = (k : ℕ) (c : ClausePlan) → slice_get cs k ≡ Some c → CanRun g code c
 
+-- those of a state,
+pub record CanRunState (g : PieceContext) (code : List Instr) (s : StatePlan) : Type 0 where
+  pub entry : CanDo g code s.blocks.entry
+  pub clauses : CanRunAll g code s.clauses.items
+  pub exit : CanDo g code s.blocks.exit
+
 -- and those of some states.
 abbrev pub CanRunSet : PieceContext → List Instr → List StatePlan → Type 0
-CanRunSet g code states = (k : ℕ) (s : StatePlan) → slice_get states k ≡ Some s → CanRunAll g code s.clauses.items
+CanRunSet g code states = (k : ℕ) (s : StatePlan) → slice_get states k ≡ Some s → CanRunState g code s

@@ -97,12 +97,13 @@ pub fn receive(channel: usize, values: &[i64], program: ProgramContext, store: &
     receive_all(channel, values, program, store);
 }
 
-/// A channel is connected.
-pub fn connect(channel: usize, store: &mut Store)
-    ensures { world_of store.new ≡ spec.connected channel (world_of store.old) }
+/// A channel is connected, or is not any more. Nothing else changes: values that came stay, and a program that has started
+/// goes on.
+pub fn connect(channel: usize, now: bool, store: &mut Store)
+    ensures { world_of store.new ≡ spec.connected channel now (world_of store.old) }
 {
     if let Some(up) = store.ups.get_mut(channel) {
-        *up = true;
+        *up = now;
     }
 }
 

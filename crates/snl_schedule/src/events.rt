@@ -10,6 +10,8 @@ pub const VALUES_KEPT: usize = 1024;
 pub enum Event {
     /// The channel is connected.
     Up(usize),
+    /// The channel is not connected any more.
+    Down(usize),
     /// The channel has these values.
     Val(usize, ArrayVec<i64, VALUES_KEPT>),
     /// Time has passed.

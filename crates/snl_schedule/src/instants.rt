@@ -9,8 +9,9 @@ ghost use Rattle.snl_schedule.specs.Instant as spec;
 ghost use Rattle.snl_schedule.specs.Loaded.{CanRunLoaded, loaded, program_of};
 
 use crate::plans::{ProgramContext, SetContext};
-use crate::starting::{are_ready, start};
-use crate::turns::{Turned, turn};
+use crate::starting::{are_ready, leave_program, start};
+use crate::transitions::Turned;
+use crate::turns::turn;
 use snl_meaning::Live;
 use snl_output::{Sink, Stop, write_exit};
 use snl_vm::{Operands, PieceContext, Store};
@@ -76,11 +77,11 @@ fn round<S: Sink>(
     Ok(before)
 }
 
-/// The end of a program by a transition that leads out of it: its line.
-fn exit<S: Sink>(name: &[u8], store: &mut Store, sink: &mut S) -> Result<(), Stop>
+/// The last line of a program.
+fn close<S: Sink>(name: &[u8], store: &mut Store, sink: &mut S) -> Result<(), Stop>
     requires failures { S.failures sink.old < 2 ^ 64 - 1 }
     ensures does { Does (λ x. x) result (world_of store.new) (S.told sink.old) (S.told sink.new)
-        (spec.exited name.now (world_of store.old)) }
+        (spec.closed_by name.now (world_of store.old)) }
     ensures failures { S.failures sink.new
         ≡ counted (stopped_by_sink result) (S.failures sink.old) }
 {
@@ -90,6 +91,28 @@ fn exit<S: Sink>(name: &[u8], store: &mut Store, sink: &mut S) -> Result<(), Sto
             Ok(())
         }
         Err(_) => Err(Stop::Sink),
+    }
+}
+
+/// The end of a program by a transition that leads out of it: its exit block, and its line.
+fn exit<S: Sink>(
+    program: ProgramContext,
+    store: &mut Store,
+    operands: &mut Operands,
+    sink: &mut S,
+) -> Result<(), Stop>
+    requires failures { S.failures sink.old < 2 ^ 64 - 1 }
+    requires room { room_of operands.old ≡ program.room }
+    requires runs { CanRunLoaded (loaded program) }
+    ensures does { Does (λ x. x) result (world_of store.new) (S.told sink.old) (S.told sink.new)
+        (spec.exited (program_of (loaded program.entry)) (world_of store.old)) }
+    ensures room { room_of operands.new ≡ room_of operands.old }
+    ensures failures { S.failures sink.new
+        ≡ counted (stopped_by_sink result) (S.failures sink.old) }
+{
+    match leave_program(program, store, operands, sink) {
+        Ok(()) => close(program.plan.name.as_slice(), store, sink),
+        Err(stop) => Err(stop),
     }
 }
 
@@ -117,7 +140,7 @@ pub fn rounds<S: Sink>(
                 store.wake = store.due;
                 return Ok(());
             }
-            Ok(Turned::Exited) => return exit(program.plan.name.as_slice(), store, sink),
+            Ok(Turned::Exited) => return exit(program, store, operands, sink),
             Err(stop) => return Err(stop),
         }
     }
@@ -149,7 +172,7 @@ pub fn instant<S: Sink>(
             if !are_ready(program.plan.links.as_slice(), store) {
                 return Ok(());
             }
-            match start(program, store, sink) {
+            match start(program, store, operands, sink) {
                 Ok(()) => rounds(program, store, operands, sink),
                 Err(stop) => Err(stop),
             }

@@ -28,8 +28,8 @@ pub fn refresh_without_marks()
     ensures { RefreshWithoutMarks }
 {}
 
-/// A refresh, a new state and a connection change no event flag, nor do values at a link that is not synced, or not
-/// monitored.
+/// A refresh, a new state and a connection, come or lost, change no event flag, nor do values at a link that is not
+/// synced, or not monitored.
 #[tactic(auto, using(crate::proofs::Staying::flags_stay))]
 pub fn flags_stay()
     ensures { FlagsStay }

@@ -9,12 +9,16 @@ mod plans;
 mod refreshing;
 mod starting;
 mod taking;
+mod transitions;
 mod turns;
 
 pub use arrivals::{connect, fit_links, receive};
 pub use events::{Event, VALUES_KEPT};
 pub use instants::{instant, rounds};
-pub use plans::{ClausePlan, Destination, Plan, ProgramContext, SetContext, SetPlan, StatePlan};
+pub use plans::{
+    Again, Blocks, ClausePlan, Destination, Plan, ProgramContext, SetContext, SetPlan, StatePlan,
+};
 pub use refreshing::refresh;
 pub use taking::{fits, take};
-pub use turns::{Turned, turn};
+pub use transitions::Turned;
+pub use turns::turn;

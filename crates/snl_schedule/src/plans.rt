@@ -31,13 +31,37 @@ pub struct ClausePlan {
     pub line: usize,
 }
 
+/// What a state does also where a transition leads from it to itself (SNL Reference, "State Option").
+#[derive(Clone, Copy)]
+pub struct Again {
+    /// It sets the time of its entry: `+t`.
+    pub time: bool,
+    /// It does its entry block: `-e`.
+    pub entry: bool,
+    /// It does its exit block: `-x`.
+    pub exit: bool,
+}
+
+/// The entry block and the exit block of a state or of a program.
+#[derive(Clone, Copy)]
+pub struct Blocks {
+    /// Where the code of the entry block begins; None where there is none.
+    pub entry: Option<usize>,
+    /// Where the code of the exit block begins; None where there is none.
+    pub exit: Option<usize>,
+}
+
 /// A state.
 #[derive(Drop)]
 pub struct StatePlan {
     /// As spelled in the source.
     pub name: Vec<u8>,
+    /// Its own blocks.
+    pub blocks: Blocks,
     /// In the order of the source.
     pub clauses: Vec<ClausePlan>,
+    /// By its options.
+    pub again: Again,
 }
 
 /// A state set.
@@ -69,6 +93,8 @@ pub struct Plan {
     pub name: Vec<u8>,
     /// In the order of the `assign` definitions.
     pub links: Vec<Tied>,
+    /// Its own blocks, which run on the copy of the first state set.
+    pub blocks: Blocks,
     /// In the order of the source.
     pub sets: Vec<SetPlan>,
     /// By channel: the numbers of its links.
@@ -93,16 +119,18 @@ impl Plan {
         alloc: Global,
         name: Vec<u8>,
         links: Vec<Tied>,
+        blocks: Blocks,
         sets: Vec<SetPlan>,
     ) -> Result<Plan, AllocError>
         ensures { IfOk result (λ plan. (plan.name ≡ name) × (plan.links ≡ links)
-            × (plan.sets ≡ sets)) }
+            × (plan.blocks ≡ blocks) × (plan.sets ≡ sets)) }
     {
         let channels = channels_of(alloc, links.as_slice())?;
         let rows = Rows::new(alloc, channels.as_slice())?;
         Ok(Plan {
             name,
             links,
+            blocks,
             sets,
             rows,
         })

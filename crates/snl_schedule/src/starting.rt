@@ -5,16 +5,19 @@ ghost use Rattle.std.specs.Bool.{OnTrue};
 ghost use Rattle.std.specs.List.{list_all};
 ghost use Rattle.snl_output.specs.Devices.{counted, stopped_by_sink};
 ghost use Rattle.snl_output.specs.Does.{Does};
+ghost use Rattle.snl_vm.specs.Stack.{room_of};
 ghost use Rattle.snl_vm.specs.Views.{world_of};
 ghost use Rattle.snl_schedule.specs.Instant as spec;
-ghost use Rattle.snl_schedule.specs.Loaded.{loaded, program_of};
+ghost use Rattle.snl_schedule.specs.Loaded.{CanRunLoaded, loaded, own_context, program_of};
+ghost use Rattle.snl_schedule.specs.Plans.{CanRunSet, context_for, context_on, set_on};
 
-use crate::plans::ProgramContext;
+use crate::plans::{ProgramContext, SetContext};
 use crate::refreshing::refresh;
-use crate::turns::enter;
+use crate::transitions::enter;
+use crate::turns::do_told;
 use snl_meaning::{Live, Tied};
 use snl_output::{Sink, Stop, write_start};
-use snl_vm::Store;
+use snl_vm::{Operands, PieceContext, Store};
 
 /// What is known of a channel; a link without one waits for nothing.
 fn is_so(known: &[bool], channel: Option<usize>) -> bool
@@ -88,30 +91,198 @@ fn refresh_sets(program: ProgramContext, store: &mut Store)
     }
 }
 
-/// Every state set enters its first state.
-fn begin_sets(program: ProgramContext, store: &mut Store)
-    ensures { world_of store.new ≡ spec.begun_sets (program_of (loaded program.entry)).sets
-        (world_of store.old) }
+/// A state set enters its first state.
+fn begin<S: Sink>(
+    state_set: SetContext,
+    store: &mut Store,
+    operands: &mut Operands,
+    sink: &mut S,
+) -> Result<(), Stop>
+    requires failures { S.failures sink.old < 2 ^ 64 - 1 }
+    requires room { room_of operands.old ≡ state_set.room }
+    requires runs { CanRunSet (context_on state_set) state_set.code.now
+        state_set.plan.now.states.items }
+    ensures does { Does (λ x. x) result (world_of store.new) (S.told sink.old) (S.told sink.new)
+        (spec.begun (set_on state_set.entry) (world_of store.old)) }
+    ensures room { room_of operands.new ≡ room_of operands.old }
+    ensures failures { S.failures sink.new
+        ≡ counted (stopped_by_sink result) (S.failures sink.old) }
 {
-    for (set, _) in program.plan.sets.iter().enumerate() {
-        enter(store, set, 0);
+    let SetContext {
+        plan,
+        code,
+        context,
+        room,
+    } = state_set;
+    enter(store, context.set, 0, true);
+    match plan.states.get(0) {
+        Some(state) => do_told(
+            state.blocks.entry,
+            code,
+            context,
+            room,
+            store,
+            operands,
+            sink,
+        ),
+        None => Ok(()),
     }
 }
 
-/// The start: its line, refresh, first states.
-pub fn start<S: Sink>(program: ProgramContext, store: &mut Store, sink: &mut S) -> Result<(), Stop>
+/// Every state set enters its first state, up to one whose entry block stops the run.
+fn begin_sets<S: Sink>(
+    program: ProgramContext,
+    store: &mut Store,
+    operands: &mut Operands,
+    sink: &mut S,
+) -> Result<(), Stop>
     requires failures { S.failures sink.old < 2 ^ 64 - 1 }
+    requires room { room_of operands.old ≡ program.room }
+    requires runs { CanRunLoaded (loaded program) }
+    ensures does { Does (λ x. x) result (world_of store.new) (S.told sink.old) (S.told sink.new)
+        (spec.begun_sets (program_of (loaded program.entry)).sets (world_of store.old)) }
+    ensures room { room_of operands.new ≡ room_of operands.old }
+    ensures failures { S.failures sink.new
+        ≡ counted (stopped_by_sink result) (S.failures sink.old) }
+{
+    for (set, plan) in program.plan.sets.iter().enumerate() {
+        let context = PieceContext {
+            set,
+            name: plan.name.as_slice(),
+            formats: program.formats,
+        };
+        let state_set = SetContext {
+            plan,
+            code: program.code,
+            context,
+            room: program.room,
+        };
+        match begin(state_set, store, operands, sink) {
+            Ok(()) => {}
+            Err(stop) => return Err(stop),
+        }
+    }
+    Ok(())
+}
+
+/// The name of the first state set; empty where there is none.
+fn first_name(program: ProgramContext<'_>) -> &[u8]
+    ensures { result.now ≡ spec.first_name (program_of (loaded program.entry)).sets }
+{
+    match program.plan.sets.get(0) {
+        Some(set) => set.name.as_slice(),
+        None => &[],
+    }
+}
+
+/// What the program's own blocks run with: the copy and the name of the first state set.
+fn own_context(program: ProgramContext<'_>) -> PieceContext<'_>
+    ensures { context_for result program.entry.room ≡ own_context (loaded program.entry) }
+{
+    PieceContext {
+        set: 0,
+        name: first_name(program),
+        formats: program.formats,
+    }
+}
+
+/// The program's entry block.
+fn enter_program<S: Sink>(
+    program: ProgramContext,
+    store: &mut Store,
+    operands: &mut Operands,
+    sink: &mut S,
+) -> Result<(), Stop>
+    requires failures { S.failures sink.old < 2 ^ 64 - 1 }
+    requires room { room_of operands.old ≡ program.room }
+    requires runs { CanRunLoaded (loaded program) }
+    ensures does { Does (λ x. x) result (world_of store.new) (S.told sink.old) (S.told sink.new)
+        (spec.owned (program_of (loaded program.entry)) (program_of (loaded program.entry)).entry
+        (world_of store.old)) }
+    ensures room { room_of operands.new ≡ room_of operands.old }
+    ensures failures { S.failures sink.new
+        ≡ counted (stopped_by_sink result) (S.failures sink.old) }
+{
+    let ProgramContext {
+        plan,
+        code,
+        room,
+        ..
+    } = program;
+    let own = own_context(program);
+    do_told(plan.blocks.entry, code, own, room, store, operands, sink)
+}
+
+/// The program's exit block.
+pub fn leave_program<S: Sink>(
+    program: ProgramContext,
+    store: &mut Store,
+    operands: &mut Operands,
+    sink: &mut S,
+) -> Result<(), Stop>
+    requires failures { S.failures sink.old < 2 ^ 64 - 1 }
+    requires room { room_of operands.old ≡ program.room }
+    requires runs { CanRunLoaded (loaded program) }
+    ensures does { Does (λ x. x) result (world_of store.new) (S.told sink.old) (S.told sink.new)
+        (spec.owned (program_of (loaded program.entry)) (program_of (loaded program.entry)).exit
+        (world_of store.old)) }
+    ensures room { room_of operands.new ≡ room_of operands.old }
+    ensures failures { S.failures sink.new
+        ≡ counted (stopped_by_sink result) (S.failures sink.old) }
+{
+    let ProgramContext {
+        plan,
+        code,
+        room,
+        ..
+    } = program;
+    let own = own_context(program);
+    do_told(plan.blocks.exit, code, own, room, store, operands, sink)
+}
+
+/// What follows the line of the start: refresh, the program's entry block, first states.
+fn open<S: Sink>(
+    program: ProgramContext,
+    store: &mut Store,
+    operands: &mut Operands,
+    sink: &mut S,
+) -> Result<(), Stop>
+    requires failures { S.failures sink.old < 2 ^ 64 - 1 }
+    requires room { room_of operands.old ≡ program.room }
+    requires runs { CanRunLoaded (loaded program) }
+    ensures does { Does (λ x. x) result (world_of store.new) (S.told sink.old) (S.told sink.new)
+        (spec.opened (program_of (loaded program.entry)) (world_of store.old)) }
+    ensures room { room_of operands.new ≡ room_of operands.old }
+    ensures failures { S.failures sink.new
+        ≡ counted (stopped_by_sink result) (S.failures sink.old) }
+{
+    refresh_sets(program, store);
+    match enter_program(program, store, operands, sink) {
+        Ok(()) => begin_sets(program, store, operands, sink),
+        Err(stop) => Err(stop),
+    }
+}
+
+/// The start. A block may stop it.
+pub fn start<S: Sink>(
+    program: ProgramContext,
+    store: &mut Store,
+    operands: &mut Operands,
+    sink: &mut S,
+) -> Result<(), Stop>
+    requires failures { S.failures sink.old < 2 ^ 64 - 1 }
+    requires room { room_of operands.old ≡ program.room }
+    requires runs { CanRunLoaded (loaded program) }
     ensures does { Does (λ x. x) result (world_of store.new) (S.told sink.old) (S.told sink.new)
         (spec.started (program_of (loaded program.entry)) (world_of store.old)) }
+    ensures room { room_of operands.new ≡ room_of operands.old }
     ensures failures { S.failures sink.new
         ≡ counted (stopped_by_sink result) (S.failures sink.old) }
 {
     match write_start(sink, store.time, program.plan.name.as_slice()) {
         Ok(()) => {
             store.phase = Live::Running;
-            refresh_sets(program, store);
-            begin_sets(program, store);
-            Ok(())
+            open(program, store, operands, sink)
         }
         Err(_) => Err(Stop::Sink),
     }

@@ -22,7 +22,8 @@ fn apply(event: &Event, program: ProgramContext, store: &mut Store)
         (world_of store.old) }
 {
     match event {
-        Event::Up(channel) => connect(*channel, store),
+        Event::Up(channel) => connect(*channel, true, store),
+        Event::Down(channel) => connect(*channel, false, store),
         Event::Val(channel, values) => receive(*channel, values.as_slice(), program, store),
         Event::Tick | Event::Other => {}
     }
@@ -34,7 +35,7 @@ pub fn fits(event: &Event, channels: usize, plan: &Plan) -> bool
     ensures { result ≡ spec.is_event_fit channels plan.now.links.items event.now }
 {
     match event {
-        Event::Up(channel) => *channel < channels,
+        Event::Up(channel) | Event::Down(channel) => *channel < channels,
         Event::Val(channel, values) => {
             *channel < channels && fit_links(*channel, values.as_slice(), plan)
         }

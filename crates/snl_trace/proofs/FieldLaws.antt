@@ -1,11 +1,14 @@
 -- Laws of the fields of a text.
-use Rattle.std.proofs.Common.{◌≡◌, ℕ, zero, suc, inl, inr, ◌+◌, ◌<◌, ◌≤◌, true, false, List, [], ◌∷◌, ◌++◌, length, take, drop, get_or, refl, sym, ap, ◌∙◌, subst, arith, append-nil, drop-cons, length-drop}
+use Rattle.std.proofs.Common.{◌≡◌, ◌==◌, ◌||◌, Some, None, ℕ, zero, suc, inl, inr, ◌+◌, ◌<◌, ◌≤◌, true, false, List, [], ◌∷◌, ◌++◌, length, take, drop, get_or, refl, sym, ap, ◌∙◌, subst, arith, append-nil, drop-cons, length-drop}
 use Rattle.std.specs.List.{All}
 use Rattle.std.proofs.Math.Nat.{eq-or-lt_of_le}
 use Rattle.std.proofs.Math.Seq.{drop-append_seam}
 use Rattle.std.proofs.lemmas.Bool.{cases_Bool, false≢true, ne_eqb}
 use Rattle.std.proofs.lemmas.List.{take-append-drop, get_or-take, get_or_default, length-take-le, drop_all}
 use Rattle.std.proofs.lemmas.List.Splits.{slice_split-cons_yes, slice_split_at, slice_split_none}
+use Rattle.bstr.specs.Bytes.{is_in}
+use Rattle.memchr.specs.Find.{Nowhere, Passes, IsFirstByte}
+use Rattle.std.proofs.Math.Bool.{or-false}
 use Rattle.snl_trace.specs.Fields.{is_blank, is_filled, fields, begins_with, begins_blank}
 use Rattle.snl_trace.specs.Reading.{front, at_end}
 
@@ -106,13 +109,6 @@ front-shorter (b ∷ bs) trimmed filled =
 abbrev pub NoneBefore : List ℕ → ℕ → Type 0
 NoneBefore text k = (j : ℕ) → j < k → is_blank (get_or text j 0) ≡ false
 
--- and neither is the byte at it
-pub none-more : (text : List ℕ) (k : ℕ) → NoneBefore text k → is_blank (get_or text k 0) ≡ false → NoneBefore text (k + 1)
-none-more text k none here j below = elim (eq-or-lt_of_le (omega (arith, below))) [
-  | inl same ↦ ap (λ n. is_blank (get_or text n 0)) same ∙ here
-  | inr before ↦ none j before
-]
-
 -- up to a place before which there is no blank, there is none
 none_before : (text : List ℕ) (k : ℕ) → k ≤ length text → NoneBefore text k → All (λ x. is_blank x ≡ false) (take k text)
 none_before text k within none j d below =
@@ -149,3 +145,30 @@ pub fields-cut : (text : List ℕ) (k : ℕ) → begins_blank text ≡ false →
 fields-cut text k trimmed filled within none ends =
     ap fields (sym (take-append-drop k text))
     ∙ fields-parts (take k text) (drop k text) (none_before text k within none) (filled_take k text (cut-shorter text k trimmed filled ends) filled) (ends-at text k within ends)
+
+-- a byte of the set of a space and a tab is a blank
+in-blanks : (x : ℕ) → is_in (32 ∷ 9 ∷ []) x ≡ is_blank x
+unfolding is_in
+in-blanks x = ap (λ b. x == 32 || b) (or-false (x == 9))
+
+-- where none of that set stands, no blank does
+none-blank : (text : List ℕ) (k : ℕ) → Nowhere (Passes (is_in (32 ∷ 9 ∷ [])) text) 0 k → NoneBefore text k
+none-blank text k nowhere j below = elim (cases_Bool (is_blank (get_or text j 0))) [
+  | inl blank ↦ absurd (nowhere j (omega arith) below (in-blanks (get_or text j 0) ∙ blank))
+  | inr plain ↦ plain
+]
+
+-- the first field ends at the first of that set,
+pub cut-at : (text : List ℕ) (k : ℕ) → begins_blank text ≡ false → 0 < length text → IsFirstByte (is_in (32 ∷ 9 ∷ [])) text (Some k) →
+    (fields text ≡ take k text ∷ fields (drop k text)) × (0 < k) × (k ≤ length text)
+cut-at text k trimmed filled first =
+    let blank : k < length text → is_blank (get_or text k 0) ≡ true = λ before. sym (in-blanks (get_or text k 0)) ∙ first.1 in (
+      fields-cut text k trimmed filled (omega (arith, first.0.high)) (none-blank text k first.0.before) blank,
+      cut-shorter text k trimmed filled blank,
+      omega (arith, first.0.high),
+    )
+
+-- and with the text where there is none
+pub cut-end : (text : List ℕ) → begins_blank text ≡ false → 0 < length text → IsFirstByte (is_in (32 ∷ 9 ∷ [])) text None →
+    fields text ≡ take (length text) text ∷ fields (drop (length text) text)
+cut-end text trimmed filled none = fields-cut text (length text) trimmed filled (omega arith) (none-blank text (length text) none) (λ before. absurd (omega (arith, before)))

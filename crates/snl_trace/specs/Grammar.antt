@@ -15,6 +15,7 @@ use Rattle.snl_trace.specs.Numbers.{time_of, value_of}
 -- what the fields behind the time tell, with a channel by its name
 pub data Told : Type 0 where
   Up : (name : List ℕ) → Told
+  Down : (name : List ℕ) → Told
   Val : (name : List ℕ) (values : List ℤ) → Told
   Tick : Told
 
@@ -49,10 +50,18 @@ abbrev pub ended : List (List ℕ) → Result (Unit {0}) TraceFault
 ended [] = Ok tt
 ended (field ∷ rest) = Err FieldCount
 
--- what follows each word: a name; a name, and one or more values; nothing
+-- a name, and nothing more
+unfoldable pub name_alone : List (List ℕ) → Result (List ℕ) TraceFault
+name_alone [] = Err FieldCount
+name_alone (name ∷ rest) = ended rest >>= λ _. Ok name
+
+-- what follows each word: a name; a name; a name, and one or more values; nothing
 unfoldable pub up_with : List (List ℕ) → Result Told TraceFault
-up_with [] = Err FieldCount
-up_with (name ∷ rest) = ended rest >>= λ _. Ok (Up name)
+up_with rest = name_alone rest >>= λ name. Ok (Up name)
+
+-- what `down` tells with these fields after it
+unfoldable pub down_with : List (List ℕ) → Result Told TraceFault
+down_with rest = name_alone rest >>= λ name. Ok (Down name)
 
 -- what `val` tells with these fields after it
 unfoldable pub val_with : List (List ℕ) → Result Told TraceFault
@@ -67,6 +76,7 @@ tick_with rest = ended rest >>= λ _. Ok Tick
 unfoldable pub word_of : List ℕ → Option Word
 word_of field =
     if bytes_eq field (codes "up") then Some words.Up
+    else if bytes_eq field (codes "down") then Some words.Down
     else if bytes_eq field (codes "val") then Some words.Val
     else if bytes_eq field (codes "tick") then Some words.Tick
     else None
@@ -75,6 +85,7 @@ word_of field =
 abbrev pub told_after : Option Word → List (List ℕ) → Result Told TraceFault
 told_after None rest = Err UnknownWord
 told_after (Some words.Up) rest = up_with rest
+told_after (Some words.Down) rest = down_with rest
 told_after (Some words.Val) rest = val_with rest
 told_after (Some words.Tick) rest = tick_with rest
 
@@ -116,6 +127,10 @@ abbrev pub up_at : Option ℕ → Event
 up_at None = events.Other
 up_at (Some number) = events.Up number
 
+abbrev pub down_at : Option ℕ → Event
+down_at None = events.Other
+down_at (Some number) = events.Down number
+
 -- an event, if it fits
 abbrev pub if_fits : Bool → Event → Result Event TraceFault
 if_fits fits event = if fits then Ok event else Err OutOfRange
@@ -132,6 +147,7 @@ val_at fits (Some number) values = if_fits (fits (val_of number values)) (val_of
 -- the event that is told: names become numbers of channels
 abbrev pub event_of : (List ℕ → Option ℕ) → (Event → Bool) → Told → Result Event TraceFault
 event_of channel fits (Up name) = Ok (up_at (channel name))
+event_of channel fits (Down name) = Ok (down_at (channel name))
 event_of channel fits (Val name values) = val_at fits (channel name) values
 event_of channel fits Tick = Ok events.Tick
 

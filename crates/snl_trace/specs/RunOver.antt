@@ -4,7 +4,7 @@ use Rattle.snl_machine.specs.declared.machine.Machine.{Machine}
 use Rattle.snl_machine.specs.MachineOf.{world_held}
 use Rattle.snl_output.specs.Devices.{told_more, IsCutShort}
 use Rattle.snl_output.specs.Does.{Gave, Faulted}
-use Rattle.snl_meaning.specs.Ran.{Ran, Gives}
+use Rattle.snl_meaning.specs.Ran.{Ran, Gives, also}
 use Rattle.snl_output.specs.Does.{text_of}
 use Rattle.snl_meaning.specs.World.{World}
 use Rattle.snl_trace.specs.declared.runner.End.{End}
@@ -93,3 +93,12 @@ RunsOver rules end.SinkFailed bytes left from w told = EndsIn rules end.SinkFail
 abbrev pub TextBegins : Type 0
 TextBegins = (rules : Rules) (number : ℕ) (first rest : List (List ℕ)) (w : World) →
     (more : List ℕ) × (text_of (run_from rules number (first ++ rest) w) ≡ text_of (run_from rules number first w) ++ more)
+
+-- after the last line nothing is written, and nothing changes
+abbrev pub NothingFollows : Type 0
+NothingFollows = (rules : Rules) (number : ℕ) (w : World) → run_from rules number [] w ≡ Gives end.TraceEnded w []
+
+-- where a trace ended behind some lines, the run over more lines is what that one was, and then the rest from its last world on
+abbrev pub RestGoesOn : Type 0
+RestGoesOn = (rules : Rules) (number : ℕ) (first rest : List (List ℕ)) (w v : World) (text : List ℕ) → run_from rules number first w ≡ Gives end.TraceEnded v text →
+    run_from rules number (first ++ rest) w ≡ also text (run_from rules (number + length first) rest v)

@@ -15,6 +15,7 @@ use Rattle.snl_trace.specs.Grammar.{Told, ◌>>=◌}
 -- what is told, with the values that stand apart
 abbrev pub told : List ℤ → Telling → Told
 told values (telling.Up name) = grammar.Up name.now
+told values (telling.Down name) = grammar.Down name.now
 told values (telling.Val name) = grammar.Val name.now values
 told values telling.Tick = grammar.Tick
 
@@ -34,6 +35,7 @@ told_seen values heard = option_map (λ at. (at.0, told values at.1)) heard
 -- the event that was heard, where the one with values stands apart
 abbrev pub event_heard : Event → Heard → Event
 event_heard room (heard.Up channel) = events.Up channel
+event_heard room (heard.Down channel) = events.Down channel
 event_heard room heard.Values = room
 event_heard room heard.Tick = events.Tick
 event_heard room heard.Other = events.Other
@@ -50,5 +52,6 @@ event_at_time ms made = made >>= λ event. Ok (Some (ms, event))
 abbrev pub HasRoom : Event → Type 0
 HasRoom (events.Val channel values) = Unit {0}
 HasRoom (events.Up channel) = ⊥
+HasRoom (events.Down channel) = ⊥
 HasRoom events.Tick = ⊥
 HasRoom events.Other = ⊥

@@ -6,6 +6,8 @@ ghost use Rattle.std.specs.List.{list_all};
 ghost use Rattle.snl_trace.specs.Fields as spec;
 ghost use Rattle.snl_trace.specs.Fields.{fields, begins_blank};
 
+use bstr::ByteSlice;
+
 /// Whether a byte is a space or a tab.
 #[inline(always)]
 pub fn is_blank(byte: u8) -> bool
@@ -74,7 +76,7 @@ pub fn trimmed(text: &[u8]) -> &[u8]
     left
 }
 
-/// Where the field ends with which a text begins.
+/// Where the field ends with which a text begins: at its first blank, or with the text.
 #[inline(always)]
 fn field_end(text: &[u8]) -> usize
     requires filled { 0 < length text.now }
@@ -83,11 +85,10 @@ fn field_end(text: &[u8]) -> usize
     ensures more { 0 < result }
     ensures within { result ≤ length text.now }
 {
-    let mut end = 0;
-    while end < text.len() && !is_blank(text[end]) {
-        end += 1;
+    match text.find_byteset(b" \t") {
+        Some(end) => end,
+        None => text.len(),
     }
-    end
 }
 
 /// The first field of a text, and the text behind it; None where there is no field.

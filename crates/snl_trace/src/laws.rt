@@ -1,8 +1,19 @@
 //! Laws of the definitions that the contract of `run` speaks of. Each function is its contract.
 
-ghost use Rattle.snl_trace.specs.RunOver.{TextBegins};
+ghost use Rattle.snl_trace.specs.RunOver.{NothingFollows, RestGoesOn, TextBegins};
 
 /// The text over the first lines of a trace is a prefix of the text over all of them.
 pub fn text_begins()
     ensures { TextBegins }
+{}
+
+/// After the last line nothing is written, and nothing changes.
+pub fn nothing_follows()
+    ensures { NothingFollows }
+{}
+
+/// Where a trace ended behind some lines, the run over more lines is what that one was, and then the rest from its last
+/// world on.
+pub fn rest_goes_on()
+    ensures { RestGoesOn }
 {}

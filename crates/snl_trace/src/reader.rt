@@ -4,7 +4,7 @@ ghost use Rattle.std.specs.Prelude.{◌≡◌};
 ghost use Rattle.snl_machine.specs.Lookup.{channel_of, fits_of};
 ghost use Rattle.snl_trace.specs.Fields.{fields};
 ghost use Rattle.snl_trace.specs.Grammar as grammar;
-ghost use Rattle.snl_trace.specs.Grammar.{told_of, read_of, if_fits, up_at};
+ghost use Rattle.snl_trace.specs.Grammar.{told_of, read_of, if_fits, up_at, down_at};
 ghost use Rattle.snl_trace.specs.Seen.{seen, time_seen, told_seen, event_heard, event_seen, event_at_time, HasRoom};
 
 use crate::fields::{is_ascii_text, is_silent, trimmed};
@@ -19,6 +19,8 @@ use snl_machine::{Event, Machine};
 pub enum Heard {
     /// A channel is connected.
     Up(usize),
+    /// A channel is not connected any more.
+    Down(usize),
     /// A channel has values: the event with them stands apart, in room that serves all lines.
     Values,
     /// Time has passed.
@@ -51,6 +53,7 @@ fn event_of(heard: Heard, room: Event) -> Event
 {
     match heard {
         Heard::Up(channel) => Event::Up(channel),
+        Heard::Down(channel) => Event::Down(channel),
         Heard::Values => room,
         Heard::Tick => Event::Tick,
         Heard::Other => Event::Other,
@@ -80,6 +83,7 @@ pub fn read_event(
                 None => Ok(Some((ms, Heard::Other))),
             },
             Some((ms, Telling::Up(name))) => Ok(Some((ms, up(name, machine)))),
+            Some((ms, Telling::Down(name))) => Ok(Some((ms, down(name, machine)))),
             Some((ms, Telling::Tick)) => Ok(Some((ms, Heard::Tick))),
         },
         _ => unreachable!(),
@@ -141,6 +145,16 @@ fn up(name: &[u8], machine: &Machine) -> Heard
 {
     match machine.channel(name) {
         Some(channel) => Heard::Up(channel),
+        None => Heard::Other,
+    }
+}
+
+/// What is heard of a channel that is not up any more.
+fn down(name: &[u8], machine: &Machine) -> Heard
+    ensures { (room : Event) → event_heard room result ≡ down_at (channel_of machine.now name.now) }
+{
+    match machine.channel(name) {
+        Some(channel) => Heard::Down(channel),
         None => Heard::Other,
     }
 }

@@ -3,7 +3,7 @@
 ghost use Rattle.std.specs.Prelude.{◌≡◌, ◌∷◌, [], ◌++◌, ℤ, List, take};
 ghost use Rattle.snl_trace.specs.Fields.{fields};
 ghost use Rattle.snl_trace.specs.Grammar as grammar;
-ghost use Rattle.snl_trace.specs.Grammar.{told_by, kept, values_of, kept_values, up_with, val_with, tick_with, ended, word_of};
+ghost use Rattle.snl_trace.specs.Grammar.{told_by, kept, values_of, kept_values, up_with, down_with, val_with, tick_with, ended, word_of};
 ghost use Rattle.snl_trace.specs.Seen.{seen, told};
 
 use crate::fields::{first_field, trimmed};
@@ -20,6 +20,8 @@ pub type Values = ArrayVec<i64, VALUES_KEPT>;
 pub enum Word {
     /// A channel is connected.
     Up,
+    /// A channel is not connected any more.
+    Down,
     /// A channel has values.
     Val,
     /// Time passes.
@@ -31,6 +33,8 @@ pub enum Word {
 pub enum Telling<'a> {
     /// The channel of this name is connected.
     Up(&'a [u8]),
+    /// The channel of this name is not connected any more.
+    Down(&'a [u8]),
     /// The channel of this name has values.
     Val(&'a [u8]),
     /// Time passes.
@@ -44,6 +48,8 @@ fn word_in(field: &[u8]) -> Option<Word>
 {
     if field == b"up".as_slice() {
         Some(Word::Up)
+    } else if field == b"down".as_slice() {
+        Some(Word::Down)
     } else if field == b"val".as_slice() {
         Some(Word::Val)
     } else if field == b"tick".as_slice() {
@@ -63,6 +69,7 @@ pub fn heard<'a>(text: &'a [u8], values: &mut Values) -> Result<Telling<'a>, Tra
     match word_in(field) {
         None => Err(TraceFault::UnknownWord),
         Some(Word::Up) => up(rest),
+        Some(Word::Down) => down(rest),
         Some(Word::Val) => val(rest, values),
         Some(Word::Tick) => tick(rest),
     }
@@ -73,9 +80,25 @@ pub fn heard<'a>(text: &'a [u8], values: &mut Values) -> Result<Telling<'a>, Tra
 fn up(rest: &[u8]) -> Result<Telling, TraceFault>
     ensures { (values : List ℤ) → seen (told values) result ≡ up_with (fields rest.now) }
 {
+    Ok(Telling::Up(name_alone(rest)?))
+}
+
+/// What `down` tells: the name that follows it.
+#[tactic(auto, unfolding(crate::specs::Grammar::down_with))]
+fn down(rest: &[u8]) -> Result<Telling, TraceFault>
+    ensures { (values : List ℤ) → seen (told values) result ≡ down_with (fields rest.now) }
+{
+    Ok(Telling::Down(name_alone(rest)?))
+}
+
+/// The name that stands alone in a text.
+#[tactic(auto, unfolding(crate::specs::Grammar::name_alone))]
+fn name_alone(rest: &[u8]) -> Result<&[u8], TraceFault>
+    ensures { seen (λ name. name.now) result ≡ grammar.name_alone (fields rest.now) }
+{
     let (name, rest) = first_field(rest).ok_or(TraceFault::FieldCount)?;
     end(rest)?;
-    Ok(Telling::Up(name))
+    Ok(name)
 }
 
 /// What `tick` tells: nothing follows it.

@@ -29,11 +29,11 @@ const REFUSED: [(&[u8], &[u8]); 4] = [
 /// Sources with no error that do not run yet, and the warnings about them.
 const NOT_YET: [(&[u8], &[u8]); 2] = [
     (
-        b"program p option +s; entry { } ss s { state a { } }",
+        b"program p option +s; entry { pvConnectCount(); } ss s { state a { } }",
         b"p.st:1: warning: W7 state 'a' has no clauses\n",
     ),
     (
-        b"program p option +s; ss s { state a { option -t; when () {} state a } }",
+        b"program p option +s; option -c; ss s { state a { when () {} state a } }",
         b"",
     ),
 ];

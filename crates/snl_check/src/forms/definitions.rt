@@ -72,12 +72,12 @@ fn does_sync_run(sync: &Sync) -> bool
     sync.place.subscript.is_none()
 }
 
-/// Whether it is one of these, or declares variables or event flags.
+/// Whether it is one of these, declares variables or event flags, or is an option.
 fn does_definition_run(definition: &Def) -> bool
     ensures { result ≡ spec.does_definition_run (definition_view definition.now) }
 {
     match definition {
-        Def::Declaration(_) | Def::EventFlags(_) => true,
+        Def::Declaration(_) | Def::EventFlags(_) | Def::Setting(_) => true,
         Def::Assign(assign) => does_assign_run(assign),
         Def::Monitor(place) => does_monitor_run(place),
         Def::Sync(sync) => does_sync_run(sync),
@@ -91,28 +91,6 @@ pub fn do_definitions_run(definitions: &[Def]) -> bool
 {
     for definition in definitions {
         if !does_definition_run(definition) {
-            return false;
-        }
-    }
-    true
-}
-
-/// Whether it is an option or such a definition.
-fn does_part_run(part: &Def) -> bool
-    ensures { result ≡ spec.does_part_run (definition_view part.now) }
-{
-    match part {
-        Def::Setting(_) => true,
-        _ => does_definition_run(part),
-    }
-}
-
-/// Whether all are options or such definitions.
-pub fn do_parts_run(parts: &[Def]) -> bool
-    ensures { result ≡ list_all spec.does_part_run (map definition_view parts.now) }
-{
-    for part in parts {
-        if !does_part_run(part) {
             return false;
         }
     }

@@ -5,16 +5,14 @@ ghost use Rattle.std.specs.List.{list_all};
 ghost use Rattle.snl_check.specs.Forms as spec;
 ghost use Rattle.snl_syntax.specs.view.Programs.{state_view, state_set_view, program_view};
 
-use crate::forms::definitions::{do_definitions_run, do_parts_run};
+use crate::forms::definitions::do_definitions_run;
 use snl_syntax::{Program, State, StateSet};
 
-/// Whether it is `state NAME { DEFINITION .. CLAUSE .. }`.
+/// Whether it is `state NAME { DEFINITION .. CLAUSE .. }`, with entry and exit blocks or without.
 fn does_state_run(state: &State) -> bool
     ensures { result ≡ spec.does_state_run (state_view state.now) }
 {
     do_definitions_run(state.definitions.as_slice())
-        && state.entry.is_none()
-        && state.exit.is_none()
 }
 
 /// Whether all are such states.
@@ -52,8 +50,6 @@ fn do_state_sets_run(sets: &[StateSet]) -> bool
 pub fn has_forms_that_run(program: &Program) -> bool
     ensures { result ≡ spec.has_forms_that_run (program_view program.now) }
 {
-    do_parts_run(program.definitions.as_slice())
-        && program.entry.is_none()
+    do_definitions_run(program.definitions.as_slice())
         && do_state_sets_run(program.state_sets.as_slice())
-        && program.exit.is_none()
 }

@@ -1,8 +1,20 @@
 use Rattle.snl_schedule.specs.Loaded.{loaded}
-use Rattle.std.proofs.Common.{◌≡◌, ◌∙◌, ℕ, List, ap, sym, get_or, rules, ◌<◌, length}
-use Rattle.snl_schedule.specs.Plans.{set_of}
+use Rattle.std.proofs.Common.{◌≡◌, ◌∙◌, ℕ, List, refl, ap, sym, subst, get_or, rules, ◌<◌, length}
+use Rattle.std.proofs.lemmas.Option.{slice_get_read}
+use Rattle.snl_schedule.specs.Plans.{CanRunSet, set_of}
 use Rattle.snl_schedule.proofs.OneByOne.{turn-goes_on, turn-exits, turn-stops}
 use Rattle.snl_schedule.proofs.instants.round.Goals as goal
+
+pub turn-requires-clause-runs : goal.turn-requires-clause-runs
+turn-requires-clause-runs g c =
+    let t = loaded c.args.program in
+    let sets = t.plan.sets.items in
+    let i = c.loop-set.set in
+    let s = c.plan-item.result in
+    let within : i < length sets = search rules in
+    let is : s ≡ get_or sets i s = search rules in
+    subst (λ (name : List ℕ). CanRunSet (record { set = i; name = name; formats = t.formats; room = t.room }) t.code s.states.items) (sym c.as_slice.ensures.value)
+    (c.requires.runs.sets i s (slice_get_read sets (length sets) i s refl within is))
 
 pub returns-in-Err-clause-does : goal.returns-in-Err-clause-does
 returns-in-Err-clause-does g c =

@@ -2,7 +2,7 @@ use Rattle.std.proofs.Common.{◌≡◌, None, drop}
 use Rattle.snl_output.proofs.Doing.{IsOnWay}
 use Rattle.snl_vm.specs.Stack.{room_of}
 use Rattle.snl_vm.specs.Views.{world_of}
-use Rattle.snl_schedule.specs.declared.turns.Turned.TheVariants.{Stayed}
+use Rattle.snl_schedule.specs.declared.transitions.Turned.TheVariants.{Stayed}
 use Rattle.snl_schedule.specs.Instant.{round_from}
 use Rattle.snl_schedule.specs.Loaded.{loaded, sets_from}
 use Rattle.snl_schedule.proofs.instants.round.Given as goal

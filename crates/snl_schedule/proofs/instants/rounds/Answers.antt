@@ -32,7 +32,7 @@ returns-in-Ok-Exited-clause-does g c =
     let i = c.loop-round._round in
     let fuel : end - i ≡ suc (end - (i + 1)) = omega (arith, c.loop-round-test.true) in
     round-exits (program_of (loaded c.args.program)) (world_of c.loop-round.store) (end - i) (end - (i + 1)) fuel _ _ _ c.loop-round.invariant.on_way _ _ _ _ _
-    (rw c.in-Ok-Exited.field-0-is at c.in-Ok-Exited.ensures.does) (rw c.as_slice.ensures.value at c.exit.ensures.does)
+    (rw c.in-Ok-Exited.field-0-is at c.in-Ok-Exited.ensures.does) c.exit.ensures.does
 
 pub returns-in-Err-clause-does : goal.returns-in-Err-clause-does
 returns-in-Err-clause-does g c =

@@ -1,12 +1,11 @@
-use Rattle.std.proofs.Common.{arith, rules}
-use Rattle.snl_trace.proofs.FieldLaws.{fields-cut}
+use Rattle.snl_trace.proofs.FieldLaws.{cut-at, cut-end}
 use Rattle.snl_trace.proofs.fields.field_end.Goals as goal
 
-pub returns-else-not-is_blank-clause-cut : goal.returns-else-not-is_blank-clause-cut
-returns-else-not-is_blank-clause-cut c =
-    fields-cut c.args.text.now c.loop-end.end c.requires.begins c.requires.filled c.loop-end.invariant.within c.loop-end.invariant.none (λ before. search rules)
+pub returns-in-Some-clause-cut : goal.returns-in-Some-clause-cut
+returns-in-Some-clause-cut c = (cut-at c.args.text.now c.in-Some.end c.requires.begins c.requires.filled c.in-Some.ensures).0
 
-pub returns-after-loop-end-clause-cut : goal.returns-after-loop-end-clause-cut
-returns-after-loop-end-clause-cut c =
-    fields-cut c.args.text.now c.loop-end.end c.requires.begins c.requires.filled c.loop-end.invariant.within c.loop-end.invariant.none
-    (λ before. absurd (omega (arith, before, c.loop-end-test.false)))
+pub returns-in-Some-clause-more : goal.returns-in-Some-clause-more
+returns-in-Some-clause-more c = (cut-at c.args.text.now c.in-Some.end c.requires.begins c.requires.filled c.in-Some.ensures).1
+
+pub returns-in-None-clause-cut : goal.returns-in-None-clause-cut
+returns-in-None-clause-cut c = cut-end c.args.text.now c.requires.begins c.requires.filled c.in-None.ensures

@@ -29,6 +29,15 @@ returns-in-Ok-eq0-clause-does g c =
     under_way-ended (rules_of c.args.machine.now) _ _ _ _ c.in-Ok-eq0.field-0 c.read.new.room c.finish.result _ _ _ _ refl c.loop-reads.invariant.way c.in-Ok-eq0.ensures.given nothing some
     (rw (c.as_slice.ensures.value, same) at c.finish.ensures.does)
 
+pub returns-in-Ok-eq0-clause-task : goal.returns-in-Ok-eq0-clause-task
+returns-in-Ok-eq0-clause-task g c = c.finish.ensures.task ∙ c.loop-reads.invariant.task
+
+pub returns-in-Some-clause-task : goal.returns-in-Some-clause-task
+returns-in-Some-clause-task g c = c.take_in.ensures.task ∙ c.loop-reads.invariant.task
+
+pub returns-clause-task : goal.returns-clause-task
+returns-clause-task g c = c.finish-2.ensures.task ∙ c.loop-reads.invariant.task
+
 pub returns-in-Some-clause-does : goal.returns-in-Some-clause-does
 returns-in-Some-clause-does g c =
     let same : rules_of c.loop-reads.machine ≡ rules_of c.args.machine.now = rules-same c.args.machine.now c.loop-reads.machine c.loop-reads.invariant.task c.loop-reads.invariant.budget in

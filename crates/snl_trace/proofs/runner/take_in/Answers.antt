@@ -42,6 +42,9 @@ returns-in-Some-take_line-clause-does g c =
     let to = standing c.take_line.new.line.items c.take_line.new.number c.take_line.new.machine (g.S.Sink.told c.take_line.new.sink) in
     way-ends _ _ _ _ _ c.in-Some-take_line.end _ _ to c.loop-text.invariant.way cut (rw same at c.in-Some-take_line.ensures.does)
 
+pub returns-in-Some-take_line-clause-task : goal.returns-in-Some-take_line-clause-task
+returns-in-Some-take_line-clause-task g c = c.take_line.ensures.task ∙ c.loop-text.invariant.task
+
 pub returns-in-Ok-clause-does : goal.returns-in-Ok-clause-does
 returns-in-Ok-clause-does g c =
     let b = standing c.loop-text.line.items c.loop-text.number c.loop-text.machine (g.S.Sink.told c.loop-text.sink) in

@@ -1,0 +1,39 @@
+-- What the pieces of the states of a state set keep of the world, by what its conditions and blocks keep.
+use Rattle.std.proofs.Common.{ℕ, List, [], ◌∷◌, Option, None, Some, map}
+use Rattle.snl_syntax.specs.Programs.{ClauseTree, StateTree, ProgramTree}
+use Rattle.snl_syntax.specs.Statements.{BlockTree}
+use Rattle.snl_code.specs.Heres.{here_in}
+use Rattle.snl_meaning.specs.Effect.{Way, Done, Broken, Continued, Left, block_effect}
+use Rattle.snl_meaning.specs.Keeping.{PiecesKeep, world_after}
+use Rattle.snl_meaning.specs.World.{World}
+use Rattle.snl_load.specs.Meaning.{left_for, finished, block_meaning, clause_meaning, state_meaning}
+use Rattle.snl_machine.proofs.Turning.{Keeps, ClausesKeep, StateKeeps, StatesKeep, then-keeps}
+
+module _ (p : ProgramTree) (set : ℕ) (R : World → World → Type 0) (nothing : (w : World) → R w w) (both : (u v w : World) → R u v → R v w → R u w)
+    (pieces : PiecesKeep (here_in p set) R) where
+  -- the state that a block leaves for changes nothing
+  left-keeps : (way : Way) → Keeps R (left_for way)
+  left-keeps Done w = nothing w
+  left-keeps Broken w = nothing w
+  left-keeps Continued w = nothing w
+  left-keeps (Left state) w = nothing w
+
+  -- an entry or an exit block
+  pub block-keeps : (b : Option BlockTree) → Keeps R (block_meaning (here_in p set) b)
+  block-keeps None w = nothing w
+  block-keeps (Some b) w = then-keeps R both w (block_effect (here_in p set) b w) finished (pieces.block b w) (λ way u. nothing u)
+
+  -- clauses
+  clauses-keep : (cs : List ClauseTree) → ClausesKeep R (map (clause_meaning (here_in p set)) cs)
+  clauses-keep [] = tt
+  clauses-keep (c ∷ cs) =
+      (record { holds = pieces.condition c.condition; acts = λ w. then-keeps R both w (block_effect (here_in p set) c.block w) left_for (pieces.block c.block w) left-keeps }, clauses-keep cs)
+
+  -- a state
+  state-keeps : (q : StateTree) → StateKeeps R (state_meaning (here_in p set) q)
+  state-keeps q = record { entry = block-keeps q.entry; clauses = clauses-keep q.clauses; exit = block-keeps q.exit }
+
+  -- states
+  pub states-keep : (qs : List StateTree) → StatesKeep R (map (state_meaning (here_in p set)) qs)
+  states-keep [] = tt
+  states-keep (q ∷ qs) = (state-keeps q, states-keep qs)

@@ -1,0 +1,17 @@
+use Rattle.snl_output.proofs.Doing.{does-then, stopped-then}
+use Rattle.snl_vm.specs.Views.{world_of}
+use Rattle.snl_schedule.specs.Instant.{owned, refreshed_sets, begun_sets}
+use Rattle.snl_schedule.specs.Loaded.{loaded, program_of}
+use Rattle.snl_schedule.proofs.starting.open.Goals as goal
+
+pub returns-in-Ok-clause-does : goal.returns-in-Ok-clause-does
+returns-in-Ok-clause-does g c =
+    let p = program_of (loaded c.args.program) in
+    does-then (λ x. x) c.begin_sets.result (owned p p.entry (refreshed_sets p.sets (world_of c.args.store.now))) (λ _ u. begun_sets p.sets u) _ _ _ _ _ _
+    (rw c.refresh_sets.ensures at c.in-Ok.ensures.does) c.begin_sets.ensures.does
+
+pub returns-in-Err-clause-does : goal.returns-in-Err-clause-does
+returns-in-Err-clause-does g c =
+    let p = program_of (loaded c.args.program) in
+    stopped-then (λ x. x) (λ x. x) c.in-Err.stop (owned p p.entry (refreshed_sets p.sets (world_of c.args.store.now))) (λ _ u. begun_sets p.sets u) _ _ _
+    (rw c.refresh_sets.ensures at c.in-Err.ensures.does)

@@ -1,0 +1,316 @@
+//! A transition of a state set: the line, the states that it leads from and to with their blocks, and the way out.
+
+ghost use Rattle.std.specs.Prelude.{◌≡◌, ◌-◌, ◌^◌, ◌<◌};
+ghost use Rattle.snl_output.specs.Devices.{counted, stopped_by_sink};
+ghost use Rattle.snl_output.specs.Does.{Does};
+ghost use Rattle.snl_vm.specs.Stack.{room_of};
+ghost use Rattle.snl_vm.specs.Views.{world_of};
+ghost use Rattle.snl_schedule.specs.Plans.{CanDo, CanRun, CanRunSet, block_at, clause_of, context_for, context_on, set_on};
+ghost use Rattle.snl_schedule.specs.Turn as spec;
+
+use crate::plans::{ClausePlan, Destination, SetContext};
+use snl_meaning::Instr;
+use snl_output::{Sink, Stop, write_go};
+use snl_vm::{Operands, PieceContext, Store, perform, spend};
+
+/// How a turn, or a round of turns, came to its end.
+#[derive(Clone, Copy)]
+pub enum Turned {
+    /// Without a transition.
+    Stayed,
+    /// With a transition to a state.
+    Moved,
+    /// With one that leads out of the program: no other turn follows.
+    Exited,
+}
+
+/// An entry or an exit block, if there is one.
+pub fn do_block<S: Sink>(
+    start: Option<usize>,
+    code: &[Instr],
+    context: PieceContext,
+    room: usize,
+    store: &mut Store,
+    operands: &mut Operands,
+    sink: &mut S,
+) -> Result<(), Stop>
+    requires failures { S.failures sink.old < 2 ^ 64 - 1 }
+    requires room { room_of operands.old ≡ room }
+    requires runs { CanDo (context_for context room) code.now start }
+    ensures does { Does (λ x. x) result (world_of store.new) (S.told sink.old) (S.told sink.new)
+        (block_at (context_for context.entry room) code.now start (world_of store.old)) }
+    ensures room { room_of operands.new ≡ room_of operands.old }
+    ensures failures { S.failures sink.new
+        ≡ counted (stopped_by_sink result) (S.failures sink.old) }
+{
+    match start {
+        None => Ok(()),
+        Some(start) => match perform(code, start, context, store, operands, sink) {
+            Ok(_) => Ok(()),
+            Err(stop) => Err(stop),
+        },
+    }
+}
+
+/// The same of a state, where it is due.
+fn do_if_due<S: Sink>(
+    is_due: bool,
+    start: Option<usize>,
+    state_set: SetContext,
+    store: &mut Store,
+    operands: &mut Operands,
+    sink: &mut S,
+) -> Result<(), Stop>
+    requires failures { S.failures sink.old < 2 ^ 64 - 1 }
+    requires room { room_of operands.old ≡ state_set.room }
+    requires runs { CanDo (context_on state_set) state_set.code.now start }
+    ensures does { Does (λ x. x) result (world_of store.new) (S.told sink.old) (S.told sink.new)
+        (spec.if_due is_due (block_at (context_on state_set.entry) state_set.entry.code.now start)
+        (world_of store.old)) }
+    ensures room { room_of operands.new ≡ room_of operands.old }
+    ensures failures { S.failures sink.new
+        ≡ counted (stopped_by_sink result) (S.failures sink.old) }
+{
+    if is_due {
+        let SetContext {
+            code,
+            context,
+            room,
+            ..
+        } = state_set;
+        do_block(start, code, context, room, store, operands, sink)
+    } else {
+        Ok(())
+    }
+}
+
+/// Whether something is due on the way from a state to a state: always where they differ, and where they are the same
+/// only if the state does it again.
+fn is_due(again: bool, from: usize, to: usize) -> bool
+    ensures { result ≡ spec.is_due again from to }
+{
+    again || from != to
+}
+
+/// A state set is in a state from now on. The time of its entry is now, where that is due.
+pub fn enter(store: &mut Store, set: usize, state: usize, is_timed: bool)
+    ensures { world_of store.new ≡ spec.entered_in set state is_timed (world_of store.old) }
+{
+    let now = store.time;
+    if let Some(copy) = store.copies.get_mut(set) {
+        copy.state = state;
+        if is_timed {
+            copy.entered = now;
+        }
+    }
+}
+
+/// The name of a state by its number; empty where there is none.
+fn state_name(state_set: SetContext<'_>, state: usize) -> &[u8]
+    ensures { result.now ≡ spec.state_name (set_on state_set.entry) state }
+{
+    match state_set.plan.states.get(state) {
+        Some(state) => state.name.as_slice(),
+        None => &[],
+    }
+}
+
+/// The state that is left: its exit block, where that is due.
+fn leave<S: Sink>(
+    from: usize,
+    to: usize,
+    state_set: SetContext,
+    store: &mut Store,
+    operands: &mut Operands,
+    sink: &mut S,
+) -> Result<(), Stop>
+    requires failures { S.failures sink.old < 2 ^ 64 - 1 }
+    requires room { room_of operands.old ≡ state_set.room }
+    requires runs { CanRunSet (context_on state_set) state_set.code.now
+        state_set.plan.now.states.items }
+    ensures does { Does (λ x. x) result (world_of store.new) (S.told sink.old) (S.told sink.new)
+        (spec.left_for (set_on state_set.entry) from to (world_of store.old)) }
+    ensures room { room_of operands.new ≡ room_of operands.old }
+    ensures failures { S.failures sink.new
+        ≡ counted (stopped_by_sink result) (S.failures sink.old) }
+{
+    match state_set.plan.states.get(from) {
+        Some(state) => {
+            let due = is_due(state.again.exit, from, to);
+            do_if_due(due, state.blocks.exit, state_set, store, operands, sink)
+        }
+        None => Ok(()),
+    }
+}
+
+/// The state that is entered: the time of its entry, and its entry block, where they are due.
+fn come<S: Sink>(
+    from: usize,
+    to: usize,
+    state_set: SetContext,
+    store: &mut Store,
+    operands: &mut Operands,
+    sink: &mut S,
+) -> Result<(), Stop>
+    requires failures { S.failures sink.old < 2 ^ 64 - 1 }
+    requires room { room_of operands.old ≡ state_set.room }
+    requires runs { CanRunSet (context_on state_set) state_set.code.now
+        state_set.plan.now.states.items }
+    ensures does { Does (λ x. x) result (world_of store.new) (S.told sink.old) (S.told sink.new)
+        (spec.come_to (set_on state_set.entry) from to (world_of store.old)) }
+    ensures room { room_of operands.new ≡ room_of operands.old }
+    ensures failures { S.failures sink.new
+        ≡ counted (stopped_by_sink result) (S.failures sink.old) }
+{
+    let set = state_set.context.set;
+    match state_set.plan.states.get(to) {
+        Some(state) => {
+            enter(store, set, to, is_due(state.again.time, from, to));
+            let due = is_due(state.again.entry, from, to);
+            do_if_due(due, state.blocks.entry, state_set, store, operands, sink)
+        }
+        None => {
+            enter(store, set, to, true);
+            Ok(())
+        }
+    }
+}
+
+/// From a state to a state.
+fn cross<S: Sink>(
+    from: usize,
+    to: usize,
+    state_set: SetContext,
+    store: &mut Store,
+    operands: &mut Operands,
+    sink: &mut S,
+) -> Result<Turned, Stop>
+    requires failures { S.failures sink.old < 2 ^ 64 - 1 }
+    requires room { room_of operands.old ≡ state_set.room }
+    requires runs { CanRunSet (context_on state_set) state_set.code.now
+        state_set.plan.now.states.items }
+    ensures does { Does (λ t. t) result (world_of store.new) (S.told sink.old) (S.told sink.new)
+        (spec.crossed (set_on state_set.entry) from to (world_of store.old)) }
+    ensures room { room_of operands.new ≡ room_of operands.old }
+    ensures failures { S.failures sink.new
+        ≡ counted (stopped_by_sink result) (S.failures sink.old) }
+{
+    match leave(from, to, state_set, store, operands, sink) {
+        Ok(()) => match come(from, to, state_set, store, operands, sink) {
+            Ok(()) => Ok(Turned::Moved),
+            Err(stop) => Err(stop),
+        },
+        Err(stop) => Err(stop),
+    }
+}
+
+/// Writes the line of a transition, and goes on to the new state. One that leads out of the program enters none.
+fn arrive<S: Sink>(
+    target: Destination,
+    from: usize,
+    state_set: SetContext,
+    store: &mut Store,
+    operands: &mut Operands,
+    sink: &mut S,
+) -> Result<Turned, Stop>
+    requires failures { S.failures sink.old < 2 ^ 64 - 1 }
+    requires room { room_of operands.old ≡ state_set.room }
+    requires runs { CanRunSet (context_on state_set) state_set.code.now
+        state_set.plan.now.states.items }
+    ensures does { Does (λ t. t) result (world_of store.new) (S.told sink.old) (S.told sink.new)
+        (spec.arrived (set_on state_set.entry) from target (world_of store.old)) }
+    ensures room { room_of operands.new ≡ room_of operands.old }
+    ensures failures { S.failures sink.new
+        ≡ counted (stopped_by_sink result) (S.failures sink.old) }
+{
+    let set = state_set.context.name;
+    let old = state_name(state_set, from);
+    match target {
+        Destination::State(state) => {
+            match write_go(sink, store.time, set, old, state_name(state_set, state)) {
+                Ok(()) => cross(from, state, state_set, store, operands, sink),
+                Err(_) => Err(Stop::Sink),
+            }
+        }
+        Destination::Exit => match write_go(sink, store.time, set, old, b"exit") {
+            Ok(()) => Ok(Turned::Exited),
+            Err(_) => Err(Stop::Sink),
+        },
+    }
+}
+
+/// The state that a block left for; where it left for none, what the clause says.
+fn target_by(left: Option<usize>, target: Destination) -> Destination
+    ensures { result ≡ spec.target_by left target }
+{
+    match left {
+        Some(state) => Destination::State(state),
+        None => target,
+    }
+}
+
+/// A clause's block, and then the state that the block leaves for, or else where the clause leads.
+fn act<S: Sink>(
+    clause: ClausePlan,
+    from: usize,
+    state_set: SetContext,
+    store: &mut Store,
+    operands: &mut Operands,
+    sink: &mut S,
+) -> Result<Turned, Stop>
+    requires failures { S.failures sink.old < 2 ^ 64 - 1 }
+    requires room { room_of operands.old ≡ state_set.room }
+    requires clause { CanRun (context_on state_set) state_set.code.now clause }
+    requires runs { CanRunSet (context_on state_set) state_set.code.now
+        state_set.plan.now.states.items }
+    ensures does { Does (λ t. t) result (world_of store.new) (S.told sink.old) (S.told sink.new)
+        (spec.acted (set_on state_set.entry) from
+        (clause_of (context_on state_set.entry) state_set.entry.code.now clause)
+        (world_of store.old)) }
+    ensures room { room_of operands.new ≡ room_of operands.old }
+    ensures failures { S.failures sink.new
+        ≡ counted (stopped_by_sink result) (S.failures sink.old) }
+{
+    match perform(
+        state_set.code,
+        clause.block,
+        state_set.context,
+        store,
+        operands,
+        sink,
+    ) {
+        Ok(left) => {
+            let target = target_by(left, clause.target);
+            arrive(target, from, state_set, store, operands, sink)
+        }
+        Err(stop) => Err(stop),
+    }
+}
+
+/// A transition: a tick, the block, the line, and what the states do.
+pub fn transit<S: Sink>(
+    clause: ClausePlan,
+    from: usize,
+    state_set: SetContext,
+    store: &mut Store,
+    operands: &mut Operands,
+    sink: &mut S,
+) -> Result<Turned, Stop>
+    requires failures { S.failures sink.old < 2 ^ 64 - 1 }
+    requires room { room_of operands.old ≡ state_set.room }
+    requires clause { CanRun (context_on state_set) state_set.code.now clause }
+    requires runs { CanRunSet (context_on state_set) state_set.code.now
+        state_set.plan.now.states.items }
+    ensures does { Does (λ t. t) result (world_of store.new) (S.told sink.old) (S.told sink.new)
+        (spec.transition (set_on state_set.entry) from
+        (clause_of (context_on state_set.entry) state_set.entry.code.now clause)
+        (world_of store.old)) }
+    ensures room { room_of operands.new ≡ room_of operands.old }
+    ensures failures { S.failures sink.new
+        ≡ counted (stopped_by_sink result) (S.failures sink.old) }
+{
+    match spend(store, clause.line) {
+        Ok(()) => act(clause, from, state_set, store, operands, sink),
+        Err(charge) => Err(Stop::Fault(charge.fault, charge.line)),
+    }
+}
