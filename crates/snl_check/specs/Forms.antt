@@ -1,13 +1,9 @@
 -- The forms of programs that run: those of definitions, states and state sets.
 use Rattle.std.specs.Prelude.{◌-◌, ℕ, nat_lt, ◌==◌, Bool, true, false, not, ◌&&◌, List, length, Option, Some, None, slice_range}
 use Rattle.std.specs.List.{list_all}
-use Rattle.snl_syntax.specs.Definitions.{NamesTree, one_name, ChannelsTree, DefinitionTree, declaration, assign, monitor, sync, event_flags, setting}
+use Rattle.snl_text.specs.declared.tokens.Token.{Token}
+use Rattle.snl_syntax.specs.Definitions.{NamesTree, one_name, name_list, ChannelsTree, DefinitionTree, assign, sync_queue}
 use Rattle.snl_syntax.specs.Programs.{StateTree, StateSetTree, ProgramTree}
-
--- Nothing where something may be.
-abbrev pub is_missing : {A : Type 0} → Option A → Bool
-is_missing None = true
-is_missing (Some a) = false
 
 -- ---- definitions
 
@@ -19,26 +15,25 @@ begins_no_macro b = not (b == 123)
 abbrev pub is_channel_name : List ℕ → Bool
 is_channel_name text = nat_lt 1 (length text) && list_all begins_no_macro (slice_range text 1 (length text - 1))
 
--- One string that names a channel or none.
-abbrev pub is_one_string : NamesTree → Bool
-is_one_string (one_name t) = is_channel_name t.text.now
-is_one_string _ = false
+-- A string that names a channel or none.
+abbrev pub names_channel : Token → Bool
+names_channel t = is_channel_name t.text.now
 
--- `STRING` or `to STRING`, or nothing
-abbrev pub is_one_channel : Option ChannelsTree → Bool
-is_one_channel (Some c) = is_one_string c.names
-is_one_channel None = true
+-- One such string, or several in braces.
+abbrev pub are_channel_names : NamesTree → Bool
+are_channel_names (one_name t) = names_channel t
+are_channel_names (name_list ts) = list_all names_channel ts
 
--- `TYPE NAME, NAME[SIZE], ..;`, `assign NAME to STRING;`, `assign NAME;`, `monitor NAME;`, `sync NAME to FLAG;`,
--- `evflag FLAG, ..;` and `option +NAME;`. Which options are in force is asked elsewhere.
+-- The same behind `to` or alone, or nothing.
+abbrev pub are_channels : Option ChannelsTree → Bool
+are_channels (Some c) = are_channel_names c.names
+are_channels None = true
+
+-- All but `syncQ`. Which options are in force is asked elsewhere.
 abbrev pub does_definition_run : DefinitionTree → Bool
-does_definition_run (declaration d) = true
-does_definition_run (assign a) = is_missing a.place.subscript && is_one_channel a.channels
-does_definition_run (monitor p) = is_missing p.subscript
-does_definition_run (sync y) = is_missing y.place.subscript
-does_definition_run (event_flags names) = true
-does_definition_run (setting o) = true
-does_definition_run _ = false
+does_definition_run (assign a) = are_channels a.channels
+does_definition_run (sync_queue q) = false
+does_definition_run _ = true
 
 -- ---- state sets
 

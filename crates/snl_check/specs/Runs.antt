@@ -1,15 +1,13 @@
 -- Which programs run.
-use Rattle.std.specs.Prelude.{Bool, true, false, not, ◌&&◌, List, Option, Some, unwrap_or}
+use Rattle.std.specs.Prelude.{Bool, true, false, ◌&&◌, List, Option, Some, unwrap_or}
 use Rattle.std.specs.List.{list_all}
 use Rattle.snl_syntax.specs.Programs.{ProgramTree}
 use Rattle.snl_resolve.specs.declared.builtins.Builtin.{Builtin}
 use Rattle.snl_resolve.specs.declared.builtins.Builtin.TheVariants.{Delay, Printf, PvPut, Ask}
 use Rattle.snl_resolve.specs.declared.builtins.Query.TheVariants.{EfClear, EfSet, EfTest, EfTestAndClear}
 use Rattle.snl_resolve.specs.declared.options.Options.{Options}
-use Rattle.snl_resolve.specs.declared.sites.Purpose.{Purpose}
-use Rattle.snl_resolve.specs.declared.sites.Purpose.TheVariants.{Channel}
 use Rattle.snl_resolve.specs.declared.sites.Site.{Site}
-use Rattle.snl_resolve.specs.declared.sites.Site.TheVariants.{Use, Call}
+use Rattle.snl_resolve.specs.declared.sites.Site.TheVariants.{Call}
 use Rattle.snl_resolve.specs.Builtins.{builtin_of}
 use Rattle.snl_resolve.specs.Programs.{sites}
 use Rattle.snl_check.specs.Forms.{has_forms_that_run}
@@ -29,14 +27,8 @@ does_call_run (Some (Ask EfTest)) = true
 does_call_run (Some (Ask EfTestAndClear)) = true
 does_call_run _ = false
 
--- A use of an element's channel does not run.
-abbrev pub does_use_run : Purpose → Bool → Bool
-does_use_run Channel has_subscript = not has_subscript
-does_use_run p has_subscript = true
-
--- Not yet run: the channel of an element, and other functions.
+-- Not yet run: other functions.
 abbrev pub does_site_run : Site → Bool
-does_site_run (Use p x m has_subscript) = does_use_run p has_subscript
 does_site_run (Call f known fitting stands) = does_call_run (builtin_of f.text.now)
 does_site_run _ = true
 

@@ -6,7 +6,7 @@ ghost use Rattle.snl_resolve.specs.Programs.{sites};
 ghost use Rattle.snl_check.specs.Runs as spec;
 
 use crate::forms::has_forms_that_run;
-use snl_resolve::{Builtin, Options, Purpose, Query, Site, builtin_of};
+use snl_resolve::{Builtin, Options, Query, Site, builtin_of};
 use snl_syntax::Program;
 
 /// Whether a program waits for its channels before it starts (Compiling SNL Programs, "Options").
@@ -39,26 +39,11 @@ fn does_call_run(builtin: Option<Builtin>) -> bool
     }
 }
 
-/// Whether a use of a name runs: that of the channel of an element does not.
-fn does_use_run(purpose: Purpose, has_subscript: bool) -> bool
-    ensures { result ≡ spec.does_use_run purpose has_subscript }
-{
-    match purpose {
-        Purpose::Channel => !has_subscript,
-        _ => true,
-    }
-}
-
-/// Whether what stands at a site runs: no channel of an element, no function but those.
+/// Whether what stands at a site runs: no function but those.
 fn does_site_run(site: &Site) -> bool
     ensures { result ≡ spec.does_site_run site.now }
 {
     match site {
-        Site::Use {
-            purpose,
-            has_subscript,
-            ..
-        } => does_use_run(*purpose, *has_subscript),
         Site::Call { name, .. } => does_call_run(builtin_of(name.text)),
         _ => true,
     }

@@ -5,7 +5,7 @@ use Rattle.snl_text.specs.declared.kinds.Kind.{Kind}
 use Rattle.snl_text.specs.declared.tokens.Token.{Token}
 use Rattle.snl_syntax.specs.Expressions.{ExprTree, constant, parenthesized, named, element, call, postfix, prefix, chain, conditional, assignment}
 use Rattle.snl_meaning.specs.declared.instrs.Instr.{Instr}
-use Rattle.snl_meaning.specs.declared.instrs.Instr.TheVariants.{Push, Load, Check, Peek, Store, StoreAt, Adjust, AdjustAt, Apply, Drop, Get, Put}
+use Rattle.snl_meaning.specs.declared.instrs.Instr.TheVariants.{Push, Load, Check, Peek, Store, StoreAt, Adjust, AdjustAt, Apply, Drop, Put, PutAt}
 use Rattle.snl_meaning.specs.Names.{Here, sense_of}
 use Rattle.snl_meaning.specs.declared.names.Sense.{Sense}
 use Rattle.snl_meaning.specs.declared.names.Sense.TheVariants.{Varies, Stands}
@@ -84,12 +84,12 @@ named-put (Varies v) x = refl
 named-put (Stands z) x = refl
 
 -- the same of an element
-element-put : (s : Sense) (line : ℕ) → at_code s line (λ v. Get v ∷ []) (Push (pos 0) ∷ []) ≡ checked_code s line None ++ put_element s ∷ []
+element-put : (s : Sense) (line : ℕ) → at_code s line (λ v. PutAt v ∷ []) (Push (pos 0) ∷ []) ≡ checked_code s line None ++ put_element s ∷ []
 element-put (Varies v) line = refl
 element-put (Stands z) line = refl
 
 -- `pvPut` at any target
-pub put-cut : (h : Here) (e : ExprTree) → target_code h e (λ v x. Put v ∷ []) (λ v x. Get v ∷ []) (Push (pos 0) ∷ []) ≡ place_code h None e ++ put_instr h e ∷ []
+pub put-cut : (h : Here) (e : ExprTree) → target_code h e (λ v x. Put v ∷ []) (λ v x. PutAt v ∷ []) (Push (pos 0) ∷ []) ≡ place_code h None e ++ put_instr h e ∷ []
 put-cut h (parenthesized e) = put-cut h e
 put-cut h (named x) = named-put (sense_of h x) x
 put-cut h (element x b e) =

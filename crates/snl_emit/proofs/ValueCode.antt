@@ -5,7 +5,7 @@ use Rattle.snl_text.specs.declared.kinds.Kind.{Kind}
 use Rattle.snl_text.specs.declared.tokens.Token.{Token}
 use Rattle.snl_syntax.specs.Expressions.{ExprTree, TermList, ArgumentList, constant, parenthesized, named, element, call, postfix, prefix, chain, conditional, assignment, no_terms, term, no_arguments, value, text}
 use Rattle.snl_meaning.specs.declared.instrs.Instr.{Instr}
-use Rattle.snl_meaning.specs.declared.instrs.Instr.TheVariants.{Push, Get, Adjust, AdjustAt, Print, Wait, Put, Ask}
+use Rattle.snl_meaning.specs.declared.instrs.Instr.TheVariants.{Push, Get, Adjust, AdjustAt, Print, Wait, Put, PutAt, Ask}
 use Rattle.snl_meaning.specs.declared.instrs.Variable.{Variable}
 use Rattle.snl_emit.specs.ExpressionCode.{CodeOn, expression_code, terms_code, target_code, values_code, print_code, wait_code, put_call_code, ask_at_instr, ask_instr, expression_depth, terms_depth, target_depth, values_depth, print_depth, wait_depth, put_depth, joint_code, joint_depth, at_code, get_code, put_code, put_at_code, held_depth, count_values}
 use Rattle.snl_meaning.specs.Names.{Here, sense_of, format_number, flag_number}
@@ -15,7 +15,7 @@ use Rattle.snl_meaning.specs.Run.{PieceContext, context_of}
 use Rattle.snl_resolve.specs.Builtins.{builtin_of}
 use Rattle.snl_resolve.specs.declared.builtins.Query.{Query}
 use Rattle.snl_meaning.specs.Value.{OnVariable, OnElement, constant_of, joint_of, compound_of, sign_of, is_decimal, joined_by, put_at, at_subscript, value_of, chained, at_target, print_of, printing_with, wait_of, put_of, ask_at, ask_of}
-use Rattle.snl_meaning.specs.Words.{gives, read, adjusted, put_to, asked, waited}
+use Rattle.snl_meaning.specs.Words.{gives, read, adjusted, put_to, put_element, asked, waited}
 use Rattle.snl_meaning.specs.World.{World}
 use Rattle.snl_emit.proofs.DepthPositive.{depth-positive}
 use Rattle.snl_meaning.proofs.Following.{has_front, has_back, follows-then, follows-to}
@@ -196,7 +196,7 @@ module _ (h : Here) (room : ℕ) (code : List Instr) where
     put-follows no_arguments = pushes-zero 1 (omega arith)
     put-follows (text t rest) = pushes-zero 1 (omega arith)
     put-follows (value e rest) =
-        target-follows e (λ v x. put_to h.set v) (λ v x. read h.set v) (gives (pos 0)) (λ v x. Put v ∷ []) (λ v x. Get v ∷ [])
+        target-follows e (λ v x. put_to h.set v) (λ v x. put_element h.set v) (gives (pos 0)) (λ v x. Put v ∷ []) (λ v x. PutAt v ∷ [])
         (Push (pos 0) ∷ []) 1 1 (omega arith)
         (λ x v. codes-pushes g code (Put v) (put_to h.set v) (λ at s w. refl) 1 (omega arith))
-        (λ x v. on-one g code (Get v) (read h.set v) (λ at x s w. refl) 1) (pushes-zero 1 (omega arith))
+        (λ x v. on-one g code (PutAt v) (put_element h.set v) (λ at x s w. refl) 1) (pushes-zero 1 (omega arith))

@@ -5,7 +5,7 @@ use Rattle.snl_syntax.specs.declared.expressions.Argument.{Argument, Value', Tex
 use Rattle.snl_syntax.specs.view.Expressions.{view}
 use Rattle.snl_syntax.specs.Expressions.{ExprTree, ArgumentList}
 use Rattle.snl_meaning.specs.declared.instrs.Instr.{Instr}
-use Rattle.snl_meaning.specs.declared.instrs.Instr.TheVariants.{Push, Jump, Tick, Get, Put}
+use Rattle.snl_meaning.specs.declared.instrs.Instr.TheVariants.{Push, Jump, Tick, Put, PutAt}
 use Rattle.snl_syntax.specs.Statements.{StatementTree}
 use Rattle.snl_emit.specs.BlockCode.{statement_code}
 use Rattle.snl_emit.specs.ExpressionCode.{expression_code, target_code, joint_code, signed_code, at_code, get_code, called_code, print_code, wait_code, put_call_code, ask_instr}
@@ -34,7 +34,7 @@ call_code h f all = called_code (builtin_of f.text.now) (print_code h all) (wait
 
 -- `pvPut` of a target.
 abbrev pub put_target_code : Here → ExprTree → List Instr
-put_target_code h e = target_code h e (λ v x. Put v ∷ []) (λ v x. Get v ∷ []) (Push (pos 0) ∷ [])
+put_target_code h e = target_code h e (λ v x. Put v ∷ []) (λ v x. PutAt v ∷ []) (Push (pos 0) ∷ [])
 
 -- An argument of `printf`.
 abbrev pub value_code : Here → Argument → List Instr

@@ -4,7 +4,7 @@ use Rattle.snl_text.specs.declared.kinds.Kind.{Kind}
 use Rattle.snl_text.specs.declared.tokens.Token.{Token}
 use Rattle.snl_syntax.specs.Expressions.{ExprTree, TermList, ArgumentList, constant, parenthesized, named, element, call, postfix, prefix, chain, conditional, assignment, no_terms, term, no_arguments, value, text}
 use Rattle.snl_meaning.specs.declared.instrs.Instr.{Instr}
-use Rattle.snl_meaning.specs.declared.instrs.Instr.TheVariants.{Push, Load, Check, Get, Peek, Store, StoreAt, Adjust, AdjustAt, Apply, ApplyPrefix, Settle, Drop, Jump, JumpIfZero, Print, Wait, Put, Ask}
+use Rattle.snl_meaning.specs.declared.instrs.Instr.TheVariants.{Push, Load, Check, Get, Peek, Store, StoreAt, Adjust, AdjustAt, Apply, ApplyPrefix, Settle, Drop, Jump, JumpIfZero, Print, Wait, Put, PutAt, Ask}
 use Rattle.snl_meaning.specs.declared.instrs.Variable.{Variable}
 use Rattle.snl_meaning.specs.Names.{Here, sense_of, format_number, flag_number}
 use Rattle.snl_meaning.specs.declared.names.Sense.{Sense}
@@ -171,7 +171,7 @@ abbrev mutual
 
   -- `pvPut`: what is done at its target
   pub put_call_code : Here → ArgumentList → List Instr
-  put_call_code h (value e rest) = target_code h e (λ v x. Put v ∷ []) (λ v x. Get v ∷ []) (Push (pos 0) ∷ [])
+  put_call_code h (value e rest) = target_code h e (λ v x. Put v ∷ []) (λ v x. PutAt v ∷ []) (Push (pos 0) ∷ [])
   put_call_code h _ = Push (pos 0) ∷ []
 
 -- ---- the depth

@@ -3,7 +3,7 @@ use Rattle.std.specs.Prelude.{ℕ, List, [], ◌∷◌, ◌++◌, pos, Bool, Opt
 use Rattle.snl_text.specs.declared.kinds.Kind.{Kind}
 use Rattle.snl_syntax.specs.Expressions.{ExprTree, parenthesized, named, element}
 use Rattle.snl_meaning.specs.declared.instrs.Instr.{Instr}
-use Rattle.snl_meaning.specs.declared.instrs.Instr.TheVariants.{Push, Load, Check, Peek, Store, StoreAt, Adjust, AdjustAt, Apply, Drop, Get, Put}
+use Rattle.snl_meaning.specs.declared.instrs.Instr.TheVariants.{Push, Load, Check, Peek, Store, StoreAt, Adjust, AdjustAt, Apply, Drop, Put, PutAt}
 use Rattle.snl_meaning.specs.Names.{Here, sense_of}
 use Rattle.snl_meaning.specs.declared.names.Sense.{Sense}
 use Rattle.snl_meaning.specs.declared.names.Sense.TheVariants.{Varies, Stands}
@@ -73,7 +73,7 @@ put_alone (Stands z) = Push (pos 0)
 
 -- The same of an element, after its subscript.
 abbrev pub put_element : Sense → Instr
-put_element (Varies v) = Get v
+put_element (Varies v) = PutAt v
 put_element (Stands z) = Push (pos 0)
 
 -- The instruction of `pvPut` at a target, after its subscript.

@@ -193,7 +193,7 @@ fn put_element(sense: Sense) -> Instr
     ensures { result ≡ spec.put_element sense }
 {
     match sense {
-        Sense::Varies(variable) => Instr::Get(variable),
+        Sense::Varies(variable) => Instr::PutAt(variable),
         Sense::Stands(_) => Instr::Push(0),
     }
 }

@@ -9,7 +9,7 @@ use Rattle.snl_meaning.specs.Effect.{held_by, evaluated, effect_of}
 use Rattle.snl_meaning.specs.Keeping.{IsKept, MayStore, world_after}
 use Rattle.snl_meaning.specs.Names.{Here}
 use Rattle.snl_meaning.specs.Ran.{Ran, Gives, Faults}
-use Rattle.snl_meaning.specs.Words.{operated, operated_prefix, subscript, stored, adjusted, put_to, asked, waited, spent_of, spent}
+use Rattle.snl_meaning.specs.Words.{operated, operated_prefix, subscript, stored, adjusted, put_to, put_element, asked, waited, spent_of, spent}
 use Rattle.snl_meaning.specs.World.{World}
 use Rattle.snl_meaning.proofs.EffectKeeps as effects
 use Rattle.snl_meaning.proofs.WordKeeps as words
@@ -97,6 +97,10 @@ keeps-adjusted set v op op_line line is_before k =
 -- `pvPut`
 pub keeps-put_to : (set : ℕ) (v : Variable) → Keeps (put_to set v)
 keeps-put_to set v = few (put_to set v) (words.keeps-put_to set Any NoMore (ticks-kept set) v)
+
+-- the same of an element
+pub keeps-put_element : (set : ℕ) (v : Variable) (k : ℤ) → Keeps (put_element set v k)
+keeps-put_element set v k = few (put_element set v k) (words.keeps-put_element set Any NoMore (ticks-kept set) v k)
 
 -- what is asked or told of a flag
 pub keeps-asked : (query : Query) (flag : ℕ) → Keeps (asked query flag)

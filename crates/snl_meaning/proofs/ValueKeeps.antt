@@ -16,7 +16,7 @@ use Rattle.snl_meaning.specs.Value.{OnVariable, OnElement, joint_of, compound_of
 use Rattle.snl_meaning.specs.Words.{gives, is_subscript, read}
 use Rattle.snl_meaning.specs.World.{World}
 use Rattle.snl_meaning.specs.Keeping.{IsKept, MayStore}
-use Rattle.snl_meaning.proofs.WordKeeps.{Keeps, KeepsOn, keeps-then, keeps-here, keeps-read, keeps-adjusted, keeps-joined, keeps-put, keeps-at_subscript, keeps-at_name, keeps-named, keeps-signed, keeps-called, keeps-put_to, keeps-asked, keeps-waited, after-test}
+use Rattle.snl_meaning.proofs.WordKeeps.{Keeps, KeepsOn, keeps-then, keeps-here, keeps-read, keeps-adjusted, keeps-joined, keeps-put, keeps-at_subscript, keeps-at_name, keeps-named, keeps-signed, keeps-called, keeps-put_to, keeps-put_element, keeps-asked, keeps-waited, after-test}
 
 -- what a name means is a variable of the copy
 pub sense-held : (h : Here) (o : Option Pos) (number : Option ℤ) (v : Variable) → sense_by (variable_by h o) number ≡ Varies v → (offset : ℕ) × (variable_at h offset ≡ Some v)
@@ -130,4 +130,4 @@ module _ (h : Here) (May : Variable → ℤ → Type 0) (R : World → World →
     put-keeps (text t rest) w = kept.nothing w
     put-keeps (value e rest) w =
         target-keeps e _ _ (gives (pos 0)) (λ v x ok. keeps-put_to h.set May R kept v)
-        (λ v x k ok. keeps-read h.set May R kept v k) (keeps-here h.set May R kept (pos 0)) w
+        (λ v x k ok. keeps-put_element h.set May R kept v k) (keeps-here h.set May R kept (pos 0)) w

@@ -1,14 +1,14 @@
-//! The definitions of programs that run: variables, channels, monitors, event flags and options.
+//! The definitions of programs that run: all but `syncQ`, without macros in names of channels.
 
 ghost use Rattle.std.specs.Prelude.{◌≡◌, map};
 ghost use Rattle.std.specs.List.{list_all};
-ghost use Rattle.snl_syntax.specs.Definitions as tree;
 ghost use Rattle.snl_check.specs.Forms as spec;
-ghost use Rattle.snl_syntax.specs.view.Definitions.{assign_view, names_view, place_view, sync_view};
+ghost use Rattle.snl_syntax.specs.view.Definitions.{names_view};
 ghost use Rattle.snl_syntax.specs.view.Definitions.{definition_view, channels_view};
 ghost use Rattle.snl_syntax.specs.view.Shown.{shown};
 
-use snl_syntax::{Assign, ChannelNames, Channels, Def, Place, Sync};
+use snl_syntax::{ChannelNames, Channels, Def};
+use snl_text::Token;
 
 /// Whether no macro begins at a byte.
 fn begins_no_macro(byte: u8) -> bool
@@ -31,57 +31,48 @@ fn is_channel_name(text: &[u8]) -> bool
     text.len() > 1 && has_no_macro(&text[1..text.len() - 1])
 }
 
-/// Whether it is one string that names a channel or none.
-fn is_one_string(names: &ChannelNames) -> bool
-    ensures { result ≡ spec.is_one_string (names_view names.now) }
+/// Whether it is such a string.
+fn names_channel(name: &Token) -> bool
+    ensures { result ≡ spec.names_channel name.now }
+{
+    is_channel_name(name.text)
+}
+
+/// Whether all are such strings.
+fn name_channels(names: &[Token]) -> bool
+    ensures { result ≡ list_all spec.names_channel names.now }
+{
+    names.iter().all(|name| names_channel(name))
+}
+
+/// Whether it is one such string, or several in braces.
+fn are_channel_names(names: &ChannelNames) -> bool
+    ensures { result ≡ spec.are_channel_names (names_view names.now) }
 {
     match names {
-        ChannelNames::One(channel) => is_channel_name(channel.text),
-        ChannelNames::List(_) => false,
+        ChannelNames::One(name) => names_channel(name),
+        ChannelNames::List(names) => name_channels(names.as_slice()),
     }
 }
 
-/// Whether it is `STRING` or `to STRING`, or nothing.
-fn is_one_channel(channels: &Option<Channels>) -> bool
-    ensures { result ≡ spec.is_one_channel (shown channels_view channels.now) }
+/// Whether an `assign` names such channels, or none.
+fn are_channels(channels: &Option<Channels>) -> bool
+    ensures { result ≡ spec.are_channels (shown channels_view channels.now) }
 {
     match channels {
-        Some(channels) => is_one_string(&channels.names),
+        Some(channels) => are_channel_names(&channels.names),
         None => true,
     }
 }
 
-/// Whether it is `assign NAME to STRING;` or `assign NAME;`.
-fn does_assign_run(assign: &Assign) -> bool
-    ensures { result ≡ spec.does_definition_run (tree.assign (assign_view assign.now)) }
-{
-    assign.place.subscript.is_none() && is_one_channel(&assign.channels)
-}
-
-/// Whether it is `monitor NAME;`.
-fn does_monitor_run(place: &Place) -> bool
-    ensures { result ≡ spec.does_definition_run (tree.monitor (place_view place.now)) }
-{
-    place.subscript.is_none()
-}
-
-/// Whether it is `sync NAME to FLAG;`.
-fn does_sync_run(sync: &Sync) -> bool
-    ensures { result ≡ spec.does_definition_run (tree.sync (sync_view sync.now)) }
-{
-    sync.place.subscript.is_none()
-}
-
-/// Whether it is one of these, declares variables or event flags, or is an option.
+/// Whether it is any definition but `syncQ`, with no macro in the name of a channel.
 fn does_definition_run(definition: &Def) -> bool
     ensures { result ≡ spec.does_definition_run (definition_view definition.now) }
 {
     match definition {
-        Def::Declaration(_) | Def::EventFlags(_) | Def::Setting(_) => true,
-        Def::Assign(assign) => does_assign_run(assign),
-        Def::Monitor(place) => does_monitor_run(place),
-        Def::Sync(sync) => does_sync_run(sync),
-        _ => false,
+        Def::Assign(assign) => are_channels(&assign.channels),
+        Def::SyncQueue(_) => false,
+        _ => true,
     }
 }
 
