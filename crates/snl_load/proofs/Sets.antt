@@ -38,11 +38,12 @@ module _ (p : ProgramTree) (code : List Instr) (t : ProgramTable) (room set : �
       outer-means p code room set b (start_in t name) (subst (λ (o : Option PieceTree). IsPlaced p code o (start_in t name)) is (placed name))
       (λ x there. omega (arith, enough, depth_is_enough p name (Action set x) (is ∙ ap (option_map (Action set)) there)))
 
-  -- those of a state
+  -- the entry block of a state
   entry : (k : ℕ) (s : StateTree) → state_at p set k ≡ Some s →
       ((w : World) → block_at context code (start_in t (Entry set k)) w ≡ block_meaning (here_in p set) s.entry w) × CanDo context code (start_in t (Entry set k))
   entry k s at = outer (Entry set k) s.entry (ap (option_and_then (λ d. option_map (Action set) d.entry)) at)
 
+  -- and its exit block
   exit : (k : ℕ) (s : StateTree) → state_at p set k ≡ Some s →
       ((w : World) → block_at context code (start_in t (Exit set k)) w ≡ block_meaning (here_in p set) s.exit w) × CanDo context code (start_in t (Exit set k))
   exit k s at = outer (Exit set k) s.exit (ap (option_and_then (λ d. option_map (Action set) d.exit)) at)

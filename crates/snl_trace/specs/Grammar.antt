@@ -127,6 +127,7 @@ abbrev pub up_at : Option ℕ → Event
 up_at None = events.Other
 up_at (Some number) = events.Up number
 
+-- the same where it is down
 abbrev pub down_at : Option ℕ → Event
 down_at None = events.Other
 down_at (Some number) = events.Down number
