@@ -1,12 +1,13 @@
 """Reads cases from their files. README.md has the form of these."""
 import re
+import subprocess
+import sys
 from pathlib import Path
 
 from case import ANY, Case
 
 REPEATED = re.compile(rb"`\[(\d+) (.*?)`\]", re.DOTALL)
 ESCAPE = re.compile(rb"`(\n|[0-9A-F]{2})")
-NOT_YET = b"p.st:1: error: E05 not run yet\n"
 # Lines that may be said of a program that is read to its end.
 READ = re.compile(rb"[^:\n]+:\d+: (error: E(04|[123]\d)|warning: W\d) [^\n]+\n")
 
@@ -74,20 +75,19 @@ def of_row(name, made, trace, row):
 
 def forms(file):
     """Small sources, a line each: a form, which takes the place of `@` in each line in front that begins with `in:`."""
-    tool = "snlrun" if file.stem == "notyet" else "snc"
     for title, body in parted(file.read_bytes(), b"=="):
         rows = [it for it in body.splitlines() if it]
         places = [it[len(b"in: ") :] for it in rows if it.startswith(b"in: ")] or [b"@"]
         for row in (it for it in rows if not it.startswith(b"in: ")):
             source, answer = form(row)
             if answer is None:
-                made = {"stderr": NOT_YET} if tool == "snlrun" else {"stderr": READ, "statuses": (0, 1)}
+                made = {"stderr": READ, "statuses": (0, 1)}
             else:
                 made = {"stderr": plain(answer)}
             for place in places:
                 name = f"{file.name}: {title}: {row.decode()[:100]}, in {place.decode()}"
                 whole = plain(place.replace(b"@", source))
-                yield Case(name, whole, b"0 bad line", tool=tool, **{"statuses": (1,), **made})
+                yield Case(name, whole, b"0 bad line", tool="snc", **{"statuses": (1,), **made})
 
 
 def form(row):
@@ -131,3 +131,14 @@ def not_in_readme(root):
     outputs = {it: (root / f"examples/{it}.out").read_text() for it in called}
     missing = [it for it, lines in outputs.items() if f"```\n{lines}```\n" not in readme]
     return [f"FAILED README.md: it has not what examples/{it}.out has" for it in missing]
+
+
+def not_from_log(root):
+    """A log of an example, of which the script makes another trace than the one that stands beside it."""
+    script = root / "examples/camonitor.py"
+    failures = []
+    for log in sorted(root.glob("examples/*.log")):
+        made = subprocess.run([sys.executable, script], input=log.read_bytes(), stdout=subprocess.PIPE).stdout
+        if made != log.with_suffix(".trace").read_bytes():
+            failures.append(f"FAILED examples/{log.name}: camonitor.py makes another trace of it")
+    return failures

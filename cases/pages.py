@@ -9,13 +9,12 @@ MESSAGE = re.compile(r"^### ([EW]\d+): ", re.MULTILINE)
 
 
 def examples(root):
-    """The examples. One that names `snlrun` is run by it, all others by `snc` with the words named."""
+    """The examples, each of which is run by `snc` with the words named."""
     for number, (words, source, said) in enumerate(EXAMPLE.findall(text_of(root)), 1):
-        tool, options = ("snlrun", []) if words.strip() == "snlrun" else ("snc", words.encode().split())
         first = said.split("\n")[0]
         status = int(" error: " in said)
-        yield Case(f"docs/MESSAGES.md: example {number}: {first}", source.encode(), b"0 bad line", [*options, b"p.st"],
-                   stderr=said.encode(), statuses=(status,), tool=tool)
+        yield Case(f"docs/MESSAGES.md: example {number}: {first}", source.encode(), b"0 bad line", [*words.encode().split(), b"p.st"],
+                   stderr=said.encode(), statuses=(status,), tool="snc")
 
 
 def missing(root):

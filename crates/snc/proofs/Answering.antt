@@ -1,5 +1,5 @@
 -- What the steps answer is what the source means.
-use Rattle.std.proofs.Common.{◌≡◌, ◌<◌, ◌≤◌, ◌↔◌, inl, inr, ℕ, Bool, List, [], ◌∷◌, ◌++◌, Option, None, Some, IsSome, IfSome, is_some, if◌then◌else◌, Contains, Result, Ok, Err, length, take, drop, slice_get, append-nil, true, false, refl, sym, ap, subst, ◌∙◌, arith, zero, suc, lit≤}
+use Rattle.std.proofs.Common.{◌≡◌, ◌<◌, ◌≤◌, ◌↔◌, inl, inr, ℕ, Bool, List, [], ◌∷◌, Option, None, Some, IsSome, IfSome, is_some, if◌then◌else◌, Contains, Result, Ok, Err, length, take, drop, slice_get, true, false, refl, sym, ap, subst, ◌∙◌, arith, zero, suc, lit≤}
 use Rattle.std.specs.Option.{option_map}
 use Rattle.std.proofs.lemmas.Bool.{false≢true}
 use Rattle.std.proofs.lemmas.List.Elements.{Contains-push}
@@ -27,7 +27,7 @@ use Rattle.snl_messages.specs.Says.{IsSaid}
 use Rattle.snl_messages.specs.Silence.{options_in_force}
 use Rattle.snl_check.specs.declared.checked.Checked.{Checked}
 use Rattle.snl_check.specs.Accepted.{IsAccepted}
-use Rattle.snl_check.specs.Runs.{does_run}
+use Rattle.snl_check.specs.Waits.{waits}
 use Rattle.snl_machine.specs.declared.machine.Machine.{Machine}
 use Rattle.snl_machine.specs.MachineOf.{IsMachineOf, Task, task_held, task_of, world_held}
 use Rattle.snl_machine.proofs.Tasks.{runs_its_program}
@@ -39,9 +39,9 @@ use Rattle.snc.specs.declared.jobs.Status.TheVariants.{Well, SourceErrors}
 use Rattle.snl_links.specs.Links.{Link, links}
 use Rattle.snl_links.specs.Tables.{tables}
 use Rattle.snl_load.specs.First.{first_world_of}
-use Rattle.snc.specs.Judging.{AreNamesBefore, ReadsNames, HasFault, HasTokens, IsJudged, IsSaidOf, IsTreeSaid, NoErrors, error_at, names_of, nesting_error, not_yet, syntax_error}
+use Rattle.snc.specs.Judging.{AreNamesBefore, ReadsNames, HasFault, HasTokens, IsJudged, IsSaidOf, IsTreeSaid, NoErrors, error_at, names_of, nesting_error, syntax_error}
 use Rattle.snc.specs.Outcomes.{IsReport, IsRunOf, IsSession, at_first, status_of, tables_text}
-use Rattle.snc.specs.Texts.{line_of, text_of}
+use Rattle.snc.specs.Texts.{text_of}
 use Rattle.snc.specs.ReportSteps.{AreNamesOf, AreTokensTold, IsFaultTold, IsTreeTold, asked_tables}
 
 -- an error alone
@@ -140,9 +140,9 @@ names_before source (faults.SourceTooLong p) pos names has at given =
 names_before source faults.Memory pos names has at given = tt
 
 -- a source without tokens
-pub judged_fault : (given : Options) (word source text late : List ℕ) (fault : LexFault) (checked : Option Checked) → HasFault source fault → IsFaultTold word source fault text → checked ≡ None
-    → IsJudged given word source text late (tree_of checked)
-judged_fault given word source text late fault checked has w none = subst (λ o. IsJudged given word source text late (tree_of o)) (sym none) record {
+pub judged_fault : (given : Options) (word source text : List ℕ) (fault : LexFault) (checked : Option Checked) → HasFault source fault → IsFaultTold word source fault text → checked ≡ None
+    → IsJudged given word source text (tree_of checked)
+judged_fault given word source text fault checked has w none = subst (λ o. IsJudged given word source text (tree_of o)) (sym none) record {
   names = w.names;
   messages = w.messages;
   tree = None;
@@ -150,13 +150,12 @@ judged_fault given word source text late fault checked has w none = subst (λ o.
   text_is = w.text_is;
   accepted = (λ h. absurd (false≢true h), λ h. absurd (lone_error w.messages w.said.pos 3 w.said.words w.said.messages_are h));
   same = tt;
-  late_is = tt;
 }
 
 -- a source with tokens
-pub judged_tokens : (given : Options) (word source text late : List ℕ) (lexed : Lexed) (checked : Option ProgramTree) → HasTokens source lexed
-    → AreTokensTold given word lexed text late checked → IsJudged given word source text late checked
-judged_tokens given word source text late lexed checked has w = record {
+pub judged_tokens : (given : Options) (word source text : List ℕ) (lexed : Lexed) (checked : Option ProgramTree) → HasTokens source lexed
+    → AreTokensTold given word lexed text checked → IsJudged given word source text checked
+judged_tokens given word source text lexed checked has w = record {
   names = names_of lexed;
   messages = w.messages;
   tree = w.tree;
@@ -164,7 +163,6 @@ judged_tokens given word source text late lexed checked has w = record {
   text_is = w.text_is;
   accepted = w.accepted;
   same = w.same;
-  late_is = w.late_is;
 }
 
 -- E01 is an error, wherever it stands
@@ -177,33 +175,32 @@ error_alone : (message : Said) → message.severity ≡ Error → NoErrors (mess
 error_alone message is none = none message (Contains-push [] message) is
 
 -- tokens with one message, which is an error
-told_alone : (given : Options) (word text late : List ℕ) (names : List (List ℕ)) (lexed : Lexed) (message : Said) (checked : Option Checked) → names ≡ names_of lexed
+told_alone : (given : Options) (word text : List ℕ) (names : List (List ℕ)) (lexed : Lexed) (message : Said) (checked : Option Checked) → names ≡ names_of lexed
     → message.severity ≡ Error → IsSaidOf given lexed (message ∷ []) None → text ≡ text_of word names (message ∷ []) → checked ≡ None
-    → AreTokensTold given word lexed text late (tree_of checked)
-told_alone given word text late names lexed message checked named error said is none = subst (λ o. AreTokensTold given word lexed text late (tree_of o)) (sym none) record {
+    → AreTokensTold given word lexed text (tree_of checked)
+told_alone given word text names lexed message checked named error said is none = subst (λ o. AreTokensTold given word lexed text (tree_of o)) (sym none) record {
   messages = message ∷ [];
   tree = None;
   said = said;
   text_is = is ∙ ap (λ n. text_of word n (message ∷ [])) named;
   accepted = (λ h. absurd (false≢true h), λ h. absurd (error_alone message error h));
   same = tt;
-  late_is = tt;
 }
 
 -- tokens that are no program
-pub told_stuck : (given : Options) (word text late : List ℕ) (names : List (List ℕ)) (lexed : Lexed) (k : ℕ) (checked : Option Checked) → names ≡ names_of lexed
+pub told_stuck : (given : Options) (word text : List ℕ) (names : List (List ℕ)) (lexed : Lexed) (k : ℕ) (checked : Option Checked) → names ≡ names_of lexed
     → IsUnexpected programs 64 lexed.tokens.items k → text ≡ text_of word names (syntax_error lexed (slice_get lexed.tokens.items k) ∷ []) → checked ≡ None
-    → AreTokensTold given word lexed text late (tree_of checked)
-told_stuck given word text late names lexed k checked named read is none =
-    told_alone given word text late names lexed (syntax_error lexed (slice_get lexed.tokens.items k)) checked named (is_error lexed (slice_get lexed.tokens.items k))
+    → AreTokensTold given word lexed text (tree_of checked)
+told_stuck given word text names lexed k checked named read is none =
+    told_alone given word text names lexed (syntax_error lexed (slice_get lexed.tokens.items k)) checked named (is_error lexed (slice_get lexed.tokens.items k))
     (inr (inl record { k = k; read = read; messages_are = refl; tree_is = refl })) is none
 
 -- tokens that are nested too deep
-pub told_deep : (given : Options) (word text late : List ℕ) (names : List (List ℕ)) (lexed : Lexed) (k : ℕ) (token : Token) (checked : Option Checked) → names ≡ names_of lexed
+pub told_deep : (given : Options) (word text : List ℕ) (names : List (List ℕ)) (lexed : Lexed) (k : ℕ) (token : Token) (checked : Option Checked) → names ≡ names_of lexed
     → IsTooDeep programs 64 lexed.tokens.items k → slice_get lexed.tokens.items k ≡ Some token → text ≡ text_of word names (nesting_error token ∷ []) → checked ≡ None
-    → AreTokensTold given word lexed text late (tree_of checked)
-told_deep given word text late names lexed k token checked named read at is none =
-    told_alone given word text late names lexed (nesting_error token) checked named refl
+    → AreTokensTold given word lexed text (tree_of checked)
+told_deep given word text names lexed k token checked named read at is none =
+    told_alone given word text names lexed (nesting_error token) checked named refl
     (inr (inr record { k = k; read = read; token = token; at = at; messages_are = refl; tree_is = refl })) is none
 
 -- a tree that is given as this one is this one
@@ -211,18 +208,12 @@ some_tree : (o : Option ProgramTree) (p : ProgramTree) → IfSome o (λ q. q ≡
 some_tree None p h = tt
 some_tree (Some q) p h = ap Some (sym h)
 
--- the message that it does not run yet is that of the tree
-late_tree : (word late : List ℕ) (names listed : List (List ℕ)) (o : Option ProgramTree) (p : ProgramTree) → names ≡ listed → IfSome o (λ q. q ≡ p) → late ≡ text_of word names (not_yet p ∷ [])
-    → IfSome o (λ q. late ≡ text_of word listed (not_yet q ∷ []))
-late_tree word late names listed None p named h is = tt
-late_tree word late names listed (Some q) p named h is = is ∙ (λ i. text_of word (named i) (not_yet (sym h i) ∷ []))
-
 -- tokens that are a program
-pub told_program : (given : Options) (word text late : List ℕ) (names : List (List ℕ)) (lexed : Lexed) (whole : ProgramTree) (embedded : List Pos) (beyond : Option Pos)
+pub told_program : (given : Options) (word text : List ℕ) (names : List (List ℕ)) (lexed : Lexed) (whole : ProgramTree) (embedded : List Pos) (beyond : Option Pos)
     (checked : Option ProgramTree) → names ≡ names_of lexed → embedded ≡ lexed.embedded.items → beyond ≡ first_place (drop 65536 lexed.tokens.items)
-    → IsProgram 64 whole → Spells programs whole lexed.tokens.items → IsTreeTold given word names whole embedded beyond text late checked
-    → AreTokensTold given word lexed text late checked
-told_program given word text late names lexed whole embedded beyond checked named pieces past is spelled w = record {
+    → IsProgram 64 whole → Spells programs whole lexed.tokens.items → IsTreeTold given word names whole embedded beyond text checked
+    → AreTokensTold given word lexed text checked
+told_program given word text names lexed whole embedded beyond checked named pieces past is spelled w = record {
   messages = w.messages;
   tree = Some whole;
   said = inl record {
@@ -235,7 +226,6 @@ told_program given word text late names lexed whole embedded beyond checked name
   text_is = w.text_is ∙ ap (λ n. text_of word n w.messages) named;
   accepted = w.accepted;
   same = some_tree checked whole w.same;
-  late_is = late_tree word late names (names_of lexed) checked whole named w.same w.late_is;
 }
 
 -- a tree is there where a checked program is
@@ -255,12 +245,11 @@ checked_options given p None same are = tt
 checked_options given p (Some c) same are = are ∙ ap (λ q. options_in_force (program_view q) given) (sym same)
 
 -- what is said of a program, by the messages of its check
-pub told_checked : (given : Options) (word text late : List ℕ) (names : List (List ℕ)) (p : Program) (messages : List Said) (checked : Option Checked)
+pub told_checked : (given : Options) (word text : List ℕ) (names : List (List ℕ)) (p : Program) (messages : List Said) (checked : Option Checked)
     → ((m : Said) → Contains messages m ↔ IsSaid given (program_view p) p.embedded.items p.beyond m) → IsInOrder messages
     → (IsSome checked ↔ IsAccepted (options_in_force (program_view p) given) p) → IfSome checked (λ c. c.program ≡ p)
-    → text ≡ text_of word names messages → late ≡ text_of word names (not_yet (program_view p) ∷ [])
-    → IsTreeTold given word names (program_view p) p.embedded.items p.beyond text late (tree_of checked)
-told_checked given word text late names p messages checked exactly in_order accepted same is after =
+    → text ≡ text_of word names messages → IsTreeTold given word names (program_view p) p.embedded.items p.beyond text (tree_of checked)
+told_checked given word text names p messages checked exactly in_order accepted same is =
     let some = is_some_tree checked in
     record {
       messages = messages;
@@ -268,7 +257,6 @@ told_checked given word text late names p messages checked exactly in_order acce
       text_is = is;
       accepted = (λ h m k. accepted.0 (some.0 h) m ((exactly m).0 k), λ none. some.1 (accepted.1 (λ m said. none m ((exactly m).1 said))));
       same = if_some_tree checked p same;
-      late_is = after;
     }
 
 -- a tree that is given is the one that was found
@@ -288,9 +276,9 @@ no_tables true (Some p) = refl
 no_tables false tree = refl
 
 -- what `report` answers
-pub reported : (given : Options) (asked : Bool) (word source text late shown : List ℕ) (checked : Option Checked) → IsJudged given word source text late (tree_of checked)
+pub reported : (given : Options) (asked : Bool) (word source text shown : List ℕ) (checked : Option Checked) → IsJudged given word source text (tree_of checked)
     → shown ≡ asked_tables asked (tree_of checked) → IsReport given asked word source text shown (if is_some checked then Well else SourceErrors)
-reported given asked word source text late shown None w e = record {
+reported given asked word source text shown None w e = record {
   names = w.names;
   messages = w.messages;
   tree = w.tree;
@@ -299,7 +287,7 @@ reported given asked word source text late shown None w e = record {
   status_is = λ none. false≢true (w.accepted.1 none);
   shown_is = e ∙ no_tables asked w.tree;
 }
-reported given asked word source text late shown (Some c) w e = record {
+reported given asked word source text shown (Some c) w e = record {
   names = w.names;
   messages = w.messages;
   tree = w.tree;
@@ -310,79 +298,45 @@ reported given asked word source text late shown (Some c) w e = record {
 }
 
 -- a machine that was loaded runs as its program does, from the first world on
-pub ran_by : (m : Machine) (whole : ProgramTree) (ls : List Link) (budget : ℕ) → IsMachineOf whole ls budget m → (end : End) (bytes : List ℕ) (left told told' : Option (List ℕ)) (w : World)
-    → world_held m ≡ first_world_of whole ls
+pub ran_by : (m : Machine) (whole : ProgramTree) (ls : List Link) (waiting : Bool) (budget : ℕ) → IsMachineOf whole ls waiting budget m
+    → (end : End) (bytes : List ℕ) (left told told' : Option (List ℕ)) (w : World) → world_held m ≡ first_world_of whole ls
     → RunsOver (rules_of m) end bytes left (standing [] 1 m told) w told'
-    → RunsOver (rules_by (task_of whole ls) budget) end bytes left (at_first (first_world_of whole ls) told) w told'
-ran_by m whole ls budget made end bytes left told told' w first ran =
+    → RunsOver (rules_by (task_of whole ls waiting) budget) end bytes left (at_first (first_world_of whole ls) told) w told'
+ran_by m whole ls waiting budget made end bytes left told told' w first ran =
     let begin = first_world_of whole ls in
     let there = subst (λ (v : World). RunsOver (rules_by (task_held m) m.budget) end bytes left (at_first v told) w told') first ran in
-    let meant = subst (λ (t : Task). RunsOver (rules_by t m.budget) end bytes left (at_first begin told) w told') (runs_its_program whole ls budget m made) there in
-    subst (λ (b : ℕ). RunsOver (rules_by (task_of whole ls) b) end bytes left (at_first begin told) w told') made.budget_is meant
-
--- one text of two is the first line and the others
-late_first : (word text late both : List ℕ) (names : List (List ℕ)) (whole : ProgramTree) (messages : List Said) → text ≡ text_of word names messages
-    → late ≡ text_of word names (not_yet whole ∷ []) → both ≡ late ++ text → both ≡ text_of word names (not_yet whole ∷ messages)
-late_first word text late both names whole messages et el eb =
-    eb ∙ (λ i. (el ∙ append-nil (line_of word names (not_yet whole))) i ++ et i)
+    let meant = subst (λ (t : Task). RunsOver (rules_by t m.budget) end bytes left (at_first begin told) w told') (runs_its_program whole ls waiting budget m made) there in
+    subst (λ (b : ℕ). RunsOver (rules_by (task_of whole ls waiting) b) end bytes left (at_first begin told) w told') made.budget_is meant
 
 module _ {R S : Type 0} (source_rest : R → Option (List ℕ)) (source_failures : R → ℕ) (sink_told : S → Option (List ℕ)) (sink_failures : S → ℕ)
-    (given : Options) (word macros source text late : List ℕ) (budget : ℕ) (trace trace' : R) (sink sink' : S) where
+    (given : Options) (word macros source text : List ℕ) (budget : ℕ) (trace trace' : R) (sink sink' : S) where
   -- a session on a source with an error
-  pub session_refused : (checked : Option Checked) → checked ≡ None → IsJudged given word source text late (tree_of checked) → trace' ≡ trace → sink' ≡ sink
+  pub session_refused : (checked : Option Checked) → checked ≡ None → IsJudged given word source text (tree_of checked) → trace' ≡ trace → sink' ≡ sink
       → IsSession source_rest source_failures sink_told sink_failures given word macros source budget trace trace' sink sink' text None SourceErrors
   session_refused checked none w unread unwritten = record {
     names = w.names;
     messages = w.messages;
     tree = w.tree;
-    told = w.messages;
     finds = w.finds;
     text_is = w.text_is;
-    goes_on = (inl ((λ h. false≢true (subst (λ o. IsSome (tree_of o)) none (w.accepted.1 h))), refl), refl, unread, unwritten);
+    goes_on = ((λ h. false≢true (subst (λ o. IsSome (tree_of o)) none (w.accepted.1 h))), refl, unread, unwritten);
   }
 
-  -- a session on a program that does not run yet
-  pub session_waits : (checked : Option Checked) (c : Checked) (both : List ℕ) → checked ≡ Some c → IsJudged given word source text late (tree_of checked)
-      → c.options ≡ options_in_force (program_view c.program) given → does_run c.options (program_view c.program) ≡ false → both ≡ late ++ text
-      → trace' ≡ trace → sink' ≡ sink
-      → IsSession source_rest source_failures sink_told sink_failures given word macros source budget trace trace' sink sink' both None SourceErrors
-  session_waits checked c both some w are not joined unread unwritten =
-      let v = subst (λ o. IsJudged given word source text late (tree_of o)) some w in
-      let whole = program_view c.program in
-      record {
-        names = v.names;
-        messages = v.messages;
-        tree = v.tree;
-        told = not_yet whole ∷ v.messages;
-        finds = v.finds;
-        text_is = late_first word text late both v.names whole v.messages v.text_is v.late_is joined;
-        goes_on = (
-          inr record { accepted = v.accepted.0 refl; whole = whole; tree_is = v.same; does_not = ap (λ o. does_run o whole) (sym are) ∙ not; told_is = refl },
-          refl,
-          unread,
-          unwritten,
-        );
-      }
-
   -- a session that ran the program
-  pub session_ran : (checked : Option Checked) (c : Checked) (end : End) → checked ≡ Some c → IsJudged given word source text late (tree_of checked)
-      → c.options ≡ options_in_force (program_view c.program) given → does_run c.options (program_view c.program) ≡ true
-      → IsRunOf source_rest source_failures sink_told sink_failures (program_view c.program) (links (program_view c.program) macros) budget trace trace' sink sink' end
+  pub session_ran : (checked : Option Checked) (c : Checked) (end : End) → checked ≡ Some c → IsJudged given word source text (tree_of checked)
+      → c.options ≡ options_in_force (program_view c.program) given
+      → IsRunOf source_rest source_failures sink_told sink_failures (program_view c.program) (links (program_view c.program) macros) (waits c.options) budget trace trace' sink sink' end
       → IsSession source_rest source_failures sink_told sink_failures given word macros source budget trace trace' sink sink' text (Some end) (status_of end)
-  session_ran checked c end some w are runs run =
-      let v = subst (λ o. IsJudged given word source text late (tree_of o)) some w in
+  session_ran checked c end some w are run =
+      let v = subst (λ o. IsJudged given word source text (tree_of o)) some w in
       let whole = program_view c.program in
+      let under = subst (λ o.
+      IsRunOf source_rest source_failures sink_told sink_failures whole (links whole macros) (waits o) budget trace trace' sink sink' end) are run in
       record {
         names = v.names;
         messages = v.messages;
         tree = v.tree;
-        told = v.messages;
         finds = v.finds;
         text_is = v.text_is;
-        goes_on = (
-          v.accepted.0 refl,
-          refl,
-          refl,
-          record { whole = whole; tree_is = v.same; runs = ap (λ o. does_run o whole) (sym are) ∙ runs; run = run },
-        );
+        goes_on = (v.accepted.0 refl, refl, record { whole = whole; tree_is = v.same; run = under });
       }

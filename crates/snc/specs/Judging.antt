@@ -17,7 +17,7 @@ use Rattle.snl_syntax.specs.view.Programs.{first_place}
 use Rattle.snl_resolve.specs.declared.options.Options.{Options}
 use Rattle.snl_messages.specs.declared.messages.Severity.TheVariants.{Error}
 use Rattle.snl_messages.specs.declared.refusals.Refusal.{Refusal}
-use Rattle.snl_messages.specs.declared.refusals.Refusal.TheVariants.{Unexpected, EndOfFile, TooDeep, NoTokens, NotYet}
+use Rattle.snl_messages.specs.declared.refusals.Refusal.TheVariants.{Unexpected, EndOfFile, TooDeep, NoTokens}
 use Rattle.snl_messages.specs.Messages.{Said, IsInOrder}
 use Rattle.snl_messages.specs.Refusals.{number_of, words_of}
 use Rattle.snl_messages.specs.Says.{IsSaid}
@@ -76,10 +76,6 @@ syntax_error lexed (Some t) = token_error Unexpected t
 abbrev pub nesting_error : Token → Said
 nesting_error t = token_error TooDeep t
 
--- E05, at the word `program`: the program is right, and does not run yet
-abbrev pub not_yet : ProgramTree → Said
-not_yet whole = error_at whole.word.pos (number_of NotYet) (words_of NotYet)
-
 -- E01, alone: no program goes on with one of the tokens, or they end too early
 pub record IsStuck (lexed : Lexed) (messages : List Said) (tree : Option ProgramTree) : Type 0 where
   pub k : ℕ
@@ -137,8 +133,8 @@ abbrev pub Finds : Options → List ℕ → List (List ℕ) → List Said → Op
 Finds given source names messages tree = OfFault source names messages tree ⊎ OfTokens given source names messages tree
 
 -- What is answered of a source whose file is called by a word: the text of its messages, and its tree, if none is an
--- error; then also the text of the message that it does not run yet.
-pub record IsJudged (given : Options) (word source text late : List ℕ) (checked : Option ProgramTree) : Type 0 where
+-- error.
+pub record IsJudged (given : Options) (word source text : List ℕ) (checked : Option ProgramTree) : Type 0 where
   pub names : List (List ℕ)
   pub messages : List Said
   pub tree : Option ProgramTree
@@ -146,4 +142,3 @@ pub record IsJudged (given : Options) (word source text late : List ℕ) (checke
   pub text_is : text ≡ text_of word names messages
   pub accepted : IsSome checked ↔ NoErrors messages
   pub same : IfSome checked (λ p. tree ≡ Some p)
-  pub late_is : IfSome checked (λ p. late ≡ text_of word names (not_yet p ∷ []))

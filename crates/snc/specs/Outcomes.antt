@@ -1,10 +1,10 @@
 -- What `report` and `session` answer.
-use Rattle.std.specs.Prelude.{◌≡◌, ◌⊎◌, ℕ, Bool, true, false, List, [], ◌∷◌, Option, None, Some}
+use Rattle.std.specs.Prelude.{◌≡◌, ℕ, Bool, true, List, [], Option, None, Some}
 use Rattle.snl_syntax.specs.Programs.{ProgramTree}
 use Rattle.snl_resolve.specs.declared.options.Options.{Options}
 use Rattle.snl_messages.specs.Messages.{Said}
 use Rattle.snl_messages.specs.Silence.{options_in_force}
-use Rattle.snl_check.specs.Runs.{does_run}
+use Rattle.snl_check.specs.Waits.{waits}
 use Rattle.snl_links.specs.Links.{Link, links}
 use Rattle.snl_links.specs.Tables.{tables}
 use Rattle.snl_output.specs.Devices.{counted}
@@ -16,7 +16,7 @@ use Rattle.snl_trace.specs.Run.{rules_by}
 use Rattle.snl_trace.specs.RunOver.{Place, RunsOver}
 use Rattle.snl_trace.specs.declared.runner.End.{End}
 use Rattle.snl_trace.specs.declared.runner.End.TheVariants as end
-use Rattle.snc.specs.Judging.{Finds, NoErrors, not_yet}
+use Rattle.snc.specs.Judging.{Finds, NoErrors}
 use Rattle.snc.specs.Texts.{text_of}
 use Rattle.snc.specs.declared.jobs.Status.{Status}
 use Rattle.snc.specs.declared.jobs.Status.TheVariants.{Well, SourceErrors, Usage, InputOutput, Memory, ProgramFault, TraceFault}
@@ -66,53 +66,40 @@ pub record IsReport (given : Options) (asked : Bool) (word source text shown : L
 abbrev pub at_first : World → Option (List ℕ) → Place
 at_first w told = record { begun = []; number = 1; world = w; told = told }
 
--- A program with these links and a budget was run over a source into a sink, and the run ended so. Where the source tells
--- its bytes, the lines that went out, the ending and the bytes left are those that the meaning of the program gives over
--- them, in the world that it begins in; where a device failed, the lines that stand before that. And each device's count
--- of failures rose by one exactly where the run ended by that device.
+-- A program with these links and a budget, which waits for its channels or does not, was run over a source into a sink,
+-- and the run ended so. Where the source tells its bytes, the lines that went out, the ending and the bytes left are those
+-- that the meaning of the program gives over them, in the world that it begins in; where a device failed, the lines that
+-- stand before that. And each device's count of failures rose by one exactly where the run ended by that device.
 pub record IsRunOf {R S : Type 0} (source_rest : R → Option (List ℕ)) (source_failures : R → ℕ) (sink_told : S → Option (List ℕ)) (sink_failures : S → ℕ)
-    (whole : ProgramTree) (ls : List Link) (budget : ℕ) (trace trace' : R) (sink sink' : S) (end : End) : Type 0 where
+    (whole : ProgramTree) (ls : List Link) (waiting : Bool) (budget : ℕ) (trace trace' : R) (sink sink' : S) (end : End) : Type 0 where
   pub world : World
   pub ran : (bytes : List ℕ) → source_rest trace ≡ Some bytes →
-      RunsOver (rules_by (task_of whole ls) budget) end bytes (source_rest trace') (at_first (first_world_of whole ls) (sink_told sink)) world (sink_told sink')
+      RunsOver (rules_by (task_of whole ls waiting) budget) end bytes (source_rest trace') (at_first (first_world_of whole ls) (sink_told sink)) world (sink_told sink')
   pub source_counted : source_failures trace' ≡ counted (source_failed end) (source_failures trace)
   pub sink_counted : sink_failures sink' ≡ counted (sink_failed end) (sink_failures sink)
 
--- the accepted program runs: it was run with the links that these macros of the call give it
+-- the accepted program was run with the links that these macros of the call give it; the options in force say whether it
+-- waits
 pub record IsRun {R S : Type 0} (source_rest : R → Option (List ℕ)) (source_failures : R → ℕ) (sink_told : S → Option (List ℕ)) (sink_failures : S → ℕ)
     (given : Options) (macros : List ℕ) (tree : Option ProgramTree) (budget : ℕ) (trace trace' : R) (sink sink' : S) (end : End) : Type 0 where
   pub whole : ProgramTree
   pub tree_is : tree ≡ Some whole
-  pub runs : does_run (options_in_force whole given) whole ≡ true
-  pub run : IsRunOf source_rest source_failures sink_told sink_failures whole (links whole macros) budget trace trace' sink sink' end
+  pub run : IsRunOf source_rest source_failures sink_told sink_failures whole (links whole macros) (waits (options_in_force whole given)) budget trace trace' sink sink' end
 
--- the accepted program does not run yet: E05 goes out before the warnings
-pub record IsNotYet (given : Options) (messages : List Said) (tree : Option ProgramTree) (told : List Said) : Type 0 where
-  pub accepted : NoErrors messages
-  pub whole : ProgramTree
-  pub tree_is : tree ≡ Some whole
-  pub does_not : does_run (options_in_force whole given) whole ≡ false
-  pub told_is : told ≡ not_yet whole ∷ messages
+-- How a session goes on. With an error nothing is run, and neither device is touched.
+abbrev pub GoesOn : {R S : Type 0} → (R → Option (List ℕ)) → (R → ℕ) → (S → Option (List ℕ)) → (S → ℕ) → Options → List ℕ → List Said → Option ProgramTree → ℕ → R → R → S → S → Option End → Status → Type 0
+GoesOn source_rest source_failures sink_told sink_failures given macros messages tree budget trace trace' sink sink' None status =
+    (NoErrors messages → ⊥) × (status ≡ SourceErrors) × (trace' ≡ trace) × (sink' ≡ sink)
+GoesOn source_rest source_failures sink_told sink_failures given macros messages tree budget trace trace' sink sink' (Some end) status =
+    NoErrors messages × (status ≡ status_of end) × IsRun source_rest source_failures sink_told sink_failures given macros tree budget trace trace' sink sink' end
 
--- nothing is run: with an error all messages go out and no other; and where the program does not run yet
-abbrev pub IsNotRun : Options → List Said → Option ProgramTree → List Said → Type 0
-IsNotRun given messages tree told = ((NoErrors messages → ⊥) × (told ≡ messages)) ⊎ IsNotYet given messages tree told
-
--- how a session goes on: which messages go out, and where nothing is run neither device is touched
-abbrev pub GoesOn : {R S : Type 0} → (R → Option (List ℕ)) → (R → ℕ) → (S → Option (List ℕ)) → (S → ℕ) → Options → List ℕ → List Said → Option ProgramTree → List Said → ℕ → R → R → S → S → Option End → Status → Type 0
-GoesOn source_rest source_failures sink_told sink_failures given macros messages tree told budget trace trace' sink sink' None status =
-    IsNotRun given messages tree told × (status ≡ SourceErrors) × (trace' ≡ trace) × (sink' ≡ sink)
-GoesOn source_rest source_failures sink_told sink_failures given macros messages tree told budget trace trace' sink sink' (Some end) status =
-    NoErrors messages × (told ≡ messages) × (status ≡ status_of end) × IsRun source_rest source_failures sink_told sink_failures given macros tree budget trace trace' sink sink' end
-
--- What `session` answers: the text of the messages that go out, how the run ended, if there was one, and the status; and
--- what became of the two devices.
+-- What `session` answers: the text of all messages, how the run ended, if there was one, and the status; and what became
+-- of the two devices.
 pub record IsSession {R S : Type 0} (source_rest : R → Option (List ℕ)) (source_failures : R → ℕ) (sink_told : S → Option (List ℕ)) (sink_failures : S → ℕ)
     (given : Options) (word macros source : List ℕ) (budget : ℕ) (trace trace' : R) (sink sink' : S) (text : List ℕ) (end : Option End) (status : Status) : Type 0 where
   pub names : List (List ℕ)
   pub messages : List Said
   pub tree : Option ProgramTree
-  pub told : List Said
   pub finds : Finds given source names messages tree
-  pub text_is : text ≡ text_of word names told
-  pub goes_on : GoesOn source_rest source_failures sink_told sink_failures given macros messages tree told budget trace trace' sink sink' end status
+  pub text_is : text ≡ text_of word names messages
+  pub goes_on : GoesOn source_rest source_failures sink_told sink_failures given macros messages tree budget trace trace' sink sink' end status

@@ -1,5 +1,5 @@
 -- What the steps of `report` and `session` answer: texts, with the messages whose text they are. No reader of the theorem needs them.
-use Rattle.std.specs.Prelude.{◌≡◌, ◌≤◌, ◌↔◌, ℕ, Bool, true, false, List, [], ◌∷◌, length, take, Option, None, Some, IsSome, IfSome}
+use Rattle.std.specs.Prelude.{◌≡◌, ◌≤◌, ◌↔◌, ℕ, Bool, true, false, List, [], length, take, Option, None, Some, IsSome, IfSome}
 use Rattle.snl_text.specs.Cut.{Reading}
 use Rattle.snl_text.specs.Lexing.{IsCut}
 use Rattle.snl_text.specs.declared.faults.LexFault.{LexFault}
@@ -8,11 +8,10 @@ use Rattle.snl_text.specs.declared.tokens.Pos.{Pos}
 use Rattle.snl_syntax.specs.Programs.{ProgramTree}
 use Rattle.snl_syntax.specs.view.Programs.{program_view}
 use Rattle.snl_check.specs.declared.checked.Checked.{Checked}
-use Rattle.snl_check.specs.Runs.{does_run}
 use Rattle.snl_resolve.specs.declared.options.Options.{Options}
 use Rattle.snl_messages.specs.Messages.{Said}
 use Rattle.snl_links.specs.Tables.{tables}
-use Rattle.snc.specs.Judging.{IsFaultSaid, IsSaidOf, IsTreeSaid, NoErrors, names_of, not_yet}
+use Rattle.snc.specs.Judging.{IsFaultSaid, IsSaidOf, IsTreeSaid, NoErrors, names_of}
 use Rattle.snc.specs.Texts.{text_of}
 
 -- the names that the markers of a text give to files: those of its cut, if it has one
@@ -29,24 +28,22 @@ pub record IsFaultTold (word source : List ℕ) (fault : LexFault) (text : List 
   pub text_is : text ≡ text_of word names messages
 
 -- the text of the messages about tokens, and their tree, if none is an error
-pub record AreTokensTold (given : Options) (word : List ℕ) (lexed : Lexed) (text late : List ℕ) (checked : Option ProgramTree) : Type 0 where
+pub record AreTokensTold (given : Options) (word : List ℕ) (lexed : Lexed) (text : List ℕ) (checked : Option ProgramTree) : Type 0 where
   pub messages : List Said
   pub tree : Option ProgramTree
   pub said : IsSaidOf given lexed messages tree
   pub text_is : text ≡ text_of word (names_of lexed) messages
   pub accepted : IsSome checked ↔ NoErrors messages
   pub same : IfSome checked (λ p. tree ≡ Some p)
-  pub late_is : IfSome checked (λ p. late ≡ text_of word (names_of lexed) (not_yet p ∷ []))
 
 -- the text of the messages about a program, and its tree, if none is an error
 pub record IsTreeTold (given : Options) (word : List ℕ) (names : List (List ℕ)) (whole : ProgramTree) (embedded : List Pos) (beyond : Option Pos)
-    (text late : List ℕ) (checked : Option ProgramTree) : Type 0 where
+    (text : List ℕ) (checked : Option ProgramTree) : Type 0 where
   pub messages : List Said
   pub said : IsTreeSaid given whole embedded beyond messages
   pub text_is : text ≡ text_of word names messages
   pub accepted : IsSome checked ↔ NoErrors messages
   pub same : IfSome checked (λ p. p ≡ whole)
-  pub late_is : late ≡ text_of word names (not_yet whole ∷ [])
 
 -- the tables of a tree that is there, where they are asked for
 abbrev pub asked_tables : Bool → Option ProgramTree → List ℕ

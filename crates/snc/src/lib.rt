@@ -1,7 +1,7 @@
 //! From the bytes of a program to its messages, and from those of a trace to the lines of its run.
 //!
-//! `read_words` reads the words of a call. `report` checks a program; `session` checks it and, if it has no error and
-//! runs, runs it over a trace.
+//! `read_words` reads the words of a call. `report` checks a program; `session` checks it and, if it has no error, runs
+//! it over a trace.
 #![tactic(auto)]
 
 mod jobs;

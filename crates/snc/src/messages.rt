@@ -21,8 +21,6 @@ use std::alloc::{AllocError, Global};
 #[derive(Drop)]
 pub struct Findings<'a> {
     pub messages: Vec<u8>,
-    /// The message that the program does not run yet; empty where a message is an error.
-    pub late: Vec<u8>,
     pub checked: Option<Checked<'a>>,
 }
 
@@ -34,7 +32,7 @@ pub fn judged<'a>(
     given: Options,
 ) -> Result<Findings<'a>, AllocError>
     ensures judged { IfOk result (λ f. IsJudged given file.now source.now f.messages.items
-        f.late.items (option_map (λ c. program_view c.program) f.checked)) }
+        (option_map (λ c. program_view c.program) f.checked)) }
     ensures options { IfOk result (λ f. IfSome f.checked (λ c. c.options
         ≡ options_in_force (program_view c.program) given)) }
 {
@@ -102,7 +100,7 @@ fn tokens_judged<'a>(
     given: Options,
 ) -> Result<Findings<'a>, AllocError>
     ensures told { IfOk result (λ f. AreTokensTold given file.now lexed.now f.messages.items
-        f.late.items (option_map (λ c. program_view c.program) f.checked)) }
+        (option_map (λ c. program_view c.program) f.checked)) }
     ensures options { IfOk result (λ f. IfSome f.checked (λ c. c.options
         ≡ options_in_force (program_view c.program) given)) }
 {
@@ -137,29 +135,18 @@ fn tree_judged<'a>(
 ) -> Result<Findings<'a>, AllocError>
     ensures told { IfOk result (λ f. IsTreeTold given names.entry.read.now
         (map (λ name. name.now) names.entry.marked.now) (program_view program.entry)
-        program.entry.embedded.items program.entry.beyond f.messages.items f.late.items
+        program.entry.embedded.items program.entry.beyond f.messages.items
         (option_map (λ c. program_view c.program) f.checked)) }
     ensures options { IfOk result (λ f. IfSome f.checked (λ c. c.options
         ≡ options_in_force (program_view c.program) given)) }
 {
-    let late = refused_text(
-        alloc,
-        names,
-        program.word.pos,
-        Refusal::NotYet,
-        Refusal::NotYet.words(),
-    )?;
     let Outcome {
         messages: said,
         checked,
     } = check(alloc, program, given)?;
     let mut messages = Vec::new(alloc);
     push_lines(&mut messages, names, said.as_slice())?;
-    Ok(Findings {
-        messages,
-        late,
-        checked,
-    })
+    Ok(Findings { messages, checked })
 }
 
 /// The one message of tokens that are no program, at the first that can't stand where it does.
@@ -245,23 +232,6 @@ fn words_at(alloc: Global, words: &[u8], token: &[u8]) -> Result<Vec<u8>, AllocE
     Ok(text)
 }
 
-/// The text of an error.
-fn refused_text(
-    alloc: Global,
-    names: Names,
-    pos: Pos,
-    why: Refusal,
-    text: &[u8],
-) -> Result<Vec<u8>, AllocError>
-    ensures { IfOk result (λ line. line.items
-        ≡ text_of names.entry.read.now (map (λ name. name.now) names.entry.marked.now)
-        (error_at pos (number_of why) text.now ∷ [])) }
-{
-    let mut line = Vec::new(alloc);
-    push_line(&mut line, names, pos, Severity::Error, why.number(), text)?;
-    Ok(line)
-}
-
 /// An error that is the one message of its source.
 fn refused<'a>(
     alloc: Global,
@@ -275,10 +245,17 @@ fn refused<'a>(
         (error_at pos (number_of why) text.now ∷ [])) }
     ensures none { IfOk result (λ f. f.checked ≡ None) }
 {
-    let messages = refused_text(alloc, names, pos, why, text)?;
+    let mut messages = Vec::new(alloc);
+    push_line(
+        &mut messages,
+        names,
+        pos,
+        Severity::Error,
+        why.number(),
+        text,
+    )?;
     Ok(Findings {
         messages,
-        late: Vec::new(alloc),
         checked: None,
     })
 }

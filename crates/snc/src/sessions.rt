@@ -1,6 +1,6 @@
 //! `session`: a source, and the run of its program over a trace.
 
-ghost use Rattle.std.specs.Prelude.{◌≡◌, ◌-◌, ◌^◌, ◌<◌, ◌++◌, ℕ, List, [], Option, IfOk, OnErr, string_bytes};
+ghost use Rattle.std.specs.Prelude.{◌≡◌, ◌-◌, ◌^◌, ◌<◌, ℕ, List, [], Option, IfOk, OnErr, string_bytes};
 ghost use Rattle.std.specs.Option.{option_map, unwrap_or};
 ghost use Rattle.snc.specs.Outcomes.{IsSession, status_of};
 
@@ -8,15 +8,14 @@ use crate::jobs::Status;
 use crate::messages::{Findings, judged};
 use snc_args::Job;
 use snl_links::Macros;
-use snl_machine::{Sink, machine_if_run};
+use snl_machine::{Sink, load_and_drop};
 use snl_trace::{End, Source, run};
 use std::alloc::{AllocError, Global};
 
 /// Reads and checks a program and, if it has no error, runs it over a trace: the messages, how the run
 /// ended, and the status.
 ///
-/// With an error in the program neither the trace nor the sink is touched, and there is no end. So it is
-/// with a program that is right and does not run yet: its first message is `E05 not run yet`. The
+/// With an error in the program neither the trace nor the sink is touched, and there is no end. The
 /// same holds where memory ran out, which is the only failure: a run takes no memory.
 pub fn session<R: Source, S: Sink>(
     alloc: Global,
@@ -34,19 +33,12 @@ pub fn session<R: Source, S: Sink>(
     ensures unread { OnErr result (trace.new ≡ trace.old) }
     ensures unwritten { OnErr result (sink.new ≡ sink.old) }
 {
-    let Findings {
-        messages,
-        late,
-        checked,
-    } = judged(alloc, source, job.file.as_bytes(), job.options)?;
+    let Findings { messages, checked } = judged(alloc, source, job.file.as_bytes(), job.options)?;
     let Some(checked) = checked else {
         return Ok((messages, None, Status::SourceErrors));
     };
     let macros = macros_of(job);
-    let Some(mut machine) = machine_if_run(alloc, checked, &macros, job.budget)? else {
-        let messages = joined(late, messages.as_slice())?;
-        return Ok((messages, None, Status::SourceErrors));
-    };
+    let mut machine = load_and_drop(alloc, checked, &macros, job.budget)?;
     let end = run(&mut machine, trace, sink);
     Ok((messages, Some(end), status(end)))
 }
@@ -63,14 +55,6 @@ fn macros_of(job: &Job) -> Macros<'_>
             text: b"".as_slice(),
         },
     }
-}
-
-/// A text with another behind it.
-fn joined(mut text: Vec<u8>, more: &[u8]) -> Result<Vec<u8>, AllocError>
-    ensures { IfOk result (λ all. all.items ≡ text.items ++ more.now) }
-{
-    text.extend_from_slice(more)?;
-    Ok(text)
 }
 
 /// The status of a run that ended so.

@@ -101,7 +101,7 @@ happened, the channel, its values. The lines of the run go to standard output, m
 
 Example: snlrun interlock.st < interlock.trace
 
-Status: 0 well, 1 errors in the program, or it does not run yet, 2 the words of the call are wrong,
+Status: 0 well, 1 errors in the program, 2 the words of the call are wrong,
 3 the file, the input or the output failed, 4 memory ran out, 5 the program faulted,
 6 a line of the trace is bad.";
 

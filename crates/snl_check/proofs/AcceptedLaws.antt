@@ -13,8 +13,6 @@ use Rattle.snl_messages.specs.Silence.{options_in_force}
 use Rattle.snl_check.specs.declared.findings.Findings.{Findings}
 use Rattle.snl_check.specs.Accepted.{IsAccepted, has_no_error}
 use Rattle.snl_check.specs.Findings.{AreFindings}
-use Rattle.snl_resolve.specs.Programs.{sites}
-use Rattle.snl_check.specs.Runs.{do_sites_run}
 use Rattle.snl_check.specs.Tables.{IsTableOf}
 
 -- A warning is no error.
@@ -67,10 +65,6 @@ module _ (p : Program) (given : Options) (f : Findings) (found : AreFindings p g
   -- The same of an equal program under the options that are found.
   pub accepted_found : (q : Program) → q ≡ p → has_no_error (map said f.messages.items) ≡ true → IsAccepted f.options q
   accepted_found q same e = subst (λ x. IsAccepted f.options x) (sym same) (subst (λ o. IsAccepted o p) (sym found.options) (accepted_by_warnings e))
-
-  -- Whether what stands at its sites runs is found of an equal program.
-  pub sited_found : (q : Program) → q ≡ p → f.do_sites_run ≡ do_sites_run (sites (program_view q))
-  sited_found q same = found.sited ∙ ap (λ x. do_sites_run (sites (program_view x))) (sym same)
 
   -- The table that is found is that of an equal program.
   pub places_found : (q : Program) → q ≡ p → IsTableOf f.places q

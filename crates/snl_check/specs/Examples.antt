@@ -1,9 +1,7 @@
--- Examples: which name the table answers for, and which options let a program run, computed.
+-- Examples: which name the table answers for, and which options make a program wait, computed.
 use Rattle.std.specs.Prelude.{◌≡◌, ℕ, true, false, List, [], ◌∷◌, None, Some}
 use Rattle.snl_text.specs.declared.kinds.Kind.TheVariants.{Name}
 use Rattle.snl_text.specs.declared.tokens.Pos.{Pos}
-use Rattle.snl_syntax.specs.Programs.{ProgramTree}
-use Rattle.snl_resolve.specs.declared.options.Options.{Options}
 use Rattle.snl_resolve.specs.declared.sites.Meaning.{Meaning}
 use Rattle.snl_resolve.specs.declared.sites.Meaning.TheVariants.{Variable, Flag, Number, Nothing}
 use Rattle.snl_resolve.specs.declared.sites.Purpose.TheVariants.{Read}
@@ -12,8 +10,8 @@ use Rattle.snl_resolve.specs.declared.sites.Site.TheVariants.{Use}
 use Rattle.snl_resolve.specs.declared.sites.Size.TheVariants.{Scalar}
 use Rattle.snl_resolve.specs.Options.{no_options, after_option}
 use Rattle.snl_resolve.specs.Uses.{declared_in}
-use Rattle.snl_check.specs.Runs.{waits, does_run}
 use Rattle.snl_check.specs.Tables.{or_later}
+use Rattle.snl_check.specs.Waits.{waits}
 
 -- A place at an offset.
 abbrev at : ℕ → Pos
@@ -44,7 +42,3 @@ pub record WaitExamples : Type 0 where
   pub plus : waits (after_option true (99 ∷ []) no_options) ≡ true
   pub minus : waits (after_option false (99 ∷ []) no_options) ≡ false
   pub last : waits (after_option true (99 ∷ []) (after_option false (99 ∷ []) no_options)) ≡ true
-
--- Under `-c` no program runs.
-abbrev pub NoneRunsWithoutWaiting : Type 0
-NoneRunsWithoutWaiting = (o : Options) (p : ProgramTree) → waits o ≡ false → does_run o p ≡ false

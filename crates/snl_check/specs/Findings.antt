@@ -7,15 +7,12 @@ use Rattle.snl_messages.specs.Messages.{Said, IsInOrder, said}
 use Rattle.snl_messages.specs.Says.{IsSaid}
 use Rattle.snl_messages.specs.Silence.{options_in_force}
 use Rattle.snl_check.specs.declared.findings.Findings.{Findings}
-use Rattle.snl_resolve.specs.Programs.{sites}
-use Rattle.snl_check.specs.Runs.{do_sites_run}
 use Rattle.snl_check.specs.Tables.{IsTableOf}
 
 -- These are the messages of a program where these options are given with it, in order, with the options in force and
--- what the names of the program mean, and whether what stands at its sites runs.
+-- what the names of the program mean.
 pub record AreFindings (p : Program) (given : Options) (f : Findings) : Type 0 where
   pub exactly : (m : Said) → Contains (map said f.messages.items) m ↔ IsSaid given (program_view p) p.embedded.items p.beyond m
   pub in_order : IsInOrder (map said f.messages.items)
   pub options : f.options ≡ options_in_force (program_view p) given
   pub places : IsTableOf f.places p
-  pub sited : f.do_sites_run ≡ do_sites_run (sites (program_view p))

@@ -3,17 +3,15 @@
 ghost use Rattle.std.specs.Prelude.{◌≡◌, ◌↔◌, map, Contains, IfOk, IfSome, IsSome};
 ghost use Rattle.std.proofs.Props.{props};
 ghost use Rattle.snl_syntax.specs.view.Programs.{program_view};
-ghost use Rattle.snl_resolve.specs.Programs.{sites};
 ghost use Rattle.snl_resolve.specs.Uses.{declared_of};
 ghost use Rattle.snl_messages.specs.Messages.{Said, IsInOrder, said};
 ghost use Rattle.snl_messages.specs.Says.{IsSaid};
 ghost use Rattle.snl_messages.specs.Silence as silence;
 ghost use Rattle.snl_check.specs.Accepted.{IsAccepted};
-ghost use Rattle.snl_check.specs.Runs as runs;
 ghost use Rattle.snl_check.specs.Tables.{IsTableOf};
+ghost use Rattle.snl_check.specs.Waits.{waits};
 
 use crate::findings::{Examined, Findings, examine_owned};
-use crate::runs::does_run;
 use crate::uses::{Places, declared_at};
 use snl_messages::Message;
 use snl_resolve::Options;
@@ -29,11 +27,8 @@ pub struct Checked<'a> {
     options: Options,
     /// What the names of the program mean.
     places: Places,
-    /// Whether what stands at the sites of the program runs.
-    do_sites_run: bool,
     pub ghost accepted: { IsAccepted options program },
     ghost bound: { IsTableOf places program } by { Prim.hlevel props },
-    ghost sited: { do_sites_run ≡ runs.do_sites_run (sites (program_view program)) } by { Prim.hlevel props },
 }
 
 impl<'a> Checked<'a> {
@@ -63,12 +58,12 @@ impl<'a> Checked<'a> {
         declared_at(&self.places, offset)
     }
 
-    /// Whether the program runs: it has none of the forms that don't run yet, and waits for
-    /// its channels before it starts.
-    pub fn runs(&self) -> bool
-        ensures { result ≡ runs.does_run self.now.options (program_view self.now.program) }
+    /// Whether the program waits for its channels before it starts: every named channel connected,
+    /// and each monitored one valued. `-c` turns it off (Compiling SNL Programs, "Options").
+    pub fn waits(&self) -> bool
+        ensures { result ≡ waits self.now.options }
     {
-        does_run(self.options, &self.program, self.do_sites_run)
+        self.options.c.unwrap_or(true)
     }
 
     /// The program alone.
@@ -114,14 +109,12 @@ pub fn check<'a>(
         messages,
         options,
         places,
-        do_sites_run,
     } = findings;
     let checked = if is_accepted {
         Some(Checked {
             program,
             options,
             places,
-            do_sites_run,
         })
     } else {
         None

@@ -7,7 +7,6 @@ ghost use Rattle.snl_check.specs.Findings.{AreFindings};
 ghost use Rattle.snl_check.specs.declared.findings.Findings as declared;
 ghost use Rattle.snl_resolve.specs.declared.options.Options as sites;
 
-use crate::runs::do_sites_run;
 use crate::uses::{Places, places_of};
 use snl_messages::{Message, Severity, messages_of, options_in_force};
 use snl_resolve::{Options, sites_of};
@@ -23,8 +22,6 @@ pub struct Findings {
     pub options: Options,
     /// What the names of the program mean.
     pub places: Places,
-    /// Whether what stands at the sites of the program runs.
-    pub do_sites_run: bool,
 }
 
 impl Findings {
@@ -55,13 +52,11 @@ fn findings_of(alloc: Global, program: &Program, given: Options) -> Result<Findi
     let messages = messages_of(alloc, program, given)?;
     let sites = sites_of(alloc, program)?;
     let places = places_of(alloc, sites.as_slice())?;
-    let do_sites_run = do_sites_run(sites.as_slice());
     let options = options_in_force(program, given);
     Ok(Findings {
         messages,
         options,
         places,
-        do_sites_run,
     })
 }
 

@@ -1,6 +1,6 @@
-//! Examples of the definitions, and a law of them. Each function is its contract.
+//! Examples of the definitions. Each function is its contract.
 
-ghost use Rattle.snl_check.specs.Examples.{UseExamples, WaitExamples, NoneRunsWithoutWaiting};
+ghost use Rattle.snl_check.specs.Examples.{UseExamples, WaitExamples};
 
 /// What is answered at the offsets of names.
 pub fn examples_of_uses()
@@ -10,9 +10,4 @@ pub fn examples_of_uses()
 /// Which options make a program wait for its channels.
 pub fn examples_of_waiting()
     ensures { WaitExamples }
-{}
-
-/// No program runs that does not wait for its channels.
-pub fn none_runs_without_waiting()
-    ensures { NoneRunsWithoutWaiting }
 {}

@@ -5,9 +5,7 @@
 
 mod checked;
 mod findings;
-mod forms;
 pub mod laws;
-mod runs;
 mod uses;
 
 pub use checked::{Checked, Outcome, check};

@@ -129,8 +129,8 @@ fn call_depth(arguments: &[Argument], name: Token) -> usize
     match builtin_of(name.text) {
         Some(Builtin::Delay) => wait_depth(arguments),
         Some(Builtin::Printf) => print_depth(arguments),
-        Some(Builtin::PvPut) => put_depth(arguments),
-        Some(Builtin::Ask(_)) | None => 1,
+        Some(Builtin::PvPut | Builtin::Ask(_)) => put_depth(arguments),
+        None => 1,
     }
 }
 
@@ -182,7 +182,7 @@ fn wait_depth(arguments: &[Argument]) -> usize
     }
 }
 
-/// Of `pvPut`.
+/// Of `pvPut`, and of a call that asks.
 #[cycle(depths)]
 fn put_depth(arguments: &[Argument]) -> usize
     ensures { result ≡ capped (spec.put_depth (list_before arguments.now no_arguments)) }

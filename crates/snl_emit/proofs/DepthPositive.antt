@@ -20,7 +20,7 @@ called-positive None d e i a b c = omega arith
 called-positive (Some Delay) d e i a b c = b
 called-positive (Some Printf) d e i a b c = a
 called-positive (Some PvPut) d e i a b c = c
-called-positive (Some (Ask query)) d e i a b c = omega arith
+called-positive (Some (Ask query)) d e i a b c = c
 
 -- `printf`
 print-positive : (all : ArgumentList) → 1 ≤ print_depth all

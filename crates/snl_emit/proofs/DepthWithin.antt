@@ -38,7 +38,7 @@ called-small None d e i n a b c o = o
 called-small (Some Delay) d e i n a b c o = b
 called-small (Some Printf) d e i n a b c o = a
 called-small (Some PvPut) d e i n a b c o = c
-called-small (Some (Ask query)) d e i n a b c o = o
+called-small (Some (Ask query)) d e i n a b c o = c
 
 -- each expression has a token
 some-slots : (e : ExprTree) → 1 ≤ length (slots e)

@@ -12,14 +12,15 @@ use Rattle.snl_syntax.proofs.Rows.{view_chain, view_call}
 use Rattle.snl_meaning.specs.declared.instrs.Instr.{Instr}
 use Rattle.snl_meaning.specs.declared.instrs.Instr.TheVariants.{Adjust, AdjustAt, Push}
 use Rattle.std.specs.Prelude.{pos}
+use Rattle.snl_resolve.specs.declared.builtins.Query.{Query}
 use Rattle.snl_meaning.specs.Names.{Here}
 use Rattle.snl_emit.specs.ExpressionCode.{expression_code, terms_code, target_code, signed_code}
-use Rattle.snl_emit.specs.Emission.{sign_code, call_code, put_target_code}
-use Rattle.snl_emit.specs.Targets.{place_code, stored_code, adjust_code, put_instr}
+use Rattle.snl_emit.specs.Emission.{sign_code, call_code, put_target_code, ask_target_code}
+use Rattle.snl_emit.specs.Targets.{place_code, stored_code, adjust_code, put_instr, ask_instr}
 use Rattle.snl_meaning.specs.declared.operators.Sign.{Sign}
 use Rattle.snl_meaning.specs.declared.operators.Sign.TheVariants.{Steps, Alone}
 use Rattle.snl_meaning.specs.Value.{sign_of, compound_of}
-use Rattle.snl_emit.proofs.TargetCode.{target-cut, step-cut, put-cut}
+use Rattle.snl_emit.proofs.TargetCode.{target-cut, step-cut, put-cut, ask-cut}
 
 -- an assignment: the store, then the right side, then the place
 assignment-made : (h : Here) (e r : ExprTree) (op : Token) (old stored right new : List Instr)
@@ -90,3 +91,9 @@ pub put-made : (h : Here) (e : ExprTree) (old mid new : List Instr) → mid ≡ 
     → new ≡ put_target_code h e ++ old
 put-made h e old mid new em en =
     en ∙ ap (λ l. place_code h None e ++ l) em ∙ sym (append_assoc (place_code h None e) (put_instr h e ∷ []) old) ∙ ap (λ l. l ++ old) (sym (put-cut h e))
+
+-- a call that asks: its instruction, and then the place
+pub ask-made : (h : Here) (query : Query) (e : ExprTree) (old mid new : List Instr) → mid ≡ ask_instr h query e ∷ old → new ≡ place_code h None e ++ mid
+    → new ≡ ask_target_code h query e ++ old
+ask-made h query e old mid new em en =
+    en ∙ ap (λ l. place_code h None e ++ l) em ∙ sym (append_assoc (place_code h None e) (ask_instr h query e ∷ []) old) ∙ ap (λ l. l ++ old) (sym (ask-cut h query e))

@@ -5,12 +5,13 @@ use Rattle.snl_text.specs.declared.kinds.Kind.{Kind}
 use Rattle.snl_text.specs.declared.tokens.Token.{Token}
 use Rattle.snl_syntax.specs.Expressions.{ExprTree, constant, parenthesized, named, element, call, postfix, prefix, chain, conditional, assignment}
 use Rattle.snl_meaning.specs.declared.instrs.Instr.{Instr}
-use Rattle.snl_meaning.specs.declared.instrs.Instr.TheVariants.{Push, Load, Check, Peek, Store, StoreAt, Adjust, AdjustAt, Apply, Drop, Put, PutAt}
-use Rattle.snl_meaning.specs.Names.{Here, sense_of}
+use Rattle.snl_meaning.specs.declared.instrs.Instr.TheVariants.{Push, Load, Check, Peek, Store, StoreAt, Adjust, AdjustAt, Apply, Drop, Put, PutAt, Ask, AskLink, AskElement}
+use Rattle.snl_resolve.specs.declared.builtins.Query.{Query}
+use Rattle.snl_meaning.specs.Names.{Here, sense_of, flag_number}
 use Rattle.snl_meaning.specs.declared.names.Sense.{Sense}
 use Rattle.snl_meaning.specs.declared.names.Sense.TheVariants.{Varies, Stands}
-use Rattle.snl_emit.specs.ExpressionCode.{expression_code, target_code, put_code, put_at_code, at_name_code, at_code}
-use Rattle.snl_emit.specs.Targets.{place_code, stored_code, old_code, checked_code, stored_alone, stored_at, adjust_code, adjust_alone, adjust_at, put_instr, put_alone, put_element}
+use Rattle.snl_emit.specs.ExpressionCode.{expression_code, target_code, ask_flag_code, put_code, put_at_code, at_name_code, at_code}
+use Rattle.snl_emit.specs.Targets.{place_code, stored_code, old_code, checked_code, stored_alone, stored_at, adjust_code, adjust_alone, adjust_at, put_instr, put_alone, put_element, ask_instr, ask_alone, ask_element}
 
 -- nothing behind a list
 pub nothing-behind : (l : List Instr) → l ++ [] ≡ l
@@ -102,3 +103,29 @@ put-cut h (prefix t e) = refl
 put-cut h (chain e rest) = refl
 put-cut h (conditional c a b) = refl
 put-cut h (assignment e t r) = refl
+
+-- what is asked by a name
+named-ask : (s : Sense) (x : Token) (query : Query) (flag : ℕ) → at_name_code s x (λ v y. AskLink query v ∷ []) (Ask query flag ∷ []) ≡ old_code s None ++ ask_alone s query flag ∷ []
+named-ask (Varies v) x query flag = refl
+named-ask (Stands z) x query flag = refl
+
+-- the same of an element
+element-ask : (s : Sense) (line : ℕ) (query : Query) → at_code s line (λ v. AskElement query v ∷ []) (Push (pos 0) ∷ []) ≡ checked_code s line None ++ ask_element s query ∷ []
+element-ask (Varies v) line query = refl
+element-ask (Stands z) line query = refl
+
+-- a call that asks, at any target
+pub ask-cut : (h : Here) (query : Query) (e : ExprTree) →
+    target_code h e (λ v x. AskLink query v ∷ []) (λ v x. AskElement query v ∷ []) (ask_flag_code h e query ∷ []) ≡ place_code h None e ++ ask_instr h query e ∷ []
+ask-cut h query (parenthesized e) = ask-cut h query e
+ask-cut h query (named x) = named-ask (sense_of h x) x query (flag_number h x)
+ask-cut h query (element x b e) =
+    ap (λ l. expression_code h e ++ l) (element-ask (sense_of h x) b.pos.line query)
+    ∙ sym (append_assoc (expression_code h e) (checked_code (sense_of h x) b.pos.line None) (ask_element (sense_of h x) query ∷ []))
+ask-cut h query (constant t) = refl
+ask-cut h query (call f all) = refl
+ask-cut h query (postfix e t) = refl
+ask-cut h query (prefix t e) = refl
+ask-cut h query (chain e rest) = refl
+ask-cut h query (conditional c a b) = refl
+ask-cut h query (assignment e t r) = refl

@@ -5,17 +5,18 @@ use Rattle.snl_text.specs.declared.kinds.Kind.{Kind}
 use Rattle.snl_text.specs.declared.tokens.Token.{Token}
 use Rattle.snl_syntax.specs.Expressions.{ExprTree, TermList, ArgumentList, constant, parenthesized, named, element, call, postfix, prefix, chain, conditional, assignment, no_terms, term, no_arguments, value, text}
 use Rattle.snl_meaning.specs.declared.instrs.Instr.{Instr}
-use Rattle.snl_meaning.specs.declared.instrs.Instr.TheVariants.{Push, Get, Adjust, AdjustAt, Print, Wait, Put, PutAt, Ask}
+use Rattle.snl_meaning.specs.declared.instrs.Instr.TheVariants.{Push, Get, Adjust, AdjustAt, Print, Wait, Put, PutAt, Ask, AskLink, AskElement}
 use Rattle.snl_meaning.specs.declared.instrs.Variable.{Variable}
-use Rattle.snl_emit.specs.ExpressionCode.{CodeOn, expression_code, terms_code, target_code, values_code, print_code, wait_code, put_call_code, ask_at_instr, ask_instr, expression_depth, terms_depth, target_depth, values_depth, print_depth, wait_depth, put_depth, joint_code, joint_depth, at_code, get_code, put_code, put_at_code, held_depth, count_values}
+use Rattle.snl_emit.specs.ExpressionCode.{CodeOn, expression_code, terms_code, target_code, values_code, print_code, wait_code, put_call_code, ask_flag_code, ask_code, expression_depth, terms_depth, target_depth, values_depth, print_depth, wait_depth, put_depth, joint_code, joint_depth, at_code, get_code, put_code, put_at_code, held_depth, count_values}
 use Rattle.snl_meaning.specs.Names.{Here, sense_of, format_number, flag_number}
 use Rattle.snl_meaning.specs.Ran.{Ran}
 use Rattle.snl_meaning.specs.Endings.{HasAt}
 use Rattle.snl_meaning.specs.Run.{PieceContext, context_of}
 use Rattle.snl_resolve.specs.Builtins.{builtin_of}
 use Rattle.snl_resolve.specs.declared.builtins.Query.{Query}
-use Rattle.snl_meaning.specs.Value.{OnVariable, OnElement, constant_of, joint_of, compound_of, sign_of, is_decimal, joined_by, put_at, at_subscript, value_of, chained, at_target, print_of, printing_with, wait_of, put_of, ask_at, ask_of}
-use Rattle.snl_meaning.specs.Words.{gives, read, adjusted, put_to, put_element, asked, waited}
+use Rattle.snl_meaning.specs.Value.{OnVariable, OnElement, constant_of, joint_of, compound_of, sign_of, is_decimal, joined_by, put_at, at_subscript, value_of, chained, at_target, print_of, printing_with, wait_of, put_of, ask_flag, ask_of}
+use Rattle.snl_meaning.specs.Words.{gives, read, adjusted, put_to, put_element, waited}
+use Rattle.snl_meaning.specs.Asking.{asked, ask_variable, ask_element}
 use Rattle.snl_meaning.specs.World.{World}
 use Rattle.snl_emit.proofs.DepthPositive.{depth-positive}
 use Rattle.snl_meaning.proofs.Following.{has_front, has_back, follows-then, follows-to}
@@ -59,23 +60,17 @@ module _ (h : Here) (room : ℕ) (code : List Instr) where
       (follow [] (count_values all) (at + length ac) at s w (omega arith) refl (has_back code at ac _ has).0 (has_front code at ac _ has) (omega arith) (omega arith))
 
   -- what is asked of a flag, by an expression
-  ask_at-follows : (e : ExprTree) (query : Query) → Codes g code (ask_at h e query) (ask_at_instr h e query ∷ []) 1
-  ask_at-follows (named x) query = codes-pushes g code (Ask query (flag_number h x)) (asked query (flag_number h x)) (λ at s w. refl) 1 (omega arith)
-  ask_at-follows (constant t) query = pushes-zero 1 (omega arith)
-  ask_at-follows (parenthesized e) query = pushes-zero 1 (omega arith)
-  ask_at-follows (element x b e) query = pushes-zero 1 (omega arith)
-  ask_at-follows (call f all) query = pushes-zero 1 (omega arith)
-  ask_at-follows (postfix e op) query = pushes-zero 1 (omega arith)
-  ask_at-follows (prefix op e) query = pushes-zero 1 (omega arith)
-  ask_at-follows (chain e rest) query = pushes-zero 1 (omega arith)
-  ask_at-follows (conditional c a b) query = pushes-zero 1 (omega arith)
-  ask_at-follows (assignment e op r) query = pushes-zero 1 (omega arith)
-
-  -- by an argument
-  ask-follows : (all : ArgumentList) (query : Query) → Codes g code (ask_of h all query) (ask_instr h all query ∷ []) 1
-  ask-follows no_arguments query = pushes-zero 1 (omega arith)
-  ask-follows (text t rest) query = pushes-zero 1 (omega arith)
-  ask-follows (value e rest) query = ask_at-follows e query
+  flag-follows : (e : ExprTree) (query : Query) → Codes g code (ask_flag h e query) (ask_flag_code h e query ∷ []) 1
+  flag-follows (parenthesized e) query = flag-follows e query
+  flag-follows (named x) query = codes-pushes g code (Ask query (flag_number h x)) (asked query (flag_number h x)) (λ at s w. refl) 1 (omega arith)
+  flag-follows (constant t) query = pushes-zero 1 (omega arith)
+  flag-follows (element x b e) query = pushes-zero 1 (omega arith)
+  flag-follows (call f all) query = pushes-zero 1 (omega arith)
+  flag-follows (postfix e op) query = pushes-zero 1 (omega arith)
+  flag-follows (prefix op e) query = pushes-zero 1 (omega arith)
+  flag-follows (chain e rest) query = pushes-zero 1 (omega arith)
+  flag-follows (conditional c a b) query = pushes-zero 1 (omega arith)
+  flag-follows (assignment e op r) query = pushes-zero 1 (omega arith)
 
   mutual
     -- an expression
@@ -90,7 +85,7 @@ module _ (h : Here) (room : ℕ) (code : List Instr) where
         (λ v. on-one g code (Get v) (read h.set v) (λ at x s w. refl) (expression_depth e)) (pushes-zero (expression_depth e) (depth-positive e)))
     value-follows (call f all) =
         codes-called g code (builtin_of f.text.now) (print_of h all) (wait_of h all) (put_of h all) (ask_of h all)
-        (print_code h all) (wait_code h all) (put_call_code h all) (ask_instr h all) (print_depth all) (wait_depth all) (put_depth all)
+        (print_code h all) (wait_code h all) (put_call_code h all) (ask_code h all) (print_depth all) (wait_depth all) (put_depth all)
         (print-follows all) (wait-follows all) (put-follows all) (ask-follows all)
     value-follows (postfix e op) =
         codes-signed g code (sign_of op.kind) _ (value_of h e) _ (expression_code h e) op.pos.line (target_depth e 2 3) (expression_depth e)
@@ -200,3 +195,13 @@ module _ (h : Here) (room : ℕ) (code : List Instr) where
         (Push (pos 0) ∷ []) 1 1 (omega arith)
         (λ x v. codes-pushes g code (Put v) (put_to h.set v) (λ at s w. refl) 1 (omega arith))
         (λ x v. on-one g code (PutAt v) (put_element h.set v) (λ at x s w. refl) 1) (pushes-zero 1 (omega arith))
+
+    -- a call that asks
+    ask-follows : (all : ArgumentList) (query : Query) → Codes g code (ask_of h all query) (ask_code h all query) (put_depth all)
+    ask-follows no_arguments query = codes-pushes g code (Ask query 0) (asked query 0) (λ at s w. refl) 1 (omega arith)
+    ask-follows (text t rest) query = pushes-zero 1 (omega arith)
+    ask-follows (value e rest) query =
+        target-follows e (λ v x. ask_variable query h.set v) (λ v x. ask_element query h.set v) (ask_flag h e query) (λ v x. AskLink query v ∷ []) (λ v x. AskElement query v ∷ [])
+        (ask_flag_code h e query ∷ []) 1 1 (omega arith)
+        (λ x v. codes-pushes g code (AskLink query v) (ask_variable query h.set v) (λ at s w. refl) 1 (omega arith))
+        (λ x v. on-one g code (AskElement query v) (ask_element query h.set v) (λ at x s w. refl) 1) (flag-follows e query)

@@ -78,8 +78,8 @@ module _ (g : PieceContext) (code : List Instr) where
   codes-at_name (Stands z) x alone other ac oc d f h = h
 
   -- a call
-  pub codes-called : (function : Option Builtin) (print wait put : World → Ran ℤ) (ask : Query → World → Ran ℤ) (pc wc uc : List Instr) (ac : Query → Instr) (d e i : ℕ) →
-      Codes g code print pc d → Codes g code wait wc e → Codes g code put uc i → ((query : Query) → Codes g code (ask query) (ac query ∷ []) 1) →
+  pub codes-called : (function : Option Builtin) (print wait put : World → Ran ℤ) (ask : Query → World → Ran ℤ) (pc wc uc : List Instr) (ac : Query → List Instr) (d e i : ℕ) →
+      Codes g code print pc d → Codes g code wait wc e → Codes g code put uc i → ((query : Query) → Codes g code (ask query) (ac query) i) →
       Codes g code (called function print wait put ask) (called_code function pc wc uc ac) (called_depth function d e i)
   codes-called None print wait put ask pc wc uc ac d e i f h k a = codes-pushes g code (Push (pos 0)) (gives (pos 0)) (λ at s w. refl) 1 (omega arith)
   codes-called (Some Delay) print wait put ask pc wc uc ac d e i f h k a = h

@@ -5,15 +5,16 @@ use Rattle.snl_syntax.specs.declared.expressions.Argument.{Argument, Value', Tex
 use Rattle.snl_syntax.specs.view.Expressions.{view}
 use Rattle.snl_syntax.specs.Expressions.{ExprTree, ArgumentList}
 use Rattle.snl_meaning.specs.declared.instrs.Instr.{Instr}
-use Rattle.snl_meaning.specs.declared.instrs.Instr.TheVariants.{Push, Jump, Tick, Put, PutAt}
+use Rattle.snl_meaning.specs.declared.instrs.Instr.TheVariants.{Push, Jump, Tick, Put, PutAt, AskLink, AskElement}
 use Rattle.snl_syntax.specs.Statements.{StatementTree}
 use Rattle.snl_emit.specs.BlockCode.{statement_code}
-use Rattle.snl_emit.specs.ExpressionCode.{expression_code, target_code, joint_code, signed_code, at_code, get_code, called_code, print_code, wait_code, put_call_code, ask_instr}
+use Rattle.snl_emit.specs.ExpressionCode.{expression_code, target_code, joint_code, signed_code, at_code, get_code, called_code, print_code, wait_code, put_call_code, ask_code, ask_flag_code}
 use Rattle.snl_meaning.specs.Names.{Here}
 use Rattle.snl_meaning.specs.declared.names.Sense.{Sense}
 use Rattle.snl_emit.specs.Targets.{place_code, adjust_code}
 use Rattle.snl_meaning.specs.Value.{joint_of, sign_of}
 use Rattle.snl_resolve.specs.Builtins.{builtin_of}
+use Rattle.snl_resolve.specs.declared.builtins.Query.{Query}
 
 -- The read of an element, after its subscript.
 abbrev pub element_code : Sense → ℕ → List Instr
@@ -30,11 +31,15 @@ sign_code h op is_before e =
 
 -- A call with its arguments.
 abbrev pub call_code : Here → Token → ArgumentList → List Instr
-call_code h f all = called_code (builtin_of f.text.now) (print_code h all) (wait_code h all) (put_call_code h all) (ask_instr h all)
+call_code h f all = called_code (builtin_of f.text.now) (print_code h all) (wait_code h all) (put_call_code h all) (ask_code h all)
 
 -- `pvPut` of a target.
 abbrev pub put_target_code : Here → ExprTree → List Instr
 put_target_code h e = target_code h e (λ v x. Put v ∷ []) (λ v x. PutAt v ∷ []) (Push (pos 0) ∷ [])
+
+-- A call that asks by a target.
+abbrev pub ask_target_code : Here → Query → ExprTree → List Instr
+ask_target_code h query e = target_code h e (λ v x. AskLink query v ∷ []) (λ v x. AskElement query v ∷ []) (ask_flag_code h e query ∷ [])
 
 -- An argument of `printf`.
 abbrev pub value_code : Here → Argument → List Instr

@@ -4,7 +4,7 @@ use Rattle.snl_text.specs.declared.kinds.Kind.{Kind}
 use Rattle.snl_text.specs.declared.tokens.Token.{Token}
 use Rattle.snl_syntax.specs.Expressions.{ExprTree, TermList, ArgumentList, constant, parenthesized, named, element, call, postfix, prefix, chain, conditional, assignment, no_terms, term, no_arguments, value, text}
 use Rattle.snl_meaning.specs.declared.instrs.Instr.{Instr}
-use Rattle.snl_meaning.specs.declared.instrs.Instr.TheVariants.{Push, Load, Check, Get, Peek, Store, StoreAt, Adjust, AdjustAt, Apply, ApplyPrefix, Settle, Drop, Jump, JumpIfZero, Print, Wait, Put, PutAt, Ask}
+use Rattle.snl_meaning.specs.declared.instrs.Instr.TheVariants.{Push, Load, Check, Get, Peek, Store, StoreAt, Adjust, AdjustAt, Apply, ApplyPrefix, Settle, Drop, Jump, JumpIfZero, Print, Wait, Put, PutAt, Ask, AskLink, AskElement}
 use Rattle.snl_meaning.specs.declared.instrs.Variable.{Variable}
 use Rattle.snl_meaning.specs.Names.{Here, sense_of, format_number, flag_number}
 use Rattle.snl_meaning.specs.declared.names.Sense.{Sense}
@@ -87,30 +87,26 @@ signed_depth (Steps op) stepping operand = stepping
 signed_depth (Alone op) stepping operand = operand
 
 -- The code of a call.
-abbrev pub called_code : Option Builtin → (print wait put : List Instr) → (Query → Instr) → List Instr
+abbrev pub called_code : Option Builtin → (print wait put : List Instr) → (Query → List Instr) → List Instr
 called_code None print wait put ask = Push (pos 0) ∷ []
 called_code (Some Delay) print wait put ask = wait
 called_code (Some Printf) print wait put ask = print
 called_code (Some PvPut) print wait put ask = put
-called_code (Some (builtin.Ask query)) print wait put ask = ask query ∷ []
+called_code (Some (builtin.Ask query)) print wait put ask = ask query
 
 -- What is asked of an event flag, by its name; 0 where no name stands.
-abbrev pub ask_at_instr : Here → ExprTree → Query → Instr
-ask_at_instr h (named x) query = Ask query (flag_number h x)
-ask_at_instr h _ query = Push (pos 0)
+abbrev pub ask_flag_code : Here → ExprTree → Query → Instr
+ask_flag_code h (parenthesized e) query = ask_flag_code h e query
+ask_flag_code h (named x) query = Ask query (flag_number h x)
+ask_flag_code h _ query = Push (pos 0)
 
--- The same by the argument of a call.
-abbrev pub ask_instr : Here → ArgumentList → Query → Instr
-ask_instr h (value e rest) query = ask_at_instr h e query
-ask_instr h _ query = Push (pos 0)
-
--- How much room a call needs.
+-- How much room a call needs. One that asks needs as much as `pvPut` does.
 abbrev pub called_depth : Option Builtin → (print wait put : ℕ) → ℕ
 called_depth None print wait put = 1
 called_depth (Some Delay) print wait put = wait
 called_depth (Some Printf) print wait put = print
 called_depth (Some PvPut) print wait put = put
-called_depth (Some (builtin.Ask query)) print wait put = 1
+called_depth (Some (builtin.Ask query)) print wait put = put
 
 -- How many arguments are expressions.
 abbrev pub count_values : ArgumentList → ℕ
@@ -127,7 +123,7 @@ abbrev mutual
   expression_code h (parenthesized e) = expression_code h e
   expression_code h (named x) = name_code (sense_of h x) ∷ []
   expression_code h (element x b e) = expression_code h e ++ at_code (sense_of h x) b.pos.line get_code (Push (pos 0) ∷ [])
-  expression_code h (call f all) = called_code (builtin_of f.text.now) (print_code h all) (wait_code h all) (put_call_code h all) (ask_instr h all)
+  expression_code h (call f all) = called_code (builtin_of f.text.now) (print_code h all) (wait_code h all) (put_call_code h all) (ask_code h all)
   expression_code h (postfix e op) =
       signed_code (sign_of op.kind) (λ by. target_code h e (λ v x. Adjust v by op.pos.line x.pos.line true ∷ [])
       (λ v x. AdjustAt v by op.pos.line x.pos.line true ∷ []) (Push (pos 0) ∷ [])) (expression_code h e) op.pos.line
@@ -173,6 +169,12 @@ abbrev mutual
   pub put_call_code : Here → ArgumentList → List Instr
   put_call_code h (value e rest) = target_code h e (λ v x. Put v ∷ []) (λ v x. PutAt v ∷ []) (Push (pos 0) ∷ [])
   put_call_code h _ = Push (pos 0) ∷ []
+
+  -- a call that asks: of the link of its target, or of an event flag; without an argument, of all links
+  pub ask_code : Here → ArgumentList → Query → List Instr
+  ask_code h no_arguments query = Ask query 0 ∷ []
+  ask_code h (value e rest) query = target_code h e (λ v x. AskLink query v ∷ []) (λ v x. AskElement query v ∷ []) (ask_flag_code h e query ∷ [])
+  ask_code h (text t rest) query = Push (pos 0) ∷ []
 
 -- ---- the depth
 
@@ -220,7 +222,7 @@ abbrev mutual
   wait_depth (value e rest) = expression_depth e
   wait_depth _ = 1
 
-  -- `pvPut`
+  -- `pvPut`, and calls that ask
   pub put_depth : ArgumentList → ℕ
   put_depth (value e rest) = target_depth e 1 1
   put_depth _ = 1

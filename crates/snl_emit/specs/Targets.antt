@@ -3,8 +3,9 @@ use Rattle.std.specs.Prelude.{ℕ, List, [], ◌∷◌, ◌++◌, pos, Bool, Opt
 use Rattle.snl_text.specs.declared.kinds.Kind.{Kind}
 use Rattle.snl_syntax.specs.Expressions.{ExprTree, parenthesized, named, element}
 use Rattle.snl_meaning.specs.declared.instrs.Instr.{Instr}
-use Rattle.snl_meaning.specs.declared.instrs.Instr.TheVariants.{Push, Load, Check, Peek, Store, StoreAt, Adjust, AdjustAt, Apply, Drop, Put, PutAt}
-use Rattle.snl_meaning.specs.Names.{Here, sense_of}
+use Rattle.snl_meaning.specs.declared.instrs.Instr.TheVariants.{Push, Load, Check, Peek, Store, StoreAt, Adjust, AdjustAt, Apply, Drop, Put, PutAt, Ask, AskLink, AskElement}
+use Rattle.snl_resolve.specs.declared.builtins.Query.{Query}
+use Rattle.snl_meaning.specs.Names.{Here, sense_of, flag_number}
 use Rattle.snl_meaning.specs.declared.names.Sense.{Sense}
 use Rattle.snl_meaning.specs.declared.names.Sense.TheVariants.{Varies, Stands}
 use Rattle.snl_emit.specs.ExpressionCode.{expression_code}
@@ -82,3 +83,20 @@ put_instr h (parenthesized e) = put_instr h e
 put_instr h (named x) = put_alone (sense_of h x)
 put_instr h (element x b e) = put_element (sense_of h x)
 put_instr h _ = Push (pos 0)
+
+-- What a call asks by a name: of the link of a variable, or of an event flag.
+abbrev pub ask_alone : Sense → Query → ℕ → Instr
+ask_alone (Varies v) query flag = AskLink query v
+ask_alone (Stands z) query flag = Ask query flag
+
+-- The same by an element, after its subscript.
+abbrev pub ask_element : Sense → Query → Instr
+ask_element (Varies v) query = AskElement query v
+ask_element (Stands z) query = Push (pos 0)
+
+-- The instruction of a call that asks by a target, after its subscript.
+abbrev pub ask_instr : Here → Query → ExprTree → Instr
+ask_instr h query (parenthesized e) = ask_instr h query e
+ask_instr h query (named x) = ask_alone (sense_of h x) query (flag_number h x)
+ask_instr h query (element x b e) = ask_element (sense_of h x) query
+ask_instr h query _ = Push (pos 0)

@@ -16,7 +16,7 @@ use crate::parts::{count_values, format_number, put_checked, put_old, put_read, 
 use crate::rows::put;
 use crate::targets::{adjusted, ask_instr, put_instr, put_stored};
 use snl_meaning::{Instr, Joint, Known, Sign, compound_of, is_decimal, joint_of, sign_of};
-use snl_resolve::{Builtin, builtin_of};
+use snl_resolve::{Builtin, Query, builtin_of};
 use snl_syntax::{Argument, Expr, Term};
 use snl_text::{Kind, Token};
 use std::alloc::AllocError;
@@ -231,7 +231,7 @@ fn emit_call<'a>(
         Some(Builtin::Delay) => emit_wait(arguments, known, code),
         Some(Builtin::Printf) => emit_print(arguments, known, code),
         Some(Builtin::PvPut) => emit_put(arguments, known, code),
-        Some(Builtin::Ask(query)) => put(code, ask_instr(arguments, known, query)),
+        Some(Builtin::Ask(query)) => emit_ask(arguments, known, query, code),
         None => put(code, Instr::Push(0)),
     }
 }
@@ -340,5 +340,40 @@ fn emit_put_of<'a>(
         ≡ form.put_target_code (here_of known.now) (view target.now) ++ reverse code.old.items) }
 {
     put(code, put_instr(target, known))?;
+    emit_place(target, known, None, code)
+}
+
+/// A call that asks, by its argument; without one, of all links.
+#[cycle(emission)]
+fn emit_ask<'a>(
+    arguments: &[Argument<'a>],
+    known: &Known<'_, 'a>,
+    query: Query,
+    code: &mut Vec<Instr>,
+) -> Result<(), AllocError>
+    ensures { OnOk result (reverse code.new.items
+        ≡ spec.ask_code (here_of known.now) (list_before arguments.now no_arguments) query
+        ++ reverse code.old.items) }
+{
+    match arguments.first() {
+        None => put(code, Instr::Ask { query, number: 0 }),
+        Some(Argument::Value(target)) => emit_ask_of(target, known, query, code),
+        Some(Argument::Text(_)) => put(code, Instr::Push(0)),
+    }
+}
+
+/// A call that asks by a target: its subscript, if it has one, and the question.
+#[cycle(emission)]
+fn emit_ask_of<'a>(
+    target: &Expr<'a>,
+    known: &Known<'_, 'a>,
+    query: Query,
+    code: &mut Vec<Instr>,
+) -> Result<(), AllocError>
+    ensures { OnOk result (reverse code.new.items
+        ≡ form.ask_target_code (here_of known.now) query (view target.now)
+        ++ reverse code.old.items) }
+{
+    put(code, ask_instr(target, known, query))?;
     emit_place(target, known, None, code)
 }

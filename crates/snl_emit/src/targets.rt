@@ -1,16 +1,14 @@
-//! The code of what is done at a target, after its subscript and the right side, and of what is asked by a name.
+//! The code of what is done at a target, after its subscript and the right side.
 
 ghost use Rattle.std.specs.Prelude.{◌≡◌, ◌∷◌, ◌++◌, reverse, OnOk};
-ghost use Rattle.snl_syntax.specs.Expressions.{no_arguments};
-ghost use Rattle.snl_syntax.specs.view.Expressions.{view, list_before};
-ghost use Rattle.snl_emit.specs.ExpressionCode.{ask_at_instr, ask_instr};
+ghost use Rattle.snl_syntax.specs.view.Expressions.{view};
 ghost use Rattle.snl_meaning.specs.Known.{here_of};
 ghost use Rattle.snl_emit.specs.Targets as spec;
 
 use crate::rows::put;
 use snl_meaning::{Instr, Known, Sense};
 use snl_resolve::Query;
-use snl_syntax::{Argument, Expr};
+use snl_syntax::Expr;
 use snl_text::Kind;
 use std::alloc::AllocError;
 
@@ -210,26 +208,37 @@ pub fn put_instr<'a>(target: &Expr<'a>, known: &Known<'_, 'a>) -> Instr
     }
 }
 
-/// What a call asks or tells of an event flag, by its name.
-fn ask_at_instr<'a>(argument: &Expr<'a>, known: &Known<'_, 'a>, query: Query) -> Instr
-    ensures { result ≡ ask_at_instr (here_of known.now) (view argument.now) query }
+/// What a call asks by a name: of the link of a variable, or of an event flag.
+fn ask_alone(sense: Sense, query: Query, flag: usize) -> Instr
+    ensures { result ≡ spec.ask_alone sense query flag }
 {
-    match argument {
-        Expr::Named(name) => Instr::Ask {
+    match sense {
+        Sense::Varies(variable) => Instr::AskLink { query, variable },
+        Sense::Stands(_) => Instr::Ask {
             query,
-            number: known.flag(*name),
+            number: flag,
         },
-        _ => Instr::Push(0),
     }
 }
 
-/// The same by the arguments of the call.
-pub fn ask_instr<'a>(arguments: &[Argument<'a>], known: &Known<'_, 'a>, query: Query) -> Instr
-    ensures { result
-        ≡ ask_instr (here_of known.now) (list_before arguments.now no_arguments) query }
+/// The same by an element.
+fn ask_element(sense: Sense, query: Query) -> Instr
+    ensures { result ≡ spec.ask_element sense query }
 {
-    match arguments.first() {
-        Some(Argument::Value(argument)) => ask_at_instr(argument, known, query),
+    match sense {
+        Sense::Varies(variable) => Instr::AskElement { query, variable },
+        Sense::Stands(_) => Instr::Push(0),
+    }
+}
+
+/// The instruction of a call that asks by a target, after its subscript.
+pub fn ask_instr<'a>(target: &Expr<'a>, known: &Known<'_, 'a>, query: Query) -> Instr
+    ensures { result ≡ spec.ask_instr (here_of known.now) query (view target.now) }
+{
+    match target {
+        Expr::Parenthesized(inner) => ask_instr(inner, known, query),
+        Expr::Named(name) => ask_alone(known.sense(*name), query, known.flag(*name)),
+        Expr::Element { name, .. } => ask_element(known.sense(*name), query),
         _ => Instr::Push(0),
     }
 }

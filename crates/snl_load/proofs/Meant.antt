@@ -1,5 +1,5 @@
 -- The state sets of a program, run by their plans.
-use Rattle.std.proofs.Common.{◌≡◌, ◌∙◌, ◌≤◌, ◌+◌, ℕ, zero, suc, List, [], ◌∷◌, Option, Some, refl, ap, sym, subst, arith, map, slice_get, option_map, option_and_then}
+use Rattle.std.proofs.Common.{◌≡◌, ◌∙◌, ◌≤◌, ◌+◌, ℕ, Bool, zero, suc, List, [], ◌∷◌, Option, Some, refl, ap, sym, subst, arith, map, slice_get, option_map, option_and_then}
 use Rattle.snl_syntax.specs.Programs.{StateTree, StateSetTree, ProgramTree}
 use Rattle.snl_code.specs.declared.code.Code.{Code}
 use Rattle.snl_syntax.specs.Statements.{BlockTree}
@@ -26,7 +26,7 @@ use Rattle.snl_load.specs.Right.{IsLoadedOf, PlansAreRight}
 use Rattle.snl_load.proofs.Pieces.{outer-means}
 use Rattle.snl_load.proofs.Sets.{states-mean, states-run}
 
-module _ (p : ProgramTree) (ls : List Link) (c : Code) (t : Loaded) (is : IsLoadedOf p ls c t) where
+module _ (p : ProgramTree) (ls : List Link) (waits : Bool) (c : Code) (t : Loaded) (is : IsLoadedOf p ls waits c t) where
   -- the code that runs has the pieces
   pieces : (name : Piece) → IsPlaced p t.code (piece_of p name) (start_in (table_of c) name)
   pieces name = subst (λ (code : List Instr). IsPlaced p code (piece_of p name) (start_in (table_of c) name)) (sym is.code) (is.code_is.placed name)
@@ -138,16 +138,17 @@ all-stand p j n g is there = let same : n ≡ j = omega (arith, is) in ap (λ (i
 
 -- what a plan runs is what its program means
 pub plans_are_right : PlansAreRight
-plans_are_right p ls c t is =
+plans_are_right p ls waits c t is =
     let names = ap (λ (v : PlainPlan). v.name) is.plan in
     let links = ap (λ (v : PlainPlan). v.links) is.plan in
+    let waiting = ap (λ (v : PlainPlan). v.waits) is.plan in
     let plans = ap (λ (v : PlainPlan). v.sets) is.plan in
     let all = t.plan.sets.items in
-    let sets = sets-mean p ls c t is 0 p.state_sets all (all-stand p) plans in
+    let sets = sets-mean p ls waits c t is 0 p.state_sets all (all-stand p) plans in
     let first : first_name (sets_from t 0 all) ≡ name_by (slice_get p.state_sets 0) = ap first_name sets ∙ first-name p in
-    let context : own_context t ≡ context_of (here_in p 0) t.room = own-contexts p ls c t is first in
-    let entry = own p ls c t is context ProgramEntry t.plan.blocks.entry p.entry refl (ap (λ (v : PlainPlan). v.blocks.entry) is.plan) in
-    let exit = own p ls c t is context ProgramExit t.plan.blocks.exit p.exit refl (ap (λ (v : PlainPlan). v.blocks.exit) is.plan) in (
-      λ j. record { name = names j; links = links j; entry = λ w. entry.0 w j; sets = sets j; exit = λ w. exit.0 w j },
-      record { entry = entry.1; sets = λ k s there. sets-run p ls c t is 0 p.state_sets all (all-stand p) plans k k s (omega arith) there; exit = exit.1 },
+    let context : own_context t ≡ context_of (here_in p 0) t.room = own-contexts p ls waits c t is first in
+    let entry = own p ls waits c t is context ProgramEntry t.plan.blocks.entry p.entry refl (ap (λ (v : PlainPlan). v.blocks.entry) is.plan) in
+    let exit = own p ls waits c t is context ProgramExit t.plan.blocks.exit p.exit refl (ap (λ (v : PlainPlan). v.blocks.exit) is.plan) in (
+      λ j. record { name = names j; links = links j; waits = waiting j; entry = λ w. entry.0 w j; sets = sets j; exit = λ w. exit.0 w j },
+      record { entry = entry.1; sets = λ k s there. sets-run p ls waits c t is 0 p.state_sets all (all-stand p) plans k k s (omega arith) there; exit = exit.1 },
     )

@@ -1,5 +1,5 @@
 -- A small program, and what it does with values of a channel, computed from the definitions alone.
-use Rattle.std.specs.Prelude.{◌≡◌, true, ℕ, ℤ, pos, List, [], ◌∷◌, ◌++◌, codes, None, Some}
+use Rattle.std.specs.Prelude.{◌≡◌, true, false, ℕ, ℤ, pos, List, [], ◌∷◌, ◌++◌, codes, None, Some}
 use Rattle.snl_text.specs.declared.kinds.Kind.{Kind}
 use Rattle.snl_text.specs.declared.kinds.Kind.TheVariants as kind
 use Rattle.snl_text.specs.declared.tokens.Token.{Token}
@@ -80,7 +80,7 @@ doubling = record {
 
 -- What it means.
 abbrev pub meant : Program
-meant = program_meaning doubling (links doubling [])
+meant = program_meaning doubling (links doubling []) true
 
 -- Its world once both channels are connected.
 abbrev pub ready : World
@@ -100,8 +100,10 @@ lines_of (Faults f line w text) = text
 abbrev pub valued : ℕ → ℤ → World → Ran (Unit {0})
 valued ms z w = instant_of meant 100 (received meant 0 (z ∷ []) (record w { time = ms }))
 
--- With 1 it starts, and waits for more than 3; with 7 the clause fires.
+-- With 1 it starts, and waits for more than 3; with 7 the clause fires. Where it does not wait for its channels it starts at
+-- once.
 abbrev pub RunExample : Type 0
 RunExample =
-    (lines_of (valued 0 (pos 1) ready) ≡ codes "0 start p\n")
+    (lines_of (instant_of (program_meaning doubling (links doubling []) false) 100 (first_world_of doubling (links doubling []))) ≡ codes "0 start p\n")
+    × (lines_of (valued 0 (pos 1) ready) ≡ codes "0 start p\n")
     × (lines_of (valued 5 (pos 7) (world_left (valued 0 (pos 1) ready))) ≡ codes "5 put b 14\n5 go s lo hi\n")

@@ -1,10 +1,10 @@
 -- The world before the first event.
-use Rattle.std.specs.Prelude.{ℕ, false, List, Option, None, map, length, replicate}
+use Rattle.std.specs.Prelude.{ℕ, false, List, [], Option, None, map, length, replicate}
 use Rattle.std.specs.List.{flat_map}
 use Rattle.snl_syntax.specs.Programs.{ProgramTree}
 use Rattle.snl_links.specs.Links.{Link}
 use Rattle.snl_meaning.specs.declared.live.Live.TheVariants.{Waiting}
-use Rattle.snl_meaning.specs.World.{SetMemory, World}
+use Rattle.snl_meaning.specs.World.{Queue, SetMemory, World}
 use Rattle.snl_resolve.specs.Variables.{Held}
 use Rattle.snl_load.specs.Initials.{all_elements, first_buffer, held_sets}
 use Rattle.snl_meaning.specs.declared.ties.Tied.{Tied}
@@ -14,9 +14,13 @@ use Rattle.snl_load.specs.Places.{channels, flags_in, placed_sets, ties_in, home
 abbrev pub first_copy : List Held → SetMemory
 first_copy vs = record { words = flat_map all_elements vs; state = 0; entered = 0 }
 
+-- The queue of a link, which holds nothing.
+abbrev pub first_queue : Link → Queue
+first_queue l = record { size = l.queue; width = l.count; items = [] }
+
 -- What waits for its start, with these variables in its copies, so many event flags, these channels, ties, homes and links:
 -- no time has passed, variables and buffers are what they begin with, no event flag is set, no channel is connected or
--- valued, and nothing is marked.
+-- valued, nothing is marked, and nothing is queued.
 abbrev pub first_world : List (List Held) → ℕ → List (List ℕ) → List Tied → List (List (Option ℕ)) → List Link → World
 first_world sets flags names ties homes ls = record {
   time = 0;
@@ -33,6 +37,7 @@ first_world sets flags names ties homes ls = record {
   homes = homes;
   buffers = flat_map (first_buffer sets) ls;
   marks = map (λ vs. replicate (length ls) false) sets;
+  queues = map first_queue ls;
 }
 
 -- A program that waits for its start.

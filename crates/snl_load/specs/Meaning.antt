@@ -1,5 +1,5 @@
 -- What a program means: its clauses by the meaning of their conditions and blocks on the tree.
-use Rattle.std.specs.Prelude.{ℕ, ◌+◌, not, List, [], ◌∷◌, map, Option, None, Some}
+use Rattle.std.specs.Prelude.{ℕ, ◌+◌, Bool, not, List, [], ◌∷◌, map, Option, None, Some}
 use Rattle.snl_text.specs.declared.tokens.Token.{Token}
 use Rattle.snl_syntax.specs.Definitions.{DefinitionTree}
 use Rattle.snl_syntax.specs.Programs.{TargetTree, to_state, to_exit, ClauseTree, StateTree, StateSetTree, ProgramTree}
@@ -71,11 +71,12 @@ abbrev pub set_meanings : ProgramTree → ℕ → List StateSetTree → List tur
 set_meanings p k [] = []
 set_meanings p k (g ∷ gs) = set_meaning p k g ∷ set_meanings p (k + 1) gs
 
--- A program with these links. Its own blocks run on the copy of the first state set.
-abbrev pub program_meaning : ProgramTree → List Link → Program
-program_meaning p ls = record {
+-- A program with these links, which waits for its channels or does not. Its own blocks run on the copy of the first state set.
+abbrev pub program_meaning : ProgramTree → List Link → Bool → Program
+program_meaning p ls waits = record {
   name = p.name.text.now;
   links = ties_in p ls;
+  waits = waits;
   entry = block_meaning (here_in p 0) p.entry;
   sets = set_meanings p 0 p.state_sets;
   exit = block_meaning (here_in p 0) p.exit;

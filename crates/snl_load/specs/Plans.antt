@@ -1,5 +1,5 @@
 -- What it means that a plan is that of a program, with its code.
-use Rattle.std.specs.Prelude.{◌+◌, ℕ, List, [], ◌∷◌, map, unwrap_or}
+use Rattle.std.specs.Prelude.{◌+◌, ℕ, Bool, List, [], ◌∷◌, map, unwrap_or}
 use Rattle.snl_text.specs.declared.tokens.Token.{Token}
 use Rattle.snl_syntax.specs.Programs.{ClauseTree, StateTree, StateSetTree, ProgramTree}
 use Rattle.snl_code.specs.declared.starts.Piece.TheVariants.{ProgramEntry, ProgramExit, Entry, Exit, Condition, Block}
@@ -33,6 +33,7 @@ pub record PlainSet : Type 0 where
 pub record PlainPlan : Type 0 where
   pub name : List ℕ
   pub links : List Tied
+  pub waits : Bool
   pub blocks : Blocks
   pub sets : List PlainSet
 
@@ -46,7 +47,7 @@ set_view s = record { name = s.name.items; states = map state_view s.states.item
 
 -- and for a program.
 abbrev pub plan_view : Plan → PlainPlan
-plan_view p = record { name = p.name.items; links = p.links.items; blocks = p.blocks; sets = map set_view p.sets.items }
+plan_view p = record { name = p.name.items; links = p.links.items; waits = p.waits; blocks = p.blocks; sets = map set_view p.sets.items }
 
 -- ---- the plan of a program
 
@@ -100,6 +101,12 @@ abbrev pub set_plans : ProgramTable → ℕ → List StateSetTree → List Plain
 set_plans t k [] = []
 set_plans t k (g ∷ gs) = set_plan t k g ∷ set_plans t (k + 1) gs
 
--- A program with these links, whose pieces begin so in its code.
-abbrev pub program_plan : ProgramTree → List Link → ProgramTable → PlainPlan
-program_plan p ls t = record { name = p.name.text.now; links = ties_in p ls; blocks = program_blocks t; sets = set_plans t 0 p.state_sets }
+-- A program with these links, which waits for its channels or does not, and whose pieces begin so in its code.
+abbrev pub program_plan : ProgramTree → List Link → Bool → ProgramTable → PlainPlan
+program_plan p ls waits t = record {
+  name = p.name.text.now;
+  links = ties_in p ls;
+  waits = waits;
+  blocks = program_blocks t;
+  sets = set_plans t 0 p.state_sets;
+}

@@ -1,5 +1,5 @@
 -- The law of plans: what a plan runs is what its program means.
-use Rattle.std.specs.Prelude.{◌≡◌, ◌<◌, ◌-◌, ◌^◌, List}
+use Rattle.std.specs.Prelude.{◌≡◌, ◌<◌, ◌-◌, ◌^◌, Bool, List}
 use Rattle.snl_syntax.specs.Programs.{ProgramTree}
 use Rattle.snl_code.specs.declared.code.Code.{Code}
 use Rattle.snl_code.specs.Pieces.{IsCodeOf, texts_of}
@@ -10,14 +10,15 @@ use Rattle.snl_load.specs.Meaning.{program_meaning}
 use Rattle.snl_load.specs.Plans.{plan_view, program_plan}
 
 -- The code of a program is loaded with the program's plan, and with room for as many operands as the code says.
-pub record IsLoadedOf (p : ProgramTree) (ls : List Link) (c : Code) (t : Loaded) : Type 0 where
+pub record IsLoadedOf (p : ProgramTree) (ls : List Link) (waits : Bool) (c : Code) (t : Loaded) : Type 0 where
   pub code_is : IsCodeOf p c
   pub code : t.code ≡ c.instrs.items
   pub formats : t.formats ≡ texts_of c
   pub room : t.room ≡ c.depth
   pub counted : c.depth < 2 ^ 64 - 1
-  pub plan : plan_view t.plan ≡ program_plan p ls (table_of c)
+  pub plan : plan_view t.plan ≡ program_plan p ls waits (table_of c)
 
 -- What it runs is what the program means on its tree, and no piece of it is ever stuck.
 abbrev pub PlansAreRight : Type 0
-PlansAreRight = (p : ProgramTree) (ls : List Link) (c : Code) (t : Loaded) → IsLoadedOf p ls c t → (program_of t ≡ program_meaning p ls) × CanRunLoaded t
+PlansAreRight = (p : ProgramTree) (ls : List Link) (waits : Bool) (c : Code) (t : Loaded) → IsLoadedOf p ls waits c t →
+    (program_of t ≡ program_meaning p ls waits) × CanRunLoaded t

@@ -6,6 +6,7 @@ ghost use Rattle.snl_links.specs.LinkViews.{link_view};
 ghost use Rattle.snl_vm.specs.Views.{copy_view, world_of};
 ghost use Rattle.snl_load.specs.First as spec;
 ghost use Rattle.snl_vm.specs.Marks as tables;
+ghost use Rattle.snl_vm.specs.Queues.{queue_view};
 ghost use Rattle.snl_load.specs.Initials.{held_sets};
 ghost use Rattle.snl_load.specs.Places as places;
 ghost use Rattle.snl_load.specs.Sets.{copies_of, names_in, sets_of};
@@ -17,7 +18,7 @@ use snl_links::Link;
 use snl_meaning::{Live, Placed, Tied};
 use snl_resolve::Held;
 use snl_syntax::Program;
-use snl_vm::{Marks, SetMemory, Store};
+use snl_vm::{Marks, Queue, SetMemory, Store};
 use std::alloc::{AllocError, Global};
 
 /// The copies of all state sets.
@@ -62,6 +63,19 @@ fn marks_of(alloc: Global, sets: &[Vec<Held>], links: usize) -> Result<Vec<Marks
     Ok(marks)
 }
 
+/// The queues of all links, which hold nothing.
+fn queues_of(alloc: Global, links: &[Link]) -> Result<Vec<Queue>, AllocError>
+    ensures { IfOk result (λ queues. map queue_view queues.items
+        ≡ map spec.first_queue (map link_view links.now)) }
+{
+    let mut queues = Vec::new(alloc);
+    for link in links {
+        let queue = Queue::new(alloc, link.queue as usize, link.count)?;
+        queues.push(queue)?;
+    }
+    Ok(queues)
+}
+
 /// The store of a program that waits for its start, by its links with their ties, the names of its channels, how many
 /// event flags it has and the variables of its copies. The only error is that memory ends.
 fn store_by(
@@ -92,6 +106,7 @@ fn store_by(
         homes: homes_in(alloc, copies, links)?,
         buffers: first_buffers(alloc, sets, links)?,
         marks: marks_of(alloc, sets, links.len())?,
+        queues: queues_of(alloc, links)?,
         awaited: 0,
     })
 }

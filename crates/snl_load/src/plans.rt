@@ -206,8 +206,8 @@ fn set_plans(alloc: Global, sets: &[StateSet], code: &Code) -> Result<Vec<SetPla
     Ok(plans)
 }
 
-/// The plan of a program whose code and links are given, with the names of its channels and the variables of its copies.
-/// The only error is that memory ends.
+/// The plan of a program whose code and links are given, with the names of its channels, the variables of its copies, and
+/// whether it waits for its channels before it starts. The only error is that memory ends.
 pub fn plan_of<'a>(
     alloc: Global,
     program: &Program<'a>,
@@ -215,15 +215,16 @@ pub fn plan_of<'a>(
     links: &[Link],
     names: &IndexSet<Vec<u8>>,
     copies: &[Vec<Placed>],
+    waits: bool,
 ) -> Result<Plan, AllocError>
     requires names { names_in names.now ≡ channels (map link_view links.now) }
     requires copies { copies_of copies.now
         ≡ placed_sets (program_view program.now) 0 (program_view program.now).state_sets }
     ensures { IfOk result (λ plan. spec.plan_view plan ≡ spec.program_plan
-        (program_view program.now) (map link_view links.now) (table_of code.now)) }
+        (program_view program.now) (map link_view links.now) waits (table_of code.now)) }
 {
     let name = Vec::from_slice(alloc, program.name.text)?;
     let ties = ties_in(alloc, program, links, names, copies)?;
     let sets = set_plans(alloc, program.state_sets.as_slice(), code)?;
-    Plan::new(alloc, name, ties, program_blocks(code), sets)
+    Plan::new(alloc, name, ties, waits, program_blocks(code), sets)
 }

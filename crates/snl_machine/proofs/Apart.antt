@@ -38,6 +38,10 @@ module _ (p : ProgramTree) (set other : ℕ) (apart : set ≡ other → ⊥) whe
     clears = λ v w ok. own-changes _ w;
     signals = λ flag now w. refl;
     fills = λ place link t w home is. refl;
+    enqueues = λ place link t w home is queued. refl;
+    fetches = λ place link t w home is. own-changes _ w;
+    takes = λ place link t item more w home is has. own-changes _ w;
+    flushes = λ link w. refl;
     marks = λ marks w. refl;
     notes = λ t w late. refl;
     spends = λ left w is. refl;

@@ -1,5 +1,5 @@
 -- A plan and its code, as they are loaded.
-use Rattle.std.proofs.Common.{◌≡◌, ◌∙◌, ◌<◌, ◌-◌, ◌^◌, ℕ, List, refl, ap, length, map}
+use Rattle.std.proofs.Common.{◌≡◌, ◌∙◌, ◌<◌, ◌-◌, ◌^◌, ℕ, Bool, List, refl, ap, length, map}
 use Rattle.snl_syntax.specs.Programs.{ProgramTree}
 use Rattle.snl_code.specs.declared.code.Code.{Code}
 use Rattle.snl_code.specs.Pieces.{IsCodeOf}
@@ -16,13 +16,14 @@ use Rattle.snl_load.specs.Plans.{PlainPlan, plan_view, program_plan}
 use Rattle.snl_load.specs.Right.{IsLoadedOf}
 use Rattle.snl_machine.specs.Holding.{loaded_by}
 
-module _ (p : ProgramTree) (ls given : List Link) (code : Code) (plan : Plan) (links-are : given ≡ ls) (planned : plan_view plan ≡ program_plan p given (table_of code)) where
+module _ (p : ProgramTree) (ls given : List Link) (waits : Bool) (code : Code) (plan : Plan) (links-are : given ≡ ls)
+    (planned : plan_view plan ≡ program_plan p given waits (table_of code)) where
   -- the plan is that of the links
-  plan-is : plan_view plan ≡ program_plan p ls (table_of code)
-  plan-is = planned ∙ ap (λ (l : List Link). program_plan p l (table_of code)) links-are
+  plan-is : plan_view plan ≡ program_plan p ls waits (table_of code)
+  plan-is = planned ∙ ap (λ (l : List Link). program_plan p l waits (table_of code)) links-are
 
   -- code and plan of a program, where there was room for the operands
-  pub loaded-is : IsCodeOf p code → code.depth < 2 ^ 64 - 1 → IsLoadedOf p ls code (loaded_by plan code)
+  pub loaded-is : IsCodeOf p code → code.depth < 2 ^ 64 - 1 → IsLoadedOf p ls waits code (loaded_by plan code)
   loaded-is right counted = record { code_is = right; code = refl; formats = refl; room = refl; counted = counted; plan = plan-is }
 
   -- the store is the first one

@@ -5,14 +5,15 @@ use Rattle.std.specs.List.{flat_map}
 use Rattle.snl_syntax.specs.Expressions.{ExprTree}
 use Rattle.snl_syntax.specs.Programs.{StateSetTree, ProgramTree}
 use Rattle.snl_links.specs.Links.{Link}
-use Rattle.snl_machine.specs.Ranges.{Has, AllFit, IsSized, counts, FirstHolds}
+use Rattle.std.proofs.lemmas.List.Elements.{All-nil}
+use Rattle.snl_machine.specs.Ranges.{Has, AllFit, IsSized, ItemFits, QueueFits, QueuesFit, counts, FirstHolds}
 use Rattle.snl_meaning.specs.declared.instrs.Variable.{Variable}
 use Rattle.snl_meaning.specs.declared.names.Placed.{Placed}
 use Rattle.snl_meaning.specs.Effect.{values_of}
 use Rattle.snl_meaning.specs.Laws.{words_of}
 use Rattle.snl_meaning.specs.Names.{behind, variable_from, placed_from}
 use Rattle.snl_meaning.specs.World.{SetMemory, no_copy, copy_of}
-use Rattle.snl_load.specs.First.{first_copy, first_world_of}
+use Rattle.snl_load.specs.First.{first_copy, first_queue, first_world_of}
 use Rattle.snl_load.specs.Initials.{worth_in, first_by, first_element, first_elements, all_elements, held_among, buffer_by, first_buffer, held_sets}
 use Rattle.snl_load.specs.Places.{place_after, channels, flags_in, placed_sets, for_each_set, tie_of, ties_from}
 use Rattle.snl_resolve.specs.declared.constants.Constant.{Constant}
@@ -159,7 +160,18 @@ module _ (names : List (List ℕ)) (flags : List ℕ) (copies : List (List Place
       subst (λ (m : List ℤ). is_in t (slice_index_or m (t.from + k) (pos 0)) ≡ true) (append_assoc before own (flat_map (first_buffer sets) ks))
       (buffer-fits ks (before ++ own) (place_after at l.count) i k t longer (omega (arith, few, next)) (λ j m u a c. held (suc j) m u a c) is less)
 
--- copies and buffers
+-- ---- queues
+
+-- a link has a queue of its own, which holds nothing
+first-queues : (names : List (List ℕ)) (flags : List ℕ) (copies : List (List Placed)) (ks : List Link) (at : ℕ) → QueuesFit (ties_from names flags copies at ks) (map first_queue ks)
+first-queues names flags copies [] at i t q is there = absurd (cc)
+first-queues names flags copies (l ∷ ks) at zero t q is there =
+    let tie : tie_of names flags copies at l ≡ t = cc in
+    let own : first_queue l ≡ q = cc in
+    subst (QueueFits t) own (record { width = ap (λ (x : Tied). x.count) tie; few = omega arith; items = All-nil (ItemFits t) })
+first-queues names flags copies (l ∷ ks) at (suc i) t q is there = first-queues names flags copies ks (place_after at l.count) i t q is there
+
+-- copies, buffers and queues
 pub first_holds : FirstHolds
 first_holds p ls sized tied held =
     let few = tied.few in (
@@ -167,4 +179,5 @@ first_holds p ls sized tied held =
       λ i k t is less. buffer-fits (channels ls) (flags_in p) (placed_sets p 0 p.state_sets) (held_sets p 0 p.state_sets) ls [] 0 i k t refl (omega (arith, few)) held is less,
       refl,
       refl,
+      first-queues (channels ls) (flags_in p) (placed_sets p 0 p.state_sets) ls 0,
     )

@@ -5,13 +5,14 @@ use Rattle.std.specs.List.{list_all}
 use Rattle.std.proofs.lemmas.Bool.{ltb-true, ltb-false}
 use Rattle.snl_syntax.specs.Programs.{ProgramTree}
 use Rattle.snl_links.specs.Links.{Link}
-use Rattle.snl_machine.specs.Ranges.{Has, Fit, IsSized, IsTied, BuffersFit, Holds, counts}
+use Rattle.snl_machine.specs.Ranges.{Has, Fit, IsSized, IsTied, BuffersFit, ItemFits, QueuesFit, Holds, counts}
 use Rattle.snl_machine.proofs.Linked.{at_home}
+use Rattle.snl_machine.proofs.Queued.{length-words, word-at, words-fit, put-fits, oldest-fits, rest-fits}
 use Rattle.snl_machine.proofs.Fitting.{set-index, found, one-word, changed-fits}
 use Rattle.snl_meaning.specs.declared.instrs.Variable.{Variable}
 use Rattle.snl_meaning.specs.declared.names.Placed.{Placed}
 use Rattle.snl_meaning.specs.Names.{variable_in}
-use Rattle.snl_meaning.specs.Links.{home_of, elements_at, with_buffer, flagged, all_marked}
+use Rattle.snl_meaning.specs.Links.{home_of, elements_at, with_elements, buffer_of, with_buffer, queue_of, is_queued, with_items, enqueued, flagged, all_marked, announced}
 use Rattle.snl_meaning.specs.World.{World, copy_of, words_at, overwritten}
 use Rattle.snl_meaning.proofs.Apart.{variables_lie_within}
 use Rattle.snl_load.specs.Places.{place_after, channels, flags_in, placed_in, placed_sets, tie_of, ties_from, ties_in}
@@ -40,29 +41,15 @@ overwritten-index (x ∷ zs) l p q = by (overwritten-index zs (slice_set l p x) 
     by (inl same) (inr new) = inr (0, omega arith, let e : p + 0 ≡ q = omega (arith, new.0) in e, same ∙ new.1)
     by (inr later) k = inr (suc later.0, omega (arith, later.1), let e : p + suc later.0 ≡ q = omega (arith, later.2) in e, later.3)
 
--- so many words from a place on
-length-words : (l : List ℤ) (p n : ℕ) → length (words_at l p n) ≡ n
-length-words l p zero = refl
-length-words l p (suc n) = ap suc (length-words l (suc p) n)
-
--- one of them
-word-at : (l : List ℤ) (p n j : ℕ) → j < n → slice_index_or (words_at l p n) j (pos 0) ≡ slice_index_or l (p + j) (pos 0)
-word-at l p zero j less = absurd (omega (arith, less))
-word-at l p (suc n) zero less = ap (λ (q : ℕ). slice_index_or l q (pos 0)) (let e : p ≡ p + 0 = omega arith in e)
-word-at l p (suc n) (suc j) less = word-at l (suc p) n j (omega (arith, less)) ∙ ap (λ (q : ℕ). slice_index_or l q (pos 0)) (let e : suc p + j ≡ p + suc j = omega arith in e)
-
 -- ---- links and copies
 
 module _ (p : ProgramTree) (sized : IsSized p) (set : ℕ) where
-  -- the words of a link's buffer in a copy
-  copied-fits : (l : Link) (t : Tied) (v : Variable) (words buffers : List ℤ) → variable_in (placed_in p set) l.variable.offset ≡ Some v → l.first + t.count ≤ v.size →
-      t.least ≡ v.least → t.greatest ≡ v.greatest → ((j : ℕ) → j < t.count → is_in t (slice_index_or buffers (t.from + j) (pos 0)) ≡ true) →
-      Fit (placed_in p set) words → Fit (placed_in p set) (overwritten words (place_after v.place l.first) (words_at buffers t.from t.count))
-  copied-fits l t v words buffers is within least greatest fill fits i k y is_y few = by (overwritten-index zs words to (y.variable.place + k))
+  -- an item of a link in a copy
+  item-fits : (l : Link) (t : Tied) (v : Variable) (words zs : List ℤ) → variable_in (placed_in p set) l.variable.offset ≡ Some v → l.first + t.count ≤ v.size →
+      t.least ≡ v.least → t.greatest ≡ v.greatest → ItemFits t zs →
+      Fit (placed_in p set) words → Fit (placed_in p set) (overwritten words (place_after v.place l.first) zs)
+  item-fits l t v words zs is within least greatest item fits i k y is_y few = by (overwritten-index zs words to (y.variable.place + k))
     where
-      zs : List ℤ
-      zs = words_at buffers t.from t.count
-
       to : ℕ
       to = place_after v.place l.first
 
@@ -74,7 +61,7 @@ module _ (p : ProgramTree) (sized : IsSized p) (set : ℕ) where
       by (inr new) =
           let f = found (placed_in p set) l.variable.offset v is in
           let x = f.1 in
-          let less : new.0 < t.count = omega (arith, new.1, length-words buffers t.from t.count) in
+          let less : new.0 < t.count = omega (arith, new.1, item.0) in
           let lies = variables_lie_within (variables_of p set) f.0 x (sized.few set) f.2 in
           let size : x.variable.size ≡ v.size = ap (λ (u : Variable). u.size) f.3 in
           let place : x.variable.place ≡ v.place = ap (λ (u : Variable). u.place) f.3 in
@@ -84,8 +71,7 @@ module _ (p : ProgramTree) (sized : IsSized p) (set : ℕ) where
           let in_x : l.first + new.0 < x.variable.size = omega (arith, within, less, size) in
           let one : x ≡ y = one-word p sized set f.0 i (l.first + new.0) k x y f.2 is_y in_x few word in
           let variable : v ≡ y.variable = sym f.3 ∙ ap (λ (u : Placed). u.variable) one in
-          let value : slice_index_or zs new.0 (pos 0) ≡ slice_index_or buffers (t.from + new.0) (pos 0) = word-at buffers t.from t.count new.0 less in
-          let has : (int_le t.least there && int_le there t.greatest) ≡ true = subst (λ (z : ℤ). is_in t z ≡ true) (sym (new.3 ∙ value)) (fill new.0 less) in
+          let has : (int_le t.least there && int_le there t.greatest) ≡ true = subst (λ (z : ℤ). is_in t z ≡ true) (sym new.3) (item.1 new.0 (pos 0) new.1) in
           let typed : Has v there =
           subst (λ (g : ℤ). (int_le v.least there && int_le there g) ≡ true) greatest (subst (λ (m : ℤ). (int_le m there && int_le there t.greatest) ≡ true) least has) in
           subst (λ (u : Variable). Has u there) variable typed
@@ -202,35 +188,57 @@ module _ (p : ProgramTree) (ls : List Link) (few : counts ls ≤ 2 ^ 64 - 1) whe
   values-fit values buffers i t is_t fit holds =
       numbers-fit (take t.count values) buffers i t is_t (take-few t.count values) (λ n less. all-at (is_in t) (take t.count values) n fit less) holds
 
+  -- buffers and queues
+  abbrev pub LinksFit : World → Type 0
+  LinksFit w = BuffersFit ties w.buffers × QueuesFit ties w.queues
+
+  -- what is announced
+  announced-fits : (link : ℕ) (t : Tied) (w : World) → slice_get ties link ≡ Some t → LinksFit w → LinksFit (announced link t w)
+  announced-fits link t w is fit = by (is_queued link w) refl
+    where
+      by : (b : Bool) → is_queued link w ≡ b → LinksFit (if b then enqueued link w.buffers t.from w else all_marked None link w)
+      by true queued = (fit.0, put-fits ties w.queues link t w.buffers t.from queued is (λ j less. fit.0 link j t is less) fit.1)
+      by false queued = fit
+
   -- values of a channel come to a link, if it is one of the channel
-  link-received : (channel : ℕ) (values : List ℤ) (number i : ℕ) (t : Tied) (w : World) → slice_get ties i ≡ Some t → (not (is_of channel t) || is_link_fit values t) ≡ true →
-      BuffersFit ties w.buffers → BuffersFit ties (received_link channel values number t w).buffers
-  link-received channel values number i t w is_t fit holds = by (is_of channel t) t.is_monitored t.flag fit
+  link-received : (channel : ℕ) (values : List ℤ) (number : ℕ) (t : Tied) (w : World) → slice_get ties number ≡ Some t → (not (is_of channel t) || is_link_fit values t) ≡ true →
+      LinksFit w → LinksFit (received_link channel values number t w)
+  link-received channel values number t w is_t fit holds = by (is_of channel t) t.is_monitored t.flag fit
     where
       there : World
       there = with_buffer t (take t.count values) w
 
+      come : is_link_fit values t ≡ true → LinksFit there
+      come fits = (values-fit values w.buffers number t is_t fits holds.0, holds.1)
+
       by : (b monitored : Bool) (flag : Option ℕ) → (not b || is_link_fit values t) ≡ true →
-          BuffersFit ties (if b then (if monitored then all_marked None number (flagged flag there) else there) else w).buffers
-      by true true None fits = values-fit values w.buffers i t is_t fits holds
-      by true true (Some flag) fits = values-fit values w.buffers i t is_t fits holds
-      by true false flag fits = values-fit values w.buffers i t is_t fits holds
+          LinksFit (if b then (if monitored then flagged flag (announced number t there) else there) else w)
+      by true true None fits = announced-fits number t there is_t (come fits)
+      by true true (Some flag) fits = announced-fits number t there is_t (come fits)
+      by true false flag fits = come fits
       by false monitored flag fits = holds
 
-  -- to links of the program
+  -- to links of the program, from a number on
   pub received-fits : (channel : ℕ) (values : List ℤ) (number : ℕ) (ts : List Tied) (w : World) →
-      ((i : ℕ) (t : Tied) → slice_get ts i ≡ Some t → (j : ℕ) × (slice_get ties j ≡ Some t)) → are_fit channel values ts ≡ true →
-      BuffersFit ties w.buffers → BuffersFit ties (received_from channel values number ts w).buffers
+      ((i n : ℕ) (t : Tied) → n ≡ number + i → slice_get ts i ≡ Some t → slice_get ties n ≡ Some t) → are_fit channel values ts ≡ true →
+      LinksFit w → LinksFit (received_from channel values number ts w)
   received-fits channel values number [] w there fit holds = holds
   received-fits channel values number (t ∷ ts) w there fit holds =
       let halves = both-true (not (is_of channel t) || is_link_fit values t) (are_fit channel values ts) fit in
-      let here = there 0 t refl in
-      received-fits channel values (number + 1) ts (received_link channel values number t w) (λ i u is. there (suc i) u is) halves.1
-      (link-received channel values number here.0 t w here.1 halves.0 holds)
+      received-fits channel values (number + 1) ts (received_link channel values number t w) (λ i n u is at. there (suc i) n u (omega (arith, is)) at) halves.1
+      (link-received channel values number t w (there 0 number t (omega arith) refl) halves.0 holds)
 
 -- values leave copies, and what never changes of links, as they are
 abbrev pub Same : World → World → Type 0
 Same w u = (u.copies ≡ w.copies) × (u.ties ≡ w.ties) × (u.homes ≡ w.homes)
+
+-- what is announced
+announced-same : (link : ℕ) (t : Tied) (w : World) → Same w (announced link t w)
+announced-same link t w = by (is_queued link w)
+  where
+    by : (b : Bool) → Same w (if b then enqueued link w.buffers t.from w else all_marked None link w)
+    by true = (refl, refl, refl)
+    by false = (refl, refl, refl)
 
 -- at a link
 link-same : (channel : ℕ) (values : List ℤ) (number : ℕ) (t : Tied) (w : World) → Same w (received_link channel values number t w)
@@ -239,9 +247,9 @@ link-same channel values number t w = by (is_of channel t) t.is_monitored t.flag
     there : World
     there = with_buffer t (take t.count values) w
 
-    by : (b monitored : Bool) (flag : Option ℕ) → Same w (if b then (if monitored then all_marked None number (flagged flag there) else there) else w)
-    by true true None = (refl, refl, refl)
-    by true true (Some flag) = (refl, refl, refl)
+    by : (b monitored : Bool) (flag : Option ℕ) → Same w (if b then (if monitored then flagged flag (announced number t there) else there) else w)
+    by true true None = announced-same number t there
+    by true true (Some flag) = announced-same number t there
     by true false flag = (refl, refl, refl)
     by false monitored flag = (refl, refl, refl)
 
@@ -256,6 +264,40 @@ received-same channel values number (t ∷ ts) w =
 -- ---- what holds
 
 module _ (p : ProgramTree) (ls : List Link) (sized : IsSized p) (tied : IsTied p ls) where
+  -- what a link is tied to is what the program says
+  tied_so : (link : ℕ) (t : Tied) (w : World) → Holds p ls w → slice_get w.ties link ≡ Some t → slice_get (ties_in p ls) link ≡ Some t
+  tied_so link t w holds is = ap (λ (ts : List Tied). slice_get ts link) (sym holds.2) ∙ is
+
+  -- an item of a link comes to a copy
+  item_holds : (set place link : ℕ) (t : Tied) (item : List ℤ) (w : World) → home_of set link w ≡ Some place → slice_get (ties_in p ls) link ≡ Some t → ItemFits t item →
+      Holds p ls w → Holds p ls (with_elements set place item w)
+  item_holds set place link t item w home at fits holds =
+      let k = at_home p ls tied set link place t w holds.3 home at in
+      let old = (copy_of set w).words in
+      let stays : Fit (placed_in p set) old → Fit (placed_in p set) (overwritten old place item) =
+      subst (λ (n : ℕ). Fit (placed_in p set) old → Fit (placed_in p set) (overwritten old n item)) k.there
+      (item-fits p sized set k.l t k.v old item k.variable k.within k.least k.greatest fits) in
+      (changed-fits p sized set (record (copy_of set w) { words = overwritten old place item }) w stays holds.0, holds.1, holds.2, holds.3, holds.4)
+
+  -- the buffer of a link does
+  buffer_holds : (set place link : ℕ) (t : Tied) (w : World) → home_of set link w ≡ Some place → slice_get (ties_in p ls) link ≡ Some t →
+      Holds p ls w → Holds p ls (with_elements set place (buffer_of t w) w)
+  buffer_holds set place link t w home at holds =
+      item_holds set place link t (buffer_of t w) w home at (words-fit t w.buffers t.from t.count refl (λ j less. holds.1 link j t at less)) holds
+
+  -- so it is fetched
+  pub fetched_holds : (set place link : ℕ) (t : Tied) (w : World) → home_of set link w ≡ Some place → slice_get w.ties link ≡ Some t →
+      Holds p ls w → Holds p ls (with_elements set place (buffer_of t w) w)
+  fetched_holds set place link t w home is holds = buffer_holds set place link t w home (tied_so link t w holds is) holds
+
+  -- the oldest item of its queue is taken
+  pub taken_holds : (set place link : ℕ) (t : Tied) (item : List ℤ) (more : List (List ℤ)) (w : World) → home_of set link w ≡ Some place → slice_get w.ties link ≡ Some t →
+      (queue_of link w).items ≡ item ∷ more → Holds p ls w → Holds p ls (with_items link more (with_elements set place item w))
+  taken_holds set place link t item more w home is has holds =
+      let at = tied_so link t w holds is in
+      let h = item_holds set place link t item w home at (oldest-fits (ties_in p ls) w.queues link t item more at has holds.4) holds in
+      (h.0, h.1, h.2, h.3, rest-fits (ties_in p ls) w.queues link item more has holds.4)
+
   -- a link is refreshed
   link-holds : (set number : ℕ) (t : Tied) (w : World) → slice_get (ties_in p ls) number ≡ Some t → Holds p ls w → Holds p ls (refreshed_link set number t w)
   link-holds set number t w at holds = by (is_marked set number w) (home_of set number w) refl
@@ -263,14 +305,7 @@ module _ (p : ProgramTree) (ls : List Link) (sized : IsSized p) (tied : IsTied p
       by : (b : Bool) (home : Option ℕ) → home_of set number w ≡ home → Holds p ls (if b then with_mark set number false (copied_to set home t w) else w)
       by false home is = holds
       by true None is = holds
-      by true (Some place) is =
-          let k = at_home p ls tied set number place t w holds.3 is at in
-          let old = (copy_of set w).words in
-          let zs = words_at w.buffers t.from t.count in
-          let fits : Fit (placed_in p set) old → Fit (placed_in p set) (overwritten old place zs) =
-          subst (λ (n : ℕ). Fit (placed_in p set) old → Fit (placed_in p set) (overwritten old n zs)) k.there
-          (copied-fits p sized set k.l t k.v old w.buffers k.variable k.within k.least k.greatest (λ j less. holds.1 number j t at less)) in
-          (changed-fits p sized set (record (copy_of set w) { words = overwritten old place zs }) w fits holds.0, holds.1, holds.2, holds.3)
+      by true (Some place) is = buffer_holds set place number t w is at holds
 
   -- links are, from a number on
   links-hold : (set number : ℕ) (ts : List Tied) (w : World) → ((i n : ℕ) (t : Tied) → n ≡ number + i → slice_get ts i ≡ Some t → slice_get (ties_in p ls) n ≡ Some t) →
@@ -287,12 +322,26 @@ module _ (p : ProgramTree) (ls : List Link) (sized : IsSized p) (tied : IsTied p
       (λ i n t is at. let same : n ≡ i = omega (arith, is) in ap (λ (m : ℕ). slice_get (ties_in p ls) m) same ∙ ap (λ (ts : List Tied). slice_get ts i) (sym holds.2) ∙ at)
       holds
 
-  -- the elements of a link come from the copy to its buffer
+  -- each element of a link in a copy is one that its type has
+  own_fits : (set place link : ℕ) (t : Tied) (w : World) → home_of set link w ≡ Some place → slice_get (ties_in p ls) link ≡ Some t → Holds p ls w →
+      (n : ℕ) → n < t.count → is_in t (slice_index_or (copy_of set w).words (place + n) (pos 0)) ≡ true
+  own_fits set place link t w home at holds n few =
+      let k = at_home p ls tied set link place t w holds.3 home at in
+      let old = (copy_of set w).words in
+      subst (λ (m : ℕ). is_in t (slice_index_or old (m + n) (pos 0)) ≡ true) k.there (held-fits p sized set k.l t k.v old k.variable k.within k.least k.greatest (holds.0 set) n few)
+
+  -- they come from the copy to its queue
+  pub queued_holds : (set place link : ℕ) (t : Tied) (w : World) → home_of set link w ≡ Some place → slice_get w.ties link ≡ Some t → is_queued link w ≡ true → Holds p ls w →
+      Holds p ls (enqueued link (copy_of set w).words place w)
+  queued_holds set place link t w home is queued holds =
+      let at = tied_so link t w holds is in
+      (holds.0, holds.1, holds.2, holds.3, put-fits (ties_in p ls) w.queues link t (copy_of set w).words place queued at (own_fits set place link t w home at holds) holds.4)
+
+  -- or to its buffer
   pub filled_holds : (set place link : ℕ) (t : Tied) (w : World) → home_of set link w ≡ Some place → slice_get w.ties link ≡ Some t → Holds p ls w →
       Holds p ls (with_buffer t (elements_at set place t w) w)
   filled_holds set place link t w home is holds =
-      let at = ap (λ (ts : List Tied). slice_get ts link) (sym holds.2) ∙ is in
-      let k = at_home p ls tied set link place t w holds.3 home at in
+      let at = tied_so link t w holds is in
       let old = (copy_of set w).words in
       let zs = words_at old place t.count in
       let long = length-words old place t.count in (
@@ -300,10 +349,8 @@ module _ (p : ProgramTree) (ls : List Link) (sized : IsSized p) (tied : IsTied p
         numbers-fit p ls tied.few zs w.buffers link t at (omega (arith, long))
             (λ n less.
             let few : n < t.count = omega (arith, less, long) in
-            let has : is_in t (slice_index_or old (place + n) (pos 0)) ≡ true =
-            subst (λ (m : ℕ). is_in t (slice_index_or old (m + n) (pos 0)) ≡ true) k.there
-            (held-fits p sized set k.l t k.v old k.variable k.within k.least k.greatest (holds.0 set) n few) in
-            subst (λ (z : ℤ). is_in t z ≡ true) (sym (word-at old place t.count n few)) has) holds.1,
+            subst (λ (z : ℤ). is_in t z ≡ true) (sym (word-at old place t.count n (pos 0) few)) (own_fits set place link t w home at holds n few)) holds.1,
         holds.2,
         holds.3,
+        holds.4,
       )

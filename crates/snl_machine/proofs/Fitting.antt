@@ -1,18 +1,17 @@
--- No piece stores a number that the type of its variable does not have.
+-- Stores and clearings leave copies whose variables hold what their types have.
 use Rattle.std.proofs.Common.{◌≡◌, ◌∙◌, ◌+◌, ◌<◌, ◌⊎◌, inl, inr, refl, sym, ap, subst, arith, ℕ, zero, suc, ℤ, pos, negsuc, Bool, true, false, nat_lt, List, [], ◌∷◌, Some, slice_get, if◌then◌else◌}
 use Rattle.std.specs.Prelude.{◌==◌, slice_set, slice_index_or}
 use Rattle.std.proofs.lemmas.Bool.{ltb-true, ltb-false}
 use Rattle.snl_syntax.specs.Programs.{ProgramTree}
 use Rattle.snl_code.specs.Heres.{here_in}
-use Rattle.snl_machine.specs.Ranges.{Has, Fit, AllFit, IsSized, PiecesFit}
+use Rattle.snl_machine.specs.Ranges.{Has, Fit, AllFit, IsSized}
 use Rattle.snl_meaning.specs.declared.instrs.Variable.{Variable}
 use Rattle.snl_meaning.specs.declared.names.Placed.{Placed}
-use Rattle.snl_meaning.specs.Keeping.{IsKept, MayStore, PiecesKeep}
+use Rattle.snl_meaning.specs.Keeping.{MayStore}
 use Rattle.snl_meaning.specs.Names.{variable_in}
 use Rattle.snl_meaning.specs.Words.{natural, is_subscript}
-use Rattle.snl_meaning.specs.World.{SetMemory, World, no_copy, copy_of, zeroed}
+use Rattle.snl_meaning.specs.World.{SetMemory, World, no_copy, copy_of, with_element, with_zeros, zeroed}
 use Rattle.snl_meaning.proofs.Apart.{variables_are_apart}
-use Rattle.snl_meaning.proofs.Keeping.{pieces-keep}
 use Rattle.snl_load.specs.Places.{placed_in}
 use Rattle.snl_resolve.specs.Variables.{variables_of}
 
@@ -136,29 +135,13 @@ module _ (p : ProgramTree) (sized : IsSized p) where
       by (inl same) = subst (λ (z : ℤ). Has y.variable z) (sym same) (fits j m y is_y few_y)
       by (inr nought) = subst (λ (z : ℤ). Has y.variable z) (sym nought) (sized.zero set j y is_y)
 
-  -- what fits before a change fits after it
-  abbrev pub Stays : World → World → Type 0
-  Stays w u = AllFit p w → AllFit p u
+  -- copies fit after a store
+  pub stored-fits : (set : ℕ) (v : Variable) (k z : ℤ) (w : World) → May set v k → Has v z → AllFit p w → AllFit p (with_element set v (natural k) z w)
+  stored-fits set v k z w ok has =
+      changed-fits set (record (copy_of set w) { words = slice_set (copy_of set w).words (v.place + natural k) z }) w
+      (store-fits set v k z (copy_of set w).words ok has)
 
-  -- each change of a piece
-  pub kept : (set : ℕ) → IsKept set (May set) Stays
-  kept set = record {
-    nothing = λ w all. all;
-    both = λ u v w a b all. b (a all);
-    stores = λ v k z w ok has. changed-fits set (record (copy_of set w) { words = slice_set (copy_of set w).words (v.place + natural k) z }) w
-        (store-fits set v k z (copy_of set w).words ok has);
-    clears = λ v w ok. changed-fits set (record (copy_of set w) { words = zeroed (copy_of set w).words v.place v.size }) w (zero-fits set v.place v.size (copy_of set w).words);
-    signals = λ flag now w all. all;
-    fills = λ place link t w home is all. all;
-    marks = λ marks w all. all;
-    notes = λ t w late all. all;
-    spends = λ left w is all. all;
-  }
-
-  -- all pieces
-  pub pieces-fit : (set : ℕ) → PiecesKeep (here_in p set) Stays
-  pieces-fit set = pieces-keep (here_in p set) (May set) Stays (may set) (kept set)
-
--- of any program
-pub pieces_fit : PiecesFit
-pieces_fit p set sized = pieces-fit p sized set
+  -- and after a variable was cleared
+  pub cleared-fits : (set : ℕ) (v : Variable) (w : World) → AllFit p w → AllFit p (with_zeros set v w)
+  cleared-fits set v w =
+      changed-fits set (record (copy_of set w) { words = zeroed (copy_of set w).words v.place v.size }) w (zero-fits set v.place v.size (copy_of set w).words)

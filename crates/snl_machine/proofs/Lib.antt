@@ -8,6 +8,7 @@ pub mod Wakes
 pub mod Fitting
 pub mod Beginning
 pub mod Linked
+pub mod Queued
 pub mod Filling
 pub mod Lines
 pub mod Apart

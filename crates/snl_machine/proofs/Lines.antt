@@ -1,19 +1,21 @@
--- A line of a trace keeps what copies and buffers hold within their types.
-use Rattle.std.proofs.Common.{◌≡◌, ◌∙◌, ◌-◌, sym, subst, ℕ, zero, suc, true, List, Option, None, Some, length, nat_lt, if◌then◌else◌}
+-- A line of a trace keeps what copies, buffers and queues hold within their types.
+use Rattle.std.proofs.Common.{◌≡◌, ◌∙◌, ◌+◌, ◌-◌, ap, sym, subst, arith, ℕ, zero, suc, Bool, true, slice_get, List, Option, None, Some, length, nat_lt, if◌then◌else◌}
 use Rattle.snl_syntax.specs.Programs.{ProgramTree}
 use Rattle.snl_code.specs.Heres.{here_in}
 use Rattle.snl_schedule.specs.declared.events.Event.{Event}
 use Rattle.snl_schedule.specs.declared.events.Event.TheVariants.{Up, Down, Val, Tick, Other}
 use Rattle.snl_schedule.specs.Event.{applied, closed, wake_before, woken, wakes_of, all_wakes, event_by, passed, line_by, is_event_fit}
 use Rattle.snl_links.specs.Links.{Link}
-use Rattle.snl_machine.specs.Ranges.{AllFit, Holds, IsSized, IsTied, EventsFit, Begins, GoesOn, ReachedHold}
+use Rattle.snl_machine.specs.Ranges.{AllFit, Holds, IsSized, IsTied, PiecesFit, EventsFit, Begins, GoesOn, ReachedHold}
 use Rattle.snl_machine.proofs.Beginning.{first_holds}
-use Rattle.snl_machine.proofs.Filling.{received-fits, received-same, refresh_holds, filled_holds, both-true}
-use Rattle.snl_machine.proofs.Fitting.{May, may, kept, changed-fits}
+use Rattle.snl_machine.proofs.Filling.{received-fits, received-same, refresh_holds, fetched_holds, taken_holds, queued_holds, filled_holds, both-true}
+use Rattle.snl_machine.proofs.Queued.{none-fits}
+use Rattle.snl_machine.proofs.Fitting.{May, may, stored-fits, cleared-fits, changed-fits}
 use Rattle.snl_machine.proofs.Steady.{IsSteady, instant-keeps}
 use Rattle.snl_meaning.specs.declared.live.Live.{Live}
 use Rattle.snl_meaning.specs.declared.live.Live.TheVariants.{Waiting, Running, Ended}
-use Rattle.snl_meaning.specs.Keeping.{IsKept, world_after}
+use Rattle.snl_meaning.specs.Keeping.{IsKept, PiecesKeep, world_after}
+use Rattle.snl_meaning.specs.declared.ties.Tied.{Tied}
 use Rattle.snl_meaning.specs.Ran.{Ran, Gives, Faults, also, then_do}
 use Rattle.snl_meaning.specs.World.{SetMemory, World, copy_of}
 use Rattle.snl_meaning.proofs.Keeping.{pieces-keep}
@@ -29,30 +31,39 @@ module _ (p : ProgramTree) (ls : List Link) (sized : IsSized p) (tied : IsTied p
 
   -- each change of a piece
   holds-kept : (set : ℕ) → IsKept set (May p sized set) Stays
-  holds-kept set = let fit = kept p sized set in record {
+  holds-kept set = record {
     nothing = λ w holds. holds;
     both = λ u v w a b holds. b (a holds);
-    stores = λ v k z w ok has holds. (fit.stores v k z w ok has holds.0, holds.1, holds.2, holds.3);
-    clears = λ v w ok holds. (fit.clears v w ok holds.0, holds.1, holds.2, holds.3);
+    stores = λ v k z w ok has holds. (stored-fits p sized set v k z w ok has holds.0, holds.1, holds.2, holds.3, holds.4);
+    clears = λ v w ok holds. (cleared-fits p sized set v w holds.0, holds.1, holds.2, holds.3, holds.4);
     signals = λ flag now w holds. holds;
     fills = filled_holds p ls sized tied set;
+    enqueues = queued_holds p ls sized tied set;
+    fetches = fetched_holds p ls sized tied set;
+    takes = taken_holds p ls sized tied set;
+    flushes = λ link w holds. (holds.0, holds.1, holds.2, holds.3, none-fits (ties_in p ls) w.queues link holds.4);
     marks = λ marks w holds. holds;
     notes = λ t w late holds. holds;
     spends = λ left w is holds. holds;
   }
+
+  -- all of them
+  pieces-hold : (set : ℕ) → PiecesKeep (here_in p set) Stays
+  pieces-hold set = pieces-keep (here_in p set) (May p sized set) Stays (may p sized set) (holds-kept set)
 
   -- each change of a run
   holds-steady : IsSteady p Stays Stays
   holds-steady = record {
     nothing = λ w holds. holds;
     both = λ u v w a b holds. b (a holds);
-    pieces = λ set. pieces-keep (here_in p set) (May p sized set) Stays (may p sized set) (holds-kept set);
+    pieces = pieces-hold;
     refreshes = refresh_holds p ls sized tied;
     enters = λ set state is_timed w holds. (
       changed-fits p sized set (record (copy_of set w) { state = state; entered = if is_timed then w.time else (copy_of set w).entered }) w (λ fit. fit) holds.0,
       holds.1,
       holds.2,
       holds.3,
+      holds.4,
     );
     opens = λ w holds. holds;
     wakes = λ w holds. holds;
@@ -64,20 +75,23 @@ module _ (p : ProgramTree) (ls : List Link) (sized : IsSized p) (tied : IsTied p
   }
 
   -- an event that fits
-  event-holds : (event : Event) (w : World) → is_event_fit (length (channels ls)) (ties_in p ls) event ≡ true → Stays w (applied (program_meaning p ls) event w)
-  event-holds (Up channel) w fit holds = holds
-  event-holds (Down channel) w fit holds = holds
-  event-holds (Val channel values) w fit holds =
+  event-holds : (event : Event) (w : World) → is_event_fit (length (channels ls)) (ties_in p ls) event ≡ true → (waits : Bool) → Stays w (applied (program_meaning p ls waits) event w)
+  event-holds (Up channel) w fit waits holds = holds
+  event-holds (Down channel) w fit waits holds = holds
+  event-holds (Val channel values) w fit waits holds =
       let halves = both-true (nat_lt channel (length (channels ls))) (are_fit channel values.items (ties_in p ls)) fit in
       let v = record w { valued = _ } in
-      let same = received-same channel values.items 0 (ties_in p ls) v in (
+      let same = received-same channel values.items 0 (ties_in p ls) v in
+      let all = λ (i n : ℕ) (t : Tied) (is : n ≡ 0 + i) (at : slice_get (ties_in p ls) i ≡ Some t). let e : n ≡ i = omega (arith, is) in ap (slice_get (ties_in p ls)) e ∙ at in
+      let links = received-fits p ls tied.few channel values.items 0 (ties_in p ls) v all halves.1 (holds.1, holds.4) in (
         subst (λ (cs : List SetMemory). AllFit p (record w { copies = cs })) (sym same.0) holds.0,
-        received-fits p ls tied.few channel values.items 0 (ties_in p ls) v (λ i t is. (i, is)) halves.1 holds.1,
+        links.0,
         same.1 ∙ holds.2,
         same.2 ∙ holds.3,
+        links.1,
       )
-  event-holds Tick w fit holds = holds
-  event-holds Other w fit holds = holds
+  event-holds Tick w fit waits holds = holds
+  event-holds Other w fit waits holds = holds
 
   -- what an instant gives to who asked for it
   closed-holds : (r : Ran (Unit {0})) → Holds p ls (world_after r) → Holds p ls (world_after (closed r))
@@ -86,10 +100,10 @@ module _ (p : ProgramTree) (ls : List Link) (sized : IsSized p) (tied : IsTied p
 
 -- a line
 pub events_fit : EventsFit
-events_fit p ls budget ms event w sized tied fit holds = by w.phase
+events_fit p ls waits budget ms event w sized tied fit holds = by w.phase
   where
     q : Program
-    q = program_meaning p ls
+    q = program_meaning p ls waits
 
     -- text does not matter
     also-holds : (text : List ℕ) (r : Ran (Unit {0})) → Holds p ls (world_after r) → Holds p ls (world_after (also text r))
@@ -104,7 +118,7 @@ events_fit p ls budget ms event w sized tied fit holds = by w.phase
 
     -- an instant
     instant-holds : (u : World) → Holds p ls u → Holds p ls (world_after (instant_of q budget u))
-    instant-holds u h = instant-keeps p ls (Stays p ls sized tied) (Stays p ls sized tied) (holds-steady p ls sized tied) u.phase (record u { ticks = budget }) h
+    instant-holds u h = instant-keeps p ls waits (Stays p ls sized tied) (Stays p ls sized tied) (holds-steady p ls sized tied) u.phase (record u { ticks = budget }) h
 
     -- wakes
     wakes-hold : (n : ℕ) (u : World) → Holds p ls u → Holds p ls (world_after (wakes_of q budget ms n u))
@@ -120,8 +134,8 @@ events_fit p ls budget ms event w sized tied fit holds = by w.phase
     -- the event
     happens-holds : (u : World) (phase : Live) → Holds p ls u → Holds p ls (world_after (event_by q budget ms event phase u))
     happens-holds u Ended h = h
-    happens-holds u Waiting h = instant-holds (applied q event (record u { time = ms })) (event-holds p ls sized tied event (record u { time = ms }) fit h)
-    happens-holds u Running h = instant-holds (applied q event (record u { time = ms })) (event-holds p ls sized tied event (record u { time = ms }) fit h)
+    happens-holds u Waiting h = instant-holds (applied q event (record u { time = ms })) (event-holds p ls sized tied event (record u { time = ms }) fit waits h)
+    happens-holds u Running h = instant-holds (applied q event (record u { time = ms })) (event-holds p ls sized tied event (record u { time = ms }) fit waits h)
 
     on : Holds p ls (world_after (closed (passed q budget ms event w)))
     on =
@@ -135,5 +149,10 @@ events_fit p ls budget ms event w sized tied fit holds = by w.phase
 
 -- all worlds that a run comes to
 pub reached_hold : ReachedHold
-reached_hold p ls budget _ sized tied held Begins = first_holds p ls sized tied held
-reached_hold p ls budget _ sized tied held (GoesOn w ms event before fit) = events_fit p ls budget ms event w sized tied fit (reached_hold p ls budget w sized tied held before)
+reached_hold p ls waits budget _ sized tied held Begins = first_holds p ls sized tied held
+reached_hold p ls waits budget _ sized tied held (GoesOn w ms event before fit) =
+    events_fit p ls waits budget ms event w sized tied fit (reached_hold p ls waits budget w sized tied held before)
+
+-- conditions and blocks
+pub pieces_fit : PiecesFit
+pieces_fit p ls set sized tied = pieces-hold p ls sized tied set

@@ -1,5 +1,5 @@
 -- Rounds end by themselves, and no tick is given back.
-use Rattle.std.proofs.Common.{◌≡◌, ◌<◌, ◌≤◌, refl, arith, ℕ, zero, suc, List, []}
+use Rattle.std.proofs.Common.{◌≡◌, ◌<◌, ◌≤◌, refl, arith, ℕ, zero, suc, Bool, List, []}
 use Rattle.snl_syntax.specs.Programs.{ProgramTree}
 use Rattle.snl_links.specs.Links.{Link}
 use Rattle.snl_machine.specs.Rounds.{Rounds, Last, Leaves, Stops, Again, RoundsEnd, TicksWithinBudget}
@@ -31,6 +31,7 @@ ticks-steady = record {
   marks = λ x w. omega arith;
   flags = λ x w. omega arith;
   buffers = λ x w. omega arith;
+  queues = λ x w. omega arith;
   opens = λ w. omega arith;
   notes = λ t w late. omega arith;
   wakes = λ w. omega arith;
@@ -42,12 +43,14 @@ ticks-steady = record {
 }
 
 -- with more rounds than ticks they end by themselves
-rounds-end : (p : ProgramTree) (ls : List Link) (n : ℕ) (w : World) → w.ticks < n → Rounds (program_meaning p ls) w (rounds_of (program_meaning p ls) n w)
-rounds-end p ls zero w few = absurd (omega (arith, few))
-rounds-end p ls (suc n) w few = by (λ u. rounds-end p ls n u) (round_of (program_meaning p ls) w) refl (round-turns p ls NoMore Fewer (loosely NoMore Fewer ticks-steady p) w)
+rounds-end : (p : ProgramTree) (ls : List Link) (waits : Bool) (n : ℕ) (w : World) → w.ticks < n →
+    Rounds (program_meaning p ls waits) w (rounds_of (program_meaning p ls waits) n w)
+rounds-end p ls waits zero w few = absurd (omega (arith, few))
+rounds-end p ls waits (suc n) w few =
+    by (λ u. rounds-end p ls waits n u) (round_of (program_meaning p ls waits) w) refl (round-turns p ls waits NoMore Fewer (loosely NoMore Fewer ticks-steady p) w)
   where
     q : Program
-    q = program_meaning p ls
+    q = program_meaning p ls waits
 
     by : ((u : World) → u.ticks < n → Rounds q u (rounds_of q n u)) → (r : Ran Turned) → round_of q w ≡ r → Turns NoMore Fewer w r →
         Rounds q w (then_do r (unless_still q (rounds_of q n)))
@@ -58,8 +61,8 @@ rounds-end p ls (suc n) w few = by (λ u. rounds-end p ls n u) (round_of (progra
 
 -- so do those of an instant
 pub rounds_end : RoundsEnd
-rounds_end p ls w = rounds-end p ls (suc w.ticks) w (omega arith)
+rounds_end p ls waits w = rounds-end p ls waits (suc w.ticks) w (omega arith)
 
 -- an instant leaves no more ticks than its budget
 pub ticks_within_budget : TicksWithinBudget
-ticks_within_budget p ls budget w = instant-keeps p ls NoMore Fewer (loosely NoMore Fewer ticks-steady p) w.phase (record w { ticks = budget })
+ticks_within_budget p ls waits budget w = instant-keeps p ls waits NoMore Fewer (loosely NoMore Fewer ticks-steady p) w.phase (record w { ticks = budget })

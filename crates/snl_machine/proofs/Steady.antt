@@ -7,9 +7,9 @@ use Rattle.snl_meaning.specs.declared.live.Live.TheVariants.{Waiting, Running, E
 use Rattle.snl_meaning.specs.Keeping.{IsKept, PiecesKeep, world_after}
 use Rattle.snl_meaning.specs.Ran.{Ran, Gives, Faults, also, then_do}
 use Rattle.std.specs.Prelude.{int_le}
-use Rattle.snl_meaning.specs.Links.{home_of}
+use Rattle.snl_meaning.specs.Links.{home_of, with_elements, with_items}
 use Rattle.snl_meaning.specs.Words.{noted}
-use Rattle.snl_meaning.specs.World.{SetMemory, World}
+use Rattle.snl_meaning.specs.World.{Queue, SetMemory, World}
 use Rattle.snl_meaning.proofs.Keeping.{pieces-keep}
 use Rattle.snl_meaning.proofs.Ticks.{Any, any-may}
 use Rattle.snl_code.specs.Heres.{here_in}
@@ -41,7 +41,7 @@ pub record IsSteady (p : ProgramTree) (R S : World → World → Type 0) : Type 
   pub before : (u v w : World) → R u v → S v w → S u w
   pub after : (u v w : World) → S u v → R v w → S u w
 
--- A relation that any change of the copies, marks, event flags and buffers keeps, and of due times those that pieces and
+-- A relation that any change of the copies, marks, event flags, buffers and queues keeps, and of due times those that pieces and
 -- rounds make.
 pub record IsLoose (R S : World → World → Type 0) : Type 0 where
   pub nothing : (w : World) → R w w
@@ -50,6 +50,7 @@ pub record IsLoose (R S : World → World → Type 0) : Type 0 where
   pub marks : (x : List (List Bool)) (w : World) → R w (record w { marks = x })
   pub flags : (x : List Bool) (w : World) → R w (record w { flags = x })
   pub buffers : (x : List ℤ) (w : World) → R w (record w { buffers = x })
+  pub queues : (x : List Queue) (w : World) → R w (record w { queues = x })
   pub opens : (w : World) → R w (record w { due = None })
   pub notes : (t : ℤ) (w : World) → int_le t (pos w.time) ≡ false → R w (record w { due = noted t w.due })
   pub wakes : (w : World) → R w (record w { wake = w.due })
@@ -69,6 +70,10 @@ module _ (R S : World → World → Type 0) (s : IsLoose R S) where
     clears = λ v w ok. s.copies _ w;
     signals = λ flag now w. s.flags _ w;
     fills = λ place link t w home is. s.buffers _ w;
+    enqueues = λ place link t w home is queued. s.queues _ w;
+    fetches = λ place link t w home is. s.copies _ w;
+    takes = λ place link t item more w home is has. let u = with_elements set place item w in s.both w u (with_items link more u) (s.copies _ w) (s.queues _ u);
+    flushes = λ link w. s.queues _ w;
     marks = s.marks;
     notes = s.notes;
     spends = λ left w is. s.weaker w (record w { ticks = left }) (s.spends left w is);
@@ -112,7 +117,7 @@ module _ (R S : World → World → Type 0) (s : IsLoose R S) where
     after = s.after;
   }
 
-module _ (p : ProgramTree) (ls : List Link) (R S : World → World → Type 0) (s : IsSteady p R S) where
+module _ (p : ProgramTree) (ls : List Link) (waiting : Bool) (R S : World → World → Type 0) (s : IsSteady p R S) where
   -- ---- what a program's state sets keep
 
   -- those of all of them
@@ -177,23 +182,23 @@ module _ (p : ProgramTree) (ls : List Link) (R S : World → World → Type 0) (
       by others (Faults f line v text) k = s.both w u v (stands-weaker w u before h) k
 
   -- a round
-  pub round-turns : (w : World) → Turns R S w (round_of (program_meaning p ls) w)
-  round-turns w = round-keeps (program_meaning p ls).sets (sets-keep 0 p.state_sets) Stayed w (record w { due = None }) (s.opens w)
+  pub round-turns : (w : World) → Turns R S w (round_of (program_meaning p ls waiting) w)
+  round-turns w = round-keeps (program_meaning p ls waiting).sets (sets-keep 0 p.state_sets) Stayed w (record w { due = None }) (s.opens w)
 
   -- the end of the program
-  pub exited-keeps : Keeps R (exited (program_meaning p ls))
+  pub exited-keeps : Keeps R (exited (program_meaning p ls waiting))
   exited-keeps w =
-      let q = program_meaning p ls in
+      let q = program_meaning p ls waiting in
       then-keeps R s.both w (owned q q.exit w) (λ _ u. closed_by q.name u)
       (told-after R (first_name q.sets) w (q.exit w) (block-keeps p 0 R s.nothing s.both (s.pieces 0) p.exit w)) (λ _ u. s.phase Ended u)
 
   -- rounds
-  rounds-keep : (n : ℕ) (w : World) → R w (world_after (rounds_of (program_meaning p ls) n w))
+  rounds-keep : (n : ℕ) (w : World) → R w (world_after (rounds_of (program_meaning p ls waiting) n w))
   rounds-keep zero w = s.nothing w
-  rounds-keep (suc n) w = by (λ u. rounds-keep n u) (round_of (program_meaning p ls) w) (round-turns w)
+  rounds-keep (suc n) w = by (λ u. rounds-keep n u) (round_of (program_meaning p ls waiting) w) (round-turns w)
     where
       q : Program
-      q = program_meaning p ls
+      q = program_meaning p ls waiting
 
       by : ((u : World) → R u (world_after (rounds_of q n u))) → (r : Ran Turned) → Turns R S w r → R w (world_after (then_do r (unless_still q (rounds_of q n))))
       by others (Gives Stayed u text) h = s.both w u (record u { wake = u.due }) h (s.wakes u)
@@ -214,9 +219,9 @@ module _ (p : ProgramTree) (ls : List Link) (R S : World → World → Type 0) (
   begins-keep (g ∷ gs) all w = then-keeps R s.both w (begun g w) (λ _ u. begun_sets gs u) (begun-keeps g R S all.0 w) (λ _ u. begins-keep gs all.1 u)
 
   -- what follows the line of the start
-  opened-keeps : Keeps R (opened (program_meaning p ls))
+  opened-keeps : Keeps R (opened (program_meaning p ls waiting))
   opened-keeps w =
-      let q = program_meaning p ls in
+      let q = program_meaning p ls waiting in
       let all = sets-keep 0 p.state_sets in
       let u = refreshed_sets q.sets w in
       then-keeps R s.both w (owned q q.entry u) (λ _ v. begun_sets q.sets v)
@@ -225,18 +230,18 @@ module _ (p : ProgramTree) (ls : List Link) (R S : World → World → Type 0) (
       (λ _ v. begins-keep q.sets all v)
 
   -- the start
-  pub started-keeps : Keeps R (started (program_meaning p ls))
+  pub started-keeps : Keeps R (started (program_meaning p ls waiting))
   started-keeps w =
-      let q = program_meaning p ls in then-keeps R s.both w (told_start q w) (λ _ u. opened q u) (s.phase Running w) (λ _ u. opened-keeps u)
+      let q = program_meaning p ls waiting in then-keeps R s.both w (told_start q w) (λ _ u. opened q u) (s.phase Running w) (λ _ u. opened-keeps u)
 
   -- an instant, with the ticks that it has
-  pub instant-keeps : (phase : Live) (w : World) → R w (world_after (instant_by (program_meaning p ls) phase w))
+  pub instant-keeps : (phase : Live) (w : World) → R w (world_after (instant_by (program_meaning p ls waiting) phase w))
   instant-keeps Ended w = s.nothing w
   instant-keeps Running w = rounds-keep (suc w.ticks) w
   instant-keeps Waiting w = by (is_ready q w)
     where
       q : Program
-      q = program_meaning p ls
+      q = program_meaning p ls waiting
 
       by : (b : Bool) → R w (world_after (if b then then_do (started q w) (λ _ u. all_rounds q u) else Gives tt w []))
       by true = then-keeps R s.both w (started q w) (λ _ u. all_rounds q u) (started-keeps w) (λ _ u. rounds-keep (suc u.ticks) u)

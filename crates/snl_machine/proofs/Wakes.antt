@@ -8,7 +8,7 @@ use Rattle.snl_meaning.specs.declared.live.Live.{Live}
 use Rattle.snl_meaning.specs.declared.live.Live.TheVariants.{Waiting, Running, Ended}
 use Rattle.snl_meaning.specs.declared.ties.Tied.{Tied}
 use Rattle.snl_meaning.specs.Keeping.{world_after}
-use Rattle.snl_meaning.specs.Links.{all_marked, flagged, with_buffer}
+use Rattle.snl_meaning.specs.Links.{is_queued, enqueued, all_marked, announced, flagged, with_buffer}
 use Rattle.snl_meaning.specs.Ran.{Ran, Gives, Faults, also, then_do}
 use Rattle.snl_meaning.specs.Words.{least, noted}
 use Rattle.snl_meaning.specs.World.{World}
@@ -50,6 +50,7 @@ due-loose = record {
   marks = λ x w. (refl, λ h. h);
   flags = λ x w. (refl, λ h. h);
   buffers = λ x w. (refl, λ h. h);
+  queues = λ x w. (refl, λ h. h);
   opens = λ w. (refl, λ h n is. absurd (cc));
   notes = λ t w late. (refl, noted-later t w late);
   wakes = λ w. (refl, λ h. h);
@@ -66,6 +67,14 @@ due-loose = record {
 abbrev Same : World → World → Type 0
 Same w u = u.time ≡ w.time
 
+-- what is announced
+announced-time : (link : ℕ) (t : Tied) (w : World) → Same w (announced link t w)
+announced-time link t w = by (is_queued link w)
+  where
+    by : (b : Bool) → Same w (if b then enqueued link w.buffers t.from w else all_marked None link w)
+    by true = refl
+    by false = refl
+
 -- values that come to a link
 link-time : (channel : ℕ) (values : List ℤ) (number : ℕ) (l : Tied) (w : World) → Same w (received_link channel values number l w)
 link-time channel values number l w = by (is_of channel l) l.is_monitored l.flag
@@ -73,9 +82,9 @@ link-time channel values number l w = by (is_of channel l) l.is_monitored l.flag
     there : World
     there = with_buffer l (take l.count values) w
 
-    by : (b monitored : Bool) (flag : Option ℕ) → Same w (if b then (if monitored then all_marked None number (flagged flag there) else there) else w)
-    by true true None = refl
-    by true true (Some flag) = refl
+    by : (b monitored : Bool) (flag : Option ℕ) → Same w (if b then (if monitored then flagged flag (announced number l there) else there) else w)
+    by true true None = announced-time number l there
+    by true true (Some flag) = announced-time number l there
     by true false flag = refl
     by false monitored flag = refl
 
@@ -111,14 +120,14 @@ stands-after w u (Faults f line x text) same h = h ∙ same
 not-running : (w : World) (phase : Live) → w.phase ≡ phase → (Running ≡ phase → ⊥) → IsWakeLater w
 not-running w phase is other n runs wake = absurd (other (sym runs ∙ is))
 
-module _ (tree : ProgramTree) (ls : List Link) where
+module _ (tree : ProgramTree) (ls : List Link) (waits : Bool) where
   -- what the program means
   abbrev p : Program
-  p = program_meaning tree ls
+  p = program_meaning tree ls waits
 
   -- a round, from where no due time is noted
   round-keeps : (w : World) → Turns KeepsDue KeepsDue (record w { due = None }) (round_of p w)
-  round-keeps w = round-turns tree ls KeepsDue KeepsDue (loosely KeepsDue KeepsDue due-loose tree) (record w { due = None })
+  round-keeps w = round-turns tree ls waits KeepsDue KeepsDue (loosely KeepsDue KeepsDue due-loose tree) (record w { due = None })
 
   -- what is known after one
   after-round : (w u : World) (t : Turned) (text : List ℕ) → round_of p w ≡ Gives t u text → KeepsDue (record w { due = None }) u
@@ -151,7 +160,7 @@ module _ (tree : ProgramTree) (ls : List Link) where
 
   -- all of them
   all-stand : (w : World) → Stands w (all_rounds p w)
-  all-stand w = rounds-stand w (all_rounds p w) (rounds_end tree ls w)
+  all-stand w = rounds-stand w (all_rounds p w) (rounds_end tree ls waits w)
 
   -- an instant
   instant-stands : (budget : ℕ) (w : World) → Stands w (instant_of p budget w)
@@ -165,7 +174,7 @@ module _ (tree : ProgramTree) (ls : List Link) where
       opening (Faults f line x text) h = h.0
 
       ready : (b : Bool) → w.phase ≡ Waiting → Stands w (if b then then_do (started p u) (λ _ v. all_rounds p v) else Gives tt u [])
-      ready true is = opening (started p u) (started-keeps tree ls KeepsDue KeepsDue (loosely KeepsDue KeepsDue due-loose tree) u)
+      ready true is = opening (started p u) (started-keeps tree ls waits KeepsDue KeepsDue (loosely KeepsDue KeepsDue due-loose tree) u)
       ready false is = (refl, not-running u Waiting is (λ (e : Running ≡ Waiting). absurd (cc)))
 
       by : (phase : Live) → w.phase ≡ phase → Stands w (instant_by p phase u)
@@ -316,25 +325,25 @@ module _ (tree : ProgramTree) (ls : List Link) where
 
 -- all wakes before a time are run
 pub wakes_end : WakesEnd
-wakes_end p ls budget ms w later = wakes-end p ls budget ms (ms - w.time) w later (omega arith)
+wakes_end p ls waits budget ms w later = wakes-end p ls waits budget ms (ms - w.time) w later (omega arith)
 
 -- after a line the wake lies after now again
 pub wakes_stay_later : WakesStayLater
-wakes_stay_later p ls budget ms event w later = (line-ends p ls budget ms event w later).0
+wakes_stay_later p ls waits budget ms event w later = (line-ends p ls waits budget ms event w later).0
 
 -- so it does in all worlds that a run comes to
 pub wakes_lie_later : WakesLieLater
-wakes_lie_later p ls budget _ Begins n runs wake = absurd (cc)
-wakes_lie_later p ls budget _ (GoesOn w ms event before fit) n runs wake = wakes_stay_later p ls budget ms event w (wakes_lie_later p ls budget w before) n runs wake
+wakes_lie_later p ls waits budget _ Begins n runs wake = absurd (cc)
+wakes_lie_later p ls waits budget _ (GoesOn w ms event before fit) n runs wake = wakes_stay_later p ls waits budget ms event w (wakes_lie_later p ls waits budget w before) n runs wake
 
 -- time never falls
 pub time_never_falls : TimeNeverFalls
-time_never_falls p ls budget ms event w later before = (line-ends p ls budget ms event w later).1 before
+time_never_falls p ls waits budget ms event w later before = (line-ends p ls waits budget ms event w later).1 before
 
 -- the time is that of the event
 pub time_is_the_events : TimeIsTheEvents
-time_is_the_events p ls budget ms event w later lives = (line-ends p ls budget ms event w later).2 lives
+time_is_the_events p ls waits budget ms event w later lives = (line-ends p ls waits budget ms event w later).2 lives
 
 -- also where that ends the program
 pub time_is_the_events_alone : TimeIsTheEventsAlone
-time_is_the_events_alone p ls budget ms event w none lives = alone-at p ls budget ms event w none lives
+time_is_the_events_alone p ls waits budget ms event w none lives = alone-at p ls waits budget ms event w none lives

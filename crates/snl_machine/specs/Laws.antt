@@ -1,5 +1,5 @@
 -- Laws of machines, and of the state sets that they run.
-use Rattle.std.specs.Prelude.{◌≡◌, ℕ, List}
+use Rattle.std.specs.Prelude.{◌≡◌, ℕ, Bool, List}
 use Rattle.snl_syntax.specs.Programs.{StateSetTree, ProgramTree}
 use Rattle.snl_links.specs.Links.{Link}
 use Rattle.snl_meaning.specs.Keeping.{world_after}
@@ -11,13 +11,13 @@ use Rattle.snl_machine.specs.MachineOf.{IsMachineOf, task_held, task_of}
 
 -- A machine of a program runs what the program means on its tree.
 abbrev pub RunsItsProgram : Type 0
-RunsItsProgram = (p : ProgramTree) (ls : List Link) (budget : ℕ) (m : Machine) → IsMachineOf p ls budget m → task_held m ≡ task_of p ls
+RunsItsProgram = (p : ProgramTree) (ls : List Link) (waits : Bool) (budget : ℕ) (m : Machine) → IsMachineOf p ls waits budget m → task_held m ≡ task_of p ls waits
 
 -- A machine that has the plan, the code, the names and the budget of another one is a machine of whatever that one is.
 abbrev pub StaysItsMachine : Type 0
-StaysItsMachine = (p : ProgramTree) (ls : List Link) (budget : ℕ) (old new : Machine) →
+StaysItsMachine = (p : ProgramTree) (ls : List Link) (waits : Bool) (budget : ℕ) (old new : Machine) →
     new.plan ≡ old.plan → new.code ≡ old.code → new.names ≡ old.names → new.budget ≡ old.budget →
-    IsMachineOf p ls budget old → IsMachineOf p ls budget new
+    IsMachineOf p ls waits budget old → IsMachineOf p ls waits budget new
 
 -- A turn of a state set changes nothing of the copy of another one: all that passes between them is event flags, buffers and
 -- marks.

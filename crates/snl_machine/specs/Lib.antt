@@ -1,7 +1,7 @@
 pub mod Holding
 pub mod MachineOf
 pub mod Lookup
-pub mod IfRun
+pub mod Loading
 pub mod Laws
 pub mod Rounds
 pub mod Ranges

@@ -1,5 +1,5 @@
 -- What a machine holds: what it runs, and the world that its run has come to.
-use Rattle.std.specs.Prelude.{◌≡◌, ℕ, List}
+use Rattle.std.specs.Prelude.{◌≡◌, ℕ, Bool, List}
 use Rattle.snl_syntax.specs.Programs.{ProgramTree}
 use Rattle.snl_links.specs.Links.{Link}
 use Rattle.snl_meaning.specs.World.{World}
@@ -22,17 +22,17 @@ pub record Task : Type 0 where
 abbrev pub task_held : Machine → Task
 task_held m = record { program = program_of (loaded_by m.plan m.code); channels = names_in m.names }
 
--- and what a program with these links means on its tree.
-abbrev pub task_of : ProgramTree → List Link → Task
-task_of p ls = record { program = program_meaning p ls; channels = channels ls }
+-- and what a program with these links means on its tree, where it waits for its channels or does not.
+abbrev pub task_of : ProgramTree → List Link → Bool → Task
+task_of p ls waits = record { program = program_meaning p ls waits; channels = channels ls }
 
 -- The world that a machine's run has come to.
 abbrev pub world_held : Machine → World
 world_held m = world_of m.store
 
--- A machine is one of a program, links and a budget: its code is right for the program, its plan, names and links are the
--- program's, and it has that budget.
-pub record IsMachineOf (p : ProgramTree) (ls : List Link) (budget : ℕ) (m : Machine) : Type 0 where
-  pub loaded : IsLoadedOf p ls m.code (loaded_by m.plan m.code)
+-- A machine is one of a program, links and a budget, and waits for its channels or does not: its code is right for the
+-- program, its plan, names and links are the program's, and it has that budget.
+pub record IsMachineOf (p : ProgramTree) (ls : List Link) (waits : Bool) (budget : ℕ) (m : Machine) : Type 0 where
+  pub loaded : IsLoadedOf p ls waits m.code (loaded_by m.plan m.code)
   pub channels_are : names_in m.names ≡ channels ls
   pub budget_is : m.budget ≡ budget

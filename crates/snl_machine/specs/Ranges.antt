@@ -1,5 +1,6 @@
--- Laws of values: no variable of a copy ever holds a number that its type does not have.
-use Rattle.std.specs.Prelude.{◌≡◌, ◌<◌, ◌≤◌, ◌+◌, ◌-◌, ◌^◌, ◌&&◌, int_le, true, ℕ, ℤ, pos, List, [], ◌∷◌, length, Some, slice_get, slice_index_or}
+-- Laws of values: no variable, no buffer and no queue ever holds a number that its type does not have, and no queue more items
+-- than it can.
+use Rattle.std.specs.Prelude.{◌≡◌, ◌<◌, ◌≤◌, ◌+◌, ◌-◌, ◌^◌, ◌&&◌, int_le, Bool, true, ℕ, ℤ, pos, All, List, [], ◌∷◌, length, Some, slice_get, slice_index_or}
 use Rattle.snl_syntax.specs.Programs.{ProgramTree}
 use Rattle.snl_code.specs.Heres.{here_in}
 use Rattle.snl_schedule.specs.declared.events.Event.{Event}
@@ -10,7 +11,7 @@ use Rattle.snl_meaning.specs.declared.names.Placed.{Placed}
 use Rattle.snl_meaning.specs.Keeping.{PiecesKeep, world_after}
 use Rattle.snl_meaning.specs.Laws.{words_of}
 use Rattle.snl_meaning.specs.Names.{variable_in}
-use Rattle.snl_meaning.specs.World.{World, copy_of}
+use Rattle.snl_meaning.specs.World.{Queue, World, copy_of}
 use Rattle.snl_load.specs.First.{first_world_of}
 use Rattle.snl_load.specs.Initials.{held_among, held_sets}
 use Rattle.snl_load.specs.Meaning.{program_meaning}
@@ -38,20 +39,32 @@ pub record IsSized (p : ProgramTree) : Type 0 where
   pub some : (set i : ℕ) (x : Placed) → slice_get (placed_in p set) i ≡ Some x → 0 < x.variable.size
   pub zero : (set i : ℕ) (x : Placed) → slice_get (placed_in p set) i ≡ Some x → Has x.variable (pos 0)
 
--- What holds that before a condition or a block holds it after, also where the piece comes to a fault.
-abbrev pub PiecesFit : Type 0
-PiecesFit = (p : ProgramTree) (set : ℕ) → IsSized p → PiecesKeep (here_in p set) (λ w u. AllFit p w → AllFit p u)
-
 -- ---- links
 
 -- Each word of a link's buffer is a number that the link's type has.
 abbrev pub BuffersFit : List Tied → List ℤ → Type 0
 BuffersFit ties buffers = (i k : ℕ) (l : Tied) → slice_get ties i ≡ Some l → k < l.count → is_in l (slice_index_or buffers (l.from + k) (pos 0)) ≡ true
 
--- Copies and buffers hold what their types have; what links are tied to, and where their elements stand, is as the program
--- says.
+-- An item of a link has as many numbers as the link has elements, and the link's type has each of them.
+abbrev pub ItemFits : Tied → List ℤ → Type 0
+ItemFits t item = (length item ≡ t.count) × All (λ z. is_in t z ≡ true) item
+
+-- The queue of a link holds such items, and no more of them than it can hold.
+pub record QueueFits (t : Tied) (q : Queue) : Type 0 where
+  pub width : q.width ≡ t.count
+  pub few : length q.items ≤ q.size
+  pub items : All (ItemFits t) q.items
+
+-- So do all queues.
+abbrev pub QueuesFit : List Tied → List Queue → Type 0
+QueuesFit ties queues = (i : ℕ) (t : Tied) (q : Queue) → slice_get ties i ≡ Some t → slice_get queues i ≡ Some q → QueueFits t q
+
+-- Copies, buffers and queues hold what their types have; what links are tied to, and where their elements stand, is as the
+-- program says.
 abbrev pub Holds : ProgramTree → List Link → World → Type 0
-Holds p ls w = AllFit p w × BuffersFit (ties_in p ls) w.buffers × (w.ties ≡ ties_in p ls) × (w.homes ≡ homes_in (placed_sets p 0 p.state_sets) ls)
+Holds p ls w =
+    AllFit p w × BuffersFit (ties_in p ls) w.buffers × (w.ties ≡ ties_in p ls) × (w.homes ≡ homes_in (placed_sets p 0 p.state_sets) ls)
+    × QueuesFit (ties_in p ls) w.queues
 
 -- How many words the buffers of some links have.
 abbrev pub counts : List Link → ℕ
@@ -71,21 +84,25 @@ abbrev pub AreHeld : ProgramTree → List Link → Type 0
 AreHeld p ls = (i : ℕ) (l : Link) (t : Tied) → slice_get ls i ≡ Some l → slice_get (ties_in p ls) i ≡ Some t →
     (v : Held) × (held_among (held_sets p 0 p.state_sets) l.variable.offset ≡ Some v) × (t.least ≡ v.range.0) × (t.greatest ≡ v.range.1) × (is_in t (pos 0) ≡ true)
 
--- Before the first event copies and buffers hold what their types have.
+-- Before the first event copies, buffers and queues hold what their types have.
 abbrev pub FirstHolds : Type 0
 FirstHolds = (p : ProgramTree) (ls : List Link) → IsSized p → IsTied p ls → AreHeld p ls → Holds p ls (first_world_of p ls)
 
+-- What holds that before a condition or a block holds it after, also where the piece comes to a fault.
+abbrev pub PiecesFit : Type 0
+PiecesFit = (p : ProgramTree) (ls : List Link) (set : ℕ) → IsSized p → IsTied p ls → PiecesKeep (here_in p set) (λ w u. Holds p ls w → Holds p ls u)
+
 -- A line of a trace keeps it: what holds that before an event that fits holds it after, also where the run comes to a fault.
 abbrev pub EventsFit : Type 0
-EventsFit = (p : ProgramTree) (ls : List Link) (budget ms : ℕ) (event : Event) (w : World) → IsSized p → IsTied p ls →
-    is_event_fit (length (channels ls)) (ties_in p ls) event ≡ true → Holds p ls w → Holds p ls (world_after (line_of (program_meaning p ls) budget ms event w))
+EventsFit = (p : ProgramTree) (ls : List Link) (waits : Bool) (budget ms : ℕ) (event : Event) (w : World) → IsSized p → IsTied p ls →
+    is_event_fit (length (channels ls)) (ties_in p ls) event ≡ true → Holds p ls w → Holds p ls (world_after (line_of (program_meaning p ls waits) budget ms event w))
 
 -- The worlds that a run comes to, over whatever lines, as long as each event fits: the first one, and those after a line.
-pub data Reached (p : ProgramTree) (ls : List Link) (budget : ℕ) : World → Type 0 where
-  Begins : Reached p ls budget (first_world_of p ls)
-  GoesOn : (w : World) (ms : ℕ) (event : Event) → Reached p ls budget w → is_event_fit (length (channels ls)) (ties_in p ls) event ≡ true →
-      Reached p ls budget (world_after (line_of (program_meaning p ls) budget ms event w))
+pub data Reached (p : ProgramTree) (ls : List Link) (waits : Bool) (budget : ℕ) : World → Type 0 where
+  Begins : Reached p ls waits budget (first_world_of p ls)
+  GoesOn : (w : World) (ms : ℕ) (event : Event) → Reached p ls waits budget w → is_event_fit (length (channels ls)) (ties_in p ls) event ≡ true →
+      Reached p ls waits budget (world_after (line_of (program_meaning p ls waits) budget ms event w))
 
--- In all of them each variable and each buffer holds what its type has.
+-- In all of them each variable, each buffer and each queue holds what its type has.
 abbrev pub ReachedHold : Type 0
-ReachedHold = (p : ProgramTree) (ls : List Link) (budget : ℕ) (w : World) → IsSized p → IsTied p ls → AreHeld p ls → Reached p ls budget w → Holds p ls w
+ReachedHold = (p : ProgramTree) (ls : List Link) (waits : Bool) (budget : ℕ) (w : World) → IsSized p → IsTied p ls → AreHeld p ls → Reached p ls waits budget w → Holds p ls w

@@ -1,5 +1,5 @@
 -- Laws of whole instants: their rounds end by themselves, and they spend no more than the budget.
-use Rattle.std.specs.Prelude.{◌≡◌, ◌≤◌, ℕ, List, []}
+use Rattle.std.specs.Prelude.{◌≡◌, ◌≤◌, ℕ, Bool, List, []}
 use Rattle.snl_syntax.specs.Programs.{ProgramTree}
 use Rattle.snl_links.specs.Links.{Link}
 use Rattle.snl_meaning.specs.declared.faults.Fault.{Fault}
@@ -25,9 +25,9 @@ pub data Rounds (p : Program) : World → Ran (Unit {0}) → Type 0 where
 -- The rounds of an instant end because one has no transition, leads out of the program, or faults: never because the
 -- number of rounds is used up that `all_rounds` allows.
 abbrev pub RoundsEnd : Type 0
-RoundsEnd = (p : ProgramTree) (ls : List Link) (w : World) → Rounds (program_meaning p ls) w (all_rounds (program_meaning p ls) w)
+RoundsEnd = (p : ProgramTree) (ls : List Link) (waits : Bool) (w : World) → Rounds (program_meaning p ls waits) w (all_rounds (program_meaning p ls waits) w)
 
 -- An instant, which begins with the budget, leaves no more than that: no tick is ever given back. Where none is left, each
 -- transition and each turn of a loop is a fault; so an instant never takes more of them than the budget.
 abbrev pub TicksWithinBudget : Type 0
-TicksWithinBudget = (p : ProgramTree) (ls : List Link) (budget : ℕ) (w : World) → (world_after (instant_of (program_meaning p ls) budget w)).ticks ≤ budget
+TicksWithinBudget = (p : ProgramTree) (ls : List Link) (waits : Bool) (budget : ℕ) (w : World) → (world_after (instant_of (program_meaning p ls waits) budget w)).ticks ≤ budget

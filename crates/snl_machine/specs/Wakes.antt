@@ -1,5 +1,5 @@
 -- Laws of time: wakes ascend and end by themselves, and time never falls.
-use Rattle.std.specs.Prelude.{◌≡◌, ◌≤◌, ◌<◌, ℕ, List, [], Option, None, Some}
+use Rattle.std.specs.Prelude.{◌≡◌, ◌≤◌, ◌<◌, ℕ, Bool, List, [], Option, None, Some}
 use Rattle.snl_syntax.specs.Programs.{ProgramTree}
 use Rattle.snl_links.specs.Links.{Link}
 use Rattle.snl_meaning.specs.declared.faults.Fault.{Fault}
@@ -39,29 +39,29 @@ IsWakeLater w = (n : ℕ) → w.phase ≡ Running → w.wake ≡ Some n → w.ti
 
 -- So it does in all worlds that a run comes to.
 abbrev pub WakesLieLater : Type 0
-WakesLieLater = (p : ProgramTree) (ls : List Link) (budget : ℕ) (w : World) → Reached p ls budget w → IsWakeLater w
+WakesLieLater = (p : ProgramTree) (ls : List Link) (waits : Bool) (budget : ℕ) (w : World) → Reached p ls waits budget w → IsWakeLater w
 
 -- After a line the wake lies after now again.
 abbrev pub WakesStayLater : Type 0
-WakesStayLater = (p : ProgramTree) (ls : List Link) (budget ms : ℕ) (event : Event) (w : World) → IsWakeLater w →
-    IsWakeLater (world_after (line_of (program_meaning p ls) budget ms event w))
+WakesStayLater = (p : ProgramTree) (ls : List Link) (waits : Bool) (budget ms : ℕ) (event : Event) (w : World) → IsWakeLater w →
+    IsWakeLater (world_after (line_of (program_meaning p ls waits) budget ms event w))
 
 -- All wakes before a time are run: they never end because there are no more than `all_wakes` allows.
 abbrev pub WakesEnd : Type 0
-WakesEnd = (p : ProgramTree) (ls : List Link) (budget ms : ℕ) (w : World) → IsWakeLater w →
-    Wakes (program_meaning p ls) budget ms w (all_wakes (program_meaning p ls) budget ms w)
+WakesEnd = (p : ProgramTree) (ls : List Link) (waits : Bool) (budget ms : ℕ) (w : World) → IsWakeLater w →
+    Wakes (program_meaning p ls waits) budget ms w (all_wakes (program_meaning p ls waits) budget ms w)
 
 -- Time never falls, and never passes that of the event, as long as no event comes before the time of the last one.
 abbrev pub TimeNeverFalls : Type 0
-TimeNeverFalls = (p : ProgramTree) (ls : List Link) (budget ms : ℕ) (event : Event) (w : World) → IsWakeLater w → w.time ≤ ms →
-    (w.time ≤ (world_after (line_of (program_meaning p ls) budget ms event w)).time) × ((world_after (line_of (program_meaning p ls) budget ms event w)).time ≤ ms)
+TimeNeverFalls = (p : ProgramTree) (ls : List Link) (waits : Bool) (budget ms : ℕ) (event : Event) (w : World) → IsWakeLater w → w.time ≤ ms →
+    (w.time ≤ (world_after (line_of (program_meaning p ls waits) budget ms event w)).time) × ((world_after (line_of (program_meaning p ls waits) budget ms event w)).time ≤ ms)
 
 -- After a line the time is that of its event, unless the program has ended: it may have done so at a wake before.
 abbrev pub TimeIsTheEvents : Type 0
-TimeIsTheEvents = (p : ProgramTree) (ls : List Link) (budget ms : ℕ) (event : Event) (w : World) → IsWakeLater w →
-    ((world_after (line_of (program_meaning p ls) budget ms event w)).phase ≡ Ended → ⊥) → (world_after (line_of (program_meaning p ls) budget ms event w)).time ≡ ms
+TimeIsTheEvents = (p : ProgramTree) (ls : List Link) (waits : Bool) (budget ms : ℕ) (event : Event) (w : World) → IsWakeLater w →
+    ((world_after (line_of (program_meaning p ls waits) budget ms event w)).phase ≡ Ended → ⊥) → (world_after (line_of (program_meaning p ls waits) budget ms event w)).time ≡ ms
 
 -- Where no wake comes before the event, and the program had not ended, the time is that of the event, also where that ends it.
 abbrev pub TimeIsTheEventsAlone : Type 0
-TimeIsTheEventsAlone = (p : ProgramTree) (ls : List Link) (budget ms : ℕ) (event : Event) (w : World) →
-    wake_before ms w ≡ None → (w.phase ≡ Ended → ⊥) → (world_after (line_of (program_meaning p ls) budget ms event w)).time ≡ ms
+TimeIsTheEventsAlone = (p : ProgramTree) (ls : List Link) (waits : Bool) (budget ms : ℕ) (event : Event) (w : World) →
+    wake_before ms w ≡ None → (w.phase ≡ Ended → ⊥) → (world_after (line_of (program_meaning p ls waits) budget ms event w)).time ≡ ms

@@ -1,8 +1,8 @@
 //! The events that a machine takes, and what it tells.
 
-ghost use Rattle.std.specs.Prelude.{◌≡◌, ◌-◌, ◌^◌, ◌<◌, true, IfOk, OnErr};
+ghost use Rattle.std.specs.Prelude.{◌≡◌, ◌-◌, ◌^◌, ◌<◌, IfOk, OnErr};
 ghost use Rattle.snl_syntax.specs.view.Programs.{program_view};
-ghost use Rattle.snl_check.specs.Runs.{does_run};
+ghost use Rattle.snl_check.specs.Waits.{waits};
 ghost use Rattle.snl_schedule.specs.Event.{line_of};
 ghost use Rattle.snl_links.specs.Links.{links};
 ghost use Rattle.snl_output.specs.Devices.{counted, stopped_by_sink};
@@ -22,9 +22,10 @@ use snl_schedule::{Event, ProgramContext, fits, take};
 use std::alloc::{AllocError, Global};
 
 impl Machine {
-    /// Makes the machine of a program that runs, with the macros of the run. It waits for its start. All the room that a
-    /// run takes is made here, and nothing of the program or of its source is kept. The budget is the number of ticks that
-    /// one instant may take, 1 to 1,000,000,000.
+    /// Makes the machine of a checked program, with the macros of the run. It has not started: it waits for its channels
+    /// then, but under the option `-c` (Compiling SNL Programs, "Options"). All the room that a run takes is made here, and
+    /// nothing of the program or of its source is kept. The budget is the number of ticks that one instant may take, 1 to
+    /// 1,000,000,000.
     ///
     /// Fails only where that room was not to be had.
     pub fn load<'a>(
@@ -33,14 +34,14 @@ impl Machine {
         macros: &Macros,
         budget: u32,
     ) -> Result<Machine, AllocError>
-        requires runs { does_run checked.now.options (program_view checked.now.program) ≡ true }
         ensures made { IfOk result (IsMachineOf (program_view checked.now.program)
-            (links (program_view checked.now.program) macros.now.text.now) budget) }
+            (links (program_view checked.now.program) macros.now.text.now)
+            (waits checked.now.options) budget) }
         ensures first { IfOk result (λ machine. world_held machine
             ≡ first_world_of (program_view checked.now.program)
             (links (program_view checked.now.program) macros.now.text.now)) }
     {
-        machine_of(alloc, checked.program(), macros, budget)
+        machine_of(alloc, checked.program(), macros, checked.waits(), budget)
     }
 
     /// The number of the channel of a name; None where the program uses no such channel. Channels have the numbers from 0

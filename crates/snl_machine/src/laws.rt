@@ -6,7 +6,6 @@ ghost use Rattle.snl_machine.specs.Rounds.{RoundsEnd, TicksWithinBudget};
 ghost use Rattle.snl_machine.specs.Wakes.{TimeIsTheEvents, TimeIsTheEventsAlone, TimeNeverFalls, WakesEnd, WakesLieLater, WakesStayLater};
 
 /// A machine of a program runs what the program means on its tree.
-#[tactic(auto, using(crate::proofs::Tasks::runs_its_program))]
 pub fn runs_its_program()
     ensures { RunsItsProgram }
 {}
@@ -72,7 +71,7 @@ pub fn first_holds()
 {}
 
 /// No condition and no block stores a number that the type of its variable does not have, also where it comes to a fault.
-#[tactic(auto, using(crate::proofs::Fitting::pieces_fit))]
+#[tactic(auto, using(crate::proofs::Lines::pieces_fit))]
 pub fn pieces_fit()
     ensures { PiecesFit }
 {}

@@ -10,3 +10,4 @@ pub mod Texts
 pub mod Apart
 pub mod Keeping
 pub mod Forgetting
+pub mod Histories

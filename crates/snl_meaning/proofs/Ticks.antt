@@ -9,7 +9,8 @@ use Rattle.snl_meaning.specs.Effect.{held_by, evaluated, effect_of}
 use Rattle.snl_meaning.specs.Keeping.{IsKept, MayStore, world_after}
 use Rattle.snl_meaning.specs.Names.{Here}
 use Rattle.snl_meaning.specs.Ran.{Ran, Gives, Faults}
-use Rattle.snl_meaning.specs.Words.{operated, operated_prefix, subscript, stored, adjusted, put_to, put_element, asked, waited, spent_of, spent}
+use Rattle.snl_meaning.specs.Words.{operated, operated_prefix, subscript, stored, adjusted, put_to, put_element, waited, spent_of, spent}
+use Rattle.snl_meaning.specs.Asking.{asked, ask_variable, ask_element}
 use Rattle.snl_meaning.specs.World.{World}
 use Rattle.snl_meaning.proofs.EffectKeeps as effects
 use Rattle.snl_meaning.proofs.WordKeeps as words
@@ -48,6 +49,10 @@ ticks-kept set = record {
   clears = λ v w ok. omega arith;
   signals = λ flag now w. omega arith;
   fills = λ place link t w home is. omega arith;
+  enqueues = λ place link t w home is queued. omega arith;
+  fetches = λ place link t w home is. omega arith;
+  takes = λ place link t item more w home is has. omega arith;
+  flushes = λ link w. omega arith;
   marks = λ marks w. omega arith;
   notes = λ t w late. omega arith;
   spends = λ left w is. omega (arith, is);
@@ -105,6 +110,14 @@ keeps-put_element set v k = few (put_element set v k) (words.keeps-put_element s
 -- what is asked or told of a flag
 pub keeps-asked : (query : Query) (flag : ℕ) → Keeps (asked query flag)
 keeps-asked query flag = few (asked query flag) (words.keeps-asked 0 Any NoMore (ticks-kept 0) query flag)
+
+-- of the link of a variable
+pub keeps-ask_variable : (query : Query) (set : ℕ) (v : Variable) → Keeps (ask_variable query set v)
+keeps-ask_variable query set v = few (ask_variable query set v) (words.keeps-ask_variable set Any NoMore (ticks-kept set) query v)
+
+-- of that of an element
+pub keeps-ask_element : (query : Query) (set : ℕ) (v : Variable) (k : ℤ) → Keeps (ask_element query set v k)
+keeps-ask_element query set v k = few (ask_element query set v k) (words.keeps-ask_element set Any NoMore (ticks-kept set) query v k)
 
 -- `delay`
 pub keeps-waited : (set : ℕ) (in_seconds : Bool) (z : ℤ) → Keeps (waited set in_seconds z)

@@ -12,11 +12,11 @@ use Rattle.snl_meaning.specs.Names.{Here, Varies, variable_at, variable_by, sens
 use Rattle.snl_meaning.specs.Ran.{Ran}
 use Rattle.snl_resolve.specs.Builtins.{builtin_of}
 use Rattle.snl_resolve.specs.declared.builtins.Query.{Query}
-use Rattle.snl_meaning.specs.Value.{OnVariable, OnElement, joint_of, compound_of, sign_of, is_decimal, joined_by, either, value_of, chained, at_target, print_of, printing_with, wait_of, put_of, ask_at, ask_of}
+use Rattle.snl_meaning.specs.Value.{OnVariable, OnElement, joint_of, compound_of, sign_of, is_decimal, joined_by, either, value_of, chained, at_target, print_of, printing_with, wait_of, put_of, ask_flag, ask_of}
 use Rattle.snl_meaning.specs.Words.{gives, is_subscript, read}
 use Rattle.snl_meaning.specs.World.{World}
 use Rattle.snl_meaning.specs.Keeping.{IsKept, MayStore}
-use Rattle.snl_meaning.proofs.WordKeeps.{Keeps, KeepsOn, keeps-then, keeps-here, keeps-read, keeps-adjusted, keeps-joined, keeps-put, keeps-at_subscript, keeps-at_name, keeps-named, keeps-signed, keeps-called, keeps-put_to, keeps-put_element, keeps-asked, keeps-waited, after-test}
+use Rattle.snl_meaning.proofs.WordKeeps.{Keeps, KeepsOn, keeps-then, keeps-here, keeps-read, keeps-adjusted, keeps-joined, keeps-put, keeps-at_subscript, keeps-at_name, keeps-named, keeps-signed, keeps-called, keeps-put_to, keeps-put_element, keeps-asked, keeps-ask_variable, keeps-ask_element, keeps-waited, after-test}
 
 -- what a name means is a variable of the copy
 pub sense-held : (h : Here) (o : Option Pos) (number : Option ℤ) (v : Variable) → sense_by (variable_by h o) number ≡ Varies v → (offset : ℕ) × (variable_at h offset ≡ Some v)
@@ -37,23 +37,17 @@ module _ (h : Here) (May : Variable → ℤ → Type 0) (R : World → World →
   may-element x v k is within = let at = sense-held h (declared_in x.pos.offset h.sites) (predefined x.text.now) v is in may.element at.0 v k at.1 within
 
   -- what is asked of a flag, by an expression
-  ask_at-keeps : (e : ExprTree) (query : Query) → Keeps R (ask_at h e query)
-  ask_at-keeps (named x) query w = keeps-asked h.set May R kept query (flag_number h x) w
-  ask_at-keeps (constant t) query w = kept.nothing w
-  ask_at-keeps (parenthesized e) query w = kept.nothing w
-  ask_at-keeps (element x b e) query w = kept.nothing w
-  ask_at-keeps (call f all) query w = kept.nothing w
-  ask_at-keeps (postfix e op) query w = kept.nothing w
-  ask_at-keeps (prefix op e) query w = kept.nothing w
-  ask_at-keeps (chain e rest) query w = kept.nothing w
-  ask_at-keeps (conditional c a b) query w = kept.nothing w
-  ask_at-keeps (assignment e op r) query w = kept.nothing w
-
-  -- by an argument
-  ask-keeps : (all : ArgumentList) (query : Query) → Keeps R (ask_of h all query)
-  ask-keeps no_arguments query w = kept.nothing w
-  ask-keeps (text t rest) query w = kept.nothing w
-  ask-keeps (value e rest) query w = ask_at-keeps e query w
+  flag-keeps : (e : ExprTree) (query : Query) → Keeps R (ask_flag h e query)
+  flag-keeps (parenthesized e) query w = flag-keeps e query w
+  flag-keeps (named x) query w = keeps-asked h.set May R kept query (flag_number h x) w
+  flag-keeps (constant t) query w = kept.nothing w
+  flag-keeps (element x b e) query w = kept.nothing w
+  flag-keeps (call f all) query w = kept.nothing w
+  flag-keeps (postfix e op) query w = kept.nothing w
+  flag-keeps (prefix op e) query w = kept.nothing w
+  flag-keeps (chain e rest) query w = kept.nothing w
+  flag-keeps (conditional c a b) query w = kept.nothing w
+  flag-keeps (assignment e op r) query w = kept.nothing w
 
   mutual
     -- an expression
@@ -131,3 +125,11 @@ module _ (h : Here) (May : Variable → ℤ → Type 0) (R : World → World →
     put-keeps (value e rest) w =
         target-keeps e _ _ (gives (pos 0)) (λ v x ok. keeps-put_to h.set May R kept v)
         (λ v x k ok. keeps-put_element h.set May R kept v k) (keeps-here h.set May R kept (pos 0)) w
+
+    -- a call that asks
+    ask-keeps : (all : ArgumentList) (query : Query) → Keeps R (ask_of h all query)
+    ask-keeps no_arguments query w = keeps-asked h.set May R kept query 0 w
+    ask-keeps (text t rest) query w = kept.nothing w
+    ask-keeps (value e rest) query w =
+        target-keeps e _ _ (ask_flag h e query) (λ v x ok. keeps-ask_variable h.set May R kept query v)
+        (λ v x k ok. keeps-ask_element h.set May R kept query v k) (flag-keeps e query) w

@@ -89,6 +89,7 @@ flagged now first last ticks due = record {
   homes = (Some 0 ∷ Some 1 ∷ None ∷ []) ∷ [];
   buffers = pos 0 ∷ pos 0 ∷ pos 0 ∷ pos 0 ∷ [];
   marks = [];
+  queues = [];
 }
 
 -- the same with a flag that is not set

@@ -1,5 +1,5 @@
 -- What the pieces of a program can change: a relation that each single change keeps is kept by all of them.
-use Rattle.std.specs.Prelude.{◌≡◌, ◌≤◌, ◌&&◌, int_le, Bool, true, false, ℕ, suc, ℤ, pos, List, Option, Some, slice_get}
+use Rattle.std.specs.Prelude.{◌≡◌, ◌≤◌, ◌&&◌, int_le, Bool, true, false, ℕ, suc, ℤ, pos, List, [], ◌∷◌, Option, Some, slice_get}
 use Rattle.snl_syntax.specs.Expressions.{ExprTree}
 use Rattle.snl_syntax.specs.Statements.{BlockTree}
 use Rattle.snl_meaning.specs.declared.instrs.Variable.{Variable}
@@ -7,9 +7,9 @@ use Rattle.snl_meaning.specs.Effect.{held_by, block_effect}
 use Rattle.snl_meaning.specs.Names.{Here, variable_at}
 use Rattle.snl_meaning.specs.Ran.{Ran, Gives, Faults}
 use Rattle.snl_meaning.specs.Words.{natural, is_subscript, noted}
-use Rattle.snl_meaning.specs.World.{World, with_element, with_zeros, with_flag}
+use Rattle.snl_meaning.specs.World.{World, copy_of, with_element, with_zeros, with_flag}
 use Rattle.snl_meaning.specs.declared.ties.Tied.{Tied}
-use Rattle.snl_meaning.specs.Links.{home_of, elements_at, with_buffer}
+use Rattle.snl_meaning.specs.Links.{home_of, elements_at, with_elements, buffer_of, with_buffer, queue_of, is_queued, with_items, enqueued}
 
 -- The world that a step leaves, also where it faults.
 abbrev pub world_after : {A : Type 0} → Ran A → World
@@ -18,8 +18,9 @@ world_after (Faults fault line w text) = w
 
 -- A relation between a world and a later one that holds where nothing changes, is handed on from change to change, and
 -- holds of each single change: a number is stored in an element that may be stored to and whose type has it, a variable is
--- 0 again, an event flag is set or cleared, elements of a link come from the copy to its buffer, links are marked, a due
--- time that has not come is noted, a tick is spent.
+-- 0 again, an event flag is set or cleared, elements of a link come from the copy to its buffer or to its queue, or from its
+-- buffer or from its queue to the copy, a queue is emptied, links are marked, a due time that has not come is noted, a tick is
+-- spent.
 pub record IsKept (set : ℕ) (May : Variable → ℤ → Type 0) (R : World → World → Type 0) : Type 0 where
   pub nothing : (w : World) → R w w
   pub both : (u v w : World) → R u v → R v w → R u w
@@ -28,6 +29,13 @@ pub record IsKept (set : ℕ) (May : Variable → ℤ → Type 0) (R : World →
   pub signals : (flag : ℕ) (now : Bool) (w : World) → R w (with_flag flag now w)
   pub fills : (place link : ℕ) (t : Tied) (w : World) → home_of set link w ≡ Some place → slice_get w.ties link ≡ Some t →
       R w (with_buffer t (elements_at set place t w) w)
+  pub enqueues : (place link : ℕ) (t : Tied) (w : World) → home_of set link w ≡ Some place → slice_get w.ties link ≡ Some t → is_queued link w ≡ true →
+      R w (enqueued link (copy_of set w).words place w)
+  pub fetches : (place link : ℕ) (t : Tied) (w : World) → home_of set link w ≡ Some place → slice_get w.ties link ≡ Some t →
+      R w (with_elements set place (buffer_of t w) w)
+  pub takes : (place link : ℕ) (t : Tied) (item : List ℤ) (more : List (List ℤ)) (w : World) → home_of set link w ≡ Some place →
+      slice_get w.ties link ≡ Some t → (queue_of link w).items ≡ item ∷ more → R w (with_items link more (with_elements set place item w))
+  pub flushes : (link : ℕ) (w : World) → R w (with_items link [] w)
   pub marks : (marks : List (List Bool)) (w : World) → R w (record w { marks = marks })
   pub notes : (t : ℤ) (w : World) → int_le t (pos w.time) ≡ false → R w (record w { due = noted t w.due })
   pub spends : (left : ℕ) (w : World) → w.ticks ≡ suc left → R w (record w { ticks = left })

@@ -1,7 +1,9 @@
--- What is done with links: where their elements stand in a copy, their marks, their event flags and their buffers.
-use Rattle.std.specs.Prelude.{ℕ, ◌+◌, ℤ, Bool, true, false, ◌==◌, List, [], ◌∷◌, Option, None, Some, is_some, slice_index_or, slice_set, if◌then◌else◌}
+-- What is done with links: where their elements stand in a copy, their buffers, their marks, their event flags and their
+-- queues.
+use Rattle.std.specs.Prelude.{ℕ, ◌+◌, ℤ, Bool, true, false, ◌==◌, nat_lt, List, [], ◌∷◌, Option, None, Some, is_some, slice_index_or, slice_set, if◌then◌else◌}
 use Rattle.snl_meaning.specs.declared.ties.Tied.{Tied}
-use Rattle.snl_meaning.specs.World.{World, copy_of, words_at, overwritten, with_flag}
+use Rattle.snl_meaning.specs.Queues.{put_in}
+use Rattle.snl_meaning.specs.World.{Queue, World, copy_of, with_words, words_at, overwritten, with_flag}
 
 -- ---- where the elements of a link stand
 
@@ -27,16 +29,59 @@ link_at set place w = link_from 0 (slice_index_or w.homes set []) place
 abbrev pub elements_at : ℕ → ℕ → Tied → World → List ℤ
 elements_at set place t w = words_at (copy_of set w).words place t.count
 
+-- The world in which numbers stand in a state set's copy from a word on.
+abbrev pub with_elements : ℕ → ℕ → List ℤ → World → World
+with_elements set place zs w = with_words set (overwritten (copy_of set w).words place zs) w
+
+-- ---- buffers
+
+-- The numbers in the buffer of a link.
+abbrev pub buffer_of : Tied → World → List ℤ
+buffer_of t w = words_at w.buffers t.from t.count
+
 -- The world in which numbers came to the buffer of a link.
 abbrev pub with_buffer : Tied → List ℤ → World → World
 with_buffer t zs w = record w { buffers = overwritten w.buffers t.from zs }
 
--- ---- new numbers at a link
+-- ---- queues
+
+-- The queue of a link that is not there.
+abbrev pub no_queue : Queue
+no_queue = record { size = 0; width = 0; items = [] }
+
+-- The queue of a link.
+abbrev pub queue_of : ℕ → World → Queue
+queue_of link w = slice_index_or w.queues link no_queue
+
+-- Whether a link has a queue.
+abbrev pub is_queued : ℕ → World → Bool
+is_queued link w = nat_lt 0 (queue_of link w).size
+
+-- The world in which a link's queue holds other items.
+abbrev pub with_items : ℕ → List (List ℤ) → World → World
+with_items link items w = record w { queues = slice_set w.queues link (record (queue_of link w) { items = items }) }
+
+-- A queue after words, from a place on, came to it as one item.
+abbrev pub put_into : List ℤ → ℕ → Queue → Queue
+put_into words place q = record q { items = put_in q.size (words_at words place q.width) q.items }
+
+-- The world in which that came to the queue of a link.
+abbrev pub enqueued : ℕ → List ℤ → ℕ → World → World
+enqueued link words place w = record w { queues = slice_set w.queues link (put_into words place (queue_of link w)) }
+
+-- ---- event flags
 
 -- The world in which an event flag is set, if there is one.
 abbrev pub flagged : Option ℕ → World → World
 flagged None w = w
 flagged (Some flag) w = with_flag flag true w
+
+-- The world in which it is cleared.
+abbrev pub unflagged : Option ℕ → World → World
+unflagged None w = w
+unflagged (Some flag) w = with_flag flag false w
+
+-- ---- new numbers at a link
 
 -- Marks after a link was marked for a state set, if the copy of that has the link's variable.
 abbrev pub marked_at : ℕ → ℕ → List (Option ℕ) → List (List Bool) → List (List Bool)
@@ -65,11 +110,22 @@ all_marked but link w = record w { marks = marked_from but link 0 w.homes w.mark
 abbrev pub marked : Option ℕ → ℕ → Tied → World → World
 marked but link t w = if t.is_monitored then all_marked but link w else w
 
--- Numbers of its channel came to the buffer of a link: where it is monitored, its event flag is set, and it is marked.
-abbrev pub noticed : ℕ → Tied → World → World
-noticed link t w = if t.is_monitored then all_marked None link (flagged t.flag w) else w
+-- What is in the buffer of a link is announced: the whole buffer comes to its queue; where it has none, it is marked.
+abbrev pub announced : ℕ → Tied → World → World
+announced link t w = if is_queued link w then enqueued link w.buffers t.from w else all_marked None link w
 
--- A state set puts the elements of a link that has no channel: they come to its buffer, its event flag is set, whether it is
--- monitored or not, and where it is, it is marked for the other state sets. What the own copy was marked for stays.
+-- Numbers of its channel came to the buffer of a link: where it is monitored, that is announced, and its event flag is set.
+abbrev pub noticed : ℕ → Tied → World → World
+noticed link t w = if t.is_monitored then flagged t.flag (announced link t w) else w
+
+-- The elements of a link stand in its queue, or where it has none in its buffer; then, where it is monitored, it is marked
+-- for the other state sets. What the own copy was marked for stays.
+abbrev pub kept_for : ℕ → ℕ → ℕ → Tied → World → World
+kept_for set place link t w =
+    if is_queued link w then enqueued link (copy_of set w).words place w
+    else marked (Some set) link t (with_buffer t (elements_at set place t w) w)
+
+-- A state set puts the elements of a link that has no channel: they are kept for the others, and its event flag is set,
+-- whether it is monitored or not.
 abbrev pub handed_over : ℕ → ℕ → ℕ → Tied → World → World
-handed_over set place link t w = marked (Some set) link t (flagged t.flag (with_buffer t (elements_at set place t w) w))
+handed_over set place link t w = flagged t.flag (kept_for set place link t w)

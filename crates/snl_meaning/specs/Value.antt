@@ -19,7 +19,8 @@ pub use Rattle.snl_meaning.specs.declared.operators.Sign.{Sign}
 pub use Rattle.snl_meaning.specs.declared.operators.Sign.TheVariants.{Steps, Alone}
 use Rattle.snl_meaning.specs.Names.{Here, Sense, Varies, Stands, sense_of, flag_number, formats_of, format_number, text_of}
 use Rattle.snl_meaning.specs.Ran.{Ran, Gives, then_do}
-use Rattle.snl_meaning.specs.Words.{gives, operated, operated_prefix, settled, subscript, read, stored, adjusted, printed, put_to, put_element, asked, waited}
+use Rattle.snl_meaning.specs.Asking.{asked, ask_variable, ask_element}
+use Rattle.snl_meaning.specs.Words.{gives, operated, operated_prefix, settled, subscript, read, stored, adjusted, printed, put_to, put_element, waited}
 use Rattle.snl_meaning.specs.World.{World}
 
 -- ---- constants
@@ -136,15 +137,11 @@ called (Some Printf) print wait put ask w = print w
 called (Some PvPut) print wait put ask w = put w
 called (Some (Ask query)) print wait put ask w = ask query w
 
--- What is asked of an event flag, by its name.
-abbrev pub ask_at : Here → ExprTree → Query → World → Ran ℤ
-ask_at h (named x) query w = asked query (flag_number h x) w
-ask_at h _ query w = Gives (pos 0) w []
-
--- The same by the argument of a call.
-abbrev pub ask_of : Here → ArgumentList → Query → World → Ran ℤ
-ask_of h (value e rest) query w = ask_at h e query w
-ask_of h _ query w = Gives (pos 0) w []
+-- What is asked of an event flag, by its name, which may stand in parentheses.
+abbrev pub ask_flag : Here → ExprTree → Query → World → Ran ℤ
+ask_flag h (parenthesized e) query w = ask_flag h e query w
+ask_flag h (named x) query w = asked query (flag_number h x) w
+ask_flag h _ query w = Gives (pos 0) w []
 
 -- A decimal constant, also in parentheses.
 abbrev pub is_decimal : ExprTree → Bool
@@ -212,3 +209,11 @@ abbrev mutual
   pub put_of : Here → ArgumentList → World → Ran ℤ
   put_of h (value e rest) w = at_target h e (λ v x. put_to h.set v) (λ v x. put_element h.set v) (gives (pos 0)) w
   put_of h _ w = Gives (pos 0) w []
+
+  -- a call that asks: of the link of a variable or of an element, whose subscript comes first, or of an event flag; without an
+  -- argument, of all links
+  pub ask_of : Here → ArgumentList → Query → World → Ran ℤ
+  ask_of h no_arguments query w = asked query 0 w
+  ask_of h (value e rest) query w =
+      at_target h e (λ v x. ask_variable query h.set v) (λ v x. ask_element query h.set v) (ask_flag h e query) w
+  ask_of h (text t rest) query w = Gives (pos 0) w []

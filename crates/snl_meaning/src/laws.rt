@@ -2,6 +2,8 @@
 
 ghost use Rattle.snl_meaning.specs.Endings.{OnlyTicksLeadBack};
 ghost use Rattle.snl_meaning.specs.Examples.{ExpressionExamples, StatementExamples};
+ghost use Rattle.snl_meaning.specs.LinkExamples.{LinkExamples};
+ghost use Rattle.snl_meaning.specs.Histories.{QueuesKeepOrder};
 ghost use Rattle.snl_meaning.specs.Keeping.{PiecesGiveNoTicks, PiecesKeepThePhase, PiecesKeepTime};
 ghost use Rattle.snl_meaning.specs.Laws.{BlocksForget, TextsAreFound, TurnsAreEnough, VariablesAreApart, VariablesLieWithin};
 
@@ -13,6 +15,11 @@ pub fn only_ticks_lead_back()
 /// What some expressions are worth: order, faults and their lines, `delay`, `printf`.
 pub fn examples_of_expressions()
     ensures { ExpressionExamples }
+{}
+
+/// What some calls that ask and tell of links do: queues, buffers, connections.
+pub fn examples_of_links()
+    ensures { LinkExamples }
 {}
 
 /// What some statements do: loops, ticks, `break`, `continue`, the variables of a block, `state`.
@@ -65,4 +72,10 @@ pub fn pieces_give_no_ticks()
 #[tactic(auto, using(crate::proofs::Forgetting::blocks_forget))]
 pub fn blocks_forget()
     ensures { BlocksForget }
+{}
+
+/// What is taken out of a queue are items that came to it, in their order; as many are missing as came while it was full.
+#[tactic(auto, using(crate::proofs::Histories::queues_keep_order))]
+pub fn queues_keep_order()
+    ensures { QueuesKeepOrder }
 {}

@@ -1,7 +1,7 @@
--- What is said of a source that has no tree, and of a program that does not run yet.
+-- What is said of a source that has no tree.
 use Rattle.std.specs.Prelude.{ℕ, List, [], codes}
 use Rattle.snl_messages.specs.declared.refusals.Refusal.{Refusal}
-use Rattle.snl_messages.specs.declared.refusals.Refusal.TheVariants.{Unexpected, EndOfFile, TooDeep, NoTokens, NotYet}
+use Rattle.snl_messages.specs.declared.refusals.Refusal.TheVariants.{Unexpected, EndOfFile, TooDeep, NoTokens}
 
 -- The number after E.
 abbrev pub number_of : Refusal → ℕ
@@ -9,7 +9,6 @@ number_of Unexpected = 1
 number_of EndOfFile = 1
 number_of TooDeep = 2
 number_of NoTokens = 3
-number_of NotYet = 5
 
 -- The text, or what stands of it before a token that it quotes. A lexical fault tells its own.
 abbrev pub words_of : Refusal → List ℕ
@@ -17,4 +16,3 @@ words_of Unexpected = codes "syntax error at '"
 words_of EndOfFile = codes "syntax error at end of file"
 words_of TooDeep = codes "nesting deeper than 64 at '"
 words_of NoTokens = []
-words_of NotYet = codes "not run yet"

@@ -1,4 +1,4 @@
-//! What is said of a source that has no tree, and of a program that does not run yet: each is the one error of its source.
+//! What is said of a source that has no tree: each is the one error of its source.
 
 ghost use Rattle.std.specs.Prelude.{◌≡◌};
 ghost use Rattle.snl_messages.specs.Refusals as spec;
@@ -14,8 +14,6 @@ pub enum Refusal {
     TooDeep,
     /// E03: the source is no row of tokens; what is wrong is told by the fault.
     NoTokens,
-    /// E05: the program is right, and does not run yet.
-    NotYet,
 }
 
 impl Refusal {
@@ -27,7 +25,6 @@ impl Refusal {
             Refusal::Unexpected | Refusal::EndOfFile => 1,
             Refusal::TooDeep => 2,
             Refusal::NoTokens => 3,
-            Refusal::NotYet => 5,
         }
     }
 
@@ -40,7 +37,6 @@ impl Refusal {
             Refusal::EndOfFile => b"syntax error at end of file",
             Refusal::TooDeep => b"nesting deeper than 64 at '",
             Refusal::NoTokens => b"",
-            Refusal::NotYet => b"not run yet",
         }
     }
 }

@@ -1,7 +1,7 @@
 -- What a refresh and what values leave as it is.
 use Rattle.std.proofs.Common.{◌≡◌, ◌∙◌, ◌+◌, refl, sym, ap, ℕ, ℤ, Bool, true, false, List, [], ◌∷◌, Option, None, Some, take, if◌then◌else◌}
 use Rattle.snl_meaning.specs.declared.ties.Tied.{Tied}
-use Rattle.snl_meaning.specs.Links.{home_of, with_buffer, flagged, all_marked, noticed}
+use Rattle.snl_meaning.specs.Links.{home_of, with_buffer, is_queued, enqueued, flagged, all_marked, announced}
 use Rattle.snl_meaning.specs.World.{World}
 use Rattle.snl_schedule.specs.Arrivals.{is_of, received_link}
 use Rattle.snl_schedule.specs.Laws.{FlagsStay, RefreshWithoutMarks}
@@ -26,6 +26,14 @@ links-flags : (set number : ℕ) (ts : List Tied) (w : World) → (refreshed_fro
 links-flags set number [] w = refl
 links-flags set number (t ∷ ts) w = links-flags set (number + 1) ts (refreshed_link set number t w) ∙ link-flags set number t w
 
+-- what is announced
+announced-flags : (link : ℕ) (t : Tied) (w : World) → (announced link t w).flags ≡ w.flags
+announced-flags link t w = by (is_queued link w)
+  where
+    by : (b : Bool) → (if b then enqueued link w.buffers t.from w else all_marked None link w).flags ≡ w.flags
+    by true = refl
+    by false = refl
+
 -- values at a link without an event flag
 unsynced-flags : (channel : ℕ) (values : List ℤ) (number : ℕ) (t : Tied) (w : World) → t.flag ≡ None → (received_link channel values number t w).flags ≡ w.flags
 unsynced-flags channel values number t w none = by (is_of channel t) t.is_monitored t.flag none
@@ -33,8 +41,8 @@ unsynced-flags channel values number t w none = by (is_of channel t) t.is_monito
     there : World
     there = with_buffer t (take t.count values) w
 
-    by : (b monitored : Bool) (flag : Option ℕ) → flag ≡ None → (if b then (if monitored then all_marked None number (flagged flag there) else there) else w).flags ≡ w.flags
-    by true true None is = refl
+    by : (b monitored : Bool) (flag : Option ℕ) → flag ≡ None → (if b then (if monitored then flagged flag (announced number t there) else there) else w).flags ≡ w.flags
+    by true true None is = announced-flags number t there
     by true true (Some flag) is = absurd (cc)
     by true false flag is = refl
     by false monitored flag is = refl
@@ -46,7 +54,7 @@ unmonitored-flags channel values number t w silent = by (is_of channel t) t.is_m
     there : World
     there = with_buffer t (take t.count values) w
 
-    by : (b monitored : Bool) → monitored ≡ false → (if b then (if monitored then all_marked None number (flagged t.flag there) else there) else w).flags ≡ w.flags
+    by : (b monitored : Bool) → monitored ≡ false → (if b then (if monitored then flagged t.flag (announced number t there) else there) else w).flags ≡ w.flags
     by true true is = absurd (cc)
     by true false is = refl
     by false monitored is = refl

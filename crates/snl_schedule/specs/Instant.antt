@@ -12,11 +12,12 @@ use Rattle.snl_schedule.specs.declared.transitions.Turned.TheVariants.{Stayed, M
 use Rattle.snl_schedule.specs.Refresh.{refreshed}
 use Rattle.snl_schedule.specs.Turn.{StateSet, state_in, entered_in, told_fault, turn_of}
 
--- What a program is to its events: its name, its links and its state sets, each in their order, and its own two blocks,
--- which run on the copy of the first state set.
+-- What a program is to its events: its name, its links and its state sets, each in their order, its own two blocks,
+-- which run on the copy of the first state set, and whether it waits for its channels before it starts.
 pub record Program : Type 0 where
   pub name : List ℕ
   pub links : List Tied
+  pub waits : Bool
   pub entry : World → Ran (Unit {0})
   pub sets : List StateSet
   pub exit : World → Ran (Unit {0})
@@ -92,9 +93,9 @@ is_so known (Some channel) = slice_index_or known channel false
 abbrev pub is_link_ready : World → Tied → Bool
 is_link_ready w l = is_so w.ups l.channel && (is_so w.valued l.channel || not l.is_monitored)
 
--- So are those of all links: the program can start.
+-- So are those of all links, or it does not wait: the program can start.
 abbrev pub is_ready : Program → World → Bool
-is_ready p w = list_all (is_link_ready w) p.links
+is_ready p w = not p.waits || list_all (is_link_ready w) p.links
 
 -- Every state set is refreshed.
 abbrev pub refreshed_sets : List StateSet → World → World

@@ -38,6 +38,7 @@ abbrev pub program_of : Loaded → Program
 program_of t = record {
   name = t.plan.name.items;
   links = t.plan.links.items;
+  waits = t.plan.waits;
   entry = block_at (own_context t) t.code t.plan.blocks.entry;
   sets = sets_from t 0 t.plan.sets.items;
   exit = block_at (own_context t) t.code t.plan.blocks.exit;

@@ -1,8 +1,8 @@
 -- The refresh of a state set: values that came to links are copied into its variables.
 use Rattle.std.specs.Prelude.{ℕ, ◌+◌, Bool, false, List, [], ◌∷◌, Option, None, Some, slice_index_or, slice_set, if◌then◌else◌}
 use Rattle.snl_meaning.specs.declared.ties.Tied.{Tied}
-use Rattle.snl_meaning.specs.Links.{home_of}
-use Rattle.snl_meaning.specs.World.{World, copy_of, with_words, words_at, overwritten}
+use Rattle.snl_meaning.specs.Links.{home_of, with_elements, buffer_of}
+use Rattle.snl_meaning.specs.World.{World}
 
 -- Whether a value came to a link that a state set's copy does not have yet.
 abbrev pub is_marked : ℕ → ℕ → World → Bool
@@ -15,7 +15,7 @@ with_mark set link mark w = record w { marks = slice_set w.marks set (slice_set 
 -- The words of a buffer are copied, where the state set has the variable.
 abbrev pub copied_to : ℕ → Option ℕ → Tied → World → World
 copied_to set None t w = w
-copied_to set (Some home) t w = with_words set (overwritten (copy_of set w).words home (words_at w.buffers t.from t.count)) w
+copied_to set (Some home) t w = with_elements set home (buffer_of t w) w
 
 -- A link of this number: if it is marked, its buffer is copied and the mark is taken away.
 abbrev pub refreshed_link : ℕ → ℕ → Tied → World → World

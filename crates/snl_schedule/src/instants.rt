@@ -169,7 +169,7 @@ pub fn instant<S: Sink>(
         Live::Ended => Ok(()),
         Live::Running => rounds(program, store, operands, sink),
         Live::Waiting => {
-            if !are_ready(program.plan.links.as_slice(), store) {
+            if !are_ready(program.plan.waits, program.plan.links.as_slice(), store) {
                 return Ok(());
             }
             match start(program, store, operands, sink) {

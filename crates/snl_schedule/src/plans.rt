@@ -93,6 +93,8 @@ pub struct Plan {
     pub name: Vec<u8>,
     /// In the order of the `assign` definitions.
     pub links: Vec<Tied>,
+    /// Whether it waits for its channels before it starts: not so under `-c` (Compiling SNL Programs, "Options").
+    pub waits: bool,
     /// Its own blocks, which run on the copy of the first state set.
     pub blocks: Blocks,
     /// In the order of the source.
@@ -119,17 +121,19 @@ impl Plan {
         alloc: Global,
         name: Vec<u8>,
         links: Vec<Tied>,
+        waits: bool,
         blocks: Blocks,
         sets: Vec<SetPlan>,
     ) -> Result<Plan, AllocError>
         ensures { IfOk result (λ plan. (plan.name ≡ name) × (plan.links ≡ links)
-            × (plan.blocks ≡ blocks) × (plan.sets ≡ sets)) }
+            × (plan.waits ≡ waits) × (plan.blocks ≡ blocks) × (plan.sets ≡ sets)) }
     {
         let channels = channels_of(alloc, links.as_slice())?;
         let rows = Rows::new(alloc, channels.as_slice())?;
         Ok(Plan {
             name,
             links,
+            waits,
             blocks,
             sets,
             rows,

@@ -7,17 +7,14 @@ ghost use Rattle.snl_vm.specs.Marks.{IsFirst};
 ghost use Rattle.snl_schedule.specs.Refresh as spec;
 
 use snl_meaning::Tied;
-use snl_vm::{Store, overwrite};
+use snl_vm::{Store, fetch};
 
 /// Copies the buffer of a link into a copy, from a word on, if the copy has the link's variable.
 fn copy_link(home: Option<usize>, tie: Tied, set: usize, store: &mut Store)
     ensures { world_of store.new ≡ spec.copied_to set home tie (world_of store.old) }
 {
-    let buffers = store.buffers.as_slice();
     if let Some(home) = home {
-        if let Some(copy) = store.copies.get_mut(set) {
-            overwrite(&mut copy.words, home, buffers, tie.from, tie.count);
-        }
+        fetch(set, home, tie, store);
     }
 }
 

@@ -1,6 +1,6 @@
 //! The start of a program, once its channels are there.
 
-ghost use Rattle.std.specs.Prelude.{◌≡◌, ◌-◌, ◌^◌, ◌<◌, false, is_none, IfSome, Some, option_map, slice_get};
+ghost use Rattle.std.specs.Prelude.{◌≡◌, ◌-◌, ◌^◌, ◌<◌, ◌||◌, false, not, is_none, IfSome, Some, option_map, slice_get};
 ghost use Rattle.std.specs.Bool.{OnTrue};
 ghost use Rattle.std.specs.List.{list_all};
 ghost use Rattle.snl_output.specs.Devices.{counted, stopped_by_sink};
@@ -63,12 +63,16 @@ fn first_missing(links: &[Tied], store: &Store) -> Option<usize>
     None
 }
 
-/// Whether those of all links are. The link that was not when this was last asked is looked at first, so as long as it
+/// Whether a program can start: it does not wait, or its links are ready. The link that was not when this was last asked is looked at first, so as long as it
 /// is not ready no other one is looked at.
-pub fn are_ready(links: &[Tied], store: &mut Store) -> bool
-    ensures value { result ≡ list_all (spec.is_link_ready (world_of store.old)) links.now }
+pub fn are_ready(waits: bool, links: &[Tied], store: &mut Store) -> bool
+    ensures value { result
+        ≡ (not waits || list_all (spec.is_link_ready (world_of store.old)) links.now) }
     ensures same { world_of store.new ≡ world_of store.old }
 {
+    if !waits {
+        return true;
+    }
     if is_awaited(links, store) {
         return false;
     }

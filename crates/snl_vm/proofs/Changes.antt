@@ -9,6 +9,12 @@ view_changed view [] i x new d change within is changed = absurd (omega (arith, 
 view_changed view (y ∷ ys) zero x new d change within is changed = ap (λ k. k ∷ map view ys) (changed ∙ ap (λ z. change (view z)) is)
 view_changed view (y ∷ ys) (suc i) x new d change within is changed = ap (λ ks. view y ∷ ks) (view_changed view ys i x new d change (omega (arith, within)) is changed)
 
+-- the view of a member
+pub view_there : {A B : Type 0} (view : A → B) (xs : List A) (i : ℕ) (x : A) (d : B) → i < length xs → x ≡ get_or xs i x → slice_index_or (map view xs) i d ≡ view x
+view_there view [] i x d within is = absurd (omega (arith, within))
+view_there view (y ∷ ys) zero x d within is = ap view (sym is)
+view_there view (y ∷ ys) (suc i) x d within is = view_there view ys i x d (omega (arith, within)) is
+
 -- one word more was copied
 pub overwritten_more : (words : List ℤ) (to from n count : ℕ) (buffers : List ℤ) (z : ℤ) → n < count → slice_index_or buffers (from + n) (pos 0) ≡ z →
     overwritten (slice_set words (to + n) z) (to + (n + 1)) (words_at buffers (from + (n + 1)) (count - (n + 1))) ≡ overwritten words (to + n) (words_at buffers (from + n) (count - n))

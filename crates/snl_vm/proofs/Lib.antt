@@ -9,3 +9,5 @@ pub mod Silence
 pub mod UnderWay
 pub mod Beginnings
 pub mod Changes
+pub mod Items
+pub mod Taking

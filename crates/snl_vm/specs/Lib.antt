@@ -1,7 +1,9 @@
 pub mod Stack
 pub mod Marks
 pub mod Rows
+pub mod Queues
 pub mod Views
 pub mod Running
 pub mod Steps
 pub mod Homes
+pub mod Asking

@@ -1,11 +1,13 @@
 //! The virtual machine: the memory of a run, which has all that a run reads and changes, and the execution of flat code on it.
 #![tactic(auto)]
 
+mod asking;
 mod contexts;
 mod homes;
 mod linking;
 mod marks;
 mod operands;
+mod queues;
 mod rows;
 mod running;
 mod single;
@@ -16,9 +18,10 @@ mod words;
 
 pub use contexts::PieceContext;
 pub use homes::Homes;
-pub use linking::{fill, notice, overwrite};
+pub use linking::{fetch, fill, notice};
 pub use marks::Marks;
 pub use operands::Operands;
+pub use queues::Queue;
 pub use rows::Rows;
 pub use running::{evaluate, perform};
 pub use steps::step;

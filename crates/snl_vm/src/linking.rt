@@ -1,18 +1,20 @@
-//! What is done with links: words that are copied to their buffers or from them, event flags, marks.
+//! What is done with links: words that are copied to their buffers and queues or from them, event flags, marks.
 
-ghost use Rattle.std.specs.Prelude.{◌≡◌, ◌+◌, [], map, pos, slice_index_or, slice_set, true};
+ghost use Rattle.std.specs.Prelude.{◌≡◌, ◌+◌, [], map, nat_lt, pos, slice_index_or, slice_set, true, if◌then◌else◌};
 ghost use Rattle.snl_meaning.specs.Links as spec;
-ghost use Rattle.snl_meaning.specs.World.{overwritten, words_at};
+ghost use Rattle.snl_meaning.specs.World.{copy_of, overwritten, words_at};
 ghost use Rattle.snl_vm.specs.Marks.{marks_of};
+ghost use Rattle.snl_vm.specs.Queues.{queue_view};
 ghost use Rattle.snl_vm.specs.Views.{world_of};
 
 use crate::homes::Homes;
 use crate::marks::Marks;
+use crate::queues::Queue;
 use crate::stores::Store;
 use snl_meaning::Tied;
 
 /// A word that stands so many words after a place; 0 where there is none.
-fn word_after(words: &[i64], place: usize, after: usize) -> i64
+pub fn word_after(words: &[i64], place: usize, after: usize) -> i64
     ensures { slice_index_or words.now (place + after) (pos 0) ≡ result }
 {
     match place.checked_add(after) {
@@ -22,7 +24,7 @@ fn word_after(words: &[i64], place: usize, after: usize) -> i64
 }
 
 /// Puts a number into the word that stands so many words after a place, if there is one.
-fn put_after(words: &mut Vec<i64>, place: usize, after: usize, number: i64)
+pub fn put_after(words: &mut Vec<i64>, place: usize, after: usize, number: i64)
     ensures { words.new.items ≡ slice_set words.old.items (place + after) number }
 {
     if let Some(at) = place.checked_add(after) {
@@ -42,11 +44,22 @@ pub fn fill(words: &mut Vec<i64>, place: usize, numbers: &[i64])
 }
 
 /// Copies so many words, from a place on, to another place of other words. Where there is no word to copy it is 0.
-pub fn overwrite(words: &mut Vec<i64>, to: usize, others: &[i64], from: usize, count: usize)
+fn overwrite(words: &mut Vec<i64>, to: usize, others: &[i64], from: usize, count: usize)
     ensures { words.new.items ≡ overwritten words.old.items to (words_at others.now from count) }
 {
     for number in 0..count {
         put_after(words, to, number, word_after(others, from, number));
+    }
+}
+
+/// Copies the buffer of a link into a state set's copy, from a word on.
+pub fn fetch(set: usize, place: usize, tie: Tied, store: &mut Store)
+    ensures { world_of store.new ≡ spec.with_elements set place
+        (spec.buffer_of tie (world_of store.old)) (world_of store.old) }
+{
+    let buffers = store.buffers.as_slice();
+    if let Some(copy) = store.copies.get_mut(set) {
+        overwrite(&mut copy.words, place, buffers, tie.from, tie.count);
     }
 }
 
@@ -56,6 +69,37 @@ fn signal(flag: Option<usize>, store: &mut Store)
 {
     if let Some(flag) = flag {
         store.set_flag(flag, true);
+    }
+}
+
+/// Clears an event flag, if there is one.
+pub fn unsignal(flag: Option<usize>, store: &mut Store)
+    ensures { world_of store.new ≡ spec.unflagged flag (world_of store.old) }
+{
+    if let Some(flag) = flag {
+        store.set_flag(flag, false);
+    }
+}
+
+/// Words from a place on come to the queue of a link as one item, if it has a queue. Answers whether it has.
+fn enqueue(link: usize, words: &[i64], place: usize, queues: &mut Vec<Queue>) -> bool
+    ensures there { result
+        ≡ nat_lt 0 (slice_index_or (map queue_view queues.old.items) link spec.no_queue).size }
+    ensures put { map queue_view queues.new.items
+        ≡ (if result then slice_set (map queue_view queues.old.items) link
+        (spec.put_into words.now place
+        (slice_index_or (map queue_view queues.old.items) link spec.no_queue))
+        else map queue_view queues.old.items) }
+{
+    match queues.get_mut(link) {
+        None => false,
+        Some(queue) => {
+            if queue.size() == 0 {
+                return false;
+            }
+            queue.put(words, place);
+            true
+        }
     }
 }
 
@@ -99,9 +143,8 @@ fn mark(but: Option<usize>, link: usize, homes: &[Homes], marks: &mut Vec<Marks>
     }
 }
 
-/// Numbers are new at a link: where it is monitored it is marked for all state sets that have its variable, but for
-/// one.
-fn announce(but: Option<usize>, link: usize, tie: Tied, store: &mut Store)
+/// Marks a link that is monitored for all state sets that have its variable, but for one.
+fn mark_monitored(but: Option<usize>, link: usize, tie: Tied, store: &mut Store)
     ensures { world_of store.new ≡ spec.marked but link tie (world_of store.old) }
 {
     if tie.is_monitored {
@@ -109,14 +152,25 @@ fn announce(but: Option<usize>, link: usize, tie: Tied, store: &mut Store)
     }
 }
 
-/// Numbers came from the channel of a link to its buffer: where the link is monitored, its event flag is set, and it is
-/// marked for all state sets that have its variable.
+/// What is in the buffer of a link is announced: the whole buffer comes to its queue, or where it has none, it is marked for
+/// all state sets that have its variable.
+fn announce(link: usize, tie: Tied, store: &mut Store)
+    ensures { world_of store.new ≡ spec.announced link tie (world_of store.old) }
+{
+    let is_queued = enqueue(link, store.buffers.as_slice(), tie.from, &mut store.queues);
+    if !is_queued {
+        mark(None, link, store.homes.as_slice(), &mut store.marks);
+    }
+}
+
+/// Numbers came from the channel of a link to its buffer: where the link is monitored, they are announced, and its event flag
+/// is set.
 pub fn notice(link: usize, tie: Tied, store: &mut Store)
     ensures { world_of store.new ≡ spec.noticed link tie (world_of store.old) }
 {
     if tie.is_monitored {
+        announce(link, tie, store);
         signal(tie.flag, store);
-        mark(None, link, store.homes.as_slice(), &mut store.marks);
     }
 }
 
@@ -137,12 +191,36 @@ fn keep(set: usize, place: usize, tie: Tied, store: &mut Store)
     }
 }
 
-/// A state set puts the elements of a link that has no channel: they come to its buffer, its event flag is set, and
-/// where it is monitored it is marked for the other state sets.
+/// The elements of a link come from a state set's copy to the link's queue as one item, if it has a queue. Answers whether it
+/// has.
+fn enqueue_elements(set: usize, place: usize, link: usize, store: &mut Store) -> bool
+    ensures there { result ≡ spec.is_queued link (world_of store.old) }
+    ensures put { world_of store.new ≡ (if result then spec.enqueued link
+        (copy_of set (world_of store.old)).words place (world_of store.old)
+        else world_of store.old) }
+{
+    match store.copies.get(set) {
+        Some(copy) => enqueue(link, copy.words.as_slice(), place, &mut store.queues),
+        None => enqueue(link, &[], place, &mut store.queues),
+    }
+}
+
+/// The elements of a link stand in its queue, or where it has none in its buffer; then, where it is monitored, it is marked
+/// for the other state sets.
+fn keep_for(set: usize, place: usize, link: usize, tie: Tied, store: &mut Store)
+    ensures { world_of store.new ≡ spec.kept_for set place link tie (world_of store.old) }
+{
+    let is_queued = enqueue_elements(set, place, link, store);
+    if !is_queued {
+        keep(set, place, tie, store);
+        mark_monitored(Some(set), link, tie, store);
+    }
+}
+
+/// A state set puts the elements of a link that has no channel: they are kept for the others, and its event flag is set.
 pub fn hand_over(set: usize, place: usize, link: usize, tie: Tied, store: &mut Store)
     ensures { world_of store.new ≡ spec.handed_over set place link tie (world_of store.old) }
 {
-    keep(set, place, tie, store);
+    keep_for(set, place, link, tie, store);
     signal(tie.flag, store);
-    announce(Some(set), link, tie, store);
 }

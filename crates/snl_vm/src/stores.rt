@@ -4,6 +4,7 @@ ghost use Rattle.std.specs.Prelude.{◌≡◌, ◌+◌, [], false, pos, slice_ge
 
 use crate::homes::Homes;
 use crate::marks::Marks;
+use crate::queues::Queue;
 use snl_meaning::{Live, Tied, Variable};
 
 /// What a state set has for itself.
@@ -48,6 +49,8 @@ pub struct Store {
     pub buffers: Vec<i64>,
     /// By state set, then by link: whether a value came that the copy does not have yet.
     pub marks: Vec<Marks>,
+    /// By link: its queue, whose size is 0 where the link has none.
+    pub queues: Vec<Queue>,
     /// The number of a link that the start waited for when this was last looked at. No part of the world: it says only
     /// where to look first.
     pub awaited: usize,
@@ -164,6 +167,13 @@ impl Store {
         ensures { slice_index_or (world_of self.now).ups channel false ≡ result }
     {
         self.ups.get(channel).copied().unwrap_or(false)
+    }
+
+    /// Whether a channel was ever valued.
+    pub fn is_valued(&self, channel: usize) -> bool
+        ensures { slice_index_or (world_of self.now).valued channel false ≡ result }
+    {
+        self.valued.get(channel).copied().unwrap_or(false)
     }
 
     /// The name of a channel; empty where there is no such channel.

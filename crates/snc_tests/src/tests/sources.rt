@@ -26,20 +26,19 @@ const REFUSED: [(&[u8], &[u8]); 4] = [
     ),
 ];
 
-/// Sources with no error that do not run yet, and the warnings about them.
-const NOT_YET: [(&[u8], &[u8]); 2] = [
+/// Sources with no error, the warnings about them, and the lines of their run over one tick.
+const ACCEPTED: [(&[u8], &[u8], &[u8]); 2] = [
     (
         b"program p option +s; entry { pvConnectCount(); } ss s { state a { } }",
         b"p.st:1: warning: W7 state 'a' has no clauses\n",
+        b"5 start p\n",
     ),
     (
-        b"program p option +s; option -c; ss s { state a { when () {} state a } }",
+        b"program p option +s; option -c; int x; assign x to \"c\"; ss s { state a { when () {} exit } }",
         b"",
+        b"5 start p\n5 go s a exit\n5 exit p\n",
     ),
 ];
-
-/// What is said before the warnings.
-const E05: &[u8] = b"p.st:1: error: E05 not run yet\n";
 
 #[test]
 fn say_what_is_wrong(rt: HostRuntime) -> Result<(), Fail> {
@@ -63,19 +62,18 @@ fn say_what_is_wrong(rt: HostRuntime) -> Result<(), Fail> {
 }
 
 #[test]
-fn say_what_does_not_run_yet(rt: HostRuntime) -> Result<(), Fail> {
+fn warn_and_run(rt: HostRuntime) -> Result<(), Fail> {
     let job = job(rt.alloc(), DEFAULT_BUDGET)?;
-    for (source, warnings) in &NOT_YET {
+    for (source, warnings, lines) in &ACCEPTED {
         let report = report(rt.alloc(), source, &job)?;
         assert_eq!(rt; report.messages.as_slice(), *warnings);
         assert_eq!(rt; report.status, Status::Well);
-        let mut trace = Feed::new(b"0 bad line", 1);
+        let mut trace = Feed::new(b"5 tick", 1);
         let mut sheet = Sheet::new(rt.alloc(), 100, 1)?;
         let (said, end, status) = session(rt.alloc(), source, &job, &mut trace, &mut sheet)?;
-        assert_eq!(rt; said.get(..31), Some(E05));
-        assert_eq!(rt; said.get(31..), Some(*warnings));
-        assert!(rt; end.is_none() && status == Status::SourceErrors);
-        assert!(rt; sheet.text().is_empty());
+        assert_eq!(rt; said.as_slice(), *warnings);
+        assert!(rt; end.is_some() && status == Status::Well);
+        assert_eq!(rt; sheet.text(), *lines);
     }
     Ok(())
 }

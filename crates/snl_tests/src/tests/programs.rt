@@ -1,4 +1,5 @@
-//! What a checked program tells: its options in force, where a name is declared, its links, its tables, its code.
+//! What a checked program tells: its options in force, whether it waits for its channels, where a name is declared, its
+//! links, its tables, its code.
 
 use crate::tests::calls::checked;
 use snl_check::{Checked, Options};
@@ -26,6 +27,7 @@ const TABLES: &[u8] =
 #[derive(Drop)]
 struct Told {
     options: Options,
+    waits: bool,
     declared: Option<Pos>,
     links: Vec<Link>,
     tables: Vec<u8>,
@@ -52,6 +54,7 @@ fn told_of(alloc: Global, checked: &Checked) -> Result<Told, AllocError> {
     tables_of(alloc, checked.program(), &mut tables)?;
     Ok(Told {
         options: checked.options(),
+        waits: checked.waits(),
         declared: checked.declared(USED),
         links: links_of(alloc, checked.program(), &macros)?,
         tables,
@@ -81,6 +84,7 @@ fn what_a_program_tells(rt: HostRuntime) -> Result<(), Fail> {
         told.options.s == Some(true) && told.options.w.is_none(),
         "options"
     );
+    assert!(rt; told.waits, "waits");
     assert!(rt;
         matches!(told.declared, Some(pos) if pos.offset == DECLARED),
         "declared"

@@ -6,7 +6,7 @@ returns-in_ok-found-in-Ok-clause-judged c =
     let found = c.in_ok-found-in-Ok.found in
     let source = c.args.source.now in
     let lexed = c.in-Ok.lexed in
-    judged_tokens c.args.given c.args.file.now source found.messages.items found.late.items lexed (tree_of found.checked)
+    judged_tokens c.args.given c.args.file.now source found.messages.items lexed (tree_of found.checked)
     (has_tokens source lexed c.in-Ok.ensures.cut c.in-Ok.ensures.long) c.in_ok-found-in-Ok.ensures.told
 
 pub returns-in_ok-found-in-Err-clause-judged : goal.returns-in_ok-found-in-Err-clause-judged
@@ -14,5 +14,5 @@ returns-in_ok-found-in-Err-clause-judged c =
     let found = c.in_ok-found-in-Err.found in
     let source = c.args.source.now in
     let fault = c.in-Err.fault in
-    judged_fault c.args.given c.args.file.now source found.messages.items found.late.items fault found.checked (has_fault source fault c.in-Err.ensures.fault c.in-Err.ensures.long)
+    judged_fault c.args.given c.args.file.now source found.messages.items fault found.checked (has_fault source fault c.in-Err.ensures.fault c.in-Err.ensures.long)
     c.in_ok-found-in-Err.ensures.told c.in_ok-found-in-Err.ensures.none

@@ -9,7 +9,7 @@ pub returns-in_ok-found-in-Ok-clause-told : goal.returns-in_ok-found-in-Ok-claus
 returns-in_ok-found-in-Ok-clause-told c =
     let found = c.in_ok-found-in-Ok.found in
     let program = c.in-Ok.program in
-    told_program c.args.given c.args.file.now found.messages.items found.late.items (map (λ name. name.now) c.as_slice.result.now) c.args.lexed.now
+    told_program c.args.given c.args.file.now found.messages.items (map (λ name. name.now) c.as_slice.result.now) c.args.lexed.now
     (program_view program) program.embedded.items program.beyond (tree_of found.checked)
     (ap (map (λ name. name.now)) c.as_slice.ensures.value) c.in-Ok.ensures.carried.embedded c.in-Ok.ensures.carried.beyond
     c.in-Ok.ensures.found.0 c.in-Ok.ensures.found.1 c.in_ok-found-in-Ok.ensures.told
@@ -17,7 +17,7 @@ returns-in_ok-found-in-Ok-clause-told c =
 pub returns-in_ok-found-in-Err-Unexpected-clause-told : goal.returns-in_ok-found-in-Err-Unexpected-clause-told
 returns-in_ok-found-in-Err-Unexpected-clause-told c =
     let found = c.in_ok-found-in-Err-Unexpected.found in
-    told_stuck c.args.given c.args.file.now found.messages.items found.late.items (map (λ name. name.now) c.as_slice.result.now) c.args.lexed.now c.in-Err-Unexpected.k found.checked
+    told_stuck c.args.given c.args.file.now found.messages.items (map (λ name. name.now) c.as_slice.result.now) c.args.lexed.now c.in-Err-Unexpected.k found.checked
     (ap (map (λ name. name.now)) c.as_slice.ensures.value)
     (c.parse.ensures.unexpected c.in-Err-Unexpected.k cc)
     (subst (λ k. found.messages.items ≡ text_of c.args.file.now (map (λ name. name.now) c.as_slice.result.now) (syntax_error c.args.lexed.now (slice_get c.args.lexed.now.tokens.items k) ∷ []))
@@ -36,5 +36,5 @@ returns-in_ok-found-in-Err-TooDeep-clause-told c =
     let token = c.token_of-token.result in
     let at : slice_get c.args.lexed.now.tokens.items k ≡ Some token = subst (λ ts. slice_get ts k ≡ Some token) c.as_slice-in-Err-TooDeep.ensures.value
     (subst (λ n. slice_get c.as_slice-in-Err-TooDeep.result.now n ≡ Some token) c.in-Err-TooDeep.k-is c.token_of-token.ensures) in
-    told_deep c.args.given c.args.file.now found.messages.items found.late.items (map (λ name. name.now) c.as_slice.result.now) c.args.lexed.now k token found.checked
+    told_deep c.args.given c.args.file.now found.messages.items (map (λ name. name.now) c.as_slice.result.now) c.args.lexed.now k token found.checked
     (ap (map (λ name. name.now)) c.as_slice.ensures.value) (c.parse.ensures.too_deep k cc) at c.in_ok-found-in-Err-TooDeep.ensures.text c.in_ok-found-in-Err-TooDeep.ensures.none

@@ -1,8 +1,5 @@
-use Rattle.std.proofs.Common.{◌≡◌, ◌∙◌, ◌++◌, ◌∷◌, [], ap, map}
-use Rattle.snl_messages.specs.declared.refusals.Refusal.TheVariants.{NotYet}
+use Rattle.std.proofs.Common.{◌≡◌, ◌∙◌, ◌++◌, map}
 use Rattle.snl_messages.specs.Messages.{said}
-use Rattle.snl_messages.specs.Refusals.{number_of}
-use Rattle.snc.specs.Judging.{error_at}
 use Rattle.snc.specs.Texts.{text_of}
 use Rattle.snc.proofs.Answering.{checked_options, told_checked}
 use Rattle.snc.proofs.messages.tree_judged.Goals as goal
@@ -14,9 +11,8 @@ returns-clause-told c =
     let found = c.in_ok-said.field-0 in
     let is : c.push_lines.new.out.items ≡ text_of word names (map said found.messages.items) =
     c.in_ok-push_lines.ensures ∙ (λ i. c.new-messages.ensures.items i ++ text_of word names (map said (c.as_slice.ensures.value i))) in
-    let late = c.in_ok-late.ensures ∙ ap (λ t. text_of word names (error_at c.args.program.word.pos (number_of NotYet) t ∷ [])) c.words.ensures in
-    told_checked c.args.given word c.push_lines.new.out.items c.in_ok-late.late.items names c.args.program (map said found.messages.items) found.checked
-    c.in_ok-said.ensures.exactly c.in_ok-said.ensures.in_order c.in_ok-said.ensures.accepted c.in_ok-said.ensures.same is late
+    told_checked c.args.given word c.push_lines.new.out.items names c.args.program (map said found.messages.items) found.checked
+    c.in_ok-said.ensures.exactly c.in_ok-said.ensures.in_order c.in_ok-said.ensures.accepted c.in_ok-said.ensures.same is
 
 pub returns-clause-options : goal.returns-clause-options
 returns-clause-options c =

@@ -15,7 +15,7 @@ returns c =
     let text = found.messages.items in
     let shown = c.in_ok-tables.tables.items in
     let word = string_bytes c.args.job.now.file in
-    let judged : IsJudged given word source text found.late.items (tree_of found.checked) =
-    subst (λ (w : List ℕ). IsJudged given w source text found.late.items (tree_of found.checked)) c.as_bytes.ensures.value c.in_ok-found.ensures.judged in
+    let judged : IsJudged given word source text (tree_of found.checked) =
+    subst (λ (w : List ℕ). IsJudged given w source text (tree_of found.checked)) c.as_bytes.ensures.value c.in_ok-found.ensures.judged in
     subst (λ (s : Status). IsReport given asked word source text shown s) (sym (c.source_status-status.ensures ∙ ap (λ b. if b then Well else SourceErrors) c.is_some.ensures))
-    (reported given asked word source text found.late.items shown found.checked judged c.in_ok-tables.ensures)
+    (reported given asked word source text shown found.checked judged c.in_ok-tables.ensures)

@@ -1,18 +1,18 @@
-use Rattle.std.proofs.Common.{◌≡◌, ◌∙◌, ◌++◌, ap, refl, true, false, sym, subst, List, [], ℕ, IfSome, Some, string_bytes}
+use Rattle.std.proofs.Common.{◌≡◌, sym, subst, List, [], ℕ, IfSome, Some, string_bytes}
 use Rattle.std.specs.Option.{option_map, unwrap_or}
 use Rattle.snl_syntax.specs.view.Programs.{program_view}
 use Rattle.snl_links.specs.Links.{links}
 use Rattle.snl_messages.specs.Silence.{options_in_force}
-use Rattle.snl_check.specs.Runs.{does_run}
-use Rattle.snl_machine.specs.IfRun.{IsLoaded, LoadedOrNot}
+use Rattle.snl_check.specs.Waits.{waits}
+use Rattle.snl_machine.specs.Loading.{IsLoaded}
 use Rattle.snl_machine.specs.MachineOf.{world_held}
 use Rattle.snc.specs.declared.jobs.Status.{Status}
 use Rattle.snc.specs.Judging.{IsJudged}
 use Rattle.snc.specs.Outcomes.{IsRunOf, IsSession}
-use Rattle.snc.proofs.Answering.{ran_by, session_ran, session_waits, tree_of}
+use Rattle.snc.proofs.Answering.{ran_by, session_ran, tree_of}
 use Rattle.snc.proofs.sessions.session.Goals as goal
 
--- the program runs: its machine was made and run
+-- the machine of the program was made and run
 pub returns-clause-answer : goal.returns-clause-answer
 returns-clause-answer g c =
     let source = c.args.source.now in
@@ -21,58 +21,32 @@ returns-clause-answer g c =
     let macros : List ℕ = unwrap_or (option_map string_bytes c.args.job.now.macros) [] in
     let found = c.in_ok-messages.field-0 in
     let text = found.messages.items in
-    let late = found.late.items in
     let checked = found.checked in
     let word = string_bytes c.args.job.now.file in
-    let judged : IsJudged given word source text late (tree_of checked) = subst (λ (w : List ℕ). IsJudged given w source text late (tree_of checked)) c.as_bytes.ensures.value c.in_ok-messages.ensures.judged in
+    let judged : IsJudged given word source text (tree_of checked) = subst (λ (w : List ℕ). IsJudged given w source text (tree_of checked)) c.as_bytes.ensures.value c.in_ok-messages.ensures.judged in
     let first = c.in-Some.checked in
     let some : checked ≡ Some first = cc in
     let whole = program_view first.program in
-    let machine = c.in-Some-2.machine in
-    let given_macros = c.macros_of-macros.result.text.now in
-    let loaded =
-    subst (λ o. LoadedOrNot (does_run first.options whole) (IsLoaded whole given_macros budget) o) c.in-Some-2.is c.in_ok-machine.ensures.is in
-    let made : IsLoaded whole macros budget machine = subst (λ (t : List ℕ). IsLoaded whole t budget machine) c.macros_of-macros.ensures loaded.1 in
+    let waiting = waits first.options in
+    let machine = c.in_ok-machine.machine in
+    let made : IsLoaded whole macros waiting budget machine =
+    subst (λ (t : List ℕ). IsLoaded whole t waiting budget machine) c.macros_of-macros.ensures c.in_ok-machine.ensures in
     let end = c.run-end.result in
     let left = g.R.Source.rest c.run-end.new.source in
     let told = g.S.Sink.told c.args.sink.now in
     let told_then = g.S.Sink.told c.run-end.new.sink in
     let world = world_held c.run-end.new.machine in
-    let run : IsRunOf g.R.Source.rest g.R.Source.failures g.S.Sink.told g.S.Sink.failures whole (links whole macros) budget
+    let run : IsRunOf g.R.Source.rest g.R.Source.failures g.S.Sink.told g.S.Sink.failures whole (links whole macros) waiting budget
     c.args.trace.now c.run-end.new.source c.args.sink.now c.run-end.new.sink end = record {
       world = world;
-      ran = λ bytes are. ran_by machine whole (links whole macros) budget made.made end bytes left told told_then world made.first (c.run-end.ensures.does bytes are);
+      ran = λ bytes are. ran_by machine whole (links whole macros) waiting budget made.made end bytes left told told_then world made.first (c.run-end.ensures.does bytes are);
       source_counted = c.run-end.ensures.source;
       sink_counted = c.run-end.ensures.sink;
     } in
-    let session = session_ran g.R.Source.rest g.R.Source.failures g.S.Sink.told g.S.Sink.failures given word macros source text late budget
+    let session = session_ran g.R.Source.rest g.R.Source.failures g.S.Sink.told g.S.Sink.failures given word macros source text budget
     c.args.trace.now c.run-end.new.source c.args.sink.now c.run-end.new.sink checked first end some judged
     (subst (λ o. IfSome o (λ k. k.options ≡ options_in_force (program_view k.program) given)) some c.in_ok-messages.ensures.options)
-    loaded.0 run in
+    run in
     subst (λ (s : Status).
     IsSession g.R.Source.rest g.R.Source.failures g.S.Sink.told g.S.Sink.failures given word macros source budget
     c.args.trace.now c.run-end.new.source c.args.sink.now c.run-end.new.sink text (Some end) s) (sym c.status.ensures) session
-
--- the program does not run yet
-pub returns-in_default-2-clause-answer : goal.returns-in_default-2-clause-answer
-returns-in_default-2-clause-answer g c =
-    let source = c.args.source.now in
-    let given = c.args.job.now.options in
-    let budget = c.args.job.now.budget in
-    let macros : List ℕ = unwrap_or (option_map string_bytes c.args.job.now.macros) [] in
-    let found = c.in_ok-messages.field-0 in
-    let text = found.messages.items in
-    let late = found.late.items in
-    let checked = found.checked in
-    let first = c.in-Some.checked in
-    let word = string_bytes c.args.job.now.file in
-    let judged : IsJudged given word source text late (tree_of checked) = subst (λ (w : List ℕ). IsJudged given w source text late (tree_of checked)) c.as_bytes.ensures.value c.in_ok-messages.ensures.judged in
-    let some : checked ≡ Some first = cc in
-    let given_macros = c.macros_of-macros.result.text.now in
-    let not : does_run first.options (program_view first.program) ≡ false =
-    subst (λ o. LoadedOrNot (does_run first.options (program_view first.program)) (IsLoaded (program_view first.program) given_macros budget) o)
-    c.in_default-2.is c.in_ok-machine.ensures.is in
-    session_waits g.R.Source.rest g.R.Source.failures g.S.Sink.told g.S.Sink.failures given word macros source text late budget
-    c.args.trace.now c.args.trace.now c.args.sink.now c.args.sink.now checked first c.in_ok-messages-2.messages.items some judged
-    (subst (λ o. IfSome o (λ k. k.options ≡ options_in_force (program_view k.program) given)) some c.in_ok-messages.ensures.options)
-    not (c.in_ok-messages-2.ensures ∙ ap (λ l. late ++ l) c.as_slice.ensures.value) refl refl

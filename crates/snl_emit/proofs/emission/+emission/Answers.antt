@@ -4,7 +4,7 @@ use Rattle.snl_syntax.specs.Expressions.{no_arguments}
 use Rattle.snl_syntax.specs.view.Expressions.{view, list_before}
 use Rattle.snl_emit.specs.ExpressionCode.{values_code}
 use Rattle.snl_meaning.specs.Known.{here_of}
-use Rattle.snl_emit.proofs.Emitting.{assigned-made, postfix-made, prefix-made, chain-made, call-made, put-made}
+use Rattle.snl_emit.proofs.Emitting.{assigned-made, postfix-made, prefix-made, chain-made, call-made, put-made, ask-made}
 use Rattle.snl_emit.proofs.emission.+emission.Goals as goal
 
 pub emit_expression-returns-in-Call : goal.emit_expression-returns-in-Call
@@ -59,4 +59,12 @@ emit_put_of-returns t c =
     (put-made (here_of c.args.known.now) (view c.args.target.now)
     (reverse c.args.code.now.items) (reverse c.put.new.code.items) (reverse c.emit_place.new.code.items)
     (c.in_ok-put.ensures ∙ ap (λ i. i ∷ reverse c.args.code.now.items) c.put_instr.ensures))
+    c.emit_place.ensures
+
+pub emit_ask_of-returns : goal.emit_ask_of-returns
+emit_ask_of-returns t c =
+    on_ok_weaker c.emit_place.result
+    (ask-made (here_of c.args.known.now) c.args.query (view c.args.target.now)
+    (reverse c.args.code.now.items) (reverse c.put.new.code.items) (reverse c.emit_place.new.code.items)
+    (c.in_ok-put.ensures ∙ ap (λ i. i ∷ reverse c.args.code.now.items) c.ask_instr.ensures))
     c.emit_place.ensures

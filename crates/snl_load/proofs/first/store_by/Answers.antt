@@ -28,4 +28,5 @@ returns c =
       homes = c.in_ok-homes_in.ensures j;
       buffers = c.in_ok-first_buffers.ensures j;
       marks = marks j;
+      queues = c.in_ok-queues_of.ensures j;
     }

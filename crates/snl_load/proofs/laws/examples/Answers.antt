@@ -5,4 +5,4 @@ use Rattle.snl_load.proofs.laws.examples.Goals as goal
 
 pub returns : goal.returns
 unfolding digits decimal_value whole_value value_in value_of without_suffix
-returns c = (refl, refl)
+returns c = (refl, refl, refl)

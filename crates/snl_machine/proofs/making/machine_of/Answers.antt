@@ -18,8 +18,8 @@ invariant_of-result c =
     let links-are = ap (map link_view) c.as_slice-links.ensures.value ∙ c.in_ok-links.ensures in
     let room = c.in_ok-operands.ensures ∙ c.depth.ensures in
     let counted : code.depth < 2 ^ 64 - 1 = omega (arith, room, c.in_ok-operands.operands.items.small) in
-    let is = loaded-is p ls (map link_view c.as_slice-links.result.now) code plan links-are c.in_ok-plan.ensures c.in_ok-code.ensures counted in
-    record { room = room; runs = (plans_are_right p ls code (loaded_by plan code) is).1 }
+    let is = loaded-is p ls (map link_view c.as_slice-links.result.now) c.args.waits code plan links-are c.in_ok-plan.ensures c.in_ok-code.ensures counted in
+    record { room = room; runs = (plans_are_right p ls c.args.waits code (loaded_by plan code) is).1 }
 
 pub returns-clause-made : goal.returns-clause-made
 returns-clause-made c =
@@ -32,7 +32,7 @@ returns-clause-made c =
     let room = c.in_ok-operands.ensures ∙ c.depth.ensures in
     let counted : code.depth < 2 ^ 64 - 1 = omega (arith, room, c.in_ok-operands.operands.items.small) in
     record {
-      loaded = loaded-is p ls (map link_view c.as_slice-links.result.now) code plan links-are c.in_ok-plan.ensures c.in_ok-code.ensures counted;
+      loaded = loaded-is p ls (map link_view c.as_slice-links.result.now) c.args.waits code plan links-are c.in_ok-plan.ensures c.in_ok-code.ensures counted;
       channels_are = c.in_ok-names.ensures ∙ ap channels named-are;
       budget_is = refl;
     }
@@ -43,6 +43,6 @@ returns-clause-first c =
     let ls = links p c.args.macros.now.text.now in
     let links-are = ap (map link_view) c.as_slice-links.ensures.value ∙ c.in_ok-links.ensures in
     let named-are = ap (map link_view) c.as_slice.ensures.value ∙ c.in_ok-links.ensures in
-    first-is p ls (map link_view c.as_slice-links.result.now) c.in_ok-code.code c.in_ok-plan.plan links-are c.in_ok-plan.ensures _ _ _ _
+    first-is p ls (map link_view c.as_slice-links.result.now) c.args.waits c.in_ok-code.code c.in_ok-plan.plan links-are c.in_ok-plan.ensures _ _ _ _
     (c.in_ok-names.ensures ∙ ap channels named-are) c.as_slice-2.ensures.value (ap copies_of c.as_slice-copies.ensures.value ∙ c.in_ok-copies.ensures)
     c.in_ok-store.ensures

@@ -1,4 +1,6 @@
-use Rattle.std.proofs.Common.{◌≡◌, ◌∙◌, true, ap, Err, sym, subst}
+use Rattle.std.proofs.Common.{◌≡◌, ◌∙◌, true, List, ap, Err, sym, subst}
+use Rattle.std.specs.Prelude.{◌||◌, not}
+use Rattle.snl_meaning.specs.declared.ties.Tied.{Tied}
 use Rattle.std.specs.List.{list_all}
 use Rattle.snl_output.specs.Does.{Does, Gave}
 use Rattle.snl_output.proofs.Doing.{does-then, stopped-then}
@@ -15,7 +17,7 @@ returns-in-Ok-clause-does g c =
     let p = program_of (loaded c.args.program) in
     let w = world_of c.args.store.now in
     let u = record w { ticks = c.args.budget } in
-    let ready : true ≡ is_ready p u = c.if-not-are_ready.ensures.value ∙ ap (list_all (is_link_ready u)) c.as_slice.ensures.value in
+    let ready : true ≡ is_ready p u = c.if-not-are_ready.ensures.value ∙ ap (λ (ts : List Tied). not p.waits || list_all (is_link_ready u) ts) c.as_slice.ensures.value in
     let starts = instant-starts p c.args.budget w c.in-Waiting.is ready in
     let after = world_of c.start.new.store in
     let began = subst (λ (v : World). Gave {A = Unit {0}} c.in-Ok.field-0 after (g.S.Sink.told c.args.sink.now) (g.S.Sink.told c.start.new.sink) (started p v))
@@ -28,7 +30,7 @@ returns-in-Err-clause-does g c =
     let p = program_of (loaded c.args.program) in
     let w = world_of c.args.store.now in
     let u = record w { ticks = c.args.budget } in
-    let ready : true ≡ is_ready p u = c.if-not-are_ready.ensures.value ∙ ap (list_all (is_link_ready u)) c.as_slice.ensures.value in
+    let ready : true ≡ is_ready p u = c.if-not-are_ready.ensures.value ∙ ap (λ (ts : List Tied). not p.waits || list_all (is_link_ready u) ts) c.as_slice.ensures.value in
     let starts = instant-starts p c.args.budget w c.in-Waiting.is ready in
     let after = world_of c.start.new.store in
     let stopped = λ (v : World). Does {V = Unit {0}} {A = Unit {0}} (λ x. x) (Err c.in-Err.stop) after (g.S.Sink.told c.args.sink.now) (g.S.Sink.told c.start.new.sink) (started p v) in
