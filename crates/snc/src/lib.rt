@@ -15,3 +15,5 @@ pub use reports::report;
 pub use sessions::session;
 pub use snc_args::{DEFAULT_BUDGET, Job, Tool, WordsFault, read_words};
 pub use snl_check::Options;
+pub use snl_machine::{Sink, SinkFault};
+pub use snl_trace::{End, Source, SourceFault};

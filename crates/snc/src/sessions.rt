@@ -8,7 +8,7 @@ use crate::jobs::Status;
 use crate::messages::{Findings, judged};
 use snc_args::Job;
 use snl_links::Macros;
-use snl_machine::{Sink, load_and_drop};
+use snl_machine::{Machine, Sink};
 use snl_trace::{End, Source, run};
 use std::alloc::{AllocError, Global};
 
@@ -38,7 +38,7 @@ pub fn session<R: Source, S: Sink>(
         return Ok((messages, None, Status::SourceErrors));
     };
     let macros = macros_of(job);
-    let mut machine = load_and_drop(alloc, checked, &macros, job.budget)?;
+    let mut machine = Machine::load(alloc, checked, &macros, job.budget)?;
     let end = run(&mut machine, trace, sink);
     Ok((messages, Some(end), status(end)))
 }

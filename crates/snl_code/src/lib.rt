@@ -12,4 +12,5 @@ mod starts;
 
 pub use code::Code;
 pub use compiling::{compile, names_in, placed_of};
+pub use snl_meaning::Instr;
 pub use starts::Piece;

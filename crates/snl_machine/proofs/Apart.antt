@@ -1,20 +1,20 @@
 -- A turn of a state set changes nothing of another one's copy; what changes event flags.
-use Rattle.std.proofs.Common.{◌≡◌, ◌∙◌, ◌+◌, refl, sym, ℕ, Bool, true, false, List, [], ◌∷◌, Option, None, Some, map, if◌then◌else◌}
-use Rattle.std.specs.Prelude.{slice_set, slice_index_or}
+use Rattle.std.proofs.Common.{◌≡◌, ◌∙◌, ◌+◌, refl, sym, ℕ, Bool, true, false, List, [], ◌∷◌, Option, None, Some, if◌then◌else◌}
+use Rattle.std.specs.Prelude.{slice_set}
 use Rattle.std.proofs.lemmas.List.{get_or-set_other}
 use Rattle.snl_syntax.specs.Programs.{StateSetTree, ProgramTree}
 use Rattle.snl_code.specs.Heres.{here_in}
 use Rattle.snl_meaning.specs.declared.ties.Tied.{Tied}
 use Rattle.snl_meaning.specs.Keeping.{IsKept, PiecesKeep, world_after}
 use Rattle.snl_meaning.specs.Links.{home_of}
-use Rattle.snl_meaning.specs.Ran.{Ran, Gives, Faults, also, then_do}
+use Rattle.snl_meaning.specs.Ran.{Ran, Gives, Faults}
 use Rattle.snl_meaning.specs.World.{SetMemory, World, no_copy, copy_of}
 use Rattle.snl_meaning.proofs.Keeping.{pieces-keep}
 use Rattle.snl_meaning.proofs.Ticks.{Any, any-may}
 use Rattle.snl_load.specs.Meaning.{set_meaning}
 use Rattle.snl_schedule.specs.declared.transitions.Turned.{Turned}
 use Rattle.snl_schedule.specs.declared.transitions.Turned.TheVariants.{Stayed, Moved, Exited}
-use Rattle.snl_schedule.specs.Refresh.{is_marked, with_mark, copied_to, refreshed_link, refreshed_from, refreshed}
+use Rattle.snl_schedule.specs.Refresh.{is_marked, with_mark, copied_to, refreshed_link, refreshed_from}
 use Rattle.snl_schedule.specs.Turn.{turn_of}
 use Rattle.snl_machine.specs.Laws.{TurnsStayApart}
 use Rattle.snl_machine.proofs.Parts.{states-keep}

@@ -1,10 +1,10 @@
 -- A plan and its code, as they are loaded.
-use Rattle.std.proofs.Common.{◌≡◌, ◌∙◌, ◌<◌, ◌-◌, ◌^◌, ℕ, Bool, List, refl, ap, length, map}
+use Rattle.std.proofs.Common.{◌≡◌, ◌∙◌, ◌<◌, ◌-◌, ◌^◌, ℕ, Bool, List, Result, Ok, Err, IfOk, refl, ap, length}
 use Rattle.snl_syntax.specs.Programs.{ProgramTree}
 use Rattle.snl_code.specs.declared.code.Code.{Code}
 use Rattle.snl_code.specs.Pieces.{IsCodeOf}
 use Rattle.snl_code.specs.Starts.{table_of}
-use Rattle.snl_links.specs.Links.{Link}
+use Rattle.snl_links.specs.Links.{Link, links}
 use Rattle.snl_meaning.specs.World.{World}
 use Rattle.snl_meaning.specs.declared.ties.Tied.{Tied}
 use Rattle.snl_schedule.specs.declared.plans.Plan.{Plan}
@@ -14,7 +14,10 @@ use Rattle.snl_meaning.specs.declared.names.Placed.{Placed}
 use Rattle.snl_load.specs.Places.{channels, flags_in, placed_sets, homes_in}
 use Rattle.snl_load.specs.Plans.{PlainPlan, plan_view, program_plan}
 use Rattle.snl_load.specs.Right.{IsLoadedOf}
+use Rattle.snl_machine.specs.declared.machine.Machine.{Machine}
 use Rattle.snl_machine.specs.Holding.{loaded_by}
+use Rattle.snl_machine.specs.Loading.{IsLoaded}
+use Rattle.snl_machine.specs.MachineOf.{IsMachineOf, world_held}
 
 module _ (p : ProgramTree) (ls given : List Link) (waits : Bool) (code : Code) (plan : Plan) (links-are : given ≡ ls)
     (planned : plan_view plan ≡ program_plan p given waits (table_of code)) where
@@ -32,3 +35,9 @@ module _ (p : ProgramTree) (ls given : List Link) (waits : Bool) (code : Code) (
   first-is w names ties copies names-are plans copies-are is =
       let ties-are = plans ∙ ap (λ (v : PlainPlan). v.links) plan-is in
       is ∙ (λ j. first_world (held_sets p 0 p.state_sets) (length (flags_in p)) (names-are j) (ties-are j) (homes_in (copies-are j) (links-are j)) (links-are j))
+
+-- a machine that is one of a program, in its first world, is loaded
+pub both-loaded : {E : Type 0} (r : Result Machine E) (p : ProgramTree) (macros : List ℕ) (waiting : Bool) (budget : ℕ) → IfOk r (IsMachineOf p (links p macros) waiting budget) →
+    IfOk r (λ m. world_held m ≡ first_world_of p (links p macros)) → IfOk r (IsLoaded p macros waiting budget)
+both-loaded (Ok m) p macros waiting budget made first = record { made = made; first = first }
+both-loaded (Err e) p macros waiting budget made first = tt

@@ -3,6 +3,8 @@ pub mod Tasks
 pub mod Turning
 pub mod Parts
 pub mod Steady
+pub mod Whole
+pub mod Frames
 pub mod Rounds
 pub mod Wakes
 pub mod Fitting

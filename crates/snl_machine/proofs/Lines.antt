@@ -1,28 +1,25 @@
 -- A line of a trace keeps what copies, buffers and queues hold within their types.
-use Rattle.std.proofs.Common.{◌≡◌, ◌∙◌, ◌+◌, ◌-◌, ap, sym, subst, arith, ℕ, zero, suc, Bool, true, slice_get, List, Option, None, Some, length, nat_lt, if◌then◌else◌}
+use Rattle.std.proofs.Common.{◌≡◌, ◌∙◌, ◌+◌, ap, sym, subst, arith, ℕ, Bool, true, slice_get, List, Some, length, nat_lt, if◌then◌else◌}
 use Rattle.snl_syntax.specs.Programs.{ProgramTree}
 use Rattle.snl_code.specs.Heres.{here_in}
 use Rattle.snl_schedule.specs.declared.events.Event.{Event}
 use Rattle.snl_schedule.specs.declared.events.Event.TheVariants.{Up, Down, Val, Tick, Other}
-use Rattle.snl_schedule.specs.Event.{applied, closed, wake_before, woken, wakes_of, all_wakes, event_by, passed, line_by, is_event_fit}
+use Rattle.snl_schedule.specs.Event.{applied, is_event_fit}
 use Rattle.snl_links.specs.Links.{Link}
 use Rattle.snl_machine.specs.Ranges.{AllFit, Holds, IsSized, IsTied, PiecesFit, EventsFit, Begins, GoesOn, ReachedHold}
 use Rattle.snl_machine.proofs.Beginning.{first_holds}
 use Rattle.snl_machine.proofs.Filling.{received-fits, received-same, refresh_holds, fetched_holds, taken_holds, queued_holds, filled_holds, both-true}
 use Rattle.snl_machine.proofs.Queued.{none-fits}
 use Rattle.snl_machine.proofs.Fitting.{May, may, stored-fits, cleared-fits, changed-fits}
-use Rattle.snl_machine.proofs.Steady.{IsSteady, instant-keeps}
-use Rattle.snl_meaning.specs.declared.live.Live.{Live}
-use Rattle.snl_meaning.specs.declared.live.Live.TheVariants.{Waiting, Running, Ended}
-use Rattle.snl_meaning.specs.Keeping.{IsKept, PiecesKeep, world_after}
+use Rattle.snl_machine.proofs.Steady.{IsSteady}
+use Rattle.snl_machine.proofs.Whole.{line-keeps}
+use Rattle.snl_meaning.specs.Keeping.{IsKept, PiecesKeep}
 use Rattle.snl_meaning.specs.declared.ties.Tied.{Tied}
-use Rattle.snl_meaning.specs.Ran.{Ran, Gives, Faults, also, then_do}
 use Rattle.snl_meaning.specs.World.{SetMemory, World, copy_of}
 use Rattle.snl_meaning.proofs.Keeping.{pieces-keep}
 use Rattle.snl_load.specs.Meaning.{program_meaning}
 use Rattle.snl_load.specs.Places.{channels, ties_in}
 use Rattle.snl_schedule.specs.Arrivals.{are_fit}
-use Rattle.snl_schedule.specs.Instant.{Program, instant_of}
 
 module _ (p : ProgramTree) (ls : List Link) (sized : IsSized p) (tied : IsTied p ls) where
   -- what holds before a change holds after it
@@ -93,59 +90,11 @@ module _ (p : ProgramTree) (ls : List Link) (sized : IsSized p) (tied : IsTied p
   event-holds Tick w fit waits holds = holds
   event-holds Other w fit waits holds = holds
 
-  -- what an instant gives to who asked for it
-  closed-holds : (r : Ran (Unit {0})) → Holds p ls (world_after r) → Holds p ls (world_after (closed r))
-  closed-holds (Gives v w text) holds = holds
-  closed-holds (Faults f line w text) holds = holds
-
 -- a line
 pub events_fit : EventsFit
-events_fit p ls waits budget ms event w sized tied fit holds = by w.phase
-  where
-    q : Program
-    q = program_meaning p ls waits
-
-    -- text does not matter
-    also-holds : (text : List ℕ) (r : Ran (Unit {0})) → Holds p ls (world_after r) → Holds p ls (world_after (also text r))
-    also-holds text (Gives v u more) h = h
-    also-holds text (Faults f line u more) h = h
-
-    -- one step and then another
-    then-holds : (r : Ran (Unit {0})) (go : World → Ran (Unit {0})) → Holds p ls (world_after r) → ((u : World) → Holds p ls u → Holds p ls (world_after (go u))) →
-        Holds p ls (world_after (then_do r (λ _ u. go u)))
-    then-holds (Gives v u text) go h k = also-holds text (go u) (k u h)
-    then-holds (Faults f line u text) go h k = h
-
-    -- an instant
-    instant-holds : (u : World) → Holds p ls u → Holds p ls (world_after (instant_of q budget u))
-    instant-holds u h = instant-keeps p ls waits (Stays p ls sized tied) (Stays p ls sized tied) (holds-steady p ls sized tied) u.phase (record u { ticks = budget }) h
-
-    -- wakes
-    wakes-hold : (n : ℕ) (u : World) → Holds p ls u → Holds p ls (world_after (wakes_of q budget ms n u))
-    wakes-hold zero u h = h
-    wakes-hold (suc n) u h = woken-holds (λ v. wakes-hold n v) (wake_before ms u)
-      where
-        woken-holds : ((v : World) → Holds p ls v → Holds p ls (world_after (wakes_of q budget ms n v))) → (o : Option ℕ) →
-            Holds p ls (world_after (woken q budget (wakes_of q budget ms n) o u))
-        woken-holds others None = h
-        woken-holds others (Some wake) =
-            then-holds (instant_of q budget (record u { time = wake })) (wakes_of q budget ms n) (instant-holds (record u { time = wake }) h) others
-
-    -- the event
-    happens-holds : (u : World) (phase : Live) → Holds p ls u → Holds p ls (world_after (event_by q budget ms event phase u))
-    happens-holds u Ended h = h
-    happens-holds u Waiting h = instant-holds (applied q event (record u { time = ms })) (event-holds p ls sized tied event (record u { time = ms }) fit waits h)
-    happens-holds u Running h = instant-holds (applied q event (record u { time = ms })) (event-holds p ls sized tied event (record u { time = ms }) fit waits h)
-
-    on : Holds p ls (world_after (closed (passed q budget ms event w)))
-    on =
-        closed-holds p ls sized tied (passed q budget ms event w)
-        (then-holds (all_wakes q budget ms w) (λ u. event_by q budget ms event u.phase u) (wakes-hold (ms - w.time) w holds) (λ u h. happens-holds u u.phase h))
-
-    by : (phase : Live) → Holds p ls (world_after (line_by q budget ms event phase w))
-    by Waiting = on
-    by Running = on
-    by Ended = holds
+events_fit p ls waits budget ms event w sized tied fit holds =
+    line-keeps p ls waits (Stays p ls sized tied) (Stays p ls sized tied) (holds-steady p ls sized tied) (λ n u h. h) (λ t u h. h) event
+    (λ u. event-holds p ls sized tied event u fit waits) budget ms w holds
 
 -- all worlds that a run comes to
 pub reached_hold : ReachedHold

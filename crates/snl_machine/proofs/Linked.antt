@@ -1,5 +1,5 @@
 -- What is known of a link that has a home in a copy.
-use Rattle.std.proofs.Common.{◌≡◌, ◌∙◌, ◌+◌, ◌≤◌, refl, sym, ap, subst, arith, ℕ, zero, suc, List, [], ◌∷◌, Option, None, Some, map, slice_get, option_map}
+use Rattle.std.proofs.Common.{◌≡◌, ◌∙◌, ◌+◌, ◌≤◌, refl, sym, ap, arith, ℕ, zero, suc, List, [], ◌∷◌, Option, None, Some, map, slice_get, option_map}
 use Rattle.std.specs.Prelude.{slice_index_or}
 use Rattle.snl_syntax.specs.Programs.{StateSetTree, ProgramTree}
 use Rattle.snl_links.specs.Links.{Link}

@@ -4,7 +4,7 @@ use Rattle.snl_syntax.specs.Programs.{ClauseTree, StateTree, ProgramTree}
 use Rattle.snl_syntax.specs.Statements.{BlockTree}
 use Rattle.snl_code.specs.Heres.{here_in}
 use Rattle.snl_meaning.specs.Effect.{Way, Done, Broken, Continued, Left, block_effect}
-use Rattle.snl_meaning.specs.Keeping.{PiecesKeep, world_after}
+use Rattle.snl_meaning.specs.Keeping.{PiecesKeep}
 use Rattle.snl_meaning.specs.World.{World}
 use Rattle.snl_load.specs.Meaning.{left_for, finished, block_meaning, clause_meaning, state_meaning}
 use Rattle.snl_machine.proofs.Turning.{Keeps, ClausesKeep, StateKeeps, StatesKeep, then-keeps}

@@ -20,7 +20,7 @@ use Rattle.snl_schedule.specs.Arrivals.{is_of, received_link, received_from}
 use Rattle.snl_schedule.specs.Event.{applied, wake_by, wake_before, woken, wakes_of, all_wakes, event_by, passed, closed, line_by, line_of}
 use Rattle.snl_schedule.specs.Instant.{Program, first_name, owned, closed_by, exited, round_of, all_rounds, is_ready, started, instant_by, instant_of}
 use Rattle.snl_load.specs.Meaning.{program_meaning}
-use Rattle.snl_machine.specs.Ranges.{Reached, Begins, GoesOn}
+use Rattle.snl_machine.specs.Ranges.{Begins, GoesOn}
 use Rattle.snl_machine.specs.Rounds.{Rounds, Last, Leaves, Stops, Again}
 use Rattle.snl_machine.specs.Wakes.{Wakes, NoneLeft, Faulty, Next, IsDueLater, KeepsDue, IsWakeLater, WakesLieLater, WakesEnd, WakesStayLater, TimeNeverFalls, TimeIsTheEvents, TimeIsTheEventsAlone}
 use Rattle.snl_machine.proofs.Rounds.{rounds_end}

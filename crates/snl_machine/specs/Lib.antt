@@ -5,4 +5,5 @@ pub mod Loading
 pub mod Laws
 pub mod Rounds
 pub mod Ranges
+pub mod Frames
 pub mod Wakes

@@ -4,6 +4,8 @@ use Rattle.snl_syntax.specs.Programs.{ProgramTree}
 use Rattle.snl_links.specs.Links.{Link}
 use Rattle.snl_meaning.specs.World.{World}
 use Rattle.snl_vm.specs.Views.{world_of}
+use Rattle.snl_code.specs.declared.code.Code.{Code}
+use Rattle.snl_schedule.specs.declared.plans.Plan.{Plan}
 use Rattle.snl_schedule.specs.Instant.{Program}
 use Rattle.snl_schedule.specs.Loaded.{program_of}
 use Rattle.snl_load.specs.Meaning.{program_meaning}
@@ -29,6 +31,17 @@ task_of p ls waits = record { program = program_meaning p ls waits; channels = c
 -- The world that a machine's run has come to.
 abbrev pub world_held : Machine → World
 world_held m = world_of m.store
+
+-- What no event changes of a machine: its plan, its code, the names of its channels, its budget.
+pub record Fixed : Type 0 where
+  pub plan : Plan
+  pub code : Code
+  pub channels : List (List ℕ)
+  pub budget : ℕ
+
+-- That of a machine.
+abbrev pub fixed_of : Machine → Fixed
+fixed_of m = record { plan = m.plan; code = m.code; channels = names_in m.names; budget = m.budget }
 
 -- A machine is one of a program, links and a budget, and waits for its channels or does not: its code is right for the
 -- program, its plan, names and links are the program's, and it has that budget.

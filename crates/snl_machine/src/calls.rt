@@ -1,49 +1,19 @@
 //! The events that a machine takes, and what it tells.
 
-ghost use Rattle.std.specs.Prelude.{◌≡◌, ◌-◌, ◌^◌, ◌<◌, IfOk, OnErr};
-ghost use Rattle.snl_syntax.specs.view.Programs.{program_view};
-ghost use Rattle.snl_check.specs.Waits.{waits};
+ghost use Rattle.std.specs.Prelude.{◌≡◌, ◌-◌, ◌^◌, ◌<◌, OnErr};
 ghost use Rattle.snl_schedule.specs.Event.{line_of};
-ghost use Rattle.snl_links.specs.Links.{links};
 ghost use Rattle.snl_output.specs.Devices.{counted, stopped_by_sink};
 ghost use Rattle.snl_output.specs.Does.{Does};
 ghost use Rattle.snl_machine.specs.Lookup.{channel_of, fits_of};
-ghost use Rattle.snl_machine.specs.MachineOf.{IsMachineOf, task_held, world_held};
-ghost use Rattle.snl_load.specs.First.{first_world_of};
+ghost use Rattle.snl_machine.specs.MachineOf.{fixed_of, task_held, world_held};
 
 use crate::machine::Machine;
-use crate::making::machine_of;
-use snl_check::Checked;
-use snl_links::Macros;
 use snl_load::channel_number;
 use snl_meaning::Live;
 use snl_output::{Sink, Stop};
 use snl_schedule::{Event, ProgramContext, fits, take};
-use std::alloc::{AllocError, Global};
 
 impl Machine {
-    /// Makes the machine of a checked program, with the macros of the run. It has not started: it waits for its channels
-    /// then, but under the option `-c` (Compiling SNL Programs, "Options"). All the room that a run takes is made here, and
-    /// nothing of the program or of its source is kept. The budget is the number of ticks that one instant may take, 1 to
-    /// 1,000,000,000.
-    ///
-    /// Fails only where that room was not to be had.
-    pub fn load<'a>(
-        alloc: Global,
-        checked: &Checked<'a>,
-        macros: &Macros,
-        budget: u32,
-    ) -> Result<Machine, AllocError>
-        ensures made { IfOk result (IsMachineOf (program_view checked.now.program)
-            (links (program_view checked.now.program) macros.now.text.now)
-            (waits checked.now.options) budget) }
-        ensures first { IfOk result (λ machine. world_held machine
-            ≡ first_world_of (program_view checked.now.program)
-            (links (program_view checked.now.program) macros.now.text.now)) }
-    {
-        machine_of(alloc, checked.program(), macros, checked.waits(), budget)
-    }
-
     /// The number of the channel of a name; None where the program uses no such channel. Channels have the numbers from 0
     /// on, in the order in which `assign` definitions first name them.
     pub fn channel(&self, name: &[u8]) -> Option<usize>
@@ -78,11 +48,7 @@ impl Machine {
             (line_of (task_held self.old).program self.old.budget ms event.now
             (world_held self.old)) }
         ensures ended { OnErr result ((world_held self.new).phase ≡ Live.Ended) }
-        ensures task { task_held self.new ≡ task_held self.old }
-        ensures plan { self.new.plan ≡ self.old.plan }
-        ensures code { self.new.code ≡ self.old.code }
-        ensures names { self.new.names ≡ self.old.names }
-        ensures budget { self.new.budget ≡ self.old.budget }
+        ensures fixed { fixed_of self.new ≡ fixed_of self.old }
         ensures failures { S.failures sink.new
             ≡ counted (stopped_by_sink result) (S.failures sink.old) }
     {

@@ -1,6 +1,7 @@
 //! Laws of machines. Each function is its contract, and does nothing.
 
 ghost use Rattle.snl_machine.specs.Laws.{RunsItsProgram, StaysItsMachine, TurnsStayApart};
+ghost use Rattle.snl_machine.specs.Frames.{FrameStays, FrameIsTheFirst};
 ghost use Rattle.snl_machine.specs.Ranges.{EventsFit, FirstHolds, PiecesFit, ReachedHold};
 ghost use Rattle.snl_machine.specs.Rounds.{RoundsEnd, TicksWithinBudget};
 ghost use Rattle.snl_machine.specs.Wakes.{TimeIsTheEvents, TimeIsTheEventsAlone, TimeNeverFalls, WakesEnd, WakesLieLater, WakesStayLater};
@@ -10,8 +11,8 @@ pub fn runs_its_program()
     ensures { RunsItsProgram }
 {}
 
-/// After an event a machine is still one of its program, its links and its budget: `Machine::event` leaves
-/// plan, code, names and budget as they are.
+/// After an event, and after a run, a machine is still one of its program, its links and its budget: plan, code, names and
+/// budget stay as they are.
 #[tactic(auto, using(crate::proofs::Tasks::stays_its_machine))]
 pub fn stays_its_machine()
     ensures { StaysItsMachine }
@@ -85,4 +86,15 @@ pub fn events_fit()
 /// type has: no store ever holds what its type cannot.
 pub fn reached_hold()
     ensures { ReachedHold }
+{}
+
+/// No line of a trace changes how large a world is, or what stands for what in it: the words of copies and buffers, the
+/// names of channels, what links are tied to, the sizes of queues stay, also where the run comes to a fault.
+pub fn frame_stays()
+    ensures { FrameStays }
+{}
+
+/// So in every world that a run comes to all this is as in the first one.
+pub fn frame_is_the_first()
+    ensures { FrameIsTheFirst }
 {}

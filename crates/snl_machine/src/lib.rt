@@ -10,7 +10,7 @@ mod loading;
 mod machine;
 mod making;
 
-pub use loading::{Loads, load_and_drop};
+pub use loading::Loads;
 pub use machine::Machine;
 pub use snl_meaning::{Fault, Live};
 pub use snl_output::{Sink, SinkFault, Stop};

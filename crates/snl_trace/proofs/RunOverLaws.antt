@@ -11,7 +11,9 @@ use Rattle.snl_output.specs.declared.faults.Stop.TheVariants as stop
 use Rattle.snl_machine.specs.declared.machine.Machine.{Machine}
 use Rattle.snl_output.specs.Devices.{told_more, IsCutShort, stopped_by_sink}
 use Rattle.snl_output.specs.Does.{Gave, Does}
-use Rattle.snl_machine.specs.MachineOf.{task_held, world_held}
+use Rattle.snl_machine.specs.Holding.{loaded_by}
+use Rattle.snl_machine.specs.MachineOf.{Fixed, fixed_of, world_held}
+use Rattle.snl_schedule.specs.Loaded.{program_of}
 use Rattle.snl_machine.specs.Lookup.{channel_of, fits_of}
 use Rattle.snl_meaning.specs.Ran.{Ran, Gives, also, then_do}
 use Rattle.snl_output.specs.Does.{text_of}
@@ -303,9 +305,9 @@ pub rules-long : (m : Machine) → KnowsLong (rules_of m)
 unfolding rules_by told_of
 rules-long m = record { knows = λ last line long. rw (lt-ltb 32768 (length line) long) refl }
 
--- machines of one program and one budget have the same rules
-pub rules-same : (a b : Machine) → task_held b ≡ task_held a → b.budget ≡ a.budget → rules_of b ≡ rules_of a
-rules-same a b program budget = ap (λ p. rules_by p b.budget) program ∙ ap (rules_by (task_held a)) budget
+-- machines that run one plan with one code have the same rules
+pub rules-same : (a b : Machine) → fixed_of b ≡ fixed_of a → rules_of b ≡ rules_of a
+rules-same a b same = ap (λ (f : Fixed). rules_by (record { program = program_of (loaded_by f.plan f.code); channels = f.channels }) f.budget) same
 
 -- what a machine reads
 pub read-is : (m : Machine) (last : ℕ) (line : List ℕ) (read : Result (Option (ℕ × Event)) TraceFault) →

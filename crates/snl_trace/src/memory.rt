@@ -1,6 +1,6 @@
 //! A source and a sink over bytes in memory.
 
-ghost use Rattle.std.specs.Prelude.{◌≡◌, ◌<◌, [], IfOk, Some};
+ghost use Rattle.std.specs.Prelude.{◌≡◌, ◌<◌, [], IfOk, Some, vec_capacity};
 
 use crate::sources::{Source, SourceFault};
 use snl_machine::{Sink, SinkFault};
@@ -19,7 +19,8 @@ impl<'b> Feed<'b> {
     /// A source of these bytes that gives at most so many in one read.
     pub fn new(bytes: &'b [u8], most: usize) -> Self
         requires { 0 < most }
-        ensures { result.left.now ≡ bytes.now }
+        ensures bytes { result.left.now ≡ bytes.now }
+        ensures most { result.most ≡ most }
     {
         Feed { left: bytes, most }
     }
@@ -58,6 +59,8 @@ impl Sheet {
     pub fn new(alloc: Global, room: usize, most: usize) -> Result<Self, AllocError>
         requires { 0 < most }
         ensures text { IfOk result (λ sheet. sheet.text.items ≡ []) }
+        ensures room { IfOk result (λ sheet. vec_capacity sheet.text ≡ room) }
+        ensures most { IfOk result (λ sheet. sheet.most ≡ most) }
         ensures failures { IfOk result (λ sheet. sheet.failures ≡ 0) }
     {
         Ok(Sheet {

@@ -8,6 +8,7 @@ mod linking;
 mod marks;
 mod operands;
 mod queues;
+mod reckoning;
 mod rows;
 mod running;
 mod single;

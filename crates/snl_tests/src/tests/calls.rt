@@ -4,7 +4,7 @@ use crate::PROGRAM;
 use arrayvec::ArrayVec;
 use snl_check::{Checked, Options, Severity, check};
 use snl_links::Macros;
-use snl_machine::{Event, Live, Machine, laws as machine, load_and_drop};
+use snl_machine::{Event, Live, Machine, laws as machine};
 use snl_text::{Kind, Lexed, lex};
 use snl_trace::{
     End, Feed, LINE_LIMIT, Sheet, TIME_LIMIT, TraceFault, laws as trace, read_line, run,
@@ -30,7 +30,7 @@ fn loaded(alloc: Global) -> Result<Box<Machine>, Fail> {
     let macros = Macros {
         text: b"".as_slice(),
     };
-    let machine = load_and_drop(alloc, checked, &macros, 10)?;
+    let machine = Machine::load(alloc, checked, &macros, 10)?;
     Ok(Box::new(alloc, machine)?)
 }
 
@@ -111,6 +111,8 @@ fn laws() {
     machine::first_holds();
     machine::events_fit();
     machine::reached_hold();
+    machine::frame_stays();
+    machine::frame_is_the_first();
     trace::text_begins();
 }
 

@@ -16,7 +16,7 @@ invariant_of-result c =
     let code = c.in_ok-code.code in
     let plan = c.in_ok-plan.plan in
     let links-are = ap (map link_view) c.as_slice-links.ensures.value ∙ c.in_ok-links.ensures in
-    let room = c.in_ok-operands.ensures ∙ c.depth.ensures in
+    let room = c.in_ok-operands.ensures.room ∙ c.depth.ensures in
     let counted : code.depth < 2 ^ 64 - 1 = omega (arith, room, c.in_ok-operands.operands.items.small) in
     let is = loaded-is p ls (map link_view c.as_slice-links.result.now) c.args.waits code plan links-are c.in_ok-plan.ensures c.in_ok-code.ensures counted in
     record { room = room; runs = (plans_are_right p ls c.args.waits code (loaded_by plan code) is).1 }
@@ -29,7 +29,7 @@ returns-clause-made c =
     let plan = c.in_ok-plan.plan in
     let links-are = ap (map link_view) c.as_slice-links.ensures.value ∙ c.in_ok-links.ensures in
     let named-are = ap (map link_view) c.as_slice.ensures.value ∙ c.in_ok-links.ensures in
-    let room = c.in_ok-operands.ensures ∙ c.depth.ensures in
+    let room = c.in_ok-operands.ensures.room ∙ c.depth.ensures in
     let counted : code.depth < 2 ^ 64 - 1 = omega (arith, room, c.in_ok-operands.operands.items.small) in
     record {
       loaded = loaded-is p ls (map link_view c.as_slice-links.result.now) c.args.waits code plan links-are c.in_ok-plan.ensures c.in_ok-code.ensures counted;

@@ -9,8 +9,7 @@ use Rattle.snl_trace.proofs.runner.run.Goals as goal
 pub loop-reads-init : goal.loop-reads-init
 loop-reads-init g c = record {
   way = rw c.new-line.ensures (under_way-start _ _ _);
-  task = refl;
-  budget = refl;
+  fixed = refl;
   begun = rw c.new-line.ensures (omega arith);
   room = refl;
   lines = omega arith;
@@ -23,24 +22,24 @@ returns-in-Err-clause-does g c = under_way-broken _ (rules-long c.args.machine.n
 
 pub returns-in-Ok-eq0-clause-does : goal.returns-in-Ok-eq0-clause-does
 returns-in-Ok-eq0-clause-does g c =
-    let same : rules_of c.loop-reads.machine ≡ rules_of c.args.machine.now = rules-same c.args.machine.now c.loop-reads.machine c.loop-reads.invariant.task c.loop-reads.invariant.budget in
+    let same : rules_of c.loop-reads.machine ≡ rules_of c.args.machine.now = rules-same c.args.machine.now c.loop-reads.machine c.loop-reads.invariant.fixed in
     let some : 0 < length c.read.new.room = omega (arith, c.read.auto.room, c.loop-reads.invariant.room) in
     let nothing : c.in-Ok-eq0.field-0 ≡ 0 = omega arith in
     under_way-ended (rules_of c.args.machine.now) _ _ _ _ c.in-Ok-eq0.field-0 c.read.new.room c.finish.result _ _ _ _ refl c.loop-reads.invariant.way c.in-Ok-eq0.ensures.given nothing some
     (rw (c.as_slice.ensures.value, same) at c.finish.ensures.does)
 
-pub returns-in-Ok-eq0-clause-task : goal.returns-in-Ok-eq0-clause-task
-returns-in-Ok-eq0-clause-task g c = c.finish.ensures.task ∙ c.loop-reads.invariant.task
+pub returns-in-Ok-eq0-clause-fixed : goal.returns-in-Ok-eq0-clause-fixed
+returns-in-Ok-eq0-clause-fixed g c = c.finish.ensures.fixed ∙ c.loop-reads.invariant.fixed
 
-pub returns-in-Some-clause-task : goal.returns-in-Some-clause-task
-returns-in-Some-clause-task g c = c.take_in.ensures.task ∙ c.loop-reads.invariant.task
+pub returns-in-Some-clause-fixed : goal.returns-in-Some-clause-fixed
+returns-in-Some-clause-fixed g c = c.take_in.ensures.fixed ∙ c.loop-reads.invariant.fixed
 
-pub returns-clause-task : goal.returns-clause-task
-returns-clause-task g c = c.finish-2.ensures.task ∙ c.loop-reads.invariant.task
+pub returns-clause-fixed : goal.returns-clause-fixed
+returns-clause-fixed g c = c.finish-2.ensures.fixed ∙ c.loop-reads.invariant.fixed
 
 pub returns-in-Some-clause-does : goal.returns-in-Some-clause-does
 returns-in-Some-clause-does g c =
-    let same : rules_of c.loop-reads.machine ≡ rules_of c.args.machine.now = rules-same c.args.machine.now c.loop-reads.machine c.loop-reads.invariant.task c.loop-reads.invariant.budget in
+    let same : rules_of c.loop-reads.machine ≡ rules_of c.args.machine.now = rules-same c.args.machine.now c.loop-reads.machine c.loop-reads.invariant.fixed in
     let n = c.in-Ok.count in
     let room = c.read.new.room in
     let to = standing c.take_in.new.line.items c.take_in.new.number c.take_in.new.machine (g.S.Sink.told c.take_in.new.sink) in
@@ -52,7 +51,7 @@ returns-in-Some-clause-source g c = let ended = c.in-Some.ensures.does [] in fir
 
 pub loop-reads-preserved : goal.loop-reads-preserved
 loop-reads-preserved g c =
-    let same : rules_of c.loop-reads.machine ≡ rules_of c.args.machine.now = rules-same c.args.machine.now c.loop-reads.machine c.loop-reads.invariant.task c.loop-reads.invariant.budget in
+    let same : rules_of c.loop-reads.machine ≡ rules_of c.args.machine.now = rules-same c.args.machine.now c.loop-reads.machine c.loop-reads.invariant.fixed in
     let n = c.in-Ok.count in
     let room = c.read.new.room in
     let some : 0 < n = omega arith in
@@ -60,8 +59,7 @@ loop-reads-preserved g c =
     record {
       way = under_way-on _ _ _ _ _ n room _ _ _ c.loop-reads.invariant.way c.in-Ok.ensures.short c.in-Ok.ensures.given some within
           (rw same at c.in-None.ensures.does);
-      task = c.take_in.ensures.task ∙ c.loop-reads.invariant.task;
-      budget = c.take_in.ensures.budget ∙ c.loop-reads.invariant.budget;
+      fixed = c.take_in.ensures.fixed ∙ c.loop-reads.invariant.fixed;
       begun = c.in-None.ensures.room;
       room = omega (arith, c.read.auto.room, c.loop-reads.invariant.room);
       lines = omega (arith, c.take_in.ensures.lines, c.loop-reads.invariant.lines, c.read.auto.room, c.loop-reads.invariant.room, c.in-Ok.ensures.count, length-take n room);

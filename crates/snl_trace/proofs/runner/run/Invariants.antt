@@ -1,5 +1,5 @@
 use Rattle.std.proofs.Common.{◌≡◌, ◌+◌, ◌*◌, ◌≤◌, [], length}
-use Rattle.snl_machine.specs.MachineOf.{task_held}
+use Rattle.snl_machine.specs.MachineOf.{fixed_of}
 use Rattle.snl_trace.specs.Run.{rules_of}
 use Rattle.snl_trace.specs.RunOver.{standing}
 use Rattle.snl_trace.proofs.SourceLaws.{IsUnderWay}
@@ -11,8 +11,7 @@ invariant-loop-reads g l = record {
   way : IsUnderWay (rules_of l.initial.machine) (g.R.Source.rest l.initial.source) (g.R.Source.rest l.source) l._reads
       (standing [] 1 l.initial.machine (g.S.Sink.told l.initial.sink))
       (standing l.line.items l.number l.machine (g.S.Sink.told l.sink));
-  task : task_held l.machine ≡ task_held l.initial.machine;
-  budget : l.machine.budget ≡ l.initial.machine.budget;
+  fixed : fixed_of l.machine ≡ fixed_of l.initial.machine;
   begun : length l.line.items ≤ 32768;
   room : length l.room ≡ 65536;
   lines : l.number ≤ 1 + l._reads * 65536;

@@ -8,21 +8,19 @@ use Rattle.snl_trace.proofs.runner.take_in.Goals as goal
 pub loop-text-init : goal.loop-text-init
 loop-text-init g c = record {
   way = way-start _ _ _;
-  task = refl;
-  budget = refl;
+  fixed = refl;
   lines = search rules;
   none_failed = refl;
 }
 
 pub loop-text-preserved : goal.loop-text-preserved
 loop-text-preserved g c =
-    let same : rules_of c.loop-text.machine ≡ rules_of c.args.machine.now = rules-same c.args.machine.now c.loop-text.machine c.loop-text.invariant.task c.loop-text.invariant.budget in
+    let same : rules_of c.loop-text.machine ≡ rules_of c.args.machine.now = rules-same c.args.machine.now c.loop-text.machine c.loop-text.invariant.fixed in
     let cut : c.loop-text.left.now ≡ (c.in-Some.text.now ++ 10 ∷ []) ++ c.in-Some.rest.now =
     c.in-Some.ensures.cut ∙ sym (append_assoc c.in-Some.text.now (10 ∷ []) c.in-Some.rest.now) in
     record {
       way = way-on _ _ _ _ _ _ _ _ c.loop-text.invariant.way cut (rw same at c.in-None.ensures.does);
-      task = c.take_line.ensures.task ∙ c.loop-text.invariant.task;
-      budget = c.take_line.ensures.budget ∙ c.loop-text.invariant.budget;
+      fixed = c.take_line.ensures.fixed ∙ c.loop-text.invariant.fixed;
       lines = omega (
         arith,
         c.loop-text.invariant.lines,
@@ -36,14 +34,14 @@ loop-text-preserved g c =
 
 pub returns-in-Some-take_line-clause-does : goal.returns-in-Some-take_line-clause-does
 returns-in-Some-take_line-clause-does g c =
-    let same : rules_of c.loop-text.machine ≡ rules_of c.args.machine.now = rules-same c.args.machine.now c.loop-text.machine c.loop-text.invariant.task c.loop-text.invariant.budget in
+    let same : rules_of c.loop-text.machine ≡ rules_of c.args.machine.now = rules-same c.args.machine.now c.loop-text.machine c.loop-text.invariant.fixed in
     let cut : c.loop-text.left.now ≡ (c.in-Some.text.now ++ 10 ∷ []) ++ c.in-Some.rest.now =
     c.in-Some.ensures.cut ∙ sym (append_assoc c.in-Some.text.now (10 ∷ []) c.in-Some.rest.now) in
     let to = standing c.take_line.new.line.items c.take_line.new.number c.take_line.new.machine (g.S.Sink.told c.take_line.new.sink) in
     way-ends _ _ _ _ _ c.in-Some-take_line.end _ _ to c.loop-text.invariant.way cut (rw same at c.in-Some-take_line.ensures.does)
 
-pub returns-in-Some-take_line-clause-task : goal.returns-in-Some-take_line-clause-task
-returns-in-Some-take_line-clause-task g c = c.take_line.ensures.task ∙ c.loop-text.invariant.task
+pub returns-in-Some-take_line-clause-fixed : goal.returns-in-Some-take_line-clause-fixed
+returns-in-Some-take_line-clause-fixed g c = c.take_line.ensures.fixed ∙ c.loop-text.invariant.fixed
 
 pub returns-in-Ok-clause-does : goal.returns-in-Ok-clause-does
 returns-in-Ok-clause-does g c =

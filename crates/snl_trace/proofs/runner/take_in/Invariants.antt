@@ -1,5 +1,5 @@
 use Rattle.std.proofs.Common.{◌≡◌, ◌+◌, ◌≤◌, length}
-use Rattle.snl_machine.specs.MachineOf.{task_held}
+use Rattle.snl_machine.specs.MachineOf.{fixed_of}
 use Rattle.snl_trace.specs.Run.{rules_of}
 use Rattle.snl_trace.specs.RunOver.{standing}
 use Rattle.snl_trace.proofs.RunOverLaws.{IsPartWay}
@@ -11,8 +11,7 @@ invariant-loop-text g l = record {
   way : IsPartWay (rules_of l.initial.machine) l.bytes l.left
       (standing l.initial.line.items l.initial.number l.initial.machine (g.S.Sink.told l.initial.sink))
       (standing l.line.items l.number l.machine (g.S.Sink.told l.sink));
-  task : task_held l.machine ≡ task_held l.initial.machine;
-  budget : l.machine.budget ≡ l.initial.machine.budget;
+  fixed : fixed_of l.machine ≡ fixed_of l.initial.machine;
   lines : l.number + length l.left ≤ l.initial.number + length l.bytes;
   none_failed : g.S.Sink.failures l.sink ≡ g.S.Sink.failures l.initial.sink;
 }
