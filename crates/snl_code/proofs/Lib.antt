@@ -1,3 +1,10 @@
 pub mod Placed
 pub mod DepthLaws
 pub mod Deepest
+pub mod InsideParts
+pub mod InsideWords
+pub mod InsideValues
+pub mod InsideBlocks
+pub mod Inside
+pub mod InsidePieces
+pub mod CodeInside

@@ -17,13 +17,13 @@ use Rattle.snl_code.specs.declared.starts.ClauseStarts.{ClauseStarts}
 use Rattle.snl_code.specs.declared.starts.Piece.{Piece}
 use Rattle.snl_code.specs.declared.starts.Piece.TheVariants.{ProgramEntry, ProgramExit, Entry, Exit, Condition, Block}
 use Rattle.snl_code.specs.Layout.{row_code, row_starts, maybe_code, start_after, clause_code, clause_starts, state_code, state_starts, set_code, set_starts, program_code, program_starts}
-use Rattle.snl_code.specs.Pieces.{Test, Action, state_at, clause_at, piece_of, IsPlaced, texts_of, IsCodeOf}
+use Rattle.snl_code.specs.Pieces.{PieceTree, Test, Action, state_at, clause_at, piece_of, IsPlaced, texts_of, IsCodeOf}
 use Rattle.snl_code.specs.Starts.{StateTable, state_tables, table_of, state_in, clause_in, start_in}
 
 -- ---- lists
 
 -- what stands behind a front has its length as its number
-get-behind : {A : Type 0} (before : List A) (a : A) (after : List A) → slice_get (before ++ a ∷ after) (length before) ≡ Some a
+pub get-behind : {A : Type 0} (before : List A) (a : A) (after : List A) → slice_get (before ++ a ∷ after) (length before) ≡ Some a
 get-behind [] a after = refl
 get-behind (b ∷ before) a after = get-behind before a after
 
@@ -71,31 +71,56 @@ row-found code starts (a ∷ all) k before after whole e zero =
 row-found code starts (a ∷ all) k before after whole e (suc i) =
     row-found code starts all (suc k) (before ++ code k a) after whole (e ∙ regrouped before (code k a) (row_code code (suc k) all) after) i
 
+-- ---- pieces
+
+-- the code of a piece
+abbrev pub piece_code : ProgramTree → PieceTree → List Instr
+piece_code p (Test set e) = condition_piece (here_in p set) e
+piece_code p (Action set b) = block_piece (here_in p set) b
+
+-- there is an address for a piece where there is a piece, and its code stands there
+abbrev pub Stands : ProgramTree → List Instr → Option PieceTree → Option ℕ → Type 0
+Stands p code (Some piece) (Some start) = (before : List Instr) × (after : List Instr) × (code ≡ before ++ (piece_code p piece ++ after)) × (start ≡ length before)
+Stands p code None None = Unit {0}
+Stands p code _ _ = ⊥
+
+-- where its code stands, it is right for it
+stands-right : (p : ProgramTree) (code : List Instr) (o : Option PieceTree) (t : Option ℕ) → Stands p code o t → IsPlaced p code o t
+stands-right p code None None f = tt
+stands-right p code None (Some start) f = absurd f
+stands-right p code (Some piece) None f = absurd f
+stands-right p code (Some (Test set e)) (Some start) f = λ room deep.
+    conditions-right (here_in p set) code room start e
+    (subst (λ n. HasAt code n (condition_piece (here_in p set) e)) (sym f.3) (has-at f.0 (condition_piece (here_in p set) e) f.1 code f.2)) deep
+stands-right p code (Some (Action set b)) (Some start) f = λ room deep.
+    blocks-right (here_in p set) code room start b
+    (subst (λ n. HasAt code n (block_piece (here_in p set) b)) (sym f.3) (has-at f.0 (block_piece (here_in p set) b) f.1 code f.2)) deep
+
 module _ (p : ProgramTree) (whole : List Instr) (set : ℕ) where
   abbrev h : Here
   h = here_in p set
 
   -- a block that may be missing
-  block-placed : (o : Option BlockTree) (before after : List Instr) → whole ≡ before ++ (maybe_code (block_piece h) o ++ after) → IsPlaced p whole (option_map (Action set) o) (start_after before o)
+  block-placed : (o : Option BlockTree) (before after : List Instr) → whole ≡ before ++ (maybe_code (block_piece h) o ++ after) → Stands p whole (option_map (Action set) o) (start_after before o)
   block-placed None before after e = tt
-  block-placed (Some b) before after e = λ room deep. blocks-right h whole room (length before) b (has-at before (block_piece h b) after whole e) deep
+  block-placed (Some b) before after e = (before, after, e, refl)
 
   -- a condition that may be missing
   condition-placed : (o : Option ExprTree) (before after : List Instr) → whole ≡ before ++ (maybe_code (condition_piece h) o ++ after)
-      → IsPlaced p whole (option_map (Test set) o) (start_after before o)
+      → Stands p whole (option_map (Test set) o) (start_after before o)
   condition-placed None before after e = tt
-  condition-placed (Some c) before after e = λ room deep. conditions-right h whole room (length before) c (has-at before (condition_piece h c) after whole e) deep
+  condition-placed (Some c) before after e = (before, after, e, refl)
 
   -- the entry block of a state
   entry-placed : (k : ℕ) (o : Option StateTree) (t : Option StateTable) → Found (state_code h) (state_starts h) whole k o t
-      → IsPlaced p whole (option_and_then (λ s. option_map (Action set) s.entry) o) (option_and_then (λ s. s.entry) t)
+      → Stands p whole (option_and_then (λ s. option_map (Action set) s.entry) o) (option_and_then (λ s. s.entry) t)
   entry-placed k None None f = tt
   entry-placed k (Some s) (Some t) f =
       let before = f.0 in
       let after = f.1 in
       let e = f.2 in
       let is = f.3 in
-      subst (λ t. IsPlaced p whole (option_map (Action set) s.entry) t.entry) (sym is)
+      subst (λ t. Stands p whole (option_map (Action set) s.entry) t.entry) (sym is)
       (block-placed s.entry before ((row_code (clause_code h) 0 s.clauses ++ maybe_code (block_piece h) s.exit) ++ after)
       (e ∙ ap (λ l. before ++ l) (append_assoc (maybe_code (block_piece h) s.entry) (row_code (clause_code h) 0 s.clauses ++ maybe_code (block_piece h) s.exit) after)))
   entry-placed k None (Some t) f = absurd f
@@ -110,14 +135,14 @@ module _ (p : ProgramTree) (whole : List Instr) (set : ℕ) where
 
   -- the exit block of a state
   exit-placed : (k : ℕ) (o : Option StateTree) (t : Option StateTable) → Found (state_code h) (state_starts h) whole k o t
-      → IsPlaced p whole (option_and_then (λ s. option_map (Action set) s.exit) o) (option_and_then (λ s. s.exit) t)
+      → Stands p whole (option_and_then (λ s. option_map (Action set) s.exit) o) (option_and_then (λ s. s.exit) t)
   exit-placed k None None f = tt
   exit-placed k (Some s) (Some t) f =
       let before = f.0 in
       let after = f.1 in
       let e = f.2 in
       let is = f.3 in
-      subst (λ t. IsPlaced p whole (option_map (Action set) s.exit) t.exit) (sym is)
+      subst (λ t. Stands p whole (option_map (Action set) s.exit) t.exit) (sym is)
       (block-placed s.exit ((before ++ maybe_code (block_piece h) s.entry) ++ row_code (clause_code h) 0 s.clauses) after
       (clauses-at s before after e
       ∙ sym (append_assoc (before ++ maybe_code (block_piece h) s.entry) (row_code (clause_code h) 0 s.clauses) (maybe_code (block_piece h) s.exit ++ after))))
@@ -140,14 +165,14 @@ module _ (p : ProgramTree) (whole : List Instr) (set : ℕ) where
 
   -- its condition
   clause-condition : (k : ℕ) (o : Option ClauseTree) (t : Option ClauseStarts) → Found (clause_code h) (clause_starts h) whole k o t
-      → IsPlaced p whole (option_and_then (λ c. option_map (Test set) c.condition) o) (option_and_then (λ c. c.condition) t)
+      → Stands p whole (option_and_then (λ c. option_map (Test set) c.condition) o) (option_and_then (λ c. c.condition) t)
   clause-condition k None None f = tt
   clause-condition k (Some c) (Some t) f =
       let before = f.0 in
       let after = f.1 in
       let e = f.2 in
       let is = f.3 in
-      subst (λ t. IsPlaced p whole (option_map (Test set) c.condition) t.condition) (sym is)
+      subst (λ t. Stands p whole (option_map (Test set) c.condition) t.condition) (sym is)
       (condition-placed c.condition before (block_piece h c.block ++ after)
       (e ∙ ap (λ l. before ++ l) (append_assoc (maybe_code (condition_piece h) c.condition) (block_piece h c.block) after)))
   clause-condition k None (Some t) f = absurd f
@@ -155,14 +180,14 @@ module _ (p : ProgramTree) (whole : List Instr) (set : ℕ) where
 
   -- its block
   clause-block : (k : ℕ) (o : Option ClauseTree) (t : Option ClauseStarts) → Found (clause_code h) (clause_starts h) whole k o t
-      → IsPlaced p whole (option_map (λ c. Action set c.block) o) (option_map (λ c. c.block) t)
+      → Stands p whole (option_map (λ c. Action set c.block) o) (option_map (λ c. c.block) t)
   clause-block k None None f = tt
   clause-block k (Some c) (Some t) f =
       let before = f.0 in
       let after = f.1 in
       let e = f.2 in
       let is = f.3 in
-      subst (λ t. IsPlaced p whole (Some (Action set c.block)) (Some t.block)) (sym is)
+      subst (λ t. Stands p whole (Some (Action set c.block)) (Some t.block)) (sym is)
       (block-placed (Some c.block) (before ++ maybe_code (condition_piece h) c.condition) after
       (e ∙ regrouped before (maybe_code (condition_piece h) c.condition) (block_piece h c.block) after))
   clause-block k None (Some t) f = absurd f
@@ -203,40 +228,50 @@ module _ (p : ProgramTree) where
       (subst (λ n. Found (set_code p) (set_starts p) (program_code p) n (slice_get p.state_sets set) (slice_get (program_starts p).sets set)) n
       (row-found (set_code p) (set_starts p) p.state_sets 0 first last (program_code p) refl set))
 
-  -- each piece has its address, where the code is right for it
-  all-placed : (piece : Piece) → IsPlaced p (program_code p) (piece_of p piece) (start_in (program_starts p) piece)
-  all-placed ProgramEntry = block-placed p (program_code p) 0 p.entry [] (middle ++ last) refl
-  all-placed ProgramExit =
+  -- each piece stands at its address
+  pub all-stand : (piece : Piece) → Stands p (program_code p) (piece_of p piece) (start_in (program_starts p) piece)
+  all-stand ProgramEntry = block-placed p (program_code p) 0 p.entry [] (middle ++ last) refl
+  all-stand ProgramExit =
       block-placed p (program_code p) 0 p.exit (first ++ middle) []
       (sym (append_assoc first middle last) ∙ ap (λ l. (first ++ middle) ++ l) (sym (append-nil last)))
-  all-placed (Entry set state) =
+  all-stand (Entry set state) =
       entry-placed p (program_code p) set (number 0 state) (state_at p set state) (state_in (program_starts p) set state) (state-found set state)
-  all-placed (Exit set state) =
+  all-stand (Exit set state) =
       exit-placed p (program_code p) set (number 0 state) (state_at p set state) (state_in (program_starts p) set state) (state-found set state)
-  all-placed (Condition set state k) =
+  all-stand (Condition set state k) =
       clause-condition p (program_code p) set (number 0 k) (clause_at p set state k) (clause_in (program_starts p) set state k)
       (clause-found p (program_code p) set k (number 0 state) (state_at p set state) (state_in (program_starts p) set state) (state-found set state))
-  all-placed (Block set state k) =
+  all-stand (Block set state k) =
       clause-block p (program_code p) set (number 0 k) (clause_at p set state k) (clause_in (program_starts p) set state k)
       (clause-found p (program_code p) set k (number 0 state) (state_at p set state) (state_in (program_starts p) set state) (state-found set state))
 
--- What is made of a program's parts, one after another, and of its strings, is its code.
-pub code-made : (p : ProgramTree) (c : Code) (before entered placed : List Instr) (sets : List StateSetTree) → sets ≡ p.state_sets → before ≡ []
-    → entered ≡ before ++ first p → c.entry ≡ start_after before p.entry
-    → placed ≡ entered ++ row_code (set_code p) 0 sets → map state_tables c.sets.items ≡ row_starts (set_code p) (set_starts p) 0 entered sets
-    → c.instrs.items ≡ placed ++ last p → c.exit ≡ start_after placed p.exit → texts_of c ≡ flat_map format_at (sites p)
-    → c.depth ≡ capped (program_depth p) → IsCodeOf p c
-code-made p c before entered placed sets es e0 e1 s1 e2 s2 e3 s3 ex ed =
+-- What is made of a program's parts, one after another, is the program's code,
+pub code-is : (p : ProgramTree) (before entered placed code : List Instr) (sets : List StateSetTree) → sets ≡ p.state_sets → before ≡ [] → entered ≡ before ++ first p
+    → placed ≡ entered ++ row_code (set_code p) 0 sets → code ≡ placed ++ last p → code ≡ program_code p
+code-is p before entered placed code sets es e0 e1 e2 e3 =
     let e1' : entered ≡ first p = e1 ∙ ap (λ l. l ++ first p) e0 in
     let e2' : placed ≡ first p ++ middle p = e2 ∙ (λ j. e1' j ++ row_code (set_code p) 0 (es j)) in
-    let e3' : c.instrs.items ≡ program_code p = e3 ∙ ap (λ l. l ++ last p) e2' ∙ append_assoc (first p) (middle p) (last p) in
+    e3 ∙ ap (λ l. l ++ last p) e2' ∙ append_assoc (first p) (middle p) (last p)
+
+-- where they begin is where its pieces begin,
+pub table-is : (p : ProgramTree) (c : Code) (before entered placed : List Instr) (sets : List StateSetTree) → sets ≡ p.state_sets → before ≡ [] → entered ≡ before ++ first p
+    → c.entry ≡ start_after before p.entry → placed ≡ entered ++ row_code (set_code p) 0 sets
+    → map state_tables c.sets.items ≡ row_starts (set_code p) (set_starts p) 0 entered sets → c.exit ≡ start_after placed p.exit → table_of c ≡ program_starts p
+table-is p c before entered placed sets es e0 e1 s1 e2 s2 s3 =
+    let e1' : entered ≡ first p = e1 ∙ ap (λ l. l ++ first p) e0 in
+    let e2' : placed ≡ first p ++ middle p = e2 ∙ (λ j. e1' j ++ row_code (set_code p) 0 (es j)) in
     let entry : c.entry ≡ start_after [] p.entry = s1 ∙ ap (λ l. start_after l p.entry) e0 in
     let tables : map state_tables c.sets.items ≡ (program_starts p).sets = s2 ∙ (λ j. row_starts (set_code p) (set_starts p) 0 (e1' j) (es j)) in
     let exit : c.exit ≡ (program_starts p).exit = s3 ∙ ap (λ l. start_after l p.exit) e2' in
-    let all : table_of c ≡ program_starts p = (λ j. record { entry = entry j; sets = tables j; exit = exit j }) in
-    record {
-      placed = λ piece. subst (λ l. IsPlaced p l (piece_of p piece) (start_in (table_of c) piece)) (sym e3')
-          (subst (λ t. IsPlaced p (program_code p) (piece_of p piece) (start_in t piece)) (sym all) (all-placed p piece));
-      texts = ex;
-      depth = ed;
-    }
+    (λ j. record { entry = entry j; sets = tables j; exit = exit j })
+
+-- and with its strings it is right for the program.
+pub code-made : (p : ProgramTree) (c : Code) → c.instrs.items ≡ program_code p → table_of c ≡ program_starts p → texts_of c ≡ flat_map format_at (sites p)
+    → c.depth ≡ capped (program_depth p) → IsCodeOf p c
+code-made p c is all ex ed = record {
+  placed = λ piece. subst (λ l. IsPlaced p l (piece_of p piece) (start_in (table_of c) piece)) (sym is)
+      (subst (λ t. IsPlaced p (program_code p) (piece_of p piece) (start_in t piece)) (sym all)
+      (stands-right p (program_code p) (piece_of p piece) (start_in (program_starts p) piece) (all-stand p piece)));
+  texts = ex;
+  depth = ed;
+}

@@ -4,3 +4,4 @@ pub mod DepthParts
 pub mod Starts
 pub mod Layout
 pub mod Pieces
+pub mod Inside

@@ -10,6 +10,7 @@ ghost use Rattle.snl_resolve.specs.Variables.{variables_of};
 ghost use Rattle.snl_emit.specs.BlockCode.{block_piece};
 ghost use Rattle.snl_meaning.specs.Names as names;
 ghost use Rattle.snl_code.specs.Heres as heres;
+ghost use Rattle.snl_code.specs.Inside.{IsInside};
 ghost use Rattle.snl_code.specs.Layout as spec;
 ghost use Rattle.snl_code.specs.Pieces.{IsCodeOf};
 ghost use Rattle.snl_code.specs.Starts.{state_tables};
@@ -205,7 +206,8 @@ fn place_own<'a>(
 /// The code of a program whose sites are given.
 fn code_of<'a>(alloc: Global, program: &Program<'a>, sites: &[Site<'a>]) -> Result<Code, AllocError>
     requires sites { sites.now ≡ programs.sites (program_view program.now) }
-    ensures { IfOk result (IsCodeOf (program_view program.now)) }
+    ensures is { IfOk result (IsCodeOf (program_view program.now)) }
+    ensures inside { IfOk result (IsInside (program_view program.now)) }
 {
     let mut instrs = Vec::new(alloc);
     let entry = place_own(alloc, program, sites, &program.entry, &mut instrs)?;
@@ -230,7 +232,8 @@ fn code_of<'a>(alloc: Global, program: &Program<'a>, sites: &[Site<'a>]) -> Resu
 
 /// The code of a program. The only error is that memory ends.
 pub fn compile<'a>(alloc: Global, program: &Program<'a>) -> Result<Code, AllocError>
-    ensures { IfOk result (IsCodeOf (program_view program.now)) }
+    ensures is { IfOk result (IsCodeOf (program_view program.now)) }
+    ensures inside { IfOk result (IsInside (program_view program.now)) }
 {
     let sites = sites_of(alloc, program)?;
     code_of(alloc, program, sites.as_slice())

@@ -17,6 +17,7 @@ use Rattle.snl_schedule.specs.declared.transitions.Turned.TheVariants.{Stayed, M
 use Rattle.snl_schedule.specs.Refresh.{is_marked, with_mark, copied_to, refreshed_link, refreshed_from}
 use Rattle.snl_schedule.specs.Turn.{turn_of}
 use Rattle.snl_machine.specs.Laws.{TurnsStayApart}
+use Rattle.snl_machine.specs.Worlds.{last_state}
 use Rattle.snl_machine.proofs.Parts.{states-keep}
 use Rattle.snl_machine.proofs.Turning.{Turns, IsSteadyOn, turn-keeps}
 
@@ -42,7 +43,7 @@ module _ (p : ProgramTree) (set other : ℕ) (apart : set ≡ other → ⊥) whe
     fetches = λ place link t w home is. own-changes _ w;
     takes = λ place link t item more w home is has. own-changes _ w;
     flushes = λ link w. refl;
-    marks = λ marks w. refl;
+    marks = λ marks w same. refl;
     notes = λ t w late. refl;
     spends = λ left w is. refl;
   }
@@ -70,9 +71,10 @@ module _ (p : ProgramTree) (set other : ℕ) (apart : set ≡ other → ⊥) whe
   turn-same g = record {
     nothing = λ w. refl;
     both = λ u v w a b. b ∙ a;
+    last = last_state p set;
     states = states-keep p set Same (λ w. refl) (λ u v w a b. b ∙ a) pieces g.states;
     refreshes = λ w. links-same 0 w.ties w;
-    enters = λ state is_timed w. own-changes _ w;
+    enters = λ state within is_timed w. own-changes _ w;
     spends = λ left w is. refl;
     weaker = λ w u a. a;
     before = λ u v w a b. b ∙ a;

@@ -48,7 +48,7 @@ by-in range (Some e) nought = worth-in range (constant_of (is_hidden []) e) noug
 -- ---- words one after another
 
 -- so many elements
-length-elements : (v : Held) (k n : ℕ) → length (first_elements v k n) ≡ n
+pub length-elements : (v : Held) (k n : ℕ) → length (first_elements v k n) ≡ n
 length-elements v k zero = refl
 length-elements v k (suc n) = ap suc (length-elements v (k + 1) n)
 

@@ -24,7 +24,7 @@ use Rattle.snl_schedule.specs.Refresh.{is_marked, with_mark, copied_to, refreshe
 -- ---- words that are replaced
 
 -- what is known of a word after others came from a place on: it is as it was, or one of those
-abbrev IsOneOf : List ℤ → ℕ → List ℤ → ℕ → ℤ → Type 0
+abbrev pub IsOneOf : List ℤ → ℕ → List ℤ → ℕ → ℤ → Type 0
 IsOneOf zs p l q z = (z ≡ slice_index_or l q (pos 0)) ⊎ ((j : ℕ) × (j < length zs) × (p + j ≡ q) × (z ≡ slice_index_or zs j (pos 0)))
 
 -- each word
@@ -98,7 +98,7 @@ module _ (p : ProgramTree) (sized : IsSized p) (set : ℕ) where
 -- ---- values that come
 
 -- where the buffer of a link stands among those of links from a place on
-tie-within : (names : List (List ℕ)) (flags : List ℕ) (copies : List (List Placed)) (ks : List Link) (at i : ℕ) (t : Tied) → at + counts ks ≤ 2 ^ 64 - 1 →
+pub tie-within : (names : List (List ℕ)) (flags : List ℕ) (copies : List (List Placed)) (ks : List Link) (at i : ℕ) (t : Tied) → at + counts ks ≤ 2 ^ 64 - 1 →
     slice_get (ties_from names flags copies at ks) i ≡ Some t → (at ≤ t.from) × (t.from + t.count ≤ at + counts ks)
 tie-within names flags copies [] at i t few is = absurd (cc)
 tie-within names flags copies (l ∷ ks) at zero t few is =
@@ -112,7 +112,7 @@ tie-within names flags copies (l ∷ ks) at (suc i) t few is =
     (omega (arith, rest.0, next), omega (arith, rest.1, next))
 
 -- the buffer of a later link begins after that of an earlier one
-tie-apart : (names : List (List ℕ)) (flags : List ℕ) (copies : List (List Placed)) (ks : List Link) (at i j : ℕ) (t u : Tied) → at + counts ks ≤ 2 ^ 64 - 1 → i < j →
+pub tie-apart : (names : List (List ℕ)) (flags : List ℕ) (copies : List (List Placed)) (ks : List Link) (at i j : ℕ) (t u : Tied) → at + counts ks ≤ 2 ^ 64 - 1 → i < j →
     slice_get (ties_from names flags copies at ks) i ≡ Some t → slice_get (ties_from names flags copies at ks) j ≡ Some u → t.from + t.count ≤ u.from
 tie-apart names flags copies [] at i j t u few less a b = absurd (cc)
 tie-apart names flags copies (l ∷ ks) at i zero t u few less a b = absurd (omega (arith, less))
@@ -140,7 +140,7 @@ all-at f (x ∷ xs) zero all less = (both-true (f x) (list_all f xs) all).0
 all-at f (x ∷ xs) (suc n) all less = all-at f xs n (both-true (f x) (list_all f xs) all).1 (omega (arith, less))
 
 -- no more than so many are taken
-take-few : (n : ℕ) (xs : List ℤ) → length (take n xs) ≤ n
+pub take-few : (n : ℕ) (xs : List ℤ) → length (take n xs) ≤ n
 take-few zero xs = omega arith
 take-few (suc n) [] = omega arith
 take-few (suc n) (x ∷ xs) = let rest = take-few n xs in omega (arith, rest)

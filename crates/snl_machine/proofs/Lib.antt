@@ -1,5 +1,4 @@
 pub mod AsLoaded
-pub mod Tasks
 pub mod Turning
 pub mod Parts
 pub mod Steady
@@ -14,3 +13,10 @@ pub mod Queued
 pub mod Filling
 pub mod Lines
 pub mod Apart
+pub mod States
+pub mod Worlds
+pub mod Tasks
+pub mod Cells
+pub mod Buffers
+pub mod Refreshed
+pub mod LaidOut

@@ -39,7 +39,7 @@ module _ (p : ProgramTree) (ls : List Link) (sized : IsSized p) (tied : IsTied p
     fetches = fetched_holds p ls sized tied set;
     takes = taken_holds p ls sized tied set;
     flushes = λ link w holds. (holds.0, holds.1, holds.2, holds.3, none-fits (ties_in p ls) w.queues link holds.4);
-    marks = λ marks w holds. holds;
+    marks = λ marks w same holds. holds;
     notes = λ t w late holds. holds;
     spends = λ left w is holds. holds;
   }
@@ -55,7 +55,7 @@ module _ (p : ProgramTree) (ls : List Link) (sized : IsSized p) (tied : IsTied p
     both = λ u v w a b holds. b (a holds);
     pieces = pieces-hold;
     refreshes = refresh_holds p ls sized tied;
-    enters = λ set state is_timed w holds. (
+    enters = λ set state within is_timed w holds. (
       changed-fits p sized set (record (copy_of set w) { state = state; entered = if is_timed then w.time else (copy_of set w).entered }) w (λ fit. fit) holds.0,
       holds.1,
       holds.2,

@@ -13,8 +13,10 @@ use Rattle.snl_meaning.specs.World.{World}
 use Rattle.snl_load.specs.Places.{place_after, channels, flags_in, placed_in, placed_sets, home_in, homes_in, tie_of, ties_from, ties_in}
 
 -- A link of a program with its home in the copy of a state set: its variable stands in the copy, and has its elements.
-pub record IsAtHome (p : ProgramTree) (ls : List Link) (set place : ℕ) (t : Tied) : Type 0 where
+pub record IsAtHome (p : ProgramTree) (ls : List Link) (set link place : ℕ) (t : Tied) : Type 0 where
   pub l : Link
+  pub is : slice_get ls link ≡ Some l
+  pub count : l.count ≡ t.count
   pub v : Variable
   pub variable : variable_in (placed_in p set) l.variable.offset ≡ Some v
   pub there : place_after v.place l.first ≡ place
@@ -59,7 +61,7 @@ tie-count names flags copies (k ∷ ks) at (suc i) l t a b = tie-count names fla
 
 -- what a home in a world tells, where links are as the program says
 pub at_home : (p : ProgramTree) (ls : List Link) (tied : IsTied p ls) (set link place : ℕ) (t : Tied) (w : World) → w.homes ≡ homes_in (placed_sets p 0 p.state_sets) ls →
-    home_of set link w ≡ Some place → slice_get (ties_in p ls) link ≡ Some t → IsAtHome p ls set place t
+    home_of set link w ≡ Some place → slice_get (ties_in p ls) link ≡ Some t → IsAtHome p ls set link place t
 at_home p ls tied set link place t w homes home at =
     let in_set = for-set p ls p.state_sets 0 set link place (ap (λ (hs : List (List (Option ℕ))). slice_index_or (slice_index_or hs set []) link None) (sym homes) ∙ home) in
     let own : 0 + set ≡ set = omega arith in
@@ -71,4 +73,4 @@ at_home p ls tied set link place t w homes home at =
     let count = tie-count (channels ls) (flags_in p) (placed_sets p 0 p.state_sets) ls 0 link l t found.1 at in
     let within = tied.within set link l v found.1 var.1 in
     let type = tied.type set link l t v found.1 at var.1 in
-    record { l = l; v = v; variable = var.1; there = var.2; within = omega (arith, within, count); least = type.0; greatest = type.1 }
+    record { l = l; is = found.1; count = count; v = v; variable = var.1; there = var.2; within = omega (arith, within, count); least = type.0; greatest = type.1 }

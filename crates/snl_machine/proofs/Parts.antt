@@ -1,13 +1,30 @@
 -- What the pieces of the states of a state set keep of the world, by what its conditions and blocks keep.
 use Rattle.std.proofs.Common.{ℕ, List, [], ◌∷◌, Option, None, Some, map}
-use Rattle.snl_syntax.specs.Programs.{ClauseTree, StateTree, ProgramTree}
+use Rattle.snl_syntax.specs.Programs.{TargetTree, to_state, to_exit, ClauseTree, StateTree, ProgramTree}
 use Rattle.snl_syntax.specs.Statements.{BlockTree}
 use Rattle.snl_code.specs.Heres.{here_in}
 use Rattle.snl_meaning.specs.Effect.{Way, Done, Broken, Continued, Left, block_effect}
 use Rattle.snl_meaning.specs.Keeping.{PiecesKeep}
 use Rattle.snl_meaning.specs.World.{World}
-use Rattle.snl_load.specs.Meaning.{left_for, finished, block_meaning, clause_meaning, state_meaning}
-use Rattle.snl_machine.proofs.Turning.{Keeps, ClausesKeep, StateKeeps, StatesKeep, then-keeps}
+use Rattle.snl_load.specs.Meaning.{left_for, finished, block_meaning, target_of, clause_meaning, state_meaning}
+use Rattle.snl_meaning.specs.Ran.{Ran, Gives, Faults, then_do}
+use Rattle.snl_meaning.proofs.Leaving.{Within, block-within, state-below}
+use Rattle.snl_machine.specs.Worlds.{last_state}
+use Rattle.snl_machine.proofs.Turning.{Keeps, LeadsWithin, ActsWithin, ClausesKeep, StateKeeps, StatesKeep, then-keeps}
+
+module _ (p : ProgramTree) (set : ℕ) where
+  -- a clause leads to a state of its state set
+  target-leads : (target : TargetTree) → LeadsWithin (last_state p set) (target_of (here_in p set).states target)
+  target-leads (to_state x) = state-below (here_in p set).states x.text.now
+  target-leads to_exit = tt
+
+  -- so does what its block leaves for
+  left-leads : (r : Ran Way) → Within (last_state p set) r → ActsWithin (last_state p set) (then_do r left_for)
+  left-leads (Gives Done w text) h = tt
+  left-leads (Gives Broken w text) h = tt
+  left-leads (Gives Continued w text) h = tt
+  left-leads (Gives (Left state) w text) h = h
+  left-leads (Faults f line w text) h = tt
 
 module _ (p : ProgramTree) (set : ℕ) (R : World → World → Type 0) (nothing : (w : World) → R w w) (both : (u v w : World) → R u v → R v w → R u w)
     (pieces : PiecesKeep (here_in p set) R) where
@@ -24,16 +41,23 @@ module _ (p : ProgramTree) (set : ℕ) (R : World → World → Type 0) (nothing
   block-keeps (Some b) w = then-keeps R both w (block_effect (here_in p set) b w) finished (pieces.block b w) (λ way u. nothing u)
 
   -- clauses
-  clauses-keep : (cs : List ClauseTree) → ClausesKeep R (map (clause_meaning (here_in p set)) cs)
+  clauses-keep : (cs : List ClauseTree) → ClausesKeep R (last_state p set) (map (clause_meaning (here_in p set)) cs)
   clauses-keep [] = tt
-  clauses-keep (c ∷ cs) =
-      (record { holds = pieces.condition c.condition; acts = λ w. then-keeps R both w (block_effect (here_in p set) c.block w) left_for (pieces.block c.block w) left-keeps }, clauses-keep cs)
+  clauses-keep (c ∷ cs) = (
+    record {
+      holds = pieces.condition c.condition;
+      acts = λ w. then-keeps R both w (block_effect (here_in p set) c.block w) left_for (pieces.block c.block w) left-keeps;
+      leads = target-leads p set c.target;
+      leaves = λ w. left-leads p set (block_effect (here_in p set) c.block w) (block-within (here_in p set) c.block w);
+    },
+    clauses-keep cs,
+  )
 
   -- a state
-  state-keeps : (q : StateTree) → StateKeeps R (state_meaning (here_in p set) q)
+  state-keeps : (q : StateTree) → StateKeeps R (last_state p set) (state_meaning (here_in p set) q)
   state-keeps q = record { entry = block-keeps q.entry; clauses = clauses-keep q.clauses; exit = block-keeps q.exit }
 
   -- states
-  pub states-keep : (qs : List StateTree) → StatesKeep R (map (state_meaning (here_in p set)) qs)
+  pub states-keep : (qs : List StateTree) → StatesKeep R (last_state p set) (map (state_meaning (here_in p set)) qs)
   states-keep [] = tt
   states-keep (q ∷ qs) = (state-keeps q, states-keep qs)

@@ -1,5 +1,5 @@
 -- What every step of a run keeps of the world: turns, rounds, instants.
-use Rattle.std.proofs.Common.{◌≡◌, ◌+◌, ℕ, zero, suc, ℤ, pos, Bool, true, false, List, [], ◌∷◌, Option, None, Some, if◌then◌else◌}
+use Rattle.std.proofs.Common.{◌≡◌, ◌≤◌, ◌+◌, ℕ, zero, suc, ℤ, pos, Bool, true, false, List, [], ◌∷◌, Option, None, Some, if◌then◌else◌}
 use Rattle.snl_syntax.specs.Programs.{StateSetTree, ProgramTree}
 use Rattle.snl_links.specs.Links.{Link}
 use Rattle.snl_meaning.specs.declared.live.Live.{Live}
@@ -20,6 +20,7 @@ use Rattle.snl_schedule.specs.declared.transitions.Turned.TheVariants.{Stayed, M
 use Rattle.snl_schedule.specs.Instant.{Program, first_name, owned, later, is_exit, unless_exited, round_from, round_of, closed_by, exited, unless_still, rounds_of, is_ready, refreshed_sets, begun, begun_sets, opened, told_start, started, all_rounds, instant_by}
 use Rattle.snl_schedule.specs.Refresh.{is_marked, with_mark, copied_to, refreshed_link, refreshed_from, refreshed}
 use Rattle.snl_schedule.specs.Turn.{entered_in, StateSet, turn_of}
+use Rattle.snl_machine.specs.Worlds.{last_state}
 use Rattle.snl_machine.proofs.Parts.{block-keeps, states-keep}
 use Rattle.snl_machine.proofs.Turning.{Keeps, Stands, Turns, IsSteadyOn, after-text, told-after, then-keeps, turns-also, begun-keeps, turn-keeps}
 
@@ -30,7 +31,7 @@ pub record IsSteady (p : ProgramTree) (R S : World → World → Type 0) : Type 
   pub both : (u v w : World) → R u v → R v w → R u w
   pub pieces : (set : ℕ) → PiecesKeep (here_in p set) R
   pub refreshes : (set : ℕ) (w : World) → R w (refreshed set w)
-  pub enters : (set state : ℕ) (is_timed : Bool) (w : World) → R w (entered_in set state is_timed w)
+  pub enters : (set state : ℕ) → state ≤ last_state p set → (is_timed : Bool) (w : World) → R w (entered_in set state is_timed w)
   -- at the beginning of a round no due time is noted
   pub opens : (w : World) → R w (record w { due = None })
   -- after the last one the wake is the least due time
@@ -74,7 +75,7 @@ module _ (R S : World → World → Type 0) (s : IsLoose R S) where
     fetches = λ place link t w home is. s.copies _ w;
     takes = λ place link t item more w home is has. let u = with_elements set place item w in s.both w u (with_items link more u) (s.copies _ w) (s.queues _ u);
     flushes = λ link w. s.queues _ w;
-    marks = s.marks;
+    marks = λ marks w same. s.marks marks w;
     notes = s.notes;
     spends = λ left w is. s.weaker w (record w { ticks = left }) (s.spends left w is);
   }
@@ -107,7 +108,7 @@ module _ (R S : World → World → Type 0) (s : IsLoose R S) where
     both = s.both;
     pieces = λ set. pieces-keep (here_in p set) Any R (any-may (here_in p set)) (kept set);
     refreshes = λ set w. links-keep set 0 w.ties w;
-    enters = λ set state is_timed w. s.copies _ w;
+    enters = λ set state within is_timed w. s.copies _ w;
     opens = s.opens;
     wakes = s.wakes;
     phase = s.phase;
@@ -130,6 +131,7 @@ module _ (p : ProgramTree) (ls : List Link) (waiting : Bool) (R S : World → Wo
   set-keeps k g = record {
     nothing = s.nothing;
     both = s.both;
+    last = last_state p k;
     states = states-keep p k R s.nothing s.both (s.pieces k) g.states;
     refreshes = s.refreshes k;
     enters = s.enters k;

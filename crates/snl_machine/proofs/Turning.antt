@@ -1,5 +1,5 @@
 -- What a turn of a state set keeps of the world.
-use Rattle.std.proofs.Common.{◌≡◌, refl, ℕ, zero, suc, Bool, true, false, List, [], ◌∷◌, Option, None, Some, slice_index_or}
+use Rattle.std.proofs.Common.{◌≡◌, ◌≤◌, refl, arith, ℕ, zero, suc, Bool, true, false, List, [], ◌∷◌, Option, None, Some, slice_index_or}
 use Rattle.snl_output.specs.Lines.{go_line}
 use Rattle.snl_meaning.specs.Keeping.{world_after}
 use Rattle.snl_meaning.specs.Ran.{Ran, Gives, Faults, also, then_do}
@@ -18,27 +18,6 @@ module _ (R : World → World → Type 0) where
   abbrev pub Keeps : {A : Type 0} → (World → Ran A) → Type 0
   Keeps act = (w : World) → R w (world_after (act w))
 
-  -- condition and block of a clause
-  pub record ClauseKeeps (c : Clause) : Type 0 where
-    pub holds : Keeps c.holds
-    pub acts : Keeps c.acts
-
-  -- those of all clauses of a state
-  abbrev pub ClausesKeep : List Clause → Type 0
-  ClausesKeep [] = Unit {0}
-  ClausesKeep (c ∷ cs) = ClauseKeeps c × ClausesKeep cs
-
-  -- all pieces of a state
-  pub record StateKeeps (q : State) : Type 0 where
-    pub entry : Keeps q.entry
-    pub clauses : ClausesKeep q.clauses
-    pub exit : Keeps q.exit
-
-  -- those of all states of a state set
-  abbrev pub StatesKeep : List State → Type 0
-  StatesKeep [] = Unit {0}
-  StatesKeep (q ∷ qs) = StateKeeps q × StatesKeep qs
-
   -- text does not matter
   pub after-text : {A : Type 0} (w : World) (text : List ℕ) (r : Ran A) → R w (world_after r) → R w (world_after (also text r))
   after-text w text (Gives v u more) h = h
@@ -54,6 +33,51 @@ module _ (R : World → World → Type 0) where
       R w (world_after r) → ((a : A) → Keeps (go a)) → R w (world_after (then_do r go))
   then-keeps both w (Gives a u text) go h k = after-text w text (go a u) (both w u (world_after (go a u)) h (k a u))
   then-keeps both w (Faults f line u text) go h k = h
+
+-- a clause leads to no state after the last
+abbrev pub LeadsWithin : ℕ → Destination → Type 0
+LeadsWithin last (to.State state) = state ≤ last
+LeadsWithin last to.Exit = Unit {0}
+
+-- nor is a state that a block leaves for
+abbrev pub LeavesWithin : ℕ → Option ℕ → Type 0
+LeavesWithin last None = Unit {0}
+LeavesWithin last (Some state) = state ≤ last
+
+-- and the same of all that a block gives
+abbrev pub ActsWithin : ℕ → Ran (Option ℕ) → Type 0
+ActsWithin last (Gives left w text) = LeavesWithin last left
+ActsWithin last (Faults f line w text) = Unit {0}
+
+-- where a transition leads
+target-within : (last : ℕ) (left : Option ℕ) (target : Destination) → LeavesWithin last left → LeadsWithin last target → LeadsWithin last (target_by left target)
+target-within last None target h k = k
+target-within last (Some state) target h k = h
+
+-- What the pieces of a state set keep, whose last state is of this number.
+module _ (R : World → World → Type 0) (last : ℕ) where
+  -- condition and block of a clause, and where they lead
+  pub record ClauseKeeps (c : Clause) : Type 0 where
+    pub holds : Keeps R c.holds
+    pub acts : Keeps R c.acts
+    pub leads : LeadsWithin last c.target
+    pub leaves : (w : World) → ActsWithin last (c.acts w)
+
+  -- those of all clauses of a state
+  abbrev pub ClausesKeep : List Clause → Type 0
+  ClausesKeep [] = Unit {0}
+  ClausesKeep (c ∷ cs) = ClauseKeeps c × ClausesKeep cs
+
+  -- all pieces of a state
+  pub record StateKeeps (q : State) : Type 0 where
+    pub entry : Keeps R q.entry
+    pub clauses : ClausesKeep q.clauses
+    pub exit : Keeps R q.exit
+
+  -- those of all states of a state set
+  abbrev pub StatesKeep : List State → Type 0
+  StatesKeep [] = Unit {0}
+  StatesKeep (q ∷ qs) = StateKeeps q × StatesKeep qs
 
 module _ (R S : World → World → Type 0) where
   -- what is known after a turn: more, if there was a transition
@@ -72,9 +96,11 @@ module _ (R S : World → World → Type 0) where
 pub record IsSteadyOn (g : StateSet) (R S : World → World → Type 0) : Type 0 where
   pub nothing : (w : World) → R w w
   pub both : (u v w : World) → R u v → R v w → R u w
-  pub states : StatesKeep R g.states
+  -- the number of its last state
+  pub last : ℕ
+  pub states : StatesKeep R last g.states
   pub refreshes : (w : World) → R w (refreshed g.set w)
-  pub enters : (state : ℕ) (is_timed : Bool) (w : World) → R w (entered_in g.set state is_timed w)
+  pub enters : (state : ℕ) → state ≤ last → (is_timed : Bool) (w : World) → R w (entered_in g.set state is_timed w)
   pub spends : (left : ℕ) (w : World) → w.ticks ≡ suc left → S w (record w { ticks = left })
   pub weaker : (w u : World) → S w u → R w u
   pub before : (u v w : World) → R u v → S v w → S u w
@@ -84,7 +110,7 @@ module _ (g : StateSet) (R S : World → World → Type 0) (s : IsSteadyOn g R S
   -- what the choice of a clause gives
   abbrev Chooses : World → Ran (Option Clause) → Type 0
   Chooses w (Gives None u text) = R w u
-  Chooses w (Gives (Some c) u text) = R w u × ClauseKeeps R c
+  Chooses w (Gives (Some c) u text) = R w u × ClauseKeeps R s.last c
   Chooses w (Faults f line u text) = R w u
 
   -- after what was done before
@@ -94,7 +120,7 @@ module _ (g : StateSet) (R S : World → World → Type 0) (s : IsSteadyOn g R S
   chooses-also w u text (Faults f line v t) h k = s.both w u v h k
 
   -- the choice
-  chosen-keeps : (cs : List Clause) → ClausesKeep R cs → (w : World) → Chooses w (chosen cs w)
+  chosen-keeps : (cs : List Clause) → ClausesKeep R s.last cs → (w : World) → Chooses w (chosen cs w)
   chosen-keeps [] all w = s.nothing w
   chosen-keeps (c ∷ cs) all w = by (λ u. chosen-keeps cs all.1 u) (c.holds w) (all.0.holds w)
     where
@@ -126,7 +152,7 @@ module _ (g : StateSet) (R S : World → World → Type 0) (s : IsSteadyOn g R S
   turns-then w u (Faults f line v text) go h k next = s.weaker w v (s.after w u v h k)
 
   -- the state of a number
-  state-keeps : (qs : List State) → StatesKeep R qs → (n : ℕ) → StateKeeps R (slice_index_or qs n no_state)
+  state-keeps : (qs : List State) → StatesKeep R s.last qs → (n : ℕ) → StateKeeps R s.last (slice_index_or qs n no_state)
   state-keeps [] all n = record { entry = s.nothing; clauses = tt; exit = s.nothing }
   state-keeps (q ∷ qs) all zero = all.0
   state-keeps (q ∷ qs) all (suc n) = state-keeps qs all.1 n
@@ -141,28 +167,33 @@ module _ (g : StateSet) (R S : World → World → Type 0) (s : IsSteadyOn g R S
   left-keeps from to w = let q = state_in g from in due-keeps (is_due q.again.exit from to) q.exit (state-keeps g.states s.states from).exit w
 
   -- the new one
-  come-keeps : (from to : ℕ) → Keeps R (come_to g from to)
-  come-keeps from to w =
+  come-keeps : (from to : ℕ) → to ≤ s.last → Keeps R (come_to g from to)
+  come-keeps from to within w =
       let q = state_in g to in
       let timed = is_due q.again.time from to in
       let u = entered_in g.set to timed w in
-      s.both w u (world_after (come_to g from to w)) (s.enters to timed w) (due-keeps (is_due q.again.entry from to) q.entry (state-keeps g.states s.states to).entry u)
+      s.both w u (world_after (come_to g from to w)) (s.enters to within timed w) (due-keeps (is_due q.again.entry from to) q.entry (state-keeps g.states s.states to).entry u)
 
   -- where a transition leads
-  arrived-keeps : (from : ℕ) (target : Destination) (w u : World) → S w u → Turns R S w (arrived g from target u)
-  arrived-keeps from (to.State state) w u h =
+  arrived-keeps : (from : ℕ) (target : Destination) → LeadsWithin s.last target → (w u : World) → S w u → Turns R S w (arrived g from target u)
+  arrived-keeps from (to.State state) within w u h =
       turns-also w (go_line u.time g.name (state_in g from).name (state_in g state).name) (crossed g from state u)
       (turns-then w u (left_for g from state u) (λ _ v. then_do (come_to g from state v) moved) h (left-keeps from state u)
-      (λ _ v k. turns-then w v (come_to g from state v) moved k (come-keeps from state v) (λ _ x m. m)))
-  arrived-keeps from to.Exit w u h = h
+      (λ _ v k. turns-then w v (come_to g from state v) moved k (come-keeps from state within v) (λ _ x m. m)))
+  arrived-keeps from to.Exit within w u h = h
 
   -- the block and the states
-  acted-keeps : (from : ℕ) (c : Clause) → ClauseKeeps R c → (w u : World) → S w u → Turns R S w (acted g from c u)
-  acted-keeps from c all w u h =
-      turns-then w u (c.acts u) (arrived_by g from c.target) h (all.acts u) (λ left v k. arrived-keeps from (target_by left c.target) w v k)
+  acted-keeps : (from : ℕ) (c : Clause) → ClauseKeeps R s.last c → (w u : World) → S w u → Turns R S w (acted g from c u)
+  acted-keeps from c all w u h = by (c.acts u) (all.acts u) (all.leaves u)
+    where
+      by : (r : Ran (Option ℕ)) → R u (world_after r) → ActsWithin s.last r → Turns R S w (then_do r (arrived_by g from c.target))
+      by (Gives left v text) k within =
+          let target = target_by left c.target in
+          turns-also w text (arrived g from target v) (arrived-keeps from target (target-within s.last left c.target within all.leads) w v (s.after w u v h k))
+      by (Faults f line v text) k within = s.weaker w v (s.after w u v h k)
 
   -- a transition
-  transition-keeps : (from : ℕ) (c : Clause) → ClauseKeeps R c → (w : World) → Turns R S w (transition g from c w)
+  transition-keeps : (from : ℕ) (c : Clause) → ClauseKeeps R s.last c → (w : World) → Turns R S w (transition g from c w)
   transition-keeps from c all w = by w.ticks refl
     where
       by : (left : ℕ) → w.ticks ≡ left → Turns R S w (then_do (spent_of c.line left w) (λ _ u. acted g from c u))
@@ -190,7 +221,7 @@ module _ (g : StateSet) (R S : World → World → Type 0) (s : IsSteadyOn g R S
   begun-keeps w =
       let u = entered_in g.set 0 true w in
       let q = state_in g 0 in
-      told-after R g.name w (q.entry u) (s.both w u (world_after (q.entry u)) (s.enters 0 true w) ((state-keeps g.states s.states 0).entry u))
+      told-after R g.name w (q.entry u) (s.both w u (world_after (q.entry u)) (s.enters 0 (omega arith) true w) ((state-keeps g.states s.states 0).entry u))
 
   -- a turn
   pub turn-keeps : (w : World) → Turns R S w (turn_of g w)

@@ -7,16 +7,11 @@ use Rattle.snl_meaning.specs.World.{World, copy_of}
 use Rattle.snl_schedule.specs.Turn.{turn_of}
 use Rattle.snl_load.specs.Meaning.{set_meaning}
 use Rattle.snl_machine.specs.declared.machine.Machine.{Machine}
-use Rattle.snl_machine.specs.MachineOf.{IsMachineOf, fixed_of, task_held, task_of}
+use Rattle.snl_machine.specs.MachineOf.{IsMachineOf, task_held, task_of}
 
 -- A machine of a program runs what the program means on its tree.
 abbrev pub RunsItsProgram : Type 0
 RunsItsProgram = (p : ProgramTree) (ls : List Link) (waits : Bool) (budget : ℕ) (m : Machine) → IsMachineOf p ls waits budget m → task_held m ≡ task_of p ls waits
-
--- A machine that has the plan, the code, the names and the budget of another one is a machine of whatever that one is.
-abbrev pub StaysItsMachine : Type 0
-StaysItsMachine = (p : ProgramTree) (ls : List Link) (waits : Bool) (budget : ℕ) (old new : Machine) →
-    fixed_of new ≡ fixed_of old → IsMachineOf p ls waits budget old → IsMachineOf p ls waits budget new
 
 -- A turn of a state set changes nothing of the copy of another one: all that passes between them is event flags, buffers and
 -- marks.

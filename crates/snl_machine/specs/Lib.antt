@@ -7,3 +7,5 @@ pub mod Rounds
 pub mod Ranges
 pub mod Frames
 pub mod Wakes
+pub mod Worlds
+pub mod Layout

@@ -1,7 +1,8 @@
 -- What a machine holds: what it runs, and the world that its run has come to.
-use Rattle.std.specs.Prelude.{◌≡◌, ℕ, Bool, List}
+use Rattle.std.specs.Prelude.{◌≡◌, ℕ, Bool, List, [], map}
 use Rattle.snl_syntax.specs.Programs.{ProgramTree}
-use Rattle.snl_links.specs.Links.{Link}
+use Rattle.snl_links.specs.Links.{Link, links}
+use Rattle.snl_machine.specs.Worlds.{IsWorldOf}
 use Rattle.snl_meaning.specs.World.{World}
 use Rattle.snl_vm.specs.Views.{world_of}
 use Rattle.snl_code.specs.declared.code.Code.{Code}
@@ -43,9 +44,20 @@ pub record Fixed : Type 0 where
 abbrev pub fixed_of : Machine → Fixed
 fixed_of m = record { plan = m.plan; code = m.code; channels = names_in m.names; budget = m.budget }
 
--- A machine is one of a program, links and a budget, and waits for its channels or does not: its code is right for the
--- program, its plan, names and links are the program's, and it has that budget.
+-- A link but for the name of its channel, which macros may change.
+abbrev pub unnamed : Link → Link
+unnamed l = record l { name = [] }
+
+-- A machine is one of a program, links and a budget, and waits for its channels or does not: the links are the program's, with
+-- whatever names of channels; its code is right for the program; its plan and its names are the program's; its world is one of
+-- the program; and it has that budget.
 pub record IsMachineOf (p : ProgramTree) (ls : List Link) (waits : Bool) (budget : ℕ) (m : Machine) : Type 0 where
+  pub links_are : map unnamed ls ≡ map unnamed (links p [])
   pub loaded : IsLoadedOf p ls waits m.code (loaded_by m.plan m.code)
   pub channels_are : names_in m.names ≡ channels ls
+  pub world_is : IsWorldOf p ls (world_held m)
   pub budget_is : m.budget ≡ budget
+
+-- Of whatever program, links and options a machine was a machine, another one is too.
+abbrev pub StaysMachineOf : Machine → Machine → Type 0
+StaysMachineOf old new = (p : ProgramTree) (ls : List Link) (waits : Bool) (budget : ℕ) → IsMachineOf p ls waits budget old → IsMachineOf p ls waits budget new

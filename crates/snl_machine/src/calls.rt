@@ -1,11 +1,14 @@
 //! The events that a machine takes, and what it tells.
 
-ghost use Rattle.std.specs.Prelude.{◌≡◌, ◌-◌, ◌^◌, ◌<◌, OnErr};
-ghost use Rattle.snl_schedule.specs.Event.{line_of};
+ghost use Rattle.std.specs.Prelude.{◌≡◌, ◌-◌, ◌^◌, ◌<◌, ℕ, Bool, List, OnErr};
+ghost use Rattle.snl_syntax.specs.Programs.{ProgramTree};
+ghost use Rattle.snl_links.specs.Links.{Link};
+ghost use Rattle.snl_load.specs.Meaning.{program_meaning};
+ghost use Rattle.snl_schedule.specs.Event.{HasInstant, line_of};
 ghost use Rattle.snl_output.specs.Devices.{counted, stopped_by_sink};
 ghost use Rattle.snl_output.specs.Does.{Does};
 ghost use Rattle.snl_machine.specs.Lookup.{channel_of, fits_of};
-ghost use Rattle.snl_machine.specs.MachineOf.{fixed_of, task_held, world_held};
+ghost use Rattle.snl_machine.specs.MachineOf.{IsMachineOf, StaysMachineOf, fixed_of, task_held, world_held};
 
 use crate::machine::Machine;
 use snl_load::channel_number;
@@ -40,15 +43,23 @@ impl Machine {
     /// Does what a line of a trace asks for at a time in milliseconds, and hands the lines of the run to the sink. A
     /// machine that has ended does nothing.
     ///
-    /// After a fault, and where the sink fails, the machine has ended, and what was written stands.
+    /// After a fault, and where the sink fails, the machine has ended, and what was written stands. Its time is then that of the
+    /// instant in which that happened: at a wake before the line's time, or at that of the line.
     pub fn event<S: Sink>(&mut self, ms: u64, event: &Event, sink: &mut S) -> Result<Live, Stop>
         requires { S.failures sink.old < 2 ^ 64 - 1 }
         ensures does { Does (λ live. live) result (world_held self.new) (S.told sink.old)
             (S.told sink.new)
             (line_of (task_held self.old).program self.old.budget ms event.now
             (world_held self.old)) }
+        ensures means { (p : ProgramTree) (ls : List Link) (waits : Bool) (budget : ℕ) →
+            IsMachineOf p ls waits budget self.old → Does (λ live. live) result
+            (world_held self.new) (S.told sink.old) (S.told sink.new) (line_of
+            (program_meaning p ls waits) budget ms event.now (world_held self.old)) }
         ensures ended { OnErr result ((world_held self.new).phase ≡ Live.Ended) }
         ensures fixed { fixed_of self.new ≡ fixed_of self.old }
+        ensures stays { StaysMachineOf self.old self.new }
+        ensures time { OnErr result (HasInstant (task_held self.old).program self.old.budget ms
+            (world_held self.old) (world_held self.new).time) }
         ensures failures { S.failures sink.new
             ≡ counted (stopped_by_sink result) (S.failures sink.old) }
     {

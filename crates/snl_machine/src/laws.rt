@@ -1,21 +1,16 @@
 //! Laws of machines. Each function is its contract, and does nothing.
 
-ghost use Rattle.snl_machine.specs.Laws.{RunsItsProgram, StaysItsMachine, TurnsStayApart};
-ghost use Rattle.snl_machine.specs.Frames.{FrameStays, FrameIsTheFirst};
+ghost use Rattle.snl_machine.specs.Laws.{RunsItsProgram, TurnsStayApart};
+ghost use Rattle.snl_machine.specs.Frames.{FrameStays};
+ghost use Rattle.snl_machine.specs.Layout.{BuffersAreCells, FeedsFillBuffers, RefreshesFillVariables, StoresWrite, VariablesAreCells, WorldsAreLaidOut};
 ghost use Rattle.snl_machine.specs.Ranges.{EventsFit, FirstHolds, PiecesFit, ReachedHold};
 ghost use Rattle.snl_machine.specs.Rounds.{RoundsEnd, TicksWithinBudget};
 ghost use Rattle.snl_machine.specs.Wakes.{TimeIsTheEvents, TimeIsTheEventsAlone, TimeNeverFalls, WakesEnd, WakesLieLater, WakesStayLater};
+ghost use Rattle.snl_machine.specs.Worlds.{WorldsAreTheProgram, WorldsStay};
 
 /// A machine of a program runs what the program means on its tree.
 pub fn runs_its_program()
     ensures { RunsItsProgram }
-{}
-
-/// After an event, and after a run, a machine is still one of its program, its links and its budget: plan, code, names and
-/// budget stay as they are.
-#[tactic(auto, using(crate::proofs::Tasks::stays_its_machine))]
-pub fn stays_its_machine()
-    ensures { StaysItsMachine }
 {}
 
 /// A turn of a state set changes nothing of the copy of another one, also where it comes to a fault.
@@ -94,7 +89,47 @@ pub fn frame_stays()
     ensures { FrameStays }
 {}
 
-/// So in every world that a run comes to all this is as in the first one.
-pub fn frame_is_the_first()
-    ensures { FrameIsTheFirst }
+/// After a line the world is still one of the program: it has the frame of the program, each state set is in one of its
+/// states as long as the run goes on, and the wake lies after now.
+pub fn worlds_stay()
+    ensures { WorldsStay }
+{}
+
+/// Every world that a run comes to is one of its program.
+pub fn worlds_are_the_program()
+    ensures { WorldsAreTheProgram }
+{}
+
+/// A store to an element, the clearing of a variable, and numbers that come to a copy write their words, and nothing else
+/// of the world.
+pub fn stores_write()
+    ensures { StoresWrite }
+{}
+
+/// Each variable of a copy has words of its own. What was stored in an element is read there, and every other element of
+/// every variable is as before.
+pub fn variables_are_cells()
+    ensures { VariablesAreCells }
+{}
+
+/// Each link has words of its own among those of all buffers. Numbers that came to the buffer of one are read there, and
+/// the buffers of all others are as before.
+pub fn buffers_are_cells()
+    ensures { BuffersAreCells }
+{}
+
+/// Values of a channel come to the buffers of its links, and change nothing of another link.
+pub fn feeds_fill_buffers()
+    ensures { FeedsFillBuffers }
+{}
+
+/// A refresh writes the elements of marked links, and no other element of the copy.
+pub fn refreshes_fill_variables()
+    ensures { RefreshesFillVariables }
+{}
+
+/// Each world of a program has a copy for each state set, with the words of its variables, and buffers with a word for each
+/// element of each link.
+pub fn worlds_are_laid_out()
+    ensures { WorldsAreLaidOut }
 {}

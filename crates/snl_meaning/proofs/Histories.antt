@@ -1,9 +1,9 @@
 -- What is taken out of a queue came to it, in that order.
-use Rattle.std.proofs.Common.{◌≡◌, ◌∙◌, ◌+◌, ◌-◌, ◌<◌, ◌≤◌, refl, sym, ap, subst, arith, ℕ, zero, suc, ℤ, Bool, true, false, nat_lt, List, [], ◌∷◌, ◌++◌, length, length-append, take, drop, append_assoc, if◌then◌else◌}
+use Rattle.std.proofs.Common.{◌≡◌, ◌∙◌, ◌+◌, ◌-◌, ◌<◌, ◌≤◌, refl, sym, ap, subst, arith, ℕ, suc, ℤ, Bool, true, false, nat_lt, List, [], ◌∷◌, ◌++◌, length, length-append, take, drop, append_assoc, if◌then◌else◌}
 use Rattle.std.proofs.lemmas.Bool.{ltb-true, ltb-false}
 use Rattle.std.proofs.lemmas.List.{take-append-drop, length-take-le}
-use Rattle.snl_meaning.specs.Histories.{Items, IsPartOf, Nothing, Kept, Missed, History, Begins, Comes, IsTaken, QueuesKeepOrder}
-use Rattle.snl_meaning.specs.Queues.{kept, put_in}
+use Rattle.snl_meaning.specs.Histories.{Items, IsPartOf, Nothing, Kept, Missed, Begins, Comes, IsTaken, QueuesKeepOrder}
+use Rattle.snl_meaning.specs.Queues.{put_in}
 
 -- one more at both ends
 part-more : (xs ys : Items) (item : List ℤ) → IsPartOf xs ys → IsPartOf (xs ++ item ∷ []) (ys ++ item ∷ [])

@@ -24,7 +24,7 @@ pieces_keep_time h = pieces-keep h Any (λ w u. u.time ≡ w.time) (any-may h) (
   fetches = λ place link t w home is. refl;
   takes = λ place link t item more w home is has. refl;
   flushes = λ link w. refl;
-  marks = λ marks w. refl;
+  marks = λ marks w same. refl;
   notes = λ t w late. refl;
   spends = λ left w is. refl;
 })
@@ -42,7 +42,7 @@ pieces_keep_the_phase h = pieces-keep h Any (λ w u. u.phase ≡ w.phase) (any-m
   fetches = λ place link t w home is. refl;
   takes = λ place link t item more w home is has. refl;
   flushes = λ link w. refl;
-  marks = λ marks w. refl;
+  marks = λ marks w same. refl;
   notes = λ t w late. refl;
   spends = λ left w is. refl;
 })

@@ -1,4 +1,5 @@
 pub mod Following
+pub mod Sizes
 pub mod WordKeeps
 pub mod ValueKeeps
 pub mod EffectKeeps
@@ -9,5 +10,8 @@ pub mod Turns
 pub mod Texts
 pub mod Apart
 pub mod Keeping
+pub mod StepKeeps
+pub mod Frames
+pub mod Leaving
 pub mod Forgetting
 pub mod Histories

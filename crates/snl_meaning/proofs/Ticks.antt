@@ -53,7 +53,7 @@ ticks-kept set = record {
   fetches = λ place link t w home is. omega arith;
   takes = λ place link t item more w home is has. omega arith;
   flushes = λ link w. omega arith;
-  marks = λ marks w. omega arith;
+  marks = λ marks w same. omega arith;
   notes = λ t w late. omega arith;
   spends = λ left w is. omega (arith, is);
 }

@@ -1,5 +1,5 @@
 -- What the pieces of a program can change: a relation that each single change keeps is kept by all of them.
-use Rattle.std.specs.Prelude.{◌≡◌, ◌≤◌, ◌&&◌, int_le, Bool, true, false, ℕ, suc, ℤ, pos, List, [], ◌∷◌, Option, Some, slice_get}
+use Rattle.std.specs.Prelude.{◌≡◌, ◌≤◌, ◌&&◌, int_le, Bool, true, false, ℕ, suc, ℤ, pos, List, [], ◌∷◌, Option, Some, slice_get, map, length}
 use Rattle.snl_syntax.specs.Expressions.{ExprTree}
 use Rattle.snl_syntax.specs.Statements.{BlockTree}
 use Rattle.snl_meaning.specs.declared.instrs.Variable.{Variable}
@@ -19,7 +19,7 @@ world_after (Faults fault line w text) = w
 -- A relation between a world and a later one that holds where nothing changes, is handed on from change to change, and
 -- holds of each single change: a number is stored in an element that may be stored to and whose type has it, a variable is
 -- 0 again, an event flag is set or cleared, elements of a link come from the copy to its buffer or to its queue, or from its
--- buffer or from its queue to the copy, a queue is emptied, links are marked, a due time that has not come is noted, a tick is
+-- buffer or from its queue to the copy, a queue is emptied, links are marked, each state set as many of them as before, a due time that has not come is noted, a tick is
 -- spent.
 pub record IsKept (set : ℕ) (May : Variable → ℤ → Type 0) (R : World → World → Type 0) : Type 0 where
   pub nothing : (w : World) → R w w
@@ -36,7 +36,7 @@ pub record IsKept (set : ℕ) (May : Variable → ℤ → Type 0) (R : World →
   pub takes : (place link : ℕ) (t : Tied) (item : List ℤ) (more : List (List ℤ)) (w : World) → home_of set link w ≡ Some place →
       slice_get w.ties link ≡ Some t → (queue_of link w).items ≡ item ∷ more → R w (with_items link more (with_elements set place item w))
   pub flushes : (link : ℕ) (w : World) → R w (with_items link [] w)
-  pub marks : (marks : List (List Bool)) (w : World) → R w (record w { marks = marks })
+  pub marks : (marks : List (List Bool)) (w : World) → map (length {A = Bool}) marks ≡ map (length {A = Bool}) w.marks → R w (record w { marks = marks })
   pub notes : (t : ℤ) (w : World) → int_le t (pos w.time) ≡ false → R w (record w { due = noted t w.due })
   pub spends : (left : ℕ) (w : World) → w.ticks ≡ suc left → R w (record w { ticks = left })
 

@@ -16,3 +16,4 @@ pub mod Known
 pub mod Laws
 pub mod Histories
 pub mod Keeping
+pub mod Frames

@@ -4,6 +4,7 @@ ghost use Rattle.snl_meaning.specs.Endings.{OnlyTicksLeadBack};
 ghost use Rattle.snl_meaning.specs.Examples.{ExpressionExamples, StatementExamples};
 ghost use Rattle.snl_meaning.specs.LinkExamples.{LinkExamples};
 ghost use Rattle.snl_meaning.specs.Histories.{QueuesKeepOrder};
+ghost use Rattle.snl_meaning.specs.Frames.{PiecesKeepTheFrame, StepsKeepTheFrame};
 ghost use Rattle.snl_meaning.specs.Keeping.{PiecesGiveNoTicks, PiecesKeepThePhase, PiecesKeepTime};
 ghost use Rattle.snl_meaning.specs.Laws.{BlocksForget, TextsAreFound, TurnsAreEnough, VariablesAreApart, VariablesLieWithin};
 
@@ -65,6 +66,19 @@ pub fn pieces_keep_the_phase()
 #[tactic(auto, using(crate::proofs::Keeping::pieces_give_no_ticks))]
 pub fn pieces_give_no_ticks()
     ensures { PiecesGiveNoTicks }
+{}
+
+/// No condition and no block changes how large the parts of the world are, or what stands for what: the words of copies
+/// and buffers, the names of channels, what links are tied to, the sizes of queues.
+#[tactic(auto, using(crate::proofs::Frames::pieces_keep_the_frame))]
+pub fn pieces_keep_the_frame()
+    ensures { PiecesKeepTheFrame }
+{}
+
+/// Nor does an instruction.
+#[tactic(auto, using(crate::proofs::Frames::steps_keep_the_frame))]
+pub fn steps_keep_the_frame()
+    ensures { StepsKeepTheFrame }
 {}
 
 /// A block forgets what its variables were before it is entered: with another number in an element of one of them, it

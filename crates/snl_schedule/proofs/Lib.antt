@@ -9,3 +9,4 @@ pub mod Rows
 pub mod Ending
 pub mod Staying
 pub mod Waking
+pub mod Frames

@@ -1,5 +1,5 @@
 -- The links of a channel are all that its values touch, and marked links all that a refresh touches.
-use Rattle.std.proofs.Common.{◌≡◌, ◌∙◌, ◌+◌, ◌-◌, ◌<◌, ◌≤◌, ◌==◌, refl, ℕ, zero, suc, ℤ, Bool, true, false, not, ◌&&◌, ◌||◌, List, [], ◌∷◌, Option, None, Some, ap, sym, arith, map, drop, take, length, slice_get, slice_index_or, if◌then◌else◌}
+use Rattle.std.proofs.Common.{◌≡◌, ◌∙◌, ◌+◌, ◌-◌, ◌<◌, ◌≤◌, ◌==◌, refl, ℕ, zero, suc, ℤ, Bool, true, false, not, ◌&&◌, ◌||◌, List, [], ◌∷◌, Option, None, Some, ap, sym, arith, map, drop, take, slice_get, slice_index_or, if◌then◌else◌}
 use Rattle.std.proofs.Math.Seq.{drop-nil}
 use Rattle.std.specs.List.{list_all}
 use Rattle.snl_meaning.specs.World.{World}
@@ -10,7 +10,7 @@ use Rattle.snl_meaning.specs.Links.{home_of, with_buffer, noticed}
 use Rattle.snl_schedule.specs.Arrivals.{is_of, is_link_fit, are_fit, received_link, received_from}
 use Rattle.snl_schedule.specs.Instant.{Program}
 use Rattle.snl_schedule.specs.Linked.{received_over, is_fit_at}
-use Rattle.snl_schedule.specs.Refresh.{is_marked, with_mark, copied_to, refreshed_link, refreshed_from}
+use Rattle.snl_schedule.specs.Refresh.{is_marked, with_mark, copied_to, refreshed_from}
 
 -- the member with which the rest of a list begins
 front-get : {A : Type 0} (xs : List A) (k : ℕ) (x : A) (rest : List A) → drop k xs ≡ x ∷ rest → slice_get xs k ≡ Some x

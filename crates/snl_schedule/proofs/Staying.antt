@@ -1,5 +1,5 @@
 -- What a refresh and what values leave as it is.
-use Rattle.std.proofs.Common.{◌≡◌, ◌∙◌, ◌+◌, refl, sym, ap, ℕ, ℤ, Bool, true, false, List, [], ◌∷◌, Option, None, Some, take, if◌then◌else◌}
+use Rattle.std.proofs.Common.{◌≡◌, ◌∙◌, ◌+◌, refl, ℕ, ℤ, Bool, true, false, List, [], ◌∷◌, Option, None, Some, take, if◌then◌else◌}
 use Rattle.snl_meaning.specs.declared.ties.Tied.{Tied}
 use Rattle.snl_meaning.specs.Links.{home_of, with_buffer, is_queued, enqueued, flagged, all_marked, announced}
 use Rattle.snl_meaning.specs.World.{World}

@@ -1,5 +1,5 @@
 -- What one line of a trace does: first all wakes before its time, then the event.
-use Rattle.std.specs.Prelude.{ℕ, zero, suc, ◌-◌, Bool, true, false, ◌&&◌, nat_lt, List, [], Option, None, Some, if◌then◌else◌}
+use Rattle.std.specs.Prelude.{◌≡◌, ℕ, zero, suc, ◌-◌, Bool, true, false, ◌&&◌, nat_lt, List, [], Option, None, Some, if◌then◌else◌}
 use Rattle.snl_schedule.specs.declared.events.Event.{Event}
 use Rattle.snl_schedule.specs.declared.events.Event.TheVariants.{Up, Down, Val, Tick, Other}
 use Rattle.snl_meaning.specs.declared.live.Live.{Live}
@@ -67,6 +67,14 @@ line_by p budget ms event _ w = closed (passed p budget ms event w)
 -- The same of the world as it is.
 abbrev pub line_of : Program → ℕ → ℕ → Event → World → Ran Live
 line_of p budget ms event w = line_by p budget ms event w.phase w
+
+-- The times at which a line has an instant: at each wake before its time, one after another, and, unless the program has ended
+-- by then, at its own.
+pub data HasInstant (p : Program) (budget ms : ℕ) (w : World) : ℕ → Type 0 where
+  -- at the wake that comes after so many others
+  AtWake : (n wake : ℕ) (u : World) (text : List ℕ) → wakes_of p budget ms n w ≡ Gives tt u text → wake_before ms u ≡ Some wake → HasInstant p budget ms w wake
+  -- after all of them
+  AtLine : (u : World) (text : List ℕ) → all_wakes p budget ms w ≡ Gives tt u text → (u.phase ≡ Ended → ⊥) → HasInstant p budget ms w ms
 
 -- Whether an event fits: its channel, where it has one, is one of so many, and its values fit the links of that.
 abbrev pub is_event_fit : ℕ → List Tied → Event → Bool

@@ -1,6 +1,7 @@
 //! What happens at one time: rounds of one turn for each state set.
 
 ghost use Rattle.std.specs.Prelude.{◌≡◌, ◌-◌, ◌^◌, ◌<◌};
+ghost use Rattle.snl_meaning.specs.Frames.{frame_of};
 ghost use Rattle.snl_output.specs.Devices.{counted, stopped_by_sink};
 ghost use Rattle.snl_output.specs.Does.{Does};
 ghost use Rattle.snl_vm.specs.Stack.{room_of};
@@ -48,6 +49,7 @@ fn round<S: Sink>(
     requires runs { CanRunLoaded (loaded program) }
     ensures does { Does (λ t. t) result (world_of store.new) (S.told sink.old) (S.told sink.new)
         (spec.round_of (program_of (loaded program.entry)) (world_of store.old)) }
+    ensures frame { frame_of (world_of store.new) ≡ frame_of (world_of store.old) }
     ensures room { room_of operands.new ≡ room_of operands.old }
     ensures failures { S.failures sink.new
         ≡ counted (stopped_by_sink result) (S.failures sink.old) }
@@ -82,6 +84,7 @@ fn close<S: Sink>(name: &[u8], store: &mut Store, sink: &mut S) -> Result<(), St
     requires failures { S.failures sink.old < 2 ^ 64 - 1 }
     ensures does { Does (λ x. x) result (world_of store.new) (S.told sink.old) (S.told sink.new)
         (spec.closed_by name.now (world_of store.old)) }
+    ensures frame { frame_of (world_of store.new) ≡ frame_of (world_of store.old) }
     ensures failures { S.failures sink.new
         ≡ counted (stopped_by_sink result) (S.failures sink.old) }
 {
@@ -106,6 +109,7 @@ fn exit<S: Sink>(
     requires runs { CanRunLoaded (loaded program) }
     ensures does { Does (λ x. x) result (world_of store.new) (S.told sink.old) (S.told sink.new)
         (spec.exited (program_of (loaded program.entry)) (world_of store.old)) }
+    ensures frame { frame_of (world_of store.new) ≡ frame_of (world_of store.old) }
     ensures room { room_of operands.new ≡ room_of operands.old }
     ensures failures { S.failures sink.new
         ≡ counted (stopped_by_sink result) (S.failures sink.old) }
@@ -129,6 +133,7 @@ pub fn rounds<S: Sink>(
     requires runs { CanRunLoaded (loaded program) }
     ensures does { Does (λ x. x) result (world_of store.new) (S.told sink.old) (S.told sink.new)
         (spec.all_rounds (program_of (loaded program.entry)) (world_of store.old)) }
+    ensures frame { frame_of (world_of store.new) ≡ frame_of (world_of store.old) }
     ensures room { room_of operands.new ≡ room_of operands.old }
     ensures failures { S.failures sink.new
         ≡ counted (stopped_by_sink result) (S.failures sink.old) }
@@ -160,6 +165,7 @@ pub fn instant<S: Sink>(
     requires runs { CanRunLoaded (loaded program) }
     ensures does { Does (λ x. x) result (world_of store.new) (S.told sink.old) (S.told sink.new)
         (spec.instant_of (program_of (loaded program.entry)) budget (world_of store.old)) }
+    ensures frame { frame_of (world_of store.new) ≡ frame_of (world_of store.old) }
     ensures room { room_of operands.new ≡ room_of operands.old }
     ensures failures { S.failures sink.new
         ≡ counted (stopped_by_sink result) (S.failures sink.old) }

@@ -3,6 +3,7 @@
 ghost use Rattle.std.specs.Prelude.{◌≡◌, ◌-◌, ◌^◌, ◌<◌, ◌||◌, false, not, is_none, IfSome, Some, option_map, slice_get};
 ghost use Rattle.std.specs.Bool.{OnTrue};
 ghost use Rattle.std.specs.List.{list_all};
+ghost use Rattle.snl_meaning.specs.Frames.{frame_of};
 ghost use Rattle.snl_output.specs.Devices.{counted, stopped_by_sink};
 ghost use Rattle.snl_output.specs.Does.{Does};
 ghost use Rattle.snl_vm.specs.Stack.{room_of};
@@ -108,6 +109,7 @@ fn begin<S: Sink>(
         state_set.plan.now.states.items }
     ensures does { Does (λ x. x) result (world_of store.new) (S.told sink.old) (S.told sink.new)
         (spec.begun (set_on state_set.entry) (world_of store.old)) }
+    ensures frame { frame_of (world_of store.new) ≡ frame_of (world_of store.old) }
     ensures room { room_of operands.new ≡ room_of operands.old }
     ensures failures { S.failures sink.new
         ≡ counted (stopped_by_sink result) (S.failures sink.old) }
@@ -145,6 +147,7 @@ fn begin_sets<S: Sink>(
     requires runs { CanRunLoaded (loaded program) }
     ensures does { Does (λ x. x) result (world_of store.new) (S.told sink.old) (S.told sink.new)
         (spec.begun_sets (program_of (loaded program.entry)).sets (world_of store.old)) }
+    ensures frame { frame_of (world_of store.new) ≡ frame_of (world_of store.old) }
     ensures room { room_of operands.new ≡ room_of operands.old }
     ensures failures { S.failures sink.new
         ≡ counted (stopped_by_sink result) (S.failures sink.old) }
@@ -203,6 +206,7 @@ fn enter_program<S: Sink>(
     ensures does { Does (λ x. x) result (world_of store.new) (S.told sink.old) (S.told sink.new)
         (spec.owned (program_of (loaded program.entry)) (program_of (loaded program.entry)).entry
         (world_of store.old)) }
+    ensures frame { frame_of (world_of store.new) ≡ frame_of (world_of store.old) }
     ensures room { room_of operands.new ≡ room_of operands.old }
     ensures failures { S.failures sink.new
         ≡ counted (stopped_by_sink result) (S.failures sink.old) }
@@ -230,6 +234,7 @@ pub fn leave_program<S: Sink>(
     ensures does { Does (λ x. x) result (world_of store.new) (S.told sink.old) (S.told sink.new)
         (spec.owned (program_of (loaded program.entry)) (program_of (loaded program.entry)).exit
         (world_of store.old)) }
+    ensures frame { frame_of (world_of store.new) ≡ frame_of (world_of store.old) }
     ensures room { room_of operands.new ≡ room_of operands.old }
     ensures failures { S.failures sink.new
         ≡ counted (stopped_by_sink result) (S.failures sink.old) }
@@ -256,6 +261,7 @@ fn open<S: Sink>(
     requires runs { CanRunLoaded (loaded program) }
     ensures does { Does (λ x. x) result (world_of store.new) (S.told sink.old) (S.told sink.new)
         (spec.opened (program_of (loaded program.entry)) (world_of store.old)) }
+    ensures frame { frame_of (world_of store.new) ≡ frame_of (world_of store.old) }
     ensures room { room_of operands.new ≡ room_of operands.old }
     ensures failures { S.failures sink.new
         ≡ counted (stopped_by_sink result) (S.failures sink.old) }
@@ -279,6 +285,7 @@ pub fn start<S: Sink>(
     requires runs { CanRunLoaded (loaded program) }
     ensures does { Does (λ x. x) result (world_of store.new) (S.told sink.old) (S.told sink.new)
         (spec.started (program_of (loaded program.entry)) (world_of store.old)) }
+    ensures frame { frame_of (world_of store.new) ≡ frame_of (world_of store.old) }
     ensures room { room_of operands.new ≡ room_of operands.old }
     ensures failures { S.failures sink.new
         ≡ counted (stopped_by_sink result) (S.failures sink.old) }

@@ -2,6 +2,7 @@
 
 ghost use Rattle.std.specs.Prelude.{◌≡◌, ◌-◌, ◌^◌, ◌<◌, OnErr};
 ghost use Rattle.snl_schedule.specs.Event as spec;
+ghost use Rattle.snl_meaning.specs.Frames.{at_time, frame_of};
 ghost use Rattle.snl_output.specs.Devices.{counted, stopped_by_sink};
 ghost use Rattle.snl_output.specs.Does.{Does};
 ghost use Rattle.snl_vm.specs.Stack.{room_of};
@@ -68,6 +69,10 @@ fn wake_up<S: Sink>(
     requires runs { CanRunLoaded (loaded program) }
     ensures does { Does (λ x. x) result (world_of store.new) (S.told sink.old) (S.told sink.new)
         (spec.all_wakes (program_of (loaded program.entry)) budget ms (world_of store.old)) }
+    ensures frame { frame_of (world_of store.new)
+        ≡ at_time (world_of store.new).time (frame_of (world_of store.old)) }
+    ensures time { OnErr result (spec.HasInstant (program_of (loaded program.entry)) budget ms
+        (world_of store.old) (world_of store.new).time) }
     ensures room { room_of operands.new ≡ room_of operands.old }
     ensures failures { S.failures sink.new
         ≡ counted (stopped_by_sink result) (S.failures sink.old) }
@@ -103,6 +108,10 @@ fn happen<S: Sink>(
     ensures does { Does (λ x. x) result (world_of store.new) (S.told sink.old) (S.told sink.new)
         (spec.event_by (program_of (loaded program.entry)) budget ms event.now
         (world_of store.old).phase (world_of store.old)) }
+    ensures frame { frame_of (world_of store.new)
+        ≡ at_time (world_of store.new).time (frame_of (world_of store.old)) }
+    ensures time { OnErr result ((world_of store.new).time ≡ ms) }
+    ensures goes_on { OnErr result ((world_of store.old).phase ≡ Live.Ended → ⊥) }
     ensures room { room_of operands.new ≡ room_of operands.old }
     ensures failures { S.failures sink.new
         ≡ counted (stopped_by_sink result) (S.failures sink.old) }
@@ -131,6 +140,10 @@ fn pass<S: Sink>(
     ensures does { Does (λ x. x) result (world_of store.new) (S.told sink.old) (S.told sink.new)
         (spec.passed (program_of (loaded program.entry)) budget ms event.now
         (world_of store.old)) }
+    ensures frame { frame_of (world_of store.new)
+        ≡ at_time (world_of store.new).time (frame_of (world_of store.old)) }
+    ensures time { OnErr result (spec.HasInstant (program_of (loaded program.entry)) budget ms
+        (world_of store.old) (world_of store.new).time) }
     ensures room { room_of operands.new ≡ room_of operands.old }
     ensures failures { S.failures sink.new
         ≡ counted (stopped_by_sink result) (S.failures sink.old) }
@@ -162,6 +175,10 @@ pub fn take<S: Sink>(
         (S.told sink.new) (spec.line_of (program_of (loaded program.entry)) budget ms event.now
         (world_of store.old)) }
     ensures ended { OnErr result ((world_of store.new).phase ≡ Live.Ended) }
+    ensures frame { frame_of (world_of store.new)
+        ≡ at_time (world_of store.new).time (frame_of (world_of store.old)) }
+    ensures time { OnErr result (spec.HasInstant (program_of (loaded program.entry)) budget ms
+        (world_of store.old) (world_of store.new).time) }
     ensures room { room_of operands.new ≡ room_of operands.old }
     ensures failures { S.failures sink.new
         ≡ counted (stopped_by_sink result) (S.failures sink.old) }

@@ -1,6 +1,7 @@
 //! A transition of a state set: the line, the states that it leads from and to with their blocks, and the way out.
 
 ghost use Rattle.std.specs.Prelude.{◌≡◌, ◌-◌, ◌^◌, ◌<◌};
+ghost use Rattle.snl_meaning.specs.Frames.{frame_of};
 ghost use Rattle.snl_output.specs.Devices.{counted, stopped_by_sink};
 ghost use Rattle.snl_output.specs.Does.{Does};
 ghost use Rattle.snl_vm.specs.Stack.{room_of};
@@ -39,6 +40,7 @@ pub fn do_block<S: Sink>(
     requires runs { CanDo (context_for context room) code.now start }
     ensures does { Does (λ x. x) result (world_of store.new) (S.told sink.old) (S.told sink.new)
         (block_at (context_for context.entry room) code.now start (world_of store.old)) }
+    ensures frame { frame_of (world_of store.new) ≡ frame_of (world_of store.old) }
     ensures room { room_of operands.new ≡ room_of operands.old }
     ensures failures { S.failures sink.new
         ≡ counted (stopped_by_sink result) (S.failures sink.old) }
@@ -67,6 +69,7 @@ fn do_if_due<S: Sink>(
     ensures does { Does (λ x. x) result (world_of store.new) (S.told sink.old) (S.told sink.new)
         (spec.if_due is_due (block_at (context_on state_set.entry) state_set.entry.code.now start)
         (world_of store.old)) }
+    ensures frame { frame_of (world_of store.new) ≡ frame_of (world_of store.old) }
     ensures room { room_of operands.new ≡ room_of operands.old }
     ensures failures { S.failures sink.new
         ≡ counted (stopped_by_sink result) (S.failures sink.old) }
@@ -130,6 +133,7 @@ fn leave<S: Sink>(
         state_set.plan.now.states.items }
     ensures does { Does (λ x. x) result (world_of store.new) (S.told sink.old) (S.told sink.new)
         (spec.left_for (set_on state_set.entry) from to (world_of store.old)) }
+    ensures frame { frame_of (world_of store.new) ≡ frame_of (world_of store.old) }
     ensures room { room_of operands.new ≡ room_of operands.old }
     ensures failures { S.failures sink.new
         ≡ counted (stopped_by_sink result) (S.failures sink.old) }
@@ -158,6 +162,7 @@ fn come<S: Sink>(
         state_set.plan.now.states.items }
     ensures does { Does (λ x. x) result (world_of store.new) (S.told sink.old) (S.told sink.new)
         (spec.come_to (set_on state_set.entry) from to (world_of store.old)) }
+    ensures frame { frame_of (world_of store.new) ≡ frame_of (world_of store.old) }
     ensures room { room_of operands.new ≡ room_of operands.old }
     ensures failures { S.failures sink.new
         ≡ counted (stopped_by_sink result) (S.failures sink.old) }
@@ -191,6 +196,7 @@ fn cross<S: Sink>(
         state_set.plan.now.states.items }
     ensures does { Does (λ t. t) result (world_of store.new) (S.told sink.old) (S.told sink.new)
         (spec.crossed (set_on state_set.entry) from to (world_of store.old)) }
+    ensures frame { frame_of (world_of store.new) ≡ frame_of (world_of store.old) }
     ensures room { room_of operands.new ≡ room_of operands.old }
     ensures failures { S.failures sink.new
         ≡ counted (stopped_by_sink result) (S.failures sink.old) }
@@ -219,6 +225,7 @@ fn arrive<S: Sink>(
         state_set.plan.now.states.items }
     ensures does { Does (λ t. t) result (world_of store.new) (S.told sink.old) (S.told sink.new)
         (spec.arrived (set_on state_set.entry) from target (world_of store.old)) }
+    ensures frame { frame_of (world_of store.new) ≡ frame_of (world_of store.old) }
     ensures room { room_of operands.new ≡ room_of operands.old }
     ensures failures { S.failures sink.new
         ≡ counted (stopped_by_sink result) (S.failures sink.old) }
@@ -267,6 +274,7 @@ fn act<S: Sink>(
         (spec.acted (set_on state_set.entry) from
         (clause_of (context_on state_set.entry) state_set.entry.code.now clause)
         (world_of store.old)) }
+    ensures frame { frame_of (world_of store.new) ≡ frame_of (world_of store.old) }
     ensures room { room_of operands.new ≡ room_of operands.old }
     ensures failures { S.failures sink.new
         ≡ counted (stopped_by_sink result) (S.failures sink.old) }
@@ -305,6 +313,7 @@ pub fn transit<S: Sink>(
         (spec.transition (set_on state_set.entry) from
         (clause_of (context_on state_set.entry) state_set.entry.code.now clause)
         (world_of store.old)) }
+    ensures frame { frame_of (world_of store.new) ≡ frame_of (world_of store.old) }
     ensures room { room_of operands.new ≡ room_of operands.old }
     ensures failures { S.failures sink.new
         ≡ counted (stopped_by_sink result) (S.failures sink.old) }

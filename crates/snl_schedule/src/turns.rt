@@ -1,6 +1,7 @@
 //! The turn of a state set: refresh, conditions, and a transition.
 
 ghost use Rattle.std.specs.Prelude.{◌≡◌, ◌-◌, ◌^◌, ◌<◌, map, IfOk};
+ghost use Rattle.snl_meaning.specs.Frames.{frame_of};
 ghost use Rattle.snl_output.specs.Devices.{counted, stopped_by_sink};
 ghost use Rattle.snl_output.specs.Does.{Does};
 ghost use Rattle.snl_vm.specs.Stack.{room_of};
@@ -30,6 +31,7 @@ fn holds<S: Sink>(
     ensures does { Does (λ b. b) result (world_of store.new) (S.told sink.old) (S.told sink.new)
         (held_at (context_on state_set.entry) state_set.entry.code.now condition
         (world_of store.old)) }
+    ensures frame { frame_of (world_of store.new) ≡ frame_of (world_of store.old) }
     ensures room { room_of operands.new ≡ room_of operands.old }
     ensures failures { S.failures sink.new
         ≡ counted (stopped_by_sink result) (S.failures sink.old) }
@@ -66,6 +68,7 @@ fn first_true<S: Sink>(
         (world_of store.new) (S.told sink.old) (S.told sink.new) (spec.chosen
         (map (clause_of (context_on state_set.entry) state_set.entry.code.now) clauses.now)
         (world_of store.old)) }
+    ensures frame { frame_of (world_of store.new) ≡ frame_of (world_of store.old) }
     ensures room { room_of operands.new ≡ room_of operands.old }
     ensures failures { S.failures sink.new
         ≡ counted (stopped_by_sink result) (S.failures sink.old) }
@@ -98,6 +101,7 @@ fn fire<S: Sink>(
         (spec.fired (set_on state_set.entry) from
         (clause_by (context_on state_set.entry) state_set.entry.code.now clause)
         (world_of store.old)) }
+    ensures frame { frame_of (world_of store.new) ≡ frame_of (world_of store.old) }
     ensures room { room_of operands.new ≡ room_of operands.old }
     ensures failures { S.failures sink.new
         ≡ counted (stopped_by_sink result) (S.failures sink.old) }
@@ -136,6 +140,7 @@ fn try_state<S: Sink>(
         state_set.plan.now.states.items }
     ensures does { Does (λ t. t) result (world_of store.new) (S.told sink.old) (S.told sink.new)
         (spec.tried (set_on state_set.entry) from (world_of store.old)) }
+    ensures frame { frame_of (world_of store.new) ≡ frame_of (world_of store.old) }
     ensures room { room_of operands.new ≡ room_of operands.old }
     ensures failures { S.failures sink.new
         ≡ counted (stopped_by_sink result) (S.failures sink.old) }
@@ -170,6 +175,7 @@ pub fn turn<S: Sink>(
         state_set.plan.now.states.items }
     ensures does { Does (λ t. t) result (world_of store.new) (S.told sink.old) (S.told sink.new)
         (spec.turn_of (set_on state_set.entry) (world_of store.old)) }
+    ensures frame { frame_of (world_of store.new) ≡ frame_of (world_of store.old) }
     ensures room { room_of operands.new ≡ room_of operands.old }
     ensures failures { S.failures sink.new
         ≡ counted (stopped_by_sink result) (S.failures sink.old) }
@@ -205,6 +211,7 @@ pub fn do_told<S: Sink>(
     ensures does { Does (λ x. x) result (world_of store.new) (S.told sink.old) (S.told sink.new)
         (spec.told_fault context.entry.name.now
         (block_at (context_for context.entry room) code.now start (world_of store.old))) }
+    ensures frame { frame_of (world_of store.new) ≡ frame_of (world_of store.old) }
     ensures room { room_of operands.new ≡ room_of operands.old }
     ensures failures { S.failures sink.new
         ≡ counted (stopped_by_sink result) (S.failures sink.old) }

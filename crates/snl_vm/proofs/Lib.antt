@@ -6,6 +6,7 @@ pub mod Meets
 pub mod OperandLaws
 pub mod Elements
 pub mod Silence
+pub mod Frames
 pub mod UnderWay
 pub mod Beginnings
 pub mod Changes

@@ -4,6 +4,7 @@
 mod asking;
 mod contexts;
 mod homes;
+mod leads;
 mod linking;
 mod marks;
 mod operands;
@@ -25,7 +26,6 @@ pub use operands::Operands;
 pub use queues::Queue;
 pub use rows::Rows;
 pub use running::{evaluate, perform};
-pub use steps::step;
 pub use stores::{SetMemory, Store};
 pub use words::{
     Adjustment, Charge, adjust, checked_subscript, operate, operate_prefix, put_number, spend, wait,

@@ -103,7 +103,6 @@ fn laws() {
     tree::tokens_have_a_program_or_a_fault();
     tree::tokens_have_one_answer();
     machine::runs_its_program();
-    machine::stays_its_machine();
     machine::rounds_end();
     machine::time_is_the_events();
     machine::time_never_falls();
@@ -112,7 +111,14 @@ fn laws() {
     machine::events_fit();
     machine::reached_hold();
     machine::frame_stays();
-    machine::frame_is_the_first();
+    machine::worlds_stay();
+    machine::worlds_are_the_program();
+    machine::stores_write();
+    machine::variables_are_cells();
+    machine::buffers_are_cells();
+    machine::feeds_fill_buffers();
+    machine::refreshes_fill_variables();
+    machine::worlds_are_laid_out();
     trace::text_begins();
 }
 

@@ -51,6 +51,7 @@ loop-set-preserved g c =
     record {
       on_way = turn-goes_on t sets c.loop-set.set c.loop-set.before s within is _ this-is _ _ _ _ c.loop-set.invariant.on_way _ _ c.in-Ok.turned c.later-before.result c.later-before.ensures
           (sym c.is_exit.ensures ∙ c.if-is_exit.false) c.in-Ok.ensures.does;
+      frame = c.turn.ensures.frame ∙ c.loop-set.invariant.frame;
       room = c.turn.ensures.room ∙ c.loop-set.invariant.room;
       none_failed = search rules;
     }

@@ -14,6 +14,7 @@ loop-round-init g c =
     let fuel : suc c.args.store.now.ticks ≡ c.from-round-end.result + 1 - 0 = omega (arith, c.from-round-end.ensures) in
     record {
       on_way = subst (λ (n : ℕ). IsOnWay told told (all_rounds p w) (rounds_of p n w)) fuel (on_way-start told (all_rounds p w));
+      frame = refl;
       room = refl;
       none_failed = refl;
     }
@@ -49,6 +50,7 @@ loop-round-preserved g c =
     record {
       on_way = round-goes_on (program_of (loaded c.args.program)) (world_of c.loop-round.store) (end - i) (end - (i + 1)) fuel _ _ _ c.loop-round.invariant.on_way _ _
           (rw c.in-Ok-Moved.field-0-is at c.in-Ok-Moved.ensures.does);
+      frame = c.round.ensures.frame ∙ c.loop-round.invariant.frame;
       room = c.round.ensures.room ∙ c.loop-round.invariant.room;
       none_failed = search rules;
     }

@@ -1,9 +1,9 @@
-use Rattle.std.proofs.Common.{◌≡◌, ◌∙◌, ◌+◌, ap, sym, drop, length, arith, List, Some, slice_get, rules}
+use Rattle.std.proofs.Common.{◌∙◌, ◌+◌, ap, sym, drop, List, slice_get}
 use Rattle.snl_meaning.specs.declared.ties.Tied.{Tied}
 use Rattle.snl_meaning.specs.Links.{home_of}
 use Rattle.snl_meaning.specs.World.{World}
 use Rattle.snl_vm.specs.Views.{world_of}
-use Rattle.snl_schedule.specs.Refresh.{copied_to, refreshed_from}
+use Rattle.snl_schedule.specs.Refresh.{refreshed_from}
 use Rattle.snl_schedule.proofs.Rows.{nothing_left, none_left, one_left, copied_ties}
 use Rattle.snl_schedule.proofs.refreshing.refresh.Goals as goal
 

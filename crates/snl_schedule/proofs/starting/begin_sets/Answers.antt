@@ -38,6 +38,7 @@ loop-set-preserved g c =
     c.as_slice.ensures.value in
     record {
       on_way = begin-goes_on t sets c.loop-set.set s within is _ this-is _ _ _ _ c.loop-set.invariant.on_way _ _ c.in-Ok.ensures.does;
+      frame = c.begin.ensures.frame ∙ c.loop-set.invariant.frame;
       room = c.begin.ensures.room ∙ c.loop-set.invariant.room;
       none_failed = search rules;
     }

@@ -1,5 +1,6 @@
 use Rattle.std.proofs.Common.{◌≡◌, drop}
 use Rattle.snl_output.proofs.Doing.{IsOnWay}
+use Rattle.snl_meaning.specs.Frames.{frame_of}
 use Rattle.snl_vm.specs.Stack.{room_of}
 use Rattle.snl_vm.specs.Views.{world_of}
 use Rattle.snl_schedule.specs.Instant.{begun_sets}
@@ -10,6 +11,7 @@ use Rattle.snl_schedule.proofs.starting.begin_sets.Given as goal
 abbrev pub invariant-loop-set : goal.invariant-loop-set
 invariant-loop-set g l = let sets = l.program.plan.now.sets.items in let t = loaded l.program in record {
   on_way : IsOnWay (g.S.Sink.told l.fn.sink) (g.S.Sink.told l.sink) (begun_sets (sets_from t 0 sets) (world_of l.fn.store)) (begun_sets (sets_from t l.set (drop l.set sets)) (world_of l.store));
+  frame : frame_of (world_of l.store) ≡ frame_of (world_of l.fn.store);
   room : room_of l.operands ≡ room_of l.fn.operands;
   none_failed : g.S.Sink.failures l.sink ≡ g.S.Sink.failures l.fn.sink;
 }

@@ -2,6 +2,9 @@ use Rattle.snl_output.proofs.Doing.{does-then, stopped-then}
 use Rattle.snl_vm.specs.Views.{world_of}
 use Rattle.snl_schedule.specs.Instant.{owned, refreshed_sets, begun_sets}
 use Rattle.snl_schedule.specs.Loaded.{loaded, program_of}
+use Rattle.std.proofs.Common.{◌∙◌, ap}
+use Rattle.snl_meaning.specs.Frames.{frame_of}
+use Rattle.snl_schedule.proofs.Frames.{refreshed_sets-same}
 use Rattle.snl_schedule.proofs.starting.open.Goals as goal
 
 pub returns-in-Ok-clause-does : goal.returns-in-Ok-clause-does
@@ -15,3 +18,11 @@ returns-in-Err-clause-does g c =
     let p = program_of (loaded c.args.program) in
     stopped-then (λ x. x) (λ x. x) c.in-Err.stop (owned p p.entry (refreshed_sets p.sets (world_of c.args.store.now))) (λ _ u. begun_sets p.sets u) _ _ _
     (rw c.refresh_sets.ensures at c.in-Err.ensures.does)
+
+pub returns-in-Ok-clause-frame : goal.returns-in-Ok-clause-frame
+returns-in-Ok-clause-frame g c =
+    c.begin_sets.ensures.frame ∙ (c.enter_program.ensures.frame ∙ (ap frame_of c.refresh_sets.ensures ∙ refreshed_sets-same (program_of (loaded c.args.program)).sets (world_of c.args.store.now)))
+
+pub returns-in-Err-clause-frame : goal.returns-in-Err-clause-frame
+returns-in-Err-clause-frame g c =
+    c.enter_program.ensures.frame ∙ (ap frame_of c.refresh_sets.ensures ∙ refreshed_sets-same (program_of (loaded c.args.program)).sets (world_of c.args.store.now))

@@ -2,6 +2,8 @@ use Rattle.snl_output.proofs.Doing.{does-then, stopped-then}
 use Rattle.snl_vm.specs.Views.{world_of}
 use Rattle.snl_schedule.specs.Event.{all_wakes, event_by}
 use Rattle.snl_schedule.specs.Loaded.{loaded, program_of}
+use Rattle.snl_schedule.proofs.Frames.{but-both}
+use Rattle.snl_schedule.proofs.Waking.{at_line}
 use Rattle.snl_schedule.proofs.taking.pass.Goals as goal
 
 pub returns-in-Ok-clause-does : goal.returns-in-Ok-clause-does
@@ -17,3 +19,12 @@ returns-in-Err-clause-does g c =
     let event = c.args.event.now in
     stopped-then (λ x. x) (λ x. x) c.in-Err.stop (all_wakes p c.args.budget c.args.ms (world_of c.args.store.now)) (λ _ u. event_by p c.args.budget c.args.ms event u.phase u) _ _ _
     c.in-Err.ensures.does
+
+pub returns-in-Ok-clause-frame : goal.returns-in-Ok-clause-frame
+returns-in-Ok-clause-frame g c =
+    but-both (world_of c.args.store.now) (world_of c.wake_up.new.store) (world_of c.happen.new.store) c.wake_up.ensures.frame c.happen.ensures.frame
+
+pub returns-in-Ok-clause-time : goal.returns-in-Ok-clause-time
+returns-in-Ok-clause-time g c =
+    at_line (program_of (loaded c.args.program)) c.args.budget c.args.ms (world_of c.args.store.now) (world_of c.wake_up.new.store) c.happen.result
+    (world_of c.happen.new.store).time c.in-Ok.ensures.does.text c.in-Ok.ensures.does.is c.happen.ensures.time c.happen.ensures.goes_on

@@ -1,7 +1,8 @@
-use Rattle.std.proofs.Common.{◌≡◌, ◌∙◌, ◌+◌, ◌-◌, suc, rules, arith}
+use Rattle.std.proofs.Common.{◌≡◌, ◌∙◌, ◌+◌, ◌-◌, suc, sym, rules, arith}
 use Rattle.snl_vm.specs.Views.{world_of}
 use Rattle.snl_schedule.specs.Loaded.{loaded, program_of}
-use Rattle.snl_schedule.proofs.Waking.{wake-none, wake-goes_on, wake-stops}
+use Rattle.snl_schedule.proofs.Frames.{but-both, but-at}
+use Rattle.snl_schedule.proofs.Waking.{wake-none, wake-goes_on, wake-stops, past-on, past-stops}
 use Rattle.snl_schedule.proofs.taking.wake_up.Goals as goal
 
 pub returns-in-None-clause-does : goal.returns-in-None-clause-does
@@ -30,6 +31,20 @@ loop-wake-preserved g c =
     record {
       on_way = wake-goes_on p c.args.budget ms (world_of c.loop-wake.store) (ms - i) (ms - (i + 1)) fuel _ _ _ c.loop-wake.invariant.on_way
           c.next_wake.result c.next_wake.ensures c.in-Some.wake c.in-Some.is _ _ c.in-Ok.ensures.does;
+      past = past-on p c.args.budget ms (world_of c.args.store.now) (world_of c.loop-wake.store) c.loop-wake.invariant.past c.in-Some.wake (sym c.next_wake.ensures ∙ c.in-Some.is)
+          _ _ _ c.in-Ok.ensures.does;
+      frame = but-both (world_of c.args.store.now) (world_of c.loop-wake.store) (world_of c.instant.new.store) c.loop-wake.invariant.frame
+          (but-at c.in-Some.wake (world_of c.loop-wake.store) (world_of c.instant.new.store) c.in-Ok.ensures.frame);
       room = c.in-Ok.ensures.room ∙ c.loop-wake.invariant.room;
       none_failed = search rules;
     }
+
+pub returns-in-Err-clause-frame : goal.returns-in-Err-clause-frame
+returns-in-Err-clause-frame g c =
+    but-both (world_of c.args.store.now) (world_of c.loop-wake.store) (world_of c.instant.new.store) c.loop-wake.invariant.frame
+    (but-at c.in-Some.wake (world_of c.loop-wake.store) (world_of c.instant.new.store) c.in-Err.ensures.frame)
+
+pub returns-in-Err-clause-time : goal.returns-in-Err-clause-time
+returns-in-Err-clause-time g c =
+    past-stops (program_of (loaded c.args.program)) c.args.budget c.args.ms (world_of c.args.store.now) (world_of c.loop-wake.store) c.loop-wake.invariant.past
+    c.in-Some.wake (sym c.next_wake.ensures ∙ c.in-Some.is) (world_of c.instant.new.store) c.in-Err.ensures.frame

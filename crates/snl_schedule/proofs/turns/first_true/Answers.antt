@@ -20,6 +20,7 @@ loop-clause-preserved g c =
     record {
       on_way = goes_on f c.args.clauses.now c.loop-clause.clause-index _ c.loop-clause-test.true _ _ _ _ c.loop-clause.invariant.on_way _ _
           (rw c.in-Ok-false.field-0-test at c.in-Ok-false.ensures.does);
+      frame = c.holds.ensures.frame ∙ c.loop-clause.invariant.frame;
       room = c.holds.ensures.room ∙ c.loop-clause.invariant.room;
       none_failed = search rules;
     }

@@ -1,4 +1,4 @@
-use Rattle.std.proofs.Common.{◌≡◌, ap, subst}
+use Rattle.std.proofs.Common.{◌≡◌, ap, subst, ◌∙◌}
 use Rattle.snl_output.specs.Devices.{IsCutShort}
 use Rattle.snl_output.specs.Does.{Faulted, text_of}
 use Rattle.snl_meaning.specs.World.{World, copy_of}
@@ -8,6 +8,8 @@ use Rattle.snl_schedule.specs.Refresh.{refreshed}
 use Rattle.snl_schedule.specs.Turn.{tried, turn_after}
 use Rattle.snl_schedule.specs.declared.transitions.Turned.{Turned}
 use Rattle.snl_schedule.proofs.Faulting.{told_fault-told, told_fault-cut, told_fault-cut_before}
+use Rattle.snl_meaning.specs.Frames.{frame_of}
+use Rattle.snl_schedule.proofs.Frames.{refreshed-same}
 use Rattle.snl_schedule.proofs.turns.turn.Goals as goal
 
 pub returns-in-Ok-write_fault-clause-does : goal.returns-in-Ok-write_fault-clause-does
@@ -45,3 +47,19 @@ returns-in-Err-Sink-clause-does g c =
     let new = g.S.Sink.told c.try_state.new.sink in
     subst (λ (u : World). IsCutShort (text_of (turn_after s u)) old new) fresh
     (told_fault-cut_before s.name (tried s (copy_of s.set v).state v) _ _ did)
+
+pub returns-in-Ok-clause-frame : goal.returns-in-Ok-clause-frame
+returns-in-Ok-clause-frame g c =
+    c.try_state.ensures.frame ∙ (ap frame_of c.refresh.ensures ∙ refreshed-same c.args.state_set.context.set (world_of c.args.store.now))
+
+pub returns-in-Err-Sink-clause-frame : goal.returns-in-Err-Sink-clause-frame
+returns-in-Err-Sink-clause-frame g c =
+    c.try_state.ensures.frame ∙ (ap frame_of c.refresh.ensures ∙ refreshed-same c.args.state_set.context.set (world_of c.args.store.now))
+
+pub returns-in-Ok-write_fault-clause-frame : goal.returns-in-Ok-write_fault-clause-frame
+returns-in-Ok-write_fault-clause-frame g c =
+    c.try_state.ensures.frame ∙ (ap frame_of c.refresh.ensures ∙ refreshed-same c.args.state_set.context.set (world_of c.args.store.now))
+
+pub returns-in-Err-clause-frame : goal.returns-in-Err-clause-frame
+returns-in-Err-clause-frame g c =
+    c.try_state.ensures.frame ∙ (ap frame_of c.refresh.ensures ∙ refreshed-same c.args.state_set.context.set (world_of c.args.store.now))

@@ -1,4 +1,4 @@
-use Rattle.std.proofs.Common.{◌≡◌, ◌∙◌, ℕ, Option, Result, Ok, ap}
+use Rattle.std.proofs.Common.{◌∙◌, ℕ, Option, Result, Ok, ap}
 use Rattle.snl_machine.specs.MachineOf.{world_held}
 use Rattle.snl_output.proofs.Doing.{gave-is}
 use Rattle.snl_trace.specs.declared.reader.Heard.{Heard}

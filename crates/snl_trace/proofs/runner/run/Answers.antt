@@ -1,5 +1,6 @@
 use Rattle.std.proofs.Common.{◌≡◌, ◌∙◌, ◌<◌, ◌≤◌, [], length, refl, arith, rules, length-take}
 use Rattle.std.proofs.lemmas.Grind.{common_steps}
+use Rattle.snl_machine.proofs.Tasks.{stays-both}
 use Rattle.snl_trace.specs.Run.{rules_of}
 use Rattle.snl_trace.specs.RunOver.{standing}
 use Rattle.snl_trace.proofs.SourceLaws.{under_way-start, under_way-on, under_way-ends, under_way-ended, under_way-broken, under_way-never}
@@ -10,6 +11,7 @@ pub loop-reads-init : goal.loop-reads-init
 loop-reads-init g c = record {
   way = rw c.new-line.ensures (under_way-start _ _ _);
   fixed = refl;
+  stays = λ p ls waits budget is. is;
   begun = rw c.new-line.ensures (omega arith);
   room = refl;
   lines = omega arith;
@@ -31,11 +33,20 @@ returns-in-Ok-eq0-clause-does g c =
 pub returns-in-Ok-eq0-clause-fixed : goal.returns-in-Ok-eq0-clause-fixed
 returns-in-Ok-eq0-clause-fixed g c = c.finish.ensures.fixed ∙ c.loop-reads.invariant.fixed
 
+pub returns-in-Ok-eq0-clause-stays : goal.returns-in-Ok-eq0-clause-stays
+returns-in-Ok-eq0-clause-stays g c = stays-both c.args.machine.now c.loop-reads.machine c.finish.new.machine c.loop-reads.invariant.stays c.finish.ensures.stays
+
 pub returns-in-Some-clause-fixed : goal.returns-in-Some-clause-fixed
 returns-in-Some-clause-fixed g c = c.take_in.ensures.fixed ∙ c.loop-reads.invariant.fixed
 
+pub returns-in-Some-clause-stays : goal.returns-in-Some-clause-stays
+returns-in-Some-clause-stays g c = stays-both c.args.machine.now c.loop-reads.machine c.take_in.new.machine c.loop-reads.invariant.stays c.take_in.ensures.stays
+
 pub returns-clause-fixed : goal.returns-clause-fixed
 returns-clause-fixed g c = c.finish-2.ensures.fixed ∙ c.loop-reads.invariant.fixed
+
+pub returns-clause-stays : goal.returns-clause-stays
+returns-clause-stays g c = stays-both c.args.machine.now c.loop-reads.machine c.finish-2.new.machine c.loop-reads.invariant.stays c.finish-2.ensures.stays
 
 pub returns-in-Some-clause-does : goal.returns-in-Some-clause-does
 returns-in-Some-clause-does g c =
@@ -60,6 +71,7 @@ loop-reads-preserved g c =
       way = under_way-on _ _ _ _ _ n room _ _ _ c.loop-reads.invariant.way c.in-Ok.ensures.short c.in-Ok.ensures.given some within
           (rw same at c.in-None.ensures.does);
       fixed = c.take_in.ensures.fixed ∙ c.loop-reads.invariant.fixed;
+      stays = stays-both c.args.machine.now c.loop-reads.machine c.take_in.new.machine c.loop-reads.invariant.stays c.take_in.ensures.stays;
       begun = c.in-None.ensures.room;
       room = omega (arith, c.read.auto.room, c.loop-reads.invariant.room);
       lines = omega (arith, c.take_in.ensures.lines, c.loop-reads.invariant.lines, c.read.auto.room, c.loop-reads.invariant.room, c.in-Ok.ensures.count, length-take n room);

@@ -1,5 +1,5 @@
 use Rattle.std.proofs.Common.{◌≡◌, ◌+◌, ◌*◌, ◌≤◌, [], length}
-use Rattle.snl_machine.specs.MachineOf.{fixed_of}
+use Rattle.snl_machine.specs.MachineOf.{StaysMachineOf, fixed_of}
 use Rattle.snl_trace.specs.Run.{rules_of}
 use Rattle.snl_trace.specs.RunOver.{standing}
 use Rattle.snl_trace.proofs.SourceLaws.{IsUnderWay}
@@ -12,6 +12,7 @@ invariant-loop-reads g l = record {
       (standing [] 1 l.initial.machine (g.S.Sink.told l.initial.sink))
       (standing l.line.items l.number l.machine (g.S.Sink.told l.sink));
   fixed : fixed_of l.machine ≡ fixed_of l.initial.machine;
+  stays : StaysMachineOf l.initial.machine l.machine;
   begun : length l.line.items ≤ 32768;
   room : length l.room ≡ 65536;
   lines : l.number ≤ 1 + l._reads * 65536;

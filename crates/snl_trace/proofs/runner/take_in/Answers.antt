@@ -1,5 +1,6 @@
 use Rattle.std.proofs.Common.{◌≡◌, ◌∙◌, ◌++◌, ◌∷◌, [], length, refl, sym, ap, arith, rules, append_assoc, append-nil, length-append}
 use Rattle.snl_trace.specs.declared.runner.End.TheVariants as end
+use Rattle.snl_machine.proofs.Tasks.{stays-both}
 use Rattle.snl_trace.specs.Run.{rules_of}
 use Rattle.snl_trace.specs.RunOver.{standing}
 use Rattle.snl_trace.proofs.RunOverLaws.{way-start, way-on, way-ends, way-all, takes-more, takes-long, rules-long, rules-same}
@@ -9,6 +10,7 @@ pub loop-text-init : goal.loop-text-init
 loop-text-init g c = record {
   way = way-start _ _ _;
   fixed = refl;
+  stays = λ p ls waits budget is. is;
   lines = search rules;
   none_failed = refl;
 }
@@ -21,6 +23,7 @@ loop-text-preserved g c =
     record {
       way = way-on _ _ _ _ _ _ _ _ c.loop-text.invariant.way cut (rw same at c.in-None.ensures.does);
       fixed = c.take_line.ensures.fixed ∙ c.loop-text.invariant.fixed;
+      stays = stays-both c.args.machine.now c.loop-text.machine c.take_line.new.machine c.loop-text.invariant.stays c.take_line.ensures.stays;
       lines = omega (
         arith,
         c.loop-text.invariant.lines,
@@ -42,6 +45,9 @@ returns-in-Some-take_line-clause-does g c =
 
 pub returns-in-Some-take_line-clause-fixed : goal.returns-in-Some-take_line-clause-fixed
 returns-in-Some-take_line-clause-fixed g c = c.take_line.ensures.fixed ∙ c.loop-text.invariant.fixed
+
+pub returns-in-Some-take_line-clause-stays : goal.returns-in-Some-take_line-clause-stays
+returns-in-Some-take_line-clause-stays g c = stays-both c.args.machine.now c.loop-text.machine c.take_line.new.machine c.loop-text.invariant.stays c.take_line.ensures.stays
 
 pub returns-in-Ok-clause-does : goal.returns-in-Ok-clause-does
 returns-in-Ok-clause-does g c =

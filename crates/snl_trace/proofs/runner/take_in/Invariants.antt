@@ -1,5 +1,5 @@
 use Rattle.std.proofs.Common.{◌≡◌, ◌+◌, ◌≤◌, length}
-use Rattle.snl_machine.specs.MachineOf.{fixed_of}
+use Rattle.snl_machine.specs.MachineOf.{StaysMachineOf, fixed_of}
 use Rattle.snl_trace.specs.Run.{rules_of}
 use Rattle.snl_trace.specs.RunOver.{standing}
 use Rattle.snl_trace.proofs.RunOverLaws.{IsPartWay}
@@ -12,6 +12,7 @@ invariant-loop-text g l = record {
       (standing l.initial.line.items l.initial.number l.initial.machine (g.S.Sink.told l.initial.sink))
       (standing l.line.items l.number l.machine (g.S.Sink.told l.sink));
   fixed : fixed_of l.machine ≡ fixed_of l.initial.machine;
+  stays : StaysMachineOf l.initial.machine l.machine;
   lines : l.number + length l.left ≤ l.initial.number + length l.bytes;
   none_failed : g.S.Sink.failures l.sink ≡ g.S.Sink.failures l.initial.sink;
 }

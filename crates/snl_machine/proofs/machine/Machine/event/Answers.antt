@@ -1,19 +1,40 @@
-use Rattle.std.proofs.Common.{◌≡◌, subst, map}
+use Rattle.std.proofs.Common.{◌≡◌, ℕ, List, OnErr, refl, ap, subst, map}
 use Rattle.snl_output.specs.Does.{Does}
+use Rattle.snl_meaning.specs.declared.instrs.Instr.{Instr}
 use Rattle.snl_meaning.specs.declared.live.Live.{Live}
+use Rattle.snl_code.specs.Pieces.{texts_of}
 use Rattle.snl_vm.specs.Views.{world_of}
-use Rattle.snl_schedule.specs.Event.{line_of}
+use Rattle.snl_schedule.specs.Event.{HasInstant, line_of}
 use Rattle.snl_schedule.specs.Loaded.{Loaded, program_of}
+use Rattle.snl_machine.specs.declared.machine.Machine.{Machine}
 use Rattle.snl_machine.specs.Holding.{loaded_by}
 use Rattle.snl_machine.specs.MachineOf.{world_held}
+use Rattle.snl_machine.proofs.Tasks.{means-its-program, stays_its_machine}
 use Rattle.snl_machine.proofs.machine.Machine.event.Goals as goal
 
 -- what is handed on is what the machine has loaded
+handed-is : (m : Machine) (code : List Instr) (formats : List (List ℕ)) (room : ℕ) → code ≡ m.code.instrs.items → formats ≡ texts_of m.code → room ≡ m.code.depth →
+    record { plan = m.plan; code = code; formats = formats; room = room } ≡ loaded_by m.plan m.code
+handed-is m code formats room codes texts depth = λ j. record { plan = m.plan; code = codes j; formats = texts j; room = depth j }
+
 pub returns-clause-does : goal.returns-clause-does
 returns-clause-does g c =
     let m = c.args.self.now in
-    let handed : Loaded = record { plan = m.plan; code = c.instrs.result.now; formats = map (λ text. text.items) c.texts.result.now; room = c.depth.result } in
-    let same : handed ≡ loaded_by m.plan m.code =
-    λ j. record { plan = m.plan; code = c.instrs.ensures j; formats = map (λ text. text.items) (c.texts.ensures j); room = c.depth.ensures j } in
+    let same = handed-is m c.instrs.result.now (map (λ text. text.items) c.texts.result.now) c.depth.result c.instrs.ensures (ap (map (λ text. text.items)) c.texts.ensures) c.depth.ensures in
     subst (λ (t : Loaded). Does {V = Live} {A = Live} (λ live. live) c.take.result (world_of c.take.new.store) (g.S.Sink.told c.args.sink.now) (g.S.Sink.told c.take.new.sink)
     (line_of (program_of t) m.budget c.args.ms c.args.event.now (world_held m))) same c.take.ensures.does
+
+pub returns-clause-time : goal.returns-clause-time
+returns-clause-time g c =
+    let m = c.args.self.now in
+    let same = handed-is m c.instrs.result.now (map (λ text. text.items) c.texts.result.now) c.depth.result c.instrs.ensures (ap (map (λ text. text.items)) c.texts.ensures) c.depth.ensures in
+    subst (λ (t : Loaded). OnErr c.take.result (HasInstant (program_of t) m.budget c.args.ms (world_held m) (world_of c.take.new.store).time)) same c.take.ensures.time
+
+pub returns-clause-means : goal.returns-clause-means
+returns-clause-means g c = means-its-program c.args.ms c.args.event.now c.args.self.now c.take.result (world_of c.take.new.store) _ _ (returns-clause-does g c)
+
+pub returns-clause-stays : goal.returns-clause-stays
+returns-clause-stays g c =
+    let m = c.args.self.now in
+    stays_its_machine c.args.ms c.args.event.now m _ c.take.result _ _ refl c.take.ensures.frame
+    (returns-clause-does g c) c.take.ensures.ended

@@ -1,0 +1,219 @@
+-- The code of a statement and of a block lies inside.
+use Rattle.std.proofs.Common.{◌≡◌, ◌+◌, ◌<◌, ◌≤◌, refl, arith, ltb-true, ℕ, suc, Bool, true, false, nat_lt, List, [], ◌∷◌, ◌++◌, Option, None, Some, length, length-append, map, if◌then◌else◌}
+use Rattle.std.specs.List.{flat_map}
+use Rattle.snl_text.specs.declared.tokens.Token.{Token}
+use Rattle.snl_syntax.specs.Declarations.{TypeTree, ValueList, InitialiserTree, DeclaratorTree, DeclarationTree, no_values, last_value, value_before, single, listed}
+use Rattle.snl_syntax.specs.Definitions.{declaration}
+use Rattle.snl_syntax.specs.Expressions.{ExprTree}
+use Rattle.snl_syntax.specs.Programs.{ProgramTree}
+use Rattle.snl_syntax.specs.Statements.{StatementTree, StatementList, BlockTree, nested, empty, expression, break_loop, continue_loop, change_state, if_then, if_else, while_loop, for_loop, no_statements, statement, block}
+use Rattle.snl_resolve.specs.declared.sites.Purpose.TheVariants.{Read}
+use Rattle.snl_resolve.specs.Scopes.{Scope, scope_of}
+use Rattle.snl_resolve.specs.Sites.{in_value, maybe, declares, in_values, in_initialiser, in_declarator, in_declaration, in_header, in_statement, in_statements, in_block}
+use Rattle.snl_resolve.specs.Types.{listed_values}
+use Rattle.snl_meaning.specs.declared.instrs.Instr.{Instr}
+use Rattle.snl_meaning.specs.declared.instrs.Instr.TheVariants as instr
+use Rattle.snl_meaning.specs.declared.instrs.Variable.{Variable}
+use Rattle.snl_meaning.specs.Effect.{variable_for, values_of, names_of}
+use Rattle.snl_emit.specs.BlockCode.{when_code, dropped_code, test_code, loop_code, cleared_code, all_cleared_code, begun_code, begun_with_code, all_begun_code, entered_code, statement_code, statements_code, block_code}
+use Rattle.snl_emit.specs.ExpressionCode.{expression_code}
+use Rattle.snl_code.specs.Inside.{IsVariableOf}
+use Rattle.snl_code.proofs.InsideParts.{Fits, fits-append, state-below, AllIn, in-front, in-back, h, known}
+use Rattle.snl_code.proofs.InsideValues.{any-value}
+use Rattle.snl_code.proofs.InsideWords.{Named, Anywhere, any-none, any-one, any-append, fits-if}
+
+module _ (p : ProgramTree) where
+  -- the sites of each of some values
+  abbrev ValuesIn : List ExprTree → Type 0
+  ValuesIn [] = Unit {0}
+  ValuesIn (e ∷ es) = ((s : List Scope) × AllIn p (in_value s e)) × ValuesIn es
+
+  -- and of what each of some variables begins with
+  abbrev DeclaredIn : List DeclaratorTree → Type 0
+  DeclaredIn [] = Unit {0}
+  DeclaredIn (d ∷ ds) = ValuesIn (values_of d.initial) × DeclaredIn ds
+
+  -- of a list in braces
+  values-in : (s : List Scope) (vs : ValueList) → AllIn p (in_values s vs) → ValuesIn (listed_values vs)
+  values-in s no_values all = tt
+  values-in s (last_value e) all = ((s, all), tt)
+  values-in s (value_before e rest) all = ((s, in-front p (in_value s e) (in_values s rest) all), values-in s rest (in-back p (in_value s e) (in_values s rest) all))
+
+  -- of an initialiser that may be missing
+  initial-in : (s : List Scope) (o : Option InitialiserTree) → AllIn p (maybe (in_initialiser s) o) → ValuesIn (values_of o)
+  initial-in s None all = tt
+  initial-in s (Some (single e)) all = ((s, all), tt)
+  initial-in s (Some (listed vs)) all = values-in s vs all
+
+  -- of names of one type
+  names-in : (s : List Scope) (b : Bool) (t : TypeTree) (ds : List DeclaratorTree) → AllIn p (flat_map (in_declarator s b t) ds) → DeclaredIn ds
+  names-in s b t [] all = tt
+  names-in s b t (d ∷ ds) all =
+      let own = in-front p (in_declarator s b t d) (flat_map (in_declarator s b t) ds) all in (
+        initial-in s d.initial (in-back p (flat_map (in_value s) d.sizes) (maybe (in_initialiser s) d.initial) own.1),
+        names-in s b t ds (in-back p (in_declarator s b t d) (flat_map (in_declarator s b t) ds) all),
+      )
+
+  -- of two rows of names
+  declared-append : (ds es : List DeclaratorTree) → DeclaredIn ds → DeclaredIn es → DeclaredIn (ds ++ es)
+  declared-append [] es f g = g
+  declared-append (d ∷ ds) es f g = (f.0, declared-append ds es f.1 g)
+
+  -- of declarations
+  declared-in : (s : List Scope) (b : Bool) (ds : List DeclarationTree) → AllIn p (flat_map (in_declaration s b) ds) → DeclaredIn (names_of ds)
+  declared-in s b [] all = tt
+  declared-in s b (d ∷ ds) all =
+      let own = in-front p (in_declaration s b d) (flat_map (in_declaration s b) ds) all in
+      declared-append d.names (names_of ds) (names-in s b d.type_name d.names own.1) (declared-in s b ds (in-back p (in_declaration s b d) (flat_map (in_declaration s b) ds) all))
+
+module _ (p : ProgramTree) (set : ℕ) where
+  -- ---- parts
+
+  -- a condition, and what is done where it holds
+  fits-when : (c held : List Instr) (b a : ℕ) → 1 ≤ a → Anywhere p set c → ((n : ℕ) → Fits (Named p set) n a held) → Fits (Named p set) b a (when_code c held)
+  fits-when c held b a some f g =
+      let tail = instr.JumpIfZero (length held) ∷ held in
+      fits-append (Named p set) b a c tail (f b (length tail + a) (omega (arith, some))) (omega (arith, some), tt, g (suc (b + length c)))
+
+  -- an expression for what it does
+  any-dropped : (o : Option ExprTree) (s : List Scope) → AllIn p (maybe (in_value s) o) → Anywhere p set (dropped_code (h p set) o)
+  any-dropped None s all = any-none p set
+  any-dropped (Some e) s all =
+      any-append p set (expression_code (h p set) e) (instr.Drop ∷ []) (any-value p set e false s Read (λ good. tt) all) (any-one p set instr.Drop (λ b a some. some) tt)
+
+  -- a condition that passes the next instruction
+  fits-test : (o : Option ExprTree) (s : List Scope) → AllIn p (maybe (in_value s) o) → (b a : ℕ) → 2 ≤ a → Fits (Named p set) b a (test_code (h p set) o)
+  fits-test None s all b a two = tt
+  fits-test (Some e) s all b a two =
+      fits-append (Named p set) b a (expression_code (h p set) e) (instr.JumpIfZero 1 ∷ []) (any-value p set e false s Read (λ good. tt) all b (1 + a) (omega arith)) (omega (arith, two), tt, tt)
+
+  -- a loop
+  fits-loop : (line : ℕ) (body step test : List Instr) (b a : ℕ) → 1 ≤ a → ((n m : ℕ) → length step + length test + 1 < m → Fits (Named p set) n m body) → Anywhere p set step →
+      ((n m : ℕ) → 2 ≤ m → Fits (Named p set) n m test) → Fits (Named p set) b a (loop_code line body step test)
+  fits-loop line body step test b a some f g k =
+      let tick = instr.Tick line (length test + length step + length body) ∷ [] in
+      let l1 = length-append test tick in
+      let l2 = length-append step (test ++ tick) in
+      let l3 = length-append body (step ++ (test ++ tick)) in
+      let n = suc b + length body in (
+        omega (arith, l1, l2, l3),
+        tt,
+        fits-append (Named p set) (suc b) a body (step ++ (test ++ tick)) (f (suc b) (length (step ++ (test ++ tick)) + a) (omega (arith, l1, l2, some)))
+            (fits-append (Named p set) n a step (test ++ tick) (g n (length (test ++ tick) + a) (omega (arith, some)))
+            (fits-append (Named p set) (n + length step) a test tick (k (n + length step) (length tick + a) (omega (arith, some))) (omega arith, tt, tt))),
+      )
+
+  -- ---- the variables of a block
+
+  -- a variable that is 0
+  any-cleared : (o : Option Variable) → ((v : Variable) → o ≡ Some v → IsVariableOf p set v) → Anywhere p set (cleared_code o)
+  any-cleared None is = any-none p set
+  any-cleared (Some v) is = any-one p set (instr.Clear v) (λ b a some. some) (is v refl)
+
+  -- all of them
+  any-all_cleared : (ds : List DeclaratorTree) → Anywhere p set (all_cleared_code (h p set) ds)
+  any-all_cleared [] = any-none p set
+  any-all_cleared (d ∷ ds) =
+      any-append p set (cleared_code (variable_for (h p set) d)) (all_cleared_code (h p set) ds)
+      (any-cleared (variable_for (h p set) d) (λ v is. known p set d.name.pos.offset v is)) (any-all_cleared ds)
+
+  -- an element that begins with a number
+  any-begun : (o : Option Variable) (line k : ℕ) → ((v : Variable) → o ≡ Some v → IsVariableOf p set v) → Anywhere p set (begun_code o line k ∷ [])
+  any-begun None line k is = any-one p set instr.Drop (λ b a some. some) tt
+  any-begun (Some v) line k is = by (nat_lt k v.size) refl
+    where
+      by : (t : Bool) → nat_lt k v.size ≡ t → Anywhere p set ((if t then instr.Begin v k line else instr.Drop) ∷ [])
+      by true less = any-one p set (instr.Begin v k line) (λ b a some. some) (is v refl, ltb-true k v.size less)
+      by false not = any-one p set instr.Drop (λ b a some. some) tt
+
+  -- what a variable begins with
+  any-begun_with : (o : Option Variable) (line k : ℕ) (es : List ExprTree) → ((v : Variable) → o ≡ Some v → IsVariableOf p set v) → ValuesIn p es →
+      Anywhere p set (begun_with_code (h p set) o line k es)
+  any-begun_with o line k [] is all = any-none p set
+  any-begun_with o line k (e ∷ es) is all =
+      any-append p set (expression_code (h p set) e ++ begun_code o line k ∷ []) (begun_with_code (h p set) o line (suc k) es)
+      (any-append p set (expression_code (h p set) e) (begun_code o line k ∷ []) (any-value p set e false all.0.0 Read (λ good. tt) all.0.1) (any-begun o line k is))
+      (any-begun_with o line (suc k) es is all.1)
+
+  -- what all of them do
+  any-all_begun : (ds : List DeclaratorTree) → DeclaredIn p ds → Anywhere p set (all_begun_code (h p set) ds)
+  any-all_begun [] all = any-none p set
+  any-all_begun (d ∷ ds) all =
+      any-append p set (begun_with_code (h p set) (variable_for (h p set) d) d.name.pos.line 0 (values_of d.initial)) (all_begun_code (h p set) ds)
+      (any-begun_with (variable_for (h p set) d) d.name.pos.line 0 (values_of d.initial) (λ v is. known p set d.name.pos.offset v is) all.0) (any-all_begun ds all.1)
+
+  -- the entry of a block
+  any-entered : (ds : List DeclaratorTree) → DeclaredIn p ds → Anywhere p set (entered_code (h p set) ds)
+  any-entered ds all = any-append p set (all_cleared_code (h p set) ds) (all_begun_code (h p set) ds) (any-all_cleared ds) (any-all_begun ds all)
+
+  -- ---- statements
+
+  mutual
+    -- a statement
+    fits-statement : (st : StatementTree) (c : Bool) (g : List Token) (s : List Scope) (l : Bool) → AllIn p (in_statement c g s l st) → (out again b a : ℕ) → out < a → again < a →
+        Fits (Named p set) b a (statement_code (h p set) out again st)
+    fits-statement (nested k) c g s l all out again b a away round = fits-block k c g s l all out again b a away round
+    fits-statement empty c g s l all out again b a away round = tt
+    fits-statement (expression e) c g s l all out again b a away round = any-dropped (Some e) s all b a (omega (arith, away))
+    fits-statement (break_loop t) c g s l all out again b a away round = (omega (arith, away), tt, tt)
+    fits-statement (continue_loop t) c g s l all out again b a away round = (omega (arith, round), tt, tt)
+    fits-statement (change_state t x) c g s l all out again b a away round = (tt, state-below (h p set).states x.text.now, tt)
+    fits-statement (if_then e st) c g s l all out again b a away round =
+        fits-when (expression_code (h p set) e) (statement_code (h p set) out again st) b a (omega (arith, away))
+        (any-value p set e false s Read (λ good. tt) (in-front p (in_value s e) (in_statement c g s l st) all))
+        (λ n. fits-statement st c g s l (in-back p (in_value s e) (in_statement c g s l st) all) out again n a away round)
+    fits-statement (if_else e x y) c g s l all out again b a away round =
+        let second = statement_code (h p set) out again y in
+        let two = in-front p (in_value s e ++ in_statement c g s l x) (in_statement c g s l y) all in
+        fits-if p set (expression_code (h p set) e) (statement_code (h p set) (out + 1 + length second) (again + 1 + length second) x) second b a (omega (arith, away))
+        (any-value p set e false s Read (λ good. tt) (in-front p (in_value s e) (in_statement c g s l x) two))
+        (λ n. fits-statement x c g s l (in-back p (in_value s e) (in_statement c g s l x) two) (out + 1 + length second) (again + 1 + length second) n (suc (length second) + a)
+        (omega (arith, away)) (omega (arith, round)))
+        (λ n. fits-statement y c g s l (in-back p (in_value s e ++ in_statement c g s l x) (in_statement c g s l y) all) out again n a away round)
+    fits-statement (while_loop t e st) c g s l all out again b a away round =
+        let tc = test_code (h p set) (Some e) in
+        fits-loop t.pos.line (statement_code (h p set) (length tc + 1) 0 st) [] tc b a (omega (arith, away))
+        (λ n m less. fits-statement st c g s true (in-back p (in_value s e) (in_statement c g s true st) all) (length tc + 1) 0 n m (omega (arith, less)) (omega (arith, less)))
+        (any-none p set) (fits-test (Some e) s (in-front p (in_value s e) (in_statement c g s true st) all))
+    fits-statement (for_loop t parts st) c g s l all out again b a away round =
+        let tc = test_code (h p set) parts.condition in
+        let sc = dropped_code (h p set) parts.step in
+        let ic = dropped_code (h p set) parts.start in
+        let bc = statement_code (h p set) (length sc + length tc + 1) 0 st in
+        let header = in-front p (in_header s parts) (in_statement c g s true st) all in
+        let start = maybe (in_value s) parts.start in
+        let condition = maybe (in_value s) parts.condition in
+        let step = maybe (in_value s) parts.step in
+        let two = in-front p (start ++ condition) step header in
+        fits-append (Named p set) b a ic (loop_code t.pos.line bc sc tc)
+        (any-dropped parts.start s (in-front p start condition two) b (length (loop_code t.pos.line bc sc tc) + a) (omega (arith, away)))
+        (fits-loop t.pos.line bc sc tc (b + length ic) a (omega (arith, away))
+        (λ n m less. fits-statement st c g s true (in-back p (in_header s parts) (in_statement c g s true st) all) (length sc + length tc + 1) 0 n m (omega (arith, less)) (omega (arith, less)))
+        (any-dropped parts.step s (in-back p (start ++ condition) step header))
+        (fits-test parts.condition s (in-back p start condition two)))
+
+    -- statements in a row
+    fits-statements : (row : StatementList) (c : Bool) (g : List Token) (s : List Scope) (l : Bool) → AllIn p (in_statements c g s l row) → (out again b a : ℕ) → out < a → again < a →
+        Fits (Named p set) b a (statements_code (h p set) out again row)
+    fits-statements no_statements c g s l all out again b a away round = tt
+    fits-statements (statement st rest) c g s l all out again b a away round =
+        let rc = statements_code (h p set) out again rest in
+        let sc = statement_code (h p set) (out + length rc) (again + length rc) st in
+        fits-append (Named p set) b a sc rc
+        (fits-statement st c g s l (in-front p (in_statement c g s l st) (in_statements c g s l rest) all) (out + length rc) (again + length rc) b (length rc + a)
+        (omega (arith, away)) (omega (arith, round)))
+        (fits-statements rest c g s l (in-back p (in_statement c g s l st) (in_statements c g s l rest) all) out again (b + length sc) a away round)
+
+    -- a block
+    pub fits-block : (k : BlockTree) (c : Bool) (g : List Token) (s : List Scope) (l : Bool) → AllIn p (in_block c g s l k) → (out again b a : ℕ) → out < a → again < a →
+        Fits (Named p set) b a (block_code (h p set) out again k)
+    fits-block (block ds row) c g s l all out again b a away round =
+        let own = scope_of s (map declaration ds) in
+        let inside = own ∷ s in
+        let variables = flat_map (in_declaration inside true) ds in
+        let front = in-front p (declares [] own ++ variables) (in_statements c g inside l row) all in
+        let ec = entered_code (h p set) (names_of ds) in
+        let sc = statements_code (h p set) out again row in
+        fits-append (Named p set) b a ec sc
+        (any-entered (names_of ds) (declared-in p inside true ds (in-back p (declares [] own) variables front)) b (length sc + a) (omega (arith, away)))
+        (fits-statements row c g inside l (in-back p (declares [] own ++ variables) (in_statements c g inside l row) all) out again (b + length ec) a away round)

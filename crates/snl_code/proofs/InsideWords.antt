@@ -1,0 +1,287 @@
+-- The code of the words of an expression lies inside, wherever it stands, as long as an instruction stands behind it.
+use Rattle.std.proofs.Common.{◌≡◌, ◌∙◌, ◌+◌, ◌<◌, ◌≤◌, refl, sym, ap, subst, true≢false, arith, ℕ, suc, pos, Bool, true, false, List, [], ◌∷◌, ◌++◌, Option, None, Some, length, length-append, if◌then◌else◌}
+use Rattle.std.specs.Prelude.{◌||◌, is_some, is_none}
+use Rattle.snl_text.specs.declared.kinds.Kind.{Kind}
+use Rattle.snl_text.specs.declared.tokens.Pos.{Pos}
+use Rattle.snl_text.specs.declared.tokens.Token.{Token}
+use Rattle.snl_syntax.specs.Expressions.{ExprTree, ArgumentList, constant, parenthesized, named, element, call, postfix, prefix, chain, conditional, assignment, no_arguments, value, text}
+use Rattle.snl_syntax.specs.Programs.{ProgramTree}
+use Rattle.snl_resolve.specs.declared.builtins.Builtin.{Builtin}
+use Rattle.snl_resolve.specs.declared.builtins.Builtin.TheVariants.{Delay, Printf, PvPut, Ask}
+use Rattle.snl_resolve.specs.declared.builtins.Query.{Query}
+use Rattle.snl_resolve.specs.declared.calls.Form.{Form}
+use Rattle.snl_resolve.specs.declared.calls.Form.TheVariants.{ChannelPlace, QueueName, FlagName, Seconds}
+use Rattle.snl_resolve.specs.declared.sites.Meaning.{Meaning}
+use Rattle.snl_resolve.specs.declared.sites.Purpose.{Purpose}
+use Rattle.snl_resolve.specs.declared.sites.Purpose.TheVariants.{Flagged, Ignored}
+use Rattle.snl_resolve.specs.declared.sites.Site.TheVariants.{Use}
+use Rattle.snl_resolve.specs.Builtins.{form_of}
+use Rattle.snl_resolve.specs.Calls.{is_name, fits, is_fitting}
+use Rattle.snl_resolve.specs.Purposes.{inner, in_parentheses, target, argument_of, argument, is_ignored, at_call, at_change}
+use Rattle.snl_resolve.specs.Programs.{sites}
+use Rattle.snl_resolve.specs.Scopes.{Scope, meaning}
+use Rattle.snl_resolve.specs.Sites.{in_expression}
+use Rattle.snl_meaning.specs.declared.instrs.Instr.{Instr}
+use Rattle.snl_meaning.specs.declared.instrs.Instr.TheVariants as instr
+use Rattle.snl_meaning.specs.declared.instrs.Variable.{Variable}
+use Rattle.snl_meaning.specs.declared.names.Sense.{Sense}
+use Rattle.snl_meaning.specs.declared.names.Sense.TheVariants.{Varies, Stands}
+use Rattle.snl_meaning.specs.declared.operators.Joint.{Joint}
+use Rattle.snl_meaning.specs.declared.operators.Joint.TheVariants.{And, Or, Sequel, Operation}
+use Rattle.snl_meaning.specs.declared.operators.Sign.{Sign}
+use Rattle.snl_meaning.specs.declared.operators.Sign.TheVariants.{Steps, Alone}
+use Rattle.snl_meaning.specs.Names.{number_by, flags_of, flag_number}
+use Rattle.snl_emit.specs.ExpressionCode.{joint_code, if_code, name_code, at_code, put_at_code, put_code, CodeOn, at_name_code, signed_code, called_code, ask_flag_code}
+use Rattle.snl_code.specs.Inside.{IsVariableOf, FlagsAreDeclared, NamesInside}
+use Rattle.snl_code.proofs.InsideParts.{Leads, Fits, fits-append, flag-below, IsSite, AllIn, h, Knows}
+
+module _ (p : ProgramTree) (set : ℕ) where
+  -- what is known of the names of an instruction
+  abbrev pub Named : Instr → Type 0
+  Named = NamesInside p set
+
+  -- code lies inside wherever it stands, if an instruction stands behind it
+  abbrev pub Anywhere : List Instr → Type 0
+  Anywhere code = (before after : ℕ) → 1 ≤ after → Fits Named before after code
+
+  -- ---- parts
+
+  -- no code
+  pub any-none : Anywhere []
+  any-none b a some = tt
+
+  -- an instruction that leads to the next, and others
+  abbrev pub Plain : Instr → Type 0
+  Plain i = (before after : ℕ) → 0 < after → Leads before after i
+
+  -- it stands before code
+  pub any-cons : (i : Instr) (x : List Instr) → Plain i → Named i → Anywhere x → Anywhere (i ∷ x)
+  any-cons i x plain names f b a some = (plain b (length x + a) (omega (arith, some)), names, f (suc b) a some)
+
+  -- it stands alone
+  pub any-one : (i : Instr) → Plain i → Named i → Anywhere (i ∷ [])
+  any-one i plain names = any-cons i [] plain names any-none
+
+  -- two, one after the other
+  pub any-append : (x y : List Instr) → Anywhere x → Anywhere y → Anywhere (x ++ y)
+  any-append x y f g b a some = fits-append Named b a x y (f b (length y + a) (omega (arith, some))) (g (b + length x) a some)
+
+  -- a number
+  pub any-push : (z : _) → Anywhere (instr.Push z ∷ [])
+  any-push z = any-one (instr.Push z) (λ b a some. some) tt
+
+  -- `&&`
+  fits-and : (right : List Instr) → Anywhere right → (b a : ℕ) → 1 ≤ a → (line : ℕ) → Fits Named b a (joint_code And line right)
+  fits-and right f b a some line =
+      let tail = instr.Settle ∷ instr.Jump 1 ∷ instr.Push (pos 0) ∷ [] in
+      let long = length-append right tail in (
+        omega (arith, long, some),
+        tt,
+        fits-append Named (suc b) a right tail (f (suc b) (length tail + a) (omega (arith, some)))
+            (omega arith, tt, (omega (arith, some), tt, (omega (arith, some), tt, tt))),
+      )
+
+  -- `||`
+  fits-or : (right : List Instr) → Anywhere right → (b a : ℕ) → 1 ≤ a → (line : ℕ) → Fits Named b a (joint_code Or line right)
+  fits-or right f b a some line =
+      let tail = instr.Settle ∷ [] in
+      let long = length-append right tail in
+      let n = suc (suc (suc b)) in (
+        omega (arith, long, some),
+        tt,
+        (omega arith, tt, (omega (arith, long, some), tt, fits-append Named n a right tail (f n (length tail + a) (omega (arith, some))) (omega (arith, some), tt, tt))),
+      )
+
+  -- an operator with the code of its operand
+  pub any-joint : (j : Joint) (line : ℕ) (right : List Instr) → Anywhere right → Anywhere (joint_code j line right)
+  any-joint And line right f = λ b a some. fits-and right f b a some line
+  any-joint Or line right f = λ b a some. fits-or right f b a some line
+  any-joint Sequel line right f = any-cons instr.Drop right (λ b a some. some) tt f
+  any-joint (Operation op) line right f = any-append right (instr.Apply op line ∷ []) f (any-one (instr.Apply op line) (λ b a some. some) tt)
+
+  -- one of two
+  pub fits-if : (c held failed : List Instr) (b a : ℕ) → 1 ≤ a → Anywhere c → ((n : ℕ) → Fits Named n (suc (length failed) + a) held) → ((n : ℕ) → Fits Named n a failed) →
+      Fits Named b a (if_code c held failed)
+  fits-if c held failed b a some f g k =
+      let other = instr.Jump (length failed) ∷ failed in
+      let long = length-append held other in
+      let start = b + length c in
+      fits-append Named b a c (instr.JumpIfZero (length held + 1) ∷ (held ++ other)) (f b (length (instr.JumpIfZero (length held + 1) ∷ (held ++ other)) + a) (omega (arith, some))) (
+        omega (arith, long, some),
+        tt,
+        fits-append Named (suc start) a held other (g (suc start)) (omega (arith, some), tt, k (suc (suc start + length held))),
+      )
+
+  -- a name
+  pub any-name : (s : Sense) → Knows p set s → Anywhere (name_code s ∷ [])
+  any-name (Varies v) is = any-one (instr.Load v) (λ b a some. some) is
+  any-name (Stands z) is = any-push z
+
+  -- after a subscript
+  pub any-at : (s : Sense) (line : ℕ) (go : Variable → List Instr) (other : List Instr) → Knows p set s → ((v : Variable) → IsVariableOf p set v → Anywhere (go v)) → Anywhere other →
+      Anywhere (at_code s line go other)
+  any-at (Varies v) line go other is f g = any-cons (instr.Check v line) (go v) (λ b a some. some) is (f v is)
+  any-at (Stands z) line go other is f g = any-cons instr.Drop other (λ b a some. some) tt g
+
+  -- at a name
+  pub any-at_name : (s : Sense) (x : Token) (alone : CodeOn) (other : List Instr) → Knows p set s → ((v : Variable) (y : Token) → IsVariableOf p set v → Anywhere (alone v y)) → Anywhere other →
+      Anywhere (at_name_code s x alone other)
+  any-at_name (Varies v) x alone other is f g = f v x is
+  any-at_name (Stands z) x alone other is f g = g
+
+  -- an assignment to an element
+  pub any-put_at : (op : Option Kind) (op_line : ℕ) (right : List Instr) (line : ℕ) (v : Variable) → IsVariableOf p set v → Anywhere right → Anywhere (put_at_code op op_line right line v)
+  any-put_at None op_line right line v is f = any-append right (instr.StoreAt v line ∷ []) f (any-one (instr.StoreAt v line) (λ b a some. some) is)
+  any-put_at (Some op) op_line right line v is f =
+      any-cons (instr.Peek v) _ (λ b a some. some) is
+      (any-append (right ++ instr.Apply op op_line ∷ []) (instr.StoreAt v line ∷ [])
+      (any-append right (instr.Apply op op_line ∷ []) f (any-one (instr.Apply op op_line) (λ b a some. some) tt)) (any-one (instr.StoreAt v line) (λ b a some. some) is))
+
+  -- an assignment to a variable
+  pub any-put : (op : Option Kind) (op_line : ℕ) (right : List Instr) (v : Variable) (line : ℕ) → IsVariableOf p set v → Anywhere right → Anywhere (put_code op op_line right v line)
+  any-put None op_line right v line is f = any-append right (instr.Store v line ∷ []) f (any-one (instr.Store v line) (λ b a some. some) is)
+  any-put (Some op) op_line right v line is f =
+      any-cons (instr.Load v) _ (λ b a some. some) is
+      (any-append (right ++ instr.Apply op op_line ∷ []) (instr.Store v line ∷ [])
+      (any-append right (instr.Apply op op_line ∷ []) f (any-one (instr.Apply op op_line) (λ b a some. some) tt)) (any-one (instr.Store v line) (λ b a some. some) is))
+
+  -- a sign
+  pub any-signed : (s : Sign) (stepping : Kind → List Instr) (operand : List Instr) (line : ℕ) → ((by : Kind) → Anywhere (stepping by)) → Anywhere operand →
+      Anywhere (signed_code s stepping operand line)
+  any-signed (Steps op) stepping operand line f g = f op
+  any-signed (Alone op) stepping operand line f g = any-append operand (instr.ApplyPrefix op line ∷ []) g (any-one (instr.ApplyPrefix op line) (λ b a some. some) tt)
+
+  -- a call
+  pub any-called : (o : Option Builtin) (print wait put : List Instr) (ask : Query → List Instr) → Anywhere print → Anywhere wait → Anywhere put →
+      ((q : Query) → o ≡ Some (Ask q) → Anywhere (ask q)) → Anywhere (called_code o print wait put ask)
+  any-called None print wait put ask f g k l = any-push (pos 0)
+  any-called (Some Delay) print wait put ask f g k l = g
+  any-called (Some Printf) print wait put ask f g k l = f
+  any-called (Some PvPut) print wait put ask f g k l = k
+  any-called (Some (Ask query)) print wait put ask f g k l = l query refl
+
+  -- ---- event flags
+
+  -- what stands in no wrong call
+  abbrev IsAsked : Purpose → Type 0
+  IsAsked Ignored = ⊥
+  IsAsked u = Unit {0}
+
+  -- so it is where the rules are kept
+  abbrev pub Asks : Purpose → Type 0
+  Asks u = FlagsAreDeclared p → IsAsked u
+
+  -- what it is for is not ignored
+  asked-not : (u : Purpose) → IsAsked u → is_ignored u ≡ false
+  asked-not Ignored k = absurd k
+  asked-not _ k = refl
+
+  -- nor are its operands,
+  pub asks-inner : (u : Purpose) → Asks u → Asks (inner u)
+  asks-inner Ignored k = k
+  asks-inner _ k = λ good. tt
+
+  -- what stands in parentheses,
+  pub asks-parentheses : (u : Purpose) → Asks u → Asks (in_parentheses u)
+  asks-parentheses Ignored k = k
+  asks-parentheses _ k = λ good. tt
+
+  -- and its target
+  pub asks-target : (u : Purpose) → Asks u → Asks (target u)
+  asks-target Ignored k = k
+  asks-target _ k = λ good. tt
+
+  -- an argument of the form that a call takes is for something
+  asked-form : (f : Form) → IsAsked (argument_of f)
+  asked-form ChannelPlace = tt
+  asked-form QueueName = tt
+  asked-form FlagName = tt
+  asked-form Seconds = tt
+  asked-form _ = tt
+
+  -- the arguments of a call that the rules let pass
+  asked-argument : (u : Purpose) (o : Option Builtin) (fit : Bool) → IsAsked u → (is_some o || is_ignored u) ≡ true → (is_none o || fit || is_ignored u) ≡ true →
+      (b : Builtin) × (o ≡ Some b) × (fit ≡ true) × (argument u o fit ≡ argument_of (form_of b))
+  asked-argument Ignored o fit k known fits = absurd k
+  asked-argument _ None fit k known fits = absurd (true≢false (sym known))
+  asked-argument _ (Some b) true k known fits = (b, refl, refl, refl)
+  asked-argument _ (Some b) false k known fits = absurd (true≢false (sym fits))
+
+  -- of a call of the program
+  call-argument : (u : Purpose) (w : Bool) (f : Token) (o : Option Builtin) (fit : Bool) → Asks u → IsSite p (at_call u w f o fit) → FlagsAreDeclared p →
+      (b : Builtin) × (o ≡ Some b) × (fit ≡ true) × (argument u o fit ≡ argument_of (form_of b))
+  call-argument u w f o fit k site good = let kept = good.calls site.0 f _ _ _ site.1 in asked-argument u o fit (k good) kept.0 kept.1
+
+  -- its arguments are not ignored
+  pub asks-argument : (u : Purpose) (w : Bool) (f : Token) (o : Option Builtin) (fit : Bool) → Asks u → IsSite p (at_call u w f o fit) → Asks (argument u o fit)
+  asks-argument u w f o fit k site = λ good.
+      let is = call-argument u w f o fit k site good in subst IsAsked (sym is.3) (asked-form (form_of is.0))
+
+  -- where a call takes the name of an event flag, its arguments are for that, and have that form
+  abbrev pub TakesFlag : Query → Purpose → ArgumentList → Type 0
+  TakesFlag query u args = FlagsAreDeclared p → form_of (Ask query) ≡ FlagName → (u ≡ Flagged) × (fits FlagName args ≡ true)
+
+  -- so it is where a function is called
+  pub takes-flag : (u : Purpose) (w : Bool) (f : Token) (o : Option Builtin) (args : ArgumentList) → Asks u → IsSite p (at_call u w f o (is_fitting o args)) → (query : Query) →
+      o ≡ Some (Ask query) → TakesFlag query (argument u o (is_fitting o args)) args
+  takes-flag u w f o args k site query is = λ good form.
+      let call = call-argument u w f o (is_fitting o args) k site good in
+      let both : Some call.0 ≡ Some (Ask query) = sym call.1 ∙ is in
+      let one : call.0 ≡ Ask query = cc in
+      let named_form : form_of call.0 ≡ FlagName = ap form_of one ∙ form in
+      let fit : is_fitting (Some call.0) args ≡ true = ap (λ (b : Option Builtin). is_fitting b args) (sym call.1) ∙ call.2 in
+      (call.3 ∙ ap argument_of named_form, ap (λ (g : Form). fits g args) (sym named_form) ∙ fit)
+
+  -- what is asked of an event flag, by its number
+  pub any-flag : (query : Query) (n : ℕ) → Named (instr.Ask query n) → Anywhere (instr.Ask query n ∷ [])
+  any-flag query n below = any-one (instr.Ask query n) (λ b a some. some) below
+
+  -- an expression is the name of an event flag, alone
+  abbrev IsFlag : ExprTree → Type 0
+  IsFlag (named x) = flag_number (h p set) x < length (flags_of (sites p))
+  IsFlag _ = ⊥
+
+  -- the number of a name that is used as an event flag
+  flag-named : (x : Token) (m : Meaning) (sub : Bool) → FlagsAreDeclared p → IsSite p (Use Flagged x m sub) → IsFlag (named x)
+  flag-named x m sub good site =
+      let flag = good.flags site.0 x m sub site.1 in
+      subst (λ (o : Option Pos). number_by (flags_of (sites p)) o < length (flags_of (sites p))) (sym flag.2) (flag-below (flags_of (sites p)) flag.1 flag.0.offset flag.3)
+
+  -- the only argument of a call
+  pub alone-named : (e : ExprTree) (rest : ArgumentList) → fits FlagName (value e rest) ≡ true → is_name e ≡ true
+  alone-named e no_arguments is = is
+  alone-named e (value x more) is = absurd (true≢false (sym is))
+  alone-named e (text t more) is = absurd (true≢false (sym is))
+
+  -- it is such a name
+  pub flag-argument : (e : ExprTree) (w : Bool) (s : List Scope) (u : Purpose) → AllIn p (in_expression w s u e) → FlagsAreDeclared p → u ≡ Flagged → is_name e ≡ true → IsFlag e
+  flag-argument (named x) w s u all good is name = flag-named x (meaning s x) false good (subst (λ (v : Purpose). IsSite p (Use v x (meaning s x) false)) is all.0)
+  flag-argument (constant t) w s u all good is name = absurd (true≢false (sym name))
+  flag-argument (parenthesized e) w s u all good is name = absurd (true≢false (sym name))
+  flag-argument (element x b e) w s u all good is name = absurd (true≢false (sym name))
+  flag-argument (call f args) w s u all good is name = absurd (true≢false (sym name))
+  flag-argument (postfix e op) w s u all good is name = absurd (true≢false (sym name))
+  flag-argument (prefix op e) w s u all good is name = absurd (true≢false (sym name))
+  flag-argument (chain e rest) w s u all good is name = absurd (true≢false (sym name))
+  flag-argument (conditional c a b) w s u all good is name = absurd (true≢false (sym name))
+  flag-argument (assignment e op r) w s u all good is name = absurd (true≢false (sym name))
+
+  -- what is asked by it
+  pub any-ask_flag : (e : ExprTree) (query : Query) → (FlagsAreDeclared p → form_of (Ask query) ≡ FlagName → IsFlag e) → Anywhere (ask_flag_code (h p set) e query ∷ [])
+  any-ask_flag (parenthesized e) query flag = any-ask_flag e query (λ good form. absurd (flag good form))
+  any-ask_flag (named x) query flag = any-flag query _ flag
+  any-ask_flag (constant t) query flag = any-push (pos 0)
+  any-ask_flag (element x b e) query flag = any-push (pos 0)
+  any-ask_flag (call f all) query flag = any-push (pos 0)
+  any-ask_flag (postfix e op) query flag = any-push (pos 0)
+  any-ask_flag (prefix op e) query flag = any-push (pos 0)
+  any-ask_flag (chain e rest) query flag = any-push (pos 0)
+  any-ask_flag (conditional c a b) query flag = any-push (pos 0)
+  any-ask_flag (assignment e op r) query flag = any-push (pos 0)
+
+  -- the sites of what stands behind a sign
+  pub prefix-sites : (b : Bool) (w : Bool) (s : List Scope) (u : Purpose) (e : ExprTree) (op : Token) →
+      AllIn p (if b then at_change u e op ∷ in_expression w s (target u) e else in_expression w s (inner u) e) → Asks u →
+      (q : Purpose) × AllIn p (in_expression w s q e) × Asks q
+  prefix-sites true w s u e op all k = (target u, all.1, asks-target u k)
+  prefix-sites false w s u e op all k = (inner u, all, asks-inner u k)

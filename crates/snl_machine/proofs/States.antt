@@ -1,0 +1,111 @@
+-- Each state set stays in one of its states.
+use Rattle.std.proofs.Common.{◌≡◌, ◌≤◌, ◌+◌, arith, ℕ, zero, suc, Bool, true, false, List, [], ◌∷◌, Option, None, Some, sym, subst, if◌then◌else◌}
+use Rattle.std.specs.Prelude.{slice_set, slice_index_or}
+use Rattle.snl_syntax.specs.Programs.{ProgramTree}
+use Rattle.snl_links.specs.Links.{Link}
+use Rattle.snl_code.specs.Heres.{here_in}
+use Rattle.snl_load.specs.Meaning.{program_meaning}
+use Rattle.snl_machine.specs.Worlds.{last_state, StatesExist}
+use Rattle.snl_machine.proofs.Filling.{received-same}
+use Rattle.snl_machine.proofs.Steady.{IsSteady}
+use Rattle.snl_machine.proofs.Whole.{line-keeps}
+use Rattle.snl_meaning.specs.declared.ties.Tied.{Tied}
+use Rattle.snl_meaning.specs.Keeping.{IsKept, world_after}
+use Rattle.snl_meaning.specs.Links.{home_of}
+use Rattle.snl_meaning.specs.World.{SetMemory, World, no_copy, copy_of}
+use Rattle.snl_meaning.proofs.Keeping.{pieces-keep}
+use Rattle.snl_meaning.proofs.Ticks.{Any, any-may}
+use Rattle.snl_schedule.specs.declared.events.Event.{Event}
+use Rattle.snl_schedule.specs.declared.events.Event.TheVariants.{Up, Down, Val, Tick, Other}
+use Rattle.snl_schedule.specs.Event.{applied, line_of}
+use Rattle.snl_schedule.specs.Refresh.{is_marked, with_mark, copied_to, refreshed_link, refreshed_from}
+
+-- what holds of each element, by its number, holds after another one is put in
+set-each : {A : Type 0} (P : ℕ → A → Type 0) (xs : List A) (i : ℕ) (x d : A) → P i x → ((j : ℕ) → P j (slice_index_or xs j d)) → (j : ℕ) → P j (slice_index_or (slice_set xs i x) j d)
+set-each P [] i x d new old j = old j
+set-each P (y ∷ ys) zero x d new old zero = new
+set-each P (y ∷ ys) zero x d new old (suc j) = old (suc j)
+set-each P (y ∷ ys) (suc i) x d new old zero = old 0
+set-each P (y ∷ ys) (suc i) x d new old (suc j) = set-each (λ n z. P (suc n) z) ys i x d new (λ n. old (suc n)) j
+
+module _ (p : ProgramTree) where
+  -- a copy is in one of the states of its state set
+  abbrev Exists : ℕ → SetMemory → Type 0
+  Exists set c = c.state ≤ last_state p set
+
+  -- what holds before a change holds after it
+  abbrev Stays : World → World → Type 0
+  Stays w u = StatesExist p w → StatesExist p u
+
+  -- another copy
+  copy-stays : (set : ℕ) (c : SetMemory) (w : World) → (Exists set (copy_of set w) → Exists set c) → Stays w (record w { copies = slice_set w.copies set c })
+  copy-stays set c w new h = set-each Exists w.copies set c no_copy (new (h set)) h
+
+  -- each change of a piece
+  states-kept : (set : ℕ) → IsKept set Any Stays
+  states-kept set = record {
+    nothing = λ w h. h;
+    both = λ u v w a b h. b (a h);
+    stores = λ v k z w ok fits. copy-stays set _ w (λ h. h);
+    clears = λ v w ok. copy-stays set _ w (λ h. h);
+    signals = λ flag now w h. h;
+    fills = λ place link t w home is h. h;
+    enqueues = λ place link t w home is queued h. h;
+    fetches = λ place link t w home is. copy-stays set _ w (λ h. h);
+    takes = λ place link t item more w home is has. copy-stays set _ w (λ h. h);
+    flushes = λ link w h. h;
+    marks = λ marks w same h. h;
+    notes = λ t w late h. h;
+    spends = λ left w is h. h;
+  }
+
+  -- the refresh of a link
+  link-stays : (set number : ℕ) (t : Tied) (w : World) → Stays w (refreshed_link set number t w)
+  link-stays set number t w = by (is_marked set number w) (home_of set number w)
+    where
+      by : (b : Bool) (home : Option ℕ) → Stays w (if b then with_mark set number false (copied_to set home t w) else w)
+      by true None h = h
+      by true (Some home) h = copy-stays set _ w (λ e. e) h
+      by false home h = h
+
+  -- of links
+  links-stay : (set number : ℕ) (ts : List Tied) (w : World) → Stays w (refreshed_from set number ts w)
+  links-stay set number [] w h = h
+  links-stay set number (t ∷ ts) w h = links-stay set (number + 1) ts (refreshed_link set number t w) (link-stays set number t w h)
+
+  -- each change of a run
+  states-steady : IsSteady p Stays Stays
+  states-steady = record {
+    nothing = λ w h. h;
+    both = λ u v w a b h. b (a h);
+    pieces = λ set. pieces-keep (here_in p set) Any Stays (any-may (here_in p set)) (states-kept set);
+    refreshes = λ set w. links-stay set 0 w.ties w;
+    enters = λ set state within is_timed w. copy-stays set _ w (λ h. within);
+    opens = λ w h. h;
+    wakes = λ w h. h;
+    phase = λ x w h. h;
+    spends = λ left w is h. h;
+    weaker = λ w u a. a;
+    before = λ u v w a b h. b (a h);
+    after = λ u v w a b h. b (a h);
+  }
+
+  module _ (ls : List Link) (waits : Bool) where
+    -- an event
+    event-stays : (event : Event) (w : World) → Stays w (applied (program_meaning p ls waits) event w)
+    event-stays (Up channel) w h = h
+    event-stays (Down channel) w h = h
+    event-stays (Val channel values) w h =
+        let q = program_meaning p ls waits in
+        let u = record w { valued = _ } in
+        subst (λ (cs : List SetMemory). StatesExist p (record w { copies = cs })) (sym (received-same channel values.items 0 q.links u).0) h
+    event-stays Tick w h = h
+    event-stays Other w h = h
+
+    -- a line
+    pub states-stay : (budget ms : ℕ) (event : Event) (w : World) → Stays w (world_after (line_of (program_meaning p ls waits) budget ms event w))
+    states-stay budget ms event w = line-keeps p ls waits Stays Stays states-steady (λ n u h. h) (λ t u h. h) event (event-stays event) budget ms w
+
+-- each state set begins in its first state
+pub states-begin : (p : ProgramTree) (cs : List SetMemory) → ((i : ℕ) → (slice_index_or cs i no_copy).state ≡ 0) → (i : ℕ) → (slice_index_or cs i no_copy).state ≤ last_state p i
+states-begin p cs first i = let zero-is = first i in omega (arith, zero-is)
