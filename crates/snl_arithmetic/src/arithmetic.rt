@@ -1,6 +1,6 @@
 //! Arithmetic over -2^63 .. 2^63-1, with its faults.
 
-ghost use Rattle.std.specs.Prelude.{◌≡◌, ◌<◌, ◌^◌, pos, ◌*ℤ◌};
+ghost use Rattle.std.specs.Prelude.{◌≡◌, ◌<◌, ◌^◌, pos, ◌*ℤ◌, ok_or, Err};
 ghost use Rattle.snl_arithmetic.specs.Arithmetic as spec;
 
 use snl_text::Kind;
@@ -14,6 +14,26 @@ pub enum ArithmeticFault {
     Division,
     /// A shift count outside of 0 .. 63.
     Shift,
+}
+
+/// What leaves the range. It is not put in place: a sum that stays in the range then costs one test, and no choice between two
+/// answers.
+#[inline(never)]
+fn overflowed() -> Result<i64, ArithmeticFault>
+    ensures { result ≡ Err ArithmeticFault.Overflow }
+{
+    Err(ArithmeticFault::Overflow)
+}
+
+/// What a checked operation gave, if it stays in the range.
+#[inline(always)]
+fn checked(number: Option<i64>) -> Result<i64, ArithmeticFault>
+    ensures { result ≡ ok_or number ArithmeticFault.Overflow }
+{
+    match number {
+        Some(number) => Ok(number),
+        None => overflowed(),
+    }
 }
 
 fn divided(left: i64, right: i64) -> Result<i64, ArithmeticFault>
@@ -99,9 +119,9 @@ pub fn computed(operator: Kind, left: i64, right: i64) -> Result<i64, Arithmetic
         Kind::GreaterEqual => Ok(i64::from(left >= right)),
         Kind::LessLess => shifted_left(left, right),
         Kind::GreaterGreater => shifted_right(left, right),
-        Kind::Plus => left.checked_add(right).ok_or(ArithmeticFault::Overflow),
-        Kind::Minus => left.checked_sub(right).ok_or(ArithmeticFault::Overflow),
-        Kind::Star => left.checked_mul(right).ok_or(ArithmeticFault::Overflow),
+        Kind::Plus => checked(left.checked_add(right)),
+        Kind::Minus => checked(left.checked_sub(right)),
+        Kind::Star => checked(left.checked_mul(right)),
         Kind::Slash => divided(left, right),
         Kind::Percent => remainder(left, right),
         _ => Ok(right),

@@ -5,6 +5,7 @@ use Rattle.std.proofs.lemmas.List.Elements.{Contains-append_left, Contains-appen
 use Rattle.snl_syntax.specs.declared.programs.Program.{Program}
 use Rattle.snl_syntax.specs.view.Programs.{program_view}
 use Rattle.snl_resolve.specs.declared.options.Options.{Options}
+use Rattle.snl_resolve.specs.UseTables.{IsTableOf}
 use Rattle.snl_messages.specs.declared.messages.Severity.{Severity}
 use Rattle.snl_messages.specs.declared.messages.Severity.TheVariants.{Error, Warning}
 use Rattle.snl_messages.specs.Messages.{Said, said}
@@ -13,7 +14,6 @@ use Rattle.snl_messages.specs.Silence.{options_in_force}
 use Rattle.snl_check.specs.declared.findings.Findings.{Findings}
 use Rattle.snl_check.specs.Accepted.{IsAccepted, has_no_error}
 use Rattle.snl_check.specs.Findings.{AreFindings}
-use Rattle.snl_check.specs.Tables.{IsTableOf}
 
 -- A warning is no error.
 not_both : (s : Severity) → is_warning s ≡ true → s ≡ Error → ⊥
@@ -67,5 +67,5 @@ module _ (p : Program) (given : Options) (f : Findings) (found : AreFindings p g
   accepted_found q same e = subst (λ x. IsAccepted f.options x) (sym same) (subst (λ o. IsAccepted o p) (sym found.options) (accepted_by_warnings e))
 
   -- The table that is found is that of an equal program.
-  pub places_found : (q : Program) → q ≡ p → IsTableOf f.places q
-  places_found q same = subst (λ x. IsTableOf f.places x) (sym same) found.places
+  pub uses_found : (q : Program) → q ≡ p → IsTableOf f.uses (program_view q)
+  uses_found q same = subst (λ x. IsTableOf f.uses (program_view x)) (sym same) found.uses

@@ -10,7 +10,7 @@ use Rattle.snl_resolve.specs.declared.sites.Site.TheVariants.{Use}
 use Rattle.snl_resolve.specs.declared.sites.Size.TheVariants.{Scalar}
 use Rattle.snl_resolve.specs.Options.{no_options, after_option}
 use Rattle.snl_resolve.specs.Uses.{declared_in}
-use Rattle.snl_check.specs.Tables.{or_later}
+use Rattle.snl_resolve.specs.UseTables.{or_later}
 use Rattle.snl_check.specs.Waits.{waits}
 
 -- A place at an offset.

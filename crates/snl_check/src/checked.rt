@@ -3,18 +3,17 @@
 ghost use Rattle.std.specs.Prelude.{◌≡◌, ◌↔◌, map, Contains, IfOk, IfSome, IsSome};
 ghost use Rattle.std.proofs.Props.{props};
 ghost use Rattle.snl_syntax.specs.view.Programs.{program_view};
+ghost use Rattle.snl_resolve.specs.UseTables.{IsTableOf};
 ghost use Rattle.snl_resolve.specs.Uses.{declared_of};
 ghost use Rattle.snl_messages.specs.Messages.{Said, IsInOrder, said};
 ghost use Rattle.snl_messages.specs.Says.{IsSaid};
 ghost use Rattle.snl_messages.specs.Silence as silence;
 ghost use Rattle.snl_check.specs.Accepted.{IsAccepted};
-ghost use Rattle.snl_check.specs.Tables.{IsTableOf};
 ghost use Rattle.snl_check.specs.Waits.{waits};
 
 use crate::findings::{Examined, Findings, examine_owned};
-use crate::uses::{Places, declared_at};
 use snl_messages::Message;
-use snl_resolve::Options;
+use snl_resolve::{Options, UseTable};
 use snl_syntax::Program;
 use snl_text::Pos;
 use std::alloc::{AllocError, Global};
@@ -26,9 +25,9 @@ pub struct Checked<'a> {
     /// Those in force.
     options: Options,
     /// What the names of the program mean.
-    places: Places,
+    uses: UseTable,
     pub ghost accepted: { IsAccepted options program },
-    ghost bound: { IsTableOf places program } by { Prim.hlevel props },
+    ghost bound: { IsTableOf uses (program_view program) } by { Prim.hlevel props },
 }
 
 impl<'a> Checked<'a> {
@@ -55,7 +54,14 @@ impl<'a> Checked<'a> {
     pub fn declared(&self, offset: usize) -> Option<Pos>
         ensures { result ≡ declared_of (program_view self.now.program) offset }
     {
-        declared_at(&self.places, offset)
+        self.uses.declared(offset)
+    }
+
+    /// The table that answers this, for all names of the program.
+    pub fn uses(&self) -> &UseTable
+        ensures { IsTableOf result.now (program_view self.now.program) }
+    {
+        &self.uses
     }
 
     /// Whether the program waits for its channels before it starts: every named channel connected,
@@ -108,13 +114,13 @@ pub fn check<'a>(
     let Findings {
         messages,
         options,
-        places,
+        uses,
     } = findings;
     let checked = if is_accepted {
         Some(Checked {
             program,
             options,
-            places,
+            uses,
         })
     } else {
         None

@@ -7,9 +7,8 @@ ghost use Rattle.snl_check.specs.Findings.{AreFindings};
 ghost use Rattle.snl_check.specs.declared.findings.Findings as declared;
 ghost use Rattle.snl_resolve.specs.declared.options.Options as sites;
 
-use crate::uses::{Places, places_of};
 use snl_messages::{Message, Severity, messages_of, options_in_force};
-use snl_resolve::{Options, sites_of};
+use snl_resolve::{Options, UseTable, sites_of};
 use snl_syntax::Program;
 use std::alloc::{AllocError, Global};
 
@@ -21,7 +20,7 @@ pub struct Findings {
     /// Those in force.
     pub options: Options,
     /// What the names of the program mean.
-    pub places: Places,
+    pub uses: UseTable,
 }
 
 impl Findings {
@@ -51,12 +50,12 @@ fn findings_of(alloc: Global, program: &Program, given: Options) -> Result<Findi
 {
     let messages = messages_of(alloc, program, given)?;
     let sites = sites_of(alloc, program)?;
-    let places = places_of(alloc, sites.as_slice())?;
+    let uses = UseTable::of(alloc, sites.as_slice())?;
     let options = options_in_force(program, given);
     Ok(Findings {
         messages,
         options,
-        places,
+        uses,
     })
 }
 

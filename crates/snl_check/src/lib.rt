@@ -6,7 +6,6 @@
 mod checked;
 mod findings;
 pub mod laws;
-mod uses;
 
 pub use checked::{Checked, Outcome, check};
 pub use snl_messages::{Message, Severity};

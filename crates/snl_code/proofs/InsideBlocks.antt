@@ -1,26 +1,35 @@
 -- The code of a statement and of a block lies inside.
-use Rattle.std.proofs.Common.{◌≡◌, ◌+◌, ◌<◌, ◌≤◌, refl, arith, ltb-true, ℕ, suc, Bool, true, false, nat_lt, List, [], ◌∷◌, ◌++◌, Option, None, Some, length, length-append, map, if◌then◌else◌}
+use Rattle.std.proofs.Common.{◌≡◌, ◌+◌, ◌<◌, ◌≤◌, inl, inr, refl, subst, arith, ltb-true, ℕ, suc, Bool, true, false, nat_lt, List, [], ◌∷◌, ◌++◌, Option, None, Some, length, length-append, map, if◌then◌else◌}
 use Rattle.std.specs.List.{flat_map}
+use Rattle.snl_text.specs.declared.kinds.Kind.{Kind}
 use Rattle.snl_text.specs.declared.tokens.Token.{Token}
 use Rattle.snl_syntax.specs.Declarations.{TypeTree, ValueList, InitialiserTree, DeclaratorTree, DeclarationTree, no_values, last_value, value_before, single, listed}
 use Rattle.snl_syntax.specs.Definitions.{declaration}
-use Rattle.snl_syntax.specs.Expressions.{ExprTree}
+use Rattle.snl_syntax.specs.Expressions.{ExprTree, constant, parenthesized, named, element, call, postfix, prefix, chain, conditional, assignment}
 use Rattle.snl_syntax.specs.Programs.{ProgramTree}
 use Rattle.snl_syntax.specs.Statements.{StatementTree, StatementList, BlockTree, nested, empty, expression, break_loop, continue_loop, change_state, if_then, if_else, while_loop, for_loop, no_statements, statement, block}
+use Rattle.snl_resolve.specs.declared.sites.Purpose.{Purpose}
 use Rattle.snl_resolve.specs.declared.sites.Purpose.TheVariants.{Read}
+use Rattle.snl_resolve.specs.Purposes.{inner, in_parentheses, target}
 use Rattle.snl_resolve.specs.Scopes.{Scope, scope_of}
-use Rattle.snl_resolve.specs.Sites.{in_value, maybe, declares, in_values, in_initialiser, in_declarator, in_declaration, in_header, in_statement, in_statements, in_block}
+use Rattle.snl_resolve.specs.Sites.{in_expression, in_value, maybe, declares, in_values, in_initialiser, in_declarator, in_declaration, in_header, in_statement, in_statements, in_block}
 use Rattle.snl_resolve.specs.Types.{listed_values}
 use Rattle.snl_meaning.specs.declared.instrs.Instr.{Instr}
 use Rattle.snl_meaning.specs.declared.instrs.Instr.TheVariants as instr
 use Rattle.snl_meaning.specs.declared.instrs.Variable.{Variable}
+use Rattle.snl_meaning.specs.declared.names.Sense.{Sense}
+use Rattle.snl_meaning.specs.declared.names.Sense.TheVariants.{Varies, Stands}
+use Rattle.snl_meaning.specs.declared.operators.Sign.{Sign}
+use Rattle.snl_meaning.specs.declared.operators.Sign.TheVariants.{Steps, Alone}
 use Rattle.snl_meaning.specs.Effect.{variable_for, values_of, names_of}
-use Rattle.snl_emit.specs.BlockCode.{when_code, dropped_code, test_code, loop_code, cleared_code, all_cleared_code, begun_code, begun_with_code, all_begun_code, entered_code, statement_code, statements_code, block_code}
-use Rattle.snl_emit.specs.ExpressionCode.{expression_code}
+use Rattle.snl_meaning.specs.Names.{sense_of}
+use Rattle.snl_meaning.specs.Value.{compound_of, sign_of}
+use Rattle.snl_emit.specs.BlockCode.{when_code, varied, named_variable, assigned_code, stepped_code, dropping_code, effect_code, dropped_code, test_code, loop_code, cleared_code, all_cleared_code, begun_code, begun_with_code, all_begun_code, entered_code, statement_code, statements_code, block_code}
+use Rattle.snl_emit.specs.ExpressionCode.{expression_code, renewed_code}
 use Rattle.snl_code.specs.Inside.{IsVariableOf}
-use Rattle.snl_code.proofs.InsideParts.{Fits, fits-append, state-below, AllIn, in-front, in-back, h, known}
+use Rattle.snl_code.proofs.InsideParts.{Fits, fits-append, state-below, AllIn, in-front, in-back, h, known, Knows, sense-knows}
 use Rattle.snl_code.proofs.InsideValues.{any-value}
-use Rattle.snl_code.proofs.InsideWords.{Named, Anywhere, any-none, any-one, any-append, fits-if}
+use Rattle.snl_code.proofs.InsideWords.{Named, Anywhere, Asks, asks-inner, asks-parentheses, any-renewed, any-none, any-one, any-append, fits-if}
 
 module _ (p : ProgramTree) where
   -- the sites of each of some values
@@ -75,11 +84,66 @@ module _ (p : ProgramTree) (set : ℕ) where
       let tail = instr.JumpIfZero (length held) ∷ held in
       fits-append (Named p set) b a c tail (f b (length tail + a) (omega (arith, some))) (omega (arith, some), tt, g (suc (b + length c)))
 
+  -- an expression whose value is dropped
+  any-dropping : (e : ExprTree) → Anywhere p set (expression_code (h p set) e) → Anywhere p set (dropping_code (h p set) e)
+  any-dropping e f = any-append p set (expression_code (h p set) e) (instr.Drop ∷ []) f (any-one p set instr.Drop (λ b a some. some) tt)
+
+  -- the variable that an expression is
+  named-known : (e : ExprTree) (x : Variable × ℕ) → named_variable (h p set) e ≡ Some x → IsVariableOf p set x.0
+  named-known (parenthesized e) x is = named-known e x is
+  named-known (named y) x is = by (sense_of (h p set) y) (sense-knows p set y) is
+    where
+      by : (s : Sense) → Knows p set s → varied s y.pos.line ≡ Some x → IsVariableOf p set x.0
+      by (Varies v) known same = let one : v ≡ x.0 = cc in subst (λ (u : Variable). IsVariableOf p set u) one known
+      by (Stands z) known same = absurd (cc)
+  named-known (constant t) x is = absurd (cc)
+  named-known (element y b e) x is = absurd (cc)
+  named-known (call f all) x is = absurd (cc)
+  named-known (postfix e op) x is = absurd (cc)
+  named-known (prefix op e) x is = absurd (cc)
+  named-known (chain e rest) x is = absurd (cc)
+  named-known (conditional c a b) x is = absurd (cc)
+  named-known (assignment e op r) x is = absurd (cc)
+
+  -- an assignment
+  any-assigned : (o : Option (Variable × ℕ)) (op : Option Kind) (line : ℕ) (right other : List Instr) → ((x : Variable × ℕ) → o ≡ Some x → IsVariableOf p set x.0) → Anywhere p set right →
+      Anywhere p set other → Anywhere p set (assigned_code o op line right other)
+  any-assigned None op line right other is f k = k
+  any-assigned (Some x) op line right other is f k =
+      any-append p set (renewed_code op line right x.0) (instr.Assign x.0 0 x.1 ∷ []) (any-renewed p set op line right x.0 (is x refl) f)
+      (any-one p set (instr.Assign x.0 0 x.1) (λ b a some. some) (is x refl, inr refl))
+
+  -- `++` or `--`
+  any-stepped : (o : Option (Variable × ℕ)) (sign : Sign) (line : ℕ) (other : List Instr) → ((x : Variable × ℕ) → o ≡ Some x → IsVariableOf p set x.0) → Anywhere p set other →
+      Anywhere p set (stepped_code o sign line other)
+  any-stepped None sign line other is k = k
+  any-stepped (Some x) (Steps by) line other is k = any-one p set (instr.Increment x.0 by line x.1) (λ b a some. some) (is x refl)
+  any-stepped (Some x) (Alone op) line other is k = k
+
   -- an expression for what it does
+  any-effect : (e : ExprTree) (w : Bool) (s : List Scope) (u : Purpose) → Asks p set u → AllIn p (in_expression w s u e) → Anywhere p set (effect_code (h p set) e)
+  any-effect (parenthesized e) w s u q all = any-effect e w s (in_parentheses u) (asks-parentheses p set u q) all
+  any-effect (assignment e op r) w s u q all =
+      any-assigned (named_variable (h p set) e) (compound_of op.kind) op.pos.line (expression_code (h p set) r) (dropping_code (h p set) (assignment e op r)) (named-known e)
+      (any-value p set r w s (inner u) (asks-inner p set u q) (in-back p (in_expression w s (target u) e) (in_expression w s (inner u) r) all.1))
+      (any-dropping (assignment e op r) (any-value p set (assignment e op r) w s u q all))
+  any-effect (postfix e op) w s u q all =
+      any-stepped (named_variable (h p set) e) (sign_of op.kind) op.pos.line (dropping_code (h p set) (postfix e op)) (named-known e)
+      (any-dropping (postfix e op) (any-value p set (postfix e op) w s u q all))
+  any-effect (prefix op e) w s u q all =
+      any-stepped (named_variable (h p set) e) (sign_of op.kind) op.pos.line (dropping_code (h p set) (prefix op e)) (named-known e)
+      (any-dropping (prefix op e) (any-value p set (prefix op e) w s u q all))
+  any-effect (constant t) w s u q all = any-dropping (constant t) (any-value p set (constant t) w s u q all)
+  any-effect (named x) w s u q all = any-dropping (named x) (any-value p set (named x) w s u q all)
+  any-effect (element x b e) w s u q all = any-dropping (element x b e) (any-value p set (element x b e) w s u q all)
+  any-effect (call f args) w s u q all = any-dropping (call f args) (any-value p set (call f args) w s u q all)
+  any-effect (chain e rest) w s u q all = any-dropping (chain e rest) (any-value p set (chain e rest) w s u q all)
+  any-effect (conditional c x y) w s u q all = any-dropping (conditional c x y) (any-value p set (conditional c x y) w s u q all)
+
+  -- the same of one that may be missing
   any-dropped : (o : Option ExprTree) (s : List Scope) → AllIn p (maybe (in_value s) o) → Anywhere p set (dropped_code (h p set) o)
   any-dropped None s all = any-none p set
-  any-dropped (Some e) s all =
-      any-append p set (expression_code (h p set) e) (instr.Drop ∷ []) (any-value p set e false s Read (λ good. tt) all) (any-one p set instr.Drop (λ b a some. some) tt)
+  any-dropped (Some e) s all = any-effect e false s Read (λ good. tt) all
 
   -- a condition that passes the next instruction
   fits-test : (o : Option ExprTree) (s : List Scope) → AllIn p (maybe (in_value s) o) → (b a : ℕ) → 2 ≤ a → Fits (Named p set) b a (test_code (h p set) o)
@@ -122,8 +186,8 @@ module _ (p : ProgramTree) (set : ℕ) where
   any-begun None line k is = any-one p set instr.Drop (λ b a some. some) tt
   any-begun (Some v) line k is = by (nat_lt k v.size) refl
     where
-      by : (t : Bool) → nat_lt k v.size ≡ t → Anywhere p set ((if t then instr.Begin v k line else instr.Drop) ∷ [])
-      by true less = any-one p set (instr.Begin v k line) (λ b a some. some) (is v refl, ltb-true k v.size less)
+      by : (t : Bool) → nat_lt k v.size ≡ t → Anywhere p set ((if t then instr.Assign v k line else instr.Drop) ∷ [])
+      by true less = any-one p set (instr.Assign v k line) (λ b a some. some) (is v refl, inl (ltb-true k v.size less))
       by false not = any-one p set instr.Drop (λ b a some. some) tt
 
   -- what a variable begins with

@@ -16,7 +16,7 @@ use Rattle.snl_meaning.specs.declared.instrs.Instr.TheVariants as instr
 use Rattle.snl_meaning.specs.declared.instrs.Variable.{Variable}
 use Rattle.snl_meaning.specs.Names.{sense_of, format_number}
 use Rattle.snl_meaning.specs.Value.{joint_of, compound_of, sign_of, constant_of, is_decimal}
-use Rattle.snl_emit.specs.ExpressionCode.{joint_code, get_code, CodeOn, ask_flag_code, count_values, expression_code, terms_code, target_code, print_code, values_code, wait_code, put_call_code, ask_code}
+use Rattle.snl_emit.specs.ExpressionCode.{number_of, joint_code, get_code, CodeOn, ask_flag_code, count_values, expression_code, terms_code, target_code, print_code, values_code, wait_code, put_call_code, ask_code}
 use Rattle.snl_code.specs.Inside.{IsVariableOf}
 use Rattle.snl_code.proofs.InsideParts.{text-below, AllIn, in-front, in-back, h, sense-knows}
 use Rattle.snl_code.proofs.InsideWords.{Anywhere, Asks, TakesFlag, any-none, any-one, any-append, any-push, any-joint, fits-if, any-name, any-at, any-at_name, any-put_at, any-put, any-signed, any-called, any-flag, any-ask_flag, asks-inner, asks-parentheses, asks-target, asks-argument, takes-flag, flag-argument, alone-named, prefix-sites}
@@ -80,8 +80,8 @@ module _ (p : ProgramTree) (set : ℕ) where
     any-terms : (rest : TermList) (w : Bool) (s : List Scope) (u : Purpose) → Asks p set u → AllIn p (in_terms w s u rest) → Anywhere p set (terms_code (h p set) rest)
     any-terms no_terms w s u q all = any-none p set
     any-terms (term op e rest) w s u q all =
-        any-append p set (joint_code (joint_of op.kind) op.pos.line (expression_code (h p set) e)) (terms_code (h p set) rest)
-        (any-joint p set (joint_of op.kind) op.pos.line (expression_code (h p set) e) (any-value e w s u q (in-front p (in_expression w s u e) (in_terms w s u rest) all)))
+        any-append p set (joint_code (joint_of op.kind) op.pos.line (number_of e) (expression_code (h p set) e)) (terms_code (h p set) rest)
+        (any-joint p set (joint_of op.kind) op.pos.line (number_of e) (expression_code (h p set) e) (any-value e w s u q (in-front p (in_expression w s u e) (in_terms w s u rest) all)))
         (any-terms rest w s u q (in-back p (in_expression w s u e) (in_terms w s u rest) all))
 
     -- what is done at a target
@@ -136,7 +136,8 @@ module _ (p : ProgramTree) (set : ℕ) where
         (λ v x is. any-one p set (instr.Put v) (λ b a some. some) is) (λ v x is. any-one p set (instr.PutAt v) (λ b a some. some) is) (any-push p set (pos 0))
 
     -- calls that ask
-    any-ask : (args : ArgumentList) (w : Bool) (s : List Scope) (u : Purpose) → Asks p set u → AllIn p (in_arguments w s u args) → (query : Query) → TakesFlag p set query u args → Anywhere p set (ask_code (h p set) args query)
+    any-ask : (args : ArgumentList) (w : Bool) (s : List Scope) (u : Purpose) → Asks p set u → AllIn p (in_arguments w s u args) → (query : Query) → TakesFlag p set query u args →
+        Anywhere p set (ask_code (h p set) args query)
     any-ask no_arguments w s u q all query takes = any-flag p set query 0 (λ good form. absurd (true≢false (sym (takes good form).1)))
     any-ask (text t rest) w s u q all query takes = any-push p set (pos 0)
     any-ask (value e rest) w s u q all query takes =

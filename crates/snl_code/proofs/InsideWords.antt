@@ -1,5 +1,5 @@
 -- The code of the words of an expression lies inside, wherever it stands, as long as an instruction stands behind it.
-use Rattle.std.proofs.Common.{◌≡◌, ◌∙◌, ◌+◌, ◌<◌, ◌≤◌, refl, sym, ap, subst, true≢false, arith, ℕ, suc, pos, Bool, true, false, List, [], ◌∷◌, ◌++◌, Option, None, Some, length, length-append, if◌then◌else◌}
+use Rattle.std.proofs.Common.{◌≡◌, ◌∙◌, ◌+◌, ◌<◌, ◌≤◌, refl, sym, ap, subst, true≢false, arith, ℕ, suc, ℤ, pos, Bool, true, false, List, [], ◌∷◌, ◌++◌, Option, None, Some, length, length-append, if◌then◌else◌}
 use Rattle.std.specs.Prelude.{◌||◌, is_some, is_none}
 use Rattle.snl_text.specs.declared.kinds.Kind.{Kind}
 use Rattle.snl_text.specs.declared.tokens.Pos.{Pos}
@@ -31,7 +31,7 @@ use Rattle.snl_meaning.specs.declared.operators.Joint.TheVariants.{And, Or, Sequ
 use Rattle.snl_meaning.specs.declared.operators.Sign.{Sign}
 use Rattle.snl_meaning.specs.declared.operators.Sign.TheVariants.{Steps, Alone}
 use Rattle.snl_meaning.specs.Names.{number_by, flags_of, flag_number}
-use Rattle.snl_emit.specs.ExpressionCode.{joint_code, if_code, name_code, at_code, put_at_code, put_code, CodeOn, at_name_code, signed_code, called_code, ask_flag_code}
+use Rattle.snl_emit.specs.ExpressionCode.{joint_code, if_code, name_code, at_code, put_at_code, renewed_code, put_code, CodeOn, at_name_code, signed_code, called_code, ask_flag_code}
 use Rattle.snl_code.specs.Inside.{IsVariableOf, FlagsAreDeclared, NamesInside}
 use Rattle.snl_code.proofs.InsideParts.{Leads, Fits, fits-append, flag-below, IsSite, AllIn, h, Knows}
 
@@ -71,7 +71,7 @@ module _ (p : ProgramTree) (set : ℕ) where
   any-push z = any-one (instr.Push z) (λ b a some. some) tt
 
   -- `&&`
-  fits-and : (right : List Instr) → Anywhere right → (b a : ℕ) → 1 ≤ a → (line : ℕ) → Fits Named b a (joint_code And line right)
+  fits-and : (right : List Instr) → Anywhere right → (b a : ℕ) → 1 ≤ a → (line : ℕ) → Fits Named b a (joint_code And line None right)
   fits-and right f b a some line =
       let tail = instr.Settle ∷ instr.Jump 1 ∷ instr.Push (pos 0) ∷ [] in
       let long = length-append right tail in (
@@ -82,7 +82,7 @@ module _ (p : ProgramTree) (set : ℕ) where
       )
 
   -- `||`
-  fits-or : (right : List Instr) → Anywhere right → (b a : ℕ) → 1 ≤ a → (line : ℕ) → Fits Named b a (joint_code Or line right)
+  fits-or : (right : List Instr) → Anywhere right → (b a : ℕ) → 1 ≤ a → (line : ℕ) → Fits Named b a (joint_code Or line None right)
   fits-or right f b a some line =
       let tail = instr.Settle ∷ [] in
       let long = length-append right tail in
@@ -93,11 +93,12 @@ module _ (p : ProgramTree) (set : ℕ) where
       )
 
   -- an operator with the code of its operand
-  pub any-joint : (j : Joint) (line : ℕ) (right : List Instr) → Anywhere right → Anywhere (joint_code j line right)
-  any-joint And line right f = λ b a some. fits-and right f b a some line
-  any-joint Or line right f = λ b a some. fits-or right f b a some line
-  any-joint Sequel line right f = any-cons instr.Drop right (λ b a some. some) tt f
-  any-joint (Operation op) line right f = any-append right (instr.Apply op line ∷ []) f (any-one (instr.Apply op line) (λ b a some. some) tt)
+  pub any-joint : (j : Joint) (line : ℕ) (n : Option ℤ) (right : List Instr) → Anywhere right → Anywhere (joint_code j line n right)
+  any-joint And line n right f = λ b a some. fits-and right f b a some line
+  any-joint Or line n right f = λ b a some. fits-or right f b a some line
+  any-joint Sequel line n right f = any-cons instr.Drop right (λ b a some. some) tt f
+  any-joint (Operation op) line (Some z) right f = any-one (instr.ApplyNumber op z line) (λ b a some. some) tt
+  any-joint (Operation op) line None right f = any-append right (instr.Apply op line ∷ []) f (any-one (instr.Apply op line) (λ b a some. some) tt)
 
   -- one of two
   pub fits-if : (c held failed : List Instr) (b a : ℕ) → 1 ≤ a → Anywhere c → ((n : ℕ) → Fits Named n (suc (length failed) + a) held) → ((n : ℕ) → Fits Named n a failed) →
@@ -137,13 +138,16 @@ module _ (p : ProgramTree) (set : ℕ) where
       (any-append (right ++ instr.Apply op op_line ∷ []) (instr.StoreAt v line ∷ [])
       (any-append right (instr.Apply op op_line ∷ []) f (any-one (instr.Apply op op_line) (λ b a some. some) tt)) (any-one (instr.StoreAt v line) (λ b a some. some) is))
 
+  -- what is stored in a variable
+  pub any-renewed : (op : Option Kind) (op_line : ℕ) (right : List Instr) (v : Variable) → IsVariableOf p set v → Anywhere right → Anywhere (renewed_code op op_line right v)
+  any-renewed None op_line right v is f = f
+  any-renewed (Some op) op_line right v is f =
+      any-cons (instr.Load v) _ (λ b a some. some) is (any-append right (instr.Apply op op_line ∷ []) f (any-one (instr.Apply op op_line) (λ b a some. some) tt))
+
   -- an assignment to a variable
   pub any-put : (op : Option Kind) (op_line : ℕ) (right : List Instr) (v : Variable) (line : ℕ) → IsVariableOf p set v → Anywhere right → Anywhere (put_code op op_line right v line)
-  any-put None op_line right v line is f = any-append right (instr.Store v line ∷ []) f (any-one (instr.Store v line) (λ b a some. some) is)
-  any-put (Some op) op_line right v line is f =
-      any-cons (instr.Load v) _ (λ b a some. some) is
-      (any-append (right ++ instr.Apply op op_line ∷ []) (instr.Store v line ∷ [])
-      (any-append right (instr.Apply op op_line ∷ []) f (any-one (instr.Apply op op_line) (λ b a some. some) tt)) (any-one (instr.Store v line) (λ b a some. some) is))
+  any-put op op_line right v line is f =
+      any-append (renewed_code op op_line right v) (instr.Store v line ∷ []) (any-renewed op op_line right v is f) (any-one (instr.Store v line) (λ b a some. some) is)
 
   -- a sign
   pub any-signed : (s : Sign) (stepping : Kind → List Instr) (operand : List Instr) (line : ℕ) → ((by : Kind) → Anywhere (stepping by)) → Anywhere operand →

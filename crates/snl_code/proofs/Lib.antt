@@ -8,3 +8,4 @@ pub mod InsideBlocks
 pub mod Inside
 pub mod InsidePieces
 pub mod CodeInside
+pub mod Copies

@@ -1,10 +1,24 @@
 -- Where the pieces of a program stand: what is known of the program, and on which state set's copy they run.
-use Rattle.std.specs.Prelude.{ℕ, List, [], map, Option, None, Some, slice_get}
+use Rattle.std.specs.Prelude.{ℕ, ◌+◌, List, [], ◌∷◌, map, Option, None, Some, slice_get}
 use Rattle.snl_text.specs.declared.tokens.Token.{Token}
 use Rattle.snl_syntax.specs.Programs.{ProgramTree, StateSetTree}
 use Rattle.snl_resolve.specs.Programs.{sites}
 use Rattle.snl_resolve.specs.Variables.{variables_of}
+use Rattle.snl_meaning.specs.declared.names.Placed.{Placed}
 use Rattle.snl_meaning.specs.Names.{Here, placed_from}
+
+-- The variables of the copy of a state set, with their places in it: their words stand one after another.
+abbrev pub placed_in : ProgramTree → ℕ → List Placed
+placed_in p k = placed_from 0 (variables_of p k)
+
+-- What there is for each state set, by numbers from k on.
+abbrev pub for_each_set : {A : Type 0} → (ℕ → A) → ℕ → List StateSetTree → List A
+for_each_set f k [] = []
+for_each_set f k (g ∷ gs) = f k ∷ for_each_set f (k + 1) gs
+
+-- The variables of the copies of state sets with numbers from k on.
+abbrev pub placed_sets : ProgramTree → ℕ → List StateSetTree → List (List Placed)
+placed_sets p = for_each_set (placed_in p)
 
 -- The name of a state set, if there is one.
 abbrev pub name_by : Option StateSetTree → List ℕ
@@ -16,12 +30,12 @@ abbrev pub states_by : Option StateSetTree → List Token
 states_by None = []
 states_by (Some g) = map (λ s. s.name) g.states
 
--- What is known on the copy of a state set. The words of its variables stand one after another.
+-- What is known on the copy of a state set.
 abbrev pub here_in : ProgramTree → ℕ → Here
 here_in p set = record {
   set = set;
   set_name = name_by (slice_get p.state_sets set);
   states = states_by (slice_get p.state_sets set);
   sites = sites p;
-  variables = placed_from 0 (variables_of p set);
+  variables = placed_in p set;
 }

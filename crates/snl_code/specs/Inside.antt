@@ -13,7 +13,7 @@ use Rattle.snl_resolve.specs.Programs.{sites}
 use Rattle.snl_resolve.specs.Uses.{declared_of}
 use Rattle.snl_resolve.specs.Variables.{variables_of}
 use Rattle.snl_meaning.specs.declared.instrs.Instr.{Instr}
-use Rattle.snl_meaning.specs.declared.instrs.Instr.TheVariants.{Load, Check, Get, Peek, Store, StoreAt, Adjust, AdjustAt, Jump, JumpIfZero, Tick, Print, Put, PutAt, Ask, AskLink, AskElement, Clear, Begin, Leave, End}
+use Rattle.snl_meaning.specs.declared.instrs.Instr.TheVariants.{Load, Check, Get, Peek, Store, StoreAt, Adjust, Increment, AdjustAt, Jump, JumpIfZero, Tick, Print, Put, PutAt, Ask, AskLink, AskElement, Clear, Assign, Leave, End}
 use Rattle.snl_meaning.specs.declared.instrs.Variable.{Variable}
 use Rattle.snl_meaning.specs.declared.names.Placed.{Placed}
 use Rattle.snl_meaning.specs.Laws.{words_of}
@@ -49,8 +49,8 @@ pub record FlagsAreDeclared (p : ProgramTree) : Type 0 where
   pub flags : (n : ℕ) (x : Token) (m : Meaning) (has_subscript : Bool) → slice_get (sites p) n ≡ Some (Use Flagged x m has_subscript) →
       (d : Pos) × (k : ℕ) × (declared_of p x.pos.offset ≡ Some d) × (slice_get (flags_of (sites p)) k ≡ Some d.offset)
 
--- What an instruction names is there, where it runs on the copy of a state set: its variable, and the element of that which begins
--- with a value; a state of the state set, if that has one; a string of the program; and where a call takes the name of an event
+-- What an instruction names is there, where it runs on the copy of a state set: its variable, and the element of that, unless it is
+-- the first; a state of the state set, if that has one; a string of the program; and where a call takes the name of an event
 -- flag, one of the program's, if the rules are kept.
 abbrev pub NamesInside : ProgramTree → (set : ℕ) → Instr → Type 0
 NamesInside p set (Load v) = IsVariableOf p set v
@@ -66,7 +66,8 @@ NamesInside p set (PutAt v) = IsVariableOf p set v
 NamesInside p set (AskLink query v) = IsVariableOf p set v
 NamesInside p set (AskElement query v) = IsVariableOf p set v
 NamesInside p set (Clear v) = IsVariableOf p set v
-NamesInside p set (Begin v k line) = IsVariableOf p set v × (k < v.size)
+NamesInside p set (Increment v by op_line line) = IsVariableOf p set v
+NamesInside p set (Assign v k line) = IsVariableOf p set v × ((k < v.size) ⊎ (k ≡ 0))
 NamesInside p set (Leave state) = 0 < length (here_in p set).states → state < length (here_in p set).states
 NamesInside p set (Print format count) = format < length (formats_of (here_in p set))
 NamesInside p set (Ask query flag) = FlagsAreDeclared p → form_of (call.Ask query) ≡ FlagName → flag < length (flags_of (sites p))

@@ -6,7 +6,7 @@ ghost use Rattle.snl_syntax.specs.view.Shown.{shown, held};
 ghost use Rattle.snl_syntax.specs.view.Statements.{block_view};
 ghost use Rattle.snl_syntax.specs.view.Programs.{state_view, state_set_view, program_view};
 ghost use Rattle.snl_resolve.specs.Programs as programs;
-ghost use Rattle.snl_resolve.specs.Variables.{variables_of};
+ghost use Rattle.snl_resolve.specs.UseTables.{IsTableOf};
 ghost use Rattle.snl_emit.specs.BlockCode.{block_piece};
 ghost use Rattle.snl_meaning.specs.Names as names;
 ghost use Rattle.snl_code.specs.Heres as heres;
@@ -19,8 +19,8 @@ use crate::code::Code;
 use crate::placing::{place_block, place_states};
 use crate::program_depths::program_depth;
 use crate::starts::StateStarts;
-use snl_meaning::{Instr, Known, Placed, places_of};
-use snl_resolve::{Site, sites_of, variables_of};
+use snl_meaning::{Instr, Known, Places, Sites};
+use snl_resolve::{Numbered, Site, UseTable, variables_of};
 use snl_syntax::{Block, Program, State, StateSet};
 use snl_text::Token;
 use std::alloc::{AllocError, Global};
@@ -51,17 +51,12 @@ fn names_of<'a>(alloc: Global, states: &[State<'a>]) -> Result<Vec<Token<'a>>, A
     Ok(names)
 }
 
-/// The variables of the copy of a state set by its number, with their places in it. The only error is that memory ends.
-pub fn placed_of<'a>(
-    alloc: Global,
-    program: &Program<'a>,
-    set: usize,
-) -> Result<Vec<Placed>, AllocError>
-    ensures { IfOk result (λ places. places.items
-        ≡ names.placed_from 0 (variables_of (program_view program.now) set)) }
+/// The variables of the first copy, with their places in it.
+fn first_places<'a>(alloc: Global, program: &Program<'a>) -> Result<Places, AllocError>
+    ensures { IfOk result (λ places. places ≡ heres.placed_in (program_view program.now) 0) }
 {
-    let variables = variables_of(alloc, program, set)?;
-    places_of(alloc, variables.as_slice())
+    let variables = variables_of(alloc, program, 0)?;
+    Places::of(alloc, variables.as_slice())
 }
 
 /// The name of a state set.
@@ -75,11 +70,11 @@ fn set_name<'a>(sets: &[StateSet<'a>], set: usize) -> &'a [u8]
 }
 
 /// The names of the states of a state set, in their order. The only error is that memory ends.
-pub fn names_in<'a>(alloc: Global, set: &StateSet<'a>) -> Result<Vec<Token<'a>>, AllocError>
-    ensures { IfOk result (λ kept. kept.items
-        ≡ map (λ s. s.name) (state_set_view set.now).states) }
+pub fn names_in<'a>(alloc: Global, set: &StateSet<'a>) -> Result<Numbered<'a>, AllocError>
+    ensures { IfOk result (λ kept. kept ≡ map (λ s. s.name) (state_set_view set.now).states) }
 {
-    names_of(alloc, set.states.as_slice())
+    let names = names_of(alloc, set.states.as_slice())?;
+    Numbered::of(alloc, names)
 }
 
 /// The names of the states of the state set of a number; none where there is no such state set.
@@ -87,54 +82,48 @@ fn state_names<'a>(
     alloc: Global,
     sets: &[StateSet<'a>],
     set: usize,
-) -> Result<Vec<Token<'a>>, AllocError>
-    ensures { IfOk result (λ kept. kept.items
+) -> Result<Numbered<'a>, AllocError>
+    ensures { IfOk result (λ kept. kept
         ≡ heres.states_by (slice_get (map state_set_view sets.now) set)) }
 {
     if sets.len() <= set {
-        return Ok(Vec::new(alloc));
+        return Ok(Numbered::empty(alloc));
     }
     names_in(alloc, &sets[set])
 }
 
-/// What is known of a state set, beside what the names of the program mean.
+/// What is known of a state set, beside its variables and what the names of the program mean.
 #[derive(Drop)]
 struct Facts<'a> {
     name: &'a [u8],
-    states: Vec<Token<'a>>,
-    variables: Vec<Placed>,
+    states: Numbered<'a>,
 }
 
 /// The facts of a state set.
 fn facts_of<'a>(alloc: Global, program: &Program<'a>, set: usize) -> Result<Facts<'a>, AllocError>
     ensures name { IfOk result (λ facts. facts.name.now
         ≡ (heres.here_in (program_view program.now) set).set_name) }
-    ensures states { IfOk result (λ facts. facts.states.items
+    ensures states { IfOk result (λ facts. facts.states
         ≡ (heres.here_in (program_view program.now) set).states) }
-    ensures variables { IfOk result (λ facts. facts.variables.items
-        ≡ (heres.here_in (program_view program.now) set).variables) }
 {
     let sets = program.state_sets.as_slice();
     let name = set_name(sets, set);
     let states = state_names(alloc, sets, set)?;
-    let variables = placed_of(alloc, program, set)?;
-    Ok(Facts {
-        name,
-        states,
-        variables,
-    })
+    Ok(Facts { name, states })
 }
 
-/// Adds the code of a state set; gives where its pieces begin.
+/// Adds the code of a state set with the variables of its copy; gives where its pieces begin.
 fn place_set<'a>(
     alloc: Global,
     program: &Program<'a>,
-    sites: &[Site<'a>],
+    sites: &Sites<'_, 'a>,
+    places: &Places,
     number: usize,
     set: &StateSet<'a>,
     code: &mut Vec<Instr>,
 ) -> Result<Vec<StateStarts>, AllocError>
     requires sites { sites.now ≡ programs.sites (program_view program.now) }
+    requires places { places.now ≡ heres.placed_in (program_view program.now) number }
     ensures starts { IfOk result (λ starts. state_tables starts
         ≡ spec.set_starts (program_view program.now) number code.old.items
         (state_set_view set.now)) }
@@ -145,9 +134,9 @@ fn place_set<'a>(
     let known = Known {
         set: number,
         set_name: facts.name,
-        states: facts.states.as_slice(),
+        states: &facts.states,
         sites,
-        variables: facts.variables.as_slice(),
+        variables: places,
     };
     place_states(alloc, set.states.as_slice(), &known, code)
 }
@@ -156,11 +145,15 @@ fn place_set<'a>(
 fn place_sets<'a>(
     alloc: Global,
     program: &Program<'a>,
-    sites: &[Site<'a>],
+    sites: &Sites<'_, 'a>,
+    copies: &[Places],
     sets: &[StateSet<'a>],
     code: &mut Vec<Instr>,
 ) -> Result<Vec<Vec<StateStarts>>, AllocError>
     requires sites { sites.now ≡ programs.sites (program_view program.now) }
+    requires copies { copies.now
+        ≡ heres.placed_sets (program_view program.now) 0 (program_view program.now).state_sets }
+    requires sets { sets.now ≡ program.now.state_sets.items }
     ensures starts { IfOk result (λ starts. map state_tables starts.items
         ≡ spec.row_starts (spec.set_code (program_view program.now))
         (spec.set_starts (program_view program.now)) 0 code.old.items
@@ -171,7 +164,7 @@ fn place_sets<'a>(
 {
     let mut starts = Vec::new(alloc);
     for (number, set) in sets.iter().enumerate() {
-        let one = place_set(alloc, program, sites, number, set, code)?;
+        let one = place_set(alloc, program, sites, &copies[number], number, set, code)?;
         starts.push(one)?;
     }
     Ok(starts)
@@ -181,7 +174,7 @@ fn place_sets<'a>(
 fn place_own<'a>(
     alloc: Global,
     program: &Program<'a>,
-    sites: &[Site<'a>],
+    sites: &Sites<'_, 'a>,
     block: &Option<Box<Block<'a>>>,
     code: &mut Vec<Instr>,
 ) -> Result<Option<usize>, AllocError>
@@ -192,20 +185,31 @@ fn place_own<'a>(
         ++ spec.maybe_code (block_piece (heres.here_in (program_view program.now) 0))
         (shown (held block_view) block.now)) }
 {
+    if block.is_none() {
+        return Ok(None);
+    }
     let facts = facts_of(alloc, program, 0)?;
+    let places = first_places(alloc, program)?;
     let known = Known {
         set: 0,
         set_name: facts.name,
-        states: facts.states.as_slice(),
+        states: &facts.states,
         sites,
-        variables: facts.variables.as_slice(),
+        variables: &places,
     };
     place_block(alloc, block, &known, code)
 }
 
-/// The code of a program whose sites are given.
-fn code_of<'a>(alloc: Global, program: &Program<'a>, sites: &[Site<'a>]) -> Result<Code, AllocError>
+/// The code of a program whose sites are given, and the variables of its copies.
+fn code_of<'a>(
+    alloc: Global,
+    program: &Program<'a>,
+    sites: &Sites<'_, 'a>,
+    copies: &[Places],
+) -> Result<Code, AllocError>
     requires sites { sites.now ≡ programs.sites (program_view program.now) }
+    requires copies { copies.now
+        ≡ heres.placed_sets (program_view program.now) 0 (program_view program.now).state_sets }
     ensures is { IfOk result (IsCodeOf (program_view program.now)) }
     ensures inside { IfOk result (IsInside (program_view program.now)) }
 {
@@ -215,11 +219,12 @@ fn code_of<'a>(alloc: Global, program: &Program<'a>, sites: &[Site<'a>]) -> Resu
         alloc,
         program,
         sites,
+        copies,
         program.state_sets.as_slice(),
         &mut instrs,
     )?;
     let exit = place_own(alloc, program, sites, &program.exit, &mut instrs)?;
-    let texts = texts_of(alloc, sites)?;
+    let texts = texts_of(alloc, sites.as_slice())?;
     Ok(Code {
         instrs,
         texts,
@@ -230,11 +235,22 @@ fn code_of<'a>(alloc: Global, program: &Program<'a>, sites: &[Site<'a>]) -> Resu
     })
 }
 
-/// The code of a program. The only error is that memory ends.
-pub fn compile<'a>(alloc: Global, program: &Program<'a>) -> Result<Code, AllocError>
+/// The code of a program, by its sites, the table of what the names in them mean, and the variables of its copies. The
+/// only error is that memory ends.
+pub fn compile<'a>(
+    alloc: Global,
+    program: &Program<'a>,
+    sites: &[Site<'a>],
+    uses: &UseTable,
+    copies: &[Places],
+) -> Result<Code, AllocError>
+    requires sites { sites.now ≡ programs.sites (program_view program.now) }
+    requires uses { IsTableOf uses.now (program_view program.now) }
+    requires copies { copies.now
+        ≡ heres.placed_sets (program_view program.now) 0 (program_view program.now).state_sets }
     ensures is { IfOk result (IsCodeOf (program_view program.now)) }
     ensures inside { IfOk result (IsInside (program_view program.now)) }
 {
-    let sites = sites_of(alloc, program)?;
-    code_of(alloc, program, sites.as_slice())
+    let sites = Sites::of(alloc, sites, uses)?;
+    code_of(alloc, program, &sites, copies)
 }

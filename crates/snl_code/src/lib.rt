@@ -11,6 +11,6 @@ mod program_depths;
 mod starts;
 
 pub use code::Code;
-pub use compiling::{compile, names_in, placed_of};
+pub use compiling::{compile, names_in};
 pub use snl_meaning::Instr;
 pub use starts::Piece;

@@ -3,7 +3,7 @@ use Rattle.std.proofs.Common.{◌≡◌, ◌+◌, ◌≤◌, ℕ, suc, ℤ, pos,
 use Rattle.snl_syntax.specs.Expressions.{ExprTree}
 use Rattle.snl_syntax.specs.Declarations.{DeclaratorTree}
 use Rattle.snl_meaning.specs.declared.instrs.Instr.{Instr}
-use Rattle.snl_meaning.specs.declared.instrs.Instr.TheVariants.{Drop, Clear, Begin}
+use Rattle.snl_meaning.specs.declared.instrs.Instr.TheVariants.{Drop, Clear, Assign}
 use Rattle.snl_meaning.specs.declared.instrs.Variable.{Variable}
 use Rattle.snl_emit.specs.BlockCode.{cleared_code, all_cleared_code, begun_code, begun_with_code, all_begun_code, entered_code, values_depth, entered_depth}
 use Rattle.snl_meaning.specs.Effect.{variable_for, cleared_maybe, all_cleared, begun, begun_with, values_of, all_begun, entered}
@@ -16,7 +16,7 @@ use Rattle.snl_meaning.specs.Value.{value_of}
 use Rattle.snl_meaning.specs.Words.{stored, cleared}
 use Rattle.snl_meaning.specs.World.{World}
 use Rattle.snl_meaning.proofs.Following.{has_front, has_back, Follows, follows-step, follows-here, follows-then, follows-to, quiet-none}
-use Rattle.snl_emit.proofs.Leading.{idle}
+use Rattle.snl_emit.proofs.EffectCode.{idle}
 use Rattle.snl_emit.proofs.ValueCode.{value-follows}
 
 module _ (h : Here) (room : ℕ) (code : List Instr) where
@@ -59,7 +59,7 @@ module _ (h : Here) (room : ℕ) (code : List Instr) where
   begins-step None line k at z u = refl
   begins-step (Some v) line k at z u = by (nat_lt k v.size)
     where
-      by : (b : Bool) → done_by g (if b then Begin v k line else Drop) at (z ∷ []) u
+      by : (b : Bool) → done_by g (if b then Assign v k line else Drop) at (z ∷ []) u
           ≡ then_do (if b then stored h.set v line (pos k) z u else Gives z u []) (λ x y. Gives (GoesTo (at + 1) []) y [])
       by true = refl
       by false = refl

@@ -1,9 +1,10 @@
 -- The code of a word, and how such codes are joined.
-use Rattle.std.proofs.Common.{◌≡◌, ◌∙◌, ◌+◌, ◌<◌, ◌≤◌, ℕ, ℤ, pos, Bool, true, false, List, [], ◌∷◌, ◌++◌, Some, refl, ap, subst, arith, length, length-append, slice_get, if◌then◌else◌}
+use Rattle.std.proofs.Common.{◌≡◌, ◌∙◌, ◌+◌, ◌<◌, ◌≤◌, ℕ, ℤ, pos, Bool, true, false, List, [], ◌∷◌, ◌++◌, Option, None, Some, refl, sym, ap, subst, arith, length, length-append, slice_get, if◌then◌else◌}
 use Rattle.std.proofs.lemmas.Bool.{lt-ltb}
+use Rattle.snl_text.specs.declared.kinds.Kind.{Kind}
 use Rattle.snl_arithmetic.specs.Arithmetic.{is_zero}
 use Rattle.snl_meaning.specs.declared.instrs.Instr.{Instr}
-use Rattle.snl_meaning.specs.declared.instrs.Instr.TheVariants.{Push, Apply, Settle, Drop, Jump}
+use Rattle.snl_meaning.specs.declared.instrs.Instr.TheVariants.{Push, Apply, ApplyNumber, Settle, Drop, Jump}
 use Rattle.snl_emit.specs.ExpressionCode.{joint_code, joint_depth}
 use Rattle.snl_meaning.specs.Ran.{Ran, Gives, then_do}
 use Rattle.snl_meaning.specs.Endings.{HasAt}
@@ -13,7 +14,7 @@ use Rattle.snl_meaning.specs.declared.operators.Joint.TheVariants.{And, Or, Sequ
 use Rattle.snl_meaning.specs.Value.{both, one_of, joined_by}
 use Rattle.snl_meaning.specs.Words.{settled, operated}
 use Rattle.snl_meaning.specs.World.{World}
-use Rattle.snl_meaning.proofs.Following.{has_front, has_back, Quiet, Follows, follows-on, follows-step, follows-here, follows-quiet, follows-then, follows-to, quiet-none, quiet-jump, quiet-if_zero, quiet-quiet, quiet-step}
+use Rattle.snl_meaning.proofs.Following.{also-nil, has_front, has_back, Quiet, Follows, follows-on, follows-step, follows-here, follows-quiet, follows-then, follows-to, quiet-none, quiet-jump, quiet-if_zero, quiet-quiet, quiet-step}
 
 module _ (g : PieceContext) (code : List Instr) where
   -- from an address with operands to another address, with what a word gives on top of others
@@ -103,7 +104,7 @@ module _ (g : PieceContext) (code : List Instr) where
       (follows-quiet g code at (x ∷ s) w (at + 1) s (right w) _ (λ z. z ∷ s) (quiet-step g code Drop at (x ∷ s) w (at + 1) s has.0 refl) (f (at + 1) s w has.1 room))
 
   -- `&&` after its left side
-  pub on-both : (line : ℕ) (right : World → Ran ℤ) (c : List Instr) (d : ℕ) → 1 ≤ d → Codes right c d → CodesOn (both right) (joint_code And line c) d
+  pub on-both : (line : ℕ) (right : World → Ran ℤ) (c : List Instr) (d : ℕ) → 1 ≤ d → Codes right c d → CodesOn (both right) (joint_code And line None c) d
   on-both line right c d some f at x s w has room = by (is_zero x) (quiet-if_zero g code (length c + 2) at shut (at + 1) x s w has.0 e refl)
     where
       tail : List Instr
@@ -116,7 +117,7 @@ module _ (g : PieceContext) (code : List Instr) where
       shut = settle + 1 + 1
 
       after : ℕ
-      after = at + length (joint_code And line c)
+      after = at + length (joint_code And line None c)
 
       e : at + 1 + (length c + 2) ≡ shut
       e = omega arith
@@ -142,7 +143,7 @@ module _ (g : PieceContext) (code : List Instr) where
           (follows-then g code (at + 1) s w (right w) settled (λ _. settle) (λ y. y ∷ s) (λ _. after) (λ y. y ∷ s) (f (at + 1) s w (has_front code (at + 1) c _ has.1) room) settles)
 
   -- `||` after its left side
-  pub on-or : (line : ℕ) (right : World → Ran ℤ) (c : List Instr) (d : ℕ) → 1 ≤ d → Codes right c d → CodesOn (one_of right) (joint_code Or line c) d
+  pub on-or : (line : ℕ) (right : World → Ran ℤ) (c : List Instr) (d : ℕ) → 1 ≤ d → Codes right c d → CodesOn (one_of right) (joint_code Or line None c) d
   on-or line right c d some f at x s w has room = by (is_zero x) (quiet-if_zero g code 2 at start (at + 1) x s w has.0 e refl)
     where
       start : ℕ
@@ -152,7 +153,7 @@ module _ (g : PieceContext) (code : List Instr) where
       settle = start + length c
 
       after : ℕ
-      after = at + length (joint_code Or line c)
+      after = at + length (joint_code Or line None c)
 
       e : at + 1 + 2 ≡ start
       e = omega arith
@@ -180,9 +181,19 @@ module _ (g : PieceContext) (code : List Instr) where
           (follows-then g code start s w (right w) settled (λ _. settle) (λ y. y ∷ s) (λ _. after) (λ y. y ∷ s) (f start s w (has_front code start c _ has.1.1.1) room) settles)
       by false q = follows-here g code (pos 1) at (x ∷ s) w (λ _. after) (λ y. y ∷ s) (quiet-quiet g code _ _ w _ s _ _ q one-there)
 
+  -- an operator whose operand is a number
+  on-number : (o : Kind) (line : ℕ) (z : ℤ) (right : World → Ran ℤ) (d : ℕ) → ((w : World) → right w ≡ Gives z w []) →
+      CodesOn (λ x w. then_do (right w) (operated o line x)) (ApplyNumber o z line ∷ []) d
+  on-number o line z right d is =
+      on-one (ApplyNumber o z line) (λ x w. then_do (right w) (operated o line x))
+      (λ at x s w.
+      sym (ap (λ (r : Ran ℤ). then_do (then_do r (operated o line x)) (goes_with (at + 1) s)) (is w) ∙ ap (λ (r : Ran ℤ). then_do r (goes_with (at + 1) s)) (also-nil (operated o line x z w)))) d
+
   -- an operator with its operand, after what stands left of it
-  pub on-joint : (j : Joint) (line : ℕ) (right : World → Ran ℤ) (c : List Instr) (d : ℕ) → 1 ≤ d → Codes right c d → CodesOn (joined_by j line right) (joint_code j line c) (joint_depth j d)
-  on-joint And line right c d some f = on-both line right c d some f
-  on-joint Or line right c d some f = on-or line right c d some f
-  on-joint Sequel line right c d some f = on-drop right c d f
-  on-joint (Operation o) line right c d some f = on-two (Apply o line) right (operated o line) c d (d + 1) (omega arith) (λ at x y s w. refl) f
+  pub on-joint : (j : Joint) (line : ℕ) (n : Option ℤ) (right : World → Ran ℤ) (c : List Instr) (d : ℕ) → ((z : ℤ) → n ≡ Some z → (w : World) → right w ≡ Gives z w []) → 1 ≤ d →
+      Codes right c d → CodesOn (joined_by j line right) (joint_code j line n c) (joint_depth j d)
+  on-joint And line n right c d is some f = on-both line right c d some f
+  on-joint Or line n right c d is some f = on-or line right c d some f
+  on-joint Sequel line n right c d is some f = on-drop right c d f
+  on-joint (Operation o) line None right c d is some f = on-two (Apply o line) right (operated o line) c d (d + 1) (omega arith) (λ at x y s w. refl) f
+  on-joint (Operation o) line (Some z) right c d is some f = on-number o line z right (d + 1) (is z refl)

@@ -4,7 +4,7 @@ use Rattle.snl_syntax.specs.Expressions.{ExprTree}
 use Rattle.snl_arithmetic.specs.Arithmetic.{is_zero}
 use Rattle.snl_meaning.specs.declared.instrs.Instr.{Instr}
 use Rattle.snl_meaning.specs.declared.instrs.Instr.TheVariants.{Drop, JumpIfZero}
-use Rattle.snl_emit.specs.BlockCode.{dropped_code, test_code, maybe_depth}
+use Rattle.snl_emit.specs.BlockCode.{effect_code, dropped_code, test_code, maybe_depth}
 use Rattle.snl_meaning.specs.Effect.{Way, Done, Broken, Continued, Left, if_done, holds, held_by, dropped, evaluated}
 use Rattle.snl_emit.specs.ExpressionCode.{expression_code, expression_depth}
 use Rattle.snl_meaning.specs.Names.{Here}
@@ -15,6 +15,7 @@ use Rattle.snl_meaning.specs.Value.{value_of, either}
 use Rattle.snl_meaning.specs.World.{World}
 use Rattle.snl_meaning.proofs.Following.{has_front, has_back, Quiet, Continues, run_at, Follows, quiet-step, follows-then, follows-to, follows-here, continues-here, continues-quiet, continues-then, quiet-none, quiet-if_zero}
 use Rattle.snl_emit.proofs.ValueCode.{value-follows}
+use Rattle.snl_emit.proofs.EffectCode.{idle, effect-follows}
 
 -- where a statement leads: on after it, out of the loop, to where the loop goes on, or to another state
 abbrev pub led : PieceContext → List Instr → ℕ → ℕ → ℕ → Way → World → ℕ → Ran Exit
@@ -22,10 +23,6 @@ led g code after out again Done u = run_at g code after [] u
 led g code after out again Broken u = run_at g code out [] u
 led g code after out again Continued u = run_at g code again [] u
 led g code after out again (Left state) u = λ k. Gives (LeftFor state) u []
-
--- no operands
-abbrev pub idle : {A : Type 0} → A → List ℤ
-idle _ = []
 
 module _ (g : PieceContext) (code : List Instr) where
   -- the addresses under other names
@@ -101,23 +98,11 @@ module _ (h : Here) (room : ℕ) (code : List Instr) where
       by z u on beyond true q = follows-here g code false (at + length (expression_code h c)) (z ∷ []) u (λ (x : Bool). if x then on else beyond) idle q
       by z u on beyond false q = follows-here g code true (at + length (expression_code h c)) (z ∷ []) u (λ (x : Bool). if x then on else beyond) idle q
 
-  -- an expression for what it does, and what follows
-  pub drops : {A : Type 0} (e : ExprTree) (go : ℤ → World → Ran A) (at : ℕ) (w : World) (onward : A → World → ℕ → Ran Exit) → HasAt code at (expression_code h e ++ Drop ∷ []) →
-      expression_depth e ≤ room → ((z : ℤ) (u : World) → Continues (run_at g code (at + length (expression_code h e) + 1) [] u) (go z u) onward) →
-      Continues (run_at g code at [] w) (then_do (value_of h e w) go) onward
-  drops e go at w onward has free f =
-      let ec = expression_code h e in
-      let k = has_back code at ec (Drop ∷ []) has in
-      continues-then (run_at g code at [] w) (value_of h e w) go (λ z u. run_at g code (at + length ec) (z ∷ []) u) onward
-      (value-follows h room code e at [] w (has_front code at ec _ has) (omega (arith, free)))
-      (λ z u. continues-quiet g code (at + length ec) (z ∷ []) u (at + length ec + 1) [] (go z u) onward (quiet-step g code Drop (at + length ec) (z ∷ []) u _ [] k.0 refl) (f z u))
-
-  -- the same of one that may be missing
-  pub drops-maybe : (o : Option ExprTree) (at : ℕ) (w : World) → HasAt code at (dropped_code h o) → maybe_depth o ≤ room →
+  -- an expression for what it does, which may be missing
+  pub acts-maybe : (o : Option ExprTree) (at : ℕ) (w : World) → HasAt code at (dropped_code h o) → maybe_depth o ≤ room →
       Follows g code at [] w (evaluated h o w) (λ _. at + length (dropped_code h o)) idle
-  drops-maybe None at w has free = let e : at ≡ at + 0 = omega arith in follows-here g code tt at [] w _ idle (subst (λ n. Quiet g code at [] w n []) e (quiet-none g code at [] w))
-  drops-maybe (Some e) at w has free =
-      let ec = expression_code h e in
-      let is : at + length ec + 1 ≡ at + length (ec ++ Drop ∷ []) = omega (arith, length-append ec (Drop ∷ [])) in
-      drops e dropped at w _ has free
-      (λ z u. follows-to g code (at + length ec + 1) [] u (Gives tt u []) _ _ idle is (follows-here g code tt (at + length ec + 1) [] u _ idle (quiet-none g code (at + length ec + 1) [] u)))
+  acts-maybe None at w has free = let e : at ≡ at + 0 = omega arith in follows-here g code tt at [] w _ idle (subst (λ n. Quiet g code at [] w n []) e (quiet-none g code at [] w))
+  acts-maybe (Some e) at w has free =
+      let after = at + length (effect_code h e) in
+      follows-then g code at [] w (value_of h e w) dropped (λ _. after) idle (λ _. after) idle (effect-follows h room code e at w has free)
+      (λ z u. follows-here g code tt after [] u (λ _. after) idle (quiet-none g code after [] u))

@@ -2,6 +2,7 @@ pub mod Joins
 pub mod WordCode
 pub mod DepthPositive
 pub mod ValueCode
+pub mod EffectCode
 pub mod Leading
 pub mod Loops
 pub mod Entering

@@ -13,7 +13,8 @@ use Rattle.snl_meaning.specs.Run.{PieceContext, context_of}
 use Rattle.snl_meaning.specs.Words.{spent}
 use Rattle.snl_meaning.specs.World.{World}
 use Rattle.snl_meaning.proofs.Following.{has_front, has_back, Continues, run_at, Follows, follows-step, follows-to, continues-here, continues-quiet, continues-then_if, quiet-none, quiet-jump}
-use Rattle.snl_emit.proofs.Leading.{led, idle, left-for, tests, drops-maybe}
+use Rattle.snl_emit.proofs.EffectCode.{idle}
+use Rattle.snl_emit.proofs.Leading.{led, left-for, tests, acts-maybe}
 use Rattle.snl_meaning.proofs.Ticks.{HasFewer, Keeps, spent-falls, held-keeps, evaluated-keeps}
 
 -- a loop, from its condition on
@@ -91,6 +92,6 @@ module _ (h : Here) (room : ℕ) (code : List Instr) (line : ℕ) (condition ste
       (λ u. rw (← after) (tests h room code condition again u (has_front code again tc _ k') (omega (arith, free))))
       (λ u. follows-to g code test [] u _ _ _ idle back (follows-step g code tick test [] u (spent line u) (λ _. test - (length tc + length sc + length bc)) idle k''.0 refl))
       (bodies onward (at + length (loop_code line bc sc tc)) refl break)
-      (λ u. drops-maybe h room code step onward u (has_front code onward sc _ k) (omega (arith, free)))
+      (λ u. acts-maybe h room code step onward u (has_front code onward sc _ k) (omega (arith, free)))
       (held-keeps h condition) body-keeps (evaluated-keeps h step)
       (suc w.ticks) w (omega arith))

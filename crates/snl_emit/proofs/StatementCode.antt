@@ -3,7 +3,7 @@ use Rattle.std.proofs.Common.{◌≡◌, ◌+◌, ◌≤◌, ℕ, List, [], ◌�
 use Rattle.snl_syntax.specs.Statements.{StatementTree, StatementList, BlockTree, nested, empty, expression, break_loop, continue_loop, change_state, if_then, if_else, while_loop, for_loop, no_statements, statement, block}
 use Rattle.snl_meaning.specs.declared.instrs.Instr.{Instr}
 use Rattle.snl_meaning.specs.declared.instrs.Instr.TheVariants.{Drop, Jump, JumpIfZero}
-use Rattle.snl_emit.specs.BlockCode.{dropped_code, test_code, loop_code, when_code, entered_code, statement_code, statements_code, block_code, statement_depth, statements_depth, block_depth}
+use Rattle.snl_emit.specs.BlockCode.{effect_code, dropped_code, test_code, loop_code, when_code, entered_code, statement_code, statements_code, block_code, statement_depth, statements_depth, block_depth}
 use Rattle.snl_meaning.specs.Effect.{Way, Done, Broken, Continued, ends, done, if_done, held_by, evaluated, looped, names_of, entered, effect_of, effects_of, block_effect}
 use Rattle.snl_emit.specs.ExpressionCode.{expression_code, if_code}
 use Rattle.snl_meaning.specs.Names.{Here}
@@ -14,9 +14,10 @@ use Rattle.snl_meaning.specs.Value.{value_of, either}
 use Rattle.snl_meaning.specs.World.{World}
 use Rattle.snl_emit.proofs.Entering.{enters}
 use Rattle.snl_meaning.proofs.Following.{has_front, has_back, Continues, run_at, continues-here, continues-then, quiet-jump, quiet-if_zero}
-use Rattle.snl_emit.proofs.Leading.{led, renamed, continues-done, continues-either, goes_on_to, goes_on, drops, drops-maybe}
+use Rattle.snl_emit.proofs.Leading.{led, renamed, continues-done, continues-either, goes_on_to, goes_on, acts-maybe}
 use Rattle.snl_emit.proofs.Loops.{loop-follows}
 use Rattle.snl_emit.proofs.ValueCode.{value-follows}
+use Rattle.snl_emit.proofs.EffectCode.{effect-follows}
 use Rattle.snl_meaning.proofs.Ticks.{effect-keeps}
 
 module _ (h : Here) (room : ℕ) (code : List Instr) where
@@ -35,9 +36,9 @@ module _ (h : Here) (room : ℕ) (code : List Instr) where
     statement-follows (nested b) out again at w has free = block-follows b out again at w has free
     statement-follows empty out again at w has free = continues-done g code at w (at + 0) (at + 0 + out) (at + 0 + again) (omega arith)
     statement-follows (expression e) out again at w has free =
-        let ec = expression_code h e in
-        let n : at + length ec + 1 ≡ at + length (ec ++ Drop ∷ []) = omega (arith, length-append ec (Drop ∷ [])) in
-        drops h room code e done at w _ has free (λ z u. continues-done g code (at + length ec + 1) u _ _ _ n)
+        let after = at + length (effect_code h e) in
+        continues-then (run_at g code at [] w) (value_of h e w) done _ _ (effect-follows h room code e at w has free)
+        (λ z u. continues-done g code after u after (after + out) (after + again) refl)
     statement-follows (break_loop t) out again at w has free =
         continues-here g code Broken at [] w (at + 1 + out) [] (led g code (at + 1) (at + 1 + out) (at + 1 + again)) (quiet-jump g code out at (at + 1 + out) [] w has.0 refl) refl
     statement-follows (continue_loop t) out again at w has free =
@@ -95,7 +96,7 @@ module _ (h : Here) (room : ℕ) (code : List Instr) where
         let whole = length (ic ++ loop_code t.pos.line bc sc tc) in
         let over : here + length (loop_code t.pos.line bc sc tc) ≡ at + whole = omega (arith, length-append ic (loop_code t.pos.line bc sc tc)) in
         continues-then (run_at g code at [] w) (evaluated h parts.start w) (λ _ u. looped t.pos.line (held_by h parts.condition) (effect_of h s) (evaluated h parts.step) u) _ _
-        (drops-maybe h room code parts.start at w (has_front code at ic _ has) (omega (arith, free)))
+        (acts-maybe h room code parts.start at w (has_front code at ic _ has) (omega (arith, free)))
         (λ _ u. renamed g code here u _ _ _ _ _ _ _ over refl refl
         (loop-follows h room code t.pos.line parts.condition parts.step here _ _ (effect_of h s) bc k (omega (arith, free))
         (λ a b same far v. renamed g code (here + 1) v _ _ _ _ _ _ _ same far (omega (arith, same))

@@ -1,5 +1,5 @@
 -- The code of an expression gives its value.
-use Rattle.std.proofs.Common.{◌≡◌, ◌+◌, ◌<◌, ◌≤◌, ℕ, ℤ, pos, Bool, true, false, List, [], ◌∷◌, ◌++◌, Some, refl, subst, arith, length, length-append, slice_get}
+use Rattle.std.proofs.Common.{◌≡◌, ◌+◌, ◌<◌, ◌≤◌, ℕ, ℤ, pos, Bool, true, false, List, [], ◌∷◌, ◌++◌, Some, refl, ap, subst, arith, length, length-append, slice_get}
 use Rattle.std.specs.Prelude.{max, not}
 use Rattle.snl_text.specs.declared.kinds.Kind.{Kind}
 use Rattle.snl_text.specs.declared.tokens.Token.{Token}
@@ -7,9 +7,9 @@ use Rattle.snl_syntax.specs.Expressions.{ExprTree, TermList, ArgumentList, const
 use Rattle.snl_meaning.specs.declared.instrs.Instr.{Instr}
 use Rattle.snl_meaning.specs.declared.instrs.Instr.TheVariants.{Push, Get, Adjust, AdjustAt, Print, Wait, Put, PutAt, Ask, AskLink, AskElement}
 use Rattle.snl_meaning.specs.declared.instrs.Variable.{Variable}
-use Rattle.snl_emit.specs.ExpressionCode.{CodeOn, expression_code, terms_code, target_code, values_code, print_code, wait_code, put_call_code, ask_flag_code, ask_code, expression_depth, terms_depth, target_depth, values_depth, print_depth, wait_depth, put_depth, joint_code, joint_depth, at_code, get_code, put_code, put_at_code, held_depth, count_values}
+use Rattle.snl_emit.specs.ExpressionCode.{CodeOn, expression_code, terms_code, target_code, values_code, print_code, wait_code, put_call_code, ask_flag_code, ask_code, expression_depth, terms_depth, target_depth, values_depth, print_depth, wait_depth, put_depth, number_of, joint_code, joint_depth, at_code, get_code, put_code, put_at_code, held_depth, count_values}
 use Rattle.snl_meaning.specs.Names.{Here, sense_of, format_number, flag_number}
-use Rattle.snl_meaning.specs.Ran.{Ran}
+use Rattle.snl_meaning.specs.Ran.{Ran, Gives}
 use Rattle.snl_meaning.specs.Endings.{HasAt}
 use Rattle.snl_meaning.specs.Run.{PieceContext, context_of}
 use Rattle.snl_resolve.specs.Builtins.{builtin_of}
@@ -22,6 +22,19 @@ use Rattle.snl_emit.proofs.DepthPositive.{depth-positive}
 use Rattle.snl_meaning.proofs.Following.{has_front, has_back, follows-then, follows-to}
 use Rattle.snl_emit.proofs.Joins.{Runs, Codes, CodesOn, codes-pushes, on-one, codes-more, on-more, codes-then, on-then, on-none, on-joint}
 use Rattle.snl_emit.proofs.WordCode.{codes-name, codes-at_name, codes-called, on-subscript, on-put, codes-put, codes-signed, codes-either, runs-print}
+
+-- a constant is its number
+number-is : (h : Here) (e : ExprTree) (z : ℤ) → number_of e ≡ Some z → (w : World) → value_of h e w ≡ Gives z w []
+number-is h (constant t) z is w = let same : constant_of t.kind t.text.now ≡ z = cc in ap (λ (n : ℤ). Gives n w []) same
+number-is h (parenthesized e) z is w = number-is h e z is w
+number-is h (named x) z is w = absurd (cc)
+number-is h (element x b e) z is w = absurd (cc)
+number-is h (call f all) z is w = absurd (cc)
+number-is h (postfix e op) z is w = absurd (cc)
+number-is h (prefix op e) z is w = absurd (cc)
+number-is h (chain e rest) z is w = absurd (cc)
+number-is h (conditional c a b) z is w = absurd (cc)
+number-is h (assignment e op r) z is w = absurd (cc)
 
 module _ (h : Here) (room : ℕ) (code : List Instr) where
   -- what the code runs with
@@ -129,8 +142,9 @@ module _ (h : Here) (room : ℕ) (code : List Instr) where
         let d = max (joint_depth j (expression_depth e)) (terms_depth rest) in
         let l : joint_depth j (expression_depth e) ≤ d = omega arith in
         let r : terms_depth rest ≤ d = omega arith in
-        on-then g code (joined_by j op.pos.line (value_of h e)) (chained h rest) (joint_code j op.pos.line (expression_code h e)) (terms_code h rest) d
-        (on-more g code _ _ _ d l (on-joint g code j op.pos.line (value_of h e) (expression_code h e) (expression_depth e) (depth-positive e) (value-follows e)))
+        on-then g code (joined_by j op.pos.line (value_of h e)) (chained h rest) (joint_code j op.pos.line (number_of e) (expression_code h e)) (terms_code h rest) d
+        (on-more g code _ _ _ d l
+        (on-joint g code j op.pos.line (number_of e) (value_of h e) (expression_code h e) (expression_depth e) (λ z is. number-is h e z is) (depth-positive e) (value-follows e)))
         (on-more g code _ _ _ d r (chain-follows rest))
 
     -- what is done at a target

@@ -8,7 +8,7 @@ use Rattle.snl_arithmetic.specs.Arithmetic.{is_zero}
 use Rattle.snl_meaning.specs.declared.instrs.Instr.{Instr}
 use Rattle.snl_meaning.specs.declared.instrs.Instr.TheVariants.{Push, Load, Check, Peek, Store, StoreAt, Apply, ApplyPrefix, Jump, JumpIfZero, Print}
 use Rattle.snl_meaning.specs.declared.instrs.Variable.{Variable}
-use Rattle.snl_emit.specs.ExpressionCode.{name_code, at_code, put_at_code, put_code, held_depth, CodeOn, at_name_code, called_code, called_depth, signed_code, signed_depth, if_code}
+use Rattle.snl_emit.specs.ExpressionCode.{name_code, at_code, put_at_code, renewed_code, put_code, held_depth, CodeOn, at_name_code, called_code, called_depth, signed_code, signed_depth, if_code}
 use Rattle.snl_meaning.specs.declared.names.Sense.{Sense}
 use Rattle.snl_meaning.specs.declared.names.Sense.TheVariants.{Varies, Stands}
 use Rattle.snl_meaning.specs.Names.{text_of}
@@ -58,18 +58,21 @@ module _ (g : PieceContext) (code : List Instr) where
       (ap (λ (b : Bool). if b then then_do (read set v k w) (goes_with (at + 1) (k ∷ s)) else Gives Sticks w []) (lt-ltb (length (k ∷ s)) g.room free)))
       (λ old u. on-two g code (Apply o op_line) right (operated o op_line) c d (d + 1) (omega arith) (λ at x y s w. refl) f (at + 1) old (k ∷ s) u has.1 room)))
 
+  -- what is stored in a variable
+  pub codes-renewed : (op : Option Kind) (op_line : ℕ) (right : World → Ran ℤ) (c : List Instr) (d : ℕ) → Codes g code right c d → (v : Variable) →
+      Codes g code (renewed op op_line right set v (pos 0)) (renewed_code op op_line c v) (d + held_depth op)
+  codes-renewed None op_line right c d f v = codes-more g code right c d (d + 0) (omega arith) f
+  codes-renewed (Some o) op_line right c d f v =
+      codes-then g code (read set v (pos 0)) (λ old u. then_do (right u) (operated o op_line old)) (Load v ∷ []) (c ++ Apply o op_line ∷ []) (d + 1)
+      (codes-pushes g code (Load v) (read set v (pos 0)) (λ at s w. refl) (d + 1) (omega arith))
+      (on-two g code (Apply o op_line) right (operated o op_line) c d (d + 1) (omega arith) (λ at x y s w. refl) f)
+
   -- an assignment to a variable
   pub codes-put : (op : Option Kind) (op_line : ℕ) (right : World → Ran ℤ) (c : List Instr) (d : ℕ) (line : ℕ) → Codes g code right c d → (v : Variable) →
       Codes g code (put_at op op_line right set v line (pos 0)) (put_code op op_line c v line) (d + held_depth op)
-  codes-put None op_line right c d line f v =
-      codes-more g code _ _ d (d + 0) (omega arith)
-      (codes-then g code right (stored set v line (pos 0)) c (Store v line ∷ []) d f (on-one g code (Store v line) (stored set v line (pos 0)) (λ at x s w. refl) d))
-  codes-put (Some o) op_line right c d line f v =
-      codes-then g code (renewed (Some o) op_line right set v (pos 0)) (stored set v line (pos 0)) (Load v ∷ (c ++ Apply o op_line ∷ [])) (Store v line ∷ []) (d + 1)
-      (codes-then g code (read set v (pos 0)) (λ old u. then_do (right u) (operated o op_line old)) (Load v ∷ []) (c ++ Apply o op_line ∷ []) (d + 1)
-      (codes-pushes g code (Load v) (read set v (pos 0)) (λ at s w. refl) (d + 1) (omega arith))
-      (on-two g code (Apply o op_line) right (operated o op_line) c d (d + 1) (omega arith) (λ at x y s w. refl) f))
-      (on-one g code (Store v line) (stored set v line (pos 0)) (λ at x s w. refl) (d + 1))
+  codes-put op op_line right c d line f v =
+      codes-then g code (renewed op op_line right set v (pos 0)) (stored set v line (pos 0)) (renewed_code op op_line c v) (Store v line ∷ []) (d + held_depth op)
+      (codes-renewed op op_line right c d f v) (on-one g code (Store v line) (stored set v line (pos 0)) (λ at x s w. refl) (d + held_depth op))
 
   -- what is done at a name
   pub codes-at_name : (y : Sense) (x : Token) (alone : OnVariable) (other : World → Ran ℤ) (ac : CodeOn) (oc : List Instr) (d : ℕ) →

@@ -1,14 +1,20 @@
 -- The code of statements and blocks, and how many operands it needs at once.
 use Rattle.std.specs.Prelude.{ℕ, suc, ◌+◌, List, [], ◌∷◌, ◌++◌, Option, None, Some, length, max, nat_lt, if◌then◌else◌}
-use Rattle.snl_syntax.specs.Expressions.{ExprTree}
+use Rattle.snl_text.specs.declared.kinds.Kind.{Kind}
+use Rattle.snl_syntax.specs.Expressions.{ExprTree, parenthesized, named, assignment, postfix, prefix}
 use Rattle.snl_syntax.specs.Declarations.{DeclaratorTree}
 use Rattle.snl_syntax.specs.Statements.{StatementTree, StatementList, BlockTree, nested, empty, expression, break_loop, continue_loop, change_state, if_then, if_else, while_loop, for_loop, no_statements, statement, block}
 use Rattle.snl_meaning.specs.declared.instrs.Instr.{Instr}
-use Rattle.snl_meaning.specs.declared.instrs.Instr.TheVariants.{Drop, Jump, JumpIfZero, Tick, Clear, Begin, Leave, End}
+use Rattle.snl_meaning.specs.declared.instrs.Instr.TheVariants.{Increment, Drop, Jump, JumpIfZero, Tick, Clear, Assign, Leave, End}
 use Rattle.snl_meaning.specs.declared.instrs.Variable.{Variable}
 use Rattle.snl_meaning.specs.Effect.{variable_for, values_of, names_of}
-use Rattle.snl_emit.specs.ExpressionCode.{expression_code, expression_depth, if_code}
-use Rattle.snl_meaning.specs.Names.{Here, state_number}
+use Rattle.snl_emit.specs.ExpressionCode.{expression_code, expression_depth, renewed_code, if_code}
+use Rattle.snl_meaning.specs.declared.names.Sense.{Sense}
+use Rattle.snl_meaning.specs.declared.names.Sense.TheVariants.{Varies, Stands}
+use Rattle.snl_meaning.specs.declared.operators.Sign.{Sign}
+use Rattle.snl_meaning.specs.declared.operators.Sign.TheVariants.{Steps, Alone}
+use Rattle.snl_meaning.specs.Names.{Here, sense_of, state_number}
+use Rattle.snl_meaning.specs.Value.{compound_of, sign_of}
 
 -- ---- the parts
 
@@ -28,10 +34,49 @@ first_code held = JumpIfZero (length held + 1) ∷ held
 abbrev pub second_code : List Instr → List Instr
 second_code failed = Jump (length failed) ∷ failed
 
--- An expression for what it does; it may be missing.
+-- ---- expressions for what they do
+
+-- A variable with the line of its name, where the name means one.
+abbrev pub varied : Sense → ℕ → Option (Variable × ℕ)
+varied (Varies v) line = Some (v, line)
+varied (Stands z) line = None
+
+-- The variable that an expression is, alone.
+abbrev pub named_variable : Here → ExprTree → Option (Variable × ℕ)
+named_variable h (parenthesized e) = named_variable h e
+named_variable h (named x) = varied (sense_of h x) x.pos.line
+named_variable h _ = None
+
+-- An assignment whose value is not used: to a variable, by a store that takes the number away.
+abbrev pub assigned_code : Option (Variable × ℕ) → Option Kind → ℕ → (right other : List Instr) → List Instr
+assigned_code None op op_line right other = other
+assigned_code (Some x) op op_line right other = renewed_code op op_line right x.0 ++ Assign x.0 0 x.1 ∷ []
+
+-- `++` or `--` whose value is not used: of a variable, by one instruction.
+abbrev pub stepped_code : Option (Variable × ℕ) → Sign → ℕ → List Instr → List Instr
+stepped_code None sign op_line other = other
+stepped_code (Some x) (Steps by) op_line other = Increment x.0 by op_line x.1 ∷ []
+stepped_code (Some x) (Alone op) op_line other = other
+
+-- An expression whose value is dropped.
+abbrev pub dropping_code : Here → ExprTree → List Instr
+dropping_code h e = expression_code h e ++ Drop ∷ []
+
+-- An expression for what it does.
+abbrev pub effect_code : Here → ExprTree → List Instr
+effect_code h (parenthesized e) = effect_code h e
+effect_code h (assignment e op r) =
+    assigned_code (named_variable h e) (compound_of op.kind) op.pos.line (expression_code h r) (dropping_code h (assignment e op r))
+effect_code h (postfix e op) = stepped_code (named_variable h e) (sign_of op.kind) op.pos.line (dropping_code h (postfix e op))
+effect_code h (prefix op e) = stepped_code (named_variable h e) (sign_of op.kind) op.pos.line (dropping_code h (prefix op e))
+effect_code h e = dropping_code h e
+
+-- The same of one that may be missing.
 abbrev pub dropped_code : Here → Option ExprTree → List Instr
 dropped_code h None = []
-dropped_code h (Some e) = expression_code h e ++ Drop ∷ []
+dropped_code h (Some e) = effect_code h e
+
+-- ---- conditions and loops
 
 -- A condition that passes the next instruction where it fails; it may be missing.
 abbrev pub test_code : Here → Option ExprTree → List Instr
@@ -63,7 +108,7 @@ all_cleared_code h (d ∷ ds) = cleared_code (variable_for h d) ++ all_cleared_c
 -- The instruction that stores what an element begins with; where there is no such element, the number is dropped.
 abbrev pub begun_code : Option Variable → ℕ → ℕ → Instr
 begun_code None line k = Drop
-begun_code (Some v) line k = if nat_lt k v.size then Begin v k line else Drop
+begun_code (Some v) line k = if nat_lt k v.size then Assign v k line else Drop
 
 -- The code of what a variable begins with, from an element on.
 abbrev pub begun_with_code : Here → Option Variable → (line k : ℕ) → List ExprTree → List Instr
@@ -98,7 +143,7 @@ abbrev mutual
   pub statement_code : Here → (out again : ℕ) → StatementTree → List Instr
   statement_code h out again (nested b) = block_code h out again b
   statement_code h out again empty = []
-  statement_code h out again (expression e) = expression_code h e ++ Drop ∷ []
+  statement_code h out again (expression e) = effect_code h e
   statement_code h out again (break_loop t) = Jump out ∷ []
   statement_code h out again (continue_loop t) = Jump again ∷ []
   statement_code h out again (change_state t x) = Leave (state_number h x) ∷ []

@@ -1,5 +1,6 @@
 -- The code of single forms, as it is made.
 use Rattle.std.specs.Prelude.{ℕ, ◌+◌, ◌-◌, List, [], ◌∷◌, ◌++◌, pos, Bool, None, length, reverse, set}
+use Rattle.snl_text.specs.declared.kinds.Kind.{Kind}
 use Rattle.snl_text.specs.declared.tokens.Token.{Token}
 use Rattle.snl_syntax.specs.declared.expressions.Argument.{Argument, Value', Text}
 use Rattle.snl_syntax.specs.view.Expressions.{view}
@@ -8,7 +9,7 @@ use Rattle.snl_meaning.specs.declared.instrs.Instr.{Instr}
 use Rattle.snl_meaning.specs.declared.instrs.Instr.TheVariants.{Push, Jump, Tick, Put, PutAt, AskLink, AskElement}
 use Rattle.snl_syntax.specs.Statements.{StatementTree}
 use Rattle.snl_emit.specs.BlockCode.{statement_code}
-use Rattle.snl_emit.specs.ExpressionCode.{expression_code, target_code, joint_code, signed_code, at_code, get_code, called_code, print_code, wait_code, put_call_code, ask_code, ask_flag_code}
+use Rattle.snl_emit.specs.ExpressionCode.{expression_code, target_code, number_of, operator_code, joint_code, signed_code, at_code, get_code, called_code, print_code, wait_code, put_call_code, ask_code, ask_flag_code}
 use Rattle.snl_meaning.specs.Names.{Here}
 use Rattle.snl_meaning.specs.declared.names.Sense.{Sense}
 use Rattle.snl_emit.specs.Targets.{place_code, adjust_code}
@@ -22,7 +23,11 @@ element_code x line = at_code x line get_code (Push (pos 0) ∷ [])
 
 -- An operator with its operand.
 abbrev pub term_code : Here → Token × ExprTree → List Instr
-term_code h t = joint_code (joint_of t.0.kind) t.0.pos.line (expression_code h t.1)
+term_code h t = joint_code (joint_of t.0.kind) t.0.pos.line (number_of t.1) (expression_code h t.1)
+
+-- A binary operator with its operand.
+abbrev pub operation_code : Here → Kind → ℕ → ExprTree → List Instr
+operation_code h op line e = operator_code op line (number_of e) (expression_code h e)
 
 -- A sign with its operand.
 abbrev pub sign_code : Here → Token → Bool → ExprTree → List Instr

@@ -1,10 +1,10 @@
 -- The code of an expression, and how many operands it needs at once. The code pushes the value.
-use Rattle.std.specs.Prelude.{ℕ, suc, ◌+◌, pos, true, false, not, List, [], ◌∷◌, ◌++◌, Option, None, Some, length, max}
+use Rattle.std.specs.Prelude.{ℕ, suc, ◌+◌, ℤ, pos, true, false, not, List, [], ◌∷◌, ◌++◌, Option, None, Some, length, max}
 use Rattle.snl_text.specs.declared.kinds.Kind.{Kind}
 use Rattle.snl_text.specs.declared.tokens.Token.{Token}
 use Rattle.snl_syntax.specs.Expressions.{ExprTree, TermList, ArgumentList, constant, parenthesized, named, element, call, postfix, prefix, chain, conditional, assignment, no_terms, term, no_arguments, value, text}
 use Rattle.snl_meaning.specs.declared.instrs.Instr.{Instr}
-use Rattle.snl_meaning.specs.declared.instrs.Instr.TheVariants.{Push, Load, Check, Get, Peek, Store, StoreAt, Adjust, AdjustAt, Apply, ApplyPrefix, Settle, Drop, Jump, JumpIfZero, Print, Wait, Put, PutAt, Ask, AskLink, AskElement}
+use Rattle.snl_meaning.specs.declared.instrs.Instr.TheVariants.{Push, Load, Check, Get, Peek, Store, StoreAt, Adjust, AdjustAt, Apply, ApplyNumber, ApplyPrefix, Settle, Drop, Jump, JumpIfZero, Print, Wait, Put, PutAt, Ask, AskLink, AskElement}
 use Rattle.snl_meaning.specs.declared.instrs.Variable.{Variable}
 use Rattle.snl_meaning.specs.Names.{Here, sense_of, format_number, flag_number}
 use Rattle.snl_meaning.specs.declared.names.Sense.{Sense}
@@ -22,12 +22,23 @@ use Rattle.snl_resolve.specs.declared.builtins.Query.{Query}
 
 -- ---- the parts
 
+-- The number that an expression is, where it is a constant.
+abbrev pub number_of : ExprTree → Option ℤ
+number_of (constant t) = Some (constant_of t.kind t.text.now)
+number_of (parenthesized e) = number_of e
+number_of _ = None
+
+-- A binary operator with the code of its operand; a constant stands in the instruction itself.
+abbrev pub operator_code : Kind → ℕ → Option ℤ → List Instr → List Instr
+operator_code op line None right = right ++ Apply op line ∷ []
+operator_code op line (Some z) right = ApplyNumber op z line ∷ []
+
 -- An operator with the code of its operand, after what stands left of it.
-abbrev pub joint_code : Joint → ℕ → List Instr → List Instr
-joint_code And line right = JumpIfZero (length right + 2) ∷ (right ++ Settle ∷ Jump 1 ∷ Push (pos 0) ∷ [])
-joint_code Or line right = JumpIfZero 2 ∷ Push (pos 1) ∷ Jump (length right + 1) ∷ (right ++ Settle ∷ [])
-joint_code Sequel line right = Drop ∷ right
-joint_code (Operation op) line right = right ++ Apply op line ∷ []
+abbrev pub joint_code : Joint → ℕ → Option ℤ → List Instr → List Instr
+joint_code And line number right = JumpIfZero (length right + 2) ∷ (right ++ Settle ∷ Jump 1 ∷ Push (pos 0) ∷ [])
+joint_code Or line number right = JumpIfZero 2 ∷ Push (pos 1) ∷ Jump (length right + 1) ∷ (right ++ Settle ∷ [])
+joint_code Sequel line number right = Drop ∷ right
+joint_code (Operation op) line number right = operator_code op line number right
 
 -- How much room an operator needs beside its operand.
 abbrev pub joint_depth : Joint → ℕ → ℕ
@@ -57,10 +68,14 @@ abbrev pub put_at_code : Option Kind → ℕ → List Instr → ℕ → Variable
 put_at_code None op_line right line v = right ++ StoreAt v line ∷ []
 put_at_code (Some op) op_line right line v = Peek v ∷ ((right ++ Apply op op_line ∷ []) ++ StoreAt v line ∷ [])
 
+-- What is stored in a variable: the right side of its assignment, which an operator may join with the old value.
+abbrev pub renewed_code : Option Kind → ℕ → List Instr → Variable → List Instr
+renewed_code None op_line right v = right
+renewed_code (Some op) op_line right v = Load v ∷ (right ++ Apply op op_line ∷ [])
+
 -- An assignment to a variable.
 abbrev pub put_code : Option Kind → ℕ → List Instr → Variable → ℕ → List Instr
-put_code None op_line right v line = right ++ Store v line ∷ []
-put_code (Some op) op_line right v line = Load v ∷ ((right ++ Apply op op_line ∷ []) ++ Store v line ∷ [])
+put_code op op_line right v line = renewed_code op op_line right v ++ Store v line ∷ []
 
 -- What an assignment holds while its right side is computed, beside a subscript.
 abbrev pub held_depth : Option Kind → ℕ
@@ -139,7 +154,7 @@ abbrev mutual
   -- the operators and operands of one level
   pub terms_code : Here → TermList → List Instr
   terms_code h no_terms = []
-  terms_code h (term op e rest) = joint_code (joint_of op.kind) op.pos.line (expression_code h e) ++ terms_code h rest
+  terms_code h (term op e rest) = joint_code (joint_of op.kind) op.pos.line (number_of e) (expression_code h e) ++ terms_code h rest
 
   -- what is done at a target, after its subscript
   pub target_code : Here → ExprTree → CodeOn → CodeOn → List Instr → List Instr

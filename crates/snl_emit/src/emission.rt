@@ -11,8 +11,8 @@ ghost use Rattle.snl_meaning.specs.Known.{here_of};
 ghost use Rattle.snl_emit.specs.Targets.{place_code};
 ghost use Rattle.snl_meaning.specs.declared.instrs.Instr.TheVariants as instr;
 
-use crate::constants::constant_of;
-use crate::parts::{count_values, format_number, put_checked, put_old, put_read, read_name};
+use crate::constants::{constant_of, number_of};
+use crate::parts::{count_values, put_checked, put_old, put_read, read_name};
 use crate::rows::put;
 use crate::targets::{adjusted, ask_instr, put_instr, put_stored};
 use snl_meaning::{Instr, Joint, Known, Sign, compound_of, is_decimal, joint_of, sign_of};
@@ -156,10 +156,36 @@ fn emit_term<'a>(
         }
         Joint::Operation(operator) => {
             let line = term.operator.pos.line;
-            put(code, Instr::Apply { operator, line })?;
-            emit_expression(&term.operand, known, code)
+            emit_operation(&term.operand, known, operator, line, code)
         }
     }
+}
+
+/// A binary operator with its operand; a constant stands in the instruction itself.
+#[cycle(emission)]
+fn emit_operation<'a>(
+    operand: &Expr<'a>,
+    known: &Known<'_, 'a>,
+    operator: Kind,
+    line: usize,
+    code: &mut Vec<Instr>,
+) -> Result<(), AllocError>
+    ensures { OnOk result (reverse code.new.items
+        ≡ form.operation_code (here_of known.now) operator line (view operand.now)
+        ++ reverse code.old.items) }
+{
+    if let Some(number) = number_of(operand) {
+        return put(
+            code,
+            Instr::ApplyNumber {
+                operator,
+                number,
+                line,
+            },
+        );
+    }
+    put(code, Instr::Apply { operator, line })?;
+    emit_expression(operand, known, code)
 }
 
 /// A sign before or after its operand.
@@ -249,7 +275,7 @@ fn emit_print<'a>(
 {
     match arguments.first() {
         Some(Argument::Text(text)) => {
-            let format = format_number(known.sites, text.text);
+            let format = known.format(*text);
             let count = count_values(arguments);
             put(code, Instr::Print { format, count })?;
             emit_values(arguments, known, code)

@@ -19,7 +19,7 @@ fn begin(variable: Option<Variable>, line: usize, element: usize) -> Instr
     ensures { result ≡ spec.begun_code variable line element }
 {
     match variable {
-        Some(variable) if element < variable.size => Instr::Begin {
+        Some(variable) if element < variable.size => Instr::Assign {
             variable,
             element,
             line,

@@ -2,6 +2,7 @@
 #![tactic(auto)]
 
 mod constants;
+mod effects;
 mod emission;
 mod entries;
 pub mod laws;

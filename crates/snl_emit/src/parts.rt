@@ -1,17 +1,14 @@
-//! The instructions of single parts of an expression: names, subscripts, formats.
+//! The instructions of single parts of an expression: names and subscripts.
 
 ghost use Rattle.std.specs.Prelude.{◌≡◌, ◌++◌, reverse, OnOk};
-ghost use Rattle.std.specs.List.{flat_map};
 ghost use Rattle.snl_syntax.specs.view.Expressions.{list_before};
 ghost use Rattle.snl_syntax.specs.Expressions.{no_arguments};
 ghost use Rattle.snl_emit.specs.Emission.{element_code};
 ghost use Rattle.snl_emit.specs.ExpressionCode.{name_code, count_values};
-ghost use Rattle.snl_meaning.specs.Names.{format_at, text_number};
 ghost use Rattle.snl_emit.specs.Targets as spec;
 
 use crate::rows::put;
 use snl_meaning::{Instr, Sense};
-use snl_resolve::Site;
 use snl_syntax::Argument;
 use snl_text::Kind;
 use std::alloc::AllocError;
@@ -77,22 +74,6 @@ pub fn put_checked(
         }
         Sense::Stands(_) => put(code, Instr::Drop),
     }
-}
-
-/// The number of a string among those of the program.
-pub fn format_number(sites: &[Site], text: &[u8]) -> usize
-    ensures { result ≡ text_number (flat_map format_at sites.now) text.now }
-{
-    let mut number = 0;
-    for site in sites {
-        if let Site::Format { text: format, .. } = site {
-            if format.text == text {
-                return number;
-            }
-            number += 1;
-        }
-    }
-    number
 }
 
 /// How many arguments are expressions.

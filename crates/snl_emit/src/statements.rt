@@ -13,6 +13,7 @@ ghost use Rattle.snl_emit.specs.ExpressionCode.{expression_code};
 ghost use Rattle.snl_meaning.specs.Known.{here_of};
 ghost use Rattle.snl_meaning.specs.declared.instrs.Instr.TheVariants as instr;
 
+use crate::effects::emit_effect;
 use crate::emission::emit_expression;
 use crate::entries::emit_entry;
 use crate::rows::put;
@@ -39,21 +40,7 @@ fn put_jump(code: &mut Vec<Instr>, place: usize) -> Result<(), AllocError>
     put(code, Instr::Jump(passed))
 }
 
-/// An expression for what it does.
-fn emit_dropped<'a>(
-    expression: &Expr<'a>,
-    known: &Known<'_, 'a>,
-    code: &mut Vec<Instr>,
-) -> Result<(), AllocError>
-    ensures { OnOk result (reverse code.new.items
-        ≡ (expression_code (here_of known.now) (view expression.now) ++ instr.Drop ∷ [])
-        ++ reverse code.old.items) }
-{
-    put(code, Instr::Drop)?;
-    emit_expression(expression, known, code)
-}
-
-/// The same of one that may be missing.
+/// An expression for what it does, which may be missing.
 #[tactic(auto, using(crate::proofs::LoopCode::longer))]
 fn emit_if_there<'a>(
     expression: &Option<Box<Expr<'a>>>,
@@ -66,7 +53,7 @@ fn emit_if_there<'a>(
     ensures longer { OnOk result (length code.old.items ≤ length code.new.items) }
 {
     match expression {
-        Some(expression) => emit_dropped(expression, known, code),
+        Some(expression) => emit_effect(expression, known, code),
         None => Ok(()),
     }
 }
@@ -154,7 +141,7 @@ fn emit_statement<'a>(
     match statement {
         Stmt::Block(block) => emit_nested(block, known, around, code),
         Stmt::Empty => Ok(()),
-        Stmt::Expression(value) => emit_dropped(value, known, code),
+        Stmt::Expression(value) => emit_effect(value, known, code),
         Stmt::Break(_) => put_jump(code, around.end),
         Stmt::Continue(_) => put_jump(code, around.again),
         Stmt::State { name, .. } => put(code, Instr::Leave(known.state(*name))),

@@ -4,6 +4,7 @@ pub mod MacroTables
 pub mod MacroViews
 pub mod Links
 pub mod LinkViews
+pub mod Facts
 pub mod Tables
 pub mod Appended
 pub mod Examples

@@ -2,6 +2,7 @@
 #![tactic(auto)]
 
 mod appending;
+mod facts;
 pub mod laws;
 mod links;
 mod macros;

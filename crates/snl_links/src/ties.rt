@@ -6,8 +6,9 @@ ghost use Rattle.snl_syntax.specs.view.Shown.{shown};
 ghost use Rattle.snl_syntax.specs.view.Definitions.{channels_view};
 ghost use Rattle.snl_syntax.specs.view.Programs.{program_view};
 ghost use Rattle.snl_links.specs.Links as spec;
-ghost use Rattle.snl_links.specs.LinkViews.{said_view, synced_view};
+ghost use Rattle.snl_links.specs.LinkViews.{said_view};
 
+use crate::facts::Facts;
 use crate::said::{Said, push_said};
 use snl_resolve::{Extent, Part};
 use snl_syntax::{ChannelNames, Channels, Program};
@@ -51,80 +52,19 @@ pub struct Tie<'a> {
     pub queue: u64,
 }
 
-/// Whether a part has an element of the variable that is declared at an offset.
-fn speaks_of(part: Part, variable: usize, element: usize) -> bool
-    ensures { result ≡ spec.speaks_of part variable element }
-{
-    part.variable.offset == variable
-        && match part.extent {
-            Extent::Element(number) => number == element,
-            Extent::Whole(_) | Extent::Front(_) => true,
-        }
-}
-
-/// Whether it says that an element is monitored.
-fn monitors(said: &Said, variable: usize, element: usize) -> bool
-    ensures { result ≡ spec.monitors variable element (said_view said.now) }
-{
-    match said {
-        Said::Monitored(part) => speaks_of(*part, variable, element),
-        _ => false,
-    }
-}
-
-fn is_monitored(all: &[Said], variable: usize, element: usize) -> bool
-    ensures { result ≡ spec.is_monitored variable element (map said_view all.now) }
-{
-    for said in all {
-        if monitors(said, variable, element) {
-            return true;
-        }
-    }
-    false
-}
-
-/// What it says of the event flag and the queue of an element.
-fn sync_by<'a>(said: &Said<'_, 'a>, variable: usize, element: usize) -> Option<Synced<'a>>
-    ensures { shown synced_view result ≡ spec.sync_by variable element (said_view said.now) }
-{
-    match said {
-        Said::Synced { part, flag, queue } if speaks_of(*part, variable, element) => Some(Synced {
-            flag: *flag,
-            queue: *queue,
-        }),
-        _ => None,
-    }
-}
-
-/// What the first says that speaks of the event flag and the queue of an element.
-fn synced_as<'a>(all: &[Said<'_, 'a>], variable: usize, element: usize) -> Synced<'a>
-    ensures { synced_view result
-        ≡ spec.synced_as (spec.first_sync variable element (map said_view all.now)) }
-{
-    for said in all {
-        if let Some(synced) = sync_by(said, variable, element) {
-            return synced;
-        }
-    }
-    Synced {
-        flag: None,
-        queue: 0,
-    }
-}
-
 /// A link of so many elements of a variable, from the first on.
 fn tie_of<'a>(
-    all: &[Said<'_, 'a>],
+    facts: &Facts<'_, '_, 'a>,
     name: Token<'a>,
     part: Part,
     first: usize,
     count: usize,
     channel: Option<Token<'a>>,
 ) -> Tie<'a>
-    ensures { result ≡ spec.tie (map said_view all.now) name.entry part first count channel.entry }
+    ensures { result ≡ spec.tie facts.now name.entry part first count channel.entry }
 {
     let place = part.variable;
-    let synced = synced_as(all, place.offset, first);
+    let synced = facts.synced_as(place.offset, first);
     Tie {
         variable: Named {
             name: name.text,
@@ -133,7 +73,7 @@ fn tie_of<'a>(
         first,
         count,
         channel,
-        monitored: is_monitored(all, place.offset, first),
+        monitored: facts.is_monitored(place.offset, first),
         flag: synced.flag,
         queue: synced.queue,
     }
@@ -141,36 +81,36 @@ fn tie_of<'a>(
 
 /// Adds the link of all that a place names.
 fn push_tie<'a>(
-    all: &[Said<'_, 'a>],
+    facts: &Facts<'_, '_, 'a>,
     name: Token<'a>,
     part: Part,
     channel: Option<Token<'a>>,
     ties: &mut Vec<Tie<'a>>,
 ) -> Result<(), AllocError>
     ensures { OnOk result (ties.new.items ≡ ties.old.items
-        ++ spec.tie_of_part (map said_view all.now) name.entry part channel.entry) }
+        ++ spec.tie_of_part facts.now name.entry part channel.entry) }
 {
     let (first, count) = match part.extent {
         Extent::Whole(count) | Extent::Front(count) => (0, count),
         Extent::Element(element) => (element, 1),
     };
-    ties.push(tie_of(all, name, part, first, count, channel))?;
+    ties.push(tie_of(facts, name, part, first, count, channel))?;
     Ok(())
 }
 
 /// Adds a link of one element for each of some channels, from element 0 on.
 fn push_list<'a>(
-    all: &[Said<'_, 'a>],
+    facts: &Facts<'_, '_, 'a>,
     name: Token<'a>,
     part: Part,
     channels: &[Token<'a>],
     ties: &mut Vec<Tie<'a>>,
 ) -> Result<(), AllocError>
     ensures { OnOk result (ties.new.items ≡ ties.old.items
-        ++ spec.ties_from (map said_view all.now) name.entry part 0 channels.now) }
+        ++ spec.ties_from facts.now name.entry part 0 channels.now) }
 {
     for (element, channel) in channels.iter().enumerate() {
-        ties.push(tie_of(all, name, part, element, 1, Some(*channel)))?;
+        ties.push(tie_of(facts, name, part, element, 1, Some(*channel)))?;
     }
     Ok(())
 }
@@ -178,50 +118,55 @@ fn push_list<'a>(
 /// Adds the links of an `assign` (SNL Reference, "Assign").
 fn push_assigned<'a>(
     channels: &Option<Channels<'a>>,
-    all: &[Said<'_, 'a>],
+    facts: &Facts<'_, '_, 'a>,
     name: Token<'a>,
     part: Part,
     ties: &mut Vec<Tie<'a>>,
 ) -> Result<(), AllocError>
     ensures { OnOk result (ties.new.items ≡ ties.old.items
-        ++ spec.ties_by_channels (map said_view all.now) name.entry part
+        ++ spec.ties_by_channels facts.now name.entry part
         (shown channels_view channels.now)) }
 {
     match channels {
-        None => push_tie(all, name, part, None, ties),
+        None => push_tie(facts, name, part, None, ties),
         Some(channels) => match &channels.names {
-            ChannelNames::One(channel) => push_tie(all, name, part, Some(*channel), ties),
-            ChannelNames::List(names) => push_list(all, name, part, names.as_slice(), ties),
+            ChannelNames::One(channel) => push_tie(facts, name, part, Some(*channel), ties),
+            ChannelNames::List(names) => push_list(facts, name, part, names.as_slice(), ties),
         },
     }
 }
 
 /// Adds the links that follow from what one definition says.
 fn push_ties<'a>(
-    all: &[Said<'_, 'a>],
+    facts: &Facts<'_, '_, 'a>,
     said: &Said<'_, 'a>,
     ties: &mut Vec<Tie<'a>>,
 ) -> Result<(), AllocError>
     ensures { OnOk result (ties.new.items ≡ ties.old.items
-        ++ spec.ties_by (map said_view all.now) (said_view said.now)) }
+        ++ spec.ties_by facts.now (said_view said.now)) }
 {
     match said {
         Said::Assigned {
             name,
             part,
             channels,
-        } => push_assigned(channels, all, *name, *part, ties),
+        } => push_assigned(channels, facts, *name, *part, ties),
         _ => Ok(()),
     }
 }
 
 /// The links that follow from what definitions say, in the order of the `assign` definitions.
-fn ties_among<'a>(alloc: Global, all: &[Said<'_, 'a>]) -> Result<Vec<Tie<'a>>, AllocError>
+fn ties_among<'a>(
+    alloc: Global,
+    facts: &Facts<'_, '_, 'a>,
+    all: &[Said<'_, 'a>],
+) -> Result<Vec<Tie<'a>>, AllocError>
+    requires { facts.now ≡ map said_view all.now }
     ensures { IfOk result (λ ties. ties.items ≡ spec.ties_among (map said_view all.now)) }
 {
     let mut ties = Vec::new(alloc);
     for said in all {
-        push_ties(all, said, &mut ties)?;
+        push_ties(facts, said, &mut ties)?;
     }
     Ok(ties)
 }
@@ -232,6 +177,7 @@ pub fn ties_of<'a>(alloc: Global, program: &Program<'a>) -> Result<Vec<Tie<'a>>,
 {
     let mut all = Vec::new(alloc);
     push_said(alloc, program, &mut all)?;
-    let ties = ties_among(alloc, all.as_slice())?;
-    Ok(ties)
+    let all = all.as_slice();
+    let facts = Facts::of(alloc, all)?;
+    ties_among(alloc, &facts, all)
 }

@@ -24,3 +24,8 @@ module _ {A B : Type 0} (view : B → A) (f : ℕ → A) where
       ∙ ap (λ (n : ℕ). map view rows ++ f i ∷ for_each_set f (i + 1) (drop n gs)) one_more
       ∙ sym (ap (λ (l : List A). map view rows ++ l) (row-drop i gs i within))
       ∙ before
+
+-- what is made of each member of a row is a row
+pub row-map : {A B : Type 0} (g : A → B) (f : ℕ → A) (k : ℕ) (gs : List StateSetTree) → map g (for_each_set f k gs) ≡ for_each_set (λ n. g (f n)) k gs
+row-map g f k [] = refl
+row-map g f k (x ∷ xs) = ap (λ l. g (f k) ∷ l) (row-map g f (k + 1) xs)

@@ -1,13 +1,13 @@
 -- Where the values of links stand: their channels, their buffers, and the words of their variables.
 use Rattle.std.specs.Prelude.{ℕ, ◌+◌, ◌-◌, ◌^◌, min, ℤ, pos, List, [], ◌∷◌, map, Option, None, Some, option_map}
 use Rattle.std.specs.List.{flat_map}
-use Rattle.snl_syntax.specs.Programs.{StateSetTree, ProgramTree}
+use Rattle.snl_syntax.specs.Programs.{ProgramTree}
 use Rattle.snl_resolve.specs.Programs.{sites}
-use Rattle.snl_resolve.specs.Variables.{variables_of}
 use Rattle.snl_links.specs.Links.{Link}
 use Rattle.snl_meaning.specs.declared.instrs.Variable.{Variable}
 use Rattle.snl_meaning.specs.declared.names.Placed.{Placed}
-use Rattle.snl_meaning.specs.Names.{placed_from, variable_in, number_at, flags_of}
+pub use Rattle.snl_code.specs.Heres.{for_each_set, placed_in, placed_sets}
+use Rattle.snl_meaning.specs.Names.{variable_in, number_at, flags_of}
 use Rattle.snl_meaning.specs.declared.ties.Tied.{Tied}
 use Rattle.snl_load.specs.Names.{place_of, once}
 
@@ -27,19 +27,6 @@ channels ls = once (flat_map (λ l. named l.name) ls)
 -- A place so many words after another. No program that the rules accept has as many words as 2^64 - 1.
 abbrev pub place_after : ℕ → ℕ → ℕ
 place_after at n = min (at + n) (2 ^ 64 - 1)
-
--- The variables of the copy of a state set, with their places in it.
-abbrev pub placed_in : ProgramTree → ℕ → List Placed
-placed_in p k = placed_from 0 (variables_of p k)
-
--- What there is for each state set, by numbers from k on.
-abbrev pub for_each_set : {A : Type 0} → (ℕ → A) → ℕ → List StateSetTree → List A
-for_each_set f k [] = []
-for_each_set f k (g ∷ gs) = f k ∷ for_each_set f (k + 1) gs
-
--- Those of state sets with numbers from k on.
-abbrev pub placed_sets : ProgramTree → ℕ → List StateSetTree → List (List Placed)
-placed_sets p = for_each_set (placed_in p)
 
 -- ---- homes
 

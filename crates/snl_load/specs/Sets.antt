@@ -2,7 +2,6 @@
 use Rattle.std.specs.Prelude.{ℕ, List, Vec, map}
 use Rattle.std.proofs.Common.{Global}
 use Rattle.indexmap.specs.IndexSet.{IndexSet}
-use Rattle.snl_meaning.specs.declared.names.Placed.{Placed}
 use Rattle.snl_resolve.specs.declared.variables.Held as declared
 use Rattle.snl_resolve.specs.Held.{held_view}
 use Rattle.snl_resolve.specs.Variables.{Held}
@@ -10,10 +9,6 @@ use Rattle.snl_resolve.specs.Variables.{Held}
 -- The names that a set has, in its order.
 abbrev pub names_in : {S : Type 0} → IndexSet (Vec ℕ Global) S → List (List ℕ)
 names_in set = map (λ name. name.items) set.keys
-
--- The places of the variables of copies.
-abbrev pub copies_of : List (Vec Placed Global) → List (List Placed)
-copies_of copies = map (λ places. places.items) copies
 
 -- The variables of a copy,
 abbrev pub variables_in : Vec declared.Held Global → List Held

@@ -1,23 +1,20 @@
 //! The store of a program before the first event.
 
-ghost use Rattle.std.specs.Prelude.{◌≡◌, map, false, length, replicate, IfOk};
-ghost use Rattle.snl_syntax.specs.view.Programs.{program_view};
+ghost use Rattle.std.specs.Prelude.{◌≡◌, map, false, replicate, IfOk};
 ghost use Rattle.snl_links.specs.LinkViews.{link_view};
 ghost use Rattle.snl_vm.specs.Views.{copy_view, world_of};
 ghost use Rattle.snl_load.specs.First as spec;
 ghost use Rattle.snl_vm.specs.Marks as tables;
 ghost use Rattle.snl_vm.specs.Queues.{queue_view};
-ghost use Rattle.snl_load.specs.Initials.{held_sets};
 ghost use Rattle.snl_load.specs.Places as places;
-ghost use Rattle.snl_load.specs.Sets.{copies_of, names_in, sets_of};
+ghost use Rattle.snl_load.specs.Sets.{names_in, sets_of};
 
-use crate::initials::{self, first_buffers, first_words};
-use crate::links::{flags_in, homes_in};
+use crate::initials::{first_buffers, first_words};
+use crate::links::homes_in;
 use indexmap::IndexSet;
 use snl_links::Link;
-use snl_meaning::{Live, Placed, Tied};
+use snl_meaning::{Live, Places, Tied};
 use snl_resolve::Held;
-use snl_syntax::Program;
 use snl_vm::{Marks, Queue, SetMemory, Store};
 use std::alloc::{AllocError, Global};
 
@@ -76,20 +73,20 @@ fn queues_of(alloc: Global, links: &[Link]) -> Result<Vec<Queue>, AllocError>
     Ok(queues)
 }
 
-/// The store of a program that waits for its start, by its links with their ties, the names of its channels, how many
-/// event flags it has and the variables of its copies. The only error is that memory ends.
-fn store_by(
+/// The store of a program that waits for its start, by the variables of its copies, how many event flags it has, its
+/// links with their ties, where the variables stand, and the names of its channels. The only error is that memory ends.
+pub fn store_of(
     alloc: Global,
     sets: &[Vec<Held>],
     flags: usize,
     links: &[Link],
     ties: &[Tied],
-    copies: &[Vec<Placed>],
+    copies: &[Places],
     names: &IndexSet<Vec<u8>>,
 ) -> Result<Store, AllocError>
     ensures { IfOk result (λ store. world_of store ≡ spec.first_world (sets_of sets.now) flags
-        (names_in names.now) ties.now (places.homes_in (copies_of copies.now)
-        (map link_view links.now)) (map link_view links.now)) }
+        (names_in names.now) ties.now (places.homes_in copies.now (map link_view links.now))
+        (map link_view links.now)) }
 {
     Ok(Store {
         time: 0,
@@ -109,33 +106,4 @@ fn store_by(
         queues: queues_of(alloc, links)?,
         awaited: 0,
     })
-}
-
-/// The store of a program that waits for its start, by its links with their ties, the names of its channels and where
-/// the variables of its copies stand. The only error is that memory ends.
-pub fn store_of<'a>(
-    alloc: Global,
-    program: &Program<'a>,
-    links: &[Link],
-    ties: &[Tied],
-    copies: &[Vec<Placed>],
-    names: &IndexSet<Vec<u8>>,
-) -> Result<Store, AllocError>
-    ensures { IfOk result (λ store. world_of store
-        ≡ spec.first_world (held_sets (program_view program.now) 0
-        (program_view program.now).state_sets) (length (places.flags_in (program_view program.now)))
-        (names_in names.now) ties.now (places.homes_in (copies_of copies.now)
-        (map link_view links.now)) (map link_view links.now)) }
-{
-    let sets = initials::held_sets(alloc, program)?;
-    let flags = flags_in(alloc, program)?;
-    store_by(
-        alloc,
-        sets.as_slice(),
-        flags.len(),
-        links,
-        ties,
-        copies,
-        names,
-    )
 }

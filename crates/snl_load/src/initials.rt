@@ -9,14 +9,13 @@ ghost use Rattle.snl_resolve.specs.Held.{held_view};
 ghost use Rattle.snl_resolve.specs.Scopes.{is_hidden};
 ghost use Rattle.snl_syntax.specs.view.Declarations.{initialiser_view};
 ghost use Rattle.snl_syntax.specs.view.Expressions.{boxed, view};
-ghost use Rattle.snl_syntax.specs.view.Programs.{program_view};
 ghost use Rattle.snl_syntax.specs.view.Shown.{shown};
 ghost use Rattle.snl_load.specs.Initials as spec;
 ghost use Rattle.snl_load.specs.Sets.{sets_of};
 
 use snl_links::Link;
-use snl_resolve::{Constant, Held, Scopes, constant_of, variables_of};
-use snl_syntax::{Expr, Initialiser, Program};
+use snl_resolve::{Constant, Held, Scopes, constant_of};
+use snl_syntax::{Expr, Initialiser};
 use std::alloc::{AllocError, Global};
 
 /// What a constant is worth in a range of numbers, and 0 where it has no place there.
@@ -143,20 +142,4 @@ pub fn first_buffers(
         }
     }
     Ok(words)
-}
-
-/// The variables of the copies of all state sets. The only error is that memory ends.
-pub fn held_sets<'p, 'a>(
-    alloc: Global,
-    program: &'p Program<'a>,
-) -> Result<Vec<Vec<Held<'p, 'a>>>, AllocError>
-    ensures { IfOk result (λ sets. sets_of sets.items
-        ≡ spec.held_sets (program_view program.now) 0 (program_view program.now).state_sets) }
-{
-    let mut sets = Vec::new(alloc);
-    for (set, _) in program.state_sets.iter().enumerate() {
-        let variables = variables_of(alloc, program, set)?;
-        sets.push(variables)?;
-    }
-    Ok(sets)
 }

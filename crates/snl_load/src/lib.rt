@@ -2,6 +2,7 @@
 #![tactic(auto)]
 
 mod channels;
+mod copies;
 mod first;
 mod initials;
 pub mod laws;
@@ -9,6 +10,6 @@ mod links;
 mod plans;
 
 pub use channels::{channel_number, channels_of};
+pub use copies::{Copies, copies_of};
 pub use first::store_of;
-pub use links::placed_sets;
 pub use plans::plan_of;

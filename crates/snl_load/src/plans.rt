@@ -9,28 +9,26 @@ ghost use Rattle.snl_code.specs.Starts.{table_of};
 ghost use Rattle.snl_links.specs.LinkViews.{link_view};
 ghost use Rattle.snl_resolve.specs.Numbered.{number_of};
 ghost use Rattle.snl_load.specs.Meaning as meaning;
-ghost use Rattle.snl_load.specs.Places.{channels, placed_sets};
+ghost use Rattle.snl_load.specs.Places.{channels, flags_in, placed_sets};
 ghost use Rattle.snl_load.specs.Plans as spec;
-ghost use Rattle.snl_load.specs.Sets.{copies_of, names_in};
+ghost use Rattle.snl_load.specs.Sets.{names_in};
 
-use crate::links::ties_in;
+use crate::links::ties_of;
 use indexmap::IndexSet;
 use snl_code::{Code, Piece, names_in};
 use snl_links::{Link, sign_in_force};
-use snl_meaning::{Placed, number_in};
+use snl_meaning::{Offsets, Places};
+use snl_resolve::Numbered;
 use snl_schedule::{Again, Blocks, ClausePlan, Destination, Plan, SetPlan, StatePlan};
 use snl_syntax::{self as syntax, Clause, Def, Program, State, StateSet};
-use snl_text::Token;
 use std::alloc::{AllocError, Global};
 
 /// Where a clause leads, by the names of the states.
-fn target_of(target: syntax::Target, states: &[Token]) -> Destination
+fn target_of<'a>(target: syntax::Target<'a>, states: &Numbered<'a>) -> Destination
     ensures { result ≡ meaning.target_of states.now (view.target_view target.entry) }
 {
     match target {
-        syntax::Target::State(name) => Destination::State(number_in(states, name.text).unwrap_or(
-            0,
-        )),
+        syntax::Target::State(name) => Destination::State(states.find(name).unwrap_or(0)),
         syntax::Target::Exit => Destination::Exit,
     }
 }
@@ -44,7 +42,12 @@ struct Which {
 }
 
 /// The plan of a clause.
-fn clause_plan(clause: &Clause, which: Which, states: &[Token], code: &Code) -> ClausePlan
+fn clause_plan<'a>(
+    clause: &Clause<'a>,
+    which: Which,
+    states: &Numbered<'a>,
+    code: &Code,
+) -> ClausePlan
     ensures { result ≡ spec.clause_plan states.now (table_of code.now) which.set which.state
         which.clause (clause_view clause.now) }
 {
@@ -72,12 +75,12 @@ fn clause_plan(clause: &Clause, which: Which, states: &[Token], code: &Code) -> 
 }
 
 /// The plans of the clauses of a state.
-fn clause_plans(
+fn clause_plans<'a>(
     alloc: Global,
-    clauses: &[Clause],
+    clauses: &[Clause<'a>],
     set: usize,
     state: usize,
-    states: &[Token],
+    states: &Numbered<'a>,
     code: &Code,
 ) -> Result<Vec<ClausePlan>, AllocError>
     ensures { IfOk result (λ plans. plans.items ≡ spec.clause_plans states.now (table_of code.now)
@@ -122,12 +125,12 @@ fn program_blocks(code: &Code) -> Blocks
 }
 
 /// The plan of a state.
-fn state_plan(
+fn state_plan<'a>(
     alloc: Global,
-    state: &State,
+    state: &State<'a>,
     set: usize,
     number: usize,
-    states: &[Token],
+    states: &Numbered<'a>,
     code: &Code,
 ) -> Result<StatePlan, AllocError>
     ensures { IfOk result (λ plan. spec.state_view plan ≡ spec.state_plan states.now
@@ -144,11 +147,11 @@ fn state_plan(
 }
 
 /// The plans of the states of a state set.
-fn state_plans(
+fn state_plans<'a>(
     alloc: Global,
-    states: &[State],
+    states: &[State<'a>],
     set: usize,
-    names: &[Token],
+    names: &Numbered<'a>,
     code: &Code,
 ) -> Result<Vec<StatePlan>, AllocError>
     ensures { IfOk result (λ plans. map spec.state_view plans.items ≡ spec.state_plans names.now
@@ -175,7 +178,7 @@ fn states_of<'a>(
 {
     let states = set.states.as_slice();
     let names = names_in(alloc, set)?;
-    state_plans(alloc, states, number, names.as_slice(), code)
+    state_plans(alloc, states, number, &names, code)
 }
 
 /// The plan of a state set.
@@ -206,25 +209,27 @@ fn set_plans(alloc: Global, sets: &[StateSet], code: &Code) -> Result<Vec<SetPla
     Ok(plans)
 }
 
-/// The plan of a program whose code and links are given, with the names of its channels, the variables of its copies, and
-/// whether it waits for its channels before it starts. The only error is that memory ends.
+/// The plan of a program whose code and links are given, with the names of its channels, its event flags, the variables of
+/// its copies, and whether it waits for its channels before it starts. The only error is that memory ends.
 pub fn plan_of<'a>(
     alloc: Global,
     program: &Program<'a>,
     code: &Code,
     links: &[Link],
     names: &IndexSet<Vec<u8>>,
-    copies: &[Vec<Placed>],
+    flags: &Offsets,
+    copies: &[Places],
     waits: bool,
 ) -> Result<Plan, AllocError>
     requires names { names_in names.now ≡ channels (map link_view links.now) }
-    requires copies { copies_of copies.now
+    requires flags { flags.now ≡ flags_in (program_view program.now) }
+    requires copies { copies.now
         ≡ placed_sets (program_view program.now) 0 (program_view program.now).state_sets }
     ensures { IfOk result (λ plan. spec.plan_view plan ≡ spec.program_plan
         (program_view program.now) (map link_view links.now) waits (table_of code.now)) }
 {
     let name = Vec::from_slice(alloc, program.name.text)?;
-    let ties = ties_in(alloc, program, links, names, copies)?;
+    let ties = ties_of(alloc, links, names, flags, copies)?;
     let sets = set_plans(alloc, program.state_sets.as_slice(), code)?;
     Plan::new(alloc, name, ties, waits, program_blocks(code), sets)
 }

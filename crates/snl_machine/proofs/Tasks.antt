@@ -31,8 +31,9 @@ runs_its_program p ls waits budget m is =
     λ j. record { program = right.0 j; channels = is.channels_are j }
 
 -- what a line leaves is a world of the program, also where the sink failed and the run has ended
-stays-of : (p : ProgramTree) (ls : List Link) (waits : Bool) (budget ms : ℕ) (event : Event) (w u : World) (result : Result Live Stop) (old new : Option (List ℕ)) → IsWorldOf p ls w →
-    frame_of u ≡ at_time u.time (frame_of w) → Does {V = Live} (λ live. live) result u old new (line_of (program_meaning p ls waits) budget ms event w) → OnErr result (u.phase ≡ Ended) → IsWorldOf p ls u
+stays-of : (p : ProgramTree) (ls : List Link) (waits : Bool) (budget ms : ℕ) (event : Event) (w u : World) (result : Result Live Stop) (old new : Option (List ℕ)) →
+    IsWorldOf p ls w → frame_of u ≡ at_time u.time (frame_of w) →
+    Does {V = Live} (λ live. live) result u old new (line_of (program_meaning p ls waits) budget ms event w) → OnErr result (u.phase ≡ Ended) → IsWorldOf p ls u
 stays-of p ls waits budget ms event w u (Ok live) old new is frame does ended =
     subst (λ (r : Ran Live). IsWorldOf p ls (world_after r)) does.is (worlds_stay p ls waits budget ms event w is)
 stays-of p ls waits budget ms event w u (Err (stop.Fault fault line)) old new is frame does ended =

@@ -30,7 +30,14 @@ fn loaded<'a>(
 ) -> Result<Machine, AllocError>
     ensures { IfOk result (IsLoadedFrom checked.now macros.now.text.now budget) }
 {
-    machine_of(alloc, checked.program(), macros, checked.waits(), budget)
+    machine_of(
+        alloc,
+        checked.program(),
+        checked.uses(),
+        macros,
+        checked.waits(),
+        budget,
+    )
 }
 
 impl<'a> Loads for Checked<'a> {

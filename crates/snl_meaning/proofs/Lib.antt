@@ -8,6 +8,7 @@ pub mod Nearer
 pub mod Ends
 pub mod Turns
 pub mod Texts
+pub mod Tables
 pub mod Apart
 pub mod Keeping
 pub mod StepKeeps

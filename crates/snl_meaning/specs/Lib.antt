@@ -3,6 +3,8 @@ pub mod Queues
 pub mod Links
 pub mod Ran
 pub mod Names
+pub mod OffsetTables
+pub mod StringTables
 pub mod Printing
 pub mod Words
 pub mod Asking

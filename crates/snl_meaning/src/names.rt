@@ -1,13 +1,14 @@
 //! What the names in a piece of code mean.
 
-ghost use Rattle.std.specs.Prelude.{◌≡◌, length, map, IfOk};
+ghost use Rattle.std.specs.Prelude.{◌≡◌, map, IfOk};
 ghost use Rattle.snl_resolve.specs.Held.{held_view};
-ghost use Rattle.snl_resolve.specs.Numbered.{number_of};
 ghost use Rattle.snl_meaning.specs.Names as spec;
 ghost use Rattle.snl_meaning.specs.Known.{here_of};
 
 use crate::instrs::Variable;
-use snl_resolve::{Held, Site, declared_in, predefined};
+use crate::places::Places;
+use crate::sites::Sites;
+use snl_resolve::{Held, Numbered, predefined};
 use snl_text::Token;
 use std::alloc::{AllocError, Global};
 
@@ -37,11 +38,11 @@ pub struct Known<'s, 'a> {
     /// Its name.
     pub set_name: &'a [u8],
     /// The names of its states.
-    pub states: &'s [Token<'a>],
+    pub states: &'s Numbered<'a>,
     /// The sites of the program.
-    pub sites: &'s [Site<'a>],
+    pub sites: &'s Sites<'s, 'a>,
     /// The variables of the copy.
-    pub variables: &'s [Placed],
+    pub variables: &'s Places,
 }
 
 fn variable_from(place: usize, held: &Held) -> Variable
@@ -76,111 +77,20 @@ pub fn places_of(alloc: Global, variables: &[Held]) -> Result<Vec<Placed>, Alloc
     Ok(places)
 }
 
-/// The variable that is declared at an offset, in bytes, among those of a copy.
-pub fn variable_in(variables: &[Placed], offset: usize) -> Option<Variable>
-    ensures { result ≡ spec.variable_in variables.now offset }
-{
-    for placed in variables {
-        if placed.offset == offset {
-            return Some(placed.variable);
-        }
-    }
-    None
-}
-
-/// The number of the first of some declarations that stands at an offset, in bytes; that after the last where none
-/// does.
-pub fn number_at(declarations: &[usize], offset: usize) -> usize
-    ensures { result ≡ spec.number_at declarations.now offset }
-{
-    for number in 0..declarations.len() {
-        if declarations[number] == offset {
-            return number;
-        }
-    }
-    declarations.len()
-}
-
-/// The event flags of a program, each by the offset of its declaration, in bytes, in the order of the source. The only
-/// error is that memory ends.
-pub fn flags_of(alloc: Global, sites: &[Site]) -> Result<Vec<usize>, AllocError>
-    ensures { IfOk result (λ flags. flags.items ≡ spec.flags_of sites.now) }
-{
-    let mut flags = Vec::new(alloc);
-    for site in sites {
-        if let Site::Declaration {
-            name,
-            is_flag: true,
-            ..
-        } = site
-        {
-            flags.push(name.pos.offset)?;
-        }
-    }
-    Ok(flags)
-}
-
-/// How many event flags a program has.
-fn flag_count(sites: &[Site]) -> usize
-    ensures { result ≡ length (spec.flags_of sites.now) }
-{
-    let mut count = 0;
-    for site in sites {
-        if let Site::Declaration { is_flag: true, .. } = site {
-            count += 1;
-        }
-    }
-    count
-}
-
-/// The number of the event flag that is declared at an offset, in bytes; that after the last where none is.
-fn flag_at(sites: &[Site], offset: usize) -> usize
-    ensures { result ≡ spec.number_at (spec.flags_of sites.now) offset }
-{
-    let mut number = 0;
-    for site in sites {
-        if let Site::Declaration {
-            name,
-            is_flag: true,
-            ..
-        } = site
-        {
-            if name.pos.offset == offset {
-                return number;
-            }
-            number += 1;
-        }
-    }
-    number
-}
-
-/// The number of the first of some names that is spelled so, from 0 on.
-pub fn number_in(names: &[Token], name: &[u8]) -> Option<usize>
-    ensures { result ≡ number_of names.now name.now }
-{
-    for number in 0..names.len() {
-        if name == names[number].text {
-            return Some(number);
-        }
-    }
-    None
-}
-
 impl<'s, 'a> Known<'s, 'a> {
     /// The variable that is declared at an offset, in bytes.
     pub fn variable(&self, offset: usize) -> Option<Variable>
         ensures { result ≡ spec.variable_at (here_of self.now) offset }
     {
-        variable_in(self.variables, offset)
+        self.variables.variable(offset)
     }
     /// The variable that a name's declaration makes, or else the number that its text is predefined
     /// to be. A name that is neither stands for 0.
     pub fn sense(&self, name: Token<'a>) -> Sense
         ensures { result ≡ spec.sense_of (here_of self.now) name.entry }
     {
-        let declared = declared_in(name.pos.offset, self.sites);
-        let variable = match declared {
-            Some(place) => variable_in(self.variables, place.offset),
+        let variable = match self.sites.declared(name.pos.offset) {
+            Some(place) => self.variables.variable(place.offset),
             None => None,
         };
         match variable {
@@ -192,15 +102,18 @@ impl<'s, 'a> Known<'s, 'a> {
     pub fn flag(&self, name: Token<'a>) -> usize
         ensures { result ≡ spec.flag_number (here_of self.now) name.entry }
     {
-        match declared_in(name.pos.offset, self.sites) {
-            Some(declared) => flag_at(self.sites, declared.offset),
-            None => flag_count(self.sites),
-        }
+        self.sites.flag(name)
+    }
+    /// The number of a string among those that are formats; that after the last where it is none.
+    pub fn format(&self, text: Token<'a>) -> usize
+        ensures { result ≡ spec.format_number (here_of self.now) text.entry }
+    {
+        self.sites.format(text.text)
     }
     /// The number of the state that is named, in the state set; 0 for an unknown name.
     pub fn state(&self, name: Token<'a>) -> usize
         ensures { result ≡ spec.state_number (here_of self.now) name.entry }
     {
-        number_in(self.states, name.text).unwrap_or(0)
+        self.states.find(name).unwrap_or(0)
     }
 }

@@ -11,6 +11,7 @@ pub mod Numbered
 pub mod Sites
 pub mod Programs
 pub mod Uses
+pub mod UseTables
 pub mod Variables
 pub mod Tables
 pub mod Chains

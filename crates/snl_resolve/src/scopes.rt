@@ -67,10 +67,13 @@ impl<'a> Model for Scope<'a> {
 }
 
 impl<'a> Scope<'a> {
-    /// The first declaration of a name.
+    /// The first declaration of a name. Most scopes declare nothing, and then no look is needed.
     fn find(&self, name: Token<'a>) -> Option<Declared<'a>>
         ensures { result ≡ spec.first_of name.entry.text.now self.now }
     {
+        if self.declared.is_empty() {
+            return None;
+        }
         self.firsts.get(&name.text).copied()
     }
 }

@@ -27,19 +27,3 @@ pub fn use_at<'a>(site: &Site<'a>) -> Option<(Token<'a>, Meaning)>
         _ => None,
     }
 }
-
-/// What the first of some sites says that uses a name at this offset: the place of the declaration,
-/// of a variable or an event flag. None where no name is used, or a predefined one or one that is
-/// not declared.
-pub fn declared_in(offset: usize, sites: &[Site]) -> Option<Pos>
-    ensures { result ≡ spec.declared_in offset sites.now }
-{
-    for site in sites {
-        if let Some((name, meaning)) = use_at(site) {
-            if name.pos.offset == offset {
-                return place_of(meaning);
-            }
-        }
-    }
-    None
-}

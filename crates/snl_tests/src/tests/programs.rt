@@ -1,11 +1,17 @@
 //! What a checked program tells: its options in force, whether it waits for its channels, where a name is declared, its
 //! links, its tables, its code.
 
+ghost use Rattle.snl_syntax.specs.view.Programs.{program_view};
+ghost use Rattle.snl_resolve.specs.UseTables.{IsTableOf};
+
 use crate::tests::calls::checked;
 use snl_check::{Checked, Options};
 use snl_code::{Code, Piece, compile};
 use snl_links::{Link, Macros, links_of, tables_of};
+use snl_load::copies_of;
 use snl_meaning::Instr;
+use snl_resolve::{UseTable, sites_of};
+use snl_syntax::Program;
 use snl_text::{Pos, lex};
 use std::alloc::{AllocError, Global};
 use std::process::Abort;
@@ -46,6 +52,16 @@ impl<'a> Tells for Checked<'a> {
     }
 }
 
+/// The code of a program, by the table of what its names mean.
+fn code_of<'a>(alloc: Global, program: &Program<'a>, uses: &UseTable) -> Result<Code, AllocError>
+    requires uses { IsTableOf uses.now (program_view program.now) }
+{
+    let sites = sites_of(alloc, program)?;
+    let sites = sites.as_slice();
+    let copies = copies_of(alloc, program)?;
+    compile(alloc, program, sites, uses, copies.places.as_slice())
+}
+
 fn told_of(alloc: Global, checked: &Checked) -> Result<Told, AllocError> {
     let macros = Macros {
         text: b"".as_slice(),
@@ -58,7 +74,7 @@ fn told_of(alloc: Global, checked: &Checked) -> Result<Told, AllocError> {
         declared: checked.declared(USED),
         links: links_of(alloc, checked.program(), &macros)?,
         tables,
-        code: compile(alloc, checked.program())?,
+        code: code_of(alloc, checked.program(), checked.uses())?,
     })
 }
 

@@ -25,7 +25,7 @@ returns-clause-is c =
     c.in_ok-entry.ensures.code c.in_ok-sets.ensures.code c.in_ok-exit.ensures.code)
     (table-is p code c.new-instrs.result.items c.place_own.new.code.items c.place_sets.new.code.items sets are c.new-instrs.ensures.items
     c.in_ok-entry.ensures.code c.in_ok-entry.ensures.start c.in_ok-sets.ensures.code c.in_ok-sets.ensures.starts c.in_ok-exit.ensures.start)
-    (c.in_ok-texts.ensures ∙ ap (flat_map format_at) c.requires.sites) c.program_depth.ensures
+    (c.in_ok-texts.ensures ∙ ap (flat_map format_at) (c.as_slice-2.ensures ∙ c.requires.sites)) c.program_depth.ensures
 
 pub returns-clause-inside : goal.returns-clause-inside
 returns-clause-inside c =

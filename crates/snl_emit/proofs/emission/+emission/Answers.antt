@@ -1,8 +1,9 @@
-use Rattle.std.proofs.Common.{◌≡◌, ◌∙◌, ◌∷◌, ◌++◌, ap, arith, drop, reverse}
+use Rattle.std.proofs.Common.{◌≡◌, ◌∙◌, ◌∷◌, ◌++◌, ap, arith, drop, map, reverse}
 use Rattle.std.proofs.lemmas.Result.{on_ok_weaker}
 use Rattle.snl_syntax.specs.Expressions.{no_arguments}
-use Rattle.snl_syntax.specs.view.Expressions.{view, list_before}
-use Rattle.snl_emit.specs.ExpressionCode.{values_code}
+use Rattle.snl_syntax.specs.view.Expressions.{view, pair_of, list_before}
+use Rattle.snl_syntax.specs.view.Lists.{term_list}
+use Rattle.snl_emit.specs.ExpressionCode.{terms_code, values_code}
 use Rattle.snl_meaning.specs.Known.{here_of}
 use Rattle.snl_emit.proofs.Emitting.{assigned-made, postfix-made, prefix-made, chain-made, call-made, put-made, ask-made}
 use Rattle.snl_emit.proofs.emission.+emission.Goals as goal
@@ -45,6 +46,13 @@ emit_expression-returns-in_ok-emit_expression-in-Assignment t c =
     c.in-Assignment.is c.compound_of-joined.ensures c.deref-in-Assignment.ensures c.deref-in-Assignment-2.ensures c.deref-in-Assignment-3.ensures
     c.in_ok-put_stored-in-Assignment.ensures c.in_ok-emit_expression-in-Assignment.ensures)
     c.emit_place.ensures
+
+pub emit_terms-returns : goal.emit_terms-returns
+emit_terms-returns t c =
+    let h = here_of c.args.known.now in
+    let all = c.args.terms.now in
+    let none : c.loop-number.number ≡ 0 = omega (arith, c.loop-number-test.false) in
+    c.loop-number.invariant ∙ ap (λ n. terms_code h (term_list (map pair_of (drop n all))) ++ reverse c.args.code.now.items) none
 
 pub emit_values-returns : goal.emit_values-returns
 emit_values-returns t c =

@@ -1,0 +1,32 @@
+use Rattle.std.proofs.Common.{◌≡◌, ◌∙◌, ap, sym, rules, ℕ, None, false, map, length, replicate}
+use Rattle.std.proofs.lemmas.List.{length-map}
+use Rattle.snl_links.specs.LinkViews.{link_view}
+use Rattle.snl_meaning.specs.declared.live.Live.TheVariants.{Waiting}
+use Rattle.snl_load.specs.Sets.{names_in, sets_of}
+use Rattle.snl_load.proofs.first.store_of.Goals as goal
+
+pub returns : goal.returns
+returns c =
+    let names = names_in c.args.names.now in
+    let flags : c.in_ok-vec.field-0.items ≡ replicate c.args.flags false = search rules in
+    let ups : c.in_ok-vec-2.field-0.items ≡ replicate (length names) false = search (rules, length-map) in
+    let valued : c.in_ok-vec-3.field-0.items ≡ replicate (length names) false = search (rules, length-map) in
+    let links = sym (length-map c.args.links.now link_view) in
+    let marks = c.in_ok-marks_of.ensures ∙ ap (λ (n : ℕ). map (λ vs. replicate n false) (sets_of c.args.sets.now)) links in
+    λ j. record {
+      time = 0;
+      phase = Waiting;
+      ticks = 0;
+      wake = None;
+      due = None;
+      copies = c.in_ok-first_copies.ensures j;
+      flags = flags j;
+      channels = c.in_ok-names_of.ensures j;
+      ups = ups j;
+      valued = valued j;
+      ties = c.in_ok-from_slice.ensures.items j;
+      homes = c.in_ok-homes_in.ensures j;
+      buffers = c.in_ok-first_buffers.ensures j;
+      marks = marks j;
+      queues = c.in_ok-queues_of.ensures j;
+    }

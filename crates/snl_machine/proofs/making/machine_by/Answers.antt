@@ -1,0 +1,59 @@
+use Rattle.std.proofs.Common.{◌∙◌, ◌<◌, ◌-◌, ◌^◌, ap, arith, length, map, refl, subst, sym}
+use Rattle.snl_syntax.specs.view.Programs.{program_view}
+use Rattle.snl_links.specs.LinkViews.{link_view}
+use Rattle.snl_load.specs.First.{first_world}
+use Rattle.snl_load.specs.Places.{homes_in}
+use Rattle.snl_load.specs.Sets.{names_in, sets_of}
+use Rattle.snl_load.proofs.Meant.{plans_are_right}
+use Rattle.snl_machine.specs.Holding.{loaded_by}
+use Rattle.snl_machine.proofs.AsLoaded.{loaded-is, first-is}
+use Rattle.snl_machine.proofs.Worlds as worlds
+use Rattle.snl_machine.proofs.making.machine_by.Goals as goal
+use Rattle.snl_machine.specs.Worlds.{IsWorldOf}
+use Rattle.snl_meaning.specs.World.{World}
+
+pub invariant_of-result : goal.invariant_of-result
+invariant_of-result c =
+    let p = program_view c.args.program.now in
+    let ls = map link_view c.args.links.now in
+    let code = c.args.code in
+    let plan = c.in_ok-plan.plan in
+    let room = c.in_ok-operands.ensures.room ∙ c.depth.ensures in
+    let counted : code.depth < 2 ^ 64 - 1 = omega (arith, room, c.in_ok-operands.operands.items.small) in
+    let is = loaded-is p ls ls c.args.waits code plan refl c.in_ok-plan.ensures c.requires.code counted in
+    record { room = room; runs = (plans_are_right p ls c.args.waits code (loaded_by plan code) is).1 }
+
+pub returns-clause-made : goal.returns-clause-made
+returns-clause-made c =
+    let p = program_view c.args.program.now in
+    let ls = map link_view c.args.links.now in
+    let code = c.args.code in
+    let plan = c.in_ok-plan.plan in
+    let names = names_in c.in_ok-names.names in
+    let room = c.in_ok-operands.ensures.room ∙ c.depth.ensures in
+    let counted : code.depth < 2 ^ 64 - 1 = omega (arith, room, c.in_ok-operands.operands.items.small) in
+    let flags = c.len.ensures ∙ ap length c.requires.flags in
+    let ties = c.as_slice-ties.result.now in
+    let held = ap sets_of c.as_slice-held.ensures.value ∙ c.requires.held in
+    let places = c.as_slice-places.ensures.value ∙ c.requires.places in
+    let store = c.in_ok-store.ensures ∙ (λ j. first_world (held j) (flags j) names ties (homes_in c.as_slice-places.result.now ls) ls) in
+    let first = first-is p ls ls c.args.waits code plan refl c.in_ok-plan.ensures _ _ _ _ c.in_ok-names.ensures c.as_slice-ties.ensures.value places store in
+    record {
+      links_are = c.requires.links;
+      loaded = loaded-is p ls ls c.args.waits code plan refl c.in_ok-plan.ensures c.requires.code counted;
+      channels_are = c.in_ok-names.ensures;
+      world_is = subst (λ (w : World). IsWorldOf p ls w) (sym first) (worlds.first_world p ls);
+      budget_is = refl;
+    }
+
+pub returns-clause-first : goal.returns-clause-first
+returns-clause-first c =
+    let p = program_view c.args.program.now in
+    let ls = map link_view c.args.links.now in
+    let names = names_in c.in_ok-names.names in
+    let flags = c.len.ensures ∙ ap length c.requires.flags in
+    let ties = c.as_slice-ties.result.now in
+    let held = ap sets_of c.as_slice-held.ensures.value ∙ c.requires.held in
+    let places = c.as_slice-places.ensures.value ∙ c.requires.places in
+    let store = c.in_ok-store.ensures ∙ (λ j. first_world (held j) (flags j) names ties (homes_in c.as_slice-places.result.now ls) ls) in
+    first-is p ls ls c.args.waits c.args.code c.in_ok-plan.plan refl c.in_ok-plan.ensures _ _ _ _ c.in_ok-names.ensures c.as_slice-ties.ensures.value places store

@@ -1,0 +1,75 @@
+//! The variables of a copy, found by their declarations.
+
+ghost use Rattle.std.specs.Prelude.{◌≡◌, map, IfOk};
+ghost use Rattle.snl_resolve.specs.Held.{held_view};
+ghost use Rattle.snl_meaning.specs.Names as spec;
+
+use crate::instrs::Variable;
+use crate::names::{Placed, places_of};
+use crate::offsets::Offsets;
+use snl_resolve::Held;
+use std::alloc::{AllocError, Global};
+use std::marker::Model;
+
+/// The variables of a copy, each by its declaration. It finds one as fast among many as among few.
+#[derive(Drop)]
+pub struct Places {
+    /// In the order of their words.
+    all: Vec<Placed>,
+    /// Where they are declared.
+    declared: Offsets,
+}
+
+impl Model for Places {
+    ghost use Rattle.std.specs.Prelude.{◌≡◌, List, map};
+    ghost use Rattle.snl_meaning.specs.declared.names.Placed.{Placed};
+
+    ghost Value = { List Placed };
+
+    ghost view = { λ s. s.all.items };
+
+    ghost invariant = { λ s. s.declared ≡ map (λ v. v.offset) s.all.items };
+}
+
+/// Where variables are declared.
+fn offsets_of(alloc: Global, all: &[Placed]) -> Result<Vec<usize>, AllocError>
+    ensures { IfOk result (λ offsets. offsets.items ≡ map (λ v. v.offset) all.now) }
+{
+    let mut offsets = Vec::new(alloc);
+    for placed in all {
+        offsets.push(placed.offset)?;
+    }
+    Ok(offsets)
+}
+
+/// The same, each found by its number.
+fn declared_of(alloc: Global, all: &[Placed]) -> Result<Offsets, AllocError>
+    ensures { IfOk result (λ declared. declared ≡ map (λ v. v.offset) all.now) }
+{
+    let offsets = offsets_of(alloc, all)?;
+    Offsets::of(alloc, offsets)
+}
+
+impl Places {
+    /// The variables of a copy; their words stand one after another. The only error is that memory ends.
+    pub fn of(alloc: Global, variables: &[Held]) -> Result<Places, AllocError>
+        ensures { IfOk result (λ places. places
+            ≡ spec.placed_from 0 (map held_view variables.now)) }
+    {
+        let all = places_of(alloc, variables)?;
+        let declared = declared_of(alloc, all.as_slice())?;
+        Ok(Places { all, declared })
+    }
+
+    /// The variable that is declared at an offset, in bytes.
+    pub fn variable(&self, offset: usize) -> Option<Variable>
+        ensures { result ≡ spec.variable_in self.now offset }
+    {
+        let number = self.declared.number(offset);
+        if number < self.all.len() {
+            Some(self.all[number].variable)
+        } else {
+            None
+        }
+    }
+}
