@@ -19,6 +19,7 @@ def cases():
     yield from words_of_a_state_set()
     yield from words_of_a_program()
     yield from two_limits()
+    yield limited("a sum of 10,000 terms", ["int x;", *sums(10_000)], {})
 
 
 def tokens():
@@ -94,6 +95,10 @@ def sets(count):
 def ring(count):
     """States, each of which leads to the next one."""
     return [f"state t{k} {{ when () {{ }} state t{(k + 1) % count} }}" for k in range(count)]
+
+
+def sums(count):
+    return [f"ss s {{ state a {{ when (x == {' + '.join(['1'] * count)}) {{ }} state a }} }}"]
 
 
 def linked(count):

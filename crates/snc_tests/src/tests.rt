@@ -5,6 +5,7 @@
 use snc::{Job, Options};
 use std::alloc::{AllocError, Global};
 
+mod devices;
 mod runs;
 mod sources;
 mod words;

@@ -1,5 +1,6 @@
 -- The values of a list in braces, and what elements begin with.
-use Rattle.std.proofs.Common.{◌≡◌, ◌∙◌, ◌+◌, ◌-◌, ◌<◌, sym, ap, arith, ℕ, suc, ℤ, Bool, List, [], ◌∷◌, ◌++◌, append_assoc}
+use Rattle.std.proofs.Common.{◌≡◌, ◌∙◌, ◌+◌, ◌-◌, ◌<◌, sym, ap, arith, ℕ, suc, ℤ, pos, Bool, List, [], ◌∷◌, ◌++◌, append_assoc}
+use Rattle.std.specs.Prelude.{replicate}
 use Rattle.snl_syntax.specs.Expressions.{ExprTree}
 use Rattle.snl_syntax.specs.view.Declarations.{value_list}
 use Rattle.snl_resolve.specs.Types.{listed_values}
@@ -10,6 +11,12 @@ use Rattle.snl_load.specs.Initials.{first_element, first_elements}
 -- they are those that are written
 pub values_listed : (es : List ExprTree) (comma : Bool) → listed_values (value_list es comma) ≡ es
 values_listed = code.values_listed
+
+-- one zero more was added
+pub zeros-more : (n : ℕ) (words : List ℤ) (i : ℕ) → i < n → (words ++ pos 0 ∷ []) ++ replicate (n - (i + 1)) (pos 0) ≡ words ++ replicate (n - i) (pos 0)
+zeros-more n words i less =
+    let left : n - i ≡ suc (n - (i + 1)) = omega (arith, less) in
+    append_assoc words (pos 0 ∷ []) (replicate (n - (i + 1)) (pos 0)) ∙ sym (ap (λ (m : ℕ). words ++ replicate m (pos 0)) left)
 
 -- one element more was added
 pub elements-more : (v : Held) (from n : ℕ) (words : List ℤ) (i : ℕ) → i < n →

@@ -1,5 +1,5 @@
 -- What variables, and the buffers of their links, begin with.
-use Rattle.std.specs.Prelude.{ℕ, zero, suc, ◌+◌, ℤ, pos, int_le, ◌&&◌, ◌==◌, List, [], ◌∷◌, Option, None, Some, slice_get, if◌then◌else◌}
+use Rattle.std.specs.Prelude.{ℕ, zero, suc, ◌+◌, ℤ, pos, int_le, ◌&&◌, ◌==◌, List, [], ◌∷◌, Option, None, Some, slice_get, replicate, if◌then◌else◌}
 use Rattle.snl_syntax.specs.Expressions.{ExprTree}
 use Rattle.snl_syntax.specs.Programs.{StateSetTree, ProgramTree}
 use Rattle.snl_links.specs.Links.{Link}
@@ -48,9 +48,9 @@ abbrev pub held_among : List (List Held) → ℕ → Option Held
 held_among [] offset = None
 held_among (vs ∷ more) offset = elim (held_in vs offset) [ Some v ↦ Some v | None ↦ held_among more offset ]
 
--- The buffer of a link begins as its elements of the variable do; where there is no variable, it has no words.
+-- The buffer of a link begins as its elements of the variable do; where there is no variable, with 0.
 abbrev pub buffer_by : Option Held → Link → List ℤ
-buffer_by None l = []
+buffer_by None l = replicate l.count (pos 0)
 buffer_by (Some v) l = first_elements v l.first l.count
 
 -- The buffer of a link of variables of these copies.

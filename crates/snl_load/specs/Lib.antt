@@ -1,5 +1,6 @@
 pub mod Names
 pub mod Meaning
+pub mod Reached
 pub mod Places
 pub mod Sets
 pub mod Plans

@@ -52,13 +52,14 @@ plan_view p = record { name = p.name.items; links = p.links.items; waits = p.wai
 -- ---- the plan of a program
 
 -- The clause of a number, in a state of a state set with these states: where its pieces begin in the code, its state and
--- the line of its word.
+-- the line of its word, and its number.
 abbrev pub clause_plan : List Token → ProgramTable → ℕ → ℕ → ℕ → ClauseTree → ClausePlan
 clause_plan states t set state k c = record {
   condition = start_in t (Condition set state k);
   block = unwrap_or (start_in t (Block set state k)) 0;
   target = target_of states c.target;
   line = c.word.pos.line;
+  number = k;
 }
 
 -- Clauses with numbers from k on.

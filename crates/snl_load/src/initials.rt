@@ -1,6 +1,6 @@
 //! What variables, and the buffers of their links, begin with.
 
-ghost use Rattle.std.specs.Prelude.{◌≡◌, ◌++◌, ◌+◌, map, option_map, slice_get, OnOk, IfOk};
+ghost use Rattle.std.specs.Prelude.{◌≡◌, ◌++◌, ◌+◌, map, option_map, pos, replicate, slice_get, OnOk, IfOk};
 ghost use Rattle.std.specs.List.{flat_map};
 ghost use Rattle.snl_links.specs.LinkViews.{link_view};
 ghost use Rattle.snl_meaning.specs.Effect.{values_of};
@@ -125,6 +125,16 @@ fn held_among<'p, 'a>(sets: &[Vec<Held<'p, 'a>>], offset: usize) -> Option<Held<
     None
 }
 
+/// Adds so many zeros.
+fn push_zeros(count: usize, words: &mut Vec<i64>) -> Result<(), AllocError>
+    ensures { OnOk result (words.new.items ≡ words.old.items ++ replicate count (pos 0)) }
+{
+    for _more in 0..count {
+        words.push(0)?;
+    }
+    Ok(())
+}
+
 /// What the buffers of links of these copies' variables begin with, one buffer after another. The only error is that
 /// memory ends.
 pub fn first_buffers(
@@ -137,8 +147,9 @@ pub fn first_buffers(
 {
     let mut words = Vec::new(alloc);
     for link in links {
-        if let Some(held) = held_among(sets, link.variable.offset) {
-            push_elements(&held, link.first, link.count, &mut words)?;
+        match held_among(sets, link.variable.offset) {
+            Some(held) => push_elements(&held, link.first, link.count, &mut words)?,
+            None => push_zeros(link.count, &mut words)?,
         }
     }
     Ok(words)

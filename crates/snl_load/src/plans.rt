@@ -71,6 +71,7 @@ fn clause_plan<'a>(
             .unwrap_or(0),
         target: target_of(clause.target, states),
         line: clause.word.pos.line,
+        number,
     }
 }
 
@@ -193,7 +194,7 @@ fn set_plan(
 {
     let name = Vec::from_slice(alloc, set.name.text)?;
     let states = states_of(alloc, set, number, code)?;
-    Ok(SetPlan { name, states })
+    SetPlan::new(alloc, name, states)
 }
 
 /// The plans of all state sets.

@@ -18,6 +18,7 @@ use Rattle.snl_machine.specs.declared.machine.Machine.{Machine}
 use Rattle.snl_machine.specs.Holding.{loaded_by}
 use Rattle.snl_machine.specs.Loading.{IsLoaded}
 use Rattle.snl_machine.specs.MachineOf.{IsMachineOf, world_held}
+use Rattle.snl_machine.proofs.Footprint.{machines_hold_the_footprint}
 
 module _ (p : ProgramTree) (ls given : List Link) (waits : Bool) (code : Code) (plan : Plan) (links-are : given ≡ ls)
     (planned : plan_view plan ≡ program_plan p given waits (table_of code)) where
@@ -39,5 +40,9 @@ module _ (p : ProgramTree) (ls given : List Link) (waits : Bool) (code : Code) (
 -- a machine that is one of a program, in its first world, is loaded
 pub both-loaded : {E : Type 0} (r : Result Machine E) (p : ProgramTree) (macros : List ℕ) (waiting : Bool) (budget : ℕ) → IfOk r (IsMachineOf p (links p macros) waiting budget) →
     IfOk r (λ m. world_held m ≡ first_world_of p (links p macros)) → IfOk r (IsLoaded p macros waiting budget)
-both-loaded (Ok m) p macros waiting budget made first = record { made = made; first = first }
+both-loaded (Ok m) p macros waiting budget made first = record {
+  made = made;
+  first = first;
+  words = machines_hold_the_footprint p (links p macros) waiting budget m made;
+}
 both-loaded (Err e) p macros waiting budget made first = tt

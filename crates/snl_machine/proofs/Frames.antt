@@ -1,5 +1,5 @@
 -- No line of a trace changes how large a world is, or what stands for what in it.
-use Rattle.std.proofs.Common.{◌≡◌, ◌∙◌, ◌+◌, refl, ap, ℕ, Bool, false, List, [], ◌∷◌, Option, None, Some, map, length, length-append}
+use Rattle.std.proofs.Common.{◌≡◌, ◌∙◌, ◌+◌, refl, ap, ℕ, pos, Bool, false, List, [], ◌∷◌, Option, None, Some, map, length, length-append}
 use Rattle.std.specs.Prelude.{replicate}
 use Rattle.std.specs.List.{flat_map}
 use Rattle.std.proofs.lemmas.List.{length-replicate}
@@ -10,7 +10,8 @@ use Rattle.snl_load.specs.First.{first_copy, first_queue, first_world_of}
 use Rattle.snl_load.specs.Initials.{all_elements, held_among, buffer_by, first_buffer, held_sets}
 use Rattle.snl_load.specs.Meaning.{program_meaning}
 use Rattle.snl_load.specs.Places.{channels, flags_in}
-use Rattle.snl_machine.specs.Frames.{buffer_words, words_buffered, frame_in, FrameStays, FirstFrame}
+use Rattle.snl_machine.specs.Frames.{frame_in, FrameStays, FirstFrame}
+use Rattle.snl_machine.specs.Ranges.{counts}
 use Rattle.snl_machine.proofs.Beginning.{length-elements}
 use Rattle.snl_machine.proofs.Steady.{IsSteady}
 use Rattle.snl_machine.proofs.Whole.{line-keeps}
@@ -80,19 +81,17 @@ marks-many n [] = refl
 marks-many n (vs ∷ sets) = ap (λ (m : ℕ). m ∷ map (length {A = Bool}) (map (λ (us : List Held). replicate n false) sets)) (length-replicate n false) ∙ ap (λ (ms : List ℕ). n ∷ ms) (marks-many n sets)
 
 -- the buffer of a link
-buffer-many : (sets : List (List Held)) (l : Link) → length (first_buffer sets l) ≡ buffer_words sets l
-buffer-many sets l = by (held_among sets l.variable.offset)
-  where
-    by : (o : Option Held) → length (buffer_by o l) ≡ elim o [ None ↦ 0 | Some v ↦ l.count ]
-    by None = refl
-    by (Some v) = length-elements v l.first l.count
+buffer-many : (o : Option Held) (l : Link) → length (buffer_by o l) ≡ l.count
+buffer-many None l = length-replicate l.count (pos 0)
+buffer-many (Some v) l = length-elements v l.first l.count
 
 -- all buffers
-buffers-many : (sets : List (List Held)) (ls : List Link) → length (flat_map (first_buffer sets) ls) ≡ words_buffered sets ls
+buffers-many : (sets : List (List Held)) (ls : List Link) → length (flat_map (first_buffer sets) ls) ≡ counts ls
 buffers-many sets [] = refl
 buffers-many sets (l ∷ ls) =
-    length-append (first_buffer sets l) (flat_map (first_buffer sets) ls) ∙ ap (λ (n : ℕ). n + length (flat_map (first_buffer sets) ls)) (buffer-many sets l)
-    ∙ ap (λ (n : ℕ). buffer_words sets l + n) (buffers-many sets ls)
+    length-append (first_buffer sets l) (flat_map (first_buffer sets) ls)
+    ∙ ap (λ (n : ℕ). n + length (flat_map (first_buffer sets) ls)) (buffer-many (held_among sets l.variable.offset) l)
+    ∙ ap (λ (n : ℕ). l.count + n) (buffers-many sets ls)
 
 -- it is that of its program
 pub first_frame : FirstFrame

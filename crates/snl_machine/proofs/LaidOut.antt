@@ -1,23 +1,18 @@
 -- Every world of a program is laid out as the program says.
-use Rattle.std.proofs.Common.{◌≡◌, ◌∙◌, ◌+◌, ◌<◌, refl, sym, ap, arith, ℕ, zero, suc, List, [], ◌∷◌, Option, None, Some, map, length, slice_get}
+use Rattle.std.proofs.Common.{◌≡◌, ◌∙◌, ◌+◌, ◌<◌, refl, sym, ap, arith, ℕ, zero, suc, List, [], ◌∷◌, map, length}
 use Rattle.std.specs.Prelude.{slice_index_or}
 use Rattle.std.proofs.lemmas.List.{length-map}
 use Rattle.snl_syntax.specs.Programs.{StateSetTree}
-use Rattle.snl_links.specs.Links.{Link}
-use Rattle.snl_load.specs.Initials.{held_among, held_sets}
-use Rattle.snl_load.specs.Places.{place_after, channels, flags_in, placed_sets, for_each_set, tie_of, ties_from}
-use Rattle.snl_machine.specs.Frames.{buffer_words, words_buffered}
+use Rattle.snl_load.specs.Initials.{held_sets}
+use Rattle.snl_load.specs.Places.{for_each_set}
 use Rattle.snl_machine.specs.Layout.{WorldsAreLaidOut}
-use Rattle.snl_machine.specs.Ranges.{counts}
-use Rattle.snl_meaning.specs.declared.names.Placed.{Placed}
-use Rattle.snl_meaning.specs.declared.ties.Tied.{Tied}
 use Rattle.snl_meaning.specs.Frames.{Frame}
 use Rattle.snl_meaning.specs.Laws.{words_of}
 use Rattle.snl_meaning.specs.World.{SetMemory, no_copy}
-use Rattle.snl_resolve.specs.Variables.{Held, variables_of}
+use Rattle.snl_resolve.specs.Variables.{variables_of}
 
 -- as many as there are state sets
-sets-many : {A : Type 0} (f : ℕ → A) (k : ℕ) (gs : List StateSetTree) → length (for_each_set f k gs) ≡ length gs
+pub sets-many : {A : Type 0} (f : ℕ → A) (k : ℕ) (gs : List StateSetTree) → length (for_each_set f k gs) ≡ length gs
 sets-many f k [] = refl
 sets-many f k (g ∷ gs) = ap suc (sets-many f (k + 1) gs)
 
@@ -33,21 +28,9 @@ set-at f k [] i d less = absurd (omega (arith, less))
 set-at f k (g ∷ gs) zero d less = ap f (let e : k ≡ k + 0 = omega arith in e)
 set-at f k (g ∷ gs) (suc i) d less = set-at f (k + 1) gs i d (omega (arith, less)) ∙ ap f (let e : k + 1 + i ≡ k + suc i = omega arith in e)
 
--- buffers have a word for each element of each link, where each link's variable stands in a copy
-buffers-are : (names : List (List ℕ)) (flags : List ℕ) (copies : List (List Placed)) (sets : List (List Held)) (ks : List Link) (at : ℕ) →
-    ((i : ℕ) (l : Link) (t : Tied) → slice_get ks i ≡ Some l → slice_get (ties_from names flags copies at ks) i ≡ Some t →
-    (v : Held) × (held_among sets l.variable.offset ≡ Some v)) →
-    words_buffered sets ks ≡ counts ks
-buffers-are names flags copies sets [] at held = refl
-buffers-are names flags copies sets (l ∷ ks) at held =
-    let b = held 0 l (tie_of names flags copies at l) refl refl in
-    let own : buffer_words sets l ≡ l.count = ap (λ (o : Option Held). elim o [ None ↦ 0 | Some v ↦ l.count ]) b.1 in
-    let rest = buffers-are names flags copies sets ks (place_after at l.count) (λ i k t is at_t. held (suc i) k t is at_t) in
-    ap (λ (n : ℕ). n + words_buffered sets ks) own ∙ ap (λ (n : ℕ). l.count + n) rest
-
 -- the law
 pub worlds_are_laid_out : WorldsAreLaidOut
-worlds_are_laid_out p ls w held world =
+worlds_are_laid_out p ls w world =
     let sets = held_sets p 0 p.state_sets in
     let frame = world.frame_is in
     let look = λ (c : SetMemory). length c.words in
@@ -59,8 +42,7 @@ worlds_are_laid_out p ls w held world =
       words = λ set less.
           sym (map-at look w.copies set no_copy) ∙ ap (λ (ns : List ℕ). slice_index_or ns set 0) all ∙ map-at words_of sets set []
           ∙ ap words_of (set-at (variables_of p) 0 p.state_sets set [] less ∙ ap (variables_of p) (let e : 0 + set ≡ set = omega arith in e));
-      buffers = ap (λ (f : Frame). f.buffers) frame
-          ∙ buffers-are (channels ls) (flags_in p) (placed_sets p 0 p.state_sets) sets ls 0 (λ i l t is at. let b = held i l t is at in (b.0, b.1));
+      buffers = ap (λ (f : Frame). f.buffers) frame;
       ties = ap (λ (f : Frame). f.ties) frame;
       homes = ap (λ (f : Frame). f.homes) frame;
     }

@@ -1,4 +1,3 @@
-pub mod AsLoaded
 pub mod Turning
 pub mod Parts
 pub mod Steady
@@ -15,8 +14,15 @@ pub mod Lines
 pub mod Apart
 pub mod States
 pub mod Worlds
+pub mod Targets
+pub mod Alike
+pub mod Unreached
+pub mod Reached
 pub mod Tasks
 pub mod Cells
 pub mod Buffers
 pub mod Refreshed
 pub mod LaidOut
+pub mod Footprint
+pub mod AsLoaded
+pub mod Numbered

@@ -5,19 +5,21 @@ use Rattle.snl_syntax.specs.Programs.{ProgramTree}
 use Rattle.snl_links.specs.Links.{Link}
 use Rattle.snl_code.specs.Heres.{here_in}
 use Rattle.snl_load.specs.Meaning.{program_meaning}
-use Rattle.snl_machine.specs.Worlds.{last_state, StatesExist}
+use Rattle.snl_machine.specs.Worlds.{last_state}
 use Rattle.snl_machine.proofs.Filling.{received-same}
 use Rattle.snl_machine.proofs.Steady.{IsSteady}
 use Rattle.snl_machine.proofs.Whole.{line-keeps}
 use Rattle.snl_meaning.specs.declared.ties.Tied.{Tied}
-use Rattle.snl_meaning.specs.Keeping.{IsKept, world_after}
+use Rattle.snl_meaning.specs.Keeping.{IsKept, PiecesKeep, world_after}
 use Rattle.snl_meaning.specs.Links.{home_of}
+use Rattle.snl_meaning.specs.Names.{Here}
 use Rattle.snl_meaning.specs.World.{SetMemory, World, no_copy, copy_of}
 use Rattle.snl_meaning.proofs.Keeping.{pieces-keep}
 use Rattle.snl_meaning.proofs.Ticks.{Any, any-may}
 use Rattle.snl_schedule.specs.declared.events.Event.{Event}
 use Rattle.snl_schedule.specs.declared.events.Event.TheVariants.{Up, Down, Val, Tick, Other}
 use Rattle.snl_schedule.specs.Event.{applied, line_of}
+use Rattle.snl_schedule.specs.Instant.{Program}
 use Rattle.snl_schedule.specs.Refresh.{is_marked, with_mark, copied_to, refreshed_link, refreshed_from}
 
 -- what holds of each element, by its number, holds after another one is put in
@@ -28,18 +30,19 @@ set-each P (y ∷ ys) zero x d new old (suc j) = old (suc j)
 set-each P (y ∷ ys) (suc i) x d new old zero = old 0
 set-each P (y ∷ ys) (suc i) x d new old (suc j) = set-each (λ n z. P (suc n) z) ys i x d new (λ n. old (suc n)) j
 
-module _ (p : ProgramTree) where
-  -- a copy is in one of the states of its state set
-  abbrev Exists : ℕ → SetMemory → Type 0
-  Exists set c = c.state ≤ last_state p set
+-- What holds of the state that each state set is in, by the state set's number.
+module _ (Is : (set state : ℕ) → Type 0) where
+  -- so it is with all state sets
+  abbrev pub AllAre : World → Type 0
+  AllAre w = (set : ℕ) → Is set (copy_of set w).state
 
   -- what holds before a change holds after it
-  abbrev Stays : World → World → Type 0
-  Stays w u = StatesExist p w → StatesExist p u
+  abbrev pub Stays : World → World → Type 0
+  Stays w u = AllAre w → AllAre u
 
   -- another copy
-  copy-stays : (set : ℕ) (c : SetMemory) (w : World) → (Exists set (copy_of set w) → Exists set c) → Stays w (record w { copies = slice_set w.copies set c })
-  copy-stays set c w new h = set-each Exists w.copies set c no_copy (new (h set)) h
+  pub copy-stays : (set : ℕ) (c : SetMemory) (w : World) → (Is set (copy_of set w).state → Is set c.state) → Stays w (record w { copies = slice_set w.copies set c })
+  copy-stays set c w new h = set-each (λ n d. Is n d.state) w.copies set c no_copy (new (h set)) h
 
   -- each change of a piece
   states-kept : (set : ℕ) → IsKept set Any Stays
@@ -59,6 +62,10 @@ module _ (p : ProgramTree) where
     spends = λ left w is h. h;
   }
 
+  -- conditions and blocks
+  pub pieces-stay : (h : Here) → PiecesKeep h Stays
+  pieces-stay h = pieces-keep h Any Stays (any-may h) (states-kept h.set)
+
   -- the refresh of a link
   link-stays : (set number : ℕ) (t : Tied) (w : World) → Stays w (refreshed_link set number t w)
   link-stays set number t w = by (is_marked set number w) (home_of set number w)
@@ -69,18 +76,33 @@ module _ (p : ProgramTree) where
       by false home h = h
 
   -- of links
-  links-stay : (set number : ℕ) (ts : List Tied) (w : World) → Stays w (refreshed_from set number ts w)
+  pub links-stay : (set number : ℕ) (ts : List Tied) (w : World) → Stays w (refreshed_from set number ts w)
   links-stay set number [] w h = h
   links-stay set number (t ∷ ts) w h = links-stay set (number + 1) ts (refreshed_link set number t w) (link-stays set number t w h)
 
+  -- an event
+  pub event-stays : (q : Program) (event : Event) (w : World) → Stays w (applied q event w)
+  event-stays q (Up channel) w h = h
+  event-stays q (Down channel) w h = h
+  event-stays q (Val channel values) w h =
+      let u = record w { valued = _ } in
+      subst (λ (cs : List SetMemory). AllAre (record w { copies = cs })) (sym (received-same channel values.items 0 q.links u).0) h
+  event-stays q Tick w h = h
+  event-stays q Other w h = h
+
+module _ (p : ProgramTree) where
+  -- it is no later one than the last of its state set
+  abbrev Exists : ℕ → ℕ → Type 0
+  Exists set state = state ≤ last_state p set
+
   -- each change of a run
-  states-steady : IsSteady p Stays Stays
+  states-steady : IsSteady p (Stays Exists) (Stays Exists)
   states-steady = record {
     nothing = λ w h. h;
     both = λ u v w a b h. b (a h);
-    pieces = λ set. pieces-keep (here_in p set) Any Stays (any-may (here_in p set)) (states-kept set);
-    refreshes = λ set w. links-stay set 0 w.ties w;
-    enters = λ set state within is_timed w. copy-stays set _ w (λ h. within);
+    pieces = λ set. pieces-stay Exists (here_in p set);
+    refreshes = λ set w. links-stay Exists set 0 w.ties w;
+    enters = λ set state within is_timed w. copy-stays Exists set _ w (λ h. within);
     opens = λ w h. h;
     wakes = λ w h. h;
     phase = λ x w h. h;
@@ -90,21 +112,11 @@ module _ (p : ProgramTree) where
     after = λ u v w a b h. b (a h);
   }
 
-  module _ (ls : List Link) (waits : Bool) where
-    -- an event
-    event-stays : (event : Event) (w : World) → Stays w (applied (program_meaning p ls waits) event w)
-    event-stays (Up channel) w h = h
-    event-stays (Down channel) w h = h
-    event-stays (Val channel values) w h =
-        let q = program_meaning p ls waits in
-        let u = record w { valued = _ } in
-        subst (λ (cs : List SetMemory). StatesExist p (record w { copies = cs })) (sym (received-same channel values.items 0 q.links u).0) h
-    event-stays Tick w h = h
-    event-stays Other w h = h
-
-    -- a line
-    pub states-stay : (budget ms : ℕ) (event : Event) (w : World) → Stays w (world_after (line_of (program_meaning p ls waits) budget ms event w))
-    states-stay budget ms event w = line-keeps p ls waits Stays Stays states-steady (λ n u h. h) (λ t u h. h) event (event-stays event) budget ms w
+  -- a line
+  pub states-stay : (ls : List Link) (waits : Bool) (budget ms : ℕ) (event : Event) (w : World) →
+      Stays Exists w (world_after (line_of (program_meaning p ls waits) budget ms event w))
+  states-stay ls waits budget ms event w =
+      line-keeps p ls waits (Stays Exists) (Stays Exists) states-steady (λ n u h. h) (λ t u h. h) event (event-stays Exists (program_meaning p ls waits) event) budget ms w
 
 -- each state set begins in its first state
 pub states-begin : (p : ProgramTree) (cs : List SetMemory) → ((i : ℕ) → (slice_index_or cs i no_copy).state ≡ 0) → (i : ℕ) → (slice_index_or cs i no_copy).state ≤ last_state p i

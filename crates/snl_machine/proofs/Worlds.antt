@@ -23,7 +23,7 @@ use Rattle.snl_schedule.specs.Event.{line_by, line_of}
 -- ---- the first world
 
 -- copies are in their first states
-copies-first : (sets : List (List Held)) (i : ℕ) → (slice_index_or (map first_copy sets) i no_copy).state ≡ 0
+pub copies-first : (sets : List (List Held)) (i : ℕ) → (slice_index_or (map first_copy sets) i no_copy).state ≡ 0
 copies-first [] i = refl
 copies-first (vs ∷ sets) zero = refl
 copies-first (vs ∷ sets) (suc i) = copies-first sets i

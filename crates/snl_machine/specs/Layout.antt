@@ -5,7 +5,7 @@ use Rattle.snl_syntax.specs.Programs.{ProgramTree}
 use Rattle.snl_links.specs.Links.{Link}
 use Rattle.snl_load.specs.Meaning.{program_meaning}
 use Rattle.snl_load.specs.Places.{placed_in, placed_sets, ties_in, homes_in}
-use Rattle.snl_machine.specs.Ranges.{IsSized, IsTied, AreHeld, counts}
+use Rattle.snl_machine.specs.Ranges.{IsSized, IsTied, counts}
 use Rattle.snl_machine.specs.Worlds.{IsWorldOf}
 use Rattle.snl_meaning.specs.declared.instrs.Variable.{Variable}
 use Rattle.snl_meaning.specs.declared.names.Placed.{Placed}
@@ -56,7 +56,7 @@ pub record IsLaidOut (p : ProgramTree) (ls : List Link) (w : World) : Type 0 whe
 
 -- So is every world of the program.
 abbrev pub WorldsAreLaidOut : Type 0
-WorldsAreLaidOut = (p : ProgramTree) (ls : List Link) (w : World) → AreHeld p ls → IsWorldOf p ls w → IsLaidOut p ls w
+WorldsAreLaidOut = (p : ProgramTree) (ls : List Link) (w : World) → IsWorldOf p ls w → IsLaidOut p ls w
 
 -- ---- variables
 

@@ -8,4 +8,6 @@ pub mod Ranges
 pub mod Frames
 pub mod Wakes
 pub mod Worlds
+pub mod Reached
 pub mod Layout
+pub mod Footprint

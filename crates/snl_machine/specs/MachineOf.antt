@@ -1,9 +1,11 @@
 -- What a machine holds: what it runs, and the world that its run has come to.
-use Rattle.std.specs.Prelude.{◌≡◌, ℕ, Bool, List, [], map}
+use Rattle.std.specs.Prelude.{◌≡◌, ◌+◌, ℕ, Bool, List, [], map}
 use Rattle.snl_syntax.specs.Programs.{ProgramTree}
 use Rattle.snl_links.specs.Links.{Link, links}
 use Rattle.snl_machine.specs.Worlds.{IsWorldOf}
 use Rattle.snl_meaning.specs.World.{World}
+use Rattle.snl_vm.specs.Footprint.{store_words}
+use Rattle.snl_vm.specs.Stack.{room_of}
 use Rattle.snl_vm.specs.Views.{world_of}
 use Rattle.snl_code.specs.declared.code.Code.{Code}
 use Rattle.snl_schedule.specs.declared.plans.Plan.{Plan}
@@ -33,16 +35,21 @@ task_of p ls waits = record { program = program_meaning p ls waits; channels = c
 abbrev pub world_held : Machine → World
 world_held m = world_of m.store
 
--- What no event changes of a machine: its plan, its code, the names of its channels, its budget.
+-- How many words it holds: those of its store, and the room of its operands.
+abbrev pub words_held : Machine → ℕ
+words_held m = store_words m.store + room_of m.operands
+
+-- What no event changes of a machine: its plan, its code, the names of its channels, its budget, and how many words it holds.
 pub record Fixed : Type 0 where
   pub plan : Plan
   pub code : Code
   pub channels : List (List ℕ)
   pub budget : ℕ
+  pub words : ℕ
 
 -- That of a machine.
 abbrev pub fixed_of : Machine → Fixed
-fixed_of m = record { plan = m.plan; code = m.code; channels = names_in m.names; budget = m.budget }
+fixed_of m = record { plan = m.plan; code = m.code; channels = names_in m.names; budget = m.budget; words = words_held m }
 
 -- A link but for the name of its channel, which macros may change.
 abbrev pub unnamed : Link → Link

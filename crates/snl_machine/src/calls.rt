@@ -1,6 +1,6 @@
 //! The events that a machine takes, and what it tells.
 
-ghost use Rattle.std.specs.Prelude.{◌≡◌, ◌-◌, ◌^◌, ◌<◌, ℕ, Bool, List, OnErr};
+ghost use Rattle.std.specs.Prelude.{◌≡◌, ◌↔◌, ◌-◌, ◌^◌, ◌<◌, ℕ, Bool, List, Some, IsTrue, OnErr};
 ghost use Rattle.snl_syntax.specs.Programs.{ProgramTree};
 ghost use Rattle.snl_links.specs.Links.{Link};
 ghost use Rattle.snl_load.specs.Meaning.{program_meaning};
@@ -8,7 +8,7 @@ ghost use Rattle.snl_schedule.specs.Event.{HasInstant, line_of};
 ghost use Rattle.snl_output.specs.Devices.{counted, stopped_by_sink};
 ghost use Rattle.snl_output.specs.Does.{Does};
 ghost use Rattle.snl_machine.specs.Lookup.{channel_of, fits_of};
-ghost use Rattle.snl_machine.specs.MachineOf.{IsMachineOf, StaysMachineOf, fixed_of, task_held, world_held};
+ghost use Rattle.snl_machine.specs.MachineOf.{IsMachineOf, StaysMachineOf, fixed_of, task_held, words_held, world_held};
 
 use crate::machine::Machine;
 use snl_load::channel_number;
@@ -25,11 +25,31 @@ impl Machine {
         channel_number(&self.names, name)
     }
 
+    /// Whether a channel of this name has this number.
+    #[inline(always)]
+    pub fn is_channel(&self, number: usize, name: &[u8]) -> bool
+        ensures { IsTrue result ↔ (channel_of self.now name.now ≡ Some number) }
+    {
+        match self.names.as_slice().get(number) {
+            Some(named) => named.as_slice() == name,
+            None => false,
+        }
+    }
+
     /// The time of the last event, in milliseconds, or of the wake at which the program ended; 0 before the first event.
     pub fn time(&self) -> u64
         ensures { result ≡ (world_held self.now).time }
     {
         self.store.time
+    }
+
+    /// How many words the machine holds: the elements of variables, buffers and queues, and what it knows of state sets, links,
+    /// event flags and channels, with the room of the operands. They were made by `load`, no event changes their number, and
+    /// no call after `load` takes more. Code, names and the tables of links are not among them.
+    pub fn footprint(&self) -> u64
+        ensures { result ≡ words_held self.now }
+    {
+        self.footprint
     }
 
     /// Whether an event speaks of a channel of this machine, and each value that a link of that channel keeps fits the
@@ -72,7 +92,7 @@ impl Machine {
         take(
             ms,
             event,
-            program,
+            &program,
             self.budget,
             &mut self.store,
             &mut self.operands,

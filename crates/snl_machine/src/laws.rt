@@ -1,9 +1,11 @@
 //! Laws of machines. Each function is its contract, and does nothing.
 
 ghost use Rattle.snl_machine.specs.Laws.{RunsItsProgram, TurnsStayApart};
+ghost use Rattle.snl_machine.specs.Footprint.{MachinesHoldTheFootprint};
 ghost use Rattle.snl_machine.specs.Frames.{FrameStays};
 ghost use Rattle.snl_machine.specs.Layout.{BuffersAreCells, FeedsFillBuffers, RefreshesFillVariables, StoresWrite, VariablesAreCells, WorldsAreLaidOut};
 ghost use Rattle.snl_machine.specs.Ranges.{EventsFit, FirstHolds, PiecesFit, ReachedHold};
+ghost use Rattle.snl_machine.specs.Reached.{FirstAreReached, InstantsAreTheSame, ReachedAreClosed, ReachedStay, UnreachedDoNothing};
 ghost use Rattle.snl_machine.specs.Rounds.{RoundsEnd, TicksWithinBudget};
 ghost use Rattle.snl_machine.specs.Wakes.{TimeIsTheEvents, TimeIsTheEventsAlone, TimeNeverFalls, WakesEnd, WakesLieLater, WakesStayLater};
 ghost use Rattle.snl_machine.specs.Worlds.{WorldsAreTheProgram, WorldsStay};
@@ -11,6 +13,11 @@ ghost use Rattle.snl_machine.specs.Worlds.{WorldsAreTheProgram, WorldsStay};
 /// A machine of a program runs what the program means on its tree.
 pub fn runs_its_program()
     ensures { RunsItsProgram }
+{}
+
+/// Each machine of a program holds the words that the program needs, before its first event and after any other.
+pub fn machines_hold_the_footprint()
+    ensures { MachinesHoldTheFootprint }
 {}
 
 /// A turn of a state set changes nothing of the copy of another one, also where it comes to a fault.
@@ -132,4 +139,30 @@ pub fn refreshes_fill_variables()
 /// element of each link.
 pub fn worlds_are_laid_out()
     ensures { WorldsAreLaidOut }
+{}
+
+/// The table of all states that are reached is closed: it has the first state of each state set, and with each state those
+/// that it names as targets.
+pub fn reached_are_closed()
+    ensures { ReachedAreClosed }
+{}
+
+/// Before the first event the state of each state set is in each closed table.
+pub fn first_are_reached()
+    ensures { FirstAreReached }
+{}
+
+/// A line leads to no state that is not in a closed table, also where the run comes to a fault.
+pub fn reached_stay()
+    ensures { ReachedStay }
+{}
+
+/// A line does the same without the pieces of all states that are not in a closed table: the same lines, ending and world.
+pub fn unreached_do_nothing()
+    ensures { UnreachedDoNothing }
+{}
+
+/// Nor does it have its instants at other times without them.
+pub fn instants_are_the_same()
+    ensures { InstantsAreTheSame }
 {}

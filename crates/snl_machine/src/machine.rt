@@ -1,6 +1,7 @@
 //! `Machine`: a program with its code and its store.
 
-ghost use Rattle.std.specs.Prelude.{◌≡◌};
+ghost use Rattle.std.specs.Prelude.{◌≡◌, ◌+◌};
+ghost use Rattle.snl_vm.specs.Footprint.{store_words};
 ghost use Rattle.snl_vm.specs.Stack.{room_of};
 ghost use Rattle.snl_schedule.specs.Loaded.{CanRunLoaded};
 ghost use Rattle.snl_machine.specs.Holding.{loaded_by};
@@ -23,6 +24,9 @@ pub struct Machine {
     pub(crate) budget: u32,
     pub(crate) store: Store,
     pub(crate) operands: Operands,
+    /// How many words the store and the operands take.
+    pub(crate) footprint: u64,
+    ghost words: { footprint ≡ store_words store + room_of operands },
     ghost room: { room_of operands ≡ code.depth },
     ghost runs: { CanRunLoaded (loaded_by plan code) } by { loaded-fact (loaded_by plan code) },
 }

@@ -111,6 +111,13 @@ pub added-all : (whole before held : List ℕ) (old new : Option (List ℕ)) →
 added-all whole before held old new so_far =
     subst (λ (t : List ℕ). IsHeldBack (before ++ t) held old new) (sym (so_far.is ∙ append-nil so_far.done)) so_far.adds
 
+-- the last part was added, or cut short
+pub added-last : {A E : Type 0} (r : Result A E) (whole part before held held' : List ℕ) (old mid new : Option (List ℕ)) → IsAdded whole (part ++ []) before held old mid →
+    Adds r (held ++ part) held' mid new → Adds r (before ++ whole) held' old new
+added-last (Ok done) whole part before held held' old mid new so_far more =
+    added-all whole before held' old new (added-more whole part [] before held held' old mid new so_far more)
+added-last (Err fault) whole part before held held' old mid new so_far cut = added-cut whole part [] before held old mid new so_far cut
+
 -- a whole text was added to a line that was empty, and was handed on
 pub added-sent : {A E : Type 0} (r : Result A E) (whole held : List ℕ) (old mid new : Option (List ℕ)) → IsAdded whole [] [] held old mid → Wrote r held mid new → Wrote r whole old new
 added-sent r whole held old mid new so_far did = held-sent r whole held old mid new (added-all whole [] held old mid so_far) did

@@ -24,6 +24,10 @@ start_line ms program = joined (decimal ms ∷ codes " start " ∷ program ∷ n
 abbrev pub go_line : ℕ → List ℕ → List ℕ → List ℕ → List ℕ
 go_line ms set from to = joined (decimal ms ∷ codes " go " ∷ set ∷ space ∷ from ∷ space ∷ to ∷ newline ∷ [])
 
+-- ` go STATE-SET FROM TO`, what follows the time there
+abbrev pub go_rest : List ℕ → List ℕ → List ℕ → List ℕ
+go_rest set from to = joined (codes " go " ∷ set ∷ space ∷ from ∷ space ∷ to ∷ newline ∷ [])
+
 -- `MS exit PROGRAM`
 abbrev pub exit_line : ℕ → List ℕ → List ℕ
 exit_line ms program = joined (decimal ms ∷ codes " exit " ∷ program ∷ newline ∷ [])

@@ -9,6 +9,8 @@ mod sinks;
 
 pub use faults::{Stop, fault_text};
 pub use held::Line;
-pub use lines::{add_number, add_put, write_exit, write_fault, write_go, write_start};
+pub use lines::{
+    add_number, add_put, go_text, write_exit, write_fault, write_go, write_start, write_timed,
+};
 pub use printing::write_print;
 pub use sinks::{Sink, SinkFault};

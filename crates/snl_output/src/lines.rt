@@ -1,14 +1,15 @@
 //! The lines that a run writes.
 
-ghost use Rattle.std.specs.Prelude.{◌≡◌, ◌-◌, ◌^◌, ◌<◌, ◌∷◌, ◌++◌, [], is_err, map};
+ghost use Rattle.std.specs.Prelude.{◌≡◌, ◌-◌, ◌^◌, ◌<◌, ◌∷◌, ◌++◌, [], decimal, is_err, map, IfOk};
 ghost use Rattle.std.specs.Fmt.{signed_decimal};
 ghost use Rattle.snl_output.specs.Devices.{counted, Wrote};
 ghost use Rattle.snl_output.specs.Held.{Adds};
-ghost use Rattle.snl_output.specs.Lines.{joined, start_line, go_line, exit_line, fault_line, put_front, space};
+ghost use Rattle.snl_output.specs.Lines.{joined, start_line, go_line, go_rest, exit_line, fault_line, put_front, space};
 
 use crate::held::Line;
 use crate::sinks::{Sink, SinkFault};
 use itoa::Buffer;
+use std::alloc::{AllocError, Global};
 
 /// `MS start PROGRAM`
 pub fn write_start<'t, S: Sink>(sink: &mut S, ms: u64, program: &'t [u8]) -> Result<(), SinkFault>
@@ -39,6 +40,32 @@ pub fn write_go<'t, S: Sink>(
     let mut time = Buffer::new();
     let ms = time.format(ms).as_bytes();
     write_pieces(sink, &[ms, b" go ", state_set, b" ", from, b" ", to, b"\n"])
+}
+
+/// What follows the time in the line of a transition, with its newline: ` go STATE-SET FROM TO`. It can be made before the
+/// time is known. The only error is that memory ends.
+pub fn go_text<'t>(
+    alloc: Global,
+    state_set: &'t [u8],
+    from: &'t [u8],
+    to: &'t [u8],
+) -> Result<Vec<u8>, AllocError>
+    ensures { IfOk result (λ text. text.items ≡ go_rest state_set.now from.now to.now) }
+{
+    join(alloc, &[b" go ", state_set, b" ", from, b" ", to, b"\n"])
+}
+
+/// `MS` and the text that follows it, to the end of the line.
+pub fn write_timed<S: Sink>(sink: &mut S, ms: u64, rest: &[u8]) -> Result<(), SinkFault>
+    requires { S.failures sink.old < 2 ^ 64 - 1 }
+    ensures told { Wrote result (decimal ms ++ rest.now) (S.told sink.old) (S.told sink.new) }
+    ensures failures { S.failures sink.new ≡ counted (is_err result) (S.failures sink.old) }
+{
+    let mut time = Buffer::new();
+    let mut whole = Line::new();
+    whole.add(time.format(ms).as_bytes(), sink)?;
+    whole.add(rest, sink)?;
+    whole.send(sink)
 }
 
 /// `MS exit PROGRAM`
@@ -90,7 +117,9 @@ pub fn add_put<'t, S: Sink>(
     ensures failures { S.failures sink.new ≡ counted (is_err result) (S.failures sink.old) }
 {
     let mut time = Buffer::new();
-    line.add_all(&[time.format(ms).as_bytes(), b" put ", channel], sink)
+    line.add(time.format(ms).as_bytes(), sink)?;
+    line.add(b" put ", sink)?;
+    line.add(channel, sink)
 }
 
 /// A blank and a number.
@@ -102,7 +131,8 @@ pub fn add_number<S: Sink>(line: &mut Line, number: i64, sink: &mut S) -> Result
     ensures failures { S.failures sink.new ≡ counted (is_err result) (S.failures sink.old) }
 {
     let mut digits = Buffer::new();
-    line.add_all(&[b" ", digits.format(number).as_bytes()], sink)
+    line.add(b" ", sink)?;
+    line.add(digits.format(number).as_bytes(), sink)
 }
 
 /// Hands a line to a sink that is made of pieces.
@@ -115,4 +145,15 @@ fn write_pieces<S: Sink>(sink: &mut S, pieces: &[&[u8]]) -> Result<(), SinkFault
     let mut line = Line::new();
     line.add_all(pieces, sink)?;
     line.send(sink)
+}
+
+/// Texts, one behind the other. The only error is that memory ends.
+fn join(alloc: Global, pieces: &[&[u8]]) -> Result<Vec<u8>, AllocError>
+    ensures { IfOk result (λ text. text.items ≡ joined (map (λ piece. piece.now) pieces.now)) }
+{
+    let mut text = Vec::new(alloc);
+    for piece in pieces {
+        text.extend_from_slice(piece)?;
+    }
+    Ok(text)
 }

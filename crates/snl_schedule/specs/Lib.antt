@@ -5,5 +5,6 @@ pub mod Instant
 pub mod Loaded
 pub mod Arrivals
 pub mod Linked
+pub mod Goes
 pub mod Event
 pub mod Laws

@@ -44,10 +44,10 @@ fn receive_at(
     channel: usize,
     values: &[i64],
     number: usize,
-    program: ProgramContext,
+    program: &ProgramContext,
     store: &mut Store,
 )
-    ensures { world_of store.new ≡ received_at (program_of (loaded program.entry)) channel
+    ensures { world_of store.new ≡ received_at (program_of (loaded program.now)) channel
         values.now
         number (world_of store.old) }
 {
@@ -61,10 +61,10 @@ fn receive_over(
     row: &[usize],
     channel: usize,
     values: &[i64],
-    program: ProgramContext,
+    program: &ProgramContext,
     store: &mut Store,
 )
-    ensures { world_of store.new ≡ received_over (program_of (loaded program.entry)) channel
+    ensures { world_of store.new ≡ received_over (program_of (loaded program.now)) channel
         values.now row.now (world_of store.old) }
 {
     for number in row {
@@ -73,9 +73,9 @@ fn receive_over(
 }
 
 /// Puts values into the buffer of each link of a channel, marks the monitored ones and sets their event flags.
-fn receive_all(channel: usize, values: &[i64], program: ProgramContext, store: &mut Store)
+fn receive_all(channel: usize, values: &[i64], program: &ProgramContext, store: &mut Store)
     ensures { world_of store.new ≡ spec.received_from channel values.now 0
-        (program_of (loaded program.entry)).links (world_of store.old) }
+        (program_of (loaded program.now)).links (world_of store.old) }
 {
     receive_over(
         program.plan.links_of(channel),
@@ -87,8 +87,8 @@ fn receive_all(channel: usize, values: &[i64], program: ProgramContext, store: &
 }
 
 /// A channel has values: each of its links takes as many as it has elements. Missing ones leave what was there.
-pub fn receive(channel: usize, values: &[i64], program: ProgramContext, store: &mut Store)
-    ensures { world_of store.new ≡ spec.received (program_of (loaded program.entry)) channel
+pub fn receive(channel: usize, values: &[i64], program: &ProgramContext, store: &mut Store)
+    ensures { world_of store.new ≡ spec.received (program_of (loaded program.now)) channel
         values.now (world_of store.old) }
 {
     if let Some(valued) = store.valued.get_mut(channel) {

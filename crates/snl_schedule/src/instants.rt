@@ -39,16 +39,16 @@ fn is_exit(turned: Turned) -> bool
 
 /// A turn of each state set, up to one that leads out of the program; answers whether one had a transition.
 fn round<S: Sink>(
-    program: ProgramContext,
+    program: &ProgramContext,
     store: &mut Store,
     operands: &mut Operands,
     sink: &mut S,
 ) -> Result<Turned, Stop>
     requires failures { S.failures sink.old < 2 ^ 64 - 1 }
-    requires room { room_of operands.old ≡ program.room }
-    requires runs { CanRunLoaded (loaded program) }
+    requires room { room_of operands.old ≡ program.now.room }
+    requires runs { CanRunLoaded (loaded program.now) }
     ensures does { Does (λ t. t) result (world_of store.new) (S.told sink.old) (S.told sink.new)
-        (spec.round_of (program_of (loaded program.entry)) (world_of store.old)) }
+        (spec.round_of (program_of (loaded program.now)) (world_of store.old)) }
     ensures frame { frame_of (world_of store.new) ≡ frame_of (world_of store.old) }
     ensures room { room_of operands.new ≡ room_of operands.old }
     ensures failures { S.failures sink.new
@@ -68,7 +68,7 @@ fn round<S: Sink>(
             context,
             room: program.room,
         };
-        match turn(state_set, store, operands, sink) {
+        match turn(&state_set, store, operands, sink) {
             Ok(turned) => before = later(before, turned),
             Err(stop) => return Err(stop),
         }
@@ -99,16 +99,16 @@ fn close<S: Sink>(name: &[u8], store: &mut Store, sink: &mut S) -> Result<(), St
 
 /// The end of a program by a transition that leads out of it: its exit block, and its line.
 fn exit<S: Sink>(
-    program: ProgramContext,
+    program: &ProgramContext,
     store: &mut Store,
     operands: &mut Operands,
     sink: &mut S,
 ) -> Result<(), Stop>
     requires failures { S.failures sink.old < 2 ^ 64 - 1 }
-    requires room { room_of operands.old ≡ program.room }
-    requires runs { CanRunLoaded (loaded program) }
+    requires room { room_of operands.old ≡ program.now.room }
+    requires runs { CanRunLoaded (loaded program.now) }
     ensures does { Does (λ x. x) result (world_of store.new) (S.told sink.old) (S.told sink.new)
-        (spec.exited (program_of (loaded program.entry)) (world_of store.old)) }
+        (spec.exited (program_of (loaded program.now)) (world_of store.old)) }
     ensures frame { frame_of (world_of store.new) ≡ frame_of (world_of store.old) }
     ensures room { room_of operands.new ≡ room_of operands.old }
     ensures failures { S.failures sink.new
@@ -123,16 +123,16 @@ fn exit<S: Sink>(
 /// Rounds until one has no transition, or leads out of the program. Each transition spends a tick, so there are no more
 /// rounds than ticks are left, and one.
 pub fn rounds<S: Sink>(
-    program: ProgramContext,
+    program: &ProgramContext,
     store: &mut Store,
     operands: &mut Operands,
     sink: &mut S,
 ) -> Result<(), Stop>
     requires failures { S.failures sink.old < 2 ^ 64 - 1 }
-    requires room { room_of operands.old ≡ program.room }
-    requires runs { CanRunLoaded (loaded program) }
+    requires room { room_of operands.old ≡ program.now.room }
+    requires runs { CanRunLoaded (loaded program.now) }
     ensures does { Does (λ x. x) result (world_of store.new) (S.told sink.old) (S.told sink.new)
-        (spec.all_rounds (program_of (loaded program.entry)) (world_of store.old)) }
+        (spec.all_rounds (program_of (loaded program.now)) (world_of store.old)) }
     ensures frame { frame_of (world_of store.new) ≡ frame_of (world_of store.old) }
     ensures room { room_of operands.new ≡ room_of operands.old }
     ensures failures { S.failures sink.new
@@ -154,17 +154,17 @@ pub fn rounds<S: Sink>(
 
 /// What happens at one time, with so many ticks: the start, if it is due, and rounds until one has no transition.
 pub fn instant<S: Sink>(
-    program: ProgramContext,
+    program: &ProgramContext,
     budget: u32,
     store: &mut Store,
     operands: &mut Operands,
     sink: &mut S,
 ) -> Result<(), Stop>
     requires failures { S.failures sink.old < 2 ^ 64 - 1 }
-    requires room { room_of operands.old ≡ program.room }
-    requires runs { CanRunLoaded (loaded program) }
+    requires room { room_of operands.old ≡ program.now.room }
+    requires runs { CanRunLoaded (loaded program.now) }
     ensures does { Does (λ x. x) result (world_of store.new) (S.told sink.old) (S.told sink.new)
-        (spec.instant_of (program_of (loaded program.entry)) budget (world_of store.old)) }
+        (spec.instant_of (program_of (loaded program.now)) budget (world_of store.old)) }
     ensures frame { frame_of (world_of store.new) ≡ frame_of (world_of store.old) }
     ensures room { room_of operands.new ≡ room_of operands.old }
     ensures failures { S.failures sink.new

@@ -3,6 +3,7 @@
 
 mod arrivals;
 mod events;
+mod goes;
 mod instants;
 pub mod laws;
 mod plans;

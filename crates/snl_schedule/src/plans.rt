@@ -1,10 +1,13 @@
 //! What a machine keeps of the state sets of a program, beside their code.
 
-ghost use Rattle.std.specs.Prelude.{◌≡◌, map, IfOk};
+ghost use Rattle.std.specs.Prelude.{◌≡◌, map, IfOk, IfSome};
+ghost use Rattle.snl_output.specs.Lines.{go_rest};
 ghost use Rattle.snl_vm.specs.Rows.{numbers_of};
+ghost use Rattle.snl_schedule.specs.Goes.{kept_of, kept_views, name_at, target_name};
 ghost use Rattle.snl_schedule.specs.Linked.{HasRows};
 ghost use Rattle.std.proofs.Props.{props};
 
+use crate::goes::Goes;
 use snl_meaning::{Instr, Tied};
 use snl_vm::{PieceContext, Rows};
 use std::alloc::{AllocError, Global};
@@ -29,6 +32,8 @@ pub struct ClausePlan {
     pub target: Destination,
     /// The line of the word `when`, from 1.
     pub line: usize,
+    /// Its place among the clauses of its state. It says only where to look for the line of its transition.
+    pub number: usize,
 }
 
 /// What a state does also where a transition leads from it to itself (SNL Reference, "State Option").
@@ -71,6 +76,28 @@ pub struct SetPlan {
     pub name: Vec<u8>,
     /// In the order of the source; the first is the initial one.
     pub states: Vec<StatePlan>,
+    /// The lines of its transitions.
+    goes: Goes,
+    ghost kept: { kept_views goes ≡ kept_of name.items states.items } by { Prim.hlevel props },
+}
+
+impl SetPlan {
+    /// The plan of a state set of this name and these states. The only error is that memory ends.
+    pub fn new(alloc: Global, name: Vec<u8>, states: Vec<StatePlan>) -> Result<SetPlan, AllocError>
+        ensures { IfOk result (λ plan. (plan.name ≡ name) × (plan.states ≡ states)) }
+    {
+        let goes = Goes::new(alloc, name.as_slice(), states.as_slice())?;
+        Ok(SetPlan { name, states, goes })
+    }
+
+    /// What follows the time in the line of a transition from a state, by the clause of a number: None where that clause does
+    /// not lead there, or a name in the line is long.
+    pub fn go(&self, from: usize, clause: usize, target: Destination) -> Option<&[u8]>
+        ensures { IfSome result (λ text. text.now ≡ go_rest self.now.name.items
+            (name_at self.now.states.items from) (target_name self.now.states.items target)) }
+    {
+        self.goes.text(from, clause, target)
+    }
 }
 
 /// What a turn of a state set runs on.
@@ -84,6 +111,7 @@ pub struct SetContext<'t> {
     pub context: PieceContext<'t>,
     /// How many operands there is room for.
     pub room: usize,
+    ghost named: { context.name.now ≡ plan.now.name.items } by { Prim.hlevel props },
 }
 
 /// A program.

@@ -87,8 +87,8 @@ pub fn are_ready(waits: bool, links: &[Tied], store: &mut Store) -> bool
 }
 
 /// Every state set takes in the values that came.
-fn refresh_sets(program: ProgramContext, store: &mut Store)
-    ensures { world_of store.new ≡ spec.refreshed_sets (program_of (loaded program.entry)).sets
+fn refresh_sets(program: &ProgramContext, store: &mut Store)
+    ensures { world_of store.new ≡ spec.refreshed_sets (program_of (loaded program.now)).sets
         (world_of store.old) }
 {
     for (set, _) in program.plan.sets.iter().enumerate() {
@@ -98,35 +98,29 @@ fn refresh_sets(program: ProgramContext, store: &mut Store)
 
 /// A state set enters its first state.
 fn begin<S: Sink>(
-    state_set: SetContext,
+    state_set: &SetContext,
     store: &mut Store,
     operands: &mut Operands,
     sink: &mut S,
 ) -> Result<(), Stop>
     requires failures { S.failures sink.old < 2 ^ 64 - 1 }
-    requires room { room_of operands.old ≡ state_set.room }
-    requires runs { CanRunSet (context_on state_set) state_set.code.now
-        state_set.plan.now.states.items }
+    requires room { room_of operands.old ≡ state_set.now.room }
+    requires runs { CanRunSet (context_on state_set.now) state_set.now.code.now
+        state_set.now.plan.now.states.items }
     ensures does { Does (λ x. x) result (world_of store.new) (S.told sink.old) (S.told sink.new)
-        (spec.begun (set_on state_set.entry) (world_of store.old)) }
+        (spec.begun (set_on state_set.now) (world_of store.old)) }
     ensures frame { frame_of (world_of store.new) ≡ frame_of (world_of store.old) }
     ensures room { room_of operands.new ≡ room_of operands.old }
     ensures failures { S.failures sink.new
         ≡ counted (stopped_by_sink result) (S.failures sink.old) }
 {
-    let SetContext {
-        plan,
-        code,
-        context,
-        room,
-    } = state_set;
-    enter(store, context.set, 0, true);
-    match plan.states.get(0) {
+    enter(store, state_set.context.set, 0, true);
+    match state_set.plan.states.get(0) {
         Some(state) => do_told(
             state.blocks.entry,
-            code,
-            context,
-            room,
+            state_set.code,
+            &state_set.context,
+            state_set.room,
             store,
             operands,
             sink,
@@ -137,16 +131,16 @@ fn begin<S: Sink>(
 
 /// Every state set enters its first state, up to one whose entry block stops the run.
 fn begin_sets<S: Sink>(
-    program: ProgramContext,
+    program: &ProgramContext,
     store: &mut Store,
     operands: &mut Operands,
     sink: &mut S,
 ) -> Result<(), Stop>
     requires failures { S.failures sink.old < 2 ^ 64 - 1 }
-    requires room { room_of operands.old ≡ program.room }
-    requires runs { CanRunLoaded (loaded program) }
+    requires room { room_of operands.old ≡ program.now.room }
+    requires runs { CanRunLoaded (loaded program.now) }
     ensures does { Does (λ x. x) result (world_of store.new) (S.told sink.old) (S.told sink.new)
-        (spec.begun_sets (program_of (loaded program.entry)).sets (world_of store.old)) }
+        (spec.begun_sets (program_of (loaded program.now)).sets (world_of store.old)) }
     ensures frame { frame_of (world_of store.new) ≡ frame_of (world_of store.old) }
     ensures room { room_of operands.new ≡ room_of operands.old }
     ensures failures { S.failures sink.new
@@ -164,7 +158,7 @@ fn begin_sets<S: Sink>(
             context,
             room: program.room,
         };
-        match begin(state_set, store, operands, sink) {
+        match begin(&state_set, store, operands, sink) {
             Ok(()) => {}
             Err(stop) => return Err(stop),
         }
@@ -173,8 +167,8 @@ fn begin_sets<S: Sink>(
 }
 
 /// The name of the first state set; empty where there is none.
-fn first_name(program: ProgramContext<'_>) -> &[u8]
-    ensures { result.now ≡ spec.first_name (program_of (loaded program.entry)).sets }
+fn first_name<'t>(program: &ProgramContext<'t>) -> &'t [u8]
+    ensures { result.now ≡ spec.first_name (program_of (loaded program.now)).sets }
 {
     match program.plan.sets.get(0) {
         Some(set) => set.name.as_slice(),
@@ -183,8 +177,8 @@ fn first_name(program: ProgramContext<'_>) -> &[u8]
 }
 
 /// What the program's own blocks run with: the copy and the name of the first state set.
-fn own_context(program: ProgramContext<'_>) -> PieceContext<'_>
-    ensures { context_for result program.entry.room ≡ own_context (loaded program.entry) }
+fn own_context<'t>(program: &ProgramContext<'t>) -> PieceContext<'t>
+    ensures { context_for result program.now.room ≡ own_context (loaded program.now) }
 {
     PieceContext {
         set: 0,
@@ -195,16 +189,16 @@ fn own_context(program: ProgramContext<'_>) -> PieceContext<'_>
 
 /// The program's entry block.
 fn enter_program<S: Sink>(
-    program: ProgramContext,
+    program: &ProgramContext,
     store: &mut Store,
     operands: &mut Operands,
     sink: &mut S,
 ) -> Result<(), Stop>
     requires failures { S.failures sink.old < 2 ^ 64 - 1 }
-    requires room { room_of operands.old ≡ program.room }
-    requires runs { CanRunLoaded (loaded program) }
+    requires room { room_of operands.old ≡ program.now.room }
+    requires runs { CanRunLoaded (loaded program.now) }
     ensures does { Does (λ x. x) result (world_of store.new) (S.told sink.old) (S.told sink.new)
-        (spec.owned (program_of (loaded program.entry)) (program_of (loaded program.entry)).entry
+        (spec.owned (program_of (loaded program.now)) (program_of (loaded program.now)).entry
         (world_of store.old)) }
     ensures frame { frame_of (world_of store.new) ≡ frame_of (world_of store.old) }
     ensures room { room_of operands.new ≡ room_of operands.old }
@@ -216,23 +210,23 @@ fn enter_program<S: Sink>(
         code,
         room,
         ..
-    } = program;
+    } = *program;
     let own = own_context(program);
-    do_told(plan.blocks.entry, code, own, room, store, operands, sink)
+    do_told(plan.blocks.entry, code, &own, room, store, operands, sink)
 }
 
 /// The program's exit block.
 pub fn leave_program<S: Sink>(
-    program: ProgramContext,
+    program: &ProgramContext,
     store: &mut Store,
     operands: &mut Operands,
     sink: &mut S,
 ) -> Result<(), Stop>
     requires failures { S.failures sink.old < 2 ^ 64 - 1 }
-    requires room { room_of operands.old ≡ program.room }
-    requires runs { CanRunLoaded (loaded program) }
+    requires room { room_of operands.old ≡ program.now.room }
+    requires runs { CanRunLoaded (loaded program.now) }
     ensures does { Does (λ x. x) result (world_of store.new) (S.told sink.old) (S.told sink.new)
-        (spec.owned (program_of (loaded program.entry)) (program_of (loaded program.entry)).exit
+        (spec.owned (program_of (loaded program.now)) (program_of (loaded program.now)).exit
         (world_of store.old)) }
     ensures frame { frame_of (world_of store.new) ≡ frame_of (world_of store.old) }
     ensures room { room_of operands.new ≡ room_of operands.old }
@@ -244,23 +238,23 @@ pub fn leave_program<S: Sink>(
         code,
         room,
         ..
-    } = program;
+    } = *program;
     let own = own_context(program);
-    do_told(plan.blocks.exit, code, own, room, store, operands, sink)
+    do_told(plan.blocks.exit, code, &own, room, store, operands, sink)
 }
 
 /// What follows the line of the start: refresh, the program's entry block, first states.
 fn open<S: Sink>(
-    program: ProgramContext,
+    program: &ProgramContext,
     store: &mut Store,
     operands: &mut Operands,
     sink: &mut S,
 ) -> Result<(), Stop>
     requires failures { S.failures sink.old < 2 ^ 64 - 1 }
-    requires room { room_of operands.old ≡ program.room }
-    requires runs { CanRunLoaded (loaded program) }
+    requires room { room_of operands.old ≡ program.now.room }
+    requires runs { CanRunLoaded (loaded program.now) }
     ensures does { Does (λ x. x) result (world_of store.new) (S.told sink.old) (S.told sink.new)
-        (spec.opened (program_of (loaded program.entry)) (world_of store.old)) }
+        (spec.opened (program_of (loaded program.now)) (world_of store.old)) }
     ensures frame { frame_of (world_of store.new) ≡ frame_of (world_of store.old) }
     ensures room { room_of operands.new ≡ room_of operands.old }
     ensures failures { S.failures sink.new
@@ -275,16 +269,16 @@ fn open<S: Sink>(
 
 /// The start. A block may stop it.
 pub fn start<S: Sink>(
-    program: ProgramContext,
+    program: &ProgramContext,
     store: &mut Store,
     operands: &mut Operands,
     sink: &mut S,
 ) -> Result<(), Stop>
     requires failures { S.failures sink.old < 2 ^ 64 - 1 }
-    requires room { room_of operands.old ≡ program.room }
-    requires runs { CanRunLoaded (loaded program) }
+    requires room { room_of operands.old ≡ program.now.room }
+    requires runs { CanRunLoaded (loaded program.now) }
     ensures does { Does (λ x. x) result (world_of store.new) (S.told sink.old) (S.told sink.new)
-        (spec.started (program_of (loaded program.entry)) (world_of store.old)) }
+        (spec.started (program_of (loaded program.now)) (world_of store.old)) }
     ensures frame { frame_of (world_of store.new) ≡ frame_of (world_of store.old) }
     ensures room { room_of operands.new ≡ room_of operands.old }
     ensures failures { S.failures sink.new

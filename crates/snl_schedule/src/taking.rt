@@ -18,8 +18,8 @@ use snl_output::{Sink, Stop};
 use snl_vm::{Operands, Store};
 
 /// Lets an event change the channels and the buffers of their links.
-fn apply(event: &Event, program: ProgramContext, store: &mut Store)
-    ensures { world_of store.new ≡ spec.applied (program_of (loaded program.entry)) event.now
+fn apply(event: &Event, program: &ProgramContext, store: &mut Store)
+    ensures { world_of store.new ≡ spec.applied (program_of (loaded program.now)) event.now
         (world_of store.old) }
 {
     match event {
@@ -58,20 +58,20 @@ fn next_wake(ms: u64, store: &Store) -> Option<u64>
 /// milliseconds until that time.
 fn wake_up<S: Sink>(
     ms: u64,
-    program: ProgramContext,
+    program: &ProgramContext,
     budget: u32,
     store: &mut Store,
     operands: &mut Operands,
     sink: &mut S,
 ) -> Result<(), Stop>
     requires failures { S.failures sink.old < 2 ^ 64 - 1 }
-    requires room { room_of operands.old ≡ program.room }
-    requires runs { CanRunLoaded (loaded program) }
+    requires room { room_of operands.old ≡ program.now.room }
+    requires runs { CanRunLoaded (loaded program.now) }
     ensures does { Does (λ x. x) result (world_of store.new) (S.told sink.old) (S.told sink.new)
-        (spec.all_wakes (program_of (loaded program.entry)) budget ms (world_of store.old)) }
+        (spec.all_wakes (program_of (loaded program.now)) budget ms (world_of store.old)) }
     ensures frame { frame_of (world_of store.new)
         ≡ at_time (world_of store.new).time (frame_of (world_of store.old)) }
-    ensures time { OnErr result (spec.HasInstant (program_of (loaded program.entry)) budget ms
+    ensures time { OnErr result (spec.HasInstant (program_of (loaded program.now)) budget ms
         (world_of store.old) (world_of store.new).time) }
     ensures room { room_of operands.new ≡ room_of operands.old }
     ensures failures { S.failures sink.new
@@ -96,17 +96,17 @@ fn wake_up<S: Sink>(
 fn happen<S: Sink>(
     ms: u64,
     event: &Event,
-    program: ProgramContext,
+    program: &ProgramContext,
     budget: u32,
     store: &mut Store,
     operands: &mut Operands,
     sink: &mut S,
 ) -> Result<(), Stop>
     requires failures { S.failures sink.old < 2 ^ 64 - 1 }
-    requires room { room_of operands.old ≡ program.room }
-    requires runs { CanRunLoaded (loaded program) }
+    requires room { room_of operands.old ≡ program.now.room }
+    requires runs { CanRunLoaded (loaded program.now) }
     ensures does { Does (λ x. x) result (world_of store.new) (S.told sink.old) (S.told sink.new)
-        (spec.event_by (program_of (loaded program.entry)) budget ms event.now
+        (spec.event_by (program_of (loaded program.now)) budget ms event.now
         (world_of store.old).phase (world_of store.old)) }
     ensures frame { frame_of (world_of store.new)
         ≡ at_time (world_of store.new).time (frame_of (world_of store.old)) }
@@ -128,21 +128,21 @@ fn happen<S: Sink>(
 fn pass<S: Sink>(
     ms: u64,
     event: &Event,
-    program: ProgramContext,
+    program: &ProgramContext,
     budget: u32,
     store: &mut Store,
     operands: &mut Operands,
     sink: &mut S,
 ) -> Result<(), Stop>
     requires failures { S.failures sink.old < 2 ^ 64 - 1 }
-    requires room { room_of operands.old ≡ program.room }
-    requires runs { CanRunLoaded (loaded program) }
+    requires room { room_of operands.old ≡ program.now.room }
+    requires runs { CanRunLoaded (loaded program.now) }
     ensures does { Does (λ x. x) result (world_of store.new) (S.told sink.old) (S.told sink.new)
-        (spec.passed (program_of (loaded program.entry)) budget ms event.now
+        (spec.passed (program_of (loaded program.now)) budget ms event.now
         (world_of store.old)) }
     ensures frame { frame_of (world_of store.new)
         ≡ at_time (world_of store.new).time (frame_of (world_of store.old)) }
-    ensures time { OnErr result (spec.HasInstant (program_of (loaded program.entry)) budget ms
+    ensures time { OnErr result (spec.HasInstant (program_of (loaded program.now)) budget ms
         (world_of store.old) (world_of store.new).time) }
     ensures room { room_of operands.new ≡ room_of operands.old }
     ensures failures { S.failures sink.new
@@ -162,22 +162,22 @@ fn pass<S: Sink>(
 pub fn take<S: Sink>(
     ms: u64,
     event: &Event,
-    program: ProgramContext,
+    program: &ProgramContext,
     budget: u32,
     store: &mut Store,
     operands: &mut Operands,
     sink: &mut S,
 ) -> Result<Live, Stop>
     requires failures { S.failures sink.old < 2 ^ 64 - 1 }
-    requires room { room_of operands.old ≡ program.room }
-    requires runs { CanRunLoaded (loaded program) }
+    requires room { room_of operands.old ≡ program.now.room }
+    requires runs { CanRunLoaded (loaded program.now) }
     ensures does { Does (λ live. live) result (world_of store.new) (S.told sink.old)
-        (S.told sink.new) (spec.line_of (program_of (loaded program.entry)) budget ms event.now
+        (S.told sink.new) (spec.line_of (program_of (loaded program.now)) budget ms event.now
         (world_of store.old)) }
     ensures ended { OnErr result ((world_of store.new).phase ≡ Live.Ended) }
     ensures frame { frame_of (world_of store.new)
         ≡ at_time (world_of store.new).time (frame_of (world_of store.old)) }
-    ensures time { OnErr result (spec.HasInstant (program_of (loaded program.entry)) budget ms
+    ensures time { OnErr result (spec.HasInstant (program_of (loaded program.now)) budget ms
         (world_of store.old) (world_of store.new).time) }
     ensures room { room_of operands.new ≡ room_of operands.old }
     ensures failures { S.failures sink.new

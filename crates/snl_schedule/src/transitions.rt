@@ -1,17 +1,20 @@
 //! A transition of a state set: the line, the states that it leads from and to with their blocks, and the way out.
 
-ghost use Rattle.std.specs.Prelude.{◌≡◌, ◌-◌, ◌^◌, ◌<◌};
+ghost use Rattle.std.specs.Prelude.{◌≡◌, ◌-◌, ◌^◌, ◌<◌, is_err};
 ghost use Rattle.snl_meaning.specs.Frames.{frame_of};
-ghost use Rattle.snl_output.specs.Devices.{counted, stopped_by_sink};
+ghost use Rattle.snl_output.specs.Devices.{counted, stopped_by_sink, Wrote};
 ghost use Rattle.snl_output.specs.Does.{Does};
+ghost use Rattle.snl_output.specs.Lines.{go_line};
 ghost use Rattle.snl_vm.specs.Stack.{room_of};
 ghost use Rattle.snl_vm.specs.Views.{world_of};
+ghost use Rattle.snl_schedule.specs.Goes.{name_at, target_name};
 ghost use Rattle.snl_schedule.specs.Plans.{CanDo, CanRun, CanRunSet, block_at, clause_of, context_for, context_on, set_on};
 ghost use Rattle.snl_schedule.specs.Turn as spec;
 
-use crate::plans::{ClausePlan, Destination, SetContext};
+use crate::goes::{name_at, target_name};
+use crate::plans::{ClausePlan, Destination, SetContext, SetPlan};
 use snl_meaning::Instr;
-use snl_output::{Sink, Stop, write_go};
+use snl_output::{Sink, SinkFault, Stop, write_go, write_timed};
 use snl_vm::{Operands, PieceContext, Store, perform, spend};
 
 /// How a turn, or a round of turns, came to its end.
@@ -29,7 +32,7 @@ pub enum Turned {
 pub fn do_block<S: Sink>(
     start: Option<usize>,
     code: &[Instr],
-    context: PieceContext,
+    context: &PieceContext,
     room: usize,
     store: &mut Store,
     operands: &mut Operands,
@@ -37,9 +40,9 @@ pub fn do_block<S: Sink>(
 ) -> Result<(), Stop>
     requires failures { S.failures sink.old < 2 ^ 64 - 1 }
     requires room { room_of operands.old ≡ room }
-    requires runs { CanDo (context_for context room) code.now start }
+    requires runs { CanDo (context_for context.now room) code.now start }
     ensures does { Does (λ x. x) result (world_of store.new) (S.told sink.old) (S.told sink.new)
-        (block_at (context_for context.entry room) code.now start (world_of store.old)) }
+        (block_at (context_for context.now room) code.now start (world_of store.old)) }
     ensures frame { frame_of (world_of store.new) ≡ frame_of (world_of store.old) }
     ensures room { room_of operands.new ≡ room_of operands.old }
     ensures failures { S.failures sink.new
@@ -58,16 +61,16 @@ pub fn do_block<S: Sink>(
 fn do_if_due<S: Sink>(
     is_due: bool,
     start: Option<usize>,
-    state_set: SetContext,
+    state_set: &SetContext,
     store: &mut Store,
     operands: &mut Operands,
     sink: &mut S,
 ) -> Result<(), Stop>
     requires failures { S.failures sink.old < 2 ^ 64 - 1 }
-    requires room { room_of operands.old ≡ state_set.room }
-    requires runs { CanDo (context_on state_set) state_set.code.now start }
+    requires room { room_of operands.old ≡ state_set.now.room }
+    requires runs { CanDo (context_on state_set.now) state_set.now.code.now start }
     ensures does { Does (λ x. x) result (world_of store.new) (S.told sink.old) (S.told sink.new)
-        (spec.if_due is_due (block_at (context_on state_set.entry) state_set.entry.code.now start)
+        (spec.if_due is_due (block_at (context_on state_set.now) state_set.now.code.now start)
         (world_of store.old)) }
     ensures frame { frame_of (world_of store.new) ≡ frame_of (world_of store.old) }
     ensures room { room_of operands.new ≡ room_of operands.old }
@@ -75,13 +78,8 @@ fn do_if_due<S: Sink>(
         ≡ counted (stopped_by_sink result) (S.failures sink.old) }
 {
     if is_due {
-        let SetContext {
-            code,
-            context,
-            room,
-            ..
-        } = state_set;
-        do_block(start, code, context, room, store, operands, sink)
+        let SetContext { code, room, .. } = *state_set;
+        do_block(start, code, &state_set.context, room, store, operands, sink)
     } else {
         Ok(())
     }
@@ -108,31 +106,21 @@ pub fn enter(store: &mut Store, set: usize, state: usize, is_timed: bool)
     }
 }
 
-/// The name of a state by its number; empty where there is none.
-fn state_name(state_set: SetContext<'_>, state: usize) -> &[u8]
-    ensures { result.now ≡ spec.state_name (set_on state_set.entry) state }
-{
-    match state_set.plan.states.get(state) {
-        Some(state) => state.name.as_slice(),
-        None => &[],
-    }
-}
-
 /// The state that is left: its exit block, where that is due.
 fn leave<S: Sink>(
     from: usize,
     to: usize,
-    state_set: SetContext,
+    state_set: &SetContext,
     store: &mut Store,
     operands: &mut Operands,
     sink: &mut S,
 ) -> Result<(), Stop>
     requires failures { S.failures sink.old < 2 ^ 64 - 1 }
-    requires room { room_of operands.old ≡ state_set.room }
-    requires runs { CanRunSet (context_on state_set) state_set.code.now
-        state_set.plan.now.states.items }
+    requires room { room_of operands.old ≡ state_set.now.room }
+    requires runs { CanRunSet (context_on state_set.now) state_set.now.code.now
+        state_set.now.plan.now.states.items }
     ensures does { Does (λ x. x) result (world_of store.new) (S.told sink.old) (S.told sink.new)
-        (spec.left_for (set_on state_set.entry) from to (world_of store.old)) }
+        (spec.left_for (set_on state_set.now) from to (world_of store.old)) }
     ensures frame { frame_of (world_of store.new) ≡ frame_of (world_of store.old) }
     ensures room { room_of operands.new ≡ room_of operands.old }
     ensures failures { S.failures sink.new
@@ -151,17 +139,17 @@ fn leave<S: Sink>(
 fn come<S: Sink>(
     from: usize,
     to: usize,
-    state_set: SetContext,
+    state_set: &SetContext,
     store: &mut Store,
     operands: &mut Operands,
     sink: &mut S,
 ) -> Result<(), Stop>
     requires failures { S.failures sink.old < 2 ^ 64 - 1 }
-    requires room { room_of operands.old ≡ state_set.room }
-    requires runs { CanRunSet (context_on state_set) state_set.code.now
-        state_set.plan.now.states.items }
+    requires room { room_of operands.old ≡ state_set.now.room }
+    requires runs { CanRunSet (context_on state_set.now) state_set.now.code.now
+        state_set.now.plan.now.states.items }
     ensures does { Does (λ x. x) result (world_of store.new) (S.told sink.old) (S.told sink.new)
-        (spec.come_to (set_on state_set.entry) from to (world_of store.old)) }
+        (spec.come_to (set_on state_set.now) from to (world_of store.old)) }
     ensures frame { frame_of (world_of store.new) ≡ frame_of (world_of store.old) }
     ensures room { room_of operands.new ≡ room_of operands.old }
     ensures failures { S.failures sink.new
@@ -185,17 +173,17 @@ fn come<S: Sink>(
 fn cross<S: Sink>(
     from: usize,
     to: usize,
-    state_set: SetContext,
+    state_set: &SetContext,
     store: &mut Store,
     operands: &mut Operands,
     sink: &mut S,
 ) -> Result<Turned, Stop>
     requires failures { S.failures sink.old < 2 ^ 64 - 1 }
-    requires room { room_of operands.old ≡ state_set.room }
-    requires runs { CanRunSet (context_on state_set) state_set.code.now
-        state_set.plan.now.states.items }
+    requires room { room_of operands.old ≡ state_set.now.room }
+    requires runs { CanRunSet (context_on state_set.now) state_set.now.code.now
+        state_set.now.plan.now.states.items }
     ensures does { Does (λ t. t) result (world_of store.new) (S.told sink.old) (S.told sink.new)
-        (spec.crossed (set_on state_set.entry) from to (world_of store.old)) }
+        (spec.crossed (set_on state_set.now) from to (world_of store.old)) }
     ensures frame { frame_of (world_of store.new) ≡ frame_of (world_of store.old) }
     ensures room { room_of operands.new ≡ room_of operands.old }
     ensures failures { S.failures sink.new
@@ -210,39 +198,60 @@ fn cross<S: Sink>(
     }
 }
 
-/// Writes the line of a transition, and goes on to the new state. One that leads out of the program enters none.
+/// Writes the line of a transition from a state. Where the clause of the number leads there, that line is ready but for its
+/// time.
+fn tell<S: Sink>(
+    plan: &SetPlan,
+    target: Destination,
+    clause: usize,
+    from: usize,
+    ms: u64,
+    sink: &mut S,
+) -> Result<(), SinkFault>
+    requires { S.failures sink.old < 2 ^ 64 - 1 }
+    ensures told { Wrote result (go_line ms plan.now.name.items
+        (name_at plan.now.states.items from) (target_name plan.now.states.items target))
+        (S.told sink.old) (S.told sink.new) }
+    ensures failures { S.failures sink.new ≡ counted (is_err result) (S.failures sink.old) }
+{
+    match plan.go(from, clause, target) {
+        Some(text) => write_timed(sink, ms, text),
+        None => {
+            let states = plan.states.as_slice();
+            let to = target_name(states, target);
+            write_go(sink, ms, plan.name.as_slice(), name_at(states, from), to)
+        }
+    }
+}
+
+/// Writes the line of a transition, and goes on to the new state. One that leads out of the program enters none. The number of
+/// its clause says where the line is looked for.
 fn arrive<S: Sink>(
     target: Destination,
+    clause: usize,
     from: usize,
-    state_set: SetContext,
+    state_set: &SetContext,
     store: &mut Store,
     operands: &mut Operands,
     sink: &mut S,
 ) -> Result<Turned, Stop>
     requires failures { S.failures sink.old < 2 ^ 64 - 1 }
-    requires room { room_of operands.old ≡ state_set.room }
-    requires runs { CanRunSet (context_on state_set) state_set.code.now
-        state_set.plan.now.states.items }
+    requires room { room_of operands.old ≡ state_set.now.room }
+    requires runs { CanRunSet (context_on state_set.now) state_set.now.code.now
+        state_set.now.plan.now.states.items }
     ensures does { Does (λ t. t) result (world_of store.new) (S.told sink.old) (S.told sink.new)
-        (spec.arrived (set_on state_set.entry) from target (world_of store.old)) }
+        (spec.arrived (set_on state_set.now) from target (world_of store.old)) }
     ensures frame { frame_of (world_of store.new) ≡ frame_of (world_of store.old) }
     ensures room { room_of operands.new ≡ room_of operands.old }
     ensures failures { S.failures sink.new
         ≡ counted (stopped_by_sink result) (S.failures sink.old) }
 {
-    let set = state_set.context.name;
-    let old = state_name(state_set, from);
-    match target {
-        Destination::State(state) => {
-            match write_go(sink, store.time, set, old, state_name(state_set, state)) {
-                Ok(()) => cross(from, state, state_set, store, operands, sink),
-                Err(_) => Err(Stop::Sink),
-            }
-        }
-        Destination::Exit => match write_go(sink, store.time, set, old, b"exit") {
-            Ok(()) => Ok(Turned::Exited),
-            Err(_) => Err(Stop::Sink),
+    match tell(state_set.plan, target, clause, from, store.time, sink) {
+        Ok(()) => match target {
+            Destination::State(state) => cross(from, state, state_set, store, operands, sink),
+            Destination::Exit => Ok(Turned::Exited),
         },
+        Err(_) => Err(Stop::Sink),
     }
 }
 
@@ -260,19 +269,19 @@ fn target_by(left: Option<usize>, target: Destination) -> Destination
 fn act<S: Sink>(
     clause: ClausePlan,
     from: usize,
-    state_set: SetContext,
+    state_set: &SetContext,
     store: &mut Store,
     operands: &mut Operands,
     sink: &mut S,
 ) -> Result<Turned, Stop>
     requires failures { S.failures sink.old < 2 ^ 64 - 1 }
-    requires room { room_of operands.old ≡ state_set.room }
-    requires clause { CanRun (context_on state_set) state_set.code.now clause }
-    requires runs { CanRunSet (context_on state_set) state_set.code.now
-        state_set.plan.now.states.items }
+    requires room { room_of operands.old ≡ state_set.now.room }
+    requires clause { CanRun (context_on state_set.now) state_set.now.code.now clause }
+    requires runs { CanRunSet (context_on state_set.now) state_set.now.code.now
+        state_set.now.plan.now.states.items }
     ensures does { Does (λ t. t) result (world_of store.new) (S.told sink.old) (S.told sink.new)
-        (spec.acted (set_on state_set.entry) from
-        (clause_of (context_on state_set.entry) state_set.entry.code.now clause)
+        (spec.acted (set_on state_set.now) from
+        (clause_of (context_on state_set.now) state_set.now.code.now clause)
         (world_of store.old)) }
     ensures frame { frame_of (world_of store.new) ≡ frame_of (world_of store.old) }
     ensures room { room_of operands.new ≡ room_of operands.old }
@@ -282,14 +291,22 @@ fn act<S: Sink>(
     match perform(
         state_set.code,
         clause.block,
-        state_set.context,
+        &state_set.context,
         store,
         operands,
         sink,
     ) {
         Ok(left) => {
             let target = target_by(left, clause.target);
-            arrive(target, from, state_set, store, operands, sink)
+            arrive(
+                target,
+                clause.number,
+                from,
+                state_set,
+                store,
+                operands,
+                sink,
+            )
         }
         Err(stop) => Err(stop),
     }
@@ -299,19 +316,19 @@ fn act<S: Sink>(
 pub fn transit<S: Sink>(
     clause: ClausePlan,
     from: usize,
-    state_set: SetContext,
+    state_set: &SetContext,
     store: &mut Store,
     operands: &mut Operands,
     sink: &mut S,
 ) -> Result<Turned, Stop>
     requires failures { S.failures sink.old < 2 ^ 64 - 1 }
-    requires room { room_of operands.old ≡ state_set.room }
-    requires clause { CanRun (context_on state_set) state_set.code.now clause }
-    requires runs { CanRunSet (context_on state_set) state_set.code.now
-        state_set.plan.now.states.items }
+    requires room { room_of operands.old ≡ state_set.now.room }
+    requires clause { CanRun (context_on state_set.now) state_set.now.code.now clause }
+    requires runs { CanRunSet (context_on state_set.now) state_set.now.code.now
+        state_set.now.plan.now.states.items }
     ensures does { Does (λ t. t) result (world_of store.new) (S.told sink.old) (S.told sink.new)
-        (spec.transition (set_on state_set.entry) from
-        (clause_of (context_on state_set.entry) state_set.entry.code.now clause)
+        (spec.transition (set_on state_set.now) from
+        (clause_of (context_on state_set.now) state_set.now.code.now clause)
         (world_of store.old)) }
     ensures frame { frame_of (world_of store.new) ≡ frame_of (world_of store.old) }
     ensures room { room_of operands.new ≡ room_of operands.old }

@@ -20,16 +20,16 @@ use snl_vm::{Operands, PieceContext, Store, evaluate};
 /// Whether a condition holds. A missing one does.
 fn holds<S: Sink>(
     condition: Option<usize>,
-    state_set: SetContext,
+    state_set: &SetContext,
     store: &mut Store,
     operands: &mut Operands,
     sink: &mut S,
 ) -> Result<bool, Stop>
     requires failures { S.failures sink.old < 2 ^ 64 - 1 }
-    requires room { room_of operands.old ≡ state_set.room }
-    requires runs { CanTest (context_on state_set) state_set.code.now condition }
+    requires room { room_of operands.old ≡ state_set.now.room }
+    requires runs { CanTest (context_on state_set.now) state_set.now.code.now condition }
     ensures does { Does (λ b. b) result (world_of store.new) (S.told sink.old) (S.told sink.new)
-        (held_at (context_on state_set.entry) state_set.entry.code.now condition
+        (held_at (context_on state_set.now) state_set.now.code.now condition
         (world_of store.old)) }
     ensures frame { frame_of (world_of store.new) ≡ frame_of (world_of store.old) }
     ensures room { room_of operands.new ≡ room_of operands.old }
@@ -41,7 +41,7 @@ fn holds<S: Sink>(
         Some(start) => match evaluate(
             state_set.code,
             start,
-            state_set.context,
+            &state_set.context,
             store,
             operands,
             sink,
@@ -55,18 +55,18 @@ fn holds<S: Sink>(
 /// The first clause whose condition holds. Those after it are not evaluated.
 fn first_true<S: Sink>(
     clauses: &[ClausePlan],
-    state_set: SetContext,
+    state_set: &SetContext,
     store: &mut Store,
     operands: &mut Operands,
     sink: &mut S,
 ) -> Result<Option<ClausePlan>, Stop>
     requires failures { S.failures sink.old < 2 ^ 64 - 1 }
-    requires room { room_of operands.old ≡ state_set.room }
-    requires runs { CanRunAll (context_on state_set) state_set.code.now clauses.now }
-    ensures runs { IfOk result (CanFire (context_on state_set.entry) state_set.entry.code.now) }
-    ensures does { Does (clause_by (context_on state_set.entry) state_set.entry.code.now) result
+    requires room { room_of operands.old ≡ state_set.now.room }
+    requires runs { CanRunAll (context_on state_set.now) state_set.now.code.now clauses.now }
+    ensures runs { IfOk result (CanFire (context_on state_set.now) state_set.now.code.now) }
+    ensures does { Does (clause_by (context_on state_set.now) state_set.now.code.now) result
         (world_of store.new) (S.told sink.old) (S.told sink.new) (spec.chosen
-        (map (clause_of (context_on state_set.entry) state_set.entry.code.now) clauses.now)
+        (map (clause_of (context_on state_set.now) state_set.now.code.now) clauses.now)
         (world_of store.old)) }
     ensures frame { frame_of (world_of store.new) ≡ frame_of (world_of store.old) }
     ensures room { room_of operands.new ≡ room_of operands.old }
@@ -87,19 +87,19 @@ fn first_true<S: Sink>(
 fn fire<S: Sink>(
     clause: Option<ClausePlan>,
     from: usize,
-    state_set: SetContext,
+    state_set: &SetContext,
     store: &mut Store,
     operands: &mut Operands,
     sink: &mut S,
 ) -> Result<Turned, Stop>
     requires failures { S.failures sink.old < 2 ^ 64 - 1 }
-    requires room { room_of operands.old ≡ state_set.room }
-    requires clause { CanFire (context_on state_set) state_set.code.now clause }
-    requires runs { CanRunSet (context_on state_set) state_set.code.now
-        state_set.plan.now.states.items }
+    requires room { room_of operands.old ≡ state_set.now.room }
+    requires clause { CanFire (context_on state_set.now) state_set.now.code.now clause }
+    requires runs { CanRunSet (context_on state_set.now) state_set.now.code.now
+        state_set.now.plan.now.states.items }
     ensures does { Does (λ t. t) result (world_of store.new) (S.told sink.old) (S.told sink.new)
-        (spec.fired (set_on state_set.entry) from
-        (clause_by (context_on state_set.entry) state_set.entry.code.now clause)
+        (spec.fired (set_on state_set.now) from
+        (clause_by (context_on state_set.now) state_set.now.code.now clause)
         (world_of store.old)) }
     ensures frame { frame_of (world_of store.new) ≡ frame_of (world_of store.old) }
     ensures room { room_of operands.new ≡ room_of operands.old }
@@ -113,12 +113,12 @@ fn fire<S: Sink>(
 }
 
 /// The clauses of a state by its number; none where there is no such state.
-fn clauses_of(state_set: SetContext<'_>, state: usize) -> &[ClausePlan]
-    requires runs { CanRunSet (context_on state_set) state_set.code.now
-        state_set.plan.now.states.items }
-    ensures means { map (clause_of (context_on state_set.entry) state_set.entry.code.now) result.now
-        ≡ (spec.state_in (set_on state_set.entry) state).clauses }
-    ensures runs { CanRunAll (context_on state_set.entry) state_set.entry.code.now result.now }
+fn clauses_of<'t>(state_set: &SetContext<'t>, state: usize) -> &'t [ClausePlan]
+    requires runs { CanRunSet (context_on state_set.now) state_set.now.code.now
+        state_set.now.plan.now.states.items }
+    ensures means { map (clause_of (context_on state_set.now) state_set.now.code.now) result.now
+        ≡ (spec.state_in (set_on state_set.now) state).clauses }
+    ensures runs { CanRunAll (context_on state_set.now) state_set.now.code.now result.now }
 {
     match state_set.plan.states.get(state) {
         Some(state) => state.clauses.as_slice(),
@@ -129,17 +129,17 @@ fn clauses_of(state_set: SetContext<'_>, state: usize) -> &[ClausePlan]
 /// The conditions of the state of a number, and the transition of the clause that fires.
 fn try_state<S: Sink>(
     from: usize,
-    state_set: SetContext,
+    state_set: &SetContext,
     store: &mut Store,
     operands: &mut Operands,
     sink: &mut S,
 ) -> Result<Turned, Stop>
     requires failures { S.failures sink.old < 2 ^ 64 - 1 }
-    requires room { room_of operands.old ≡ state_set.room }
-    requires runs { CanRunSet (context_on state_set) state_set.code.now
-        state_set.plan.now.states.items }
+    requires room { room_of operands.old ≡ state_set.now.room }
+    requires runs { CanRunSet (context_on state_set.now) state_set.now.code.now
+        state_set.now.plan.now.states.items }
     ensures does { Does (λ t. t) result (world_of store.new) (S.told sink.old) (S.told sink.new)
-        (spec.tried (set_on state_set.entry) from (world_of store.old)) }
+        (spec.tried (set_on state_set.now) from (world_of store.old)) }
     ensures frame { frame_of (world_of store.new) ≡ frame_of (world_of store.old) }
     ensures room { room_of operands.new ≡ room_of operands.old }
     ensures failures { S.failures sink.new
@@ -164,17 +164,17 @@ fn state_now(store: &Store, set: usize) -> usize
 
 /// One turn of a state set; answers which transition it had. A fault in it is told in a line.
 pub fn turn<S: Sink>(
-    state_set: SetContext,
+    state_set: &SetContext,
     store: &mut Store,
     operands: &mut Operands,
     sink: &mut S,
 ) -> Result<Turned, Stop>
     requires failures { S.failures sink.old < 2 ^ 64 - 1 }
-    requires room { room_of operands.old ≡ state_set.room }
-    requires runs { CanRunSet (context_on state_set) state_set.code.now
-        state_set.plan.now.states.items }
+    requires room { room_of operands.old ≡ state_set.now.room }
+    requires runs { CanRunSet (context_on state_set.now) state_set.now.code.now
+        state_set.now.plan.now.states.items }
     ensures does { Does (λ t. t) result (world_of store.new) (S.told sink.old) (S.told sink.new)
-        (spec.turn_of (set_on state_set.entry) (world_of store.old)) }
+        (spec.turn_of (set_on state_set.now) (world_of store.old)) }
     ensures frame { frame_of (world_of store.new) ≡ frame_of (world_of store.old) }
     ensures room { room_of operands.new ≡ room_of operands.old }
     ensures failures { S.failures sink.new
@@ -199,7 +199,7 @@ pub fn turn<S: Sink>(
 pub fn do_told<S: Sink>(
     start: Option<usize>,
     code: &[Instr],
-    context: PieceContext,
+    context: &PieceContext,
     room: usize,
     store: &mut Store,
     operands: &mut Operands,
@@ -207,10 +207,10 @@ pub fn do_told<S: Sink>(
 ) -> Result<(), Stop>
     requires failures { S.failures sink.old < 2 ^ 64 - 1 }
     requires room { room_of operands.old ≡ room }
-    requires runs { CanDo (context_for context room) code.now start }
+    requires runs { CanDo (context_for context.now room) code.now start }
     ensures does { Does (λ x. x) result (world_of store.new) (S.told sink.old) (S.told sink.new)
-        (spec.told_fault context.entry.name.now
-        (block_at (context_for context.entry room) code.now start (world_of store.old))) }
+        (spec.told_fault context.now.name.now
+        (block_at (context_for context.now room) code.now start (world_of store.old))) }
     ensures frame { frame_of (world_of store.new) ≡ frame_of (world_of store.old) }
     ensures room { room_of operands.new ≡ room_of operands.old }
     ensures failures { S.failures sink.new

@@ -39,12 +39,12 @@ unfolding fields
 fields_blank b bs blank = rw (slice_split-cons_yes is_blank b bs blank) refl
 
 -- a part in front that is a field, up to a blank
-fields-at : (xs : List ℕ) (y : ℕ) (ys : List ℕ) → All (λ x. is_blank x ≡ false) xs → is_filled xs ≡ true → is_blank y ≡ true → fields (xs ++ y ∷ ys) ≡ xs ∷ fields ys
+pub fields-at : (xs : List ℕ) (y : ℕ) (ys : List ℕ) → All (λ x. is_blank x ≡ false) xs → is_filled xs ≡ true → is_blank y ≡ true → fields (xs ++ y ∷ ys) ≡ xs ∷ fields ys
 unfolding fields
 fields-at xs y ys none filled blank = rw (slice_split_at is_blank xs y ys none blank, filled) refl
 
 -- and up to the end
-fields-all : (xs : List ℕ) → All (λ x. is_blank x ≡ false) xs → is_filled xs ≡ true → fields xs ≡ xs ∷ []
+pub fields-all : (xs : List ℕ) → All (λ x. is_blank x ≡ false) xs → is_filled xs ≡ true → fields xs ≡ xs ∷ []
 unfolding fields
 fields-all xs none filled = rw (slice_split_none is_blank xs none, filled) refl
 

@@ -1,6 +1,7 @@
 pub mod FieldLaws
 pub mod LineLaws
 pub mod NumberLaws
+pub mod PlainLaws
 pub mod ReadLaws
 pub mod RunLaws
 pub mod ShortLaws

@@ -81,7 +81,7 @@ run-many count most text digits many =
     ∙ not-many most (take count text ++ front (drop count text)) (omega (arith, many, length-append (take count text) (front (drop count text))))
 
 -- few digits, and at least one, spell a number
-all-digits : (number most : ℕ) (field : List ℕ) → 0 < length field → length field ≤ most → list_all is_ascii_digit field ≡ true → number ≡ digits_value 10 field →
+pub all-digits : (number most : ℕ) (field : List ℕ) → 0 < length field → length field ≤ most → list_all is_ascii_digit field ≡ true → number ≡ digits_value 10 field →
     number_of most field ≡ Some number
 unfolding number_of
 all-digits number most field some few digits spelled =

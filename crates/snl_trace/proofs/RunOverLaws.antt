@@ -2,7 +2,7 @@
 use Rattle.std.proofs.Common.{◌≡◌, ℕ, ◌+◌, ◌<◌, List, [], ◌∷◌, ◌++◌, ◌≢◌, All, Option, None, Some, Result, Ok, Err, OnErr, length, get_or, eqb, cond, true, false, refl, sym, ap, ◌∙◌, subst, arith, append_assoc, append-nil, length-append}
 use Rattle.std.proofs.lemmas.Bool.{lt-ltb}
 use Rattle.std.proofs.lemmas.List.Elements.{All-get_or}
-use Rattle.std.specs.Option.{unwrap_or}
+use Rattle.std.specs.Option.{IfSome, unwrap_or}
 use Rattle.snl_schedule.specs.declared.events.Event.{Event}
 use Rattle.snl_meaning.specs.declared.live.Live.{Live}
 use Rattle.snl_meaning.specs.declared.live.Live.TheVariants as live
@@ -314,6 +314,13 @@ pub read-is : (m : Machine) (last : ℕ) (line : List ℕ) (read : Result (Optio
     read ≡ read_of (channel_of m) (fits_of m) last line → last ≡ (world_held m).time → (rules_of m).read (world_held m).time line ≡ read
 unfolding rules_by
 read-is m last line read is at = sym (is ∙ ap (λ t. read_of (channel_of m) (fits_of m) t line) at)
+
+-- the same of an event that may be known with its time
+pub known-is : (m : Machine) (line : List ℕ) (event : Event) (known : Option ℕ) →
+    IfSome known (λ ms. Ok (Some (ms, event)) ≡ read_of (channel_of m) (fits_of m) (world_held m).time line) →
+    IfSome known (λ ms. Ok (Some (ms, event)) ≡ (rules_of m).read (world_held m).time line)
+known-is m line event None read = tt
+known-is m line event (Some ms) read = sym (read-is m (world_held m).time line (Ok (Some (ms, event))) read refl)
 
 -- of some bytes the first were taken in
 pub record IsPartWay (rules : Rules) (bytes left : List ℕ) (from to : Place) : Type 0 where

@@ -11,7 +11,8 @@ use crate::trace_faults::TIME_LIMIT;
 
 /// The number that the digits spell with which a text begins, and how many these are; None where they are more than
 /// `most`.
-fn digits(text: &[u8], most: usize) -> Option<(u64, usize)>
+#[inline(always)]
+pub fn digits(text: &[u8], most: usize) -> Option<(u64, usize)>
     requires { most ≤ 19 }
     ensures some { IfSome result (λ n. IsRun n.0 n.1 most text.now) }
     ensures none { IfNone result (number_of most (front text.now) ≡ None) }
@@ -95,14 +96,16 @@ fn negative(text: &[u8]) -> Option<(i64, &[u8])>
 }
 
 /// The value of a size that is not below zero.
-fn from_zero(size: u64) -> Option<i64>
+#[inline(always)]
+pub fn from_zero(size: u64) -> Option<i64>
     ensures { result ≡ spec.from_zero (Some size) }
 {
     i64::try_from(size).ok()
 }
 
 /// The value below zero of a size, which may be 2^63.
-fn below_zero(size: u64) -> Option<i64>
+#[inline(always)]
+pub fn below_zero(size: u64) -> Option<i64>
     ensures { result ≡ spec.below_zero (Some size) }
 {
     0i64.checked_sub_unsigned(size)

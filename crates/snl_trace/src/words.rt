@@ -163,7 +163,8 @@ fn all_values(rest: &[u8], values: &mut Values) -> Result<(), TraceFault>
 
 /// Adds a value, where there is room for it.
 #[tactic(auto, using(crate::proofs::ValueLaws::take_room, crate::proofs::ValueLaws::take_full))]
-fn keep(values: &mut Values, value: i64)
+#[inline(always)]
+pub fn keep(values: &mut Values, value: i64)
     ensures { values.new.items ≡ take 1024 (values.old.items ++ value ∷ []) }
 {
     if values.is_full() {

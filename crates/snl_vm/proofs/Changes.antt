@@ -26,3 +26,11 @@ overwritten_more words to from n count buffers z less is =
     ap (λ t. overwritten (slice_set words (to + n) z) t (words_at buffers (from + (n + 1)) (count - (n + 1)))) later
     ∙ ap (λ f. overwritten (slice_set words (to + n) z) (suc (to + n)) (words_at buffers f (count - (n + 1)))) later_from
     ∙ sym (ap (λ k. overwritten words (to + n) (words_at buffers (from + n) k)) left ∙ ap (λ y. overwritten words (to + n) (y ∷ rest)) is)
+
+-- one word alone was copied
+pub overwritten_one : (words : List ℤ) (to from : ℕ) (others : List ℤ) (z : ℤ) → slice_index_or others (from + 0) (pos 0) ≡ z →
+    slice_set words (to + 0) z ≡ overwritten words to (words_at others from 1)
+overwritten_one words to from others z is =
+    let place : to + 0 ≡ to = omega arith in
+    let source : from ≡ from + 0 = omega arith in
+    ap (λ t. slice_set words t z) place ∙ sym (ap (λ y. slice_set words to y) (ap (λ f. slice_index_or others f (pos 0)) source ∙ is))

@@ -12,3 +12,4 @@ pub mod Beginnings
 pub mod Changes
 pub mod Items
 pub mod Taking
+pub mod Footprint

@@ -7,3 +7,4 @@ pub mod Running
 pub mod Steps
 pub mod Homes
 pub mod Asking
+pub mod Footprint

@@ -43,8 +43,20 @@ pub fn fill(words: &mut Vec<i64>, place: usize, numbers: &[i64])
     }
 }
 
-/// Copies so many words, from a place on, to another place of other words. Where there is no word to copy it is 0.
+/// Copies so many words, from a place on, to another place of other words. Where there is no word to copy it is 0. Most links
+/// have one element.
 fn overwrite(words: &mut Vec<i64>, to: usize, others: &[i64], from: usize, count: usize)
+    ensures { words.new.items ≡ overwritten words.old.items to (words_at others.now from count) }
+{
+    if count == 1 {
+        put_after(words, to, 0, word_after(others, from, 0));
+    } else {
+        overwrite_all(words, to, others, from, count);
+    }
+}
+
+/// The same, one word after another.
+fn overwrite_all(words: &mut Vec<i64>, to: usize, others: &[i64], from: usize, count: usize)
     ensures { words.new.items ≡ overwritten words.old.items to (words_at others.now from count) }
 {
     for number in 0..count {

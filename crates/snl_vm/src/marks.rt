@@ -25,6 +25,13 @@ impl Marks {
         })
     }
 
+    /// How many places it has.
+    pub fn count(&self) -> usize
+        ensures { result ≡ self.now.count }
+    {
+        self.count
+    }
+
     /// Whether a place is marked; one that is not there is not.
     pub fn is_marked(&self, place: usize) -> bool
         ensures { has (marks_of self.now) place ≡ result }

@@ -86,6 +86,13 @@ impl Queue {
         self.size
     }
 
+    /// How many words it has room for.
+    pub fn capacity(&self) -> usize
+        ensures { result ≡ self.now.ring.capacity }
+    {
+        self.ring.capacity()
+    }
+
     /// Whether it holds no item.
     pub fn is_empty(&self) -> bool
         ensures { result ≡ not (is_there (items_of self.now)) }

@@ -1,6 +1,6 @@
 //! Runs by `session`: worked examples, budgets, and devices that cut the bytes or fail.
 
-ghost use Rattle.std.specs.Prelude.{◌<◌};
+ghost use Rattle.std.specs.Prelude.{◌<◌, ◌≤◌};
 
 use crate::tests::job;
 use snc::{DEFAULT_BUDGET, Status, session};
@@ -17,6 +17,7 @@ struct Pieces<'b> {
     feed: Feed<'b>,
     breaks: bool,
     failures: u64,
+    ghost counts: { feed.failures ≤ failures },
 }
 
 impl Source for Pieces<'_> {

@@ -21,10 +21,10 @@ pub fn checked<'a>(alloc: Global, lexed: &Lexed<'a>) -> Result<Checked<'a>, Fail
     Ok(outcome.checked.ok_or("not accepted")?)
 }
 
-/// The machine of [`PROGRAM`] with a budget of 10. It outlives the bytes of the source, which end here.
-fn loaded(alloc: Global) -> Result<Box<Machine>, Fail> {
+/// The machine of a program with a budget of 10. It outlives the bytes of the source, which end here.
+pub fn loaded(alloc: Global, program: &[u8]) -> Result<Box<Machine>, Fail> {
     let mut source = Vec::new(alloc);
-    source.extend_from_slice(PROGRAM)?;
+    source.extend_from_slice(program)?;
     let lexed = lex(alloc, source.as_slice())?;
     let checked = checked(alloc, &lexed)?;
     let macros = Macros {
@@ -62,7 +62,7 @@ fn messages_of_a_program(rt: HostRuntime) -> Result<(), Fail> {
 
 #[test]
 fn events_of_a_machine(rt: HostRuntime) -> Result<(), Fail> {
-    let mut machine = loaded(rt.alloc())?;
+    let mut machine = loaded(rt.alloc(), PROGRAM)?;
     takes_events(&rt, rt.alloc(), &mut machine)?;
     takes_a_trace(&rt, rt.alloc(), &mut machine)?;
     laws();
@@ -73,6 +73,7 @@ fn takes_events(rt: &impl Abort, alloc: Global, machine: &mut Machine) -> Result
     let mut sheet = Sheet::new(alloc, 100, 3)?;
     assert_eq!(rt; machine.channel(b"b"), Some(1));
     assert_eq!(rt; machine.channel(b"c"), None);
+    assert!(rt; machine.is_channel(1, b"b") && !machine.is_channel(0, b"b"));
     assert_eq!(rt; machine.event(3, &Event::Up(0), &mut sheet)?, Live::Waiting);
     assert_eq!(rt; machine.event(4, &Event::Up(1), &mut sheet)?, Live::Waiting);
     let mut values = ArrayVec::new();
@@ -103,6 +104,7 @@ fn laws() {
     tree::tokens_have_a_program_or_a_fault();
     tree::tokens_have_one_answer();
     machine::runs_its_program();
+    machine::machines_hold_the_footprint();
     machine::rounds_end();
     machine::time_is_the_events();
     machine::time_never_falls();
@@ -119,6 +121,11 @@ fn laws() {
     machine::feeds_fill_buffers();
     machine::refreshes_fill_variables();
     machine::worlds_are_laid_out();
+    machine::reached_are_closed();
+    machine::first_are_reached();
+    machine::reached_stay();
+    machine::unreached_do_nothing();
+    machine::instants_are_the_same();
     trace::text_begins();
 }
 
@@ -135,7 +142,7 @@ const BAD_LINES: [(&[u8], TraceFault); 7] = [
 
 #[test]
 fn read_each_line_or_name_its_fault(rt: HostRuntime) -> Result<(), Fail> {
-    let machine = loaded(rt.alloc())?;
+    let machine = loaded(rt.alloc(), PROGRAM)?;
     for (line, fault) in &BAD_LINES {
         assert_eq!(rt; read_line(line, &machine, 5).err(), Some(*fault));
     }

@@ -1,4 +1,4 @@
-use Rattle.std.proofs.Common.{◌∙◌, ◌<◌, ◌-◌, ◌^◌, ap, arith, length, map, refl, subst, sym}
+use Rattle.std.proofs.Common.{◌∙◌, ◌+◌, ◌<◌, ℕ, ◌-◌, ◌^◌, ap, arith, length, map, refl, subst, sym}
 use Rattle.snl_syntax.specs.view.Programs.{program_view}
 use Rattle.snl_links.specs.LinkViews.{link_view}
 use Rattle.snl_load.specs.First.{first_world}
@@ -10,6 +10,7 @@ use Rattle.snl_machine.proofs.AsLoaded.{loaded-is, first-is}
 use Rattle.snl_machine.proofs.Worlds as worlds
 use Rattle.snl_machine.proofs.making.machine_by.Goals as goal
 use Rattle.snl_machine.specs.Worlds.{IsWorldOf}
+use Rattle.snl_vm.specs.Footprint.{store_words}
 use Rattle.snl_meaning.specs.World.{World}
 
 pub invariant_of-result : goal.invariant_of-result
@@ -21,7 +22,8 @@ invariant_of-result c =
     let room = c.in_ok-operands.ensures.room ∙ c.depth.ensures in
     let counted : code.depth < 2 ^ 64 - 1 = omega (arith, room, c.in_ok-operands.operands.items.small) in
     let is = loaded-is p ls ls c.args.waits code plan refl c.in_ok-plan.ensures c.requires.code counted in
-    record { room = room; runs = (plans_are_right p ls c.args.waits code (loaded_by plan code) is).1 }
+    let words = c.in_ok-footprint.ensures ∙ ap (λ (n : ℕ). store_words c.in_ok-store.store + n) (c.depth-2.ensures ∙ sym room) in
+    record { words = words; room = room; runs = (plans_are_right p ls c.args.waits code (loaded_by plan code) is).1 }
 
 pub returns-clause-made : goal.returns-clause-made
 returns-clause-made c =

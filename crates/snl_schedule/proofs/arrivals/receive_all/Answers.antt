@@ -7,6 +7,6 @@ use Rattle.snl_schedule.proofs.arrivals.receive_all.Goals as goal
 
 pub returns : goal.returns
 returns c =
-    let p = program_of (loaded c.args.program) in
+    let p = program_of (loaded c.args.program.now) in
     let w = world_of c.args.store.now in
     c.receive_over.ensures ∙ ap (λ row. received_over p c.args.channel c.args.values.now row w) c.links_of.ensures ∙ over_links p c.args.channel c.args.values.now w

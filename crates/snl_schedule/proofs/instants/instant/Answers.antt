@@ -14,7 +14,7 @@ use Rattle.snl_schedule.proofs.instants.instant.Goals as goal
 
 pub returns-in-Ok-clause-does : goal.returns-in-Ok-clause-does
 returns-in-Ok-clause-does g c =
-    let p = program_of (loaded c.args.program) in
+    let p = program_of (loaded c.args.program.now) in
     let w = world_of c.args.store.now in
     let u = record w { ticks = c.args.budget } in
     let ready : true ≡ is_ready p u = c.if-not-are_ready.ensures.value ∙ ap (λ (ts : List Tied). not p.waits || list_all (is_link_ready u) ts) c.as_slice.ensures.value in
@@ -27,7 +27,7 @@ returns-in-Ok-clause-does g c =
 
 pub returns-in-Err-clause-does : goal.returns-in-Err-clause-does
 returns-in-Err-clause-does g c =
-    let p = program_of (loaded c.args.program) in
+    let p = program_of (loaded c.args.program.now) in
     let w = world_of c.args.store.now in
     let u = record w { ticks = c.args.budget } in
     let ready : true ≡ is_ready p u = c.if-not-are_ready.ensures.value ∙ ap (λ (ts : List Tied). not p.waits || list_all (is_link_ready u) ts) c.as_slice.ensures.value in

@@ -7,7 +7,7 @@ use Rattle.snl_schedule.proofs.instants.round.Goals as goal
 
 pub turn-requires-clause-runs : goal.turn-requires-clause-runs
 turn-requires-clause-runs g c =
-    let t = loaded c.args.program in
+    let t = loaded c.args.program.now in
     let sets = t.plan.sets.items in
     let i = c.loop-set.set in
     let s = c.plan-item.result in
@@ -18,7 +18,7 @@ turn-requires-clause-runs g c =
 
 pub returns-in-Err-clause-does : goal.returns-in-Err-clause-does
 returns-in-Err-clause-does g c =
-    let t = loaded c.args.program in
+    let t = loaded c.args.program.now in
     let sets = t.plan.sets.items in
     let s = c.plan-item.result in
     let within : c.loop-set.set < length sets = search rules in
@@ -29,7 +29,7 @@ returns-in-Err-clause-does g c =
 
 pub returns-then-is_exit-clause-does : goal.returns-then-is_exit-clause-does
 returns-then-is_exit-clause-does g c =
-    let t = loaded c.args.program in
+    let t = loaded c.args.program.now in
     let sets = t.plan.sets.items in
     let s = c.plan-item.result in
     let within : c.loop-set.set < length sets = search rules in
@@ -41,7 +41,7 @@ returns-then-is_exit-clause-does g c =
 
 pub loop-set-preserved : goal.loop-set-preserved
 loop-set-preserved g c =
-    let t = loaded c.args.program in
+    let t = loaded c.args.program.now in
     let sets = t.plan.sets.items in
     let s = c.plan-item.result in
     let within : c.loop-set.set < length sets = search rules in

@@ -8,7 +8,7 @@ use Rattle.snl_schedule.proofs.instants.rounds.Goals as goal
 
 pub loop-round-init : goal.loop-round-init
 loop-round-init g c =
-    let p = program_of (loaded c.args.program) in
+    let p = program_of (loaded c.args.program.now) in
     let w = world_of c.args.store.now in
     let told = g.S.Sink.told c.args.sink.now in
     let fuel : suc c.args.store.now.ticks ≡ c.from-round-end.result + 1 - 0 = omega (arith, c.from-round-end.ensures) in
@@ -24,7 +24,7 @@ returns-in-Ok-Stayed-clause-does g c =
     let end = c.from-round-end.result + 1 in
     let i = c.loop-round._round in
     let fuel : end - i ≡ suc (end - (i + 1)) = omega (arith, c.loop-round-test.true) in
-    round-ends (program_of (loaded c.args.program)) (world_of c.loop-round.store) (end - i) (end - (i + 1)) fuel _ _ _ c.loop-round.invariant.on_way _ _
+    round-ends (program_of (loaded c.args.program.now)) (world_of c.loop-round.store) (end - i) (end - (i + 1)) fuel _ _ _ c.loop-round.invariant.on_way _ _
     (rw c.in-Ok-Stayed.field-0-is at c.in-Ok-Stayed.ensures.does)
 
 pub returns-in-Ok-Exited-clause-does : goal.returns-in-Ok-Exited-clause-does
@@ -32,7 +32,7 @@ returns-in-Ok-Exited-clause-does g c =
     let end = c.from-round-end.result + 1 in
     let i = c.loop-round._round in
     let fuel : end - i ≡ suc (end - (i + 1)) = omega (arith, c.loop-round-test.true) in
-    round-exits (program_of (loaded c.args.program)) (world_of c.loop-round.store) (end - i) (end - (i + 1)) fuel _ _ _ c.loop-round.invariant.on_way _ _ _ _ _
+    round-exits (program_of (loaded c.args.program.now)) (world_of c.loop-round.store) (end - i) (end - (i + 1)) fuel _ _ _ c.loop-round.invariant.on_way _ _ _ _ _
     (rw c.in-Ok-Exited.field-0-is at c.in-Ok-Exited.ensures.does) c.exit.ensures.does
 
 pub returns-in-Err-clause-does : goal.returns-in-Err-clause-does
@@ -40,7 +40,7 @@ returns-in-Err-clause-does g c =
     let end = c.from-round-end.result + 1 in
     let i = c.loop-round._round in
     let fuel : end - i ≡ suc (end - (i + 1)) = omega (arith, c.loop-round-test.true) in
-    round-stops (program_of (loaded c.args.program)) (world_of c.loop-round.store) (end - i) (end - (i + 1)) fuel _ _ _ c.loop-round.invariant.on_way c.in-Err.stop _ _ c.in-Err.ensures.does
+    round-stops (program_of (loaded c.args.program.now)) (world_of c.loop-round.store) (end - i) (end - (i + 1)) fuel _ _ _ c.loop-round.invariant.on_way c.in-Err.stop _ _ c.in-Err.ensures.does
 
 pub loop-round-preserved : goal.loop-round-preserved
 loop-round-preserved g c =
@@ -48,7 +48,7 @@ loop-round-preserved g c =
     let i = c.loop-round._round in
     let fuel : end - i ≡ suc (end - (i + 1)) = omega (arith, c.loop-round-test.true) in
     record {
-      on_way = round-goes_on (program_of (loaded c.args.program)) (world_of c.loop-round.store) (end - i) (end - (i + 1)) fuel _ _ _ c.loop-round.invariant.on_way _ _
+      on_way = round-goes_on (program_of (loaded c.args.program.now)) (world_of c.loop-round.store) (end - i) (end - (i + 1)) fuel _ _ _ c.loop-round.invariant.on_way _ _
           (rw c.in-Ok-Moved.field-0-is at c.in-Ok-Moved.ensures.does);
       frame = c.round.ensures.frame ∙ c.loop-round.invariant.frame;
       room = c.round.ensures.room ∙ c.loop-round.invariant.room;

@@ -7,7 +7,7 @@ use Rattle.snl_schedule.proofs.starting.begin_sets.Goals as goal
 
 pub begin-requires-clause-runs : goal.begin-requires-clause-runs
 begin-requires-clause-runs g c =
-    let t = loaded c.args.program in
+    let t = loaded c.args.program.now in
     let sets = t.plan.sets.items in
     let i = c.loop-set.set in
     let s = c.plan-item.result in
@@ -18,7 +18,7 @@ begin-requires-clause-runs g c =
 
 pub returns-in-Err-clause-does : goal.returns-in-Err-clause-does
 returns-in-Err-clause-does g c =
-    let t = loaded c.args.program in
+    let t = loaded c.args.program.now in
     let sets = t.plan.sets.items in
     let s = c.plan-item.result in
     let within : c.loop-set.set < length sets = search rules in
@@ -29,7 +29,7 @@ returns-in-Err-clause-does g c =
 
 pub loop-set-preserved : goal.loop-set-preserved
 loop-set-preserved g c =
-    let t = loaded c.args.program in
+    let t = loaded c.args.program.now in
     let sets = t.plan.sets.items in
     let s = c.plan-item.result in
     let within : c.loop-set.set < length sets = search rules in

@@ -9,20 +9,20 @@ use Rattle.snl_schedule.proofs.starting.open.Goals as goal
 
 pub returns-in-Ok-clause-does : goal.returns-in-Ok-clause-does
 returns-in-Ok-clause-does g c =
-    let p = program_of (loaded c.args.program) in
+    let p = program_of (loaded c.args.program.now) in
     does-then (λ x. x) c.begin_sets.result (owned p p.entry (refreshed_sets p.sets (world_of c.args.store.now))) (λ _ u. begun_sets p.sets u) _ _ _ _ _ _
     (rw c.refresh_sets.ensures at c.in-Ok.ensures.does) c.begin_sets.ensures.does
 
 pub returns-in-Err-clause-does : goal.returns-in-Err-clause-does
 returns-in-Err-clause-does g c =
-    let p = program_of (loaded c.args.program) in
+    let p = program_of (loaded c.args.program.now) in
     stopped-then (λ x. x) (λ x. x) c.in-Err.stop (owned p p.entry (refreshed_sets p.sets (world_of c.args.store.now))) (λ _ u. begun_sets p.sets u) _ _ _
     (rw c.refresh_sets.ensures at c.in-Err.ensures.does)
 
 pub returns-in-Ok-clause-frame : goal.returns-in-Ok-clause-frame
 returns-in-Ok-clause-frame g c =
-    c.begin_sets.ensures.frame ∙ (c.enter_program.ensures.frame ∙ (ap frame_of c.refresh_sets.ensures ∙ refreshed_sets-same (program_of (loaded c.args.program)).sets (world_of c.args.store.now)))
+    c.begin_sets.ensures.frame ∙ (c.enter_program.ensures.frame ∙ (ap frame_of c.refresh_sets.ensures ∙ refreshed_sets-same (program_of (loaded c.args.program.now)).sets (world_of c.args.store.now)))
 
 pub returns-in-Err-clause-frame : goal.returns-in-Err-clause-frame
 returns-in-Err-clause-frame g c =
-    c.enter_program.ensures.frame ∙ (ap frame_of c.refresh_sets.ensures ∙ refreshed_sets-same (program_of (loaded c.args.program)).sets (world_of c.args.store.now))
+    c.enter_program.ensures.frame ∙ (ap frame_of c.refresh_sets.ensures ∙ refreshed_sets-same (program_of (loaded c.args.program.now)).sets (world_of c.args.store.now))

@@ -9,13 +9,13 @@ use Rattle.snl_schedule.proofs.taking.happen.Goals as goal
 pub returns-clause-frame : goal.returns-clause-frame
 returns-clause-frame g c =
     let w = world_of c.args.store.now in
-    let p = program_of (loaded c.args.program) in
+    let p = program_of (loaded c.args.program.now) in
     but-at c.args.ms w (world_of c.instant.new.store)
     (c.instant.ensures.frame ∙ (ap frame_of c.apply.ensures ∙ event-same p c.args.event.now (record w { time = c.args.ms })))
 
 pub returns-clause-time : goal.returns-clause-time
 returns-clause-time g c =
     let w = world_of c.args.store.now in
-    let p = program_of (loaded c.args.program) in
+    let p = program_of (loaded c.args.program.now) in
     on_err c.instant.result
     (ap (λ (f : Frame). f.time) (c.instant.ensures.frame ∙ (ap frame_of c.apply.ensures ∙ event-same p c.args.event.now (record w { time = c.args.ms }))))

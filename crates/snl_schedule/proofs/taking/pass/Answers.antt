@@ -8,14 +8,14 @@ use Rattle.snl_schedule.proofs.taking.pass.Goals as goal
 
 pub returns-in-Ok-clause-does : goal.returns-in-Ok-clause-does
 returns-in-Ok-clause-does g c =
-    let p = program_of (loaded c.args.program) in
+    let p = program_of (loaded c.args.program.now) in
     let event = c.args.event.now in
     does-then (λ x. x) c.happen.result (all_wakes p c.args.budget c.args.ms (world_of c.args.store.now)) (λ _ u. event_by p c.args.budget c.args.ms event u.phase u) _ _ _ _ _ _
     c.in-Ok.ensures.does c.happen.ensures.does
 
 pub returns-in-Err-clause-does : goal.returns-in-Err-clause-does
 returns-in-Err-clause-does g c =
-    let p = program_of (loaded c.args.program) in
+    let p = program_of (loaded c.args.program.now) in
     let event = c.args.event.now in
     stopped-then (λ x. x) (λ x. x) c.in-Err.stop (all_wakes p c.args.budget c.args.ms (world_of c.args.store.now)) (λ _ u. event_by p c.args.budget c.args.ms event u.phase u) _ _ _
     c.in-Err.ensures.does
@@ -26,5 +26,5 @@ returns-in-Ok-clause-frame g c =
 
 pub returns-in-Ok-clause-time : goal.returns-in-Ok-clause-time
 returns-in-Ok-clause-time g c =
-    at_line (program_of (loaded c.args.program)) c.args.budget c.args.ms (world_of c.args.store.now) (world_of c.wake_up.new.store) c.happen.result
+    at_line (program_of (loaded c.args.program.now)) c.args.budget c.args.ms (world_of c.args.store.now) (world_of c.wake_up.new.store) c.happen.result
     (world_of c.happen.new.store).time c.in-Ok.ensures.does.text c.in-Ok.ensures.does.is c.happen.ensures.time c.happen.ensures.goes_on

@@ -7,7 +7,7 @@ use Rattle.snl_schedule.proofs.taking.wake_up.Goals as goal
 
 pub returns-in-None-clause-does : goal.returns-in-None-clause-does
 returns-in-None-clause-does g c =
-    let p = program_of (loaded c.args.program) in
+    let p = program_of (loaded c.args.program.now) in
     let i = c.loop-wake._wake in
     let ms = c.args.ms in
     let fuel : ms - i ≡ suc (ms - (i + 1)) = omega (arith, c.loop-wake-test.true) in
@@ -15,7 +15,7 @@ returns-in-None-clause-does g c =
 
 pub returns-in-Err-clause-does : goal.returns-in-Err-clause-does
 returns-in-Err-clause-does g c =
-    let p = program_of (loaded c.args.program) in
+    let p = program_of (loaded c.args.program.now) in
     let i = c.loop-wake._wake in
     let ms = c.args.ms in
     let fuel : ms - i ≡ suc (ms - (i + 1)) = omega (arith, c.loop-wake-test.true) in
@@ -24,7 +24,7 @@ returns-in-Err-clause-does g c =
 
 pub loop-wake-preserved : goal.loop-wake-preserved
 loop-wake-preserved g c =
-    let p = program_of (loaded c.args.program) in
+    let p = program_of (loaded c.args.program.now) in
     let i = c.loop-wake._wake in
     let ms = c.args.ms in
     let fuel : ms - i ≡ suc (ms - (i + 1)) = omega (arith, c.loop-wake-test.true) in
@@ -46,5 +46,5 @@ returns-in-Err-clause-frame g c =
 
 pub returns-in-Err-clause-time : goal.returns-in-Err-clause-time
 returns-in-Err-clause-time g c =
-    past-stops (program_of (loaded c.args.program)) c.args.budget c.args.ms (world_of c.args.store.now) (world_of c.loop-wake.store) c.loop-wake.invariant.past
+    past-stops (program_of (loaded c.args.program.now)) c.args.budget c.args.ms (world_of c.args.store.now) (world_of c.loop-wake.store) c.loop-wake.invariant.past
     c.in-Some.wake (sym c.next_wake.ensures ∙ c.in-Some.is) (world_of c.instant.new.store) c.in-Err.ensures.frame

@@ -6,8 +6,8 @@ use Rattle.snl_schedule.proofs.transitions.come.Goals as goal
 
 pub returns-in-Some-clause-frame : goal.returns-in-Some-clause-frame
 returns-in-Some-clause-frame g c =
-    c.do_if_due.ensures.frame ∙ (ap frame_of c.enter.ensures ∙ entered-same c.args.state_set.context.set c.args.to c.is_due.result (world_of c.args.store.now))
+    c.do_if_due.ensures.frame ∙ (ap frame_of c.enter.ensures ∙ entered-same c.args.state_set.now.context.set c.args.to c.is_due.result (world_of c.args.store.now))
 
 pub returns-in-None-clause-frame : goal.returns-in-None-clause-frame
 returns-in-None-clause-frame g c =
-    ap frame_of c.enter-in-None.ensures ∙ entered-same c.args.state_set.context.set c.args.to true (world_of c.args.store.now)
+    ap frame_of c.enter-in-None.ensures ∙ entered-same c.args.state_set.now.context.set c.args.to true (world_of c.args.store.now)

@@ -8,5 +8,5 @@ use Rattle.snl_schedule.proofs.turns.holds.Goals as goal
 pub evaluate-requires-clause-value : goal.evaluate-requires-clause-value
 evaluate-requires-clause-value g c =
     let w = world_of c.args.store.now in
-    subst (λ (s : run.PieceContext). LeavesValue (run.run_of s c.args.state_set.code.now c.in-Some.start w))
-    (sym (same_context c.args.state_set.context c.args.state_set.room c.args.operands.now c.requires.room)) ((rw c.in-Some.is at c.requires.runs) w)
+    subst (λ (s : run.PieceContext). LeavesValue (run.run_of s c.args.state_set.now.code.now c.in-Some.start w))
+    (sym (same_context c.args.state_set.now.context c.args.state_set.now.room c.args.operands.now c.requires.room)) ((rw c.in-Some.is at c.requires.runs) w)

@@ -14,7 +14,7 @@ use Rattle.snl_schedule.proofs.turns.turn.Goals as goal
 
 pub returns-in-Ok-write_fault-clause-does : goal.returns-in-Ok-write_fault-clause-does
 returns-in-Ok-write_fault-clause-does g c =
-    let s = set_on c.args.state_set in
+    let s = set_on c.args.state_set.now in
     let w = world_of c.args.store.now in
     let fresh : world_of c.refresh.new.store ≡ refreshed s.set w = c.refresh.ensures in
     let line = rw c.fault_text.ensures at c.in-Ok-write_fault.ensures.told in
@@ -26,7 +26,7 @@ returns-in-Ok-write_fault-clause-does g c =
 
 pub returns-in-Err-clause-does : goal.returns-in-Err-clause-does
 returns-in-Err-clause-does g c =
-    let s = set_on c.args.state_set in
+    let s = set_on c.args.state_set.now in
     let w = world_of c.args.store.now in
     let fresh : world_of c.refresh.new.store ≡ refreshed s.set w = c.refresh.ensures in
     let line = rw c.fault_text.ensures at c.in-Err.ensures.told in
@@ -38,7 +38,7 @@ returns-in-Err-clause-does g c =
 
 pub returns-in-Err-Sink-clause-does : goal.returns-in-Err-Sink-clause-does
 returns-in-Err-Sink-clause-does g c =
-    let s = set_on c.args.state_set in
+    let s = set_on c.args.state_set.now in
     let w = world_of c.args.store.now in
     let fresh : world_of c.refresh.new.store ≡ refreshed s.set w = c.refresh.ensures in
     let v = world_of c.refresh.new.store in
@@ -50,16 +50,16 @@ returns-in-Err-Sink-clause-does g c =
 
 pub returns-in-Ok-clause-frame : goal.returns-in-Ok-clause-frame
 returns-in-Ok-clause-frame g c =
-    c.try_state.ensures.frame ∙ (ap frame_of c.refresh.ensures ∙ refreshed-same c.args.state_set.context.set (world_of c.args.store.now))
+    c.try_state.ensures.frame ∙ (ap frame_of c.refresh.ensures ∙ refreshed-same c.args.state_set.now.context.set (world_of c.args.store.now))
 
 pub returns-in-Err-Sink-clause-frame : goal.returns-in-Err-Sink-clause-frame
 returns-in-Err-Sink-clause-frame g c =
-    c.try_state.ensures.frame ∙ (ap frame_of c.refresh.ensures ∙ refreshed-same c.args.state_set.context.set (world_of c.args.store.now))
+    c.try_state.ensures.frame ∙ (ap frame_of c.refresh.ensures ∙ refreshed-same c.args.state_set.now.context.set (world_of c.args.store.now))
 
 pub returns-in-Ok-write_fault-clause-frame : goal.returns-in-Ok-write_fault-clause-frame
 returns-in-Ok-write_fault-clause-frame g c =
-    c.try_state.ensures.frame ∙ (ap frame_of c.refresh.ensures ∙ refreshed-same c.args.state_set.context.set (world_of c.args.store.now))
+    c.try_state.ensures.frame ∙ (ap frame_of c.refresh.ensures ∙ refreshed-same c.args.state_set.now.context.set (world_of c.args.store.now))
 
 pub returns-in-Err-clause-frame : goal.returns-in-Err-clause-frame
 returns-in-Err-clause-frame g c =
-    c.try_state.ensures.frame ∙ (ap frame_of c.refresh.ensures ∙ refreshed-same c.args.state_set.context.set (world_of c.args.store.now))
+    c.try_state.ensures.frame ∙ (ap frame_of c.refresh.ensures ∙ refreshed-same c.args.state_set.now.context.set (world_of c.args.store.now))

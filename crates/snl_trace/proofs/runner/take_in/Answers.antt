@@ -3,11 +3,11 @@ use Rattle.snl_trace.specs.declared.runner.End.TheVariants as end
 use Rattle.snl_machine.proofs.Tasks.{stays-both}
 use Rattle.snl_trace.specs.Run.{rules_of}
 use Rattle.snl_trace.specs.RunOver.{standing}
-use Rattle.snl_trace.proofs.RunOverLaws.{way-start, way-on, way-ends, way-all, takes-more, takes-long, rules-long, rules-same}
+use Rattle.snl_trace.proofs.RunOverLaws.{way-start, way-on, way-ends, way-all, takes-more, takes-long, known-is, rules-long, rules-same}
 use Rattle.snl_trace.proofs.runner.take_in.Goals as goal
 
-pub loop-text-init : goal.loop-text-init
-loop-text-init g c = record {
+pub loop-next-init : goal.loop-next-init
+loop-next-init g c = record {
   way = way-start _ _ _;
   fixed = refl;
   stays = λ p ls waits budget is. is;
@@ -15,49 +15,52 @@ loop-text-init g c = record {
   none_failed = refl;
 }
 
-pub loop-text-preserved : goal.loop-text-preserved
-loop-text-preserved g c =
-    let same : rules_of c.loop-text.machine ≡ rules_of c.args.machine.now = rules-same c.args.machine.now c.loop-text.machine c.loop-text.invariant.fixed in
-    let cut : c.loop-text.left.now ≡ (c.in-Some.text.now ++ 10 ∷ []) ++ c.in-Some.rest.now =
-    c.in-Some.ensures.cut ∙ sym (append_assoc c.in-Some.text.now (10 ∷ []) c.in-Some.rest.now) in
+pub take_next-requires-clause-read : goal.take_next-requires-clause-read
+take_next-requires-clause-read g c = known-is c.loop-next.machine c.in-Some.next.line.now c.next_line.new.room c.in-Some.next.ms c.in-Some.ensures.read
+
+pub loop-next-preserved : goal.loop-next-preserved
+loop-next-preserved g c =
+    let same : rules_of c.loop-next.machine ≡ rules_of c.args.machine.now = rules-same c.args.machine.now c.loop-next.machine c.loop-next.invariant.fixed in
+    let cut : c.loop-next.left.now ≡ (c.in-Some.next.line.now ++ 10 ∷ []) ++ c.in-Some.next.rest.now =
+    c.in-Some.ensures.cut ∙ sym (append_assoc c.in-Some.next.line.now (10 ∷ []) c.in-Some.next.rest.now) in
     record {
-      way = way-on _ _ _ _ _ _ _ _ c.loop-text.invariant.way cut (rw same at c.in-None.ensures.does);
-      fixed = c.take_line.ensures.fixed ∙ c.loop-text.invariant.fixed;
-      stays = stays-both c.args.machine.now c.loop-text.machine c.take_line.new.machine c.loop-text.invariant.stays c.take_line.ensures.stays;
+      way = way-on _ _ _ _ _ _ _ _ c.loop-next.invariant.way cut (rw same at c.in-None.ensures.does);
+      fixed = c.take_next.ensures.fixed ∙ c.loop-next.invariant.fixed;
+      stays = stays-both c.args.machine.now c.loop-next.machine c.take_next.new.machine c.loop-next.invariant.stays c.take_next.ensures.stays;
       lines = omega (
         arith,
-        c.loop-text.invariant.lines,
-        c.take_line.ensures.lines,
+        c.loop-next.invariant.lines,
+        c.take_next.ensures.lines,
         ap length cut,
-        length-append (c.in-Some.text.now ++ 10 ∷ []) c.in-Some.rest.now,
-        length-append c.in-Some.text.now (10 ∷ []),
+        length-append (c.in-Some.next.line.now ++ 10 ∷ []) c.in-Some.next.rest.now,
+        length-append c.in-Some.next.line.now (10 ∷ []),
       );
-      none_failed = c.in-None.ensures.failures ∙ c.loop-text.invariant.none_failed;
+      none_failed = c.in-None.ensures.failures ∙ c.loop-next.invariant.none_failed;
     }
 
-pub returns-in-Some-take_line-clause-does : goal.returns-in-Some-take_line-clause-does
-returns-in-Some-take_line-clause-does g c =
-    let same : rules_of c.loop-text.machine ≡ rules_of c.args.machine.now = rules-same c.args.machine.now c.loop-text.machine c.loop-text.invariant.fixed in
-    let cut : c.loop-text.left.now ≡ (c.in-Some.text.now ++ 10 ∷ []) ++ c.in-Some.rest.now =
-    c.in-Some.ensures.cut ∙ sym (append_assoc c.in-Some.text.now (10 ∷ []) c.in-Some.rest.now) in
-    let to = standing c.take_line.new.line.items c.take_line.new.number c.take_line.new.machine (g.S.Sink.told c.take_line.new.sink) in
-    way-ends _ _ _ _ _ c.in-Some-take_line.end _ _ to c.loop-text.invariant.way cut (rw same at c.in-Some-take_line.ensures.does)
+pub returns-in-Some-take_next-clause-does : goal.returns-in-Some-take_next-clause-does
+returns-in-Some-take_next-clause-does g c =
+    let same : rules_of c.loop-next.machine ≡ rules_of c.args.machine.now = rules-same c.args.machine.now c.loop-next.machine c.loop-next.invariant.fixed in
+    let cut : c.loop-next.left.now ≡ (c.in-Some.next.line.now ++ 10 ∷ []) ++ c.in-Some.next.rest.now =
+    c.in-Some.ensures.cut ∙ sym (append_assoc c.in-Some.next.line.now (10 ∷ []) c.in-Some.next.rest.now) in
+    let to = standing c.take_next.new.line.items c.take_next.new.number c.take_next.new.machine (g.S.Sink.told c.take_next.new.sink) in
+    way-ends _ _ _ _ _ c.in-Some-take_next.end _ _ to c.loop-next.invariant.way cut (rw same at c.in-Some-take_next.ensures.does)
 
-pub returns-in-Some-take_line-clause-fixed : goal.returns-in-Some-take_line-clause-fixed
-returns-in-Some-take_line-clause-fixed g c = c.take_line.ensures.fixed ∙ c.loop-text.invariant.fixed
+pub returns-in-Some-take_next-clause-fixed : goal.returns-in-Some-take_next-clause-fixed
+returns-in-Some-take_next-clause-fixed g c = c.take_next.ensures.fixed ∙ c.loop-next.invariant.fixed
 
-pub returns-in-Some-take_line-clause-stays : goal.returns-in-Some-take_line-clause-stays
-returns-in-Some-take_line-clause-stays g c = stays-both c.args.machine.now c.loop-text.machine c.take_line.new.machine c.loop-text.invariant.stays c.take_line.ensures.stays
+pub returns-in-Some-take_next-clause-stays : goal.returns-in-Some-take_next-clause-stays
+returns-in-Some-take_next-clause-stays g c = stays-both c.args.machine.now c.loop-next.machine c.take_next.new.machine c.loop-next.invariant.stays c.take_next.ensures.stays
 
 pub returns-in-Ok-clause-does : goal.returns-in-Ok-clause-does
 returns-in-Ok-clause-does g c =
-    let b = standing c.loop-text.line.items c.loop-text.number c.loop-text.machine (g.S.Sink.told c.loop-text.sink) in
+    let b = standing c.loop-next.line.items c.loop-next.number c.loop-next.machine (g.S.Sink.told c.loop-next.sink) in
     rw c.in-Ok.ensures.ok
-    (way-all _ _ _ _ b _ c.loop-text.invariant.way (takes-more (rules_of c.args.machine.now) c.loop-text.left.now b c.in_default.ensures.none))
+    (way-all _ _ _ _ b _ c.loop-next.invariant.way (takes-more (rules_of c.args.machine.now) c.loop-next.left.now b c.in_default.ensures.none))
 
 pub returns-in-Err-clause-does : goal.returns-in-Err-clause-does
 returns-in-Err-clause-does g c =
-    let b = standing c.loop-text.line.items c.loop-text.number c.loop-text.machine (g.S.Sink.told c.loop-text.sink) in
-    let left = c.loop-text.left.now in
-    way-ends (rules_of c.args.machine.now) c.args.bytes.now left left [] (end.TraceFault c.loop-text.number c.in-Err.fault) _ b b c.loop-text.invariant.way (sym (append-nil left))
+    let b = standing c.loop-next.line.items c.loop-next.number c.loop-next.machine (g.S.Sink.told c.loop-next.sink) in
+    let left = c.loop-next.left.now in
+    way-ends (rules_of c.args.machine.now) c.args.bytes.now left left [] (end.TraceFault c.loop-next.number c.in-Err.fault) _ b b c.loop-next.invariant.way (sym (append-nil left))
     (takes-long (rules_of c.args.machine.now) (rules-long c.args.machine.now) c.in-Err.fault left b c.in-Err.ensures.fault c.in_default.ensures.none c.in-Err.ensures.long)

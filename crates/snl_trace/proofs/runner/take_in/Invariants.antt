@@ -6,8 +6,8 @@ use Rattle.snl_trace.proofs.RunOverLaws.{IsPartWay}
 use Rattle.snl_trace.proofs.runner.take_in.Given as goal
 
 -- the bytes before those that are left were taken in, and no more lines have ended than there were bytes
-abbrev pub invariant-loop-text : goal.invariant-loop-text
-invariant-loop-text g l = record {
+abbrev pub invariant-loop-next : goal.invariant-loop-next
+invariant-loop-next g l = record {
   way : IsPartWay (rules_of l.initial.machine) l.bytes l.left
       (standing l.initial.line.items l.initial.number l.initial.machine (g.S.Sink.told l.initial.sink))
       (standing l.line.items l.number l.machine (g.S.Sink.told l.sink));
@@ -17,5 +17,5 @@ invariant-loop-text g l = record {
   none_failed : g.S.Sink.failures l.sink ≡ g.S.Sink.failures l.initial.sink;
 }
 
-abbrev pub decreases-loop-text : goal.decreases-loop-text
-decreases-loop-text g l = length l.left
+abbrev pub decreases-loop-next : goal.decreases-loop-next
+decreases-loop-next g l = length l.left

@@ -1,4 +1,4 @@
-use Rattle.std.proofs.Common.{◌≡◌, ℕ, List, OnErr, refl, ap, subst, map}
+use Rattle.std.proofs.Common.{◌≡◌, ◌∙◌, ◌+◌, ℕ, List, OnErr, ap, subst, sym, map}
 use Rattle.snl_output.specs.Does.{Does}
 use Rattle.snl_meaning.specs.declared.instrs.Instr.{Instr}
 use Rattle.snl_meaning.specs.declared.live.Live.{Live}
@@ -7,9 +7,11 @@ use Rattle.snl_vm.specs.Views.{world_of}
 use Rattle.snl_schedule.specs.Event.{HasInstant, line_of}
 use Rattle.snl_schedule.specs.Loaded.{Loaded, program_of}
 use Rattle.snl_machine.specs.declared.machine.Machine.{Machine}
+use Rattle.snl_load.specs.Sets.{names_in}
 use Rattle.snl_machine.specs.Holding.{loaded_by}
 use Rattle.snl_machine.specs.MachineOf.{world_held}
 use Rattle.snl_machine.proofs.Tasks.{means-its-program, stays_its_machine}
+use Rattle.snl_vm.proofs.Footprint.{words-stay}
 use Rattle.snl_machine.proofs.machine.Machine.event.Goals as goal
 
 -- what is handed on is what the machine has loaded
@@ -30,11 +32,29 @@ returns-clause-time g c =
     let same = handed-is m c.instrs.result.now (map (λ text. text.items) c.texts.result.now) c.depth.result c.instrs.ensures (ap (map (λ text. text.items)) c.texts.ensures) c.depth.ensures in
     subst (λ (t : Loaded). OnErr c.take.result (HasInstant (program_of t) m.budget c.args.ms (world_held m) (world_of c.take.new.store).time)) same c.take.ensures.time
 
+-- the words that it holds stay
+pub invariant_of-self : goal.invariant_of-self
+invariant_of-self g c =
+    let m = c.args.self.now in
+    let new = c.take.new.store in
+    let words = words-stay m.store new (world_of new).time c.take.ensures.frame in
+    let room = c.take.ensures.room in
+    record { words = m.words ∙ sym (λ j. words j + room j); room = room ∙ m.room; runs = m.runs }
+
+-- so all that no event changes does
+pub returns-clause-fixed : goal.returns-clause-fixed
+returns-clause-fixed g c =
+    let m = c.args.self.now in
+    let new = c.take.new.store in
+    let words = words-stay m.store new (world_of new).time c.take.ensures.frame in
+    let room = c.take.ensures.room in
+    λ j. record { plan = m.plan; code = m.code; channels = names_in m.names; budget = m.budget; words = words j + room j }
+
 pub returns-clause-means : goal.returns-clause-means
 returns-clause-means g c = means-its-program c.args.ms c.args.event.now c.args.self.now c.take.result (world_of c.take.new.store) _ _ (returns-clause-does g c)
 
 pub returns-clause-stays : goal.returns-clause-stays
 returns-clause-stays g c =
     let m = c.args.self.now in
-    stays_its_machine c.args.ms c.args.event.now m _ c.take.result _ _ refl c.take.ensures.frame
+    stays_its_machine c.args.ms c.args.event.now m _ c.take.result _ _ (returns-clause-fixed g c) c.take.ensures.frame
     (returns-clause-does g c) c.take.ensures.ended

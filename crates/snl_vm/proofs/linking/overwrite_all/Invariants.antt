@@ -1,6 +1,6 @@
 use Rattle.std.proofs.Common.{◌≡◌, ◌+◌, ◌-◌}
 use Rattle.snl_meaning.specs.World.{words_at, overwritten}
-use Rattle.snl_vm.proofs.linking.overwrite.Given as goal
+use Rattle.snl_vm.proofs.linking.overwrite_all.Given as goal
 
 -- the words that are left make what all of them make
 abbrev pub invariant-loop-number : goal.invariant-loop-number
