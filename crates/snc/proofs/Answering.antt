@@ -29,16 +29,14 @@ use Rattle.snl_check.specs.declared.checked.Checked.{Checked}
 use Rattle.snl_check.specs.Accepted.{IsAccepted}
 use Rattle.snl_check.specs.Waits.{waits}
 use Rattle.snl_machine.specs.declared.machine.Machine.{Machine}
-use Rattle.snl_machine.specs.MachineOf.{IsMachineOf, Task, task_held, task_of, world_held}
-use Rattle.snl_machine.proofs.Tasks.{runs_its_program}
+use Rattle.snl_machine.specs.MachineOf.{Task, world_held}
 use Rattle.snl_meaning.specs.World.{World}
-use Rattle.snl_trace.specs.Run.{rules_by, rules_of}
+use Rattle.snl_trace.specs.Run.{rules_by}
 use Rattle.snl_trace.specs.RunOver.{RunsOver, standing}
 use Rattle.snl_trace.specs.declared.runner.End.{End}
 use Rattle.snc.specs.declared.jobs.Status.TheVariants.{Well, SourceErrors}
-use Rattle.snl_links.specs.Links.{Link, links}
+use Rattle.snl_links.specs.Links.{links}
 use Rattle.snl_links.specs.Tables.{tables}
-use Rattle.snl_load.specs.First.{first_world_of}
 use Rattle.snc.specs.Judging.{AreNamesBefore, ReadsNames, HasFault, HasTokens, IsJudged, IsSaidOf, IsTreeSaid, NoErrors, error_at, names_of, nesting_error, syntax_error}
 use Rattle.snc.specs.Outcomes.{IsReport, IsRunOf, IsSession, at_first, status_of, tables_text}
 use Rattle.snc.specs.Texts.{text_of}
@@ -297,16 +295,11 @@ reported given asked word source text shown (Some c) w e = record {
   shown_is = e ∙ same_some w.tree (program_view c.program) asked w.same;
 }
 
--- a machine that was loaded runs as its program does, from the first world on
-pub ran_by : (m : Machine) (whole : ProgramTree) (ls : List Link) (waiting : Bool) (budget : ℕ) → IsMachineOf whole ls waiting budget m
-    → (end : End) (bytes : List ℕ) (left told told' : Option (List ℕ)) (w : World) → world_held m ≡ first_world_of whole ls
-    → RunsOver (rules_of m) end bytes left (standing [] 1 m told) w told'
-    → RunsOver (rules_by (task_of whole ls waiting) budget) end bytes left (at_first (first_world_of whole ls) told) w told'
-ran_by m whole ls waiting budget made end bytes left told told' w first ran =
-    let begin = first_world_of whole ls in
-    let there = subst (λ (v : World). RunsOver (rules_by (task_held m) m.budget) end bytes left (at_first v told) w told') first ran in
-    let meant = subst (λ (t : Task). RunsOver (rules_by t m.budget) end bytes left (at_first begin told) w told') (runs_its_program whole ls waiting budget m made) there in
-    subst (λ (b : ℕ). RunsOver (rules_by (task_of whole ls waiting) b) end bytes left (at_first begin told) w told') made.budget_is meant
+-- a machine that was loaded begins in the first world of its program
+pub ran_first : (m : Machine) (task : Task) (first : World) (budget : ℕ) (end : End) (bytes : List ℕ) (left told told' : Option (List ℕ)) (w : World) → world_held m ≡ first
+    → RunsOver (rules_by task budget) end bytes left (standing [] 1 m told) w told'
+    → RunsOver (rules_by task budget) end bytes left (at_first first told) w told'
+ran_first m task first budget end bytes left told told' w is ran = subst (λ (v : World). RunsOver (rules_by task budget) end bytes left (at_first v told) w told') is ran
 
 module _ {R S : Type 0} (source_rest : R → Option (List ℕ)) (source_failures : R → ℕ) (sink_told : S → Option (List ℕ)) (sink_failures : S → ℕ)
     (given : Options) (word macros source text : List ℕ) (budget : ℕ) (trace trace' : R) (sink sink' : S) where

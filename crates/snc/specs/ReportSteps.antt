@@ -1,13 +1,11 @@
 -- What the steps of `report` and `session` answer: texts, with the messages whose text they are. No reader of the theorem needs them.
-use Rattle.std.specs.Prelude.{◌≡◌, ◌≤◌, ◌↔◌, ℕ, Bool, true, false, List, [], length, take, Option, None, Some, IsSome, IfSome}
+use Rattle.std.specs.Prelude.{◌≡◌, ◌≤◌, ◌↔◌, ℕ, Bool, true, List, [], length, take, Option, Some, IsSome, IfSome}
 use Rattle.snl_text.specs.Cut.{Reading}
 use Rattle.snl_text.specs.Lexing.{IsCut}
 use Rattle.snl_text.specs.declared.faults.LexFault.{LexFault}
 use Rattle.snl_text.specs.declared.tokens.Lexed.{Lexed}
 use Rattle.snl_text.specs.declared.tokens.Pos.{Pos}
 use Rattle.snl_syntax.specs.Programs.{ProgramTree}
-use Rattle.snl_syntax.specs.view.Programs.{program_view}
-use Rattle.snl_check.specs.declared.checked.Checked.{Checked}
 use Rattle.snl_resolve.specs.declared.options.Options.{Options}
 use Rattle.snl_messages.specs.Messages.{Said}
 use Rattle.snl_links.specs.Tables.{tables}

@@ -14,7 +14,8 @@ use Rattle.snl_meaning.specs.declared.instrs.Instr.TheVariants.{End}
 use Rattle.snl_emit.specs.BlockCode.{block_code, condition_piece, block_piece}
 use Rattle.snl_emit.specs.ExpressionCode.{expression_code}
 use Rattle.snl_code.specs.Inside.{LeadsInside, NamesInside, RunsOn}
-use Rattle.snl_code.specs.Layout.{row_code, maybe_code, clause_code, state_code, set_code, program_code}
+use Rattle.snl_code.specs.Layout.{row_code, maybe_code, clause_code, state_code, code_if, kept_code, set_code, program_code}
+use Rattle.snl_code.specs.Reached.{Table}
 use Rattle.snl_code.proofs.InsideParts.{Fits, fits-append, fits-map, fits-at, leads-inside, AllIn, in-front, in-back, in-all, h}
 use Rattle.snl_code.proofs.InsideValues.{any-value}
 use Rattle.snl_code.proofs.InsideWords.{Named}
@@ -80,17 +81,23 @@ module _ (p : ProgramTree) (set : ℕ) where
       (whole-append (Named p set) (row_code (clause_code (h p set)) 0 st.clauses) (maybe_code (block_piece (h p set)) st.exit)
       (whole-clauses 0 st.clauses s g false (in-back p (defs ++ entry) clauses three)) (whole-maybe st.exit s g (in-back p (defs ++ entry ++ clauses) exit all)))
 
+  -- a state that may have no code
+  whole-if : (b : Bool) (k : ℕ) (st : StateTree) → Whole (Named p set) (state_code (h p set) k st) → Whole (Named p set) (code_if b (h p set) k st)
+  whole-if true k st all = all
+  whole-if false k st all = λ b a. tt
+
   -- states
-  whole-states : (k n : ℕ) (sts : List StateTree) (outer : List Scope) (g : List Token) → AllIn p (in_states outer g n sts) → Whole (Named p set) (row_code (state_code (h p set)) k sts)
-  whole-states k n [] outer g all = λ b a. tt
-  whole-states k n (st ∷ sts) outer g all =
+  whole-states : (reached : ℕ → Bool) (k n : ℕ) (sts : List StateTree) (outer : List Scope) (g : List Token) → AllIn p (in_states outer g n sts) →
+      Whole (Named p set) (row_code (kept_code (h p set) reached) k sts)
+  whole-states reached k n [] outer g all = λ b a. tt
+  whole-states reached k n (st ∷ sts) outer g all =
       let own = in-front p (in_numbered outer g n st) (in_states outer g (suc n) sts) all in
-      whole-append (Named p set) (state_code (h p set) k st) (row_code (state_code (h p set)) (suc k) sts)
-      (whole-state k st outer g own.1) (whole-states (suc k) (suc n) sts outer g (in-back p (in_numbered outer g n st) (in_states outer g (suc n) sts) all))
+      whole-append (Named p set) (kept_code (h p set) reached k st) (row_code (kept_code (h p set) reached) (suc k) sts)
+      (whole-if (reached k) k st (whole-state k st outer g own.1)) (whole-states reached (suc k) (suc n) sts outer g (in-back p (in_numbered outer g n st) (in_states outer g (suc n) sts) all))
 
 -- ---- programs
 
-module _ (p : ProgramTree) where
+module _ (p : ProgramTree) (reached : Table) where
   -- what an instruction names is there on some copy
   abbrev Somewhere : Instr → Type 0
   Somewhere i = (set : ℕ) × RunsOn p set × NamesInside p set i
@@ -101,19 +108,19 @@ module _ (p : ProgramTree) where
 
   -- state sets
   whole-sets : (k : ℕ) (gs : List StateSetTree) (outer : List Scope) (names : List Token) → k + length gs ≤ length p.state_sets → AllIn p (in_state_sets outer names k gs) →
-      Whole Somewhere (row_code (set_code p) k gs)
+      Whole Somewhere (row_code (set_code reached p) k gs)
   whole-sets k [] outer names few all = λ b a. tt
   whole-sets k (g ∷ gs) outer names few all =
       let more = in_state_sets outer names (suc k) gs in
       let own = in-front p (in_numbered_set outer names k g) more all in
       let inside = scope_of outer g.definitions ∷ outer in
-      whole-append Somewhere (set_code p k g) (row_code (set_code p) (suc k) gs)
-      (whole-here k (set_code p k g) (inl (omega (arith, few)))
-      (whole-states p k 0 0 g.states inside (map (λ s. s.name) g.states) (in-back p (in_definitions false outer g.definitions) (in_all_states inside g.states) own.1)))
+      whole-append Somewhere (set_code reached p k g) (row_code (set_code reached p) (suc k) gs)
+      (whole-here k (set_code reached p k g) (inl (omega (arith, few)))
+      (whole-states p k (reached k) 0 0 g.states inside (map (λ s. s.name) g.states) (in-back p (in_definitions false outer g.definitions) (in_all_states inside g.states) own.1)))
       (whole-sets (suc k) gs outer names (omega (arith, few)) (in-back p (in_numbered_set outer names k g) more all))
 
   -- the program
-  whole-program : Whole Somewhere (program_code p)
+  whole-program : Whole Somewhere (program_code reached p)
   whole-program =
       let s = program_scopes p in
       let entry = maybe (in_plain_block s []) p.entry in
@@ -124,7 +131,7 @@ module _ (p : ProgramTree) where
       let three = in-front p (defs ++ entry ++ sets) exit all in
       let two = in-front p (defs ++ entry) sets three in
       let first = maybe_code (block_piece (h p 0)) p.entry in
-      let middle = row_code (set_code p) 0 p.state_sets in
+      let middle = row_code (set_code reached p) 0 p.state_sets in
       let last = maybe_code (block_piece (h p 0)) p.exit in
       whole-append Somewhere first (middle ++ last)
       (whole-here 0 first (inr refl) (whole-maybe p 0 p.entry s [] (in-back p defs entry two)))
@@ -133,9 +140,9 @@ module _ (p : ProgramTree) where
       (whole-here 0 last (inr refl) (whole-maybe p 0 p.exit s [] (in-back p (defs ++ entry ++ sets) exit all))))
 
   -- one of its instructions
-  pub instr-inside : (at : ℕ) (i : Instr) → slice_get (program_code p) at ≡ Some i → LeadsInside (length (program_code p)) at i × Somewhere i
+  pub instr-inside : (at : ℕ) (i : Instr) → slice_get (program_code reached p) at ≡ Some i → LeadsInside (length (program_code reached p)) at i × Somewhere i
   instr-inside at i is =
-      let k = fits-at Somewhere 0 0 (program_code p) at i (whole-program 0 0) is in
+      let k = fits-at Somewhere 0 0 (program_code reached p) at i (whole-program 0 0) is in
       let front : 0 + at ≡ at = omega arith in
-      let long : length (program_code p) ≡ at + 1 + (k.behind + 0) = omega (arith, k.long) in
-      (leads-inside (length (program_code p)) at (0 + at) (k.behind + 0) i front long k.leads, k.names)
+      let long : length (program_code reached p) ≡ at + 1 + (k.behind + 0) = omega (arith, k.long) in
+      (leads-inside (length (program_code reached p)) at (0 + at) (k.behind + 0) i front long k.leads, k.names)

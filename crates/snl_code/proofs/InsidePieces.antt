@@ -1,6 +1,6 @@
 -- What is named in a piece is there on the copy on which the piece runs.
 use Rattle.std.proofs.Common.{◌≡◌, ◌∙◌, ◌+◌, ◌<◌, ◌≤◌, ◌⊎◌, inl, inr, refl, sym, ap, subst, arith, ℕ, zero, suc, Bool, true, false, List, [], ◌∷◌, ◌++◌, Option, None, Some, length, length-append, map, slice_get}
-use Rattle.std.specs.Prelude.{◌-◌, ◌||◌, option_map, option_and_then}
+use Rattle.std.specs.Prelude.{◌-◌, ◌||◌, option_map, option_and_then, if◌then◌else◌}
 use Rattle.std.proofs.lemmas.Bool.{cases_lt}
 use Rattle.snl_text.specs.declared.tokens.Token.{Token}
 use Rattle.snl_syntax.specs.Expressions.{ExprTree}
@@ -19,8 +19,9 @@ use Rattle.snl_code.specs.declared.starts.Piece.TheVariants.{ProgramEntry, Progr
 use Rattle.snl_code.specs.Heres.{here_in}
 use Rattle.snl_code.specs.Inside.{NamesInside, set_of, IsInPiece}
 use Rattle.snl_code.specs.Layout.{program_code, program_starts}
-use Rattle.snl_code.specs.Pieces.{PieceTree, Test, Action, state_at, clause_at, piece_of}
-use Rattle.snl_code.specs.Starts.{start_in}
+use Rattle.snl_code.specs.Pieces.{PieceTree, Test, Action, state_at, clause_at, piece_of, is_kept}
+use Rattle.snl_code.specs.Reached.{Table}
+use Rattle.snl_code.specs.Starts.{holds_in, start_in}
 use Rattle.snl_code.proofs.Inside.{Whole, whole-condition, whole-block}
 use Rattle.snl_code.proofs.InsideParts.{fits-at, AllIn, in-front, in-back, in-all}
 use Rattle.snl_code.proofs.InsideWords.{Named}
@@ -223,15 +224,18 @@ module _ (p : ProgramTree) where
           absurd (inside.1 (length before + length x) (omega (arith, from)) (omega (arith, at-is, more, long)) end)
 
   -- an instruction in a piece of the program
-  pub own-names : (name : Piece) (piece : PieceTree) (start at : ℕ) (i : Instr) → piece_of p name ≡ Some piece → start_in (program_starts p) name ≡ Some start →
-      IsInPiece (program_code p) start at → slice_get (program_code p) at ≡ Some i → NamesInside p (set_of piece) i
-  own-names name piece start at i is begins inside there = by (piece_of p name) (start_in (program_starts p) name) is begins (all-stand p name) (piece-in name)
+  pub own-names : (reached : Table) (name : Piece) (piece : PieceTree) (start at : ℕ) (i : Instr) → piece_of p name ≡ Some piece → start_in (program_starts reached p) name ≡ Some start →
+      IsInPiece (program_code reached p) start at → slice_get (program_code reached p) at ≡ Some i → NamesInside p (set_of piece) i
+  own-names reached name piece start at i is begins inside there =
+      by (is_kept (holds_in (program_starts reached p)) name) (piece_of p name) (start_in (program_starts reached p) name) is begins (all-stand p reached name) (piece-in name)
     where
-      by : (o : Option PieceTree) (t : Option ℕ) → o ≡ Some piece → t ≡ Some start → Stands p (program_code p) o t → IfThere PieceIn o → NamesInside p (set_of piece) i
-      by None t no_piece at_start stands known = absurd (cc)
-      by (Some q) None this no_start stands known = absurd (cc)
-      by (Some q) (Some s) this at_start stands known =
+      by : (b : Bool) (o : Option PieceTree) (t : Option ℕ) → o ≡ Some piece → t ≡ Some start → Stands p (program_code reached p) (if b then o else None) t → IfThere PieceIn o →
+          NamesInside p (set_of piece) i
+      by b None t no_piece at_start stands known = absurd (cc)
+      by b (Some q) None this no_start stands known = absurd (cc)
+      by false (Some q) (Some s) this at_start stands known = absurd stands
+      by true (Some q) (Some s) this at_start stands known =
           let one : q ≡ piece = cc in
           let here : s ≡ start = cc in
-          in-piece (program_code p) stands.0 stands.1 piece start at i
+          in-piece (program_code reached p) stands.0 stands.1 piece start at i
           (stands.2 ∙ ap (λ (r : PieceTree). stands.0 ++ (piece_code p r ++ stands.1)) one) (sym here ∙ stands.3) (subst PieceIn one known) inside there

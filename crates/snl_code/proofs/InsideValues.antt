@@ -4,7 +4,10 @@ use Rattle.snl_text.specs.declared.tokens.Token.{Token}
 use Rattle.snl_syntax.specs.Expressions.{ExprTree, TermList, ArgumentList, constant, parenthesized, named, element, call, postfix, prefix, chain, conditional, assignment, no_terms, term, no_arguments, value, text}
 use Rattle.snl_syntax.specs.Programs.{ProgramTree}
 use Rattle.snl_resolve.specs.declared.builtins.Query.{Query}
+use Rattle.snl_resolve.specs.declared.constants.Constant.{Constant}
+use Rattle.snl_resolve.specs.declared.constants.Constant.TheVariants.{Worth}
 use Rattle.snl_resolve.specs.declared.sites.Purpose.{Purpose}
+use Rattle.snl_resolve.specs.Constants.{joined}
 use Rattle.snl_resolve.specs.Builtins.{builtin_of}
 use Rattle.snl_resolve.specs.Calls.{is_fitting}
 use Rattle.snl_resolve.specs.Purposes.{inner, in_parentheses, target, argument, is_step}
@@ -16,10 +19,11 @@ use Rattle.snl_meaning.specs.declared.instrs.Instr.TheVariants as instr
 use Rattle.snl_meaning.specs.declared.instrs.Variable.{Variable}
 use Rattle.snl_meaning.specs.Names.{sense_of, format_number}
 use Rattle.snl_meaning.specs.Value.{joint_of, compound_of, sign_of, constant_of, is_decimal}
-use Rattle.snl_emit.specs.ExpressionCode.{number_of, joint_code, get_code, CodeOn, ask_flag_code, count_values, expression_code, terms_code, target_code, print_code, values_code, wait_code, put_call_code, ask_code}
+use Rattle.snl_emit.specs.Worth.{worth_of, number_of}
+use Rattle.snl_emit.specs.ExpressionCode.{joint_code, get_code, CodeOn, ask_flag_code, count_values, expression_code, lead_code, terms_code, target_code, print_code, values_code, wait_code, put_call_code, ask_code}
 use Rattle.snl_code.specs.Inside.{IsVariableOf}
 use Rattle.snl_code.proofs.InsideParts.{text-below, AllIn, in-front, in-back, h, sense-knows}
-use Rattle.snl_code.proofs.InsideWords.{Anywhere, Asks, TakesFlag, any-none, any-one, any-append, any-push, any-joint, fits-if, any-name, any-at, any-at_name, any-put_at, any-put, any-signed, any-called, any-flag, any-ask_flag, asks-inner, asks-parentheses, asks-target, asks-argument, takes-flag, flag-argument, alone-named, prefix-sites}
+use Rattle.snl_code.proofs.InsideWords.{Anywhere, Asks, TakesFlag, any-none, any-one, any-append, any-push, any-folded, any-or, any-joint, fits-if, any-name, any-at, any-at_name, any-put_at, any-put, any-signed, any-called, any-flag, any-ask_flag, asks-inner, asks-parentheses, asks-target, asks-argument, takes-flag, flag-argument, alone-named, prefix-sites}
 
 module _ (p : ProgramTree) (set : ℕ) where
   -- ---- expressions
@@ -53,14 +57,14 @@ module _ (p : ProgramTree) (set : ℕ) where
         (any-value e w s (target u) (asks-target p set u q) all.1)
     any-value (prefix op e) w s u q all =
         let k = prefix-sites p set (is_step op.kind) w s u e op all q in
-        any-signed p set (sign_of op.kind) _ (expression_code (h p set) e) op.pos.line
+        any-folded p set (worth_of (sites p) (prefix op e)) _
+        (any-signed p set (sign_of op.kind) _ (expression_code (h p set) e) op.pos.line
         (λ by. any-target e w s k.0 k.2 k.1 _ _ _ (λ v x is. any-one p set (instr.Adjust v by op.pos.line x.pos.line false) (λ b a some. some) is)
         (λ v x is. any-one p set (instr.AdjustAt v by op.pos.line x.pos.line false) (λ b a some. some) is) (any-push p set (pos 0)))
-        (any-value e w s k.0 k.2 k.1)
+        (any-value e w s k.0 k.2 k.1))
     any-value (chain e rest) w s u q all =
-        any-append p set (expression_code (h p set) e) (terms_code (h p set) rest)
+        any-lead rest w s (inner u) (asks-inner p set u q) (in-back p (in_expression w s (inner u) e) (in_terms w s (inner u) rest) all) (worth_of (sites p) e) (expression_code (h p set) e)
         (any-value e w s (inner u) (asks-inner p set u q) (in-front p (in_expression w s (inner u) e) (in_terms w s (inner u) rest) all))
-        (any-terms rest w s (inner u) (asks-inner p set u q) (in-back p (in_expression w s (inner u) e) (in_terms w s (inner u) rest) all))
     any-value (conditional c x y) w s u q all =
         let v = inner u in
         let r = asks-inner p set u q in
@@ -68,7 +72,8 @@ module _ (p : ProgramTree) (set : ℕ) where
         let f = any-value c w s v r (in-front p (in_expression w s v c) (in_expression w s v x) two) in
         let g = any-value x w s v r (in-back p (in_expression w s v c) (in_expression w s v x) two) in
         let k = any-value y w s v r (in-back p (in_expression w s v c ++ in_expression w s v x) (in_expression w s v y) all) in
-        λ b a some. fits-if p set (expression_code (h p set) c) (expression_code (h p set) x) (expression_code (h p set) y) b a some f (λ n. g n _ (omega arith)) (λ n. k n a some)
+        any-folded p set (worth_of (sites p) (conditional c x y)) _
+        (λ b a some. fits-if p set (expression_code (h p set) c) (expression_code (h p set) x) (expression_code (h p set) y) b a some f (λ n. g n _ (omega arith)) (λ n. k n a some))
     any-value (assignment e op r) w s u q all =
         let at = in-front p (in_expression w s (target u) e) (in_expression w s (inner u) r) all.1 in
         let right = any-value r w s (inner u) (asks-inner p set u q) (in-back p (in_expression w s (target u) e) (in_expression w s (inner u) r) all.1) in
@@ -76,12 +81,26 @@ module _ (p : ProgramTree) (set : ℕ) where
         (λ v x is. any-put p set (compound_of op.kind) op.pos.line (expression_code (h p set) r) v x.pos.line is right)
         (λ v x is. any-put_at p set (compound_of op.kind) op.pos.line (expression_code (h p set) r) x.pos.line v is right) right
 
-    -- operators with their operands
+    -- operators with their operands, after what stands left of them
+    any-lead : (rest : TermList) (w : Bool) (s : List Scope) (u : Purpose) → Asks p set u → AllIn p (in_terms w s u rest) → (left : Constant) (own : List Instr) → Anywhere p set own →
+        Anywhere p set (lead_code (h p set) rest left own)
+    any-lead no_terms w s u q all left own f = f
+    any-lead (term op e rest) w s u q all left own f =
+        let jc = joint_code (joint_of op.kind) op.pos.line (number_of (sites p) e) (expression_code (h p set) e) in
+        let behind = in-back p (in_expression w s u e) (in_terms w s u rest) all in
+        any-or p set (joined op.kind left (worth_of (sites p) e)) (λ z. lead_code (h p set) rest (Worth z) (instr.Push z ∷ [])) (own ++ (jc ++ terms_code (h p set) rest))
+        (λ z. any-lead rest w s u q behind (Worth z) (instr.Push z ∷ []) (any-push p set z))
+        (any-append p set own (jc ++ terms_code (h p set) rest) f
+        (any-append p set jc (terms_code (h p set) rest)
+        (any-joint p set (joint_of op.kind) op.pos.line (number_of (sites p) e) (expression_code (h p set) e) (any-value e w s u q (in-front p (in_expression w s u e) (in_terms w s u rest) all)))
+        (any-terms rest w s u q behind)))
+
+    -- those behind a front
     any-terms : (rest : TermList) (w : Bool) (s : List Scope) (u : Purpose) → Asks p set u → AllIn p (in_terms w s u rest) → Anywhere p set (terms_code (h p set) rest)
     any-terms no_terms w s u q all = any-none p set
     any-terms (term op e rest) w s u q all =
-        any-append p set (joint_code (joint_of op.kind) op.pos.line (number_of e) (expression_code (h p set) e)) (terms_code (h p set) rest)
-        (any-joint p set (joint_of op.kind) op.pos.line (number_of e) (expression_code (h p set) e) (any-value e w s u q (in-front p (in_expression w s u e) (in_terms w s u rest) all)))
+        any-append p set (joint_code (joint_of op.kind) op.pos.line (number_of (sites p) e) (expression_code (h p set) e)) (terms_code (h p set) rest)
+        (any-joint p set (joint_of op.kind) op.pos.line (number_of (sites p) e) (expression_code (h p set) e) (any-value e w s u q (in-front p (in_expression w s u e) (in_terms w s u rest) all)))
         (any-terms rest w s u q (in-back p (in_expression w s u e) (in_terms w s u rest) all))
 
     -- what is done at a target

@@ -11,6 +11,8 @@ use Rattle.snl_resolve.specs.declared.builtins.Builtin.TheVariants.{Delay, Print
 use Rattle.snl_resolve.specs.declared.builtins.Query.{Query}
 use Rattle.snl_resolve.specs.declared.calls.Form.{Form}
 use Rattle.snl_resolve.specs.declared.calls.Form.TheVariants.{ChannelPlace, QueueName, FlagName, Seconds}
+use Rattle.snl_resolve.specs.declared.constants.Constant.{Constant}
+use Rattle.snl_resolve.specs.declared.constants.Constant.TheVariants as worth
 use Rattle.snl_resolve.specs.declared.sites.Meaning.{Meaning}
 use Rattle.snl_resolve.specs.declared.sites.Purpose.{Purpose}
 use Rattle.snl_resolve.specs.declared.sites.Purpose.TheVariants.{Flagged, Ignored}
@@ -31,7 +33,8 @@ use Rattle.snl_meaning.specs.declared.operators.Joint.TheVariants.{And, Or, Sequ
 use Rattle.snl_meaning.specs.declared.operators.Sign.{Sign}
 use Rattle.snl_meaning.specs.declared.operators.Sign.TheVariants.{Steps, Alone}
 use Rattle.snl_meaning.specs.Names.{number_by, flags_of, flag_number}
-use Rattle.snl_emit.specs.ExpressionCode.{joint_code, if_code, name_code, at_code, put_at_code, renewed_code, put_code, CodeOn, at_name_code, signed_code, called_code, ask_flag_code}
+use Rattle.snl_emit.specs.Worth.{worth_or}
+use Rattle.snl_emit.specs.ExpressionCode.{folded, joint_code, if_code, name_code, at_code, put_at_code, renewed_code, put_code, CodeOn, at_name_code, signed_code, called_code, ask_flag_code}
 use Rattle.snl_code.specs.Inside.{IsVariableOf, FlagsAreDeclared, NamesInside}
 use Rattle.snl_code.proofs.InsideParts.{Leads, Fits, fits-append, flag-below, IsSite, AllIn, h, Knows}
 
@@ -69,6 +72,18 @@ module _ (p : ProgramTree) (set : ℕ) where
   -- a number
   pub any-push : (z : _) → Anywhere (instr.Push z ∷ [])
   any-push z = any-one (instr.Push z) (λ b a some. some) tt
+
+  -- the push of what is constant, or what it would be
+  pub any-folded : (c : Constant) (own : List Instr) → Anywhere own → Anywhere (folded c own)
+  any-folded worth.Varies own f = f
+  any-folded worth.Faults own f = f
+  any-folded (worth.Worth z) own f = any-push z
+
+  -- what goes on with a number, or something else
+  pub any-or : (c : Constant) (led : ℤ → List Instr) (own : List Instr) → ((z : ℤ) → Anywhere (led z)) → Anywhere own → Anywhere (worth_or c led own)
+  any-or worth.Varies led own l f = f
+  any-or worth.Faults led own l f = f
+  any-or (worth.Worth z) led own l f = l z
 
   -- `&&`
   fits-and : (right : List Instr) → Anywhere right → (b a : ℕ) → 1 ≤ a → (line : ℕ) → Fits Named b a (joint_code And line None right)

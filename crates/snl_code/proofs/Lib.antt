@@ -1,4 +1,6 @@
+pub mod Marked
 pub mod Placed
+pub mod Apart
 pub mod DepthLaws
 pub mod Deepest
 pub mod InsideParts
@@ -9,3 +11,5 @@ pub mod Inside
 pub mod InsidePieces
 pub mod CodeInside
 pub mod Copies
+pub mod CodeShort
+pub mod CodeHeld

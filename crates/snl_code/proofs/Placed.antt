@@ -1,13 +1,17 @@
 -- Each piece of a program has its address in the program's code.
-use Rattle.std.proofs.Common.{map, ◌≡◌, ◌∙◌, ◌+◌, ℕ, zero, suc, List, [], ◌∷◌, ◌++◌, Option, None, Some, refl, sym, ap, subst, arith, append-nil, append_assoc, length, slice_get, option_map, option_and_then}
+use Rattle.std.proofs.Common.{map, ◌≡◌, ◌∙◌, ◌+◌, ◌<◌, ◌↔◌, Bool, true, false, if◌then◌else◌, ℕ, zero, suc, List, [], ◌∷◌, ◌++◌, Option, None, Some, refl, sym, ap, subst, arith, append-nil, append_assoc, length, slice_get, option_map, option_and_then}
 use Rattle.snl_syntax.specs.Expressions.{ExprTree}
 use Rattle.snl_syntax.specs.Programs.{ClauseTree, StateTree, StateSetTree, ProgramTree}
 use Rattle.snl_syntax.specs.Statements.{BlockTree}
 use Rattle.snl_meaning.specs.declared.instrs.Instr.{Instr}
 use Rattle.snl_emit.specs.BlockCode.{condition_piece, block_piece}
 use Rattle.snl_meaning.specs.Names.{Here, format_at}
+use Rattle.std.proofs.lemmas.Bool.{false≢true}
+use Rattle.std.proofs.lemmas.List.{length-map}
+use Rattle.std.proofs.lemmas.Option.{slice_get_within}
+use Rattle.snl_rules.specs.Reach.{IsReached}
 use Rattle.snl_code.specs.Depths.{capped, program_depth}
-use Rattle.snl_code.specs.Heres.{here_in}
+use Rattle.snl_code.specs.Heres.{here_in, states_by}
 use Rattle.snl_resolve.specs.Programs.{sites}
 use Rattle.std.specs.List.{flat_map}
 use Rattle.snl_meaning.specs.Endings.{HasAt}
@@ -16,9 +20,11 @@ use Rattle.snl_code.specs.declared.code.Code.{Code}
 use Rattle.snl_code.specs.declared.starts.ClauseStarts.{ClauseStarts}
 use Rattle.snl_code.specs.declared.starts.Piece.{Piece}
 use Rattle.snl_code.specs.declared.starts.Piece.TheVariants.{ProgramEntry, ProgramExit, Entry, Exit, Condition, Block}
-use Rattle.snl_code.specs.Layout.{row_code, row_starts, maybe_code, start_after, clause_code, clause_starts, state_code, state_starts, set_code, set_starts, program_code, program_starts}
-use Rattle.snl_code.specs.Pieces.{PieceTree, Test, Action, state_at, clause_at, piece_of, IsPlaced, texts_of, IsCodeOf}
-use Rattle.snl_code.specs.Starts.{StateTable, state_tables, table_of, state_in, clause_in, start_in}
+use Rattle.snl_code.specs.Layout.{row_code, row_starts, maybe_code, start_after, clause_code, clause_starts, state_code, state_starts, code_if, starts_if, kept_code, kept_starts, set_code, set_starts, program_code, program_starts}
+use Rattle.snl_code.specs.Apart.{AreApart}
+use Rattle.snl_code.specs.Pieces.{PieceTree, Test, Action, state_at, kept_piece, IsPlaced, texts_of, IsCodeOf}
+use Rattle.snl_code.specs.Reached.{Table, HasState, TellsReached}
+use Rattle.snl_code.specs.Starts.{StateTable, ProgramTable, no_pieces, state_tables, table_of, state_in, is_held, holds_in, start_in}
 
 -- ---- lists
 
@@ -27,8 +33,14 @@ pub get-behind : {A : Type 0} (before : List A) (a : A) (after : List A) → sli
 get-behind [] a after = refl
 get-behind (b ∷ before) a after = get-behind before a after
 
+-- a list has a member at each of its numbers
+pub member : {A : Type 0} (all : List A) (i : ℕ) → i < length all → (a : A) × (slice_get all i ≡ Some a)
+member [] i less = absurd (omega (arith, less))
+member (a ∷ all) zero less = (a, refl)
+member (a ∷ all) (suc i) less = member all i (omega (arith, less))
+
 -- code that stands in code is found there
-has-at : (before piece after whole : List Instr) → whole ≡ before ++ (piece ++ after) → HasAt whole (length before) piece
+pub has-at : (before piece after whole : List Instr) → whole ≡ before ++ (piece ++ after) → HasAt whole (length before) piece
 has-at before [] after whole e = tt
 has-at before (i ∷ is) after whole e = (
   ap (λ l. slice_get l (length before)) e ∙ get-behind before i (is ++ after),
@@ -41,13 +53,13 @@ has-at before (i ∷ is) after whole e = (
     length-snoc (x ∷ l) i = let r = length-snoc l i in omega (arith, r)
 
 -- the brackets of four lists
-regrouped : {A : Type 0} (a b c d : List A) → a ++ ((b ++ c) ++ d) ≡ (a ++ b) ++ (c ++ d)
+pub regrouped : {A : Type 0} (a b c d : List A) → a ++ ((b ++ c) ++ d) ≡ (a ++ b) ++ (c ++ d)
 regrouped a b c d = ap (λ l. a ++ l) (append_assoc b c d) ∙ sym (append_assoc a b (c ++ d))
 
 -- ---- rows
 
 -- the i-th number from k on
-abbrev number : ℕ → ℕ → ℕ
+abbrev pub number : ℕ → ℕ → ℕ
 number k zero = k
 number k (suc i) = number (suc k) i
 
@@ -57,7 +69,7 @@ number-is k zero = let e : k ≡ k + 0 = omega arith in e
 number-is k (suc i) = let e : suc k + i ≡ k + suc i = omega arith in number-is (suc k) i ∙ e
 
 -- What a row has at a number, and what its starts have there: both nothing, or a member with its code in the whole.
-abbrev Found : {A B : Type 0} → (ℕ → A → List Instr) → (ℕ → List Instr → A → B) → List Instr → ℕ → Option A → Option B → Type 0
+abbrev pub Found : {A B : Type 0} → (ℕ → A → List Instr) → (ℕ → List Instr → A → B) → List Instr → ℕ → Option A → Option B → Type 0
 Found code starts whole k None None = Unit {0}
 Found code starts whole k (Some a) (Some b) = (before : List Instr) × (after : List Instr) × (whole ≡ before ++ (code k a ++ after)) × (b ≡ starts k before a)
 Found code starts whole k _ _ = ⊥
@@ -127,7 +139,7 @@ module _ (p : ProgramTree) (whole : List Instr) (set : ℕ) where
   entry-placed k (Some s) None f = absurd f
 
   -- the addresses of a state's clauses
-  clauses-at : (s : StateTree) (before after : List Instr) → whole ≡ before ++ (state_code h 0 s ++ after)
+  pub clauses-at : (s : StateTree) (before after : List Instr) → whole ≡ before ++ (state_code h 0 s ++ after)
       → whole ≡ (before ++ maybe_code (block_piece h) s.entry) ++ (row_code (clause_code h) 0 s.clauses ++ (maybe_code (block_piece h) s.exit ++ after))
   clauses-at s before after e =
       e ∙ regrouped before (maybe_code (block_piece h) s.entry) (row_code (clause_code h) 0 s.clauses ++ maybe_code (block_piece h) s.exit) after
@@ -193,85 +205,177 @@ module _ (p : ProgramTree) (whole : List Instr) (set : ℕ) where
   clause-block k None (Some t) f = absurd f
   clause-block k (Some c) None f = absurd f
 
+  -- a piece of a state that is reached stands, and of one that is not there is none
+  kept-stands : (reached : ℕ → Bool) (piece : Option StateTree → Option PieceTree) (start : Option StateTable → Option ℕ) → start None ≡ None → start (Some no_pieces) ≡ None → (k : ℕ) →
+      ((o : Option StateTree) (t : Option StateTable) → Found (state_code h) (state_starts h) whole k o t → Stands p whole (piece o) (start t)) →
+      (o : Option StateTree) (t : Option StateTable) → Found (kept_code h reached) (kept_starts h reached) whole k o t →
+      Stands p whole (if is_held t then piece o else None) (start t)
+  kept-stands reached piece start none left k go None None f = subst (λ (s : Option ℕ). Stands p whole None s) (sym none) tt
+  kept-stands reached piece start none left k go None (Some t) f = absurd f
+  kept-stands reached piece start none left k go (Some s) None f = absurd f
+  kept-stands reached piece start none left k go (Some s) (Some t) f = by (reached k) f
+    where
+      by : (b : Bool) → (before : List Instr) × (after : List Instr) × (whole ≡ before ++ (code_if b h k s ++ after)) × (t ≡ starts_if b h k before s) →
+          Stands p whole (if t.is_reached then piece (Some s) else None) (start (Some t))
+      by true g =
+          let held : t.is_reached ≡ true = ap (λ (x : StateTable). x.is_reached) g.3 in
+          subst (λ (b : Bool). Stands p whole (if b then piece (Some s) else None) (start (Some t))) (sym held) (go (Some s) (Some t) g)
+      by false g =
+          subst (λ (x : StateTable). Stands p whole (if x.is_reached then piece (Some s) else None) (start (Some x))) (sym g.3)
+          (subst (λ (n : Option ℕ). Stands p whole None n) (sym left) tt)
+
+  -- a state that is there is held where it is reached
+  kept-held : (reached : ℕ → Bool) (k : ℕ) (o : Option StateTree) (t : Option StateTable) (s : StateTree) →
+      Found (kept_code h reached) (kept_starts h reached) whole k o t → o ≡ Some s → is_held t ≡ reached k
+  kept-held reached k None t s f is = absurd (cc)
+  kept-held reached k (Some x) None s f is = absurd f
+  kept-held reached k (Some x) (Some t) s f is = ap (λ (y : StateTable). y.is_reached) f.3 ∙ by (reached k)
+    where
+      by : (b : Bool) → (starts_if b h k f.0 x).is_reached ≡ b
+      by true = refl
+      by false = refl
+
+  -- one that is not there is not held
+  not-held : (reached : ℕ → Bool) (k : ℕ) (o : Option StateTree) (t : Option StateTable) →
+      Found (kept_code h reached) (kept_starts h reached) whole k o t → is_held t ≡ true → (s : StateTree) × (o ≡ Some s)
+  not-held reached k None None f held = absurd (false≢true held)
+  not-held reached k None (Some t) f held = absurd f
+  not-held reached k (Some s) t f held = (s, refl)
+
 -- a state of a state set
-state-in-set : (p : ProgramTree) (whole : List Instr) (set state : ℕ) (o : Option StateSetTree) (t : Option (List StateTable)) → Found (set_code p) (set_starts p) whole set o t
-    → Found (state_code (here_in p set)) (state_starts (here_in p set)) whole (number 0 state) (option_and_then (λ g. slice_get g.states state) o) (option_and_then (λ l. slice_get l state) t)
-state-in-set p whole set state None None f = tt
-state-in-set p whole set state (Some g) (Some t) f =
+state-in-set : (p : ProgramTree) (reached : Table) (whole : List Instr) (set state : ℕ) (o : Option StateSetTree) (t : Option (List StateTable)) →
+    Found (set_code reached p) (set_starts reached p) whole set o t →
+    Found (kept_code (here_in p set) (reached set)) (kept_starts (here_in p set) (reached set)) whole (number 0 state)
+    (option_and_then (λ g. slice_get g.states state) o) (option_and_then (λ l. slice_get l state) t)
+state-in-set p reached whole set state None None f = tt
+state-in-set p reached whole set state (Some g) (Some t) f =
     let before = f.0 in
     let after = f.1 in
     let e = f.2 in
     let is = f.3 in
-    subst (λ t. Found (state_code (here_in p set)) (state_starts (here_in p set)) whole (number 0 state) (slice_get g.states state) (slice_get t state)) (sym is)
-    (row-found (state_code (here_in p set)) (state_starts (here_in p set)) g.states 0 before after whole e state)
-state-in-set p whole set state None (Some t) f = absurd f
-state-in-set p whole set state (Some g) None f = absurd f
+    let code = kept_code (here_in p set) (reached set) in
+    let starts = kept_starts (here_in p set) (reached set) in
+    subst (λ t. Found code starts whole (number 0 state) (slice_get g.states state) (slice_get t state)) (sym is)
+    (row-found code starts g.states 0 before after whole e state)
+state-in-set p reached whole set state None (Some t) f = absurd f
+state-in-set p reached whole set state (Some g) None f = absurd f
 
-module _ (p : ProgramTree) where
-  -- the code of the program's entry block
-  abbrev first : List Instr
-  first = maybe_code (block_piece (here_in p 0)) p.entry
+-- the code of the program's entry block
+abbrev first : ProgramTree → List Instr
+first p = maybe_code (block_piece (here_in p 0)) p.entry
 
-  -- that of its state sets
-  abbrev middle : List Instr
-  middle = row_code (set_code p) 0 p.state_sets
+-- that of its exit block
+abbrev last : ProgramTree → List Instr
+last p = maybe_code (block_piece (here_in p 0)) p.exit
 
-  -- that of its exit block
-  abbrev last : List Instr
-  last = maybe_code (block_piece (here_in p 0)) p.exit
+-- that of its state sets
+abbrev middle : ProgramTree → Table → List Instr
+middle p reached = row_code (set_code reached p) 0 p.state_sets
+
+module _ (p : ProgramTree) (reached : Table) where
+  -- its code
+  abbrev whole : List Instr
+  whole = program_code reached p
+
+  -- and where its pieces begin
+  abbrev table : ProgramTable
+  table = program_starts reached p
 
   -- a state of the program
-  state-found : (set state : ℕ) → Found (state_code (here_in p set)) (state_starts (here_in p set)) (program_code p) (number 0 state) (state_at p set state) (state_in (program_starts p) set state)
+  pub state-found : (set state : ℕ) → Found (kept_code (here_in p set) (reached set)) (kept_starts (here_in p set) (reached set)) whole (number 0 state)
+      (state_at p set state) (state_in table set state)
   state-found set state =
       let n : number 0 set ≡ set = (let r = number-is 0 set in omega (arith, r)) in
-      state-in-set p (program_code p) set state (slice_get p.state_sets set) (slice_get (program_starts p).sets set)
-      (subst (λ n. Found (set_code p) (set_starts p) (program_code p) n (slice_get p.state_sets set) (slice_get (program_starts p).sets set)) n
-      (row-found (set_code p) (set_starts p) p.state_sets 0 first last (program_code p) refl set))
+      state-in-set p reached whole set state (slice_get p.state_sets set) (slice_get table.sets set)
+      (subst (λ n. Found (set_code reached p) (set_starts reached p) whole n (slice_get p.state_sets set) (slice_get table.sets set)) n
+      (row-found (set_code reached p) (set_starts reached p) p.state_sets 0 (first p) (last p) whole refl set))
+
+  -- a piece of a state
+  in-state : (set state : ℕ) (piece : Option StateTree → Option PieceTree) (start : Option StateTable → Option ℕ) → start None ≡ None → start (Some no_pieces) ≡ None →
+      ((o : Option StateTree) (t : Option StateTable) → Found (state_code (here_in p set)) (state_starts (here_in p set)) whole (number 0 state) o t →
+      Stands p whole (piece o) (start t)) →
+      Stands p whole (if holds_in table set state then piece (state_at p set state) else None) (start (state_in table set state))
+  in-state set state piece start none left go =
+      kept-stands p whole set (reached set) piece start none left (number 0 state) go (state_at p set state) (state_in table set state) (state-found set state)
 
   -- each piece stands at its address
-  pub all-stand : (piece : Piece) → Stands p (program_code p) (piece_of p piece) (start_in (program_starts p) piece)
-  all-stand ProgramEntry = block-placed p (program_code p) 0 p.entry [] (middle ++ last) refl
+  pub all-stand : (name : Piece) → Stands p whole (kept_piece (holds_in table) p name) (start_in table name)
+  all-stand ProgramEntry = block-placed p whole 0 p.entry [] (middle p reached ++ last p) refl
   all-stand ProgramExit =
-      block-placed p (program_code p) 0 p.exit (first ++ middle) []
-      (sym (append_assoc first middle last) ∙ ap (λ l. (first ++ middle) ++ l) (sym (append-nil last)))
+      block-placed p whole 0 p.exit (first p ++ middle p reached) []
+      (sym (append_assoc (first p) (middle p reached) (last p)) ∙ ap (λ l. (first p ++ middle p reached) ++ l) (sym (append-nil (last p))))
   all-stand (Entry set state) =
-      entry-placed p (program_code p) set (number 0 state) (state_at p set state) (state_in (program_starts p) set state) (state-found set state)
+      in-state set state (option_and_then (λ s. option_map (Action set) s.entry)) (option_and_then (λ s. s.entry)) refl refl (entry-placed p whole set (number 0 state))
   all-stand (Exit set state) =
-      exit-placed p (program_code p) set (number 0 state) (state_at p set state) (state_in (program_starts p) set state) (state-found set state)
+      in-state set state (option_and_then (λ s. option_map (Action set) s.exit)) (option_and_then (λ s. s.exit)) refl refl (exit-placed p whole set (number 0 state))
   all-stand (Condition set state k) =
-      clause-condition p (program_code p) set (number 0 k) (clause_at p set state k) (clause_in (program_starts p) set state k)
-      (clause-found p (program_code p) set k (number 0 state) (state_at p set state) (state_in (program_starts p) set state) (state-found set state))
+      in-state set state (λ o. option_and_then (λ c. option_map (Test set) c.condition) (option_and_then (λ s. slice_get s.clauses k) o))
+      (λ t. option_and_then (λ c. c.condition) (option_and_then (λ s. slice_get s.clauses k) t)) refl refl
+      (λ o t f. clause-condition p whole set (number 0 k) (option_and_then (λ s. slice_get s.clauses k) o) (option_and_then (λ s. slice_get s.clauses k) t)
+      (clause-found p whole set k (number 0 state) o t f))
   all-stand (Block set state k) =
-      clause-block p (program_code p) set (number 0 k) (clause_at p set state k) (clause_in (program_starts p) set state k)
-      (clause-found p (program_code p) set k (number 0 state) (state_at p set state) (state_in (program_starts p) set state) (state-found set state))
+      in-state set state (λ o. option_map (λ c. Action set c.block) (option_and_then (λ s. slice_get s.clauses k) o))
+      (λ t. option_map (λ c. c.block) (option_and_then (λ s. slice_get s.clauses k) t)) refl refl
+      (λ o t f. clause-block p whole set (number 0 k) (option_and_then (λ s. slice_get s.clauses k) o) (option_and_then (λ s. slice_get s.clauses k) t)
+      (clause-found p whole set k (number 0 state) o t f))
+
+  -- the code tells of each state that is there what the table of reached states tells;
+  pub held-is : (set state : ℕ) (g : StateSetTree) → slice_get p.state_sets set ≡ Some g → state < length g.states → holds_in table set state ≡ reached set state
+  held-is set state g at within =
+      let found = member g.states state within in
+      let there : state_at p set state ≡ Some found.0 = ap (option_and_then (λ x. slice_get x.states state)) at ∙ found.1 in
+      let same : holds_in table set state ≡ reached set (number 0 state) =
+      kept-held p whole set (reached set) (number 0 state) (state_at p set state) (state_in table set state) found.0 (state-found set state) there in
+      let n : number 0 state ≡ state = (let r = number-is 0 state in omega (arith, r)) in
+      same ∙ ap (reached set) n
+
+  -- so where that table is right, the code tells which are reached,
+  held-tells : TellsReached p reached → TellsReached p (holds_in table)
+  held-tells tells set state g at within = subst (λ (b : Bool). (b ≡ true) ↔ IsReached g.states state) (sym (held-is set state g at within)) (tells set state g at within)
+
+  -- and holds no state that is not there
+  held-within : (set state : ℕ) → holds_in table set state ≡ true → HasState p set state
+  held-within set state held = by (slice_get p.state_sets set) (let r = not-held p whole set (reached set) (number 0 state) _ _ (state-found set state) held in r)
+    where
+      by : (o : Option StateSetTree) → (s : StateTree) × (option_and_then (λ g. slice_get g.states state) o ≡ Some s) → state < length (states_by o)
+      by None r = absurd (let e : ◌≡◌ {A = Option StateTree} None (Some r.0) = r.1 in cc)
+      by (Some g) r = let within = slice_get_within g.states state r.0 r.1 in let long = length-map g.states (λ (s : StateTree). s.name) in omega (arith, within, long)
+
+-- The conditions of each state that the code has stand apart.
+abbrev pub AllApart : ProgramTree → List Instr → ProgramTable → Type 0
+AllApart p code table = (set state : ℕ) (s : StateTree) (t : StateTable) → state_at p set state ≡ Some s → state_in table set state ≡ Some t → t.is_reached ≡ true →
+    AreApart p set code 0 s.clauses t.clauses
 
 -- What is made of a program's parts, one after another, is the program's code,
-pub code-is : (p : ProgramTree) (before entered placed code : List Instr) (sets : List StateSetTree) → sets ≡ p.state_sets → before ≡ [] → entered ≡ before ++ first p
-    → placed ≡ entered ++ row_code (set_code p) 0 sets → code ≡ placed ++ last p → code ≡ program_code p
-code-is p before entered placed code sets es e0 e1 e2 e3 =
+pub code-is : (p : ProgramTree) (reached : Table) (before entered placed code : List Instr) (sets : List StateSetTree) → sets ≡ p.state_sets → before ≡ [] → entered ≡ before ++ first p
+    → placed ≡ entered ++ row_code (set_code reached p) 0 sets → code ≡ placed ++ last p → code ≡ program_code reached p
+code-is p reached before entered placed code sets es e0 e1 e2 e3 =
     let e1' : entered ≡ first p = e1 ∙ ap (λ l. l ++ first p) e0 in
-    let e2' : placed ≡ first p ++ middle p = e2 ∙ (λ j. e1' j ++ row_code (set_code p) 0 (es j)) in
-    e3 ∙ ap (λ l. l ++ last p) e2' ∙ append_assoc (first p) (middle p) (last p)
+    let e2' : placed ≡ first p ++ middle p reached = e2 ∙ (λ j. e1' j ++ row_code (set_code reached p) 0 (es j)) in
+    e3 ∙ ap (λ l. l ++ last p) e2' ∙ append_assoc (first p) (middle p reached) (last p)
 
 -- where they begin is where its pieces begin,
-pub table-is : (p : ProgramTree) (c : Code) (before entered placed : List Instr) (sets : List StateSetTree) → sets ≡ p.state_sets → before ≡ [] → entered ≡ before ++ first p
-    → c.entry ≡ start_after before p.entry → placed ≡ entered ++ row_code (set_code p) 0 sets
-    → map state_tables c.sets.items ≡ row_starts (set_code p) (set_starts p) 0 entered sets → c.exit ≡ start_after placed p.exit → table_of c ≡ program_starts p
-table-is p c before entered placed sets es e0 e1 s1 e2 s2 s3 =
+pub table-is : (p : ProgramTree) (reached : Table) (c : Code) (before entered placed : List Instr) (sets : List StateSetTree) → sets ≡ p.state_sets → before ≡ [] → entered ≡ before ++ first p
+    → c.entry ≡ start_after before p.entry → placed ≡ entered ++ row_code (set_code reached p) 0 sets
+    → map state_tables c.sets.items ≡ row_starts (set_code reached p) (set_starts reached p) 0 entered sets → c.exit ≡ start_after placed p.exit → table_of c ≡ program_starts reached p
+table-is p reached c before entered placed sets es e0 e1 s1 e2 s2 s3 =
     let e1' : entered ≡ first p = e1 ∙ ap (λ l. l ++ first p) e0 in
-    let e2' : placed ≡ first p ++ middle p = e2 ∙ (λ j. e1' j ++ row_code (set_code p) 0 (es j)) in
+    let e2' : placed ≡ first p ++ middle p reached = e2 ∙ (λ j. e1' j ++ row_code (set_code reached p) 0 (es j)) in
     let entry : c.entry ≡ start_after [] p.entry = s1 ∙ ap (λ l. start_after l p.entry) e0 in
-    let tables : map state_tables c.sets.items ≡ (program_starts p).sets = s2 ∙ (λ j. row_starts (set_code p) (set_starts p) 0 (e1' j) (es j)) in
-    let exit : c.exit ≡ (program_starts p).exit = s3 ∙ ap (λ l. start_after l p.exit) e2' in
+    let tables : map state_tables c.sets.items ≡ (program_starts reached p).sets = s2 ∙ (λ j. row_starts (set_code reached p) (set_starts reached p) 0 (e1' j) (es j)) in
+    let exit : c.exit ≡ (program_starts reached p).exit = s3 ∙ ap (λ l. start_after l p.exit) e2' in
     (λ j. record { entry = entry j; sets = tables j; exit = exit j })
 
 -- and with its strings it is right for the program.
-pub code-made : (p : ProgramTree) (c : Code) → c.instrs.items ≡ program_code p → table_of c ≡ program_starts p → texts_of c ≡ flat_map format_at (sites p)
-    → c.depth ≡ capped (program_depth p) → IsCodeOf p c
-code-made p c is all ex ed = record {
-  placed = λ piece. subst (λ l. IsPlaced p l (piece_of p piece) (start_in (table_of c) piece)) (sym is)
-      (subst (λ t. IsPlaced p (program_code p) (piece_of p piece) (start_in t piece)) (sym all)
-      (stands-right p (program_code p) (piece_of p piece) (start_in (program_starts p) piece) (all-stand p piece)));
+pub code-made : (p : ProgramTree) (reached : Table) (c : Code) → TellsReached p reached → AllApart p (program_code reached p) (program_starts reached p)
+    → c.instrs.items ≡ program_code reached p → table_of c ≡ program_starts reached p → texts_of c ≡ flat_map format_at (sites p) → c.depth ≡ capped (program_depth p) → IsCodeOf p c
+code-made p reached c tells apart is all ex ed = record {
+  reached = subst (λ (t : ProgramTable). TellsReached p (holds_in t)) (sym all) (held-tells p reached tells);
+  within = subst (λ (t : ProgramTable). (set state : ℕ) → holds_in t set state ≡ true → HasState p set state) (sym all) (held-within p reached);
+  placed = λ piece. subst (λ l. IsPlaced p l (kept_piece (holds_in (table_of c)) p piece) (start_in (table_of c) piece)) (sym is)
+      (subst (λ t. IsPlaced p (program_code reached p) (kept_piece (holds_in t) p piece) (start_in t piece)) (sym all)
+      (stands-right p (program_code reached p) (kept_piece (holds_in (program_starts reached p)) p piece) (start_in (program_starts reached p) piece) (all-stand p reached piece)));
+  apart = subst (λ (l : List Instr). AllApart p l (table_of c)) (sym is) (subst (AllApart p (program_code reached p)) (sym all) apart);
   texts = ex;
   depth = ed;
 }

@@ -1,12 +1,13 @@
 -- The code of a program: that of its pieces in the order of the source, and where each of them begins.
-use Rattle.std.specs.Prelude.{ℕ, suc, List, [], ◌∷◌, ◌++◌, Option, None, Some, length}
+use Rattle.std.specs.Prelude.{ℕ, suc, Bool, true, false, List, [], ◌∷◌, ◌++◌, Option, None, Some, length}
 use Rattle.snl_syntax.specs.Programs.{ClauseTree, StateTree, StateSetTree, ProgramTree}
 use Rattle.snl_meaning.specs.declared.instrs.Instr.{Instr}
 use Rattle.snl_emit.specs.BlockCode.{condition_piece, block_piece}
 use Rattle.snl_meaning.specs.Names.{Here}
 use Rattle.snl_code.specs.Heres.{here_in}
 use Rattle.snl_code.specs.declared.starts.ClauseStarts.{ClauseStarts}
-use Rattle.snl_code.specs.Starts.{StateTable, ProgramTable}
+use Rattle.snl_code.specs.Reached.{Table}
+use Rattle.snl_code.specs.Starts.{StateTable, ProgramTable, no_pieces}
 
 -- ---- rows
 
@@ -49,30 +50,49 @@ state_code h k s = maybe_code (block_piece h) s.entry ++ (row_code (clause_code 
 -- Where they begin.
 abbrev pub state_starts : Here → ℕ → List Instr → StateTree → StateTable
 state_starts h k before s = record {
+  is_reached = true;
   entry = start_after before s.entry;
   clauses = row_starts (clause_code h) (clause_starts h) 0 (before ++ maybe_code (block_piece h) s.entry) s.clauses;
   exit = start_after ((before ++ maybe_code (block_piece h) s.entry) ++ row_code (clause_code h) 0 s.clauses) s.exit;
 }
 
+-- A state that is reached has its code; one that is not has none.
+abbrev pub code_if : Bool → Here → ℕ → StateTree → List Instr
+code_if true h k s = state_code h k s
+code_if false h k s = []
+
+-- Where its pieces begin.
+abbrev pub starts_if : Bool → Here → ℕ → List Instr → StateTree → StateTable
+starts_if true h k before s = state_starts h k before s
+starts_if false h k before s = no_pieces
+
+-- The state of a number, by a table of the states of its state set that are reached.
+abbrev pub kept_code : Here → (ℕ → Bool) → ℕ → StateTree → List Instr
+kept_code h reached k s = code_if (reached k) h k s
+
+-- Where its pieces begin.
+abbrev pub kept_starts : Here → (ℕ → Bool) → ℕ → List Instr → StateTree → StateTable
+kept_starts h reached k before s = starts_if (reached k) h k before s
+
 -- A state set of this number: its states.
-abbrev pub set_code : ProgramTree → ℕ → StateSetTree → List Instr
-set_code p n g = row_code (state_code (here_in p n)) 0 g.states
+abbrev pub set_code : Table → ProgramTree → ℕ → StateSetTree → List Instr
+set_code reached p n g = row_code (kept_code (here_in p n) (reached n)) 0 g.states
 
 -- Where they begin.
-abbrev pub set_starts : ProgramTree → ℕ → List Instr → StateSetTree → List StateTable
-set_starts p n before g = row_starts (state_code (here_in p n)) (state_starts (here_in p n)) 0 before g.states
+abbrev pub set_starts : Table → ProgramTree → ℕ → List Instr → StateSetTree → List StateTable
+set_starts reached p n before g = row_starts (kept_code (here_in p n) (reached n)) (kept_starts (here_in p n) (reached n)) 0 before g.states
 
 -- ---- the program
 
--- The program: its entry block, its state sets, its exit block. The two blocks run on the copy of the first state set.
-abbrev pub program_code : ProgramTree → List Instr
-program_code p =
-    maybe_code (block_piece (here_in p 0)) p.entry ++ (row_code (set_code p) 0 p.state_sets ++ maybe_code (block_piece (here_in p 0)) p.exit)
+-- The program, by a table of the states that are reached: its entry block, its state sets, its exit block. The two blocks run on the copy of the first state set.
+abbrev pub program_code : Table → ProgramTree → List Instr
+program_code reached p =
+    maybe_code (block_piece (here_in p 0)) p.entry ++ (row_code (set_code reached p) 0 p.state_sets ++ maybe_code (block_piece (here_in p 0)) p.exit)
 
 -- Where they begin.
-abbrev pub program_starts : ProgramTree → ProgramTable
-program_starts p = record {
+abbrev pub program_starts : Table → ProgramTree → ProgramTable
+program_starts reached p = record {
   entry = start_after [] p.entry;
-  sets = row_starts (set_code p) (set_starts p) 0 (maybe_code (block_piece (here_in p 0)) p.entry) p.state_sets;
-  exit = start_after (maybe_code (block_piece (here_in p 0)) p.entry ++ row_code (set_code p) 0 p.state_sets) p.exit;
+  sets = row_starts (set_code reached p) (set_starts reached p) 0 (maybe_code (block_piece (here_in p 0)) p.entry) p.state_sets;
+  exit = start_after (maybe_code (block_piece (here_in p 0)) p.entry ++ row_code (set_code reached p) 0 p.state_sets) p.exit;
 }

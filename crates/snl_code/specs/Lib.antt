@@ -1,7 +1,10 @@
 pub mod Heres
+pub mod Reached
 pub mod Depths
 pub mod DepthParts
 pub mod Starts
 pub mod Layout
+pub mod Size
+pub mod Apart
 pub mod Pieces
 pub mod Inside

@@ -1,5 +1,5 @@
 -- The pieces of a program, and what it means that code is the code of a program.
-use Rattle.std.specs.Prelude.{◌≡◌, ◌≤◌, ℕ, List, map, Option, None, Some, slice_get, option_map, option_and_then}
+use Rattle.std.specs.Prelude.{◌≡◌, ◌≤◌, ℕ, Bool, true, List, map, Option, None, Some, slice_get, option_map, option_and_then, if◌then◌else◌}
 use Rattle.std.specs.List.{flat_map}
 use Rattle.snl_syntax.specs.Expressions.{ExprTree}
 use Rattle.snl_syntax.specs.Programs.{ClauseTree, StateTree, ProgramTree}
@@ -13,9 +13,11 @@ use Rattle.snl_emit.specs.Right.{IsConditionAt, IsBlockAt}
 use Rattle.snl_code.specs.declared.code.Code.{Code}
 use Rattle.snl_code.specs.declared.starts.Piece.{Piece}
 use Rattle.snl_code.specs.declared.starts.Piece.TheVariants.{ProgramEntry, ProgramExit, Entry, Exit, Condition, Block}
+use Rattle.snl_code.specs.Apart.{AreApart}
 use Rattle.snl_code.specs.Depths.{capped, program_depth}
 use Rattle.snl_code.specs.Heres.{here_in}
-use Rattle.snl_code.specs.Starts.{table_of, start_in}
+use Rattle.snl_code.specs.Reached.{Table, HasState, TellsReached}
+use Rattle.snl_code.specs.Starts.{StateTable, table_of, state_in, holds_in, start_in}
 
 -- ---- the pieces of a program
 
@@ -41,6 +43,18 @@ piece_of p (Entry set state) = option_and_then (λ s. option_map (Action set) s.
 piece_of p (Exit set state) = option_and_then (λ s. option_map (Action set) s.exit) (state_at p set state)
 piece_of p (Condition set state k) = option_and_then (λ c. option_map (Test set) c.condition) (clause_at p set state k)
 piece_of p (Block set state k) = option_map (λ c. Action set c.block) (clause_at p set state k)
+
+-- Whether the code has the pieces of this name, by a table of the states that are reached.
+abbrev pub is_kept : Table → Piece → Bool
+is_kept reached (Entry set state) = reached set state
+is_kept reached (Exit set state) = reached set state
+is_kept reached (Condition set state k) = reached set state
+is_kept reached (Block set state k) = reached set state
+is_kept reached _ = true
+
+-- The piece of a name, if the code has it: one of a state that is not reached it does not have.
+abbrev pub kept_piece : Table → ProgramTree → Piece → Option PieceTree
+kept_piece reached p name = if is_kept reached name then piece_of p name else None
 
 -- How many operands a piece holds at once.
 abbrev pub piece_depth : PieceTree → ℕ
@@ -68,9 +82,15 @@ IsPlaced p code _ _ = ⊥
 abbrev pub texts_of : Code → List (List ℕ)
 texts_of c = map (λ t. t.items) c.texts.items
 
--- Code is that of a program: each piece of the program has its address, where the code is right for it; no other piece
--- has one; its texts are the strings of the program; and its depth is that of the program, or 2^64 - 1 where that is more.
+-- Code is that of a program: it tells exactly which states are reached; each piece of the program, but for those of other
+-- states, has its address, where the code is right for it; no other piece has one; the conditions of each state that is
+-- reached have stretches of code of their own, one after another; its texts are the strings of the program; and its depth is
+-- that of the program, or 2^64 - 1 where that is more.
 pub record IsCodeOf (p : ProgramTree) (c : Code) : Type 0 where
-  pub placed : (piece : Piece) → IsPlaced p c.instrs.items (piece_of p piece) (start_in (table_of c) piece)
+  pub reached : TellsReached p (holds_in (table_of c))
+  pub within : (set state : ℕ) → holds_in (table_of c) set state ≡ true → HasState p set state
+  pub placed : (piece : Piece) → IsPlaced p c.instrs.items (kept_piece (holds_in (table_of c)) p piece) (start_in (table_of c) piece)
+  pub apart : (set state : ℕ) (s : StateTree) (t : StateTable) → state_at p set state ≡ Some s → state_in (table_of c) set state ≡ Some t → t.is_reached ≡ true →
+      AreApart p set c.instrs.items 0 s.clauses t.clauses
   pub texts : texts_of c ≡ flat_map format_at (sites p)
   pub depth : c.depth ≡ capped (program_depth p)

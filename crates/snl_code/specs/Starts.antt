@@ -1,5 +1,5 @@
 -- Where the pieces of a program begin in its code.
-use Rattle.std.specs.Prelude.{ℕ, List, map, Option, Vec, slice_get, option_map, option_and_then}
+use Rattle.std.specs.Prelude.{ℕ, Bool, false, List, [], map, Option, None, Some, Vec, slice_get, option_map, option_and_then}
 use Rattle.std.proofs.Common.{Global}
 use Rattle.snl_code.specs.declared.code.Code.{Code}
 use Rattle.snl_code.specs.declared.starts.ClauseStarts.{ClauseStarts}
@@ -7,11 +7,16 @@ use Rattle.snl_code.specs.declared.starts.Piece.{Piece}
 use Rattle.snl_code.specs.declared.starts.Piece.TheVariants.{ProgramEntry, ProgramExit, Entry, Exit, Condition, Block}
 use Rattle.snl_code.specs.declared.starts.StateStarts.{StateStarts}
 
--- Of a state.
+-- Of a state: whether it is reached, and so has code, and where its pieces begin.
 pub record StateTable : Type 0 where
+  pub is_reached : Bool
   pub entry : Option ℕ
   pub clauses : List ClauseStarts
   pub exit : Option ℕ
+
+-- Of a state without code.
+abbrev pub no_pieces : StateTable
+no_pieces = record { is_reached = false; entry = None; clauses = []; exit = None }
 
 -- Of a program: by state set its states.
 pub record ProgramTable : Type 0 where
@@ -21,7 +26,7 @@ pub record ProgramTable : Type 0 where
 
 -- What stands for a state.
 abbrev pub state_table : StateStarts → StateTable
-state_table s = record { entry = s.entry; clauses = s.clauses.items; exit = s.exit }
+state_table s = record { is_reached = s.is_reached; entry = s.entry; clauses = s.clauses.items; exit = s.exit }
 
 -- What stands for the states of a state set.
 abbrev pub state_tables : Vec StateStarts Global → List StateTable
@@ -38,6 +43,15 @@ state_in t set state = option_and_then (λ states. slice_get states state) (slic
 -- The same for a clause.
 abbrev pub clause_in : ProgramTable → ℕ → ℕ → ℕ → Option ClauseStarts
 clause_in t set state k = option_and_then (λ s. slice_get s.clauses k) (state_in t set state)
+
+-- Whether the code has a state; a state that is not there it does not have.
+abbrev pub is_held : Option StateTable → Bool
+is_held None = false
+is_held (Some s) = s.is_reached
+
+-- The same by its number.
+abbrev pub holds_in : ProgramTable → ℕ → ℕ → Bool
+holds_in t set state = is_held (state_in t set state)
 
 -- Where a piece begins; none where there is no such piece.
 abbrev pub start_in : ProgramTable → Piece → Option ℕ

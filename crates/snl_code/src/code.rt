@@ -3,7 +3,7 @@
 ghost use Rattle.std.specs.Prelude.{◌≡◌, ◌<◌, Some, length, slice_get, option_map};
 ghost use Rattle.snl_meaning.specs.Names.{text_of};
 ghost use Rattle.snl_code.specs.Pieces.{texts_of};
-ghost use Rattle.snl_code.specs.Starts.{table_of, start_in, state_table};
+ghost use Rattle.snl_code.specs.Starts.{table_of, start_in, holds_in, state_table};
 ghost use Rattle.snl_code.specs.Starts as spec;
 
 use crate::starts::{ClauseStarts, Piece, StateStarts};
@@ -86,7 +86,18 @@ impl Code {
         self.state(set, state)?.clauses.get(clause).copied()
     }
 
-    /// Where a piece begins; None where the program has no such piece.
+    /// Whether a state of a state set is reached; the pieces of one that is not have no code. State sets and states have the
+    /// numbers from 0 on, in the order of the source; a number that none has answers false. Takes no memory.
+    pub fn holds(&self, ss: usize, state: usize) -> bool
+        ensures { result ≡ holds_in (table_of self.now) ss state }
+    {
+        match self.state(ss, state) {
+            Some(starts) => starts.is_reached,
+            None => false,
+        }
+    }
+
+    /// Where a piece begins; None where the code has no such piece.
     pub fn start(&self, piece: Piece) -> Option<usize>
         ensures { result ≡ start_in (table_of self.now) piece }
     {

@@ -1,6 +1,6 @@
 //! The code of a whole program.
 
-ghost use Rattle.std.specs.Prelude.{◌≡◌, ◌++◌, map, slice_get, IfOk, OnOk};
+ghost use Rattle.std.specs.Prelude.{◌≡◌, ◌≤◌, ◌++◌, length, map, slice_get, IfOk, OnOk};
 ghost use Rattle.std.specs.List.{flat_map};
 ghost use Rattle.snl_syntax.specs.view.Shown.{shown, held};
 ghost use Rattle.snl_syntax.specs.view.Statements.{block_view};
@@ -13,7 +13,9 @@ ghost use Rattle.snl_code.specs.Heres as heres;
 ghost use Rattle.snl_code.specs.Inside.{IsInside};
 ghost use Rattle.snl_code.specs.Layout as spec;
 ghost use Rattle.snl_code.specs.Pieces.{IsCodeOf};
-ghost use Rattle.snl_code.specs.Starts.{state_tables};
+ghost use Rattle.snl_code.specs.Reached.{AreMarked, marks_in, rows, table_by};
+ghost use Rattle.snl_code.specs.Size.{program_size};
+ghost use Rattle.snl_code.specs.Starts.{state_tables, table_of, holds_in};
 
 use crate::code::Code;
 use crate::placing::{place_block, place_states};
@@ -21,6 +23,7 @@ use crate::program_depths::program_depth;
 use crate::starts::StateStarts;
 use snl_meaning::{Instr, Known, Places, Sites};
 use snl_resolve::{Numbered, Site, UseTable, variables_of};
+use snl_rules::reached_states;
 use snl_syntax::{Block, Program, State, StateSet};
 use snl_text::Token;
 use std::alloc::{AllocError, Global};
@@ -112,12 +115,35 @@ fn facts_of<'a>(alloc: Global, program: &Program<'a>, set: usize) -> Result<Fact
     Ok(Facts { name, states })
 }
 
+/// For each state set whether each of its states is reached.
+fn reached_sets(alloc: Global, sets: &[StateSet]) -> Result<Vec<Vec<bool>>, AllocError>
+    ensures { IfOk result (λ marks. AreMarked (map state_set_view sets.now) marks.items) }
+{
+    let mut marks = Vec::new(alloc);
+    for set in sets {
+        let of_set = reached_states(alloc, set.states.as_slice())?;
+        marks.push(of_set)?;
+    }
+    Ok(marks)
+}
+
+/// The marks of the states of a state set; none where there is no such state set.
+fn marks_of(marks: &[Vec<bool>], set: usize) -> &[bool]
+    ensures { result.now ≡ marks_in (rows marks.now) set }
+{
+    match marks.get(set) {
+        Some(marks) => marks.as_slice(),
+        None => &[],
+    }
+}
+
 /// Adds the code of a state set with the variables of its copy; gives where its pieces begin.
 fn place_set<'a>(
     alloc: Global,
     program: &Program<'a>,
     sites: &Sites<'_, 'a>,
     places: &Places,
+    marks: &[Vec<bool>],
     number: usize,
     set: &StateSet<'a>,
     code: &mut Vec<Instr>,
@@ -125,10 +151,11 @@ fn place_set<'a>(
     requires sites { sites.now ≡ programs.sites (program_view program.now) }
     requires places { places.now ≡ heres.placed_in (program_view program.now) number }
     ensures starts { IfOk result (λ starts. state_tables starts
-        ≡ spec.set_starts (program_view program.now) number code.old.items
+        ≡ spec.set_starts (table_by marks.now) (program_view program.now) number code.old.items
         (state_set_view set.now)) }
     ensures code { OnOk result (code.new.items ≡ code.old.items
-        ++ spec.set_code (program_view program.now) number (state_set_view set.now)) }
+        ++ spec.set_code (table_by marks.now) (program_view program.now) number
+        (state_set_view set.now)) }
 {
     let facts = facts_of(alloc, program, number)?;
     let known = Known {
@@ -138,7 +165,8 @@ fn place_set<'a>(
         sites,
         variables: places,
     };
-    place_states(alloc, set.states.as_slice(), &known, code)
+    let marks = marks_of(marks, number);
+    place_states(alloc, set.states.as_slice(), marks, &known, code)
 }
 
 /// Adds the code of all state sets; gives where their pieces begin.
@@ -147,6 +175,7 @@ fn place_sets<'a>(
     program: &Program<'a>,
     sites: &Sites<'_, 'a>,
     copies: &[Places],
+    marks: &[Vec<bool>],
     sets: &[StateSet<'a>],
     code: &mut Vec<Instr>,
 ) -> Result<Vec<Vec<StateStarts>>, AllocError>
@@ -155,16 +184,25 @@ fn place_sets<'a>(
         ≡ heres.placed_sets (program_view program.now) 0 (program_view program.now).state_sets }
     requires sets { sets.now ≡ program.now.state_sets.items }
     ensures starts { IfOk result (λ starts. map state_tables starts.items
-        ≡ spec.row_starts (spec.set_code (program_view program.now))
-        (spec.set_starts (program_view program.now)) 0 code.old.items
+        ≡ spec.row_starts (spec.set_code (table_by marks.now) (program_view program.now))
+        (spec.set_starts (table_by marks.now) (program_view program.now)) 0 code.old.items
         (map state_set_view sets.now)) }
     ensures code { OnOk result (code.new.items ≡ code.old.items
-        ++ spec.row_code (spec.set_code (program_view program.now)) 0
+        ++ spec.row_code (spec.set_code (table_by marks.now) (program_view program.now)) 0
         (map state_set_view sets.now)) }
 {
     let mut starts = Vec::new(alloc);
     for (number, set) in sets.iter().enumerate() {
-        let one = place_set(alloc, program, sites, &copies[number], number, set, code)?;
+        let one = place_set(
+            alloc,
+            program,
+            sites,
+            &copies[number],
+            marks,
+            number,
+            set,
+            code,
+        )?;
         starts.push(one)?;
     }
     Ok(starts)
@@ -200,18 +238,22 @@ fn place_own<'a>(
     place_block(alloc, block, &known, code)
 }
 
-/// The code of a program whose sites are given, and the variables of its copies.
+/// The code of a program whose sites are given, the variables of its copies, and which of its states are reached.
 fn code_of<'a>(
     alloc: Global,
     program: &Program<'a>,
     sites: &Sites<'_, 'a>,
     copies: &[Places],
+    marks: &[Vec<bool>],
 ) -> Result<Code, AllocError>
     requires sites { sites.now ≡ programs.sites (program_view program.now) }
     requires copies { copies.now
         ≡ heres.placed_sets (program_view program.now) 0 (program_view program.now).state_sets }
+    requires marks { AreMarked (program_view program.now).state_sets marks.now }
     ensures is { IfOk result (IsCodeOf (program_view program.now)) }
     ensures inside { IfOk result (IsInside (program_view program.now)) }
+    ensures short { IfOk result (λ code. length code.instrs.items
+        ≤ program_size (holds_in (table_of code)) (program_view program.now)) }
 {
     let mut instrs = Vec::new(alloc);
     let entry = place_own(alloc, program, sites, &program.entry, &mut instrs)?;
@@ -220,6 +262,7 @@ fn code_of<'a>(
         program,
         sites,
         copies,
+        marks,
         program.state_sets.as_slice(),
         &mut instrs,
     )?;
@@ -235,8 +278,9 @@ fn code_of<'a>(
     })
 }
 
-/// The code of a program, by its sites, the table of what the names in them mean, and the variables of its copies. The
-/// only error is that memory ends.
+/// The code of a program, by its sites, the table of what the names in them mean, and the variables of its copies. States
+/// that cannot be reached have no code. It has at most as many instructions as the size of the program says, in which such a
+/// state counts 0. The only error is that memory ends.
 pub fn compile<'a>(
     alloc: Global,
     program: &Program<'a>,
@@ -250,7 +294,10 @@ pub fn compile<'a>(
         ≡ heres.placed_sets (program_view program.now) 0 (program_view program.now).state_sets }
     ensures is { IfOk result (IsCodeOf (program_view program.now)) }
     ensures inside { IfOk result (IsInside (program_view program.now)) }
+    ensures short { IfOk result (λ code. length code.instrs.items
+        ≤ program_size (holds_in (table_of code)) (program_view program.now)) }
 {
     let sites = Sites::of(alloc, sites, uses)?;
-    code_of(alloc, program, &sites, copies)
+    let marks = reached_sets(alloc, program.state_sets.as_slice())?;
+    code_of(alloc, program, &sites, copies, marks.as_slice())
 }

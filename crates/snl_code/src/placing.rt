@@ -8,6 +8,7 @@ ghost use Rattle.snl_syntax.specs.view.Programs.{clause_view, state_view};
 ghost use Rattle.snl_emit.specs.BlockCode.{condition_piece, block_piece};
 ghost use Rattle.snl_meaning.specs.Known.{here_of};
 ghost use Rattle.snl_code.specs.Layout as spec;
+ghost use Rattle.snl_code.specs.Reached.{is_marked};
 ghost use Rattle.snl_code.specs.Starts.{state_table};
 
 use crate::starts::{ClauseStarts, StateStarts};
@@ -155,28 +156,68 @@ fn place_state<'a>(
     let clauses = place_clauses(alloc, state.clauses.as_slice(), known, code)?;
     let exit = place_block(alloc, &state.exit, known, code)?;
     Ok(StateStarts {
+        is_reached: true,
         entry,
         clauses,
         exit,
     })
 }
 
-/// Adds the code of states; gives where their pieces begin.
+/// Adds the code of a state, if it is reached; gives where its pieces begin.
+fn place_kept<'a>(
+    alloc: Global,
+    state: &State<'a>,
+    is_reached: bool,
+    known: &Known<'_, 'a>,
+    number: usize,
+    code: &mut Vec<Instr>,
+) -> Result<StateStarts, AllocError>
+    ensures starts { IfOk result (λ starts. state_table starts ≡ spec.starts_if is_reached
+        (here_of known.now) number code.old.items (state_view state.now)) }
+    ensures code { OnOk result (code.new.items ≡ code.old.items
+        ++ spec.code_if is_reached (here_of known.now) number (state_view state.now)) }
+{
+    if is_reached {
+        return place_state(alloc, state, known, number, code);
+    }
+    Ok(StateStarts {
+        is_reached: false,
+        entry: None,
+        clauses: Vec::new(alloc),
+        exit: None,
+    })
+}
+
+/// Whether the state of a number has a mark; false where there is no such state.
+fn marked(marks: &[bool], number: usize) -> bool
+    ensures { result ≡ is_marked marks.now number }
+{
+    match marks.get(number) {
+        Some(marked) => *marked,
+        None => false,
+    }
+}
+
+/// Adds the code of those states that have a mark; gives where the pieces of all states begin.
 pub fn place_states<'a>(
     alloc: Global,
     states: &[State<'a>],
+    marks: &[bool],
     known: &Known<'_, 'a>,
     code: &mut Vec<Instr>,
 ) -> Result<Vec<StateStarts>, AllocError>
     ensures starts { IfOk result (λ starts. map state_table starts.items
-        ≡ spec.row_starts (spec.state_code (here_of known.now))
-        (spec.state_starts (here_of known.now)) 0 code.old.items (map state_view states.now)) }
+        ≡ spec.row_starts (spec.kept_code (here_of known.now) (is_marked marks.now))
+        (spec.kept_starts (here_of known.now) (is_marked marks.now)) 0 code.old.items
+        (map state_view states.now)) }
     ensures code { OnOk result (code.new.items ≡ code.old.items
-        ++ spec.row_code (spec.state_code (here_of known.now)) 0 (map state_view states.now)) }
+        ++ spec.row_code (spec.kept_code (here_of known.now) (is_marked marks.now)) 0
+        (map state_view states.now)) }
 {
     let mut starts = Vec::new(alloc);
     for (number, state) in states.iter().enumerate() {
-        let one = place_state(alloc, state, known, number, code)?;
+        let is_reached = marked(marks, number);
+        let one = place_kept(alloc, state, is_reached, known, number, code)?;
         starts.push(one)?;
     }
     Ok(starts)

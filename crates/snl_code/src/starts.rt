@@ -44,6 +44,8 @@ pub struct ClauseStarts {
 /// Where the pieces of a state begin.
 #[derive(Drop)]
 pub struct StateStarts {
+    /// Whether the state is reached: one that is not has no code.
+    pub is_reached: bool,
     /// None where the state has no such block.
     pub entry: Option<usize>,
     /// In the order of the source.

@@ -1,21 +1,24 @@
 -- Code that is made from its end, form by form.
-use Rattle.std.proofs.Common.{◌≡◌, ◌∙◌, ℕ, Bool, true, false, List, [], ◌∷◌, ◌++◌, refl, sym, ap, append_assoc, map, Vec, Box, Global, None, Option}
+use Rattle.std.proofs.Common.{◌≡◌, ◌∙◌, ℕ, ℤ, Bool, true, false, List, [], ◌∷◌, ◌++◌, refl, sym, ap, append_assoc, ◌+◌, length, drop, map, Vec, Box, Global, None, Option, Some}
 use Rattle.snl_text.specs.declared.kinds.Kind.{Kind}
 use Rattle.snl_text.specs.declared.tokens.Token.{Token}
-use Rattle.snl_syntax.specs.Expressions.{ExprTree, assignment, postfix, prefix, no_arguments}
-use Rattle.snl_syntax.specs.declared.expressions.Expr.{Expr, Chain, Call, Assignment, Postfix, Prefix}
+use Rattle.snl_syntax.specs.Expressions.{ExprTree, conditional, assignment, postfix, prefix, no_arguments}
+use Rattle.snl_syntax.specs.declared.expressions.Expr.{Expr, Chain, Call, Conditional, Assignment, Postfix, Prefix}
 use Rattle.snl_syntax.specs.declared.expressions.Term.{Term}
 use Rattle.snl_syntax.specs.declared.expressions.Argument.{Argument}
 use Rattle.snl_syntax.specs.view.Lists.{term_list}
 use Rattle.snl_syntax.specs.view.Expressions.{view, pair_of, list_before}
 use Rattle.snl_syntax.proofs.Rows.{view_chain, view_call}
 use Rattle.snl_meaning.specs.declared.instrs.Instr.{Instr}
-use Rattle.snl_meaning.specs.declared.instrs.Instr.TheVariants.{Adjust, AdjustAt, Push}
+use Rattle.snl_meaning.specs.declared.instrs.Instr.TheVariants.{Adjust, AdjustAt, Push, Jump, JumpIfZero}
 use Rattle.std.specs.Prelude.{pos}
 use Rattle.snl_resolve.specs.declared.builtins.Query.{Query}
 use Rattle.snl_meaning.specs.Names.{Here}
-use Rattle.snl_emit.specs.ExpressionCode.{expression_code, terms_code, target_code, signed_code}
-use Rattle.snl_emit.specs.Emission.{sign_code, call_code, put_target_code, ask_target_code}
+use Rattle.snl_emit.specs.ExpressionCode.{expression_code, folded, if_code, lead_code, terms_code, target_code, signed_code}
+use Rattle.snl_emit.specs.Emission.{front_code, sign_code, call_code, put_target_code, ask_target_code}
+use Rattle.snl_resolve.specs.declared.constants.Constant.{Constant}
+use Rattle.snl_resolve.specs.declared.constants.Constant.TheVariants.{Varies, Faults, Worth}
+use Rattle.snl_emit.specs.Worth.{worth_of, worth_or, number_of}
 use Rattle.snl_emit.specs.Targets.{place_code, stored_code, adjust_code, put_instr, ask_instr}
 use Rattle.snl_meaning.specs.declared.operators.Sign.{Sign}
 use Rattle.snl_meaning.specs.declared.operators.Sign.TheVariants.{Steps, Alone}
@@ -44,17 +47,34 @@ postfix-is : (h : Here) (e : ExprTree) (op : Token) → expression_code h (postf
 postfix-is h e op = signed-cut (sign_of op.kind) h e op.pos.line true
 
 -- a sign before its operand
-prefix-is : (h : Here) (e : ExprTree) (op : Token) → expression_code h (prefix op e) ≡ sign_code h op false e
-prefix-is h e op = signed-cut (sign_of op.kind) h e op.pos.line false
+prefix-is : (h : Here) (e : ExprTree) (op : Token) → expression_code h (prefix op e) ≡ folded (worth_of h.sites (prefix op e)) (sign_code h op false e)
+prefix-is h e op = ap (λ l. folded (worth_of h.sites (prefix op e)) l) (signed-cut (sign_of op.kind) h e op.pos.line false)
 
--- A chain: its terms, and then its first operand.
-pub chain-made : (h : Here) (e d : Expr) (b : Box Expr Global) (v : Vec Term Global) (items : List Term) (old mid new : List Instr)
-    → e ≡ Chain b v → d ≡ b.value → items ≡ v.items → mid ≡ terms_code h (term_list (map pair_of items)) ++ old → new ≡ expression_code h (view d) ++ mid
-    → new ≡ expression_code h (view e) ++ old
-chain-made h e d b v items old mid new ee ed ei em en =
-    en ∙ (λ j. expression_code h (view (ed j)) ++ em j) ∙ (λ j. expression_code h (view b.value) ++ (terms_code h (term_list (map pair_of (ei j))) ++ old))
-    ∙ sym (append_assoc (expression_code h (view b.value)) (terms_code h (term_list (map pair_of v.items))) old)
+-- A chain: the terms behind its front, and then the front.
+pub chain-made : (h : Here) (e d f : Expr) (b : Box Expr Global) (v : Vec Term Global) (items others : List Term) (n : ℕ) (worth : Constant) (number : Option ℤ) (old mid new : List Instr)
+    → e ≡ Chain b v → d ≡ b.value → f ≡ b.value → items ≡ v.items → others ≡ v.items → worth ≡ worth_of h.sites (view d)
+    → ((code : List Instr) → lead_code h (term_list (map pair_of items)) worth code ≡ front_code number code ++ terms_code h (term_list (map pair_of (drop n items))))
+    → mid ≡ terms_code h (term_list (map pair_of (drop n others))) ++ old → new ≡ front_code number (expression_code h (view f)) ++ mid → new ≡ expression_code h (view e) ++ old
+chain-made h e d f b v items others n worth number old mid new ee ed ef ei eo ew led em en =
+    let fc = expression_code h (view b.value) in
+    let front = front_code number fc in
+    let behind = terms_code h (term_list (map pair_of (drop n v.items))) in
+    let first : lead_code h (term_list (map pair_of v.items)) (worth_of h.sites (view b.value)) fc ≡ front ++ behind =
+    sym ((λ j. lead_code h (term_list (map pair_of (ei j))) (ew j) fc) ∙ ap (λ x. lead_code h (term_list (map pair_of v.items)) (worth_of h.sites (view x)) fc) ed)
+    ∙ led fc ∙ ap (λ l. front ++ terms_code h (term_list (map pair_of (drop n l)))) ei in
+    en ∙ (λ j. front_code number (expression_code h (view (ef j))) ++ em j) ∙ ap (λ l. front ++ (terms_code h (term_list (map pair_of (drop n l))) ++ old)) eo
+    ∙ sym (append_assoc front behind old) ∙ ap (λ l. l ++ old) (sym first)
     ∙ ap (λ x. expression_code h x ++ old) (sym (ap view ee ∙ view_chain b v))
+
+-- what is no number has code of its own
+own-folded : (c : Constant) (own : List Instr) → ((z : ℤ) → worth_or c Some None ≡ Some z → ⊥) → folded c own ≡ own
+own-folded Varies own never = refl
+own-folded Faults own never = refl
+own-folded (Worth z) own never = absurd (never z refl)
+
+-- where there is no number, there is none
+pub none-is : (number : Option ℤ) → number ≡ None → (z : ℤ) → number ≡ Some z → ⊥
+none-is number none z some = let e : ◌≡◌ {A = Option ℤ} None (Some z) = sym none ∙ some in cc
 
 -- A call, with its arguments in a vector.
 pub call-made : (h : Here) (e : Expr) (f : Token) (v : Vec Argument Global) (items : List Argument) (old new : List Instr)
@@ -79,12 +99,34 @@ postfix-made h a d b op old new ea ed en =
     en ∙ (λ j. sign_code h op true (view (ed j)) ++ old) ∙ ap (λ l. l ++ old) (sym (postfix-is h (view b.value) op))
     ∙ ap (λ x. expression_code h (view x) ++ old) (sym ea)
 
--- A sign before its operand.
-pub prefix-made : (h : Here) (a d : Expr) (b : Box Expr Global) (op : Token) (old new : List Instr)
-    → a ≡ Prefix op b → d ≡ b.value → new ≡ sign_code h op false (view d) ++ old → new ≡ expression_code h (view a) ++ old
-prefix-made h a d b op old new ea ed en =
-    en ∙ (λ j. sign_code h op false (view (ed j)) ++ old) ∙ ap (λ l. l ++ old) (sym (prefix-is h (view b.value) op))
-    ∙ ap (λ x. expression_code h (view x) ++ old) (sym ea)
+-- A conditional that is no number: what is taken where it fails, what is taken where it holds, and its condition.
+pub conditional-made : (h : Here) (a d d2 d3 : Expr) (c x y : Box Expr Global) (number : Option ℤ) (old failed held new : List Instr)
+    → a ≡ Conditional c x y → d ≡ y.value → d2 ≡ x.value → d3 ≡ c.value → number ≡ number_of h.sites (view a) → ((z : ℤ) → number ≡ Some z → ⊥)
+    → failed ≡ Jump (length (expression_code h (view d))) ∷ (expression_code h (view d) ++ old)
+    → held ≡ JumpIfZero (length (expression_code h (view d2)) + 1) ∷ (expression_code h (view d2) ++ failed) → new ≡ expression_code h (view d3) ++ held
+    → new ≡ expression_code h (view a) ++ old
+conditional-made h a d d2 d3 c x y number old failed held new ea ed e2 e3 ew never ef eh en =
+    let cc' = expression_code h (view c.value) in
+    let hc = expression_code h (view x.value) in
+    let fc = expression_code h (view y.value) in
+    let test = JumpIfZero (length hc + 1) in
+    let over = Jump (length fc) in
+    en ∙ (λ j. expression_code h (view (e3 j)) ++ eh j)
+    ∙ (λ j. cc' ++ JumpIfZero (length (expression_code h (view (e2 j))) + 1) ∷ (expression_code h (view (e2 j)) ++ ef j))
+    ∙ (λ j. cc' ++ test ∷ (hc ++ Jump (length (expression_code h (view (ed j)))) ∷ (expression_code h (view (ed j)) ++ old)))
+    ∙ sym (append_assoc cc' (test ∷ (hc ++ over ∷ fc)) old ∙ ap (λ l. cc' ++ test ∷ l) (append_assoc hc (over ∷ fc) old))
+    ∙ ap (λ l. l ++ old)
+    (sym (own-folded (worth_of h.sites (conditional (view c.value) (view x.value) (view y.value))) (if_code cc' hc fc) (λ z is. never z (ew ∙ ap (λ q. number_of h.sites (view q)) ea ∙ is))))
+    ∙ ap (λ q. expression_code h (view q) ++ old) (sym ea)
+
+-- A sign before its operand, which stands in a box, where the two are no number.
+pub prefix-made : (h : Here) (a d : Expr) (b : Box Expr Global) (op : Token) (number : Option ℤ) (old new : List Instr)
+    → a ≡ Prefix op b → d ≡ b.value → number ≡ number_of h.sites (view a) → ((z : ℤ) → number ≡ Some z → ⊥) → new ≡ sign_code h op false (view d) ++ old
+    → new ≡ expression_code h (view a) ++ old
+prefix-made h a d b op number old new ea ed ew never en =
+    en ∙ (λ j. sign_code h op false (view (ed j)) ++ old)
+    ∙ ap (λ l. l ++ old) (sym (own-folded (worth_of h.sites (prefix op (view b.value))) (sign_code h op false (view b.value)) (λ z is. never z (ew ∙ ap (λ x. number_of h.sites (view x)) ea ∙ is))))
+    ∙ ap (λ l. l ++ old) (sym (prefix-is h (view b.value) op)) ∙ ap (λ x. expression_code h (view x) ++ old) (sym ea)
 
 -- `pvPut`: its instruction, and then the place.
 pub put-made : (h : Here) (e : ExprTree) (old mid new : List Instr) → mid ≡ put_instr h e ∷ old → new ≡ place_code h None e ++ mid

@@ -1,5 +1,9 @@
+pub mod Folding
+pub mod Pushed
+pub mod WorthLaws
 pub mod Joins
 pub mod WordCode
+pub mod FoldedCode
 pub mod DepthPositive
 pub mod ValueCode
 pub mod EffectCode
@@ -14,3 +18,5 @@ pub mod Emitting
 pub mod EntryCode
 pub mod DecimalSmall
 pub mod LoopCode
+pub mod ValueSizes
+pub mod BlockSizes

@@ -1,5 +1,5 @@
 -- The code of an expression gives its value.
-use Rattle.std.proofs.Common.{◌≡◌, ◌+◌, ◌<◌, ◌≤◌, ℕ, ℤ, pos, Bool, true, false, List, [], ◌∷◌, ◌++◌, Some, refl, ap, subst, arith, length, length-append, slice_get}
+use Rattle.std.proofs.Common.{◌≡◌, ◌+◌, ◌<◌, ◌≤◌, ℕ, ℤ, pos, Bool, true, false, List, [], ◌∷◌, ◌++◌, Some, refl, sym, subst, arith, length, length-append, slice_get}
 use Rattle.std.specs.Prelude.{max, not}
 use Rattle.snl_text.specs.declared.kinds.Kind.{Kind}
 use Rattle.snl_text.specs.declared.tokens.Token.{Token}
@@ -7,9 +7,9 @@ use Rattle.snl_syntax.specs.Expressions.{ExprTree, TermList, ArgumentList, const
 use Rattle.snl_meaning.specs.declared.instrs.Instr.{Instr}
 use Rattle.snl_meaning.specs.declared.instrs.Instr.TheVariants.{Push, Get, Adjust, AdjustAt, Print, Wait, Put, PutAt, Ask, AskLink, AskElement}
 use Rattle.snl_meaning.specs.declared.instrs.Variable.{Variable}
-use Rattle.snl_emit.specs.ExpressionCode.{CodeOn, expression_code, terms_code, target_code, values_code, print_code, wait_code, put_call_code, ask_flag_code, ask_code, expression_depth, terms_depth, target_depth, values_depth, print_depth, wait_depth, put_depth, number_of, joint_code, joint_depth, at_code, get_code, put_code, put_at_code, held_depth, count_values}
+use Rattle.snl_emit.specs.ExpressionCode.{CodeOn, expression_code, lead_code, terms_code, target_code, values_code, print_code, wait_code, put_call_code, ask_flag_code, ask_code, expression_depth, terms_depth, target_depth, values_depth, print_depth, wait_depth, put_depth, joint_code, joint_depth, at_code, get_code, put_code, put_at_code, held_depth, count_values}
 use Rattle.snl_meaning.specs.Names.{Here, sense_of, format_number, flag_number}
-use Rattle.snl_meaning.specs.Ran.{Ran, Gives}
+use Rattle.snl_meaning.specs.Ran.{Ran, Gives, then_do}
 use Rattle.snl_meaning.specs.Endings.{HasAt}
 use Rattle.snl_meaning.specs.Run.{PieceContext, context_of}
 use Rattle.snl_resolve.specs.Builtins.{builtin_of}
@@ -18,23 +18,16 @@ use Rattle.snl_meaning.specs.Value.{OnVariable, OnElement, constant_of, joint_of
 use Rattle.snl_meaning.specs.Words.{gives, read, adjusted, put_to, put_element, waited}
 use Rattle.snl_meaning.specs.Asking.{asked, ask_variable, ask_element}
 use Rattle.snl_meaning.specs.World.{World}
+use Rattle.snl_resolve.specs.declared.constants.Constant.{Constant}
+use Rattle.snl_resolve.specs.declared.constants.Constant.TheVariants.{Worth}
+use Rattle.snl_resolve.specs.Constants.{joined}
+use Rattle.snl_emit.specs.Worth.{worth_of, number_of}
 use Rattle.snl_emit.proofs.DepthPositive.{depth-positive}
+use Rattle.snl_emit.proofs.Folding.{then_do-gives, same-number, folding, front-right, number-right}
+use Rattle.snl_emit.proofs.FoldedCode.{codes-same, codes-number, codes-folded, codes-or}
 use Rattle.snl_meaning.proofs.Following.{has_front, has_back, follows-then, follows-to}
 use Rattle.snl_emit.proofs.Joins.{Runs, Codes, CodesOn, codes-pushes, on-one, codes-more, on-more, codes-then, on-then, on-none, on-joint}
 use Rattle.snl_emit.proofs.WordCode.{codes-name, codes-at_name, codes-called, on-subscript, on-put, codes-put, codes-signed, codes-either, runs-print}
-
--- a constant is its number
-number-is : (h : Here) (e : ExprTree) (z : ℤ) → number_of e ≡ Some z → (w : World) → value_of h e w ≡ Gives z w []
-number-is h (constant t) z is w = let same : constant_of t.kind t.text.now ≡ z = cc in ap (λ (n : ℤ). Gives n w []) same
-number-is h (parenthesized e) z is w = number-is h e z is w
-number-is h (named x) z is w = absurd (cc)
-number-is h (element x b e) z is w = absurd (cc)
-number-is h (call f all) z is w = absurd (cc)
-number-is h (postfix e op) z is w = absurd (cc)
-number-is h (prefix op e) z is w = absurd (cc)
-number-is h (chain e rest) z is w = absurd (cc)
-number-is h (conditional c a b) z is w = absurd (cc)
-number-is h (assignment e op r) z is w = absurd (cc)
 
 module _ (h : Here) (room : ℕ) (code : List Instr) where
   -- what the code runs with
@@ -85,6 +78,20 @@ module _ (h : Here) (room : ℕ) (code : List Instr) where
   flag-follows (conditional c a b) query = pushes-zero 1 (omega arith)
   flag-follows (assignment e op r) query = pushes-zero 1 (omega arith)
 
+  -- an operator with its operand, and those behind it
+  on-term : (op : Token) (e : ExprTree) (rest : TermList) → Codes g code (value_of h e) (expression_code h e) (expression_depth e) →
+      CodesOn g code (chained h rest) (terms_code h rest) (terms_depth rest) →
+      CodesOn g code (chained h (term op e rest)) (terms_code h (term op e rest)) (terms_depth (term op e rest))
+  on-term op e rest f k =
+      let j = joint_of op.kind in
+      let d = max (joint_depth j (expression_depth e)) (terms_depth rest) in
+      let l : joint_depth j (expression_depth e) ≤ d = omega arith in
+      let r : terms_depth rest ≤ d = omega arith in
+      on-then g code (joined_by j op.pos.line (value_of h e)) (chained h rest) (joint_code j op.pos.line (number_of h.sites e) (expression_code h e)) (terms_code h rest) d
+      (on-more g code _ _ _ d l
+      (on-joint g code j op.pos.line (number_of h.sites e) (value_of h e) (expression_code h e) (expression_depth e) (λ z is. number-right h e z is) (depth-positive e) f))
+      (on-more g code _ _ _ d r k)
+
   mutual
     -- an expression
     pub value-follows : (e : ExprTree) → Codes g code (value_of h e) (expression_code h e) (expression_depth e)
@@ -106,23 +113,24 @@ module _ (h : Here) (room : ℕ) (code : List Instr) where
         (Push (pos 0) ∷ []) 2 3 (omega arith)
         (λ x v. adjusts op.pos.line by true x 2 (omega arith) v) (λ x v. adjusts-at op.pos.line by true x 3 v) (pushes-zero 2 (omega arith))) (value-follows e)
     value-follows (prefix op e) =
-        codes-signed g code (sign_of op.kind) _ (value_of h e) _ (expression_code h e) op.pos.line (target_depth e 2 3) (expression_depth e)
+        codes-folded g code (worth_of h.sites (prefix op e)) (value_of h (prefix op e)) _ (expression_depth (prefix op e)) (depth-positive (prefix op e)) (λ z w. folding h (prefix op e) z w)
+        (codes-signed g code (sign_of op.kind) _ (value_of h e) _ (expression_code h e) op.pos.line (target_depth e 2 3) (expression_depth e)
         (λ by. target-follows e _ _ (gives (pos 0)) (λ v x. Adjust v by op.pos.line x.pos.line false ∷ []) (λ v x. AdjustAt v by op.pos.line x.pos.line false ∷ [])
         (Push (pos 0) ∷ []) 2 3 (omega arith)
-        (λ x v. adjusts op.pos.line by false x 2 (omega arith) v) (λ x v. adjusts-at op.pos.line by false x 3 v) (pushes-zero 2 (omega arith))) (value-follows e)
+        (λ x v. adjusts op.pos.line by false x 2 (omega arith) v) (λ x v. adjusts-at op.pos.line by false x 3 v) (pushes-zero 2 (omega arith))) (value-follows e))
     value-follows (chain e rest) =
         let d = max (expression_depth e) (terms_depth rest) in
         let l : expression_depth e ≤ d = omega arith in
-        let r : terms_depth rest ≤ d = omega arith in
-        codes-then g code (value_of h e) (chained h rest) (expression_code h e) (terms_code h rest) d
-        (codes-more g code _ _ _ d l (value-follows e)) (on-more g code _ _ _ d r (chain-follows rest))
+        lead-follows rest (worth_of h.sites e) (value_of h e) (expression_code h e) d (omega (arith, depth-positive e)) (omega arith) (λ z w. folding h e z w)
+        (codes-more g code _ _ _ d l (value-follows e))
     value-follows (conditional c a b) =
         let d = expression_depth (conditional c a b) in
         let l : expression_depth c ≤ d = omega arith in
         let m : expression_depth a ≤ d = omega arith in
         let r : expression_depth b ≤ d = omega arith in
-        codes-either g code (value_of h c) (value_of h a) (value_of h b) (expression_code h c) (expression_code h a) (expression_code h b) d
-        (codes-more g code _ _ _ d l (value-follows c)) (codes-more g code _ _ _ d m (value-follows a)) (codes-more g code _ _ _ d r (value-follows b))
+        codes-folded g code (worth_of h.sites (conditional c a b)) (value_of h (conditional c a b)) _ d (depth-positive (conditional c a b)) (λ z w. folding h (conditional c a b) z w)
+        (codes-either g code (value_of h c) (value_of h a) (value_of h b) (expression_code h c) (expression_code h a) (expression_code h b) d
+        (codes-more g code _ _ _ d l (value-follows c)) (codes-more g code _ _ _ d m (value-follows a)) (codes-more g code _ _ _ d r (value-follows b)))
     value-follows (assignment e op r) =
         let o = compound_of op.kind in
         let rc = expression_code h r in
@@ -134,18 +142,25 @@ module _ (h : Here) (room : ℕ) (code : List Instr) where
         (λ x v. on-put g code o op.pos.line (value_of h r) rc d x.pos.line (value-follows r) v)
         (codes-more g code (value_of h r) rc d (d + held_depth o) n (value-follows r))
 
-    -- the operators and operands of one level
+    -- the operators and operands of one level, after what stands left of them
+    lead-follows : (rest : TermList) (left : Constant) (word : World → Ran ℤ) (own : List Instr) (d : ℕ) → 1 ≤ d → terms_depth rest ≤ d →
+        ((z : ℤ) (w : World) → left ≡ Worth z → word w ≡ Gives z w []) → Codes g code word own d →
+        Codes g code (λ w. then_do (word w) (chained h rest)) (lead_code h rest left own) d
+    lead-follows no_terms left word own d some enough so f =
+        codes-same g code word (λ w. then_do (word w) (chained h no_terms)) own d (λ w. sym (then_do-gives (word w))) f
+    lead-follows (term op e rest) left word own d some enough so f =
+        codes-or g code (joined op.kind left (worth_of h.sites e)) (λ w. then_do (word w) (chained h (term op e rest))) (λ z. lead_code h rest (Worth z) (Push z ∷ []))
+        (own ++ terms_code h (term op e rest)) d
+        (λ z is. codes-same g code (λ w. then_do (gives z w) (chained h rest)) (λ w. then_do (word w) (chained h (term op e rest))) (lead_code h rest (Worth z) (Push z ∷ [])) d
+        (λ w. front-right h op e rest left (word w) z w (λ v. so v w) is)
+        (lead-follows rest (Worth z) (gives z) (Push z ∷ []) d some (omega (arith, enough)) (λ y w. same-number z y w) (codes-number g code z d some)))
+        (codes-then g code word (chained h (term op e rest)) own (terms_code h (term op e rest)) d f
+        (on-more g code _ _ (terms_depth (term op e rest)) d enough (on-term op e rest (value-follows e) (chain-follows rest))))
+
+    -- those behind the front
     chain-follows : (ts : TermList) → CodesOn g code (chained h ts) (terms_code h ts) (terms_depth ts)
     chain-follows no_terms = on-none g code 0
-    chain-follows (term op e rest) =
-        let j = joint_of op.kind in
-        let d = max (joint_depth j (expression_depth e)) (terms_depth rest) in
-        let l : joint_depth j (expression_depth e) ≤ d = omega arith in
-        let r : terms_depth rest ≤ d = omega arith in
-        on-then g code (joined_by j op.pos.line (value_of h e)) (chained h rest) (joint_code j op.pos.line (number_of e) (expression_code h e)) (terms_code h rest) d
-        (on-more g code _ _ _ d l
-        (on-joint g code j op.pos.line (number_of e) (value_of h e) (expression_code h e) (expression_depth e) (λ z is. number-is h e z is) (depth-positive e) (value-follows e)))
-        (on-more g code _ _ _ d r (chain-follows rest))
+    chain-follows (term op e rest) = on-term op e rest (value-follows e) (chain-follows rest)
 
     -- what is done at a target
     target-follows : (e : ExprTree) (alone : OnVariable) (indexed : OnElement) (other : World → Ran ℤ) (ac ic : CodeOn) (oc : List Instr) (a i : ℕ) → a ≤ i →

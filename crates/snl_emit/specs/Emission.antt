@@ -1,5 +1,5 @@
 -- The code of single forms, as it is made.
-use Rattle.std.specs.Prelude.{ℕ, ◌+◌, ◌-◌, List, [], ◌∷◌, ◌++◌, pos, Bool, None, length, reverse, set}
+use Rattle.std.specs.Prelude.{ℕ, ◌+◌, ◌-◌, ℤ, List, [], ◌∷◌, ◌++◌, pos, Bool, Option, None, Some, length, reverse, set}
 use Rattle.snl_text.specs.declared.kinds.Kind.{Kind}
 use Rattle.snl_text.specs.declared.tokens.Token.{Token}
 use Rattle.snl_syntax.specs.declared.expressions.Argument.{Argument, Value', Text}
@@ -9,7 +9,8 @@ use Rattle.snl_meaning.specs.declared.instrs.Instr.{Instr}
 use Rattle.snl_meaning.specs.declared.instrs.Instr.TheVariants.{Push, Jump, Tick, Put, PutAt, AskLink, AskElement}
 use Rattle.snl_syntax.specs.Statements.{StatementTree}
 use Rattle.snl_emit.specs.BlockCode.{statement_code}
-use Rattle.snl_emit.specs.ExpressionCode.{expression_code, target_code, number_of, operator_code, joint_code, signed_code, at_code, get_code, called_code, print_code, wait_code, put_call_code, ask_code, ask_flag_code}
+use Rattle.snl_emit.specs.Worth.{number_of}
+use Rattle.snl_emit.specs.ExpressionCode.{expression_code, target_code, operator_code, joint_code, signed_code, at_code, get_code, called_code, print_code, wait_code, put_call_code, ask_code, ask_flag_code}
 use Rattle.snl_meaning.specs.Names.{Here}
 use Rattle.snl_meaning.specs.declared.names.Sense.{Sense}
 use Rattle.snl_emit.specs.Targets.{place_code, adjust_code}
@@ -23,11 +24,16 @@ element_code x line = at_code x line get_code (Push (pos 0) ∷ [])
 
 -- An operator with its operand.
 abbrev pub term_code : Here → Token × ExprTree → List Instr
-term_code h t = joint_code (joint_of t.0.kind) t.0.pos.line (number_of t.1) (expression_code h t.1)
+term_code h t = joint_code (joint_of t.0.kind) t.0.pos.line (number_of h.sites t.1) (expression_code h t.1)
 
 -- A binary operator with its operand.
 abbrev pub operation_code : Here → Kind → ℕ → ExprTree → List Instr
-operation_code h op line e = operator_code op line (number_of e) (expression_code h e)
+operation_code h op line e = operator_code op line (number_of h.sites e) (expression_code h e)
+
+-- What stands left in a chain: the push of the number of its front, or the code of its first operand.
+abbrev pub front_code : Option ℤ → List Instr → List Instr
+front_code None code = code
+front_code (Some z) code = Push z ∷ []
 
 -- A sign with its operand.
 abbrev pub sign_code : Here → Token → Bool → ExprTree → List Instr

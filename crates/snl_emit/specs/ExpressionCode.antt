@@ -1,4 +1,5 @@
--- The code of an expression, and how many operands it needs at once. The code pushes the value.
+-- The code of an expression, and how many operands it needs at once. The code pushes the value. That of a constant expression that does
+-- not fault is the push of its number; one that faults has code, and faults when it is evaluated.
 use Rattle.std.specs.Prelude.{ℕ, suc, ◌+◌, ℤ, pos, true, false, not, List, [], ◌∷◌, ◌++◌, Option, None, Some, length, max}
 use Rattle.snl_text.specs.declared.kinds.Kind.{Kind}
 use Rattle.snl_text.specs.declared.tokens.Token.{Token}
@@ -9,7 +10,11 @@ use Rattle.snl_meaning.specs.declared.instrs.Variable.{Variable}
 use Rattle.snl_meaning.specs.Names.{Here, sense_of, format_number, flag_number}
 use Rattle.snl_meaning.specs.declared.names.Sense.{Sense}
 use Rattle.snl_meaning.specs.declared.names.Sense.TheVariants.{Varies, Stands}
+use Rattle.snl_resolve.specs.declared.constants.Constant.{Constant}
+use Rattle.snl_resolve.specs.declared.constants.Constant.TheVariants.{Worth}
 use Rattle.snl_resolve.specs.Builtins.{builtin_of}
+use Rattle.snl_resolve.specs.Constants.{joined}
+use Rattle.snl_emit.specs.Worth.{worth_of, worth_or, number_of}
 use Rattle.snl_meaning.specs.Value.{constant_of, joint_of, compound_of, sign_of, is_decimal}
 use Rattle.snl_meaning.specs.declared.operators.Joint.{Joint}
 use Rattle.snl_meaning.specs.declared.operators.Joint.TheVariants.{And, Or, Sequel, Operation}
@@ -22,13 +27,11 @@ use Rattle.snl_resolve.specs.declared.builtins.Query.{Query}
 
 -- ---- the parts
 
--- The number that an expression is, where it is a constant.
-abbrev pub number_of : ExprTree → Option ℤ
-number_of (constant t) = Some (constant_of t.kind t.text.now)
-number_of (parenthesized e) = number_of e
-number_of _ = None
+-- The code of what is constant is one push; of all else it is its own.
+abbrev pub folded : Constant → List Instr → List Instr
+folded c code = worth_or c (λ z. Push z ∷ []) code
 
--- A binary operator with the code of its operand; a constant stands in the instruction itself.
+-- A binary operator with the code of its operand; a number stands in the instruction itself.
 abbrev pub operator_code : Kind → ℕ → Option ℤ → List Instr → List Instr
 operator_code op line None right = right ++ Apply op line ∷ []
 operator_code op line (Some z) right = ApplyNumber op z line ∷ []
@@ -143,18 +146,26 @@ abbrev mutual
       signed_code (sign_of op.kind) (λ by. target_code h e (λ v x. Adjust v by op.pos.line x.pos.line true ∷ [])
       (λ v x. AdjustAt v by op.pos.line x.pos.line true ∷ []) (Push (pos 0) ∷ [])) (expression_code h e) op.pos.line
   expression_code h (prefix op e) =
-      signed_code (sign_of op.kind) (λ by. target_code h e (λ v x. Adjust v by op.pos.line x.pos.line false ∷ [])
-      (λ v x. AdjustAt v by op.pos.line x.pos.line false ∷ []) (Push (pos 0) ∷ [])) (expression_code h e) op.pos.line
-  expression_code h (chain e rest) = expression_code h e ++ terms_code h rest
-  expression_code h (conditional c a b) = if_code (expression_code h c) (expression_code h a) (expression_code h b)
+      folded (worth_of h.sites (prefix op e)) (signed_code (sign_of op.kind) (λ by. target_code h e (λ v x. Adjust v by op.pos.line x.pos.line false ∷ [])
+      (λ v x. AdjustAt v by op.pos.line x.pos.line false ∷ []) (Push (pos 0) ∷ [])) (expression_code h e) op.pos.line)
+  expression_code h (chain e rest) = lead_code h rest (worth_of h.sites e) (expression_code h e)
+  expression_code h (conditional c a b) = folded (worth_of h.sites (conditional c a b)) (if_code (expression_code h c) (expression_code h a) (expression_code h b))
   expression_code h (assignment e op r) =
       target_code h e (λ v x. put_code (compound_of op.kind) op.pos.line (expression_code h r) v x.pos.line)
       (λ v x. put_at_code (compound_of op.kind) op.pos.line (expression_code h r) x.pos.line v) (expression_code h r)
 
-  -- the operators and operands of one level
+  -- the operators and operands of one level, after what stands left of them, which is worth so much and has this code. The
+  -- front of them that is constant is one push
+  pub lead_code : Here → TermList → Constant → List Instr → List Instr
+  lead_code h no_terms left code = code
+  lead_code h (term op e rest) left code =
+      worth_or (joined op.kind left (worth_of h.sites e)) (λ z. lead_code h rest (Worth z) (Push z ∷ []))
+      (code ++ (joint_code (joint_of op.kind) op.pos.line (number_of h.sites e) (expression_code h e) ++ terms_code h rest))
+
+  -- the operators and operands behind that front
   pub terms_code : Here → TermList → List Instr
   terms_code h no_terms = []
-  terms_code h (term op e rest) = joint_code (joint_of op.kind) op.pos.line (number_of e) (expression_code h e) ++ terms_code h rest
+  terms_code h (term op e rest) = joint_code (joint_of op.kind) op.pos.line (number_of h.sites e) (expression_code h e) ++ terms_code h rest
 
   -- what is done at a target, after its subscript
   pub target_code : Here → ExprTree → CodeOn → CodeOn → List Instr → List Instr

@@ -1,5 +1,7 @@
+pub mod Worth
 pub mod ExpressionCode
 pub mod Targets
 pub mod BlockCode
 pub mod Emission
+pub mod Size
 pub mod Right

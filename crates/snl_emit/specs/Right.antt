@@ -3,10 +3,13 @@ use Rattle.std.specs.Prelude.{◌≡◌, ◌≤◌, ℕ, ℤ, List, [], ◌∷�
 use Rattle.snl_syntax.specs.Expressions.{ExprTree, slots}
 use Rattle.snl_syntax.specs.Statements.{BlockTree}
 use Rattle.snl_meaning.specs.declared.instrs.Instr.{Instr}
+use Rattle.snl_meaning.specs.declared.instrs.Instr.TheVariants.{Push}
 use Rattle.snl_emit.specs.BlockCode.{condition_piece, block_piece, block_depth}
 use Rattle.snl_meaning.specs.Endings.{IsNotStuck, HasAt}
 use Rattle.snl_meaning.specs.Effect.{Way, Left, block_effect}
-use Rattle.snl_emit.specs.ExpressionCode.{expression_depth}
+use Rattle.snl_emit.specs.ExpressionCode.{expression_code, expression_depth}
+use Rattle.snl_emit.specs.Worth.{worth_of}
+use Rattle.snl_resolve.specs.declared.constants.Constant.TheVariants.{Worth}
 use Rattle.snl_meaning.specs.Names.{Here}
 use Rattle.snl_meaning.specs.Ran.{Ran, Gives, then_do}
 use Rattle.snl_meaning.specs.Run.{context_of, Exit, Over, LeftFor, exec, run_of}
@@ -39,6 +42,14 @@ pub record IsBlockAt (h : Here) (code : List Instr) (room start : ℕ) (block : 
   pub never_stuck : (w : World) (m : ℕ) → IsNotStuck (exec (context_of h room) code m start [] w)
 
 -- ---- the laws
+
+-- What an expression is worth it gives in every world, and does nothing else.
+abbrev pub FoldingIsRight : Type 0
+FoldingIsRight = (h : Here) (e : ExprTree) (z : ℤ) (w : World) → worth_of h.sites e ≡ Worth z → value_of h e w ≡ Gives z w []
+
+-- The code of a constant expression that does not fault is one instruction, the push of what it is worth.
+abbrev pub ConstantsArePushed : Type 0
+ConstantsArePushed = (h : Here) (e : ExprTree) (z : ℤ) → worth_of h.sites e ≡ Worth z → expression_code h e ≡ Push z ∷ []
 
 -- The code of a condition is right for it, wherever it stands, with room for its depth.
 abbrev pub ConditionsAreRight : Type 0

@@ -1,23 +1,24 @@
 //! The code of an expression. It is made from its end: what runs last is put first, so the length
 //! of what a jump passes is known when the jump is made.
 
-ghost use Rattle.std.specs.Prelude.{◌≡◌, ◌∷◌, ◌++◌, ◌+◌, length, map, reverse, OnOk};
-ghost use Rattle.snl_syntax.specs.Expressions.{no_arguments};
+ghost use Rattle.std.specs.Prelude.{◌≡◌, ◌≤◌, ◌∷◌, ◌++◌, ◌+◌, drop, length, map, reverse, OnOk};
 ghost use Rattle.snl_syntax.specs.view.Lists.{term_list};
-ghost use Rattle.snl_syntax.specs.view.Expressions.{view, pair_of, list_before};
+ghost use Rattle.snl_syntax.specs.view.Expressions.{view, pair_of};
 ghost use Rattle.snl_emit.specs.Emission as form;
 ghost use Rattle.snl_emit.specs.ExpressionCode as spec;
 ghost use Rattle.snl_meaning.specs.Known.{here_of};
+ghost use Rattle.snl_meaning.specs.Names.{sense_of};
 ghost use Rattle.snl_emit.specs.Targets.{place_code};
 ghost use Rattle.snl_meaning.specs.declared.instrs.Instr.TheVariants as instr;
 
-use crate::constants::{constant_of, number_of};
-use crate::parts::{count_values, put_checked, put_old, put_read, read_name};
+use crate::calls::emit_call;
+use crate::constants::constant_of;
+use crate::parts::{put_checked, put_old, put_read, read_name};
 use crate::rows::put;
-use crate::targets::{adjusted, ask_instr, put_instr, put_stored};
-use snl_meaning::{Instr, Joint, Known, Sign, compound_of, is_decimal, joint_of, sign_of};
-use snl_resolve::{Builtin, Query, builtin_of};
-use snl_syntax::{Argument, Expr, Term};
+use crate::targets::{adjusted, put_stored};
+use crate::worth::{front_of, number_of, worth_of};
+use snl_meaning::{Instr, Joint, Known, Sign, compound_of, joint_of, sign_of};
+use snl_syntax::{Expr, Term};
 use snl_text::{Kind, Token};
 use std::alloc::AllocError;
 
@@ -41,18 +42,22 @@ pub fn emit_expression<'a>(
             name,
             bracket,
             index,
-        } => {
-            put_read(code, known.sense(*name), bracket.pos.line)?;
-            emit_expression(index, known, code)
-        }
+        } => emit_element(index, known, *name, bracket.pos.line, code),
         Expr::Call(name, arguments) => emit_call(arguments.as_slice(), known, *name, code),
         Expr::Postfix(target, operator) => emit_sign(target, known, *operator, true, code),
-        Expr::Prefix(operator, operand) => emit_sign(operand, known, *operator, false, code),
+        Expr::Prefix(operator, operand) => match number_of(expression, known.sites) {
+            Some(number) => put(code, Instr::Push(number)),
+            None => emit_sign(operand, known, *operator, false, code),
+        },
         Expr::Chain(first, terms) => {
-            emit_terms(terms.as_slice(), known, code)?;
-            emit_expression(first, known, code)
+            let front = front_of(terms.as_slice(), known, worth_of(first, known.sites));
+            emit_terms(terms.as_slice(), front.terms, known, code)?;
+            emit_front(first, front.number, known, code)
         }
         Expr::Conditional { condition, yes, no } => {
+            if let Some(number) = number_of(expression, known.sites) {
+                return put(code, Instr::Push(number));
+            }
             emit_failed(no, known, code)?;
             emit_held(yes, known, code)?;
             emit_expression(condition, known, code)
@@ -68,6 +73,24 @@ pub fn emit_expression<'a>(
             emit_place(target, known, joined, code)
         }
     }
+}
+
+/// The read of an element of this variable, behind its subscript.
+#[cycle(emission)]
+fn emit_element<'a>(
+    index: &Expr<'a>,
+    known: &Known<'_, 'a>,
+    name: Token<'a>,
+    line: usize,
+    code: &mut Vec<Instr>,
+) -> Result<(), AllocError>
+    ensures { OnOk result (reverse code.new.items
+        ≡ spec.expression_code (here_of known.now) (view index.now)
+        ++ (form.element_code (sense_of (here_of known.now) name.entry) line
+        ++ reverse code.old.items)) }
+{
+    put_read(code, known.sense(name), line)?;
+    emit_expression(index, known, code)
 }
 
 /// What is taken where the condition holds: it stands behind a jump over itself and one instruction more.
@@ -104,18 +127,38 @@ fn emit_failed<'a>(
     put(code, Instr::Jump(passed))
 }
 
-/// The operators of a chain, each with its operand.
+/// What stands left in a chain: the number of its front that is constant, if it has one, and else its first operand.
 #[cycle(emission)]
-fn emit_terms<'a>(
-    terms: &[Term<'a>],
+fn emit_front<'a>(
+    first: &Expr<'a>,
+    number: Option<i64>,
     known: &Known<'_, 'a>,
     code: &mut Vec<Instr>,
 ) -> Result<(), AllocError>
     ensures { OnOk result (reverse code.new.items
-        ≡ spec.terms_code (here_of known.now) (term_list (map pair_of terms.now))
+        ≡ form.front_code number (spec.expression_code (here_of known.now) (view first.now))
         ++ reverse code.old.items) }
 {
-    for number in (0..terms.len()).rev() {
+    match number {
+        Some(number) => put(code, Instr::Push(number)),
+        None => emit_expression(first, known, code),
+    }
+}
+
+/// The operators of a chain from a number on, each with its operand.
+#[cycle(emission)]
+fn emit_terms<'a>(
+    terms: &[Term<'a>],
+    start: usize,
+    known: &Known<'_, 'a>,
+    code: &mut Vec<Instr>,
+) -> Result<(), AllocError>
+    requires { start ≤ length terms.now }
+    ensures { OnOk result (reverse code.new.items
+        ≡ spec.terms_code (here_of known.now) (term_list (map pair_of (drop start terms.now)))
+        ++ reverse code.old.items) }
+{
+    for number in (start..terms.len()).rev() {
         emit_term(&terms[number], known, code)?;
     }
     Ok(())
@@ -161,7 +204,7 @@ fn emit_term<'a>(
     }
 }
 
-/// A binary operator with its operand; a constant stands in the instruction itself.
+/// A binary operator with its operand; a number stands in the instruction itself.
 #[cycle(emission)]
 fn emit_operation<'a>(
     operand: &Expr<'a>,
@@ -174,7 +217,7 @@ fn emit_operation<'a>(
         ≡ form.operation_code (here_of known.now) operator line (view operand.now)
         ++ reverse code.old.items) }
 {
-    if let Some(number) = number_of(operand) {
+    if let Some(number) = number_of(operand, known.sites) {
         return put(
             code,
             Instr::ApplyNumber {
@@ -217,7 +260,7 @@ fn emit_sign<'a>(
 /// What is done at a target before the right side: its subscript, and the read of its old value
 /// where an operator joins it with the right side.
 #[cycle(emission)]
-fn emit_place<'a>(
+pub fn emit_place<'a>(
     target: &Expr<'a>,
     known: &Known<'_, 'a>,
     operator: Option<Kind>,
@@ -239,167 +282,4 @@ fn emit_place<'a>(
         }
         _ => Ok(()),
     }
-}
-
-/// A call with its arguments.
-#[cycle(emission)]
-fn emit_call<'a>(
-    arguments: &[Argument<'a>],
-    known: &Known<'_, 'a>,
-    name: Token<'a>,
-    code: &mut Vec<Instr>,
-) -> Result<(), AllocError>
-    ensures { OnOk result (reverse code.new.items
-        ≡ form.call_code (here_of known.now) name.entry (list_before arguments.now no_arguments)
-        ++ reverse code.old.items) }
-{
-    match builtin_of(name.text) {
-        Some(Builtin::Delay) => emit_wait(arguments, known, code),
-        Some(Builtin::Printf) => emit_print(arguments, known, code),
-        Some(Builtin::PvPut) => emit_put(arguments, known, code),
-        Some(Builtin::Ask(query)) => emit_ask(arguments, known, query, code),
-        None => put(code, Instr::Push(0)),
-    }
-}
-
-/// `printf`: the values after the format, and the line.
-#[cycle(emission)]
-fn emit_print<'a>(
-    arguments: &[Argument<'a>],
-    known: &Known<'_, 'a>,
-    code: &mut Vec<Instr>,
-) -> Result<(), AllocError>
-    ensures { OnOk result (reverse code.new.items
-        ≡ spec.print_code (here_of known.now) (list_before arguments.now no_arguments)
-        ++ reverse code.old.items) }
-{
-    match arguments.first() {
-        Some(Argument::Text(text)) => {
-            let format = known.format(*text);
-            let count = count_values(arguments);
-            put(code, Instr::Print { format, count })?;
-            emit_values(arguments, known, code)
-        }
-        _ => put(code, Instr::Push(0)),
-    }
-}
-
-/// The values of the arguments. A string has none.
-#[cycle(emission)]
-fn emit_values<'a>(
-    arguments: &[Argument<'a>],
-    known: &Known<'_, 'a>,
-    code: &mut Vec<Instr>,
-) -> Result<(), AllocError>
-    ensures { OnOk result (reverse code.new.items
-        ≡ spec.values_code (here_of known.now) (list_before arguments.now no_arguments)
-        ++ reverse code.old.items) }
-{
-    for number in (0..arguments.len()).rev() {
-        emit_value(&arguments[number], known, code)?;
-    }
-    Ok(())
-}
-
-/// The value of an argument.
-#[cycle(emission)]
-fn emit_value<'a>(
-    argument: &Argument<'a>,
-    known: &Known<'_, 'a>,
-    code: &mut Vec<Instr>,
-) -> Result<(), AllocError>
-    ensures { OnOk result (reverse code.new.items
-        ≡ form.value_code (here_of known.now) argument.now ++ reverse code.old.items) }
-{
-    match argument {
-        Argument::Value(value) => emit_expression(value, known, code),
-        Argument::Text(_) => Ok(()),
-    }
-}
-
-/// `delay`: the time, and whether it has passed.
-#[cycle(emission)]
-fn emit_wait<'a>(
-    arguments: &[Argument<'a>],
-    known: &Known<'_, 'a>,
-    code: &mut Vec<Instr>,
-) -> Result<(), AllocError>
-    ensures { OnOk result (reverse code.new.items
-        ≡ spec.wait_code (here_of known.now) (list_before arguments.now no_arguments)
-        ++ reverse code.old.items) }
-{
-    match arguments.first() {
-        Some(Argument::Value(time)) => {
-            let in_seconds = !is_decimal(time);
-            put(code, Instr::Wait { in_seconds })?;
-            emit_expression(time, known, code)
-        }
-        _ => put(code, Instr::Push(0)),
-    }
-}
-
-/// `pvPut` of its argument.
-#[cycle(emission)]
-fn emit_put<'a>(
-    arguments: &[Argument<'a>],
-    known: &Known<'_, 'a>,
-    code: &mut Vec<Instr>,
-) -> Result<(), AllocError>
-    ensures { OnOk result (reverse code.new.items
-        ≡ spec.put_call_code (here_of known.now) (list_before arguments.now no_arguments)
-        ++ reverse code.old.items) }
-{
-    match arguments.first() {
-        Some(Argument::Value(target)) => emit_put_of(target, known, code),
-        _ => put(code, Instr::Push(0)),
-    }
-}
-
-/// `pvPut` of a target: its subscript, if it has one, and the put.
-#[cycle(emission)]
-fn emit_put_of<'a>(
-    target: &Expr<'a>,
-    known: &Known<'_, 'a>,
-    code: &mut Vec<Instr>,
-) -> Result<(), AllocError>
-    ensures { OnOk result (reverse code.new.items
-        ≡ form.put_target_code (here_of known.now) (view target.now) ++ reverse code.old.items) }
-{
-    put(code, put_instr(target, known))?;
-    emit_place(target, known, None, code)
-}
-
-/// A call that asks, by its argument; without one, of all links.
-#[cycle(emission)]
-fn emit_ask<'a>(
-    arguments: &[Argument<'a>],
-    known: &Known<'_, 'a>,
-    query: Query,
-    code: &mut Vec<Instr>,
-) -> Result<(), AllocError>
-    ensures { OnOk result (reverse code.new.items
-        ≡ spec.ask_code (here_of known.now) (list_before arguments.now no_arguments) query
-        ++ reverse code.old.items) }
-{
-    match arguments.first() {
-        None => put(code, Instr::Ask { query, number: 0 }),
-        Some(Argument::Value(target)) => emit_ask_of(target, known, query, code),
-        Some(Argument::Text(_)) => put(code, Instr::Push(0)),
-    }
-}
-
-/// A call that asks by a target: its subscript, if it has one, and the question.
-#[cycle(emission)]
-fn emit_ask_of<'a>(
-    target: &Expr<'a>,
-    known: &Known<'_, 'a>,
-    query: Query,
-    code: &mut Vec<Instr>,
-) -> Result<(), AllocError>
-    ensures { OnOk result (reverse code.new.items
-        ≡ form.ask_target_code (here_of known.now) query (view target.now)
-        ++ reverse code.old.items) }
-{
-    put(code, ask_instr(target, known, query))?;
-    emit_place(target, known, None, code)
 }

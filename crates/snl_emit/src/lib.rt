@@ -1,6 +1,7 @@
 //! Makes the flat code of one condition or one block, with the law that it does what the piece means.
 #![tactic(auto)]
 
+mod calls;
 mod constants;
 mod effects;
 mod emission;
@@ -10,6 +11,7 @@ mod parts;
 mod rows;
 mod statements;
 mod targets;
+mod worth;
 
 pub use emission::emit_expression;
 pub use statements::emit_block;

@@ -1,12 +1,12 @@
 -- The clauses of a program, run by their plans.
-use Rattle.std.proofs.Common.{◌≡◌, ◌∙◌, ◌≤◌, ◌+◌, ℕ, zero, suc, List, [], ◌∷◌, Option, None, Some, refl, ap, subst, arith, map, slice_get, option_map, option_and_then, unwrap_or}
+use Rattle.std.proofs.Common.{◌≡◌, ◌∙◌, ◌≤◌, ◌+◌, ℕ, zero, suc, Bool, true, if◌then◌else◌, List, [], ◌∷◌, Option, None, Some, refl, ap, subst, arith, map, slice_get, option_map, option_and_then, unwrap_or}
 use Rattle.snl_syntax.specs.Programs.{ClauseTree, ProgramTree}
 use Rattle.snl_code.specs.declared.starts.Piece.{Piece}
 use Rattle.snl_code.specs.declared.starts.Piece.TheVariants.{Condition, Block}
 use Rattle.snl_code.specs.Depths.{program_depth}
 use Rattle.snl_code.specs.Heres.{here_in}
-use Rattle.snl_code.specs.Pieces.{IsPlaced, PieceTree, Test, Action, piece_of, clause_at}
-use Rattle.snl_code.specs.Starts.{ProgramTable, start_in}
+use Rattle.snl_code.specs.Pieces.{IsPlaced, PieceTree, Test, Action, piece_of, kept_piece, clause_at}
+use Rattle.snl_code.specs.Starts.{ProgramTable, holds_in, start_in}
 use Rattle.snl_code.proofs.Deepest.{depth_is_enough}
 use Rattle.snl_meaning.specs.declared.instrs.Instr.{Instr}
 use Rattle.snl_meaning.specs.Effect.{held_by, block_effect}
@@ -21,10 +21,14 @@ use Rattle.snl_load.specs.Meaning.{clause_meaning, left_for}
 use Rattle.snl_load.specs.Plans.{clause_plan, clause_plans}
 use Rattle.snl_load.proofs.Pieces.{condition-means, block-means}
 
-module _ (p : ProgramTree) (code : List Instr) (t : ProgramTable) (room set : ℕ) (placed : (name : Piece) → IsPlaced p code (piece_of p name) (start_in t name))
-    (enough : program_depth p ≤ room) (state : ℕ) where
+module _ (p : ProgramTree) (code : List Instr) (t : ProgramTable) (room set : ℕ) (placed : (name : Piece) → IsPlaced p code (kept_piece (holds_in t) p name) (start_in t name))
+    (enough : program_depth p ≤ room) (state : ℕ) (held : holds_in t set state ≡ true) where
   abbrev pub context : PieceContext
   context = context_of (here_in p set) room
+
+  -- the code has the piece of a name that stands in the state
+  kept : (o : Option PieceTree) → (if holds_in t set state then o else None) ≡ o
+  kept o = ap (λ (b : Bool). if b then o else None) held
 
   -- the condition of a clause
   condition : (k : ℕ) (c : ClauseTree) → clause_at p set state k ≡ Some c →
@@ -32,14 +36,14 @@ module _ (p : ProgramTree) (code : List Instr) (t : ProgramTable) (room set : �
   condition k c at =
       let name = Condition set state k in
       let is : piece_of p name ≡ option_map (Test set) c.condition = ap (option_and_then (λ d. option_map (Test set) d.condition)) at in
-      condition-means p code room set c.condition (start_in t name) (subst (λ (o : Option PieceTree). IsPlaced p code o (start_in t name)) is (placed name))
+      condition-means p code room set c.condition (start_in t name) (subst (λ (o : Option PieceTree). IsPlaced p code o (start_in t name)) (kept (piece_of p name) ∙ is) (placed name))
       (λ x there. omega (arith, enough, depth_is_enough p name (Test set x) (is ∙ ap (option_map (Test set)) there)))
 
   -- the block of a clause
   block : (k : ℕ) (c : ClauseTree) → clause_at p set state k ≡ Some c → let start = unwrap_or (start_in t (Block set state k)) 0 in
       ((w : World) → left_at context code start w ≡ then_do (block_effect (here_in p set) c.block w) left_for) × ((w : World) → IsOver (run_of context code start w))
   block k c at =
-      let name = Block set state k in by (start_in t name) (subst (λ (o : Option PieceTree). IsPlaced p code o (start_in t name)) is (placed name))
+      let name = Block set state k in by (start_in t name) (subst (λ (o : Option PieceTree). IsPlaced p code o (start_in t name)) (kept (piece_of p name) ∙ is) (placed name))
     where
       is : piece_of p (Block set state k) ≡ Some (Action set c.block)
       is = ap (option_map (λ d. Action set d.block)) at

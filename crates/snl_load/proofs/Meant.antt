@@ -7,8 +7,8 @@ use Rattle.snl_code.specs.declared.starts.Piece.{Piece}
 use Rattle.snl_code.specs.declared.starts.Piece.TheVariants.{ProgramEntry, ProgramExit}
 use Rattle.snl_code.specs.Depths.{program_depth}
 use Rattle.snl_code.specs.Heres.{here_in, name_by, states_by}
-use Rattle.snl_code.specs.Pieces.{IsPlaced, PieceTree, Action, piece_of, state_at}
-use Rattle.snl_code.specs.Starts.{table_of, start_in}
+use Rattle.snl_code.specs.Pieces.{IsPlaced, PieceTree, Action, piece_of, kept_piece, state_at}
+use Rattle.snl_code.specs.Starts.{table_of, holds_in, start_in}
 use Rattle.snl_code.proofs.Deepest.{depth_is_enough}
 use Rattle.snl_links.specs.Links.{Link}
 use Rattle.snl_meaning.specs.declared.instrs.Instr.{Instr}
@@ -22,14 +22,16 @@ use Rattle.snl_schedule.specs.Instant.{first_name}
 use Rattle.snl_schedule.specs.Loaded.{Loaded, context_in, own_context, sets_from}
 use Rattle.snl_load.specs.Meaning.{block_meaning, state_meaning, set_meaning, set_meanings}
 use Rattle.snl_load.specs.Plans.{PlainPlan, PlainSet, set_view, state_view, state_plans, set_plan, set_plans}
+use Rattle.snl_load.specs.Reached.{set_reached, states_reached}
 use Rattle.snl_load.specs.Right.{IsLoadedOf, PlansAreRight}
+use Rattle.snl_code.specs.Reached.{Table}
 use Rattle.snl_load.proofs.Pieces.{outer-means}
 use Rattle.snl_load.proofs.Sets.{states-mean, states-run}
 
 module _ (p : ProgramTree) (ls : List Link) (waits : Bool) (c : Code) (t : Loaded) (is : IsLoadedOf p ls waits c t) where
   -- the code that runs has the pieces
-  pieces : (name : Piece) → IsPlaced p t.code (piece_of p name) (start_in (table_of c) name)
-  pieces name = subst (λ (code : List Instr). IsPlaced p code (piece_of p name) (start_in (table_of c) name)) (sym is.code) (is.code_is.placed name)
+  pieces : (name : Piece) → IsPlaced p t.code (kept_piece (holds_in (table_of c)) p name) (start_in (table_of c) name)
+  pieces name = subst (λ (code : List Instr). IsPlaced p code (kept_piece (holds_in (table_of c)) p name) (start_in (table_of c) name)) (sym is.code) (is.code_is.placed name)
 
   -- there is room for all of them
   enough : program_depth p ≤ t.room
@@ -57,10 +59,10 @@ module _ (p : ProgramTree) (ls : List Link) (waits : Bool) (c : Code) (t : Loade
 
   -- a state set means what its plan runs
   set-means : (k : ℕ) (g : StateSetTree) (plan : SetPlan) → slice_get p.state_sets k ≡ Some g → set_view plan ≡ set_plan (table_of c) k g →
-      set_of (context_in t k plan) t.code plan ≡ set_meaning p k g
+      set_of (context_in t k plan) t.code plan ≡ set_reached (holds_in (table_of c)) (set_meaning p k g)
   set-means k g plan at one =
       let names = ap (λ (v : PlainSet). v.name) one in
-      let states : map (state_of (context_in t k plan) t.code) plan.states.items ≡ map (state_meaning (here_in p k)) g.states =
+      let states : map (state_of (context_in t k plan) t.code) plan.states.items ≡ states_reached (holds_in (table_of c) k) 0 (map (state_meaning (here_in p k)) g.states) =
       ap (λ (s : PieceContext). map (state_of s t.code) plan.states.items) (contexts k g plan at one)
       ∙ states-mean p t.code (table_of c) t.room k pieces enough 0 g.states plan.states.items (stands k g at) (states-planned k g plan at one)
       in λ j. record { set = k; name = names j; states = states j }
@@ -80,9 +82,10 @@ module _ (p : ProgramTree) (ls : List Link) (waits : Bool) (c : Code) (t : Loade
 
   -- one of them does what its code does, and comes to its end
   own : own_context t ≡ context_of (here_in p 0) t.room → (name : Piece) (start : Option ℕ) (b : Option BlockTree) → piece_of p name ≡ option_map (Action 0) b →
-      start ≡ start_in (table_of c) name → ((w : World) → block_at (own_context t) t.code start w ≡ block_meaning (here_in p 0) b w) × CanDo (own_context t) t.code start
-  own same name start b piece at =
-      let there = subst (λ (o : Option PieceTree). IsPlaced p t.code o (start_in (table_of c) name)) piece (pieces name) in
+      kept_piece (holds_in (table_of c)) p name ≡ piece_of p name → start ≡ start_in (table_of c) name →
+      ((w : World) → block_at (own_context t) t.code start w ≡ block_meaning (here_in p 0) b w) × CanDo (own_context t) t.code start
+  own same name start b piece kept at =
+      let there = subst (λ (o : Option PieceTree). IsPlaced p t.code o (start_in (table_of c) name)) (kept ∙ piece) (pieces name) in
       let fits : (x : BlockTree) → b ≡ Some x → block_depth x ≤ t.room =
       λ x some. omega (arith, enough, depth_is_enough p name (Action 0 x) (piece ∙ ap (option_map (Action 0)) some)) in
       let means = outer-means p t.code t.room 0 b (start_in (table_of c) name) there fits in (
@@ -100,7 +103,7 @@ module _ (p : ProgramTree) (ls : List Link) (waits : Bool) (c : Code) (t : Loade
 
   -- state sets mean what their plans run
   sets-mean : (k : ℕ) (gs : List StateSetTree) (plans : List SetPlan) → StandFrom k gs → map set_view plans ≡ set_plans (table_of c) k gs →
-      sets_from t k plans ≡ set_meanings p k gs
+      sets_from t k plans ≡ map (set_reached (holds_in (table_of c))) (set_meanings p k gs)
   sets-mean k [] [] stand same = refl
   sets-mean k [] (plan ∷ plans) stand same = absurd (cc)
   sets-mean k (g ∷ gs) [] stand same = absurd (cc)
@@ -125,10 +128,10 @@ module _ (p : ProgramTree) (ls : List Link) (waits : Bool) (c : Code) (t : Loade
       sets-run (k + 1) gs plans (next k g gs stand) rest i n plan (omega (arith, at)) there
 
 -- the first state set of a program has the name that the code knows
-first-name : (p : ProgramTree) → first_name (set_meanings p 0 p.state_sets) ≡ name_by (slice_get p.state_sets 0)
-first-name p = by p.state_sets
+first-name : (p : ProgramTree) (reached : Table) → first_name (map (set_reached reached) (set_meanings p 0 p.state_sets)) ≡ name_by (slice_get p.state_sets 0)
+first-name p reached = by p.state_sets
   where
-    by : (gs : List StateSetTree) → first_name (set_meanings p 0 gs) ≡ name_by (slice_get gs 0)
+    by : (gs : List StateSetTree) → first_name (map (set_reached reached) (set_meanings p 0 gs)) ≡ name_by (slice_get gs 0)
     by [] = refl
     by (g ∷ gs) = refl
 
@@ -136,7 +139,7 @@ first-name p = by p.state_sets
 all-stand : (p : ProgramTree) (j n : ℕ) (g : StateSetTree) → n ≡ 0 + j → slice_get p.state_sets j ≡ Some g → slice_get p.state_sets n ≡ Some g
 all-stand p j n g is there = let same : n ≡ j = omega (arith, is) in ap (λ (i : ℕ). slice_get p.state_sets i) same ∙ there
 
--- what a plan runs is what its program means
+-- what a plan runs is what its program means, without the pieces of the states that the code does not have
 pub plans_are_right : PlansAreRight
 plans_are_right p ls waits c t is =
     let names = ap (λ (v : PlainPlan). v.name) is.plan in
@@ -145,10 +148,10 @@ plans_are_right p ls waits c t is =
     let plans = ap (λ (v : PlainPlan). v.sets) is.plan in
     let all = t.plan.sets.items in
     let sets = sets-mean p ls waits c t is 0 p.state_sets all (all-stand p) plans in
-    let first : first_name (sets_from t 0 all) ≡ name_by (slice_get p.state_sets 0) = ap first_name sets ∙ first-name p in
+    let first : first_name (sets_from t 0 all) ≡ name_by (slice_get p.state_sets 0) = ap first_name sets ∙ first-name p (holds_in (table_of c)) in
     let context : own_context t ≡ context_of (here_in p 0) t.room = own-contexts p ls waits c t is first in
-    let entry = own p ls waits c t is context ProgramEntry t.plan.blocks.entry p.entry refl (ap (λ (v : PlainPlan). v.blocks.entry) is.plan) in
-    let exit = own p ls waits c t is context ProgramExit t.plan.blocks.exit p.exit refl (ap (λ (v : PlainPlan). v.blocks.exit) is.plan) in (
+    let entry = own p ls waits c t is context ProgramEntry t.plan.blocks.entry p.entry refl refl (ap (λ (v : PlainPlan). v.blocks.entry) is.plan) in
+    let exit = own p ls waits c t is context ProgramExit t.plan.blocks.exit p.exit refl refl (ap (λ (v : PlainPlan). v.blocks.exit) is.plan) in (
       λ j. record { name = names j; links = links j; waits = waiting j; entry = λ w. entry.0 w j; sets = sets j; exit = λ w. exit.0 w j },
       record { entry = entry.1; sets = λ k s there. sets-run p ls waits c t is 0 p.state_sets all (all-stand p) plans k k s (omega arith) there; exit = exit.1 },
     )

@@ -1,9 +1,9 @@
 -- What it means that a plan is that of a program, with its code.
-use Rattle.std.specs.Prelude.{◌+◌, ℕ, Bool, List, [], ◌∷◌, map, unwrap_or}
+use Rattle.std.specs.Prelude.{◌+◌, ℕ, Bool, true, false, List, [], ◌∷◌, map, unwrap_or}
 use Rattle.snl_text.specs.declared.tokens.Token.{Token}
 use Rattle.snl_syntax.specs.Programs.{ClauseTree, StateTree, StateSetTree, ProgramTree}
 use Rattle.snl_code.specs.declared.starts.Piece.TheVariants.{ProgramEntry, ProgramExit, Entry, Exit, Condition, Block}
-use Rattle.snl_code.specs.Starts.{ProgramTable, start_in}
+use Rattle.snl_code.specs.Starts.{ProgramTable, holds_in, start_in}
 use Rattle.snl_links.specs.Links.{Link}
 use Rattle.snl_schedule.specs.declared.plans.Again.{Again}
 use Rattle.snl_schedule.specs.declared.plans.Blocks.{Blocks}
@@ -67,6 +67,11 @@ abbrev pub clause_plans : List Token → ProgramTable → ℕ → ℕ → ℕ �
 clause_plans states t set state k [] = []
 clause_plans states t set state k (c ∷ cs) = clause_plan states t set state k c ∷ clause_plans states t set state (k + 1) cs
 
+-- The clauses of a state: a state without code, which no run comes to, is planned without them.
+abbrev pub clauses_if : Bool → List Token → ProgramTable → ℕ → ℕ → List ClauseTree → List ClausePlan
+clauses_if true states t set state cs = clause_plans states t set state 0 cs
+clauses_if false states t set state cs = []
+
 -- Where the own blocks of a state begin in the code,
 abbrev pub state_blocks : ProgramTable → ℕ → ℕ → Blocks
 state_blocks t set state = record { entry = start_in t (Entry set state); exit = start_in t (Exit set state) }
@@ -80,7 +85,7 @@ abbrev pub state_plan : List Token → ProgramTable → ℕ → ℕ → StateTre
 state_plan states t set state s = record {
   name = s.name.text.now;
   blocks = state_blocks t set state;
-  clauses = clause_plans states t set state 0 s.clauses;
+  clauses = clauses_if (holds_in t set state) states t set state s.clauses;
   again = again_of s.definitions;
 }
 

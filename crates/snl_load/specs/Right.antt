@@ -1,13 +1,14 @@
--- The law of plans: what a plan runs is what its program means.
+-- The law of plans: what a plan runs is what its program means, without the states that are not reached.
 use Rattle.std.specs.Prelude.{◌≡◌, ◌<◌, ◌-◌, ◌^◌, Bool, List}
 use Rattle.snl_syntax.specs.Programs.{ProgramTree}
 use Rattle.snl_code.specs.declared.code.Code.{Code}
 use Rattle.snl_code.specs.Pieces.{IsCodeOf, texts_of}
-use Rattle.snl_code.specs.Starts.{table_of}
+use Rattle.snl_code.specs.Starts.{table_of, holds_in}
 use Rattle.snl_links.specs.Links.{Link}
 use Rattle.snl_schedule.specs.Loaded.{Loaded, program_of, CanRunLoaded}
 use Rattle.snl_load.specs.Meaning.{program_meaning}
 use Rattle.snl_load.specs.Plans.{plan_view, program_plan}
+use Rattle.snl_load.specs.Reached.{only_reached}
 
 -- The code of a program is loaded with the program's plan, and with room for as many operands as the code says.
 pub record IsLoadedOf (p : ProgramTree) (ls : List Link) (waits : Bool) (c : Code) (t : Loaded) : Type 0 where
@@ -18,7 +19,8 @@ pub record IsLoadedOf (p : ProgramTree) (ls : List Link) (waits : Bool) (c : Cod
   pub counted : c.depth < 2 ^ 64 - 1
   pub plan : plan_view t.plan ≡ program_plan p ls waits (table_of c)
 
--- What it runs is what the program means on its tree, and no piece of it is ever stuck.
+-- What it runs is what the program means on its tree, without the pieces of the states that the code does not have; and no piece
+-- of it is ever stuck.
 abbrev pub PlansAreRight : Type 0
 PlansAreRight = (p : ProgramTree) (ls : List Link) (waits : Bool) (c : Code) (t : Loaded) → IsLoadedOf p ls waits c t →
-    (program_of t ≡ program_meaning p ls waits) × CanRunLoaded t
+    (program_of t ≡ only_reached (holds_in (table_of c)) (program_meaning p ls waits)) × CanRunLoaded t

@@ -3,7 +3,8 @@
 ghost use Rattle.snl_load.specs.Examples.{RunExample};
 ghost use Rattle.snl_load.specs.Right.{PlansAreRight};
 
-/// What the plan of a program runs, with the program's code, is what the program means on its tree.
+/// What the plan of a program runs, with the program's code, is what the program means on its tree, without the pieces of
+/// the states that are not reached.
 pub fn plans_are_right()
     ensures { PlansAreRight }
 {}

@@ -5,7 +5,7 @@ ghost use Rattle.snl_syntax.specs.view.Definitions.{definition_view};
 ghost use Rattle.snl_syntax.specs.view.Programs.{clause_view, program_view, state_view, state_set_view};
 ghost use Rattle.snl_syntax.specs.view.Programs as view;
 ghost use Rattle.snl_code.specs.Heres.{here_in};
-ghost use Rattle.snl_code.specs.Starts.{table_of};
+ghost use Rattle.snl_code.specs.Starts.{table_of, holds_in};
 ghost use Rattle.snl_links.specs.LinkViews.{link_view};
 ghost use Rattle.snl_resolve.specs.Numbered.{number_of};
 ghost use Rattle.snl_load.specs.Meaning as meaning;
@@ -94,6 +94,25 @@ fn clause_plans<'a>(
     Ok(plans)
 }
 
+/// The plans of the clauses of a state; none of a state without code, which no run comes to.
+fn kept_clauses<'a>(
+    alloc: Global,
+    clauses: &[Clause<'a>],
+    set: usize,
+    state: usize,
+    states: &Numbered<'a>,
+    code: &Code,
+) -> Result<Vec<ClausePlan>, AllocError>
+    ensures { IfOk result (λ plans. plans.items ≡ spec.clauses_if
+        (holds_in (table_of code.now) set state) states.now (table_of code.now) set state
+        (map clause_view clauses.now)) }
+{
+    if code.holds(set, state) {
+        return clause_plans(alloc, clauses, set, state, states, code);
+    }
+    Ok(Vec::new(alloc))
+}
+
 /// What a state does also where a transition leads from it to itself, by its options.
 fn again_of(definitions: &[Def]) -> Again
     ensures { result ≡ meaning.again_of (map definition_view definitions.now) }
@@ -125,7 +144,7 @@ fn program_blocks(code: &Code) -> Blocks
     }
 }
 
-/// The plan of a state.
+/// The plan of a state. One that is not reached keeps its name and its options alone.
 fn state_plan<'a>(
     alloc: Global,
     state: &State<'a>,
@@ -138,7 +157,7 @@ fn state_plan<'a>(
         (table_of code.now) set number (state_view state.now)) }
 {
     let name = Vec::from_slice(alloc, state.name.text)?;
-    let clauses = clause_plans(alloc, state.clauses.as_slice(), set, number, states, code)?;
+    let clauses = kept_clauses(alloc, state.clauses.as_slice(), set, number, states, code)?;
     Ok(StatePlan {
         name,
         blocks: state_blocks(set, number, code),

@@ -1,5 +1,5 @@
 -- What the pieces of the states of a state set keep of the world, by what its conditions and blocks keep.
-use Rattle.std.proofs.Common.{ℕ, List, [], ◌∷◌, Option, None, Some, map}
+use Rattle.std.proofs.Common.{◌≤◌, ℕ, List, [], ◌∷◌, Option, None, Some, map}
 use Rattle.snl_syntax.specs.Programs.{TargetTree, to_state, to_exit, ClauseTree, StateTree, ProgramTree}
 use Rattle.snl_syntax.specs.Statements.{BlockTree}
 use Rattle.snl_code.specs.Heres.{here_in}
@@ -8,8 +8,9 @@ use Rattle.snl_meaning.specs.Keeping.{PiecesKeep}
 use Rattle.snl_meaning.specs.World.{World}
 use Rattle.snl_load.specs.Meaning.{left_for, finished, block_meaning, target_of, clause_meaning, state_meaning}
 use Rattle.snl_meaning.specs.Ran.{Ran, Gives, Faults, then_do}
-use Rattle.snl_meaning.proofs.Leaving.{Within, block-within, state-below}
+use Rattle.snl_meaning.proofs.Leaving.{state-below}
 use Rattle.snl_machine.specs.Worlds.{last_state}
+use Rattle.snl_machine.proofs.Targets.{Leads, block-leads}
 use Rattle.snl_machine.proofs.Turning.{Keeps, LeadsWithin, ActsWithin, ClausesKeep, StateKeeps, StatesKeep, then-keeps}
 
 module _ (p : ProgramTree) (set : ℕ) where
@@ -19,7 +20,7 @@ module _ (p : ProgramTree) (set : ℕ) where
   target-leads to_exit = tt
 
   -- so does what its block leaves for
-  left-leads : (r : Ran Way) → Within (last_state p set) r → ActsWithin (last_state p set) (then_do r left_for)
+  left-leads : (r : Ran Way) → Leads (λ n. n ≤ last_state p set) r → ActsWithin (last_state p set) (then_do r left_for)
   left-leads (Gives Done w text) h = tt
   left-leads (Gives Broken w text) h = tt
   left-leads (Gives Continued w text) h = tt
@@ -48,7 +49,8 @@ module _ (p : ProgramTree) (set : ℕ) (R : World → World → Type 0) (nothing
       holds = pieces.condition c.condition;
       acts = λ w. then-keeps R both w (block_effect (here_in p set) c.block w) left_for (pieces.block c.block w) left-keeps;
       leads = target-leads p set c.target;
-      leaves = λ w. left-leads p set (block_effect (here_in p set) c.block w) (block-within (here_in p set) c.block w);
+      leaves = λ w. left-leads p set (block_effect (here_in p set) c.block w)
+          (block-leads (here_in p set) (λ n. n ≤ last_state p set) c.block (λ x among. state-below (here_in p set).states x.text.now) w);
     },
     clauses-keep cs,
   )

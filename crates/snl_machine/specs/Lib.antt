@@ -5,9 +5,11 @@ pub mod Loading
 pub mod Laws
 pub mod Rounds
 pub mod Ranges
+pub mod Accepted
 pub mod Frames
 pub mod Wakes
 pub mod Worlds
 pub mod Reached
 pub mod Layout
 pub mod Footprint
+pub mod Bounds

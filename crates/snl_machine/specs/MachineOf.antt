@@ -2,12 +2,14 @@
 use Rattle.std.specs.Prelude.{◌≡◌, ◌+◌, ℕ, Bool, List, [], map}
 use Rattle.snl_syntax.specs.Programs.{ProgramTree}
 use Rattle.snl_links.specs.Links.{Link, links}
+use Rattle.snl_machine.specs.Reached.{AreReached}
 use Rattle.snl_machine.specs.Worlds.{IsWorldOf}
 use Rattle.snl_meaning.specs.World.{World}
 use Rattle.snl_vm.specs.Footprint.{store_words}
 use Rattle.snl_vm.specs.Stack.{room_of}
 use Rattle.snl_vm.specs.Views.{world_of}
 use Rattle.snl_code.specs.declared.code.Code.{Code}
+use Rattle.snl_code.specs.Starts.{table_of, holds_in}
 use Rattle.snl_schedule.specs.declared.plans.Plan.{Plan}
 use Rattle.snl_schedule.specs.Instant.{Program}
 use Rattle.snl_schedule.specs.Loaded.{program_of}
@@ -57,12 +59,13 @@ unnamed l = record l { name = [] }
 
 -- A machine is one of a program, links and a budget, and waits for its channels or does not: the links are the program's, with
 -- whatever names of channels; its code is right for the program; its plan and its names are the program's; its world is one of
--- the program; and it has that budget.
+-- the program, in which each state set is in a state that the code has; and it has that budget.
 pub record IsMachineOf (p : ProgramTree) (ls : List Link) (waits : Bool) (budget : ℕ) (m : Machine) : Type 0 where
   pub links_are : map unnamed ls ≡ map unnamed (links p [])
   pub loaded : IsLoadedOf p ls waits m.code (loaded_by m.plan m.code)
   pub channels_are : names_in m.names ≡ channels ls
   pub world_is : IsWorldOf p ls (world_held m)
+  pub reached : AreReached p (holds_in (table_of m.code)) (world_held m)
   pub budget_is : m.budget ≡ budget
 
 -- Of whatever program, links and options a machine was a machine, another one is too.

@@ -1,9 +1,9 @@
 -- Which states a run can come to, by a table of them: without the pieces of all others a program does the same.
-use Rattle.std.specs.Prelude.{◌≡◌, ◌<◌, ◌↔◌, ℕ, Bool, true, List, length, slice_get, Some}
+use Rattle.std.specs.Prelude.{◌≡◌, ◌↔◌, ℕ, Bool, true, List, slice_get, Some}
 use Rattle.snl_syntax.specs.Programs.{StateSetTree, ProgramTree}
-use Rattle.snl_rules.specs.Reach.{LeadsTo, IsReached}
+use Rattle.snl_rules.specs.Reach.{LeadsTo}
 use Rattle.snl_links.specs.Links.{Link}
-use Rattle.snl_code.specs.Heres.{states_by}
+pub use Rattle.snl_code.specs.Reached.{Table, HasState, TellsReached}
 use Rattle.snl_load.specs.First.{first_world_of}
 use Rattle.snl_load.specs.Meaning.{program_meaning}
 use Rattle.snl_load.specs.Reached.{only_reached}
@@ -12,14 +12,6 @@ use Rattle.snl_meaning.specs.Keeping.{world_after}
 use Rattle.snl_meaning.specs.World.{World, copy_of}
 use Rattle.snl_schedule.specs.declared.events.Event.{Event}
 use Rattle.snl_schedule.specs.Event.{HasInstant, line_of}
-
--- For each state set, and each number of a state in it, whether that state is in the table.
-abbrev pub Table : Type 0
-Table = (set state : ℕ) → Bool
-
--- A state set of a program has a state of this number.
-abbrev pub HasState : ProgramTree → (set state : ℕ) → Type 0
-HasState p set state = state < length (states_by (slice_get p.state_sets set))
 
 -- A state is in the table, if there is such a state.
 abbrev pub IsIn : ProgramTree → Table → (set state : ℕ) → Type 0
@@ -57,11 +49,6 @@ InstantsAreTheSame = (p : ProgramTree) (ls : List Link) (waits : Bool) (reached 
 
 -- ---- the table of all states that are reached
 
--- The table tells of each state of a program whether it is reached.
-abbrev pub TellsReached : ProgramTree → Table → Type 0
-TellsReached p reached = (set state : ℕ) (g : StateSetTree) → slice_get p.state_sets set ≡ Some g → state < length g.states →
-    (reached set state ≡ true) ↔ IsReached g.states state
-
--- Such a table is closed.
+-- The table that tells which states are reached is closed.
 abbrev pub ReachedAreClosed : Type 0
 ReachedAreClosed = (p : ProgramTree) (reached : Table) → TellsReached p reached → IsClosed p reached

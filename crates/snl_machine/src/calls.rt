@@ -5,8 +5,11 @@ ghost use Rattle.snl_syntax.specs.Programs.{ProgramTree};
 ghost use Rattle.snl_links.specs.Links.{Link};
 ghost use Rattle.snl_load.specs.Meaning.{program_meaning};
 ghost use Rattle.snl_schedule.specs.Event.{HasInstant, line_of};
+ghost use Rattle.snl_schedule.specs.Steps.{line_steps};
+ghost use Rattle.snl_vm.specs.Counting.{Adds};
 ghost use Rattle.snl_output.specs.Devices.{counted, stopped_by_sink};
 ghost use Rattle.snl_output.specs.Does.{Does};
+ghost use Rattle.snl_machine.specs.Holding.{loaded_by};
 ghost use Rattle.snl_machine.specs.Lookup.{channel_of, fits_of};
 ghost use Rattle.snl_machine.specs.MachineOf.{IsMachineOf, StaysMachineOf, fixed_of, task_held, words_held, world_held};
 
@@ -15,6 +18,8 @@ use snl_load::channel_number;
 use snl_meaning::Live;
 use snl_output::{Sink, Stop};
 use snl_schedule::{Event, ProgramContext, fits, take};
+use snl_vm::Steps;
+use std::sync::ledger::Ledger;
 
 impl Machine {
     /// The number of the channel of a name; None where the program uses no such channel. Channels have the numbers from 0
@@ -65,7 +70,16 @@ impl Machine {
     ///
     /// After a fault, and where the sink fails, the machine has ended, and what was written stands. Its time is then that of the
     /// instant in which that happened: at a wake before the line's time, or at that of the line.
-    pub fn event<S: Sink>(&mut self, ms: u64, event: &Event, sink: &mut S) -> Result<Live, Stop>
+    ///
+    /// Each instruction that it executes is one of the steps, which take no bytes at run time: `steps` grows by exactly as many as
+    /// the runs of code have in the instants of this call. Where the sink fails, it grows by at most these.
+    pub fn event<S: Sink, L: Ledger>(
+        &mut self,
+        ms: u64,
+        event: &Event,
+        sink: &mut S,
+        steps: &mut Steps<L>,
+    ) -> Result<Live, Stop>
         requires { S.failures sink.old < 2 ^ 64 - 1 }
         ensures does { Does (λ live. live) result (world_held self.new) (S.told sink.old)
             (S.told sink.new)
@@ -75,6 +89,8 @@ impl Machine {
             IsMachineOf p ls waits budget self.old → Does (λ live. live) result
             (world_held self.new) (S.told sink.old) (S.told sink.new) (line_of
             (program_meaning p ls waits) budget ms event.now (world_held self.old)) }
+        ensures steps { Adds result (line_steps (loaded_by self.old.plan self.old.code)
+            self.old.budget ms event.now (world_held self.old)) steps.old steps.new }
         ensures ended { OnErr result ((world_held self.new).phase ≡ Live.Ended) }
         ensures fixed { fixed_of self.new ≡ fixed_of self.old }
         ensures stays { StaysMachineOf self.old self.new }
@@ -97,6 +113,7 @@ impl Machine {
             &mut self.store,
             &mut self.operands,
             sink,
+            steps,
         )
     }
 }

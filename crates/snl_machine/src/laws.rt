@@ -1,6 +1,8 @@
 //! Laws of machines. Each function is its contract, and does nothing.
 
 ghost use Rattle.snl_machine.specs.Laws.{RunsItsProgram, TurnsStayApart};
+ghost use Rattle.snl_machine.specs.Accepted.{AcceptedDeclaresItsFlags, AcceptedHold, AcceptedIsHeld, AcceptedIsSized, AcceptedIsTied, AcceptedTrees, ParsedAreRead};
+ghost use Rattle.snl_machine.specs.Bounds.{InstantsAreBounded};
 ghost use Rattle.snl_machine.specs.Footprint.{MachinesHoldTheFootprint};
 ghost use Rattle.snl_machine.specs.Frames.{FrameStays};
 ghost use Rattle.snl_machine.specs.Layout.{BuffersAreCells, FeedsFillBuffers, RefreshesFillVariables, StoresWrite, VariablesAreCells, WorldsAreLaidOut};
@@ -10,7 +12,8 @@ ghost use Rattle.snl_machine.specs.Rounds.{RoundsEnd, TicksWithinBudget};
 ghost use Rattle.snl_machine.specs.Wakes.{TimeIsTheEvents, TimeIsTheEventsAlone, TimeNeverFalls, WakesEnd, WakesLieLater, WakesStayLater};
 ghost use Rattle.snl_machine.specs.Worlds.{WorldsAreTheProgram, WorldsStay};
 
-/// A machine of a program runs what the program means on its tree.
+/// A machine of a program runs what the program means on its tree, but for the states that are not reached, which do nothing:
+/// at each line it does what the program means.
 pub fn runs_its_program()
     ensures { RunsItsProgram }
 {}
@@ -35,6 +38,12 @@ pub fn rounds_end()
 /// each turn of a loop is a fault.
 pub fn ticks_within_budget()
     ensures { TicksWithinBudget }
+{}
+
+/// An instant takes no more steps than its budget and its state sets allow: with a budget B and n state sets
+/// `(B + 1)(n + 4) + n` times as many as the code has instructions.
+pub fn instants_are_bounded()
+    ensures { InstantsAreBounded }
 {}
 
 /// All wakes before a time are run: they end because none comes before that time, the program ends or faults, and never
@@ -165,4 +174,41 @@ pub fn unreached_do_nothing()
 /// Nor does it have its instants at other times without them.
 pub fn instants_are_the_same()
     ensures { InstantsAreTheSame }
+{}
+
+/// Whatever the tokens of a source spell is well formed, and each of its tokens begins after the one before it.
+pub fn parsed_are_read()
+    ensures { ParsedAreRead }
+{}
+
+/// A program is accepted exactly where no error is said of its tree.
+pub fn accepted_trees()
+    ensures { AcceptedTrees }
+{}
+
+/// Of each accepted program variables have elements, their types have 0, and copies have few words.
+pub fn accepted_is_sized()
+    ensures { AcceptedIsSized }
+{}
+
+/// Of each accepted program links tie elements that their variables have, and buffers have few words.
+pub fn accepted_is_tied()
+    ensures { AcceptedIsTied }
+{}
+
+/// Of each accepted program the variable of each link stands in a copy.
+pub fn accepted_is_held()
+    ensures { AcceptedIsHeld }
+{}
+
+/// In every world that a run of an accepted program comes to, each element of each variable, each word of each buffer and each
+/// item of each queue is a number that its type has.
+pub fn accepted_hold()
+    ensures { AcceptedHold }
+{}
+
+/// Of each accepted program calls are of known functions with the arguments that they take, and names that are used as event
+/// flags are declared.
+pub fn accepted_declares_its_flags()
+    ensures { AcceptedDeclaresItsFlags }
 {}

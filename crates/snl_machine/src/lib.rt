@@ -15,3 +15,4 @@ pub use machine::Machine;
 pub use snl_meaning::{Fault, Live};
 pub use snl_output::{Sink, SinkFault, Stop};
 pub use snl_schedule::{Event, VALUES_KEPT};
+pub use snl_vm::Steps;

@@ -1,10 +1,11 @@
 -- What the pieces of a program keep of the world.
 use Rattle.std.proofs.Common.{◌≡◌, ◌∙◌, refl, ℤ}
 use Rattle.snl_meaning.specs.declared.instrs.Variable.{Variable}
-use Rattle.snl_meaning.specs.Keeping.{IsKept, MayStore, PiecesKeep, PiecesKeepTime, PiecesKeepThePhase, PiecesGiveNoTicks}
+use Rattle.snl_meaning.specs.Keeping.{IsKept, MayStore, PiecesKeep, ConditionsKeepTicks, PiecesKeepTime, PiecesKeepThePhase, PiecesGiveNoTicks}
 use Rattle.snl_meaning.specs.Names.{Here}
 use Rattle.snl_meaning.specs.World.{World}
 use Rattle.snl_meaning.proofs.EffectKeeps.{held-keeps, block-keeps}
+use Rattle.snl_meaning.proofs.ValueKeeps.{value-keeps}
 use Rattle.snl_meaning.proofs.Ticks.{Any, any-may, NoMore, ticks-kept}
 
 -- what each single change keeps is kept by all pieces
@@ -45,6 +46,23 @@ pieces_keep_the_phase h = pieces-keep h Any (λ w u. u.phase ≡ w.phase) (any-m
   marks = λ marks w same. refl;
   notes = λ t w late. refl;
   spends = λ left w is. refl;
+})
+
+-- the ticks of a condition
+pub conditions_keep_ticks : ConditionsKeepTicks
+conditions_keep_ticks h = value-keeps h Any (λ w u. u.ticks ≡ w.ticks) (any-may h) (record {
+  nothing = λ w. refl;
+  both = λ u v w a b. b ∙ a;
+  stores = λ v k z w ok fits. refl;
+  clears = λ v w ok. refl;
+  signals = λ flag now w. refl;
+  fills = λ place link t w home is. refl;
+  enqueues = λ place link t w home is queued. refl;
+  fetches = λ place link t w home is. refl;
+  takes = λ place link t item more w home is has. refl;
+  flushes = λ link w. refl;
+  marks = λ marks w same. refl;
+  notes = λ t w late. refl;
 })
 
 -- the ticks

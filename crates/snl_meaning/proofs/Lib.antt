@@ -1,5 +1,6 @@
 pub mod Following
 pub mod Sizes
+pub mod Changes
 pub mod WordKeeps
 pub mod ValueKeeps
 pub mod EffectKeeps
@@ -12,6 +13,7 @@ pub mod Tables
 pub mod Apart
 pub mod Keeping
 pub mod StepKeeps
+pub mod Counts
 pub mod Frames
 pub mod Leaving
 pub mod Forgetting

@@ -1,5 +1,5 @@
 -- Laws of tables: what stands at the number of the first declaration at an offset.
-use Rattle.std.proofs.Common.{◌≡◌, ℕ, suc, ◌+◌, ◌<◌, ◌==◌, true, false, cond, List, [], ◌∷◌, drop, get_or, length, map, Option, None, Some, option_map, slice_get, unwrap_or, refl, sym, ap, ◌∙◌, add-one, arith, Bor}
+use Rattle.std.proofs.Common.{◌≡◌, ℕ, suc, ◌+◌, ◌<◌, ◌==◌, true, false, cond, List, [], ◌∷◌, drop, get_or, length, map, Option, Some, option_map, slice_get, unwrap_or, refl, sym, ap, ◌∙◌, add-one, arith, Bor}
 use Rattle.std.specs.Prelude.{bytes_eq}
 use Rattle.std.proofs.Math.Seq.{drop-cons}
 use Rattle.snl_meaning.specs.declared.instrs.Variable.{Variable}

@@ -15,7 +15,8 @@ use Rattle.snl_resolve.specs.declared.builtins.Query.{Query}
 use Rattle.snl_meaning.specs.Value.{OnVariable, OnElement, joint_of, compound_of, sign_of, is_decimal, joined_by, either, value_of, chained, at_target, print_of, printing_with, wait_of, put_of, ask_flag, ask_of}
 use Rattle.snl_meaning.specs.Words.{gives, is_subscript, read}
 use Rattle.snl_meaning.specs.World.{World}
-use Rattle.snl_meaning.specs.Keeping.{IsKept, MayStore}
+use Rattle.snl_meaning.specs.Keeping.{MayStore}
+use Rattle.snl_meaning.proofs.Changes.{IsKeptByValues}
 use Rattle.snl_meaning.proofs.WordKeeps.{Keeps, KeepsOn, keeps-then, keeps-here, keeps-read, keeps-adjusted, keeps-joined, keeps-put, keeps-at_subscript, keeps-at_name, keeps-named, keeps-signed, keeps-called, keeps-put_to, keeps-put_element, keeps-asked, keeps-ask_variable, keeps-ask_element, keeps-waited, after-test}
 
 -- what a name means is a variable of the copy
@@ -27,7 +28,7 @@ sense-held h (Some d) number v is = by (variable_at h d.offset) refl is
     by None at means = absurd (cc)
     by (Some u) at means = (d.offset, let same : u ≡ v = cc in at ∙ ap Some same)
 
-module _ (h : Here) (May : Variable → ℤ → Type 0) (R : World → World → Type 0) (may : MayStore h May) (kept : IsKept h.set May R) where
+module _ (h : Here) (May : Variable → ℤ → Type 0) (R : World → World → Type 0) (may : MayStore h May) (kept : IsKeptByValues h.set May R) where
   -- a variable that a name means may be stored to,
   may-first : (x : Token) (v : Variable) → sense_of h x ≡ Varies v → May v (pos 0)
   may-first x v is = let at = sense-held h (declared_in x.pos.offset h.sites) (predefined x.text.now) v is in may.first at.0 v at.1

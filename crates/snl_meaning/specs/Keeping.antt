@@ -6,6 +6,7 @@ use Rattle.snl_meaning.specs.declared.instrs.Variable.{Variable}
 use Rattle.snl_meaning.specs.Effect.{held_by, block_effect}
 use Rattle.snl_meaning.specs.Names.{Here, variable_at}
 use Rattle.snl_meaning.specs.Ran.{Ran, Gives, Faults}
+use Rattle.snl_meaning.specs.Value.{value_of}
 use Rattle.snl_meaning.specs.Words.{natural, is_subscript, noted}
 use Rattle.snl_meaning.specs.World.{World, copy_of, with_element, with_zeros, with_flag}
 use Rattle.snl_meaning.specs.declared.ties.Tied.{Tied}
@@ -53,6 +54,10 @@ pub record PiecesKeep (h : Here) (R : World → World → Type 0) : Type 0 where
 -- Time stands still while a piece is at work,
 abbrev pub PiecesKeepTime : Type 0
 PiecesKeepTime = (h : Here) → PiecesKeep h (λ w u. u.time ≡ w.time)
+
+-- a condition leaves the ticks as they are,
+abbrev pub ConditionsKeepTicks : Type 0
+ConditionsKeepTicks = (h : Here) (e : ExprTree) (w : World) → (world_after (value_of h e w)).ticks ≡ w.ticks
 
 -- no piece gives ticks back,
 abbrev pub PiecesGiveNoTicks : Type 0

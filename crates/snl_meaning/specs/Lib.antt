@@ -18,4 +18,5 @@ pub mod Known
 pub mod Laws
 pub mod Histories
 pub mod Keeping
+pub mod Counts
 pub mod Frames

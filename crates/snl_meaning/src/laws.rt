@@ -1,16 +1,29 @@
 //! Laws of the meaning, and of steps of code. Each is a function without code, whose contract is the law.
 
+ghost use Rattle.snl_meaning.specs.Counts.{StepsAreBounded, StretchesAreBounded};
 ghost use Rattle.snl_meaning.specs.Endings.{OnlyTicksLeadBack};
 ghost use Rattle.snl_meaning.specs.Examples.{ExpressionExamples, StatementExamples};
 ghost use Rattle.snl_meaning.specs.LinkExamples.{LinkExamples};
 ghost use Rattle.snl_meaning.specs.Histories.{QueuesKeepOrder};
 ghost use Rattle.snl_meaning.specs.Frames.{PiecesKeepTheFrame, StepsKeepTheFrame};
-ghost use Rattle.snl_meaning.specs.Keeping.{PiecesGiveNoTicks, PiecesKeepThePhase, PiecesKeepTime};
+ghost use Rattle.snl_meaning.specs.Keeping.{ConditionsKeepTicks, PiecesGiveNoTicks, PiecesKeepThePhase, PiecesKeepTime};
 ghost use Rattle.snl_meaning.specs.Laws.{BlocksForget, TextsAreFound, TurnsAreEnough, VariablesAreApart, VariablesLieWithin};
 
 /// Only an instruction that spends a tick leads back.
 pub fn only_ticks_lead_back()
     ensures { OnlyTicksLeadBack }
+{}
+
+/// A run that is over did no more instructions than its code has, and as many more for each tick that it spent.
+#[tactic(auto, using(crate::proofs::Counts::steps_are_bounded))]
+pub fn steps_are_bounded()
+    ensures { StepsAreBounded }
+{}
+
+/// A run that is over within the first instructions, and spent no tick, did no more of them than lie from its start on.
+#[tactic(auto, using(crate::proofs::Counts::stretches_are_bounded))]
+pub fn stretches_are_bounded()
+    ensures { StretchesAreBounded }
 {}
 
 /// What some expressions are worth: order, faults and their lines, `delay`, `printf`.
@@ -60,6 +73,12 @@ pub fn pieces_keep_time()
 #[tactic(auto, using(crate::proofs::Keeping::pieces_keep_the_phase))]
 pub fn pieces_keep_the_phase()
     ensures { PiecesKeepThePhase }
+{}
+
+/// A condition leaves the ticks as they are, also where it comes to a fault.
+#[tactic(auto, using(crate::proofs::Keeping::conditions_keep_ticks))]
+pub fn conditions_keep_ticks()
+    ensures { ConditionsKeepTicks }
 {}
 
 /// No condition and no block gives ticks back.

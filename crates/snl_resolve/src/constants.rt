@@ -50,7 +50,8 @@ pub fn is_predefined(name: &[u8]) -> bool
     predefined(name).is_some()
 }
 
-fn worth(value: Option<i64>) -> Constant
+/// A number, or no constant where there is none.
+pub fn worth(value: Option<i64>) -> Constant
     ensures { result ≡ spec.worth value }
 {
     match value {
@@ -68,7 +69,8 @@ fn outcome(computed: Result<i64, ArithmeticFault>) -> Constant
     }
 }
 
-fn of_token(token: Token) -> Constant
+/// What a whole number or a character constant is worth. A decimal constant is no constant expression.
+pub fn of_token(token: Token) -> Constant
     ensures { result ≡ spec.of_token token.entry.kind token.entry.text.now }
 {
     match token.kind {
@@ -107,8 +109,8 @@ fn tested(constant: Constant) -> Constant
     }
 }
 
-/// What a binary operator makes of constants.
-fn joined(operator: Kind, left: Constant, right: Constant) -> Constant
+/// What a binary operator makes of constants. It faults only where it computes an operand that does.
+pub fn joined(operator: Kind, left: Constant, right: Constant) -> Constant
     ensures { result ≡ spec.joined operator left right }
 {
     let number = match (left, right) {
@@ -138,8 +140,8 @@ fn joined(operator: Kind, left: Constant, right: Constant) -> Constant
     }
 }
 
-/// What `condition ? yes : no` makes of constants.
-fn chosen(condition: Constant, yes: Constant, no: Constant) -> Constant
+/// What `condition ? yes : no` makes of constants. Only the chosen one may make it fault.
+pub fn chosen(condition: Constant, yes: Constant, no: Constant) -> Constant
     ensures { result ≡ spec.chosen condition yes no }
 {
     match (condition, yes, no) {
@@ -150,8 +152,8 @@ fn chosen(condition: Constant, yes: Constant, no: Constant) -> Constant
     }
 }
 
-/// What a prefix operator makes of a constant.
-fn prefixed(operator: Kind, operand: Constant) -> Constant
+/// What a prefix operator makes of a constant. `++` and `--` make none.
+pub fn prefixed(operator: Kind, operand: Constant) -> Constant
     ensures { result ≡ spec.prefixed operator operand }
 {
     match (operator, operand) {

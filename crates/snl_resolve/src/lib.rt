@@ -4,7 +4,7 @@
 mod block_variables;
 mod builtins;
 mod calls;
-mod constants;
+pub mod constants;
 mod declarations;
 mod definition_scopes;
 mod definitions;

@@ -17,6 +17,6 @@ mod together;
 mod words;
 
 pub use breaking::broken_rules;
-pub use reach::unreached;
+pub use reach::{reached_states, unreached};
 pub use rules::{Broken, Rule};
 pub use words::{is_overfull, overfull_sets};

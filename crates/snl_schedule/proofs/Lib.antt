@@ -11,3 +11,4 @@ pub mod Ending
 pub mod Staying
 pub mod Waking
 pub mod Frames
+pub mod Counting

@@ -8,3 +8,4 @@ pub mod Linked
 pub mod Goes
 pub mod Event
 pub mod Laws
+pub mod Steps

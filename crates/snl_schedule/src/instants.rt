@@ -4,10 +4,12 @@ ghost use Rattle.std.specs.Prelude.{◌≡◌, ◌-◌, ◌^◌, ◌<◌};
 ghost use Rattle.snl_meaning.specs.Frames.{frame_of};
 ghost use Rattle.snl_output.specs.Devices.{counted, stopped_by_sink};
 ghost use Rattle.snl_output.specs.Does.{Does};
+ghost use Rattle.snl_vm.specs.Counting.{Adds};
 ghost use Rattle.snl_vm.specs.Stack.{room_of};
 ghost use Rattle.snl_vm.specs.Views.{world_of};
 ghost use Rattle.snl_schedule.specs.Instant as spec;
-ghost use Rattle.snl_schedule.specs.Loaded.{CanRunLoaded, loaded, program_of};
+ghost use Rattle.snl_schedule.specs.Loaded.{CanRunLoaded, loaded, own_context, program_of};
+ghost use Rattle.snl_schedule.specs.Steps.{block_steps, round_steps, all_rounds_steps, instant_steps};
 
 use crate::plans::{ProgramContext, SetContext};
 use crate::starting::{are_ready, leave_program, start};
@@ -15,7 +17,8 @@ use crate::transitions::Turned;
 use crate::turns::turn;
 use snl_meaning::Live;
 use snl_output::{Sink, Stop, write_exit};
-use snl_vm::{Operands, PieceContext, Store};
+use snl_vm::{Operands, PieceContext, Steps, Store};
+use std::sync::ledger::Ledger;
 
 /// What is known of a round after one more turn.
 fn later(before: Turned, turned: Turned) -> Turned
@@ -38,17 +41,20 @@ fn is_exit(turned: Turned) -> bool
 }
 
 /// A turn of each state set, up to one that leads out of the program; answers whether one had a transition.
-fn round<S: Sink>(
+fn round<S: Sink, L: Ledger>(
     program: &ProgramContext,
     store: &mut Store,
     operands: &mut Operands,
     sink: &mut S,
+    steps: &mut Steps<L>,
 ) -> Result<Turned, Stop>
     requires failures { S.failures sink.old < 2 ^ 64 - 1 }
     requires room { room_of operands.old ≡ program.now.room }
     requires runs { CanRunLoaded (loaded program.now) }
     ensures does { Does (λ t. t) result (world_of store.new) (S.told sink.old) (S.told sink.new)
         (spec.round_of (program_of (loaded program.now)) (world_of store.old)) }
+    ensures steps { Adds result (round_steps (loaded program.now) (world_of store.old))
+        steps.old steps.new }
     ensures frame { frame_of (world_of store.new) ≡ frame_of (world_of store.old) }
     ensures room { room_of operands.new ≡ room_of operands.old }
     ensures failures { S.failures sink.new
@@ -68,7 +74,7 @@ fn round<S: Sink>(
             context,
             room: program.room,
         };
-        match turn(&state_set, store, operands, sink) {
+        match turn(&state_set, store, operands, sink, steps) {
             Ok(turned) => before = later(before, turned),
             Err(stop) => return Err(stop),
         }
@@ -98,23 +104,27 @@ fn close<S: Sink>(name: &[u8], store: &mut Store, sink: &mut S) -> Result<(), St
 }
 
 /// The end of a program by a transition that leads out of it: its exit block, and its line.
-fn exit<S: Sink>(
+fn exit<S: Sink, L: Ledger>(
     program: &ProgramContext,
     store: &mut Store,
     operands: &mut Operands,
     sink: &mut S,
+    steps: &mut Steps<L>,
 ) -> Result<(), Stop>
     requires failures { S.failures sink.old < 2 ^ 64 - 1 }
     requires room { room_of operands.old ≡ program.now.room }
     requires runs { CanRunLoaded (loaded program.now) }
     ensures does { Does (λ x. x) result (world_of store.new) (S.told sink.old) (S.told sink.new)
         (spec.exited (program_of (loaded program.now)) (world_of store.old)) }
+    ensures steps { Adds result (block_steps (own_context (loaded program.now))
+        program.now.code.now program.now.plan.now.blocks.exit (world_of store.old))
+        steps.old steps.new }
     ensures frame { frame_of (world_of store.new) ≡ frame_of (world_of store.old) }
     ensures room { room_of operands.new ≡ room_of operands.old }
     ensures failures { S.failures sink.new
         ≡ counted (stopped_by_sink result) (S.failures sink.old) }
 {
-    match leave_program(program, store, operands, sink) {
+    match leave_program(program, store, operands, sink, steps) {
         Ok(()) => close(program.plan.name.as_slice(), store, sink),
         Err(stop) => Err(stop),
     }
@@ -122,30 +132,33 @@ fn exit<S: Sink>(
 
 /// Rounds until one has no transition, or leads out of the program. Each transition spends a tick, so there are no more
 /// rounds than ticks are left, and one.
-pub fn rounds<S: Sink>(
+pub fn rounds<S: Sink, L: Ledger>(
     program: &ProgramContext,
     store: &mut Store,
     operands: &mut Operands,
     sink: &mut S,
+    steps: &mut Steps<L>,
 ) -> Result<(), Stop>
     requires failures { S.failures sink.old < 2 ^ 64 - 1 }
     requires room { room_of operands.old ≡ program.now.room }
     requires runs { CanRunLoaded (loaded program.now) }
     ensures does { Does (λ x. x) result (world_of store.new) (S.told sink.old) (S.told sink.new)
         (spec.all_rounds (program_of (loaded program.now)) (world_of store.old)) }
+    ensures steps { Adds result (all_rounds_steps (loaded program.now) (world_of store.old))
+        steps.old steps.new }
     ensures frame { frame_of (world_of store.new) ≡ frame_of (world_of store.old) }
     ensures room { room_of operands.new ≡ room_of operands.old }
     ensures failures { S.failures sink.new
         ≡ counted (stopped_by_sink result) (S.failures sink.old) }
 {
     for _round in 0..u64::from(store.ticks) + 1 {
-        match round(program, store, operands, sink) {
+        match round(program, store, operands, sink, steps) {
             Ok(Turned::Moved) => {}
             Ok(Turned::Stayed) => {
                 store.wake = store.due;
                 return Ok(());
             }
-            Ok(Turned::Exited) => return exit(program, store, operands, sink),
+            Ok(Turned::Exited) => return exit(program, store, operands, sink, steps),
             Err(stop) => return Err(stop),
         }
     }
@@ -153,18 +166,21 @@ pub fn rounds<S: Sink>(
 }
 
 /// What happens at one time, with so many ticks: the start, if it is due, and rounds until one has no transition.
-pub fn instant<S: Sink>(
+pub fn instant<S: Sink, L: Ledger>(
     program: &ProgramContext,
     budget: u32,
     store: &mut Store,
     operands: &mut Operands,
     sink: &mut S,
+    steps: &mut Steps<L>,
 ) -> Result<(), Stop>
     requires failures { S.failures sink.old < 2 ^ 64 - 1 }
     requires room { room_of operands.old ≡ program.now.room }
     requires runs { CanRunLoaded (loaded program.now) }
     ensures does { Does (λ x. x) result (world_of store.new) (S.told sink.old) (S.told sink.new)
         (spec.instant_of (program_of (loaded program.now)) budget (world_of store.old)) }
+    ensures steps { Adds result (instant_steps (loaded program.now) budget (world_of store.old))
+        steps.old steps.new }
     ensures frame { frame_of (world_of store.new) ≡ frame_of (world_of store.old) }
     ensures room { room_of operands.new ≡ room_of operands.old }
     ensures failures { S.failures sink.new
@@ -173,13 +189,13 @@ pub fn instant<S: Sink>(
     store.ticks = budget;
     match store.phase {
         Live::Ended => Ok(()),
-        Live::Running => rounds(program, store, operands, sink),
+        Live::Running => rounds(program, store, operands, sink, steps),
         Live::Waiting => {
             if !are_ready(program.plan.waits, program.plan.links.as_slice(), store) {
                 return Ok(());
             }
-            match start(program, store, operands, sink) {
-                Ok(()) => rounds(program, store, operands, sink),
+            match start(program, store, operands, sink, steps) {
+                Ok(()) => rounds(program, store, operands, sink, steps),
                 Err(stop) => Err(stop),
             }
         }

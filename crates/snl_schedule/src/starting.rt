@@ -6,11 +6,13 @@ ghost use Rattle.std.specs.List.{list_all};
 ghost use Rattle.snl_meaning.specs.Frames.{frame_of};
 ghost use Rattle.snl_output.specs.Devices.{counted, stopped_by_sink};
 ghost use Rattle.snl_output.specs.Does.{Does};
+ghost use Rattle.snl_vm.specs.Counting.{Adds};
 ghost use Rattle.snl_vm.specs.Stack.{room_of};
 ghost use Rattle.snl_vm.specs.Views.{world_of};
 ghost use Rattle.snl_schedule.specs.Instant as spec;
 ghost use Rattle.snl_schedule.specs.Loaded.{CanRunLoaded, loaded, own_context, program_of};
 ghost use Rattle.snl_schedule.specs.Plans.{CanRunSet, context_for, context_on, set_on};
+ghost use Rattle.snl_schedule.specs.Steps.{block_steps, begun_steps, begun_sets_steps, opened_steps, started_steps};
 
 use crate::plans::{ProgramContext, SetContext};
 use crate::refreshing::refresh;
@@ -18,7 +20,8 @@ use crate::transitions::enter;
 use crate::turns::do_told;
 use snl_meaning::{Live, Tied};
 use snl_output::{Sink, Stop, write_start};
-use snl_vm::{Operands, PieceContext, Store};
+use snl_vm::{Operands, PieceContext, Steps, Store};
+use std::sync::ledger::Ledger;
 
 /// What is known of a channel; a link without one waits for nothing.
 fn is_so(known: &[bool], channel: Option<usize>) -> bool
@@ -97,11 +100,12 @@ fn refresh_sets(program: &ProgramContext, store: &mut Store)
 }
 
 /// A state set enters its first state.
-fn begin<S: Sink>(
+fn begin<S: Sink, L: Ledger>(
     state_set: &SetContext,
     store: &mut Store,
     operands: &mut Operands,
     sink: &mut S,
+    steps: &mut Steps<L>,
 ) -> Result<(), Stop>
     requires failures { S.failures sink.old < 2 ^ 64 - 1 }
     requires room { room_of operands.old ≡ state_set.now.room }
@@ -109,6 +113,9 @@ fn begin<S: Sink>(
         state_set.now.plan.now.states.items }
     ensures does { Does (λ x. x) result (world_of store.new) (S.told sink.old) (S.told sink.new)
         (spec.begun (set_on state_set.now) (world_of store.old)) }
+    ensures steps { Adds result (begun_steps (context_on state_set.now) state_set.now.code.now
+        (slice_get state_set.now.plan.now.states.items 0) (world_of store.old))
+        steps.old steps.new }
     ensures frame { frame_of (world_of store.new) ≡ frame_of (world_of store.old) }
     ensures room { room_of operands.new ≡ room_of operands.old }
     ensures failures { S.failures sink.new
@@ -124,23 +131,27 @@ fn begin<S: Sink>(
             store,
             operands,
             sink,
+            steps,
         ),
         None => Ok(()),
     }
 }
 
 /// Every state set enters its first state, up to one whose entry block stops the run.
-fn begin_sets<S: Sink>(
+fn begin_sets<S: Sink, L: Ledger>(
     program: &ProgramContext,
     store: &mut Store,
     operands: &mut Operands,
     sink: &mut S,
+    steps: &mut Steps<L>,
 ) -> Result<(), Stop>
     requires failures { S.failures sink.old < 2 ^ 64 - 1 }
     requires room { room_of operands.old ≡ program.now.room }
     requires runs { CanRunLoaded (loaded program.now) }
     ensures does { Does (λ x. x) result (world_of store.new) (S.told sink.old) (S.told sink.new)
         (spec.begun_sets (program_of (loaded program.now)).sets (world_of store.old)) }
+    ensures steps { Adds result (begun_sets_steps (loaded program.now) 0
+        program.now.plan.now.sets.items (world_of store.old)) steps.old steps.new }
     ensures frame { frame_of (world_of store.new) ≡ frame_of (world_of store.old) }
     ensures room { room_of operands.new ≡ room_of operands.old }
     ensures failures { S.failures sink.new
@@ -158,7 +169,7 @@ fn begin_sets<S: Sink>(
             context,
             room: program.room,
         };
-        match begin(&state_set, store, operands, sink) {
+        match begin(&state_set, store, operands, sink, steps) {
             Ok(()) => {}
             Err(stop) => return Err(stop),
         }
@@ -188,11 +199,12 @@ fn own_context<'t>(program: &ProgramContext<'t>) -> PieceContext<'t>
 }
 
 /// The program's entry block.
-fn enter_program<S: Sink>(
+fn enter_program<S: Sink, L: Ledger>(
     program: &ProgramContext,
     store: &mut Store,
     operands: &mut Operands,
     sink: &mut S,
+    steps: &mut Steps<L>,
 ) -> Result<(), Stop>
     requires failures { S.failures sink.old < 2 ^ 64 - 1 }
     requires room { room_of operands.old ≡ program.now.room }
@@ -200,6 +212,9 @@ fn enter_program<S: Sink>(
     ensures does { Does (λ x. x) result (world_of store.new) (S.told sink.old) (S.told sink.new)
         (spec.owned (program_of (loaded program.now)) (program_of (loaded program.now)).entry
         (world_of store.old)) }
+    ensures steps { Adds result (block_steps (own_context (loaded program.now))
+        program.now.code.now program.now.plan.now.blocks.entry (world_of store.old))
+        steps.old steps.new }
     ensures frame { frame_of (world_of store.new) ≡ frame_of (world_of store.old) }
     ensures room { room_of operands.new ≡ room_of operands.old }
     ensures failures { S.failures sink.new
@@ -212,15 +227,25 @@ fn enter_program<S: Sink>(
         ..
     } = *program;
     let own = own_context(program);
-    do_told(plan.blocks.entry, code, &own, room, store, operands, sink)
+    do_told(
+        plan.blocks.entry,
+        code,
+        &own,
+        room,
+        store,
+        operands,
+        sink,
+        steps,
+    )
 }
 
 /// The program's exit block.
-pub fn leave_program<S: Sink>(
+pub fn leave_program<S: Sink, L: Ledger>(
     program: &ProgramContext,
     store: &mut Store,
     operands: &mut Operands,
     sink: &mut S,
+    steps: &mut Steps<L>,
 ) -> Result<(), Stop>
     requires failures { S.failures sink.old < 2 ^ 64 - 1 }
     requires room { room_of operands.old ≡ program.now.room }
@@ -228,6 +253,9 @@ pub fn leave_program<S: Sink>(
     ensures does { Does (λ x. x) result (world_of store.new) (S.told sink.old) (S.told sink.new)
         (spec.owned (program_of (loaded program.now)) (program_of (loaded program.now)).exit
         (world_of store.old)) }
+    ensures steps { Adds result (block_steps (own_context (loaded program.now))
+        program.now.code.now program.now.plan.now.blocks.exit (world_of store.old))
+        steps.old steps.new }
     ensures frame { frame_of (world_of store.new) ≡ frame_of (world_of store.old) }
     ensures room { room_of operands.new ≡ room_of operands.old }
     ensures failures { S.failures sink.new
@@ -240,45 +268,60 @@ pub fn leave_program<S: Sink>(
         ..
     } = *program;
     let own = own_context(program);
-    do_told(plan.blocks.exit, code, &own, room, store, operands, sink)
+    do_told(
+        plan.blocks.exit,
+        code,
+        &own,
+        room,
+        store,
+        operands,
+        sink,
+        steps,
+    )
 }
 
 /// What follows the line of the start: refresh, the program's entry block, first states.
-fn open<S: Sink>(
+fn open<S: Sink, L: Ledger>(
     program: &ProgramContext,
     store: &mut Store,
     operands: &mut Operands,
     sink: &mut S,
+    steps: &mut Steps<L>,
 ) -> Result<(), Stop>
     requires failures { S.failures sink.old < 2 ^ 64 - 1 }
     requires room { room_of operands.old ≡ program.now.room }
     requires runs { CanRunLoaded (loaded program.now) }
     ensures does { Does (λ x. x) result (world_of store.new) (S.told sink.old) (S.told sink.new)
         (spec.opened (program_of (loaded program.now)) (world_of store.old)) }
+    ensures steps { Adds result (opened_steps (loaded program.now) (world_of store.old))
+        steps.old steps.new }
     ensures frame { frame_of (world_of store.new) ≡ frame_of (world_of store.old) }
     ensures room { room_of operands.new ≡ room_of operands.old }
     ensures failures { S.failures sink.new
         ≡ counted (stopped_by_sink result) (S.failures sink.old) }
 {
     refresh_sets(program, store);
-    match enter_program(program, store, operands, sink) {
-        Ok(()) => begin_sets(program, store, operands, sink),
+    match enter_program(program, store, operands, sink, steps) {
+        Ok(()) => begin_sets(program, store, operands, sink, steps),
         Err(stop) => Err(stop),
     }
 }
 
 /// The start. A block may stop it.
-pub fn start<S: Sink>(
+pub fn start<S: Sink, L: Ledger>(
     program: &ProgramContext,
     store: &mut Store,
     operands: &mut Operands,
     sink: &mut S,
+    steps: &mut Steps<L>,
 ) -> Result<(), Stop>
     requires failures { S.failures sink.old < 2 ^ 64 - 1 }
     requires room { room_of operands.old ≡ program.now.room }
     requires runs { CanRunLoaded (loaded program.now) }
     ensures does { Does (λ x. x) result (world_of store.new) (S.told sink.old) (S.told sink.new)
         (spec.started (program_of (loaded program.now)) (world_of store.old)) }
+    ensures steps { Adds result (started_steps (loaded program.now) (world_of store.old))
+        steps.old steps.new }
     ensures frame { frame_of (world_of store.new) ≡ frame_of (world_of store.old) }
     ensures room { room_of operands.new ≡ room_of operands.old }
     ensures failures { S.failures sink.new
@@ -287,7 +330,7 @@ pub fn start<S: Sink>(
     match write_start(sink, store.time, program.plan.name.as_slice()) {
         Ok(()) => {
             store.phase = Live::Running;
-            open(program, store, operands, sink)
+            open(program, store, operands, sink, steps)
         }
         Err(_) => Err(Stop::Sink),
     }

@@ -5,9 +5,11 @@ ghost use Rattle.snl_schedule.specs.Event as spec;
 ghost use Rattle.snl_meaning.specs.Frames.{at_time, frame_of};
 ghost use Rattle.snl_output.specs.Devices.{counted, stopped_by_sink};
 ghost use Rattle.snl_output.specs.Does.{Does};
+ghost use Rattle.snl_vm.specs.Counting.{Adds};
 ghost use Rattle.snl_vm.specs.Stack.{room_of};
 ghost use Rattle.snl_vm.specs.Views.{world_of};
 ghost use Rattle.snl_schedule.specs.Loaded.{CanRunLoaded, loaded, program_of};
+ghost use Rattle.snl_schedule.specs.Steps.{all_wakes_steps, event_steps, passed_steps, line_steps};
 
 use crate::arrivals::{connect, fit_links, receive};
 use crate::events::Event;
@@ -15,7 +17,8 @@ use crate::instants::instant;
 use crate::plans::{Plan, ProgramContext};
 use snl_meaning::Live;
 use snl_output::{Sink, Stop};
-use snl_vm::{Operands, Store};
+use snl_vm::{Operands, Steps, Store};
+use std::sync::ledger::Ledger;
 
 /// Lets an event change the channels and the buffers of their links.
 fn apply(event: &Event, program: &ProgramContext, store: &mut Store)
@@ -56,19 +59,22 @@ fn next_wake(ms: u64, store: &Store) -> Option<u64>
 
 /// An instant at each wake before a time. Each wake lies after the one before it, so there are no more than
 /// milliseconds until that time.
-fn wake_up<S: Sink>(
+fn wake_up<S: Sink, L: Ledger>(
     ms: u64,
     program: &ProgramContext,
     budget: u32,
     store: &mut Store,
     operands: &mut Operands,
     sink: &mut S,
+    steps: &mut Steps<L>,
 ) -> Result<(), Stop>
     requires failures { S.failures sink.old < 2 ^ 64 - 1 }
     requires room { room_of operands.old ≡ program.now.room }
     requires runs { CanRunLoaded (loaded program.now) }
     ensures does { Does (λ x. x) result (world_of store.new) (S.told sink.old) (S.told sink.new)
         (spec.all_wakes (program_of (loaded program.now)) budget ms (world_of store.old)) }
+    ensures steps { Adds result (all_wakes_steps (loaded program.now) budget ms
+        (world_of store.old)) steps.old steps.new }
     ensures frame { frame_of (world_of store.new)
         ≡ at_time (world_of store.new).time (frame_of (world_of store.old)) }
     ensures time { OnErr result (spec.HasInstant (program_of (loaded program.now)) budget ms
@@ -82,7 +88,7 @@ fn wake_up<S: Sink>(
             None => return Ok(()),
             Some(wake) => {
                 store.time = wake;
-                match instant(program, budget, store, operands, sink) {
+                match instant(program, budget, store, operands, sink, steps) {
                     Ok(()) => {}
                     Err(stop) => return Err(stop),
                 }
@@ -93,7 +99,7 @@ fn wake_up<S: Sink>(
 }
 
 /// An event at its time, unless the program has ended.
-fn happen<S: Sink>(
+fn happen<S: Sink, L: Ledger>(
     ms: u64,
     event: &Event,
     program: &ProgramContext,
@@ -101,6 +107,7 @@ fn happen<S: Sink>(
     store: &mut Store,
     operands: &mut Operands,
     sink: &mut S,
+    steps: &mut Steps<L>,
 ) -> Result<(), Stop>
     requires failures { S.failures sink.old < 2 ^ 64 - 1 }
     requires room { room_of operands.old ≡ program.now.room }
@@ -108,6 +115,8 @@ fn happen<S: Sink>(
     ensures does { Does (λ x. x) result (world_of store.new) (S.told sink.old) (S.told sink.new)
         (spec.event_by (program_of (loaded program.now)) budget ms event.now
         (world_of store.old).phase (world_of store.old)) }
+    ensures steps { Adds result (event_steps (loaded program.now) budget ms event.now
+        (world_of store.old).phase (world_of store.old)) steps.old steps.new }
     ensures frame { frame_of (world_of store.new)
         ≡ at_time (world_of store.new).time (frame_of (world_of store.old)) }
     ensures time { OnErr result ((world_of store.new).time ≡ ms) }
@@ -121,11 +130,11 @@ fn happen<S: Sink>(
     }
     store.time = ms;
     apply(event, program, store);
-    instant(program, budget, store, operands, sink)
+    instant(program, budget, store, operands, sink, steps)
 }
 
 /// All wakes before the time of an event, and then the event.
-fn pass<S: Sink>(
+fn pass<S: Sink, L: Ledger>(
     ms: u64,
     event: &Event,
     program: &ProgramContext,
@@ -133,6 +142,7 @@ fn pass<S: Sink>(
     store: &mut Store,
     operands: &mut Operands,
     sink: &mut S,
+    steps: &mut Steps<L>,
 ) -> Result<(), Stop>
     requires failures { S.failures sink.old < 2 ^ 64 - 1 }
     requires room { room_of operands.old ≡ program.now.room }
@@ -140,6 +150,8 @@ fn pass<S: Sink>(
     ensures does { Does (λ x. x) result (world_of store.new) (S.told sink.old) (S.told sink.new)
         (spec.passed (program_of (loaded program.now)) budget ms event.now
         (world_of store.old)) }
+    ensures steps { Adds result (passed_steps (loaded program.now) budget ms event.now
+        (world_of store.old)) steps.old steps.new }
     ensures frame { frame_of (world_of store.new)
         ≡ at_time (world_of store.new).time (frame_of (world_of store.old)) }
     ensures time { OnErr result (spec.HasInstant (program_of (loaded program.now)) budget ms
@@ -148,8 +160,8 @@ fn pass<S: Sink>(
     ensures failures { S.failures sink.new
         ≡ counted (stopped_by_sink result) (S.failures sink.old) }
 {
-    match wake_up(ms, program, budget, store, operands, sink) {
-        Ok(()) => happen(ms, event, program, budget, store, operands, sink),
+    match wake_up(ms, program, budget, store, operands, sink, steps) {
+        Ok(()) => happen(ms, event, program, budget, store, operands, sink, steps),
         Err(stop) => Err(stop),
     }
 }
@@ -158,8 +170,9 @@ fn pass<S: Sink>(
 /// lines of the run to the sink. Before that it runs the program at each time before the line's at which a `delay` is
 /// over (SNL Reference, "delay"). After the end of a run it does nothing.
 ///
-/// After a fault, and where the sink fails, the run has ended, and what was written stands.
-pub fn take<S: Sink>(
+/// After a fault, and where the sink fails, the run has ended, and what was written stands. Each instruction that is executed
+/// is one of the steps.
+pub fn take<S: Sink, L: Ledger>(
     ms: u64,
     event: &Event,
     program: &ProgramContext,
@@ -167,6 +180,7 @@ pub fn take<S: Sink>(
     store: &mut Store,
     operands: &mut Operands,
     sink: &mut S,
+    steps: &mut Steps<L>,
 ) -> Result<Live, Stop>
     requires failures { S.failures sink.old < 2 ^ 64 - 1 }
     requires room { room_of operands.old ≡ program.now.room }
@@ -174,6 +188,8 @@ pub fn take<S: Sink>(
     ensures does { Does (λ live. live) result (world_of store.new) (S.told sink.old)
         (S.told sink.new) (spec.line_of (program_of (loaded program.now)) budget ms event.now
         (world_of store.old)) }
+    ensures steps { Adds result (line_steps (loaded program.now) budget ms event.now
+        (world_of store.old)) steps.old steps.new }
     ensures ended { OnErr result ((world_of store.new).phase ≡ Live.Ended) }
     ensures frame { frame_of (world_of store.new)
         ≡ at_time (world_of store.new).time (frame_of (world_of store.old)) }
@@ -186,7 +202,7 @@ pub fn take<S: Sink>(
     if store.phase == Live::Ended {
         return Ok(Live::Ended);
     }
-    match pass(ms, event, program, budget, store, operands, sink) {
+    match pass(ms, event, program, budget, store, operands, sink, steps) {
         Ok(()) => Ok(store.phase),
         Err(stop) => {
             store.phase = Live::Ended;

@@ -1,21 +1,24 @@
 //! A transition of a state set: the line, the states that it leads from and to with their blocks, and the way out.
 
-ghost use Rattle.std.specs.Prelude.{◌≡◌, ◌-◌, ◌^◌, ◌<◌, is_err};
+ghost use Rattle.std.specs.Prelude.{◌≡◌, ◌-◌, ◌^◌, ◌<◌, is_err, slice_get};
 ghost use Rattle.snl_meaning.specs.Frames.{frame_of};
 ghost use Rattle.snl_output.specs.Devices.{counted, stopped_by_sink, Wrote};
 ghost use Rattle.snl_output.specs.Does.{Does};
 ghost use Rattle.snl_output.specs.Lines.{go_line};
+ghost use Rattle.snl_vm.specs.Counting.{Adds};
 ghost use Rattle.snl_vm.specs.Stack.{room_of};
 ghost use Rattle.snl_vm.specs.Views.{world_of};
 ghost use Rattle.snl_schedule.specs.Goes.{name_at, target_name};
 ghost use Rattle.snl_schedule.specs.Plans.{CanDo, CanRun, CanRunSet, block_at, clause_of, context_for, context_on, set_on};
+ghost use Rattle.snl_schedule.specs.Steps.{block_steps, due_steps, left_steps, come_steps, crossed_steps, arrived_steps, acted_steps, transition_steps};
 ghost use Rattle.snl_schedule.specs.Turn as spec;
 
 use crate::goes::{name_at, target_name};
 use crate::plans::{ClausePlan, Destination, SetContext, SetPlan};
 use snl_meaning::Instr;
 use snl_output::{Sink, SinkFault, Stop, write_go, write_timed};
-use snl_vm::{Operands, PieceContext, Store, perform, spend};
+use snl_vm::{Operands, PieceContext, Steps, Store, perform, spend};
+use std::sync::ledger::Ledger;
 
 /// How a turn, or a round of turns, came to its end.
 #[derive(Clone, Copy)]
@@ -29,7 +32,7 @@ pub enum Turned {
 }
 
 /// An entry or an exit block, if there is one.
-pub fn do_block<S: Sink>(
+pub fn do_block<S: Sink, L: Ledger>(
     start: Option<usize>,
     code: &[Instr],
     context: &PieceContext,
@@ -37,12 +40,15 @@ pub fn do_block<S: Sink>(
     store: &mut Store,
     operands: &mut Operands,
     sink: &mut S,
+    steps: &mut Steps<L>,
 ) -> Result<(), Stop>
     requires failures { S.failures sink.old < 2 ^ 64 - 1 }
     requires room { room_of operands.old ≡ room }
     requires runs { CanDo (context_for context.now room) code.now start }
     ensures does { Does (λ x. x) result (world_of store.new) (S.told sink.old) (S.told sink.new)
         (block_at (context_for context.now room) code.now start (world_of store.old)) }
+    ensures steps { Adds result (block_steps (context_for context.now room) code.now start
+        (world_of store.old)) steps.old steps.new }
     ensures frame { frame_of (world_of store.new) ≡ frame_of (world_of store.old) }
     ensures room { room_of operands.new ≡ room_of operands.old }
     ensures failures { S.failures sink.new
@@ -50,7 +56,7 @@ pub fn do_block<S: Sink>(
 {
     match start {
         None => Ok(()),
-        Some(start) => match perform(code, start, context, store, operands, sink) {
+        Some(start) => match perform(code, start, context, store, operands, sink, steps) {
             Ok(_) => Ok(()),
             Err(stop) => Err(stop),
         },
@@ -58,13 +64,14 @@ pub fn do_block<S: Sink>(
 }
 
 /// The same of a state, where it is due.
-fn do_if_due<S: Sink>(
+fn do_if_due<S: Sink, L: Ledger>(
     is_due: bool,
     start: Option<usize>,
     state_set: &SetContext,
     store: &mut Store,
     operands: &mut Operands,
     sink: &mut S,
+    steps: &mut Steps<L>,
 ) -> Result<(), Stop>
     requires failures { S.failures sink.old < 2 ^ 64 - 1 }
     requires room { room_of operands.old ≡ state_set.now.room }
@@ -72,6 +79,8 @@ fn do_if_due<S: Sink>(
     ensures does { Does (λ x. x) result (world_of store.new) (S.told sink.old) (S.told sink.new)
         (spec.if_due is_due (block_at (context_on state_set.now) state_set.now.code.now start)
         (world_of store.old)) }
+    ensures steps { Adds result (due_steps (context_on state_set.now) state_set.now.code.now
+        is_due start (world_of store.old)) steps.old steps.new }
     ensures frame { frame_of (world_of store.new) ≡ frame_of (world_of store.old) }
     ensures room { room_of operands.new ≡ room_of operands.old }
     ensures failures { S.failures sink.new
@@ -79,7 +88,8 @@ fn do_if_due<S: Sink>(
 {
     if is_due {
         let SetContext { code, room, .. } = *state_set;
-        do_block(start, code, &state_set.context, room, store, operands, sink)
+        let context = &state_set.context;
+        do_block(start, code, context, room, store, operands, sink, steps)
     } else {
         Ok(())
     }
@@ -107,13 +117,14 @@ pub fn enter(store: &mut Store, set: usize, state: usize, is_timed: bool)
 }
 
 /// The state that is left: its exit block, where that is due.
-fn leave<S: Sink>(
+fn leave<S: Sink, L: Ledger>(
     from: usize,
     to: usize,
     state_set: &SetContext,
     store: &mut Store,
     operands: &mut Operands,
     sink: &mut S,
+    steps: &mut Steps<L>,
 ) -> Result<(), Stop>
     requires failures { S.failures sink.old < 2 ^ 64 - 1 }
     requires room { room_of operands.old ≡ state_set.now.room }
@@ -121,6 +132,9 @@ fn leave<S: Sink>(
         state_set.now.plan.now.states.items }
     ensures does { Does (λ x. x) result (world_of store.new) (S.told sink.old) (S.told sink.new)
         (spec.left_for (set_on state_set.now) from to (world_of store.old)) }
+    ensures steps { Adds result (left_steps (context_on state_set.now) state_set.now.code.now
+        from to (slice_get state_set.now.plan.now.states.items from) (world_of store.old))
+        steps.old steps.new }
     ensures frame { frame_of (world_of store.new) ≡ frame_of (world_of store.old) }
     ensures room { room_of operands.new ≡ room_of operands.old }
     ensures failures { S.failures sink.new
@@ -129,20 +143,29 @@ fn leave<S: Sink>(
     match state_set.plan.states.get(from) {
         Some(state) => {
             let due = is_due(state.again.exit, from, to);
-            do_if_due(due, state.blocks.exit, state_set, store, operands, sink)
+            do_if_due(
+                due,
+                state.blocks.exit,
+                state_set,
+                store,
+                operands,
+                sink,
+                steps,
+            )
         }
         None => Ok(()),
     }
 }
 
 /// The state that is entered: the time of its entry, and its entry block, where they are due.
-fn come<S: Sink>(
+fn come<S: Sink, L: Ledger>(
     from: usize,
     to: usize,
     state_set: &SetContext,
     store: &mut Store,
     operands: &mut Operands,
     sink: &mut S,
+    steps: &mut Steps<L>,
 ) -> Result<(), Stop>
     requires failures { S.failures sink.old < 2 ^ 64 - 1 }
     requires room { room_of operands.old ≡ state_set.now.room }
@@ -150,6 +173,9 @@ fn come<S: Sink>(
         state_set.now.plan.now.states.items }
     ensures does { Does (λ x. x) result (world_of store.new) (S.told sink.old) (S.told sink.new)
         (spec.come_to (set_on state_set.now) from to (world_of store.old)) }
+    ensures steps { Adds result (come_steps (context_on state_set.now) state_set.now.code.now
+        from to (slice_get state_set.now.plan.now.states.items to) (world_of store.old))
+        steps.old steps.new }
     ensures frame { frame_of (world_of store.new) ≡ frame_of (world_of store.old) }
     ensures room { room_of operands.new ≡ room_of operands.old }
     ensures failures { S.failures sink.new
@@ -160,7 +186,15 @@ fn come<S: Sink>(
         Some(state) => {
             enter(store, set, to, is_due(state.again.time, from, to));
             let due = is_due(state.again.entry, from, to);
-            do_if_due(due, state.blocks.entry, state_set, store, operands, sink)
+            do_if_due(
+                due,
+                state.blocks.entry,
+                state_set,
+                store,
+                operands,
+                sink,
+                steps,
+            )
         }
         None => {
             enter(store, set, to, true);
@@ -170,13 +204,14 @@ fn come<S: Sink>(
 }
 
 /// From a state to a state.
-fn cross<S: Sink>(
+fn cross<S: Sink, L: Ledger>(
     from: usize,
     to: usize,
     state_set: &SetContext,
     store: &mut Store,
     operands: &mut Operands,
     sink: &mut S,
+    steps: &mut Steps<L>,
 ) -> Result<Turned, Stop>
     requires failures { S.failures sink.old < 2 ^ 64 - 1 }
     requires room { room_of operands.old ≡ state_set.now.room }
@@ -184,13 +219,15 @@ fn cross<S: Sink>(
         state_set.now.plan.now.states.items }
     ensures does { Does (λ t. t) result (world_of store.new) (S.told sink.old) (S.told sink.new)
         (spec.crossed (set_on state_set.now) from to (world_of store.old)) }
+    ensures steps { Adds result (crossed_steps (context_on state_set.now) state_set.now.code.now
+        state_set.now.plan.now from to (world_of store.old)) steps.old steps.new }
     ensures frame { frame_of (world_of store.new) ≡ frame_of (world_of store.old) }
     ensures room { room_of operands.new ≡ room_of operands.old }
     ensures failures { S.failures sink.new
         ≡ counted (stopped_by_sink result) (S.failures sink.old) }
 {
-    match leave(from, to, state_set, store, operands, sink) {
-        Ok(()) => match come(from, to, state_set, store, operands, sink) {
+    match leave(from, to, state_set, store, operands, sink, steps) {
+        Ok(()) => match come(from, to, state_set, store, operands, sink, steps) {
             Ok(()) => Ok(Turned::Moved),
             Err(stop) => Err(stop),
         },
@@ -226,7 +263,7 @@ fn tell<S: Sink>(
 
 /// Writes the line of a transition, and goes on to the new state. One that leads out of the program enters none. The number of
 /// its clause says where the line is looked for.
-fn arrive<S: Sink>(
+fn arrive<S: Sink, L: Ledger>(
     target: Destination,
     clause: usize,
     from: usize,
@@ -234,6 +271,7 @@ fn arrive<S: Sink>(
     store: &mut Store,
     operands: &mut Operands,
     sink: &mut S,
+    steps: &mut Steps<L>,
 ) -> Result<Turned, Stop>
     requires failures { S.failures sink.old < 2 ^ 64 - 1 }
     requires room { room_of operands.old ≡ state_set.now.room }
@@ -241,6 +279,8 @@ fn arrive<S: Sink>(
         state_set.now.plan.now.states.items }
     ensures does { Does (λ t. t) result (world_of store.new) (S.told sink.old) (S.told sink.new)
         (spec.arrived (set_on state_set.now) from target (world_of store.old)) }
+    ensures steps { Adds result (arrived_steps (context_on state_set.now) state_set.now.code.now
+        state_set.now.plan.now from target (world_of store.old)) steps.old steps.new }
     ensures frame { frame_of (world_of store.new) ≡ frame_of (world_of store.old) }
     ensures room { room_of operands.new ≡ room_of operands.old }
     ensures failures { S.failures sink.new
@@ -248,7 +288,9 @@ fn arrive<S: Sink>(
 {
     match tell(state_set.plan, target, clause, from, store.time, sink) {
         Ok(()) => match target {
-            Destination::State(state) => cross(from, state, state_set, store, operands, sink),
+            Destination::State(state) => cross(
+                from, state, state_set, store, operands, sink, steps,
+            ),
             Destination::Exit => Ok(Turned::Exited),
         },
         Err(_) => Err(Stop::Sink),
@@ -266,13 +308,14 @@ fn target_by(left: Option<usize>, target: Destination) -> Destination
 }
 
 /// A clause's block, and then the state that the block leaves for, or else where the clause leads.
-fn act<S: Sink>(
+fn act<S: Sink, L: Ledger>(
     clause: ClausePlan,
     from: usize,
     state_set: &SetContext,
     store: &mut Store,
     operands: &mut Operands,
     sink: &mut S,
+    steps: &mut Steps<L>,
 ) -> Result<Turned, Stop>
     requires failures { S.failures sink.old < 2 ^ 64 - 1 }
     requires room { room_of operands.old ≡ state_set.now.room }
@@ -283,6 +326,8 @@ fn act<S: Sink>(
         (spec.acted (set_on state_set.now) from
         (clause_of (context_on state_set.now) state_set.now.code.now clause)
         (world_of store.old)) }
+    ensures steps { Adds result (acted_steps (context_on state_set.now) state_set.now.code.now
+        state_set.now.plan.now from clause (world_of store.old)) steps.old steps.new }
     ensures frame { frame_of (world_of store.new) ≡ frame_of (world_of store.old) }
     ensures room { room_of operands.new ≡ room_of operands.old }
     ensures failures { S.failures sink.new
@@ -295,6 +340,7 @@ fn act<S: Sink>(
         store,
         operands,
         sink,
+        steps,
     ) {
         Ok(left) => {
             let target = target_by(left, clause.target);
@@ -306,6 +352,7 @@ fn act<S: Sink>(
                 store,
                 operands,
                 sink,
+                steps,
             )
         }
         Err(stop) => Err(stop),
@@ -313,13 +360,14 @@ fn act<S: Sink>(
 }
 
 /// A transition: a tick, the block, the line, and what the states do.
-pub fn transit<S: Sink>(
+pub fn transit<S: Sink, L: Ledger>(
     clause: ClausePlan,
     from: usize,
     state_set: &SetContext,
     store: &mut Store,
     operands: &mut Operands,
     sink: &mut S,
+    steps: &mut Steps<L>,
 ) -> Result<Turned, Stop>
     requires failures { S.failures sink.old < 2 ^ 64 - 1 }
     requires room { room_of operands.old ≡ state_set.now.room }
@@ -330,13 +378,15 @@ pub fn transit<S: Sink>(
         (spec.transition (set_on state_set.now) from
         (clause_of (context_on state_set.now) state_set.now.code.now clause)
         (world_of store.old)) }
+    ensures steps { Adds result (transition_steps (context_on state_set.now) state_set.now.code.now
+        state_set.now.plan.now from clause (world_of store.old)) steps.old steps.new }
     ensures frame { frame_of (world_of store.new) ≡ frame_of (world_of store.old) }
     ensures room { room_of operands.new ≡ room_of operands.old }
     ensures failures { S.failures sink.new
         ≡ counted (stopped_by_sink result) (S.failures sink.old) }
 {
     match spend(store, clause.line) {
-        Ok(()) => act(clause, from, state_set, store, operands, sink),
+        Ok(()) => act(clause, from, state_set, store, operands, sink, steps),
         Err(charge) => Err(Stop::Fault(charge.fault, charge.line)),
     }
 }

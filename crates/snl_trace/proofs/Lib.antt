@@ -9,3 +9,4 @@ pub mod SourceLaws
 pub mod TimedLaws
 pub mod RunOverLaws
 pub mod ValueLaws
+pub mod SameRuns

@@ -1,4 +1,4 @@
--- Laws of plain lines with values.
+-- Laws of plain lines.
 use Rattle.std.proofs.Common.{◌≡◌, ◌≢◌, ◌-◌, ℕ, ℤ, inl, inr, ◌^◌, ◌<◌, ◌≤◌, true, false, List, [], ◌∷◌, ◌++◌, None, Some, Ok, length, take, drop, codes, refl, sym, ap, ◌∙◌, arith, append_assoc, length-append, length-take}
 use Rattle.std.specs.Char.{is_ascii_digit}
 use Rattle.std.specs.List.{All, list_all}
@@ -9,10 +9,10 @@ use Rattle.std.proofs.lemmas.List.Elements.{All-cons, All-nil}
 use Rattle.std.proofs.lemmas.List.Folds.{list_all-append}
 use Rattle.snl_trace.specs.declared.words.Word.TheVariants as words
 use Rattle.snl_trace.specs.Fields.{is_blank, is_filled, is_text, is_silent, fields, begins_with}
-use Rattle.snl_trace.specs.Grammar.{Val, kept, kept_values, values_of, told_of, told_by, timed, spoken, val_with, word_of}
+use Rattle.snl_trace.specs.Grammar.{Told, Val, Tick, kept, values_of, told_of, told_by, timed, spoken, val_with, tick_with, word_of}
 use Rattle.snl_trace.specs.Lines.{without_return}
 use Rattle.snl_trace.specs.Numbers.{is_numeral, number_of, time_of, value_of, from_zero, below_zero, up_to}
-use Rattle.snl_trace.specs.Plain.{is_plain, Begins, BeginsWithValues}
+use Rattle.snl_trace.specs.Plain.{is_plain, Begins, BeginsWithValues, BeginsWithTelling}
 use Rattle.snl_trace.specs.Reading.{IsRun}
 use Rattle.snl_trace.proofs.FieldLaws.{fields-at, fields-all}
 use Rattle.snl_trace.proofs.NumberLaws.{all-digits}
@@ -159,54 +159,85 @@ way-ends items value text left rest way begins =
       kept = kept_values_some (fields (way.done ++ f)) all last (omega (arith, length-take 1024 (items ++ value ∷ []), length-append items (value ∷ [])));
     }
 
--- ---- lines
+-- ---- what is told
 
--- a plain line: a time, `val`, a name and values
-abbrev line_of : (time name row : List ℕ) → List ℕ
-line_of time name row = time ++ 32 ∷ (codes "val" ++ 32 ∷ (name ++ 32 ∷ row))
+-- `val` is the word of values
+val-word : word_of (codes "val") ≡ Some words.Val
+unfolding word_of
+val-word = refl
 
--- a line is a plain one with this time, this name and these values
-pub record IsPlainLine (ms : ℕ) (name : List ℕ) (values : List ℤ) (line : List ℕ) : Type 0 where
-  pub time : List ℕ
-  pub row : List ℕ
-  pub is : line ≡ line_of time name row
-  pub time_plain : list_all is_plain time ≡ true
-  pub time_is : time_of time ≡ Some ms
-  pub name_plain : list_all is_plain name ≡ true
-  pub name_some : 0 < length name
-  pub row_text : list_all is_text row ≡ true
-  pub kept : kept_values (fields row) ≡ Ok values
+-- `tick` is that of a time that has passed
+tick-word : word_of (codes "tick") ≡ Some words.Tick
+unfolding word_of
+tick-word = refl
 
--- what a text reads as that begins with these, one behind another
-pub record IsRead (ms : ℕ) (name : List ℕ) (values : List ℤ) (text rest : List ℕ) : Type 0 where
-  pub line : List ℕ
-  pub is : text ≡ line ++ 10 ∷ rest
-  pub plain : IsPlainLine ms name values line
+-- a filled name
+filled-some : (name : List ℕ) → 0 < length name → is_filled name ≡ true
+filled-some [] some = absurd (omega arith)
+filled-some (b ∷ bs) some = refl
 
--- a time, `val`, a name and values at the front of a text are a plain line
-pub read-line : (ms : ℕ) (name : List ℕ) (values : List ℤ) (text word named row rest : List ℕ) → Begins (λ field. time_of field ≡ Some ms) 32 text word →
-    word ≡ codes "val" ++ 32 ∷ named → Begins (λ field. (field ≡ name) × (0 < length field)) 32 named row → BeginsWithValues values row rest →
-    IsRead ms name values text rest
-read-line ms name values text word named row rest timed worded begun valued =
+-- `tick` alone tells that time has passed
+pub tells-tick : (text rest : List ℕ) → text ≡ codes "tick" ++ 10 ∷ rest → BeginsWithTelling Tick text rest
+unfolding told_by tick_with
+tells-tick text rest is = record {
+  row = codes "tick";
+  is = is;
+  plain = refl;
+  tells = ap told_by (fields-all (codes "tick") (plain-unblank (codes "tick") refl) refl) ∙ rw tick-word refl;
+}
+
+-- `val`, a name and values tell of these values
+pub tells-values : (name : List ℕ) (values : List ℤ) (text named row rest : List ℕ) → text ≡ codes "val" ++ 32 ∷ named →
+    Begins (λ field. (field ≡ name) × (0 < length field)) 32 named row → BeginsWithValues values row rest → BeginsWithTelling (Val name values) text rest
+unfolding told_by val_with
+tells-values name values text named row rest worded begun valued =
+    let plain : list_all is_plain name ≡ true = ap (list_all is_plain) (sym begun.right.0) ∙ begun.plain in
+    let some : 0 < length name = omega (arith, ap length begun.right.0, begun.right.1) in
     let tail : named ≡ (name ++ 32 ∷ valued.row) ++ 10 ∷ rest =
     begun.is ∙ ap (λ z. z ++ 32 ∷ row) begun.right.0 ∙ ap (λ z. name ++ 32 ∷ z) valued.is ∙ sym (append_assoc name (32 ∷ valued.row) (10 ∷ rest)) in
-    let behind : word ≡ (codes "val" ++ 32 ∷ (name ++ 32 ∷ valued.row)) ++ 10 ∷ rest =
-    worded ∙ ap (λ z. codes "val" ++ 32 ∷ z) tail ∙ sym (append_assoc (codes "val") (32 ∷ (name ++ 32 ∷ valued.row)) (10 ∷ rest)) in
+    let cut : fields (codes "val" ++ 32 ∷ (name ++ 32 ∷ valued.row)) ≡ codes "val" ∷ name ∷ fields valued.row =
+    fields-at (codes "val") 32 (name ++ 32 ∷ valued.row) (plain-unblank (codes "val") refl) refl refl
+    ∙ ap (λ z. codes "val" ∷ z) (fields-at name 32 valued.row (plain-unblank name plain) (filled-some name some) refl) in
     record {
-      line = line_of timed.field name valued.row;
-      is = timed.is ∙ ap (λ z. timed.field ++ 32 ∷ z) behind ∙ sym (append_assoc timed.field (32 ∷ (codes "val" ++ 32 ∷ (name ++ 32 ∷ valued.row))) (10 ∷ rest));
-      plain = record {
-        time = timed.field;
-        row = valued.row;
-        is = refl;
-        time_plain = timed.plain;
-        time_is = timed.right;
-        name_plain = ap (list_all is_plain) (sym begun.right.0) ∙ begun.plain;
-        name_some = omega (arith, ap length begun.right.0, begun.right.1);
-        row_text = valued.plain;
-        kept = valued.kept;
-      };
+      row = codes "val" ++ 32 ∷ (name ++ 32 ∷ valued.row);
+      is = worded ∙ ap (λ z. codes "val" ++ 32 ∷ z) tail ∙ sym (append_assoc (codes "val") (32 ∷ (name ++ 32 ∷ valued.row)) (10 ∷ rest));
+      plain = list_all-append is_text name (32 ∷ valued.row) ∙ rw (plain-text name plain, valued.plain) refl;
+      tells = ap told_by cut ∙ rw (val-word, valued.kept) refl;
     }
+
+-- ---- lines
+
+-- a line is a plain one: a time, a space and what tells this
+pub record IsPlainLine (ms : ℕ) (told : Told) (line : List ℕ) : Type 0 where
+  pub time : List ℕ
+  pub row : List ℕ
+  pub is : line ≡ time ++ 32 ∷ row
+  pub time_plain : list_all is_plain time ≡ true
+  pub time_is : time_of time ≡ Some ms
+  pub row_text : list_all is_text row ≡ true
+  pub tells : told_by (fields row) ≡ Ok told
+
+-- what a text reads as that begins with these, one behind another
+pub record IsRead (ms : ℕ) (told : Told) (text rest : List ℕ) : Type 0 where
+  pub line : List ℕ
+  pub is : text ≡ line ++ 10 ∷ rest
+  pub plain : IsPlainLine ms told line
+
+-- a time at the front of a text, and what tells something behind it, are a plain line
+pub read-line : (ms : ℕ) (told : Told) (text row rest : List ℕ) → Begins (λ field. time_of field ≡ Some ms) 32 text row → BeginsWithTelling told row rest → IsRead ms told text rest
+read-line ms told text row rest timed telling = record {
+  line = timed.field ++ 32 ∷ telling.row;
+  is = timed.is ∙ ap (λ z. timed.field ++ 32 ∷ z) telling.is ∙ sym (append_assoc timed.field (32 ∷ telling.row) (10 ∷ rest));
+  plain = record {
+    time = timed.field;
+    row = telling.row;
+    is = refl;
+    time_plain = timed.plain;
+    time_is = timed.right;
+    row_text = telling.plain;
+    tells = telling.tells;
+  };
+}
 
 -- what spells a time is digits, and at least one
 time-numeral : (field : List ℕ) (ms : ℕ) → time_of field ≡ Some ms → is_numeral 16 field ≡ true
@@ -230,24 +261,10 @@ time-loud (b ∷ bs) rest ms is =
     let other : begins_with 35 (b ∷ bs) ≡ false = ne_eqb b 35 (λ e. absurd (false≢true (ap is_ascii_digit (sym e) ∙ digits.0))) in
     rw (other, byte-unblank b (digit-plain b digits.0)) refl
 
--- a filled name
-filled-some : (name : List ℕ) → 0 < length name → is_filled name ≡ true
-filled-some [] some = absurd (omega arith)
-filled-some (b ∷ bs) some = refl
-
--- the fields of a plain line
-line-fields : (ms : ℕ) (time name row : List ℕ) → list_all is_plain time ≡ true → time_of time ≡ Some ms → list_all is_plain name ≡ true → 0 < length name →
-    fields (line_of time name row) ≡ time ∷ codes "val" ∷ name ∷ fields row
-line-fields ms time name row time_plain is name_plain some =
-    fields-at time 32 (codes "val" ++ 32 ∷ (name ++ 32 ∷ row)) (plain-unblank time time_plain) (time-filled time ms is) refl
-    ∙ ap (λ z. time ∷ z) (fields-at (codes "val") 32 (name ++ 32 ∷ row) (plain-unblank (codes "val") refl) refl refl
-    ∙ ap (λ z. codes "val" ∷ z) (fields-at name 32 row (plain-unblank name name_plain) (filled-some name some) refl))
-
 -- all its bytes are text
-line-text : (time name row : List ℕ) → list_all is_plain time ≡ true → list_all is_plain name ≡ true → list_all is_text row ≡ true → list_all is_text (line_of time name row) ≡ true
-line-text time name row time_plain name_plain row_text =
-    list_all-append is_text time (32 ∷ (codes "val" ++ 32 ∷ (name ++ 32 ∷ row)))
-    ∙ rw (plain-text time time_plain) (list_all-append is_text name (32 ∷ row) ∙ rw (plain-text name name_plain, row_text) refl)
+line-text : (ms : ℕ) (told : Told) (line : List ℕ) → IsPlainLine ms told line → list_all is_text line ≡ true
+line-text ms told line plain =
+    ap (list_all is_text) plain.is ∙ list_all-append is_text plain.time (32 ∷ plain.row) ∙ rw (plain-text plain.time plain.time_plain, plain.row_text) refl
 
 -- text has no newline
 text-whole : (line : List ℕ) → list_all is_text line ≡ true → All (λ byte. byte ≢ 10) line
@@ -267,32 +284,25 @@ text-same (b ∷ c ∷ bs) text =
     let parts = and_parts (is_text b) (list_all is_text (c ∷ bs)) text in
     ap (λ z. b ∷ z) (text-same (c ∷ bs) parts.1)
 
--- `val` is the word of values
-val-word : word_of (codes "val") ≡ Some words.Val
-unfolding word_of
-val-word = refl
-
 -- what the fields of a plain line tell
-fields-told : (last ms : ℕ) (time name : List ℕ) (rest : List (List ℕ)) (values : List ℤ) → time_of time ≡ Some ms → last ≤ ms → kept_values rest ≡ Ok values →
-    spoken last (time ∷ codes "val" ∷ name ∷ rest) ≡ Ok (Some (ms, Val name values))
-unfolding spoken timed told_by val_with
-fields-told last ms time name rest values is later kept = rw (is, le-ltb ms last later, val-word, kept) refl
+fields-told : (last ms : ℕ) (told : Told) (time : List ℕ) (rest : List (List ℕ)) → time_of time ≡ Some ms → last ≤ ms → told_by rest ≡ Ok told →
+    spoken last (time ∷ rest) ≡ Ok (Some (ms, told))
+unfolding spoken timed
+fields-told last ms told time rest is later tells = rw (is, le-ltb ms last later, tells) refl
 
 -- what a plain line tells, where its time is not below the last one and it is not too long
-pub line-told : (last ms : ℕ) (name : List ℕ) (values : List ℤ) (line : List ℕ) → last ≤ ms → length line ≤ 32768 → IsPlainLine ms name values line →
-    told_of last line ≡ Ok (Some (ms, Val name values))
+pub line-told : (last ms : ℕ) (told : Told) (line : List ℕ) → last ≤ ms → length line ≤ 32768 → IsPlainLine ms told line → told_of last line ≡ Ok (Some (ms, told))
 unfolding told_of
-line-told last ms name values line later short plain =
-    let text : list_all is_text line ≡ true = ap (list_all is_text) plain.is ∙ line-text plain.time name plain.row plain.time_plain plain.name_plain plain.row_text in
-    let loud : is_silent line ≡ false = ap is_silent plain.is ∙ time-loud plain.time _ ms plain.time_is in
-    let cut : fields line ≡ plain.time ∷ codes "val" ∷ name ∷ fields plain.row =
-    ap fields plain.is ∙ line-fields ms plain.time name plain.row plain.time_plain plain.time_is plain.name_plain plain.name_some in
-    rw (le-ltb 32768 (length line) short, text-same line text, loud, text, cut) (fields-told last ms plain.time name (fields plain.row) values plain.time_is later plain.kept)
+line-told last ms told line later short plain =
+    let text : list_all is_text line ≡ true = line-text ms told line plain in
+    let loud : is_silent line ≡ false = ap is_silent plain.is ∙ time-loud plain.time (32 ∷ plain.row) ms plain.time_is in
+    let cut : fields line ≡ plain.time ∷ fields plain.row =
+    ap fields plain.is ∙ fields-at plain.time 32 plain.row (plain-unblank plain.time plain.time_plain) (time-filled plain.time ms plain.time_is) refl in
+    rw (le-ltb 32768 (length line) short, text-same line text, loud, text, cut) (fields-told last ms told plain.time (fields plain.row) plain.time_is later plain.tells)
 
 -- no newline stands in it
-pub line-whole : (ms : ℕ) (name : List ℕ) (values : List ℤ) (line : List ℕ) → IsPlainLine ms name values line → All (λ byte. byte ≢ 10) line
-line-whole ms name values line plain =
-    text-whole line (ap (list_all is_text) plain.is ∙ line-text plain.time name plain.row plain.time_plain plain.name_plain plain.row_text)
+pub line-whole : (ms : ℕ) (told : Told) (line : List ℕ) → IsPlainLine ms told line → All (λ byte. byte ≢ 10) line
+line-whole ms told line plain = text-whole line (line-text ms told line plain)
 
 -- a line in front of a rest is cut where the rest begins, and a newline before that
 pub line-cut : (line text rest : List ℕ) → text ≡ line ++ 10 ∷ rest → take (length text - length rest - 1) text ≡ line

@@ -20,6 +20,7 @@ use Rattle.snl_output.specs.Does.{text_of}
 use Rattle.snl_meaning.specs.World.{World}
 use Rattle.snl_output.proofs.Doing.{faulted-then, cut-then}
 use Rattle.snl_output.proofs.Writing.{told_more-told_more, told_more-nil}
+use Rattle.snl_trace.specs.declared.reader.Heard.{Heard}
 use Rattle.snl_trace.specs.declared.runner.End.{End}
 use Rattle.snl_trace.specs.declared.runner.End.TheVariants as end
 use Rattle.snl_trace.specs.declared.trace_faults.TraceFault.{TraceFault}
@@ -29,6 +30,7 @@ use Rattle.snl_trace.specs.Grammar.{told_of, read_of}
 use Rattle.snl_trace.specs.Lines.{lines_to, lines_from, last_line}
 use Rattle.snl_trace.specs.Run.{Rules, run_from, line_done, or_rest, done_by, end_by, ending_of, rules_of, rules_by}
 use Rattle.snl_trace.specs.RunOver.{Place, Reaches, EndsIn, Takes, LineDoes}
+use Rattle.snl_trace.specs.Seen.{event_heard}
 use Rattle.snl_trace.proofs.LineLaws.{lines_to-newline, lines_to-end, lines_to-append}
 use Rattle.snl_trace.proofs.RunLaws.{run_from-append}
 
@@ -315,12 +317,12 @@ pub read-is : (m : Machine) (last : ℕ) (line : List ℕ) (read : Result (Optio
 unfolding rules_by
 read-is m last line read is at = sym (is ∙ ap (λ t. read_of (channel_of m) (fits_of m) t line) at)
 
--- the same of an event that may be known with its time
-pub known-is : (m : Machine) (line : List ℕ) (event : Event) (known : Option ℕ) →
-    IfSome known (λ ms. Ok (Some (ms, event)) ≡ read_of (channel_of m) (fits_of m) (world_held m).time line) →
-    IfSome known (λ ms. Ok (Some (ms, event)) ≡ (rules_of m).read (world_held m).time line)
-known-is m line event None read = tt
-known-is m line event (Some ms) read = sym (read-is m (world_held m).time line (Ok (Some (ms, event))) read refl)
+-- the same of what was heard, where that may be known with its time
+pub known-is : (m : Machine) (line : List ℕ) (room : Event) (known : Option (ℕ × Heard)) →
+    IfSome known (λ at. Ok (Some (at.0, event_heard room at.1)) ≡ read_of (channel_of m) (fits_of m) (world_held m).time line) →
+    IfSome known (λ at. Ok (Some (at.0, event_heard room at.1)) ≡ (rules_of m).read (world_held m).time line)
+known-is m line room None read = tt
+known-is m line room (Some at) read = sym (read-is m (world_held m).time line (Ok (Some (at.0, event_heard room at.1))) read refl)
 
 -- of some bytes the first were taken in
 pub record IsPartWay (rules : Rules) (bytes left : List ℕ) (from to : Place) : Type 0 where

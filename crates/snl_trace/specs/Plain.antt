@@ -2,7 +2,7 @@
 use Rattle.std.specs.Prelude.{◌≡◌, ◌&&◌, ℕ, ℤ, nat_le, Bool, true, List, ◌∷◌, ◌++◌, Ok}
 use Rattle.std.specs.List.{list_all}
 use Rattle.snl_trace.specs.Fields.{is_text, fields}
-use Rattle.snl_trace.specs.Grammar.{kept_values}
+use Rattle.snl_trace.specs.Grammar.{Told, kept_values, told_by}
 
 -- a printable ASCII character other than a space
 abbrev pub is_plain : ℕ → Bool
@@ -21,3 +21,10 @@ pub record BeginsWithValues (values : List ℤ) (text rest : List ℕ) : Type 0 
   pub is : text ≡ row ++ 10 ∷ rest
   pub plain : list_all is_text row ≡ true
   pub kept : kept_values (fields row) ≡ Ok values
+
+-- a text begins with what tells this; a newline ends it, and a rest follows
+pub record BeginsWithTelling (told : Told) (text rest : List ℕ) : Type 0 where
+  pub row : List ℕ
+  pub is : text ≡ row ++ 10 ∷ rest
+  pub plain : list_all is_text row ≡ true
+  pub tells : told_by (fields row) ≡ Ok told

@@ -3,6 +3,7 @@
 ghost use Rattle.std.specs.Prelude.{◌≡◌};
 ghost use Rattle.snl_schedule.specs.declared.events.Event.TheVariants as event;
 
+use crate::words::Values;
 use snl_machine::Event;
 
 /// Room for the events of all lines. Each event takes as much room as one with 1,024 values, so those that say nothing more
@@ -18,10 +19,10 @@ pub struct Events {
 }
 
 impl Events {
-    /// Room in which no values were read yet.
+    /// Room for values, of which none were read yet.
     pub fn new() -> Self {
         Events {
-            values: Event::Tick,
+            values: Event::Val(0, Values::new()),
             tick: Event::Tick,
             other: Event::Other,
         }

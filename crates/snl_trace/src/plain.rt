@@ -1,16 +1,17 @@
-//! Plain lines with values: a time, `val`, a name and values with a single space between any two, and a newline. Each is
-//! read in one pass over its bytes.
+//! Plain lines: a time, `val`, a name and values, or a time and `tick`, with a single space between any two, and a newline.
+//! Each is read in one pass over its bytes.
 
 ghost use Rattle.std.specs.Prelude.{◌≡◌, ◌≢◌, ◌<◌, ◌≤◌, ◌++◌, ◌∷◌, true, Some, Ok, IfSome, All, codes, length, take};
 ghost use Rattle.std.specs.List.{list_all};
-ghost use Rattle.snl_trace.specs.Grammar.{Val, told_of};
+ghost use Rattle.snl_trace.specs.Grammar.{told_of};
 ghost use Rattle.snl_trace.specs.Numbers.{number_of, time_of, value_of};
 ghost use Rattle.snl_trace.specs.Plain as spec;
-ghost use Rattle.snl_trace.specs.Plain.{Begins, BeginsWithValues};
+ghost use Rattle.snl_trace.specs.Plain.{Begins, BeginsWithValues, BeginsWithTelling};
+ghost use Rattle.snl_trace.specs.Seen.{told};
 
 use crate::numbers::{below_zero, digits, from_zero};
 use crate::trace_faults::{LINE_LIMIT, TIME_LIMIT};
-use crate::words::{Values, keep};
+use crate::words::{Telling, Values, keep};
 
 /// What a plain line says, and what stands behind its newline. The values stand apart.
 #[derive(Clone, Copy)]
@@ -19,8 +20,8 @@ pub struct Plain<'t> {
     pub line: &'t [u8],
     /// The time in milliseconds.
     pub ms: u64,
-    /// The name of the channel.
-    pub name: &'t [u8],
+    /// What it tells at that time.
+    pub telling: Telling<'t>,
     /// What stands behind the newline.
     pub rest: &'t [u8],
 }
@@ -68,6 +69,17 @@ fn behind_val(text: &[u8]) -> Option<&[u8]>
 {
     match text {
         [b'v', b'a', b'l', b' ', rest @ ..] => Some(rest),
+        _ => None,
+    }
+}
+
+/// The text behind the word `tick` and a newline.
+#[inline(always)]
+fn behind_tick(text: &[u8]) -> Option<&[u8]>
+    ensures { IfSome result (λ rest. text.now ≡ codes "tick" ++ 10 ∷ rest.now) }
+{
+    match text {
+        [b't', b'i', b'c', b'k', b'\n', rest @ ..] => Some(rest),
         _ => None,
     }
 }
@@ -150,8 +162,23 @@ fn behind_values<'t>(text: &'t [u8], values: &mut Values) -> Option<&'t [u8]>
     None
 }
 
-/// The plain line that a text begins with, where its time is not below that of the last event. The values take the place of
-/// those that stood there. None says nothing.
+/// What a text tells that stands behind a time and a space, and the text behind its newline. The values of a `val` take the
+/// place of those that stood there.
+#[inline(always)]
+fn telling<'t>(text: &'t [u8], values: &mut Values) -> Option<(Telling<'t>, &'t [u8])>
+    ensures { IfSome result (λ read. BeginsWithTelling (told values.new.items read.0)
+        text.now read.1.now) }
+{
+    if let Some(named) = behind_val(text) {
+        let (name, row) = name(named)?;
+        let rest = behind_values(row, values)?;
+        return Some((Telling::Val(name), rest));
+    }
+    Some((Telling::Tick, behind_tick(text)?))
+}
+
+/// The plain line that a text begins with, where its time is not below that of the last event. The values of a `val` take
+/// the place of those that stood there. None says nothing.
 ///
 /// It is never put in place of its call: in a function of its own the loops have all registers.
 #[inline(never)]
@@ -159,11 +186,10 @@ pub fn plain_line<'t>(text: &'t [u8], last_ms: u64, values: &mut Values) -> Opti
     ensures cut { IfSome result (λ plain. text.now ≡ plain.line.now ++ 10 ∷ plain.rest.now) }
     ensures first { IfSome result (λ plain. All (λ byte. byte ≢ 10) plain.line.now) }
     ensures told { IfSome result (λ plain. told_of last_ms plain.line.now
-        ≡ Ok (Some (plain.ms, Val plain.name.now values.new.items))) }
+        ≡ Ok (Some (plain.ms, told values.new.items plain.telling))) }
 {
     let (ms, left) = time(text)?;
-    let (name, left) = name(behind_val(left)?)?;
-    let rest = behind_values(left, values)?;
+    let (telling, rest) = telling(left, values)?;
     let line = &text[..text.len() - rest.len() - 1];
     if ms < last_ms || line.len() > LINE_LIMIT {
         return None;
@@ -171,7 +197,7 @@ pub fn plain_line<'t>(text: &'t [u8], last_ms: u64, values: &mut Values) -> Opti
     Some(Plain {
         line,
         ms,
-        name,
+        telling,
         rest,
     })
 }

@@ -13,3 +13,4 @@ pub mod Changes
 pub mod Items
 pub mod Taking
 pub mod Footprint
+pub mod Adding

@@ -8,3 +8,4 @@ pub mod Steps
 pub mod Homes
 pub mod Asking
 pub mod Footprint
+pub mod Counting

@@ -3,6 +3,7 @@
 
 mod asking;
 mod contexts;
+mod counting;
 mod homes;
 mod leads;
 mod linking;
@@ -20,6 +21,7 @@ mod telling;
 mod words;
 
 pub use contexts::PieceContext;
+pub use counting::Steps;
 pub use homes::Homes;
 pub use linking::{fetch, fill, notice};
 pub use marks::Marks;

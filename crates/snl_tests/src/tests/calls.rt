@@ -1,17 +1,21 @@
 //! Calls from a source to the lines of its run.
 
+ghost use Rattle.std.specs.Prelude.{◌≡◌, ◌<◌};
+
 use crate::PROGRAM;
 use arrayvec::ArrayVec;
 use snl_check::{Checked, Options, Severity, check};
 use snl_links::Macros;
-use snl_machine::{Event, Live, Machine, laws as machine};
+use snl_machine::{Event, Live, Machine, Steps, laws as machine};
 use snl_text::{Kind, Lexed, lex};
 use snl_trace::{
     End, Feed, LINE_LIMIT, Sheet, TIME_LIMIT, TraceFault, laws as trace, read_line, run,
 };
 use snl_tree::{ParseFault, laws as tree, parse};
 use std::alloc::Global;
+use std::marker::Brand;
 use std::process::Abort;
+use std::sync::ledger::{Blank, Ledger};
 use std::test::Fail;
 
 /// The program that tokens spell, checked.
@@ -63,24 +67,43 @@ fn messages_of_a_program(rt: HostRuntime) -> Result<(), Fail> {
 #[test]
 fn events_of_a_machine(rt: HostRuntime) -> Result<(), Fail> {
     let mut machine = loaded(rt.alloc(), PROGRAM)?;
-    takes_events(&rt, rt.alloc(), &mut machine)?;
+    takes_events::<Brand, _>(&rt, rt.alloc(), &mut machine, Blank::new(1))?;
     takes_a_trace(&rt, rt.alloc(), &mut machine)?;
     laws();
     Ok(())
 }
 
-fn takes_events(rt: &impl Abort, alloc: Global, machine: &mut Machine) -> Result<(), Fail> {
+fn takes_events<L: Ledger, A: Abort>(
+    rt: &A,
+    alloc: Global,
+    machine: &mut Machine,
+    blank: Blank,
+) -> Result<(), Fail>
+    requires name { blank.name ≡ L.name }
+    requires parts { blank.parts ≡ L.parts }
+    requires some { 0 < L.parts }
+{
+    let mut steps = Steps::<L>::new(blank);
     let mut sheet = Sheet::new(alloc, 100, 3)?;
     assert_eq!(rt; machine.channel(b"b"), Some(1));
     assert_eq!(rt; machine.channel(b"c"), None);
     assert!(rt; machine.is_channel(1, b"b") && !machine.is_channel(0, b"b"));
-    assert_eq!(rt; machine.event(3, &Event::Up(0), &mut sheet)?, Live::Waiting);
-    assert_eq!(rt; machine.event(4, &Event::Up(1), &mut sheet)?, Live::Waiting);
+    assert_eq!(rt;
+        machine.event(3, &Event::Up(0), &mut sheet, &mut steps)?,
+        Live::Waiting
+    );
+    assert_eq!(rt;
+        machine.event(4, &Event::Up(1), &mut sheet, &mut steps)?,
+        Live::Waiting
+    );
     let mut values = ArrayVec::new();
     values.push(4);
     let event = Event::Val(0, values);
     assert!(rt; machine.fits(&event) && !machine.fits(&Event::Up(2)));
-    assert_eq!(rt; machine.event(5, &event, &mut sheet)?, Live::Running);
+    assert_eq!(rt;
+        machine.event(5, &event, &mut sheet, &mut steps)?,
+        Live::Running
+    );
     assert_eq!(rt; machine.time(), 5);
     assert_eq!(rt;
         sheet.text(),
@@ -105,6 +128,7 @@ fn laws() {
     tree::tokens_have_one_answer();
     machine::runs_its_program();
     machine::machines_hold_the_footprint();
+    machine::instants_are_bounded();
     machine::rounds_end();
     machine::time_is_the_events();
     machine::time_never_falls();
@@ -126,6 +150,13 @@ fn laws() {
     machine::reached_stay();
     machine::unreached_do_nothing();
     machine::instants_are_the_same();
+    machine::parsed_are_read();
+    machine::accepted_trees();
+    machine::accepted_is_sized();
+    machine::accepted_is_tied();
+    machine::accepted_is_held();
+    machine::accepted_hold();
+    machine::accepted_declares_its_flags();
     trace::text_begins();
 }
 

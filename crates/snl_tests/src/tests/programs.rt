@@ -21,7 +21,19 @@ use std::test::Fail;
 const PRINTS: &[u8] = b"program p option +s; int x; assign x to \"c\"; monitor x;
 ss s { state a { when (x) { printf(\"%d\", x); } exit } }";
 
-/// The offsets of its first `x`, which declares the variable, and of the one in its condition.
+/// The last two states are never reached: no state that is reached names them.
+const LEAVES_OUT: &[u8] =
+    b"program p option +s; ss s { state a { when () {} state b } state b { when () {} exit }
+state c { entry { printf(\"c\"); } when () {} state d } state d { when () {} state c } }";
+
+/// A program but for the rest of a sum: a condition that compares with the sum, one of which a part is not evaluated, one
+/// that faults, and a state that is never reached.
+const SUM_BEGINS: &[u8] = b"program s option +s; int x; ss s { state w { when (x == 1";
+
+const SUM_ENDS: &[u8] = b") {} state w when (0 && 1 / 0) {} state w when (1 / 0) {} state w }
+state u { when () {} state u } }";
+
+/// The offsets of the first `x` of `PRINTS`, which declares the variable, and of the one in its condition.
 const DECLARED: usize = 25;
 
 const USED: usize = 79;
@@ -108,6 +120,41 @@ fn what_a_program_tells(rt: HostRuntime) -> Result<(), Fail> {
     assert_eq!(rt; told.tables.as_slice(), TABLES);
     links_are_right(&rt, told.links.as_slice());
     code_is_right(&rt, &told.code);
+    Ok(())
+}
+
+/// A state that is not reached has no code, and no number beyond the states is held.
+#[test]
+fn which_states_code_holds(rt: HostRuntime) -> Result<(), Fail> {
+    let lexed = lex(rt.alloc(), LEAVES_OUT)?;
+    let told = told_by_owner(rt.alloc(), checked(rt.alloc(), &lexed)?)?;
+    let code = &told.code;
+    assert!(rt; code.holds(0, 0) && code.holds(0, 1), "reached");
+    assert!(rt; !code.holds(0, 2) && !code.holds(0, 3), "not reached");
+    assert!(rt; !code.holds(0, 4) && !code.holds(1, 0), "not there");
+    let entry = code.start(Piece::Entry { set: 0, state: 2 });
+    assert!(rt; entry.is_none(), "entry");
+    Ok(())
+}
+
+/// The program with a sum of 1,000 ones.
+fn long_sum(alloc: Global) -> Result<Vec<u8>, AllocError> {
+    let mut source = Vec::from_slice(alloc, SUM_BEGINS)?;
+    for _one in 1..1000 {
+        source.extend_from_slice(b" + 1".as_slice())?;
+    }
+    source.extend_from_slice(SUM_ENDS)?;
+    Ok(source)
+}
+
+/// The sum is one instruction.
+#[test]
+fn code_of_a_long_sum(rt: HostRuntime) -> Result<(), Fail> {
+    let source = long_sum(rt.alloc())?;
+    let lexed = lex(rt.alloc(), source.as_slice())?;
+    let told = told_by_owner(rt.alloc(), checked(rt.alloc(), &lexed)?)?;
+    let length = told.code.len();
+    assert!(rt; length < 200, "a long sum");
     Ok(())
 }
 

@@ -5,11 +5,12 @@ use Rattle.snl_links.specs.Links.{links}
 use Rattle.snl_messages.specs.Silence.{options_in_force}
 use Rattle.snl_check.specs.Waits.{waits}
 use Rattle.snl_machine.specs.Loading.{IsLoaded}
-use Rattle.snl_machine.specs.MachineOf.{world_held}
+use Rattle.snl_machine.specs.MachineOf.{task_of, world_held}
+use Rattle.snl_load.specs.First.{first_world_of}
 use Rattle.snc.specs.declared.jobs.Status.{Status}
 use Rattle.snc.specs.Judging.{IsJudged}
 use Rattle.snc.specs.Outcomes.{IsRunOf, IsSession}
-use Rattle.snc.proofs.Answering.{ran_by, session_ran, tree_of}
+use Rattle.snc.proofs.Answering.{ran_first, session_ran, tree_of}
 use Rattle.snc.proofs.sessions.session.Goals as goal
 
 -- the machine of the program was made and run
@@ -29,6 +30,7 @@ returns-clause-answer g c =
     let whole = program_view first.program in
     let waiting = waits first.options in
     let machine = c.in_ok-machine.machine in
+    let ls = links whole macros in
     let made : IsLoaded whole macros waiting budget machine =
     subst (λ (t : List ℕ). IsLoaded whole t waiting budget machine) c.macros_of-macros.ensures c.in_ok-machine.ensures in
     let end = c.run-end.result in
@@ -39,7 +41,8 @@ returns-clause-answer g c =
     let run : IsRunOf g.R.Source.rest g.R.Source.failures g.S.Sink.told g.S.Sink.failures whole (links whole macros) waiting budget
     c.args.trace.now c.run-end.new.source c.args.sink.now c.run-end.new.sink end = record {
       world = world;
-      ran = λ bytes are. ran_by machine whole (links whole macros) waiting budget made.made end bytes left told told_then world made.first (c.run-end.ensures.does bytes are);
+      ran = λ bytes are. ran_first machine (task_of whole ls waiting) (first_world_of whole ls) budget end bytes left told told_then world made.first
+          (c.run-end.ensures.means whole ls waiting budget made.made bytes are);
       source_counted = c.run-end.ensures.source;
       sink_counted = c.run-end.ensures.sink;
     } in

@@ -9,6 +9,9 @@ use Rattle.snl_machine.specs.Holding.{loaded_by}
 use Rattle.snl_machine.proofs.AsLoaded.{loaded-is, first-is}
 use Rattle.snl_machine.proofs.Worlds as worlds
 use Rattle.snl_machine.proofs.making.machine_by.Goals as goal
+use Rattle.snl_code.specs.Starts.{table_of, holds_in}
+use Rattle.snl_machine.proofs.Reached.{first_are_reached, reached_are_closed}
+use Rattle.snl_machine.specs.Reached.{AreReached}
 use Rattle.snl_machine.specs.Worlds.{IsWorldOf}
 use Rattle.snl_vm.specs.Footprint.{store_words}
 use Rattle.snl_meaning.specs.World.{World}
@@ -45,6 +48,8 @@ returns-clause-made c =
       loaded = loaded-is p ls ls c.args.waits code plan refl c.in_ok-plan.ensures c.requires.code counted;
       channels_are = c.in_ok-names.ensures;
       world_is = subst (λ (w : World). IsWorldOf p ls w) (sym first) (worlds.first_world p ls);
+      reached = subst (λ (w : World). AreReached p (holds_in (table_of code)) w) (sym first)
+          (first_are_reached p ls (holds_in (table_of code)) (reached_are_closed p (holds_in (table_of code)) c.requires.code.reached));
       budget_is = refl;
     }
 

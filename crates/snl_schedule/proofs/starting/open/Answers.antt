@@ -5,6 +5,8 @@ use Rattle.snl_schedule.specs.Loaded.{loaded, program_of}
 use Rattle.std.proofs.Common.{◌∙◌, ap}
 use Rattle.snl_meaning.specs.Frames.{frame_of}
 use Rattle.snl_schedule.proofs.Frames.{refreshed_sets-same}
+use Rattle.snl_schedule.specs.Steps.{begun_sets_steps}
+use Rattle.snl_schedule.proofs.Counting.{adds-then, adds-stops}
 use Rattle.snl_schedule.proofs.starting.open.Goals as goal
 
 pub returns-in-Ok-clause-does : goal.returns-in-Ok-clause-does
@@ -26,3 +28,19 @@ returns-in-Ok-clause-frame g c =
 pub returns-in-Err-clause-frame : goal.returns-in-Err-clause-frame
 returns-in-Err-clause-frame g c =
     c.enter_program.ensures.frame ∙ (ap frame_of c.refresh_sets.ensures ∙ refreshed_sets-same (program_of (loaded c.args.program.now)).sets (world_of c.args.store.now))
+
+pub returns-in-Ok-clause-steps : goal.returns-in-Ok-clause-steps
+returns-in-Ok-clause-steps g c =
+    let t = loaded c.args.program.now in
+    let p = program_of t in
+    let u = refreshed_sets p.sets (world_of c.args.store.now) in
+    adds-then c.begin_sets.result (owned p p.entry u) (λ _. begun_sets_steps t 0 t.plan.sets.items) _ _ _ _ _ _ _ _
+    (rw c.refresh_sets.ensures at c.in-Ok.ensures.does) (rw c.refresh_sets.ensures at c.in-Ok.ensures.steps) c.begin_sets.ensures.steps
+
+pub returns-in-Err-clause-steps : goal.returns-in-Err-clause-steps
+returns-in-Err-clause-steps g c =
+    let t = loaded c.args.program.now in
+    let p = program_of t in
+    let u = refreshed_sets p.sets (world_of c.args.store.now) in
+    adds-stops (Unit {0}) (λ x. x) c.in-Err.stop (owned p p.entry u) (λ _. begun_sets_steps t 0 t.plan.sets.items) _ _ _ _ _ _
+    (rw c.refresh_sets.ensures at c.in-Err.ensures.does) (rw c.refresh_sets.ensures at c.in-Err.ensures.steps)

@@ -4,6 +4,8 @@ use Rattle.snl_schedule.specs.Event.{all_wakes, event_by}
 use Rattle.snl_schedule.specs.Loaded.{loaded, program_of}
 use Rattle.snl_schedule.proofs.Frames.{but-both}
 use Rattle.snl_schedule.proofs.Waking.{at_line}
+use Rattle.snl_schedule.specs.Steps.{event_steps}
+use Rattle.snl_schedule.proofs.Counting.{adds-then, adds-stops}
 use Rattle.snl_schedule.proofs.taking.pass.Goals as goal
 
 pub returns-in-Ok-clause-does : goal.returns-in-Ok-clause-does
@@ -28,3 +30,18 @@ pub returns-in-Ok-clause-time : goal.returns-in-Ok-clause-time
 returns-in-Ok-clause-time g c =
     at_line (program_of (loaded c.args.program.now)) c.args.budget c.args.ms (world_of c.args.store.now) (world_of c.wake_up.new.store) c.happen.result
     (world_of c.happen.new.store).time c.in-Ok.ensures.does.text c.in-Ok.ensures.does.is c.happen.ensures.time c.happen.ensures.goes_on
+
+pub returns-in-Ok-clause-steps : goal.returns-in-Ok-clause-steps
+returns-in-Ok-clause-steps g c =
+    let t = loaded c.args.program.now in
+    let event = c.args.event.now in
+    adds-then c.happen.result (all_wakes (program_of t) c.args.budget c.args.ms (world_of c.args.store.now)) (λ _ u. event_steps t c.args.budget c.args.ms event u.phase u) _ _ _ _ _ _ _ _
+    c.in-Ok.ensures.does c.in-Ok.ensures.steps c.happen.ensures.steps
+
+pub returns-in-Err-clause-steps : goal.returns-in-Err-clause-steps
+returns-in-Err-clause-steps g c =
+    let t = loaded c.args.program.now in
+    let event = c.args.event.now in
+    adds-stops (Unit {0}) (λ x. x) c.in-Err.stop (all_wakes (program_of t) c.args.budget c.args.ms (world_of c.args.store.now)) (λ _ u. event_steps t c.args.budget c.args.ms event u.phase u)
+    _ _ _ _ _ _
+    c.in-Err.ensures.does c.in-Err.ensures.steps

@@ -1,8 +1,9 @@
-use Rattle.std.proofs.Common.{◌≡◌, ◌∙◌, ◌+◌, ◌-◌, suc, sym, rules, arith}
+use Rattle.std.proofs.Common.{◌≡◌, ◌∙◌, ◌+◌, ◌-◌, suc, refl, sym, rules, arith}
 use Rattle.snl_vm.specs.Views.{world_of}
 use Rattle.snl_schedule.specs.Loaded.{loaded, program_of}
 use Rattle.snl_schedule.proofs.Frames.{but-both, but-at}
 use Rattle.snl_schedule.proofs.Waking.{wake-none, wake-goes_on, wake-stops, past-on, past-stops}
+use Rattle.snl_schedule.proofs.Counting.{wakes-none, wakes-go_on, wakes-stop}
 use Rattle.snl_schedule.proofs.taking.wake_up.Goals as goal
 
 pub returns-in-None-clause-does : goal.returns-in-None-clause-does
@@ -31,6 +32,8 @@ loop-wake-preserved g c =
     record {
       on_way = wake-goes_on p c.args.budget ms (world_of c.loop-wake.store) (ms - i) (ms - (i + 1)) fuel _ _ _ c.loop-wake.invariant.on_way
           c.next_wake.result c.next_wake.ensures c.in-Some.wake c.in-Some.is _ _ c.in-Ok.ensures.does;
+      count = wakes-go_on (loaded c.args.program.now) c.args.budget ms (world_of c.loop-wake.store) (ms - i) (ms - (i + 1)) fuel c.next_wake.result c.next_wake.ensures _ _ c.loop-wake.invariant.count
+          c.in-Some.wake c.in-Some.is _ _ _ _ c.in-Ok.ensures.does c.in-Ok.ensures.steps;
       past = past-on p c.args.budget ms (world_of c.args.store.now) (world_of c.loop-wake.store) c.loop-wake.invariant.past c.in-Some.wake (sym c.next_wake.ensures ∙ c.in-Some.is)
           _ _ _ c.in-Ok.ensures.does;
       frame = but-both (world_of c.args.store.now) (world_of c.loop-wake.store) (world_of c.instant.new.store) c.loop-wake.invariant.frame
@@ -48,3 +51,19 @@ pub returns-in-Err-clause-time : goal.returns-in-Err-clause-time
 returns-in-Err-clause-time g c =
     past-stops (program_of (loaded c.args.program.now)) c.args.budget c.args.ms (world_of c.args.store.now) (world_of c.loop-wake.store) c.loop-wake.invariant.past
     c.in-Some.wake (sym c.next_wake.ensures ∙ c.in-Some.is) (world_of c.instant.new.store) c.in-Err.ensures.frame
+
+pub returns-in-None-clause-steps : goal.returns-in-None-clause-steps
+returns-in-None-clause-steps g c =
+    let i = c.loop-wake._wake in
+    let ms = c.args.ms in
+    let fuel : ms - i ≡ suc (ms - (i + 1)) = omega (arith, c.loop-wake-test.true) in
+    wakes-none (loaded c.args.program.now) c.args.budget ms (world_of c.loop-wake.store) (ms - i) (ms - (i + 1)) fuel c.next_wake.result c.next_wake.ensures _ _
+    c.loop-wake.invariant.count c.in-None.is
+
+pub returns-in-Err-clause-steps : goal.returns-in-Err-clause-steps
+returns-in-Err-clause-steps g c =
+    let i = c.loop-wake._wake in
+    let ms = c.args.ms in
+    let fuel : ms - i ≡ suc (ms - (i + 1)) = omega (arith, c.loop-wake-test.true) in
+    wakes-stop (loaded c.args.program.now) c.args.budget ms (world_of c.loop-wake.store) (ms - i) (ms - (i + 1)) fuel c.next_wake.result c.next_wake.ensures _ _ c.loop-wake.invariant.count
+    c.in-Some.wake c.in-Some.is c.in-Err.stop _ _ _ _ _ _ refl c.in-Err.ensures.does c.in-Err.ensures.steps

@@ -1,17 +1,19 @@
-use Rattle.std.proofs.Common.{◌≡◌, ◌-◌}
+use Rattle.std.proofs.Common.{◌≡◌, ◌+◌, ◌-◌}
 use Rattle.snl_output.proofs.Doing.{IsOnWay}
 use Rattle.snl_vm.specs.Stack.{room_of}
 use Rattle.snl_vm.specs.Views.{world_of}
 use Rattle.snl_schedule.specs.Event.{all_wakes, wakes_of}
 use Rattle.snl_schedule.specs.Loaded.{loaded, program_of}
+use Rattle.snl_schedule.specs.Steps.{all_wakes_steps, wakes_steps}
 use Rattle.snl_schedule.proofs.Frames.{SameButTime}
 use Rattle.snl_schedule.proofs.Waking.{IsPast}
 use Rattle.snl_schedule.proofs.taking.wake_up.Given as goal
 
--- what was told, the wakes that are over, and those that are left
+-- what was told, the steps that were counted, the wakes that are over, and those that are left
 abbrev pub invariant-loop-wake : goal.invariant-loop-wake
 invariant-loop-wake g l = let p = program_of (loaded l.program) in record {
   on_way : IsOnWay (g.S.Sink.told l.fn.sink) (g.S.Sink.told l.sink) (all_wakes p l.budget l.ms (world_of l.fn.store)) (wakes_of p l.budget l.ms (l.ms - l._wake) (world_of l.store));
+  count : l.steps + wakes_steps (loaded l.program) l.budget l.ms (l.ms - l._wake) (world_of l.store) ≡ l.fn.steps + all_wakes_steps (loaded l.program) l.budget l.ms (world_of l.fn.store);
   past : IsPast p l.budget l.ms (world_of l.fn.store) (world_of l.store);
   frame : SameButTime (world_of l.fn.store) (world_of l.store);
   room : room_of l.operands ≡ room_of l.fn.operands;

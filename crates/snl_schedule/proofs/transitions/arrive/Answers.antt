@@ -5,7 +5,9 @@ use Rattle.snl_output.specs.Lines.{go_line}
 use Rattle.snl_vm.specs.Views.{world_of}
 use Rattle.snl_schedule.specs.declared.plans.Destination.{Destination}
 use Rattle.snl_schedule.specs.Goes.{name_at, target_name}
-use Rattle.snl_schedule.specs.Plans.{set_on}
+use Rattle.snl_vm.specs.Counting.{Adds}
+use Rattle.snl_schedule.specs.Plans.{context_on, set_on}
+use Rattle.snl_schedule.specs.Steps.{arrived_steps}
 use Rattle.snl_schedule.specs.Turn.{crossed, arrived}
 use Rattle.snl_schedule.proofs.Going.{arrived-cut, arrived-out, line-to}
 use Rattle.snl_schedule.proofs.Telling.{told-then}
@@ -30,3 +32,9 @@ returns-in-Err-clause-does g c = arrived-cut c.args.state_set.now c.args.from c.
 pub returns-in-Exit-clause-does : goal.returns-in-Exit-clause-does
 returns-in-Exit-clause-does g c =
     arrived-out c.args.state_set.now c.args.from c.args.target (world_of c.args.store.now) _ _ c.in-Exit.is c.in-Ok.ensures.told
+
+pub returns-in-State-clause-steps : goal.returns-in-State-clause-steps
+returns-in-State-clause-steps g c =
+    let t = c.args.state_set.now in
+    subst (λ (to : Destination). Adds c.cross.result (arrived_steps (context_on t) t.code.now t.plan.now c.args.from to (world_of c.args.store.now)) c.args.steps.now c.cross.new.steps)
+    (sym c.in-State.is) c.cross.ensures.steps

@@ -1,8 +1,12 @@
-use Rattle.std.proofs.Common.{Err}
+use Rattle.std.proofs.Common.{Err, slice_get}
 use Rattle.snl_output.proofs.Doing.{does-then, stopped-then}
 use Rattle.snl_meaning.specs.Ran.{then_do}
 use Rattle.snl_vm.specs.Views.{world_of}
-use Rattle.snl_schedule.specs.Plans.{set_on}
+use Rattle.snl_vm.proofs.Adding.{adds-stopped}
+use Rattle.snl_schedule.specs.declared.transitions.Turned.{Turned}
+use Rattle.snl_schedule.specs.Plans.{context_on, set_on}
+use Rattle.snl_schedule.specs.Steps.{come_steps}
+use Rattle.snl_schedule.proofs.Counting.{adds-then, adds-stops}
 use Rattle.snl_schedule.specs.Turn.{left_for, come_to, moved}
 use Rattle.snl_schedule.proofs.transitions.cross.Goals as goal
 
@@ -19,3 +23,17 @@ returns-in-Err-clause-does g c =
     let s = set_on c.args.state_set.now in
     stopped-then (λ t. t) (λ x. x) c.in-Err.stop (left_for s c.args.from c.args.to (world_of c.args.store.now)) (λ _ v. then_do (come_to s c.args.from c.args.to v) moved) _ _ _
     c.in-Err.ensures.does
+
+pub returns-in-Err-come-clause-steps : goal.returns-in-Err-come-clause-steps
+returns-in-Err-come-clause-steps g c =
+    let t = c.args.state_set.now in
+    adds-then {V = Turned} (Err c.in-Err-come.stop) (left_for (set_on t) c.args.from c.args.to (world_of c.args.store.now))
+    (λ _. come_steps (context_on t) t.code.now c.args.from c.args.to (slice_get t.plan.now.states.items c.args.to)) _ (world_of c.leave.new.store) _ _ _ _ _ _
+    c.in-Ok.ensures.does c.in-Ok.ensures.steps (adds-stopped (Unit {0}) Turned c.in-Err-come.stop _ _ _ c.in-Err-come.ensures.steps)
+
+pub returns-in-Err-clause-steps : goal.returns-in-Err-clause-steps
+returns-in-Err-clause-steps g c =
+    let t = c.args.state_set.now in
+    adds-stops Turned (λ x. x) c.in-Err.stop (left_for (set_on t) c.args.from c.args.to (world_of c.args.store.now))
+    (λ _. come_steps (context_on t) t.code.now c.args.from c.args.to (slice_get t.plan.now.states.items c.args.to)) _ _ _ _ _ _
+    c.in-Err.ensures.does c.in-Err.ensures.steps

@@ -7,6 +7,8 @@ use Rattle.snl_meaning.specs.Ran.{Ran}
 use Rattle.snl_vm.specs.Running.{left_at}
 use Rattle.snl_vm.specs.Views.{world_of}
 use Rattle.snl_schedule.specs.Plans.{block_at, context_for, ended}
+use Rattle.snl_vm.proofs.Adding.{adds-stopped}
+use Rattle.snl_schedule.proofs.Counting.{block-adds}
 use Rattle.snl_schedule.proofs.Rooms.{same_context}
 use Rattle.snl_schedule.proofs.transitions.do_block.Goals as goal
 
@@ -41,3 +43,15 @@ returns-in-Err-clause-does g c =
     in
     subst (λ (o : Option ℕ). Does {V = Unit {0}} {A = Unit {0}} (λ x. x) (Err c.in-Err.stop) u (g.S.Sink.told c.args.sink.now) (g.S.Sink.told c.perform.new.sink) (block_at context code o w))
     (sym c.in-Some.is) (stopped-then (λ x. x) (λ x. x) c.in-Err.stop (left_at context code c.in-Some.start w) ended _ _ _ did)
+
+pub returns-in-Ok-clause-steps : goal.returns-in-Ok-clause-steps
+returns-in-Ok-clause-steps g c =
+    let o : Option ℕ = c.args.start in
+    block-adds {V = Unit {0}} (Ok tt) _ (context_for c.args.context.now c.args.room) c.args.code.now o c.in-Some.start (world_of c.args.store.now) _ _
+    (same_context c.args.context.now c.args.room c.args.operands.now c.requires.room) c.in-Some.is c.in-Ok.ensures.steps
+
+pub returns-in-Err-clause-steps : goal.returns-in-Err-clause-steps
+returns-in-Err-clause-steps g c =
+    let o : Option ℕ = c.args.start in
+    block-adds {V = Unit {0}} (Err c.in-Err.stop) _ (context_for c.args.context.now c.args.room) c.args.code.now o c.in-Some.start (world_of c.args.store.now) _ _
+    (same_context c.args.context.now c.args.room c.args.operands.now c.requires.room) c.in-Some.is (adds-stopped (Option ℕ) (Unit {0}) c.in-Err.stop _ _ _ c.in-Err.ensures.steps)

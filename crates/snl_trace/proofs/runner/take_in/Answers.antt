@@ -16,7 +16,7 @@ loop-next-init g c = record {
 }
 
 pub take_next-requires-clause-read : goal.take_next-requires-clause-read
-take_next-requires-clause-read g c = known-is c.loop-next.machine c.in-Some.next.line.now c.next_line.new.room c.in-Some.next.ms c.in-Some.ensures.read
+take_next-requires-clause-read g c = known-is c.loop-next.machine c.in-Some.next.line.now c.next_line.new.room c.in-Some.next.heard c.in-Some.ensures.read
 
 pub loop-next-preserved : goal.loop-next-preserved
 loop-next-preserved g c =

@@ -4,6 +4,7 @@ use Rattle.snl_machine.specs.MachineOf.{world_held}
 use Rattle.snl_trace.specs.declared.trace_faults.TraceFault.{TraceFault}
 use Rattle.snl_trace.specs.Run.{rules_of, done_by}
 use Rattle.snl_trace.specs.RunOver.{LineDoes}
+use Rattle.snl_trace.specs.Seen.{event_heard}
 use Rattle.snl_trace.proofs.RunOverLaws.{takes-whole}
 use Rattle.snl_trace.proofs.runner.take_next.Goals as goal
 
@@ -12,12 +13,13 @@ returns-in-Some-clause-does g c =
     let m = c.args.machine.now in
     let begun = c.args.line.now.items in
     let old = g.S.Sink.told c.args.sink.now in
-    let new = g.S.Sink.told c.act_next.new.sink in
+    let new = g.S.Sink.told c.act_on.new.sink in
     let v = world_held m in
-    let w = world_held c.act_next.new.machine in
+    let w = world_held c.act_on.new.machine in
+    let event = event_heard c.args.events.now.values c.in-Some.heard in
     let whole : begun ≡ [] = rw c.in-Some.is at c.requires.whole in
-    let read : ◌≡◌ {A = Result (Option (ℕ × Event)) TraceFault} (Ok (Some (c.in-Some.ms, c.args.events.now.values))) ((rules_of m).read v.time c.args.text.now) =
+    let read : ◌≡◌ {A = Result (Option (ℕ × Event)) TraceFault} (Ok (Some (c.in-Some.ms, event))) ((rules_of m).read v.time c.args.text.now) =
     rw c.in-Some.is at c.requires.read in
-    let did = subst (λ (r : Result (Option (ℕ × Event)) TraceFault). LineDoes c.act_next.result w old new (done_by (rules_of m) c.args.number.now r v)) read c.act_next.ensures.does in
-    let takes = takes-whole (rules_of m) c.act_next.result c.args.text.now begun c.args.number.now v w old new whole c.requires.text did in
-    rw (c.act_next.ensures.number, whole) (rw whole at takes)
+    let did = subst (λ (r : Result (Option (ℕ × Event)) TraceFault). LineDoes c.act_on.result w old new (done_by (rules_of m) c.args.number.now r v)) read c.act_on.ensures.does in
+    let takes = takes-whole (rules_of m) c.act_on.result c.args.text.now begun c.args.number.now v w old new whole c.requires.text did in
+    rw whole (rw whole at takes)

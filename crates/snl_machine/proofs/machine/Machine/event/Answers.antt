@@ -6,6 +6,8 @@ use Rattle.snl_code.specs.Pieces.{texts_of}
 use Rattle.snl_vm.specs.Views.{world_of}
 use Rattle.snl_schedule.specs.Event.{HasInstant, line_of}
 use Rattle.snl_schedule.specs.Loaded.{Loaded, program_of}
+use Rattle.snl_schedule.specs.Steps.{line_steps}
+use Rattle.snl_vm.specs.Counting.{Adds}
 use Rattle.snl_machine.specs.declared.machine.Machine.{Machine}
 use Rattle.snl_load.specs.Sets.{names_in}
 use Rattle.snl_machine.specs.Holding.{loaded_by}
@@ -25,6 +27,12 @@ returns-clause-does g c =
     let same = handed-is m c.instrs.result.now (map (λ text. text.items) c.texts.result.now) c.depth.result c.instrs.ensures (ap (map (λ text. text.items)) c.texts.ensures) c.depth.ensures in
     subst (λ (t : Loaded). Does {V = Live} {A = Live} (λ live. live) c.take.result (world_of c.take.new.store) (g.S.Sink.told c.args.sink.now) (g.S.Sink.told c.take.new.sink)
     (line_of (program_of t) m.budget c.args.ms c.args.event.now (world_held m))) same c.take.ensures.does
+
+pub returns-clause-steps : goal.returns-clause-steps
+returns-clause-steps g c =
+    let m = c.args.self.now in
+    let same = handed-is m c.instrs.result.now (map (λ text. text.items) c.texts.result.now) c.depth.result c.instrs.ensures (ap (map (λ text. text.items)) c.texts.ensures) c.depth.ensures in
+    subst (λ (t : Loaded). Adds c.take.result (line_steps t m.budget c.args.ms c.args.event.now (world_held m)) c.args.steps.now c.take.new.steps) same c.take.ensures.steps
 
 pub returns-clause-time : goal.returns-clause-time
 returns-clause-time g c =

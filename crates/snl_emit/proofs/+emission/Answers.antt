@@ -1,0 +1,90 @@
+use Rattle.std.proofs.Common.{◌≡◌, ◌∙◌, ◌∷◌, ◌++◌, ap, arith, drop, map, reverse}
+use Rattle.std.proofs.lemmas.Result.{on_ok_weaker}
+use Rattle.snl_syntax.specs.Expressions.{no_arguments}
+use Rattle.snl_syntax.specs.view.Expressions.{view, pair_of, list_before}
+use Rattle.snl_syntax.specs.view.Lists.{term_list}
+use Rattle.snl_emit.specs.ExpressionCode.{terms_code, values_code}
+use Rattle.snl_meaning.specs.Known.{here_of}
+use Rattle.snl_emit.proofs.Emitting.{none-is, assigned-made, postfix-made, prefix-made, chain-made, conditional-made, call-made, put-made, ask-made}
+use Rattle.snl_emit.proofs.+emission.Goals as goal
+
+pub emission::emit_expression-returns-in-Call : goal.emission::emit_expression-returns-in-Call
+emission::emit_expression-returns-in-Call t c =
+    on_ok_weaker c.emit_call.result
+    (call-made (here_of c.args.known.now) c.args.expression.now c.in-Call.name c.in-Call.arguments c.as_slice.result.now
+    (reverse c.args.code.now.items) (reverse c.emit_call.new.code.items) c.in-Call.is c.as_slice.ensures.value)
+    c.emit_call.ensures
+
+pub emission::emit_expression-returns-in-Postfix : goal.emission::emit_expression-returns-in-Postfix
+emission::emit_expression-returns-in-Postfix t c =
+    on_ok_weaker c.emit_sign.result
+    (postfix-made (here_of c.args.known.now) c.args.expression.now c.deref-in-Postfix.result.now c.in-Postfix.target c.in-Postfix.operator
+    (reverse c.args.code.now.items) (reverse c.emit_sign.new.code.items) c.in-Postfix.is c.deref-in-Postfix.ensures)
+    c.emit_sign.ensures
+
+pub emission::emit_expression-returns-in-None : goal.emission::emit_expression-returns-in-None
+emission::emit_expression-returns-in-None t c =
+    on_ok_weaker c.emit_sign-in-None.result
+    (prefix-made (here_of c.args.known.now) c.args.expression.now c.deref-in-None.result.now c.in-Prefix.operand c.in-Prefix.operator c.number_of.result
+    (reverse c.args.code.now.items) (reverse c.emit_sign-in-None.new.code.items) c.in-Prefix.is c.deref-in-None.ensures c.number_of.ensures (none-is c.number_of.result c.in-None.is))
+    c.emit_sign-in-None.ensures
+
+pub emission::emit_expression-returns-in_ok-emit_terms-in-Chain : goal.emission::emit_expression-returns-in_ok-emit_terms-in-Chain
+emission::emit_expression-returns-in_ok-emit_terms-in-Chain t c =
+    on_ok_weaker c.emit_front.result
+    (chain-made (here_of c.args.known.now) c.args.expression.now c.deref-in-Chain.result.now c.deref-in-Chain-2.result.now c.in-Chain.first c.in-Chain.terms
+    c.as_slice-in-Chain.result.now c.as_slice-in-Chain-2.result.now c.front_of-front.result.terms c.worth_of.result c.front_of-front.result.number
+    (reverse c.args.code.now.items) (reverse c.emit_terms.new.code.items) (reverse c.emit_front.new.code.items)
+    c.in-Chain.is c.deref-in-Chain.ensures c.deref-in-Chain-2.ensures c.as_slice-in-Chain.ensures.value c.as_slice-in-Chain-2.ensures.value c.worth_of.ensures
+    c.front_of-front.ensures.code c.in_ok-emit_terms-in-Chain.ensures)
+    c.emit_front.ensures
+
+pub emission::emit_expression-returns-in_ok-emit_held-in-Conditional : goal.emission::emit_expression-returns-in_ok-emit_held-in-Conditional
+emission::emit_expression-returns-in_ok-emit_held-in-Conditional t c =
+    on_ok_weaker c.emit_expression-in-Conditional.result
+    (conditional-made (here_of c.args.known.now) c.args.expression.now c.deref-in-Conditional.result.now c.deref-in-Conditional-2.result.now c.deref-in-Conditional-3.result.now
+    c.in-Conditional.condition c.in-Conditional.yes c.in-Conditional.no c.number_of-in-Conditional.result
+    (reverse c.args.code.now.items) (reverse c.emit_failed.new.code.items) (reverse c.emit_held.new.code.items) (reverse c.emit_expression-in-Conditional.new.code.items)
+    c.in-Conditional.is c.deref-in-Conditional.ensures c.deref-in-Conditional-2.ensures c.deref-in-Conditional-3.ensures c.number_of-in-Conditional.ensures c.in_default.not-Some
+    c.in_ok-emit_failed-in-Conditional.ensures c.in_ok-emit_held-in-Conditional.ensures)
+    c.emit_expression-in-Conditional.ensures
+
+pub emission::emit_expression-returns-in_ok-emit_expression-in-Assignment : goal.emission::emit_expression-returns-in_ok-emit_expression-in-Assignment
+emission::emit_expression-returns-in_ok-emit_expression-in-Assignment t c =
+    on_ok_weaker c.emit_place.result
+    (assigned-made (here_of c.args.known.now) c.args.expression.now c.in-Assignment.target c.in-Assignment.value
+    c.deref-in-Assignment.result.now c.deref-in-Assignment-2.result.now c.deref-in-Assignment-3.result.now c.in-Assignment.operator c.compound_of-joined.result
+    (reverse c.args.code.now.items) (reverse c.put_stored.new.code.items) (reverse c.emit_expression-in-Assignment.new.code.items) (reverse c.emit_place.new.code.items)
+    c.in-Assignment.is c.compound_of-joined.ensures c.deref-in-Assignment.ensures c.deref-in-Assignment-2.ensures c.deref-in-Assignment-3.ensures
+    c.in_ok-put_stored-in-Assignment.ensures c.in_ok-emit_expression-in-Assignment.ensures)
+    c.emit_place.ensures
+
+pub emission::emit_terms-returns : goal.emission::emit_terms-returns
+emission::emit_terms-returns t c =
+    let h = here_of c.args.known.now in
+    let all = c.args.terms.now in
+    let first : c.loop-number.number ≡ c.args.start = omega (arith, c.loop-number-test.false, c.loop-number.invariant.1) in
+    c.loop-number.invariant.0 ∙ ap (λ n. terms_code h (term_list (map pair_of (drop n all))) ++ reverse c.args.code.now.items) first
+
+pub calls::emit_values-returns : goal.calls::emit_values-returns
+calls::emit_values-returns t c =
+    let h = here_of c.args.known.now in
+    let all = c.args.arguments.now in
+    let none : c.loop-number.number ≡ 0 = omega (arith, c.loop-number-test.false) in
+    c.loop-number.invariant ∙ ap (λ n. values_code h (list_before (drop n all) no_arguments) ++ reverse c.args.code.now.items) none
+
+pub calls::emit_put_of-returns : goal.calls::emit_put_of-returns
+calls::emit_put_of-returns t c =
+    on_ok_weaker c.emit_place.result
+    (put-made (here_of c.args.known.now) (view c.args.target.now)
+    (reverse c.args.code.now.items) (reverse c.put.new.code.items) (reverse c.emit_place.new.code.items)
+    (c.in_ok-put.ensures ∙ ap (λ i. i ∷ reverse c.args.code.now.items) c.put_instr.ensures))
+    c.emit_place.ensures
+
+pub calls::emit_ask_of-returns : goal.calls::emit_ask_of-returns
+calls::emit_ask_of-returns t c =
+    on_ok_weaker c.emit_place.result
+    (ask-made (here_of c.args.known.now) c.args.query (view c.args.target.now)
+    (reverse c.args.code.now.items) (reverse c.put.new.code.items) (reverse c.emit_place.new.code.items)
+    (c.in_ok-put.ensures ∙ ap (λ i. i ∷ reverse c.args.code.now.items) c.ask_instr.ensures))
+    c.emit_place.ensures

@@ -1,0 +1,18 @@
+-- What a chain of operators is worth, and its front that is constant.
+use Rattle.std.proofs.Common.{◌≡◌, ◌∙◌, List, map, Vec, Box, Global, sym, ap}
+use Rattle.snl_syntax.specs.declared.expressions.Expr.{Expr, Chain}
+use Rattle.snl_syntax.specs.declared.expressions.Term.{Term}
+use Rattle.snl_syntax.specs.view.Lists.{term_list}
+use Rattle.snl_syntax.specs.view.Expressions.{view, pair_of}
+use Rattle.snl_syntax.proofs.Rows.{view_chain}
+use Rattle.snl_resolve.specs.declared.constants.Constant.{Constant}
+use Rattle.snl_resolve.specs.declared.sites.Site.{Site}
+use Rattle.snl_emit.specs.Worth.{worth_of, worth_chain}
+
+-- a chain is worth what its operators make of its first operand
+pub chain-worth : (sites : List Site) (e d : Expr) (first : Box Expr Global) (terms : Vec Term Global) (items : List Term) (left all : Constant) → e ≡ Chain first terms
+    → d ≡ first.value → items ≡ terms.items → left ≡ worth_of sites (view d) → all ≡ worth_chain sites (term_list (map pair_of items)) left → all ≡ worth_of sites (view e)
+chain-worth sites e d first terms items left all ee ed ei el ea =
+    ea ∙ ap (λ c. worth_chain sites (term_list (map pair_of items)) c) (el ∙ ap (λ x. worth_of sites (view x)) ed)
+    ∙ ap (λ l. worth_chain sites (term_list (map pair_of l)) (worth_of sites (view first.value))) ei
+    ∙ sym (ap (worth_of sites) (ap view ee ∙ view_chain first terms))

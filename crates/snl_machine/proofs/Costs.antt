@@ -1,0 +1,178 @@
+-- What steps cost: each tick that is spent pays for three times the length of the code.
+use Rattle.std.proofs.Common.{◌≡◌, ◌+◌, ◌*◌, ◌≤◌, ℕ, zero, suc, ℤ, Bool, true, false, List, [], ◌∷◌, Option, None, Some, refl, ap, sym, ◌∙◌, arith, length, slice_get, if◌then◌else◌}
+use Rattle.std.proofs.Math.Nat.{mul-le-mul_right, suc-mul, mul_assoc, mul_comm}
+use Rattle.snl_meaning.specs.declared.instrs.Instr.{Instr}
+use Rattle.snl_meaning.specs.declared.ties.Tied.{Tied}
+use Rattle.snl_meaning.specs.Effect.{holds}
+use Rattle.snl_meaning.specs.Endings.{IsOver}
+use Rattle.snl_meaning.specs.Keeping.{world_after}
+use Rattle.snl_meaning.specs.Links.{home_of}
+use Rattle.snl_meaning.specs.Ran.{Ran, Gives, Faults, also, then_do}
+use Rattle.snl_meaning.specs.Run.{PieceContext, Step, GoesTo, EndsWith, LeavesFor, Sticks, Exit, Over, LeftFor, Unfinished, Stuck, done_by, step_of, from_there, exec, run_of, steps_of}
+use Rattle.snl_meaning.specs.World.{World}
+use Rattle.snl_meaning.proofs.StepKeeps.{step-keeps}
+use Rattle.snl_meaning.proofs.Ticks.{NoMore, ticks-kept}
+use Rattle.snl_vm.specs.Running.{value_left, left_at, state_left}
+use Rattle.snl_schedule.specs.Plans.{held_at, block_at, ended, CanDo}
+use Rattle.snl_schedule.specs.Refresh.{is_marked, with_mark, copied_to, refreshed_link, refreshed_from, refreshed}
+use Rattle.snl_schedule.specs.Steps.{steps_then, block_steps}
+use Rattle.snl_schedule.specs.Turn.{told_fault}
+use Rattle.snl_meaning.specs.Counts.{StepsAreBounded}
+
+-- what so many ticks pay for
+abbrev pub paid : ℕ → ℕ → ℕ
+paid len ticks = ticks * (3 * len)
+
+-- What is done in a world, in so many steps, gives no tick back, and takes no more than some room and what its ticks pay for.
+pub record Costs {A : Type 0} (len room : ℕ) (w : World) (steps : ℕ) (r : Ran A) : Type 0 where
+  pub still : (world_after r).ticks ≤ w.ticks
+  pub fits : steps + paid len (world_after r).ticks ≤ room + paid len w.ticks
+
+-- ---- one after another
+
+-- text does not matter
+pub costs-also : {A : Type 0} (len room : ℕ) (w : World) (steps : ℕ) (text : List ℕ) (r : Ran A) → Costs len room w steps r → Costs len room w steps (also text r)
+costs-also len room w steps text (Gives v u more) h = record { still = h.still; fits = h.fits }
+costs-also len room w steps text (Faults f line u more) h = record { still = h.still; fits = h.fits }
+
+-- nor does text that was there
+costs-without : {A : Type 0} (len room : ℕ) (w : World) (steps : ℕ) (text : List ℕ) (r : Ran A) → Costs len room w steps (also text r) → Costs len room w steps r
+costs-without len room w steps text (Gives v u more) h = record { still = h.still; fits = h.fits }
+costs-without len room w steps text (Faults f line u more) h = record { still = h.still; fits = h.fits }
+
+-- nor does it before what follows
+pub costs-between : {A B : Type 0} (len room : ℕ) (w : World) (steps : ℕ) (text : List ℕ) (r : Ran A) (go : A → World → Ran B) → Costs len room w steps (then_do r go) →
+    Costs len room w steps (then_do (also text r) go)
+costs-between len room w steps text (Gives v u more) go h = costs-also len room w steps _ (go v u) (costs-without len room w steps more (go v u) h)
+costs-between len room w steps text (Faults f line u more) go h = record { still = h.still; fits = h.fits }
+
+-- nor does the line of a fault
+pub costs-told : {A : Type 0} (len room : ℕ) (w : World) (steps : ℕ) (name : List ℕ) (r : Ran A) → Costs len room w steps r → Costs len room w steps (told_fault name r)
+costs-told len room w steps name (Gives v u more) h = record { still = h.still; fits = h.fits }
+costs-told len room w steps name (Faults f line u more) h = record { still = h.still; fits = h.fits }
+
+-- what does nothing costs nothing
+pub costs-nothing : {A : Type 0} (len room : ℕ) (w : World) (v : A) (text : List ℕ) → Costs len room w 0 (Gives v w text)
+costs-nothing len room w v text = record { still = omega arith; fits = omega arith }
+
+-- a world with as many ticks
+pub costs-from : {A : Type 0} (len room : ℕ) (w u : World) (steps : ℕ) (r : Ran A) → u.ticks ≡ w.ticks → Costs len room u steps r → Costs len room w steps r
+costs-from len room w u steps r same h = let k = ap (paid len) same in record { still = omega (arith, h.still, same); fits = omega (arith, h.fits, k) }
+
+-- one step and then another
+pub costs-then : {A B : Type 0} (len room more : ℕ) (w : World) (steps : ℕ) (r : Ran A) (go : A → World → Ran B) (next : A → World → ℕ) → Costs len room w steps r →
+    ((a : A) (u : World) → Costs len more u (next a u) (go a u)) → Costs len (room + more) w (steps + steps_then r next) (then_do r go)
+costs-then len room more w steps (Gives a u text) go next h k =
+    let m = k a u in
+    costs-also len (room + more) w (steps + next a u) text (go a u) (record { still = omega (arith, h.still, m.still); fits = omega (arith, h.fits, m.fits) })
+costs-then len room more w steps (Faults f line u text) go next h k = record { still = h.still; fits = omega (arith, h.fits) }
+
+-- one step and then what changes no ticks
+pub costs-last : {A B : Type 0} (len room : ℕ) (w : World) (steps : ℕ) (r : Ran A) (go : A → World → Ran B) → ((a : A) (u : World) → (world_after (go a u)).ticks ≡ u.ticks) →
+    Costs len room w steps r → Costs len room w steps (then_do r go)
+costs-last len room w steps (Gives a u text) go still h =
+    let same = still a u in
+    let k = ap (paid len) same in
+    costs-also len room w steps text (go a u) (record { still = omega (arith, h.still, same); fits = omega (arith, h.fits, k) })
+costs-last len room w steps (Faults f line u text) go still h = record { still = h.still; fits = h.fits }
+
+-- ---- runs
+
+-- text does not matter
+after-also : {A : Type 0} (text : List ℕ) (r : Ran A) → (world_after (also text r)).ticks ≡ (world_after r).ticks
+after-also text (Gives v w t) = refl
+after-also text (Faults f line w t) = refl
+
+-- no run gives ticks back
+exec-still : (g : PieceContext) (code : List Instr) (n at : ℕ) (s : List ℤ) (w : World) → (world_after (exec g code n at s w)).ticks ≤ w.ticks
+exec-still g code zero at s w = omega arith
+exec-still g code (suc n) at s w = by (slice_get code at) (λ i. step-keeps g NoMore (ticks-kept g.set) i at s w) (λ at' s' u. exec-still g code n at' s' u)
+  where
+    go : (r : Ran Step) → (world_after r).ticks ≤ w.ticks → ((at' : ℕ) (s' : List ℤ) (u : World) → (world_after (exec g code n at' s' u)).ticks ≤ u.ticks) →
+        (world_after (then_do r (from_there (exec g code n)))).ticks ≤ w.ticks
+    go (Gives (GoesTo at' s') u text) kept rest = let same = after-also text (exec g code n at' s' u) in let h = rest at' s' u in omega (arith, same, kept, h)
+    go (Gives (EndsWith s') u text) kept rest = kept
+    go (Gives (LeavesFor state) u text) kept rest = kept
+    go (Gives Sticks u text) kept rest = kept
+    go (Faults f line u text) kept rest = kept
+
+    by : (o : Option Instr) → ((i : Instr) → (world_after (done_by g i at s w)).ticks ≤ w.ticks) →
+        ((at' : ℕ) (s' : List ℤ) (u : World) → (world_after (exec g code n at' s' u)).ticks ≤ u.ticks) → (world_after (then_do (step_of g o at s w) (from_there (exec g code n)))).ticks ≤ w.ticks
+    by None kept rest = omega arith
+    by (Some i) kept rest = go (done_by g i at s w) (kept i) rest
+
+-- three times as much, in another form
+pub three : (n len : ℕ) → n * (3 * len) ≡ 3 * (n * len)
+three n len = sym (mul_assoc n 3 len) ∙ ap (λ k. k * len) (mul_comm n 3) ∙ mul_assoc 3 n len
+
+-- a bound by ticks is one by what they pay for
+pub bound-costs : {A : Type 0} (len : ℕ) (w : World) (steps : ℕ) (r : Ran A) → (world_after r).ticks ≤ w.ticks → steps + (world_after r).ticks * len ≤ suc w.ticks * len → Costs len len w steps r
+bound-costs len w steps r still h =
+    let k : (world_after r).ticks * len ≤ w.ticks * len = mul-le-mul_right len still in
+    record { still = still; fits = omega (arith, h, k, three (world_after r).ticks len, three w.ticks len, suc-mul w.ticks len) }
+
+-- the state that a run leaves for changes nothing
+left-still : (e : Exit) (u : World) → (world_after (state_left e u)).ticks ≡ u.ticks
+left-still (Over s) u = refl
+left-still (LeftFor state) u = refl
+left-still Unfinished u = refl
+left-still Stuck u = refl
+
+-- nor does the value that it leaves
+value-still : (e : Exit) (u : World) → (world_after (value_left e u)).ticks ≡ u.ticks
+value-still (Over []) u = refl
+value-still (Over (z ∷ s)) u = refl
+value-still (LeftFor state) u = refl
+value-still Unfinished u = refl
+value-still Stuck u = refl
+
+-- what follows a step and changes no ticks
+then-still : {A B : Type 0} (w : World) (r : Ran A) (go : A → World → Ran B) → ((a : A) (u : World) → (world_after (go a u)).ticks ≡ u.ticks) → (world_after r).ticks ≤ w.ticks →
+    (world_after (then_do r go)).ticks ≤ w.ticks
+then-still w (Gives a u text) go still h = let same = after-also text (go a u) in let k = still a u in omega (arith, h, same, k)
+then-still w (Faults f line u text) go still h = h
+
+-- no condition gives ticks back
+pub held-still : (g : PieceContext) (code : List Instr) (condition : Option ℕ) (w : World) → (world_after (held_at g code condition w)).ticks ≤ w.ticks
+held-still g code None w = omega arith
+held-still g code (Some start) w =
+    let r = run_of g code start w in
+    then-still w (then_do r value_left) holds (λ z u. refl) (then-still w r value_left value-still (exec-still g code (suc w.ticks * length code) start [] w))
+
+module _ (bounded : StepsAreBounded) (g : PieceContext) (code : List Instr) where
+  -- a run that comes to its end
+  pub left-costs : (start : ℕ) → ((w : World) → IsOver (run_of g code start w)) → (w : World) → Costs (length code) (length code) w (steps_of g code start w) (left_at g code start w)
+  left-costs start over w =
+      let r = run_of g code start w in
+      costs-last (length code) (length code) w (steps_of g code start w) r state_left left-still
+      (bound-costs (length code) w (steps_of g code start w) r (exec-still g code (suc w.ticks * length code) start [] w) (bounded g code start w (over w)))
+
+  -- an entry or an exit block
+  pub block-costs : (start : Option ℕ) → CanDo g code start → (w : World) → Costs (length code) (length code) w (block_steps g code start w) (block_at g code start w)
+  block-costs None can w = costs-nothing (length code) (length code) w tt []
+  block-costs (Some start) can w =
+      costs-last (length code) (length code) w (steps_of g code start w) (left_at g code start w) ended (λ left u. refl) (left-costs start can w)
+
+-- ---- a refresh
+
+-- a buffer is copied
+copied-still : (set : ℕ) (home : Option ℕ) (t : Tied) (w : World) → (copied_to set home t w).ticks ≡ w.ticks
+copied-still set None t w = refl
+copied-still set (Some home) t w = refl
+
+-- a link
+link-still : (set number : ℕ) (t : Tied) (w : World) → (refreshed_link set number t w).ticks ≡ w.ticks
+link-still set number t w = by (is_marked set number w)
+  where
+    by : (b : Bool) → (if b then with_mark set number false (copied_to set (home_of set number w) t w) else w).ticks ≡ w.ticks
+    by true = copied-still set (home_of set number w) t w
+    by false = refl
+
+-- links
+links-still : (set number : ℕ) (ts : List Tied) (w : World) → (refreshed_from set number ts w).ticks ≡ w.ticks
+links-still set number [] w = refl
+links-still set number (t ∷ ts) w = links-still set (number + 1) ts (refreshed_link set number t w) ∙ link-still set number t w
+
+-- a refresh changes no ticks
+pub refreshed-still : (set : ℕ) (w : World) → (refreshed set w).ticks ≡ w.ticks
+refreshed-still set w = links-still set 0 w.ties w

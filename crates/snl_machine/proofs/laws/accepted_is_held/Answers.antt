@@ -1,0 +1,5 @@
+use Rattle.snl_machine.proofs.TiedLinks.{accepted_is_held}
+use Rattle.snl_machine.proofs.laws.accepted_is_held.Goals as goal
+
+pub returns : goal.returns
+returns c = accepted_is_held
