@@ -1,5 +1,5 @@
 -- A small program, and what it does with values of a channel, computed from the definitions alone.
-use Rattle.std.specs.Prelude.{◌≡◌, true, false, ℕ, ℤ, pos, List, [], ◌∷◌, ◌++◌, codes, None, Some}
+use Rattle.std.specs.Prelude.{◌≡◌, true, false, nat_lt, ℕ, ℤ, pos, List, [], ◌∷◌, ◌++◌, codes, None, Some}
 use Rattle.snl_text.specs.declared.kinds.Kind.{Kind}
 use Rattle.snl_text.specs.declared.kinds.Kind.TheVariants as kind
 use Rattle.snl_text.specs.declared.tokens.Token.{Token}
@@ -7,6 +7,7 @@ use Rattle.snl_syntax.specs.Definitions.{DefinitionTree, one_name, declaration, 
 use Rattle.snl_syntax.specs.Expressions.{ExprTree, constant, named, call, chain, assignment, no_terms, term, no_arguments, value}
 use Rattle.snl_syntax.specs.Programs.{to_state, ClauseTree, StateTree, ProgramTree}
 use Rattle.snl_syntax.specs.Statements.{expression, no_statements, statement, block}
+use Rattle.snl_code.specs.Size.{program_size}
 use Rattle.snl_links.specs.Links.{links}
 use Rattle.snl_meaning.specs.Ran.{Ran, Gives, Faults}
 use Rattle.snl_meaning.specs.World.{World}
@@ -107,3 +108,7 @@ RunExample =
     (lines_of (instant_of (program_meaning doubling (links doubling []) false) 100 (first_world_of doubling (links doubling []))) ≡ codes "0 start p\n")
     × (lines_of (valued 0 (pos 1) ready) ≡ codes "0 start p\n")
     × (lines_of (valued 5 (pos 7) (world_left (valued 0 (pos 1) ready))) ≡ codes "5 put b 14\n5 go s lo hi\n")
+
+-- Its size, where both states count, and where the second one is not reached.
+abbrev pub SizeExample : Type 0
+SizeExample = (program_size (λ set state. true) doubling ≡ 276) × (program_size (λ set state. nat_lt state 1) doubling ≡ 260)

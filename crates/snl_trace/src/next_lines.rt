@@ -98,14 +98,18 @@ fn heard_in<'t>(plain: &Plain<'t>, heard: Heard) -> NextLine<'t>
     }
 }
 
-/// The number of the channel of a name, which is often the channel that was heard of last.
+/// The number of the channel of a name. It is often the channel that was heard of last, or the one after it: so a scan
+/// writes its channels.
 #[inline(always)]
 fn number_of(name: &[u8], last: usize, machine: &Machine) -> Option<usize>
     ensures { result ≡ channel_of machine.now name.now }
 {
     if machine.is_channel(last, name) {
-        Some(last)
-    } else {
-        machine.channel(name)
+        return Some(last);
     }
+    let next = last.saturating_add(1);
+    if machine.is_channel(next, name) {
+        return Some(next);
+    }
+    machine.channel(name)
 }

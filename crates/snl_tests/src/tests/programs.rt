@@ -94,6 +94,13 @@ fn told_by_owner<T: Tells + Drop>(alloc: Global, checked: T) -> Result<Told, All
     checked.told(alloc)
 }
 
+/// What the program that a source spells tells.
+fn told_in(alloc: Global, source: &[u8]) -> Result<Told, Fail> {
+    let lexed = lex(alloc, source)?;
+    let told = told_by_owner(alloc, checked(alloc, &lexed)?)?;
+    Ok(told)
+}
+
 /// The instruction with which a piece begins.
 fn first_of(code: &Code, piece: Piece) -> Option<Instr> {
     let number = code.start(piece)?;
@@ -106,8 +113,7 @@ fn first_of(code: &Code, piece: Piece) -> Option<Instr> {
 
 #[test]
 fn what_a_program_tells(rt: HostRuntime) -> Result<(), Fail> {
-    let lexed = lex(rt.alloc(), PRINTS)?;
-    let told = told_by_owner(rt.alloc(), checked(rt.alloc(), &lexed)?)?;
+    let told = told_in(rt.alloc(), PRINTS)?;
     assert!(rt;
         told.options.s == Some(true) && told.options.w.is_none(),
         "options"
@@ -126,8 +132,7 @@ fn what_a_program_tells(rt: HostRuntime) -> Result<(), Fail> {
 /// A state that is not reached has no code, and no number beyond the states is held.
 #[test]
 fn which_states_code_holds(rt: HostRuntime) -> Result<(), Fail> {
-    let lexed = lex(rt.alloc(), LEAVES_OUT)?;
-    let told = told_by_owner(rt.alloc(), checked(rt.alloc(), &lexed)?)?;
+    let told = told_in(rt.alloc(), LEAVES_OUT)?;
     let code = &told.code;
     assert!(rt; code.holds(0, 0) && code.holds(0, 1), "reached");
     assert!(rt; !code.holds(0, 2) && !code.holds(0, 3), "not reached");
@@ -151,8 +156,7 @@ fn long_sum(alloc: Global) -> Result<Vec<u8>, AllocError> {
 #[test]
 fn code_of_a_long_sum(rt: HostRuntime) -> Result<(), Fail> {
     let source = long_sum(rt.alloc())?;
-    let lexed = lex(rt.alloc(), source.as_slice())?;
-    let told = told_by_owner(rt.alloc(), checked(rt.alloc(), &lexed)?)?;
+    let told = told_in(rt.alloc(), source.as_slice())?;
     let length = told.code.len();
     assert!(rt; length < 200, "a long sum");
     Ok(())
