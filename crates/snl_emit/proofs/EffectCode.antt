@@ -1,5 +1,5 @@
 -- The code of an expression for what it does: it does what the expression does, and leaves no operand.
-use Rattle.std.proofs.Common.{◌≡◌, ◌∙◌, ◌+◌, ◌≤◌, ℕ, ℤ, pos, Bool, true, false, List, [], ◌∷◌, ◌++◌, Option, None, Some, refl, sym, ap, subst, arith, length, length-append, if◌then◌else◌}
+use Rattle.std.proofs.Common.{◌≡◌, ◌∙◌, ◌+◌, ◌≤◌, ℕ, ℤ, pos, Bool, true, false, List, [], ◌∷◌, ◌++◌, Option, None, Some, refl, sym, ap, subst, arith, length, length-append}
 use Rattle.snl_text.specs.declared.kinds.Kind.{Kind}
 use Rattle.snl_text.specs.declared.tokens.Token.{Token}
 use Rattle.snl_syntax.specs.Expressions.{ExprTree, constant, parenthesized, named, element, call, postfix, prefix, chain, conditional, assignment}
@@ -16,7 +16,7 @@ use Rattle.snl_meaning.specs.Endings.{HasAt}
 use Rattle.snl_meaning.specs.Names.{Here, sense_of}
 use Rattle.snl_meaning.specs.Ran.{Ran, Gives, Faults, also, then_do}
 use Rattle.snl_meaning.specs.Run.{PieceContext, GoesTo, context_of}
-use Rattle.snl_meaning.specs.Value.{OnVariable, OnElement, at_name, at_target, compound_of, sign_of, signed, renewed, put_at, value_of}
+use Rattle.snl_meaning.specs.Value.{OnElement, at_name, at_target, compound_of, sign_of, signed, renewed, put_at, value_of}
 use Rattle.snl_meaning.specs.Words.{natural, gives, adjusted, adjusted_to, operated, stored}
 use Rattle.snl_meaning.specs.World.{World, element_of}
 use Rattle.snl_meaning.proofs.Following.{then_do-also, has_front, has_back, Quiet, Follows, quiet-step, follows-step, follows-then}

@@ -3,17 +3,17 @@ use Rattle.std.proofs.Common.{◌≡◌, ◌∙◌, ◌+◌, ◌≤◌, ℕ, ℤ
 use Rattle.snl_syntax.specs.Expressions.{ExprTree}
 use Rattle.snl_arithmetic.specs.Arithmetic.{is_zero}
 use Rattle.snl_meaning.specs.declared.instrs.Instr.{Instr}
-use Rattle.snl_meaning.specs.declared.instrs.Instr.TheVariants.{Drop, JumpIfZero}
+use Rattle.snl_meaning.specs.declared.instrs.Instr.TheVariants.{JumpIfZero}
 use Rattle.snl_emit.specs.BlockCode.{effect_code, dropped_code, test_code, maybe_depth}
 use Rattle.snl_meaning.specs.Effect.{Way, Done, Broken, Continued, Left, if_done, holds, held_by, dropped, evaluated}
-use Rattle.snl_emit.specs.ExpressionCode.{expression_code, expression_depth}
+use Rattle.snl_emit.specs.ExpressionCode.{expression_code}
 use Rattle.snl_meaning.specs.Names.{Here}
-use Rattle.snl_meaning.specs.Ran.{Ran, Gives, Faults, also, then_do}
+use Rattle.snl_meaning.specs.Ran.{Ran, Gives, Faults, also}
 use Rattle.snl_meaning.specs.Endings.{HasAt}
 use Rattle.snl_meaning.specs.Run.{PieceContext, context_of, Exit, LeftFor}
 use Rattle.snl_meaning.specs.Value.{value_of, either}
 use Rattle.snl_meaning.specs.World.{World}
-use Rattle.snl_meaning.proofs.Following.{has_front, has_back, Quiet, Continues, run_at, Follows, quiet-step, follows-then, follows-to, follows-here, continues-here, continues-quiet, continues-then, quiet-none, quiet-if_zero}
+use Rattle.snl_meaning.proofs.Following.{has_front, has_back, Quiet, Continues, run_at, Follows, follows-then, follows-here, continues-here, continues-quiet, quiet-none, quiet-if_zero}
 use Rattle.snl_emit.proofs.ValueCode.{value-follows}
 use Rattle.snl_emit.proofs.EffectCode.{idle, effect-follows}
 

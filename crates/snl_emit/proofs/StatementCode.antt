@@ -2,7 +2,7 @@
 use Rattle.std.proofs.Common.{◌≡◌, ◌+◌, ◌≤◌, ℕ, List, [], ◌∷◌, ◌++◌, None, Some, refl, ap, arith, length, length-append}
 use Rattle.snl_syntax.specs.Statements.{StatementTree, StatementList, BlockTree, nested, empty, expression, break_loop, continue_loop, change_state, if_then, if_else, while_loop, for_loop, no_statements, statement, block}
 use Rattle.snl_meaning.specs.declared.instrs.Instr.{Instr}
-use Rattle.snl_meaning.specs.declared.instrs.Instr.TheVariants.{Drop, Jump, JumpIfZero}
+use Rattle.snl_meaning.specs.declared.instrs.Instr.TheVariants.{Jump, JumpIfZero}
 use Rattle.snl_emit.specs.BlockCode.{effect_code, dropped_code, test_code, loop_code, when_code, entered_code, statement_code, statements_code, block_code, statement_depth, statements_depth, block_depth}
 use Rattle.snl_meaning.specs.Effect.{Way, Done, Broken, Continued, ends, done, if_done, held_by, evaluated, looped, names_of, entered, effect_of, effects_of, block_effect}
 use Rattle.snl_emit.specs.ExpressionCode.{expression_code, if_code}

@@ -55,6 +55,10 @@ fn worth_chain<'a>(terms: &[Term<'a>], sites: &Sites<'_, 'a>, first: Constant) -
 {
     let mut left = first;
     for term in terms {
+        // What varies goes on to vary: the operands behind it need no look.
+        if let Constant::Varies = left {
+            return Constant::Varies;
+        }
         left = joined(term.operator.kind, left, worth_of(&term.operand, sites));
     }
     left
