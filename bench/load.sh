@@ -8,7 +8,8 @@
 # names it four times. The one it is compared with is half of it: half the states and half the links, in as many state sets. The whole
 # has to take at most 2.2 times the time of the half, and at most 1.5 times that of `snc`, which judges it and loads nothing.
 #
-# Then 1,000 links with 15,000 `monitor` definitions, which has to take less than 0.1 s. Each time is the best of all runs, less the time
+# Then 1,000 links with 15,000 `monitor` definitions, which has to take less than 0.1 s; and a sum of 28,000 names inside 60
+# parentheses, each of them behind an operator of every level, which has to take no more than 3 times `snc`. Each time is the best of all runs, less the time
 # for an empty file, for what else the machine does only adds to it.
 set -eu
 cd "$(dirname "$0")/.."
@@ -66,26 +67,40 @@ awk 'BEGIN {
     for (i = 0; i < 15000; i++) printf "monitor v%d;\n", i % 1000
     print "ss all { state first { when (v0) {} exit } }"
 }' > "$work/monitors.st"
+awk 'BEGIN {
+    print "program deep"
+    print "option +s;"
+    print "int x;"
+    printf "ss all { state first { when ("
+    for (i = 0; i < 60; i++) printf "x || x && x | x ^ x & x == x < x << x + x * ("
+    for (i = 1; i < 28000; i++) printf "x + "
+    printf "x"
+    for (i = 0; i < 60; i++) printf ")"
+    print ") {} exit } }"
+}' > "$work/deep.st"
 : > "$work/empty.st"
-for source in whole half monitors; do
+for source in whole half monitors deep; do
     said=$("$judge" "$work/$source.st" 2>&1 < /dev/null) || { echo "$source.st has an error: $said" >&2; exit 1; }
 done
-whole=999999999 half=$((whole)) judged=$((whole)) monitors=$((whole)) empty=$((whole)) none=$((whole))
+whole=999999999 half=$((whole)) judged=$((whole)) monitors=$((whole)) deep=$((whole)) sound=$((whole)) empty=$((whole)) none=$((whole))
 for ((turn = 0; turn < runs; turn++)); do
     time_run whole "$runner" "$work/whole.st"
     time_run half "$runner" "$work/half.st"
     time_run judged "$judge" "$work/whole.st"
     time_run monitors "$runner" "$work/monitors.st"
+    time_run deep "$runner" "$work/deep.st"
+    time_run sound "$judge" "$work/deep.st"
     time_run empty "$runner" "$work/empty.st"
     time_run none "$judge" "$work/empty.st"
 done
 awk -v runs="$runs" -v whole=$((whole - empty)) -v half=$((half - empty)) -v judged=$((judged - none)) \
-    -v monitors=$((monitors - empty)) 'BEGIN {
+    -v monitors=$((monitors - empty)) -v deep=$((deep - empty)) -v sound=$((sound - none)) 'BEGIN {
     printf "sources: 1,000 and 500 states, each with a link; the best of %d runs\n", runs
     printf "load:     %.2f ms\n", whole / 1e3
     printf "half:     %.2f ms\n", half / 1e3
     printf "ratio:    %.2f times the time for twice the states and links\n", whole / half
     printf "snc:      %.2f ms; the load takes %.2f times as long\n", judged / 1e3, whole / judged
     printf "monitors: %.2f ms for 1,000 links with 15,000 of them\n", monitors / 1e3
-    exit whole > 2.2 * half || whole > 1.5 * judged || monitors > 100000
+    printf "deep:     %.2f ms for 28,000 names inside 60 parentheses; %.2f times as long as snc\n", deep / 1e3, deep / sound
+    exit whole > 2.2 * half || whole > 1.5 * judged || monitors > 100000 || deep > 3 * sound
 }'
