@@ -109,14 +109,23 @@ def message(text):
 
 
 def examples(root):
-    for file in sorted(root.glob("examples/*.st")):
-        trace, lines = (file.with_suffix(it).read_bytes() for it in (".trace", ".out"))
-        yield Case(f"examples/{file.name}", file.read_bytes(), trace, stdout=lines)
-    for file in sorted(root.glob("examples/*/*.st")):
-        yield of_tables(f"examples/{file.name}", file.read_bytes(), file.with_suffix(".tables").read_bytes())
+    """Each trace of an example with its program and its output, and each table with its program."""
+    for trace in sorted(root.glob("examples/**/*.trace")):
+        program = program_of(trace)
+        name = f"{trace.relative_to(root)}, of {program.name}"
+        yield Case(name, program.read_bytes(), trace.read_bytes(), stdout=trace.with_suffix(".out").read_bytes())
+    for tables in sorted(root.glob("examples/**/*.tables")):
+        program = tables.with_suffix(".st")
+        yield of_tables(str(tables.relative_to(root)), program.read_bytes(), tables.read_bytes())
     page = root / "docs/TABLES.md"
     source, tables, *_ = re.findall(rb"^```\n(.*?)^```$", page.read_bytes(), re.DOTALL | re.MULTILINE)
     yield of_tables("docs/TABLES.md", source, tables, ANY)
+
+
+def program_of(trace):
+    """The program of a trace, which has its name, or the part of it before a `-`: interlock-down.trace is one of interlock.st."""
+    own = trace.with_suffix(".st")
+    return own if own.exists() else trace.with_name(trace.stem.split("-")[0] + ".st")
 
 
 def of_tables(name, source, tables, stderr=b""):
@@ -125,12 +134,12 @@ def of_tables(name, source, tables, stderr=b""):
 
 
 def not_in_readme(root):
-    """An example that the README calls, and whose output does not stand there in a block of its own."""
+    """A run of an example that the README calls, and whose output does not stand there in a block of its own."""
     readme = (root / "README.md").read_text()
-    called = re.findall(r"^bin/(?:try )?snlrun examples/(\w+)\.st < examples/\1\.trace$", readme, re.MULTILINE)
-    outputs = {it: (root / f"examples/{it}.out").read_text() for it in called}
+    called = re.findall(r"^bin/(?:try )?snlrun examples/\S+\.st < (examples/\S+)\.trace$", readme, re.MULTILINE)
+    outputs = {it: (root / f"{it}.out").read_text() for it in called}
     missing = [it for it, lines in outputs.items() if f"```\n{lines}```\n" not in readme]
-    return [f"FAILED README.md: it has not what examples/{it}.out has" for it in missing]
+    return [f"FAILED README.md: it has not what {it}.out has" for it in missing]
 
 
 def not_from_log(root):

@@ -1,0 +1,78 @@
+"""Cases from docs/PORTING.md: its programs over its traces, and each form of its table with the message named.
+
+A block `snl` is the program of the blocks behind it: `said` has the messages of `snc`, and `out` the run over the last `trace`.
+`shell.py` runs the calls.
+"""
+import re
+
+from case import Case
+
+BLOCK = re.compile(r"^```(\w*)\n(.*?)^```\n", re.MULTILINE | re.DOTALL)
+ROW = re.compile(r"^\| `([^`]+)` \| `(E\d+)` \|", re.MULTILINE)
+# The first with a form among the definitions, the second with one in a block.
+PLACES = (
+    """program p
+option +s;
+int x; assign x to "a";
+%s
+ss s { state w { when (x) {} exit } }
+""",
+    """program p
+option +s;
+int x; assign x to "a"; int y;
+ss s { state w { when (x) { %s } exit } }
+""",
+)
+
+
+def examples(root):
+    page = text_of(root)
+    program = trace = ""
+    for kind, text in BLOCK.findall(page):
+        if kind == "snl":
+            program = text
+        elif kind == "trace":
+            trace = text
+        elif kind == "said":
+            yield said(program, text)
+        elif kind == "out":
+            yield Case(named(program), program.encode(), trace.encode(), words=[b"-w", b"p.st"], stdout=text.encode())
+
+
+def said(program, text):
+    status = int(" error: " in text)
+    return Case(f"{named(program)}, checked", program.encode(), b"", stderr=text.encode(), statuses=(status,), tool="snc")
+
+
+def named(program):
+    return "docs/PORTING.md: " + re.search(r"program (\w+)", program)[0]
+
+
+def missing(root, programs):
+    """Forms of the table without their message, and programs of which nothing is said."""
+    page = text_of(root)
+    rows = ROW.findall(page)
+    found = [f"{form} has not {message}" for form, message in rows if not has_message(programs, form, message)]
+    if len(rows) < 15:
+        found.append("the table of forms is not found")
+    kinds = [kind for kind, _ in BLOCK.findall(page)]
+    if BLOCK.search(page)[2] != (root / "examples/porting/pump.st").read_text():
+        found.append("the first program is not that of examples/porting/pump.st")
+    for kind, behind in zip(kinds, [*kinds[1:], None]):
+        if kind == "snl" and behind not in ("said", "out", "trace", "sh"):
+            found.append("a program has nothing behind it")
+    return [f"FAILED docs/PORTING.md: {it}" for it in found]
+
+
+def has_message(programs, form, message):
+    """Whether a form has that message, among the definitions or in a block."""
+    for place in PLACES:
+        source = (place % form).encode()
+        _, _, stderr = Case("", source, tool="snc").run(programs["snc"])
+        if f" {message} ".encode() in stderr:
+            return True
+    return False
+
+
+def text_of(root):
+    return (root / "docs/PORTING.md").read_text()
