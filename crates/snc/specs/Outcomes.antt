@@ -67,9 +67,10 @@ abbrev pub at_first : World → Option (List ℕ) → Place
 at_first w told = record { begun = []; number = 1; world = w; told = told }
 
 -- A program with these links and a budget, which waits for its channels or does not, was run over a source into a sink,
--- and the run ended so. Where the source tells its bytes, the lines that went out, the ending and the bytes left are those
--- that the meaning of the program gives over them, in the world that it begins in; where a device failed, the lines that
--- stand before that. And each device's count of failures rose by one exactly where the run ended by that device.
+-- and the run ended so. Where the source tells its bytes, the lines that went out and the ending are those that the meaning of
+-- the program gives over them, in the world that it begins in; where the sink failed, a beginning of these lines; where the
+-- source failed, those of the lines that came whole, and what it has left are the bytes that did not come. And each device's
+-- count of failures rose by one exactly where the run ended by that device.
 pub record IsRunOf {R S : Type 0} (source_rest : R → Option (List ℕ)) (source_failures : R → ℕ) (sink_told : S → Option (List ℕ)) (sink_failures : S → ℕ)
     (whole : ProgramTree) (ls : List Link) (waiting : Bool) (budget : ℕ) (trace trace' : R) (sink sink' : S) (end : End) : Type 0 where
   pub world : World

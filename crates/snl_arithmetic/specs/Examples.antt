@@ -9,6 +9,7 @@ abbrev pub ArithmeticExamples : Type 0
 ArithmeticExamples =
     (computed kind.Percent (negsuc 9223372036854775807) (negsuc 0) ≡ Ok (pos 0))
     × (computed kind.Slash (negsuc 9223372036854775807) (negsuc 0) ≡ Err Overflow)
+    × (computed kind.Plus (pos 9223372036854775807) (pos 1) ≡ Err Overflow)
     × (computed kind.Slash (negsuc 6) (pos 2) ≡ Ok (negsuc 2))
     × (computed kind.Percent (negsuc 6) (pos 2) ≡ Ok (negsuc 0))
     × (computed kind.Slash (pos 1) (pos 0) ≡ Err Division)

@@ -1,15 +1,17 @@
 -- The code of an expression lies inside, wherever it stands, as long as an instruction stands behind it.
-use Rattle.std.proofs.Common.{sym, true≢false, arith, ℕ, pos, Bool, true, false, not, List, [], ◌∷◌, ◌++◌}
+use Rattle.std.proofs.Common.{◌≡◌, ◌-◌, refl, subst, sym, true≢false, arith, ℕ, zero, suc, pos, Option, Bool, true, false, not, List, [], ◌∷◌, ◌++◌}
 use Rattle.snl_text.specs.declared.tokens.Token.{Token}
 use Rattle.snl_syntax.specs.Expressions.{ExprTree, TermList, ArgumentList, constant, parenthesized, named, element, call, postfix, prefix, chain, conditional, assignment, no_terms, term, no_arguments, value, text}
 use Rattle.snl_syntax.specs.Programs.{ProgramTree}
+use Rattle.snl_resolve.specs.declared.builtins.Builtin.{Builtin}
 use Rattle.snl_resolve.specs.declared.builtins.Query.{Query}
 use Rattle.snl_resolve.specs.declared.constants.Constant.{Constant}
 use Rattle.snl_resolve.specs.declared.constants.Constant.TheVariants.{Worth}
 use Rattle.snl_resolve.specs.declared.sites.Purpose.{Purpose}
+use Rattle.snl_resolve.specs.declared.sites.Site.{Site}
 use Rattle.snl_resolve.specs.Constants.{joined}
 use Rattle.snl_resolve.specs.Builtins.{builtin_of}
-use Rattle.snl_resolve.specs.Calls.{is_fitting}
+use Rattle.snl_resolve.specs.Calls.{is_fitting, is_async, has_async, word_at, is_word, unless}
 use Rattle.snl_resolve.specs.Purposes.{inner, in_parentheses, target, argument, is_step}
 use Rattle.snl_resolve.specs.Programs.{sites}
 use Rattle.snl_resolve.specs.Scopes.{Scope}
@@ -27,6 +29,33 @@ use Rattle.snl_code.proofs.InsideWords.{Anywhere, Asks, TakesFlag, any-none, any
 
 module _ (p : ProgramTree) (set : ℕ) where
   -- ---- expressions
+
+  -- the word `ASYNC` is a name
+  named-word : (X : ExprTree → Type 0) → ((x : Token) → X (named x)) → (e : ExprTree) → is_async e ≡ true → X e
+  named-word X at (named x) is = at x
+  named-word X at (constant t) is = absurd (true≢false (sym is))
+  named-word X at (parenthesized e) is = absurd (true≢false (sym is))
+  named-word X at (element x b e) is = absurd (true≢false (sym is))
+  named-word X at (call f args) is = absurd (true≢false (sym is))
+  named-word X at (postfix e op) is = absurd (true≢false (sym is))
+  named-word X at (prefix op e) is = absurd (true≢false (sym is))
+  named-word X at (chain e rest) is = absurd (true≢false (sym is))
+  named-word X at (conditional c x y) is = absurd (true≢false (sym is))
+  named-word X at (assignment e op r) is = absurd (true≢false (sym is))
+
+  -- where it stands at its place too
+  word-there : (X : ExprTree → Type 0) → ((x : Token) → X (named x)) → (e : ExprTree) (k : ℕ) → is_word k e ≡ true → X e
+  word-there X at e zero is = absurd (true≢false (sym is))
+  word-there X at e (suc zero) is = named-word X at e is
+  word-there X at e (suc (suc k)) is = absurd (true≢false (sym is))
+
+  -- What holds of each name, and of an argument whose sites are there, holds of an argument that may be that word.
+  if-argument : (X : ExprTree → Type 0) → ((x : Token) → X (named x)) → (e : ExprTree) (k : ℕ) (ss ts : List Site) → AllIn p (unless (is_word k e) ss ++ ts) → (AllIn p ss → X e) → X e
+  if-argument X at e k ss ts all there = by (is_word k e) refl (in-front p (unless (is_word k e) ss) ts all)
+    where
+      by : (b : Bool) → is_word k e ≡ b → AllIn p (unless b ss) → X e
+      by true is all = word-there X at e k is
+      by false is all = there all
 
   -- what is done to a variable
   abbrev AnyOn : CodeOn → Type 0
@@ -47,9 +76,10 @@ module _ (p : ProgramTree) (set : ℕ) where
         let fit = is_fitting o args in
         let v = argument u o fit in
         let r = asks-argument p set u w f o fit q all.0 in
+        let k = word_at o in
         any-called p set o (print_code (h p set) args) (wait_code (h p set) args) (put_call_code (h p set) args) (ask_code (h p set) args)
-        (any-print args w s v r all.1) (any-wait args w s v r all.1) (any-put_call args w s v r all.1)
-        (λ query is. any-ask args w s v r all.1 query (takes-flag p set u w f o args q all.0 query is))
+        (any-print args w s v k r all.1) (any-wait args w s v k r all.1) (any-put_call args w s v k r all.1)
+        (λ query is. any-ask args w s v r (subst (λ (b : Option Builtin). AllIn p (in_arguments w s v (word_at b) args)) is all.1) query (takes-flag p set u w f o args q all.0 query is))
     any-value (postfix e op) w s u q all =
         any-signed p set (sign_of op.kind) _ (expression_code (h p set) e) op.pos.line
         (λ by. any-target e w s (target u) (asks-target p set u q) all.1 _ _ _ (λ v x is. any-one p set (instr.Adjust v by op.pos.line x.pos.line true) (λ b a some. some) is)
@@ -120,48 +150,57 @@ module _ (p : ProgramTree) (set : ℕ) where
     any-target (assignment e op r) w s u q all alone indexed other f g k = k
 
     -- `printf`
-    any-print : (args : ArgumentList) (w : Bool) (s : List Scope) (u : Purpose) → Asks p set u → AllIn p (in_arguments w s u args) → Anywhere p set (print_code (h p set) args)
-    any-print no_arguments w s u q all = any-push p set (pos 0)
-    any-print (value e rest) w s u q all = any-push p set (pos 0)
-    any-print (text t rest) w s u q all =
+    any-print : (args : ArgumentList) (w : Bool) (s : List Scope) (u : Purpose) (k : ℕ) → Asks p set u → AllIn p (in_arguments w s u k args) → Anywhere p set (print_code (h p set) args)
+    any-print no_arguments w s u k q all = any-push p set (pos 0)
+    any-print (value e rest) w s u k q all = any-push p set (pos 0)
+    any-print (text t rest) w s u k q all =
         let line = instr.Print (format_number (h p set) t) (count_values rest) in
-        any-append p set (values_code (h p set) rest) (line ∷ []) (any-values rest w s u q all.1)
+        any-append p set (values_code (h p set) rest) (line ∷ []) (any-values rest w s u (k - 1) q all.1)
         (any-one p set line (λ b a some. some) (text-below (sites p) all.0.0 t _ all.0.1))
 
     -- the values of arguments
-    any-values : (args : ArgumentList) (w : Bool) (s : List Scope) (u : Purpose) → Asks p set u → AllIn p (in_arguments w s u args) → Anywhere p set (values_code (h p set) args)
-    any-values no_arguments w s u q all = any-none p set
-    any-values (text t rest) w s u q all = any-values rest w s u q all.1
-    any-values (value e rest) w s u q all =
+    any-values : (args : ArgumentList) (w : Bool) (s : List Scope) (u : Purpose) (k : ℕ) → Asks p set u → AllIn p (in_arguments w s u k args) → Anywhere p set (values_code (h p set) args)
+    any-values no_arguments w s u k q all = any-none p set
+    any-values (text t rest) w s u k q all = any-values rest w s u (k - 1) q all.1
+    any-values (value e rest) w s u k q all =
         any-append p set (expression_code (h p set) e) (values_code (h p set) rest)
-        (any-value e w s u q (in-front p (in_expression w s u e) (in_arguments w s u rest) all))
-        (any-values rest w s u q (in-back p (in_expression w s u e) (in_arguments w s u rest) all))
+        (if-argument (λ x. Anywhere p set (expression_code (h p set) x)) (λ x. any-name p set (sense_of (h p set) x) (sense-knows p set x)) e k _ (in_arguments w s u (k - 1) rest) all
+        (λ each. any-value e w s u q each))
+        (any-values rest w s u (k - 1) q (in-back p (unless (is_word k e) (in_expression w s u e)) (in_arguments w s u (k - 1) rest) all))
 
     -- `delay`
-    any-wait : (args : ArgumentList) (w : Bool) (s : List Scope) (u : Purpose) → Asks p set u → AllIn p (in_arguments w s u args) → Anywhere p set (wait_code (h p set) args)
-    any-wait no_arguments w s u q all = any-push p set (pos 0)
-    any-wait (text t rest) w s u q all = any-push p set (pos 0)
-    any-wait (value e rest) w s u q all =
+    any-wait : (args : ArgumentList) (w : Bool) (s : List Scope) (u : Purpose) (k : ℕ) → Asks p set u → AllIn p (in_arguments w s u k args) → Anywhere p set (wait_code (h p set) args)
+    any-wait no_arguments w s u k q all = any-push p set (pos 0)
+    any-wait (text t rest) w s u k q all = any-push p set (pos 0)
+    any-wait (value e rest) w s u k q all =
         any-append p set (expression_code (h p set) e) (instr.Wait (not (is_decimal e)) ∷ [])
-        (any-value e w s u q (in-front p (in_expression w s u e) (in_arguments w s u rest) all))
+        (if-argument (λ x. Anywhere p set (expression_code (h p set) x)) (λ x. any-name p set (sense_of (h p set) x) (sense-knows p set x)) e k _ (in_arguments w s u (k - 1) rest) all
+        (λ each. any-value e w s u q each))
         (any-one p set (instr.Wait (not (is_decimal e))) (λ b a some. some) tt)
 
     -- `pvPut`
-    any-put_call : (args : ArgumentList) (w : Bool) (s : List Scope) (u : Purpose) → Asks p set u → AllIn p (in_arguments w s u args) → Anywhere p set (put_call_code (h p set) args)
-    any-put_call no_arguments w s u q all = any-push p set (pos 0)
-    any-put_call (text t rest) w s u q all = any-push p set (pos 0)
-    any-put_call (value e rest) w s u q all =
-        any-target e w s u q (in-front p (in_expression w s u e) (in_arguments w s u rest) all) (λ v x. instr.Put v ∷ []) (λ v x. instr.PutAt v ∷ []) (instr.Push (pos 0) ∷ [])
-        (λ v x is. any-one p set (instr.Put v) (λ b a some. some) is) (λ v x is. any-one p set (instr.PutAt v) (λ b a some. some) is) (any-push p set (pos 0))
+    any-put_call : (args : ArgumentList) (w : Bool) (s : List Scope) (u : Purpose) (k : ℕ) → Asks p set u → AllIn p (in_arguments w s u k args) → Anywhere p set (put_call_code (h p set) args)
+    any-put_call no_arguments w s u k q all = any-push p set (pos 0)
+    any-put_call (text t rest) w s u k q all = any-push p set (pos 0)
+    any-put_call (value e rest) w s u k q all =
+        let async = has_async rest in
+        let alone : CodeOn = λ v x. instr.Put v async ∷ [] in
+        let indexed : CodeOn = λ v x. instr.PutAt v async ∷ [] in
+        let one : AnyOn alone = λ v x is. any-one p set (instr.Put v async) (λ b a some. some) is in
+        let each : AnyOn indexed = λ v x is. any-one p set (instr.PutAt v async) (λ b a some. some) is in
+        let zero = instr.Push (pos 0) ∷ [] in
+        if-argument (λ x. Anywhere p set (target_code (h p set) x alone indexed zero))
+        (λ x. any-at_name p set (sense_of (h p set) x) x alone zero (sense-knows p set x) one (any-push p set (pos 0))) e k _ (in_arguments w s u (k - 1) rest) all
+        (λ there. any-target e w s u q there alone indexed zero one each (any-push p set (pos 0)))
 
     -- calls that ask
-    any-ask : (args : ArgumentList) (w : Bool) (s : List Scope) (u : Purpose) → Asks p set u → AllIn p (in_arguments w s u args) → (query : Query) → TakesFlag p set query u args →
+    any-ask : (args : ArgumentList) (w : Bool) (s : List Scope) (u : Purpose) → Asks p set u → AllIn p (in_arguments w s u 0 args) → (query : Query) → TakesFlag p set query u args →
         Anywhere p set (ask_code (h p set) args query)
     any-ask no_arguments w s u q all query takes = any-flag p set query 0 (λ good form. absurd (true≢false (sym (takes good form).1)))
     any-ask (text t rest) w s u q all query takes = any-push p set (pos 0)
     any-ask (value e rest) w s u q all query takes =
-        any-target e w s u q (in-front p (in_expression w s u e) (in_arguments w s u rest) all) (λ v x. instr.AskLink query v ∷ []) (λ v x. instr.AskElement query v ∷ [])
+        any-target e w s u q (in-front p (in_expression w s u e) (in_arguments w s u 0 rest) all) (λ v x. instr.AskLink query v ∷ []) (λ v x. instr.AskElement query v ∷ [])
         (ask_flag_code (h p set) e query ∷ [])
         (λ v x is. any-one p set (instr.AskLink query v) (λ b a some. some) is) (λ v x is. any-one p set (instr.AskElement query v) (λ b a some. some) is) (any-ask_flag p set e query (λ good form.
         let flag = takes good form in
-        flag-argument p set e w s u (in-front p (in_expression w s u e) (in_arguments w s u rest) all) good flag.0 (alone-named p set e rest flag.1)))
+        flag-argument p set e w s u (in-front p (in_expression w s u e) (in_arguments w s u 0 rest) all) good flag.0 (alone-named p set e rest flag.1)))

@@ -10,7 +10,7 @@ use Rattle.snl_resolve.specs.declared.builtins.Builtin.{Builtin}
 use Rattle.snl_resolve.specs.declared.builtins.Builtin.TheVariants.{Delay, Printf, PvPut, Ask}
 use Rattle.snl_resolve.specs.declared.builtins.Query.{Query}
 use Rattle.snl_resolve.specs.declared.calls.Form.{Form}
-use Rattle.snl_resolve.specs.declared.calls.Form.TheVariants.{ChannelPlace, QueueName, FlagName, Seconds}
+use Rattle.snl_resolve.specs.declared.calls.Form.TheVariants.{ChannelPlace, PutPlace, QueueName, FlagName, Seconds}
 use Rattle.snl_resolve.specs.declared.constants.Constant.{Constant}
 use Rattle.snl_resolve.specs.declared.constants.Constant.TheVariants as worth
 use Rattle.snl_resolve.specs.declared.sites.Meaning.{Meaning}
@@ -213,6 +213,7 @@ module _ (p : ProgramTree) (set : ℕ) where
   -- an argument of the form that a call takes is for something
   asked-form : (f : Form) → IsAsked (argument_of f)
   asked-form ChannelPlace = tt
+  asked-form PutPlace = tt
   asked-form QueueName = tt
   asked-form FlagName = tt
   asked-form Seconds = tt

@@ -40,7 +40,7 @@ impl Code {
         self.instrs[number]
     }
 
-    /// The string of a number, as spelled with its quotes; empty where no instruction names the number.
+    /// The string of a number, as spelled with its quotes; empty where the program has no string of that number.
     pub fn text(&self, number: usize) -> &[u8]
         ensures { result.now ≡ text_of (texts_of self.now) number }
     {

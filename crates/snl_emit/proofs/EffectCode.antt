@@ -23,9 +23,9 @@ use Rattle.snl_meaning.proofs.Following.{then_do-also, has_front, has_back, Quie
 use Rattle.snl_emit.proofs.ValueCode.{value-follows}
 use Rattle.snl_emit.proofs.WordCode.{codes-renewed}
 
--- no operands
-abbrev pub idle : {A : Type 0} → A → List ℤ
-idle _ = []
+-- the operands below, and no other
+abbrev pub idle : {A : Type 0} → List ℤ → A → List ℤ
+idle below _ = below
 
 -- ---- a target that is a variable alone
 
@@ -76,18 +76,18 @@ adjusted-alike set v by op_line line k w go =
     alike (operated by op_line old (pos 1) w) (adjusted_to set v line true k old) (adjusted_to set v line false k old) go
     (λ z u. alike (stored set v line k z u) (λ _ y. Gives old y []) (λ _ y. Gives z y []) go (λ y x. refl))
 
-module _ (h : Here) (room : ℕ) (code : List Instr) where
+module _ (h : Here) (room : ℕ) (code : List Instr) (below : List ℤ) where
   -- what the code runs with
   abbrev g : PieceContext
   g = context_of h room
 
   -- such code does what a word does, and leaves no operand
   abbrev Acts : (World → Ran ℤ) → List Instr → ℕ → Type 0
-  Acts word c d = (at : ℕ) (w : World) → HasAt code at c → d ≤ room → Follows g code at [] w (word w) (λ _. at + length c) idle
+  Acts word c d = (at : ℕ) (w : World) → HasAt code at c → length below + d ≤ room → Follows g code at below w (word w) (λ _. at + length c) (idle below)
 
   -- what leads on quietly after something was done
   follows-over : {A : Type 0} (at : ℕ) (s : List ℤ) (w : World) (r : Ran A) (mid to : ℕ) (between : A → List ℤ) → Follows g code at s w r (λ _. mid) between →
-      ((v : A) (u : World) → Quiet g code mid (between v) u to []) → Follows g code at s w r (λ _. to) idle
+      ((v : A) (u : World) → Quiet g code mid (between v) u to below) → Follows g code at s w r (λ _. to) (idle below)
   follows-over at s w (Gives v u text) mid to between f q = record { by = λ k. let b = (q v u).by k in let a = f.by b.0 in (a.0, a.1 ∙ ap (also text) b.1) }
   follows-over at s w (Faults fault line u text) mid to between f q = record { by = λ k. f.by k }
 
@@ -97,8 +97,8 @@ module _ (h : Here) (room : ℕ) (code : List Instr) where
       let ec = expression_code h e in
       let k = has_back code at ec (Drop ∷ []) has in
       let n : at + length ec + 1 ≡ at + length (ec ++ Drop ∷ []) = omega (arith, length-append ec (Drop ∷ [])) in
-      follows-over at [] w (value_of h e w) (at + length ec) (at + length (ec ++ Drop ∷ [])) (λ z. z ∷ []) (value-follows h room code e at [] w (has_front code at ec _ has) (omega (arith, free)))
-      (λ z u. subst (λ (m : ℕ). Quiet g code (at + length ec) (z ∷ []) u m []) n (quiet-step g code Drop (at + length ec) (z ∷ []) u (at + length ec + 1) [] k.0 refl))
+      follows-over at below w (value_of h e w) (at + length ec) (at + length (ec ++ Drop ∷ [])) (λ z. z ∷ below) (value-follows h room code e at below w (has_front code at ec _ has) (omega (arith, free)))
+      (λ z u. subst (λ (m : ℕ). Quiet g code (at + length ec) (z ∷ below) u m below) n (quiet-step g code Drop (at + length ec) (z ∷ below) u (at + length ec + 1) below k.0 refl))
 
   -- a store that takes its number away, after what computes the number
   assigns : (o : Option Kind) (op_line : ℕ) (r : ExprTree) (x : Variable × ℕ) →
@@ -107,22 +107,22 @@ module _ (h : Here) (room : ℕ) (code : List Instr) where
       let rc = renewed_code o op_line (expression_code h r) x.0 in
       let k = has_back code at rc (Assign x.0 0 x.1 ∷ []) has in
       let n : at + length rc + 1 ≡ at + length (rc ++ Assign x.0 0 x.1 ∷ []) = omega (arith, length-append rc (Assign x.0 0 x.1 ∷ [])) in
-      subst (λ (m : ℕ). Follows g code at [] w (put_at o op_line (value_of h r) h.set x.0 x.1 (pos 0) w) (λ _. m) idle) n
-      (follows-then g code at [] w (renewed o op_line (value_of h r) h.set x.0 (pos 0) w) (stored h.set x.0 x.1 (pos 0)) (λ _. at + length rc) (λ z. z ∷ []) (λ _. at + length rc + 1) idle
-      (codes-renewed g code o op_line (value_of h r) (expression_code h r) (expression_depth r) (value-follows h room code r) x.0 at [] w (has_front code at rc _ has) (omega (arith, free)))
-      (λ z u. follows-step g code (Assign x.0 0 x.1) (at + length rc) (z ∷ []) u (stored h.set x.0 x.1 (pos 0) z u) (λ _. at + length rc + 1) idle k.0 refl))
+      subst (λ (m : ℕ). Follows g code at below w (put_at o op_line (value_of h r) h.set x.0 x.1 (pos 0) w) (λ _. m) (idle below)) n
+      (follows-then g code at below w (renewed o op_line (value_of h r) h.set x.0 (pos 0) w) (stored h.set x.0 x.1 (pos 0)) (λ _. at + length rc) (λ z. z ∷ below) (λ _. at + length rc + 1) (idle below)
+      (codes-renewed g code o op_line (value_of h r) (expression_code h r) (expression_depth r) (value-follows h room code r) x.0 at below w (has_front code at rc _ has) (omega (arith, free)))
+      (λ z u. follows-step g code (Assign x.0 0 x.1) (at + length rc) (z ∷ below) u (stored h.set x.0 x.1 (pos 0) z u) (λ _. at + length rc + 1) (idle below) k.0 refl))
 
   -- one more or one less, whatever is made of it
   steps : (by : Kind) (op_line : ℕ) (is_before : Bool) (x : Variable × ℕ) → Acts (adjusted h.set x.0 by op_line x.1 is_before (pos 0)) (Increment x.0 by op_line x.1 ∷ []) 0
-  steps by op_line true x at w has free = follows-step g code (Increment x.0 by op_line x.1) at [] w (adjusted h.set x.0 by op_line x.1 true (pos 0) w) (λ _. at + 1) idle has.0 refl
+  steps by op_line true x at w has free = follows-step g code (Increment x.0 by op_line x.1) at below w (adjusted h.set x.0 by op_line x.1 true (pos 0) w) (λ _. at + 1) (idle below) has.0 refl
   steps by op_line false x at w has free =
-      follows-step g code (Increment x.0 by op_line x.1) at [] w (adjusted h.set x.0 by op_line x.1 false (pos 0) w) (λ _. at + 1) idle has.0
-      (adjusted-alike h.set x.0 by op_line x.1 (pos 0) w (λ u. Gives (GoesTo (at + 1) []) u []))
+      follows-step g code (Increment x.0 by op_line x.1) at below w (adjusted h.set x.0 by op_line x.1 false (pos 0) w) (λ _. at + 1) (idle below) has.0
+      (adjusted-alike h.set x.0 by op_line x.1 (pos 0) w (λ u. Gives (GoesTo (at + 1) below) u []))
 
   -- a word under another name
   acts-as : (word other : World → Ran ℤ) (c : List Instr) (d e : ℕ) → ((w : World) → word w ≡ other w) → d ≤ e → Acts word c d → Acts other c e
   acts-as word other c d e same le f at w has free =
-      subst (λ (r : Ran ℤ). Follows g code at [] w r (λ _. at + length c) idle) (same w) (f at w has (omega (arith, le, free)))
+      subst (λ (r : Ran ℤ). Follows g code at below w r (λ _. at + length c) (idle below)) (same w) (f at w has (omega (arith, le, free)))
 
   -- an assignment
   assignment-acts : (e : ExprTree) (op : Token) (r : ExprTree) (o : Option (Variable × ℕ)) → named_variable h e ≡ o →

@@ -129,10 +129,10 @@ prefix-made h a d b op number old new ea ed ew never en =
     ∙ ap (λ l. l ++ old) (sym (prefix-is h (view b.value) op)) ∙ ap (λ x. expression_code h (view x) ++ old) (sym ea)
 
 -- `pvPut`: its instruction, and then the place.
-pub put-made : (h : Here) (e : ExprTree) (old mid new : List Instr) → mid ≡ put_instr h e ∷ old → new ≡ place_code h None e ++ mid
-    → new ≡ put_target_code h e ++ old
-put-made h e old mid new em en =
-    en ∙ ap (λ l. place_code h None e ++ l) em ∙ sym (append_assoc (place_code h None e) (put_instr h e ∷ []) old) ∙ ap (λ l. l ++ old) (sym (put-cut h e))
+pub put-made : (h : Here) (async : Bool) (e : ExprTree) (old mid new : List Instr) → mid ≡ put_instr h async e ∷ old → new ≡ place_code h None e ++ mid
+    → new ≡ put_target_code h async e ++ old
+put-made h async e old mid new em en =
+    en ∙ ap (λ l. place_code h None e ++ l) em ∙ sym (append_assoc (place_code h None e) (put_instr h async e ∷ []) old) ∙ ap (λ l. l ++ old) (sym (put-cut h async e))
 
 -- a call that asks: its instruction, and then the place
 pub ask-made : (h : Here) (query : Query) (e : ExprTree) (old mid new : List Instr) → mid ≡ ask_instr h query e ∷ old → new ≡ place_code h None e ++ mid

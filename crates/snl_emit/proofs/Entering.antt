@@ -19,34 +19,34 @@ use Rattle.snl_meaning.proofs.Following.{has_front, has_back, Follows, follows-s
 use Rattle.snl_emit.proofs.EffectCode.{idle}
 use Rattle.snl_emit.proofs.ValueCode.{value-follows}
 
-module _ (h : Here) (room : ℕ) (code : List Instr) where
+module _ (h : Here) (room : ℕ) (code : List Instr) (below : List ℤ) where
   -- what the code runs with
   abbrev g : PieceContext
   g = context_of h room
 
   -- code does what a word does, and no operand is left
   abbrev Does : (World → Ran (Unit {0})) → List Instr → Type 0
-  Does word c = (at : ℕ) (w : World) → HasAt code at c → Follows g code at [] w (word w) (λ _. at + length c) idle
+  Does word c = (at : ℕ) (w : World) → HasAt code at c → Follows g code at below w (word w) (λ _. at + length c) (idle below)
 
   -- nothing
   does-nothing : Does (λ w. Gives tt w []) []
   does-nothing at w has =
       let e : at ≡ at + 0 = omega arith in
-      follows-to g code at [] w (Gives tt w []) at (at + 0) idle e (follows-here g code tt at [] w (λ _. at) idle (quiet-none g code at [] w))
+      follows-to g code at below w (Gives tt w []) at (at + 0) (idle below) e (follows-here g code tt at below w (λ _. at) (idle below) (quiet-none g code at below w))
 
   -- one thing and then another
   does-then : {A : Type 0} (word : World → Ran A) (go : World → Ran (Unit {0})) (c c' : List Instr) →
-      ((at : ℕ) (w : World) → HasAt code at c → Follows g code at [] w (word w) (λ _. at + length c) idle) → Does go c' → Does (λ w. then_do (word w) (λ _ u. go u)) (c ++ c')
+      ((at : ℕ) (w : World) → HasAt code at c → Follows g code at below w (word w) (λ _. at + length c) (idle below)) → Does go c' → Does (λ w. then_do (word w) (λ _ u. go u)) (c ++ c')
   does-then word go c c' f k at w has =
       let e : at + length c + length c' ≡ at + length (c ++ c') = omega (arith, length-append c c') in
-      follows-to g code at [] w (then_do (word w) (λ _ u. go u)) (at + length c + length c') (at + length (c ++ c')) idle e
-      (follows-then g code at [] w (word w) (λ _ u. go u) (λ _. at + length c) idle (λ _. at + length c + length c') idle
+      follows-to g code at below w (then_do (word w) (λ _ u. go u)) (at + length c + length c') (at + length (c ++ c')) (idle below) e
+      (follows-then g code at below w (word w) (λ _ u. go u) (λ _. at + length c) (idle below) (λ _. at + length c + length c') (idle below)
       (f at w (has_front code at c c' has)) (λ _ u. k (at + length c) u (has_back code at c c' has)))
 
   -- a variable is 0
   clears : (o : Option Variable) → Does (cleared_maybe h.set o) (cleared_code o)
   clears None at w has = does-nothing at w has
-  clears (Some v) at w has = follows-step g code (Clear v) at [] w (cleared h.set v w) (λ _. at + 1) idle has.0 refl
+  clears (Some v) at w has = follows-step g code (Clear v) at below w (cleared h.set v w) (λ _. at + 1) (idle below) has.0 refl
 
   -- each variable is 0
   all-clear : (ds : List DeclaratorTree) → Does (all_cleared h ds) (all_cleared_code h ds)
@@ -55,33 +55,33 @@ module _ (h : Here) (room : ℕ) (code : List Instr) where
 
   -- the instruction that stores what a variable begins with
   begins-step : (o : Option Variable) (line k at : ℕ) (z : ℤ) (u : World) →
-      done_by g (begun_code o line k) at (z ∷ []) u ≡ then_do (begun h.set o line k z u) (λ v x. Gives (GoesTo (at + 1) []) x [])
+      done_by g (begun_code o line k) at (z ∷ below) u ≡ then_do (begun h.set o line k z u) (λ v x. Gives (GoesTo (at + 1) below) x [])
   begins-step None line k at z u = refl
   begins-step (Some v) line k at z u = by (nat_lt k v.size)
     where
-      by : (b : Bool) → done_by g (if b then Assign v k line else Drop) at (z ∷ []) u
-          ≡ then_do (if b then stored h.set v line (pos k) z u else Gives z u []) (λ x y. Gives (GoesTo (at + 1) []) y [])
+      by : (b : Bool) → done_by g (if b then Assign v k line else Drop) at (z ∷ below) u
+          ≡ then_do (if b then stored h.set v line (pos k) z u else Gives z u []) (λ x y. Gives (GoesTo (at + 1) below) y [])
       by true = refl
       by false = refl
 
   -- one value
-  begins : (d : DeclaratorTree) (k : ℕ) (e : ExprTree) → values_depth (e ∷ []) ≤ room → (at : ℕ) (w : World) →
+  begins : (d : DeclaratorTree) (k : ℕ) (e : ExprTree) → length below + values_depth (e ∷ []) ≤ room → (at : ℕ) (w : World) →
       HasAt code at (expression_code h e ++ begun_code (variable_for h d) d.name.pos.line k ∷ []) →
-      Follows g code at [] w (then_do (value_of h e w) (begun h.set (variable_for h d) d.name.pos.line k))
-      (λ _. at + length (expression_code h e ++ begun_code (variable_for h d) d.name.pos.line k ∷ [])) idle
+      Follows g code at below w (then_do (value_of h e w) (begun h.set (variable_for h d) d.name.pos.line k))
+      (λ _. at + length (expression_code h e ++ begun_code (variable_for h d) d.name.pos.line k ∷ [])) (idle below)
   begins d k e free at w has =
       let ec = expression_code h e in
       let i = begun_code (variable_for h d) d.name.pos.line k in
       let there = has_back code at ec (i ∷ []) has in
       let n : at + length ec + 1 ≡ at + length (ec ++ i ∷ []) = omega (arith, length-append ec (i ∷ [])) in
-      follows-to g code at [] w (then_do (value_of h e w) (begun h.set (variable_for h d) d.name.pos.line k)) (at + length ec + 1) (at + length (ec ++ i ∷ [])) idle n
-      (follows-then g code at [] w (value_of h e w) (begun h.set (variable_for h d) d.name.pos.line k) (λ _. at + length ec) (λ z. z ∷ []) (λ _. at + length ec + 1) idle
-      (value-follows h room code e at [] w (has_front code at ec (i ∷ []) has) (omega (arith, free)))
-      (λ z u. follows-step g code i (at + length ec) (z ∷ []) u (begun h.set (variable_for h d) d.name.pos.line k z u) (λ _. at + length ec + 1) idle there.0
+      follows-to g code at below w (then_do (value_of h e w) (begun h.set (variable_for h d) d.name.pos.line k)) (at + length ec + 1) (at + length (ec ++ i ∷ [])) (idle below) n
+      (follows-then g code at below w (value_of h e w) (begun h.set (variable_for h d) d.name.pos.line k) (λ _. at + length ec) (λ z. z ∷ below) (λ _. at + length ec + 1) (idle below)
+      (value-follows h room code e at below w (has_front code at ec (i ∷ []) has) (omega (arith, free)))
+      (λ z u. follows-step g code i (at + length ec) (z ∷ below) u (begun h.set (variable_for h d) d.name.pos.line k z u) (λ _. at + length ec + 1) (idle below) there.0
       (begins-step (variable_for h d) d.name.pos.line k (at + length ec) z u)))
 
   -- the values of one variable
-  begins-with : (d : DeclaratorTree) (k : ℕ) (es : List ExprTree) → values_depth es ≤ room → Does (begun_with h d k es) (begun_with_code h (variable_for h d) d.name.pos.line k es)
+  begins-with : (d : DeclaratorTree) (k : ℕ) (es : List ExprTree) → length below + values_depth es ≤ room → Does (begun_with h d k es) (begun_with_code h (variable_for h d) d.name.pos.line k es)
   begins-with d k [] free = does-nothing
   begins-with d k (e ∷ es) free =
       does-then (λ w. then_do (value_of h e w) (begun h.set (variable_for h d) d.name.pos.line k)) (begun_with h d (suc k) es)
@@ -89,12 +89,12 @@ module _ (h : Here) (room : ℕ) (code : List Instr) where
       (begins d k e (omega (arith, free))) (begins-with d (suc k) es (omega (arith, free)))
 
   -- the values of all variables
-  all-begin : (ds : List DeclaratorTree) → entered_depth ds ≤ room → Does (all_begun h ds) (all_begun_code h ds)
+  all-begin : (ds : List DeclaratorTree) → length below + entered_depth ds ≤ room → Does (all_begun h ds) (all_begun_code h ds)
   all-begin [] free = does-nothing
   all-begin (d ∷ ds) free =
       does-then (begun_with h d 0 (values_of d.initial)) (all_begun h ds) (begun_with_code h (variable_for h d) d.name.pos.line 0 (values_of d.initial)) (all_begun_code h ds)
       (begins-with d 0 (values_of d.initial) (omega (arith, free))) (all-begin ds (omega (arith, free)))
 
   -- all of them
-  pub enters : (ds : List DeclaratorTree) → entered_depth ds ≤ room → Does (entered h ds) (entered_code h ds)
+  pub enters : (ds : List DeclaratorTree) → length below + entered_depth ds ≤ room → Does (entered h ds) (entered_code h ds)
   enters ds free = does-then (all_cleared h ds) (all_begun h ds) (all_cleared_code h ds) (all_begun_code h ds) (all-clear ds) (all-begin ds free)

@@ -18,28 +18,28 @@ use Rattle.snl_emit.proofs.ValueCode.{value-follows}
 use Rattle.snl_emit.proofs.EffectCode.{idle, effect-follows}
 
 -- where a statement leads: on after it, out of the loop, to where the loop goes on, or to another state
-abbrev pub led : PieceContext → List Instr → ℕ → ℕ → ℕ → Way → World → ℕ → Ran Exit
-led g code after out again Done u = run_at g code after [] u
-led g code after out again Broken u = run_at g code out [] u
-led g code after out again Continued u = run_at g code again [] u
-led g code after out again (Left state) u = λ k. Gives (LeftFor state) u []
+abbrev pub led : PieceContext → List Instr → List ℤ → ℕ → ℕ → ℕ → Way → World → ℕ → Ran Exit
+led g code below after out again Done u = run_at g code after below u
+led g code below after out again Broken u = run_at g code out below u
+led g code below after out again Continued u = run_at g code again below u
+led g code below after out again (Left state) u = λ k. Gives (LeftFor state) u []
 
-module _ (g : PieceContext) (code : List Instr) where
+module _ (g : PieceContext) (code : List Instr) (below : List ℤ) where
   -- the addresses under other names
   pub renamed : (at : ℕ) (w : World) (r : Ran Way) (n n' o o' a a' : ℕ) → n ≡ n' → o ≡ o' → a ≡ a' →
-      Continues (run_at g code at [] w) r (led g code n o a) → Continues (run_at g code at [] w) r (led g code n' o' a')
+      Continues (run_at g code at below w) r (led g code below n o a) → Continues (run_at g code at below w) r (led g code below n' o' a')
   renamed at w r n n' o o' a a' e f d h =
-      subst (λ (x : ℕ). Continues (run_at g code at [] w) r (led g code n' o' x)) d
-      (subst (λ (x : ℕ). Continues (run_at g code at [] w) r (led g code n' x a)) f (subst (λ (x : ℕ). Continues (run_at g code at [] w) r (led g code x o a)) e h))
+      subst (λ (x : ℕ). Continues (run_at g code at below w) r (led g code below n' o' x)) d
+      (subst (λ (x : ℕ). Continues (run_at g code at below w) r (led g code below n' x a)) f (subst (λ (x : ℕ). Continues (run_at g code at below w) r (led g code below x o a)) e h))
 
   -- nothing is left to do
-  pub continues-done : (at : ℕ) (u : World) (to out again : ℕ) → at ≡ to → Continues (run_at g code at [] u) (Gives Done u []) (led g code to out again)
+  pub continues-done : (at : ℕ) (u : World) (to out again : ℕ) → at ≡ to → Continues (run_at g code at below u) (Gives Done u []) (led g code below to out again)
   continues-done at u to out again is =
-      continues-here g code Done at [] u at [] (led g code to out again) (quiet-none g code at [] u) (ap (λ n. run_at g code n [] u) (sym is))
+      continues-here g code Done at below u at below (led g code below to out again) (quiet-none g code at below u) (ap (λ n. run_at g code n below u) (sym is))
 
   -- what is done goes on to another address
-  pub goes_on_to : (at : ℕ) (w : World) (r : Ran Way) (n n' o a : ℕ) → ((u : World) → Quiet g code n [] u n' []) →
-      Continues (run_at g code at [] w) r (led g code n o a) → Continues (run_at g code at [] w) r (led g code n' o a)
+  pub goes_on_to : (at : ℕ) (w : World) (r : Ran Way) (n n' o a : ℕ) → ((u : World) → Quiet g code n below u n' below) →
+      Continues (run_at g code at below w) r (led g code below n o a) → Continues (run_at g code at below w) r (led g code below n' o a)
   goes_on_to at w (Gives Done u text) n n' o a on f = record { by = λ k. let b = (on u).by k in let j = f.by b.0 in (j.0, j.1 ∙ ap (also text) b.1) }
   goes_on_to at w (Gives Broken u text) n n' o a on f = record { by = λ k. f.by k }
   goes_on_to at w (Gives Continued u text) n n' o a on f = record { by = λ k. f.by k }
@@ -53,56 +53,56 @@ module _ (g : PieceContext) (code : List Instr) where
 
   -- what follows a statement
   pub goes_on : (go : World → Ran Way) (behind away elsewhere after out again : ℕ) → away ≡ out → elsewhere ≡ again →
-      ((u : World) → Continues (run_at g code behind [] u) (go u) (led g code after out again)) →
-      (way : Way) (u : World) → Continues (led g code behind away elsewhere way u) (if_done go way u) (led g code after out again)
+      ((u : World) → Continues (run_at g code behind below u) (go u) (led g code below after out again)) →
+      (way : Way) (u : World) → Continues (led g code below behind away elsewhere way u) (if_done go way u) (led g code below after out again)
   goes_on go behind away elsewhere after out again is so f Done u = f u
   goes_on go behind away elsewhere after out again is so f Broken u =
-      continues-here g code Broken away [] u away [] (led g code after out again) (quiet-none g code away [] u) (ap (λ n. run_at g code n [] u) (sym is))
+      continues-here g code Broken away below u away below (led g code below after out again) (quiet-none g code away below u) (ap (λ n. run_at g code n below u) (sym is))
   goes_on go behind away elsewhere after out again is so f Continued u =
-      continues-here g code Continued elsewhere [] u elsewhere [] (led g code after out again) (quiet-none g code elsewhere [] u) (ap (λ n. run_at g code n [] u) (sym so))
-  goes_on go behind away elsewhere after out again is so f (Left state) u = left-for state u (led g code after out again) refl
+      continues-here g code Continued elsewhere below u elsewhere below (led g code below after out again) (quiet-none g code elsewhere below u) (ap (λ n. run_at g code n below u) (sym so))
+  goes_on go behind away elsewhere after out again is so f (Left state) u = left-for state u (led g code below after out again) refl
 
 -- one of two, after the jump that chooses
-module _ (g : PieceContext) (code : List Instr) {A : Type 0} (test second : ℕ) (held failed : World → Ran A) (onward : A → World → ℕ → Ran Exit)
-    (jump : (z : ℤ) (w : World) → Quiet g code test (z ∷ []) w (if is_zero z then second else test + 1) [])
-    (h : (u : World) → Continues (run_at g code (test + 1) [] u) (held u) onward) (f : (u : World) → Continues (run_at g code second [] u) (failed u) onward) where
+module _ (g : PieceContext) (code : List Instr) (below : List ℤ) {A : Type 0} (test second : ℕ) (held failed : World → Ran A) (onward : A → World → ℕ → Ran Exit)
+    (jump : (z : ℤ) (w : World) → Quiet g code test (z ∷ below) w (if is_zero z then second else test + 1) below)
+    (h : (u : World) → Continues (run_at g code (test + 1) below u) (held u) onward) (f : (u : World) → Continues (run_at g code second below u) (failed u) onward) where
   -- it goes on as the chosen one
-  pub continues-either : (z : ℤ) (u : World) → Continues (run_at g code test (z ∷ []) u) (either held failed z u) onward
+  pub continues-either : (z : ℤ) (u : World) → Continues (run_at g code test (z ∷ below) u) (either held failed z u) onward
   continues-either z u = by (is_zero z) (jump z u)
     where
-      by : (b : Bool) → Quiet g code test (z ∷ []) u (if b then second else test + 1) [] → Continues (run_at g code test (z ∷ []) u) (if b then failed u else held u) onward
-      by true q = continues-quiet g code test (z ∷ []) u second [] (failed u) onward q (f u)
-      by false q = continues-quiet g code test (z ∷ []) u (test + 1) [] (held u) onward q (h u)
+      by : (b : Bool) → Quiet g code test (z ∷ below) u (if b then second else test + 1) below → Continues (run_at g code test (z ∷ below) u) (if b then failed u else held u) onward
+      by true q = continues-quiet g code test (z ∷ below) u second below (failed u) onward q (f u)
+      by false q = continues-quiet g code test (z ∷ below) u (test + 1) below (held u) onward q (h u)
 
-module _ (h : Here) (room : ℕ) (code : List Instr) where
+module _ (h : Here) (room : ℕ) (code : List Instr) (below : List ℤ) where
   -- what the code runs with
   abbrev g : PieceContext
   g = context_of h room
 
   -- a condition that may be missing
-  pub tests : (o : Option ExprTree) (at : ℕ) (w : World) → HasAt code at (test_code h o) → maybe_depth o ≤ room →
-      Follows g code at [] w (held_by h o w) (λ (b : Bool). if b then at + length (test_code h o) else at + length (test_code h o) + 1) idle
+  pub tests : (o : Option ExprTree) (at : ℕ) (w : World) → HasAt code at (test_code h o) → length below + maybe_depth o ≤ room →
+      Follows g code at below w (held_by h o w) (λ (b : Bool). if b then at + length (test_code h o) else at + length (test_code h o) + 1) (idle below)
   tests None at w has free = let e : at ≡ at + 0 = omega arith in
-      follows-here g code true at [] w _ idle (subst (λ n. Quiet g code at [] w n []) e (quiet-none g code at [] w))
+      follows-here g code true at below w _ (idle below) (subst (λ n. Quiet g code at below w n below) e (quiet-none g code at below w))
   tests (Some c) at w has free =
       let cc' = expression_code h c in
       let k = has_back code at cc' (JumpIfZero 1 ∷ []) has in
       let behind : at + length cc' + 1 ≡ at + length (cc' ++ JumpIfZero 1 ∷ []) = omega (arith, length-append cc' (JumpIfZero 1 ∷ [])) in
       let beyond : at + length cc' + 1 + 1 ≡ at + length (cc' ++ JumpIfZero 1 ∷ []) + 1 = omega (arith, behind) in
-      follows-then g code at [] w (value_of h c w) holds (λ _. at + length cc') (λ z. z ∷ []) _ idle
-      (value-follows h room code c at [] w (has_front code at cc' _ has) (omega (arith, free)))
-      (λ z u. by z u _ _ (is_zero z) (quiet-if_zero g code 1 (at + length cc') _ _ z [] u k.0 beyond behind))
+      follows-then g code at below w (value_of h c w) holds (λ _. at + length cc') (λ z. z ∷ below) _ (idle below)
+      (value-follows h room code c at below w (has_front code at cc' _ has) (omega (arith, free)))
+      (λ z u. by z u _ _ (is_zero z) (quiet-if_zero g code 1 (at + length cc') _ _ z below u k.0 beyond behind))
     where
-      by : (z : ℤ) (u : World) (on beyond : ℕ) (b : Bool) → Quiet g code (at + length (expression_code h c)) (z ∷ []) u (if b then beyond else on) [] →
-          Follows g code (at + length (expression_code h c)) (z ∷ []) u (Gives (if b then false else true) u []) (λ (x : Bool). if x then on else beyond) idle
-      by z u on beyond true q = follows-here g code false (at + length (expression_code h c)) (z ∷ []) u (λ (x : Bool). if x then on else beyond) idle q
-      by z u on beyond false q = follows-here g code true (at + length (expression_code h c)) (z ∷ []) u (λ (x : Bool). if x then on else beyond) idle q
+      by : (z : ℤ) (u : World) (on beyond : ℕ) (b : Bool) → Quiet g code (at + length (expression_code h c)) (z ∷ below) u (if b then beyond else on) below →
+          Follows g code (at + length (expression_code h c)) (z ∷ below) u (Gives (if b then false else true) u []) (λ (x : Bool). if x then on else beyond) (idle below)
+      by z u on beyond true q = follows-here g code false (at + length (expression_code h c)) (z ∷ below) u (λ (x : Bool). if x then on else beyond) (idle below) q
+      by z u on beyond false q = follows-here g code true (at + length (expression_code h c)) (z ∷ below) u (λ (x : Bool). if x then on else beyond) (idle below) q
 
   -- an expression for what it does, which may be missing
-  pub acts-maybe : (o : Option ExprTree) (at : ℕ) (w : World) → HasAt code at (dropped_code h o) → maybe_depth o ≤ room →
-      Follows g code at [] w (evaluated h o w) (λ _. at + length (dropped_code h o)) idle
-  acts-maybe None at w has free = let e : at ≡ at + 0 = omega arith in follows-here g code tt at [] w _ idle (subst (λ n. Quiet g code at [] w n []) e (quiet-none g code at [] w))
+  pub acts-maybe : (o : Option ExprTree) (at : ℕ) (w : World) → HasAt code at (dropped_code h o) → length below + maybe_depth o ≤ room →
+      Follows g code at below w (evaluated h o w) (λ _. at + length (dropped_code h o)) (idle below)
+  acts-maybe None at w has free = let e : at ≡ at + 0 = omega arith in follows-here g code tt at below w _ (idle below) (subst (λ n. Quiet g code at below w n below) e (quiet-none g code at below w))
   acts-maybe (Some e) at w has free =
       let after = at + length (effect_code h e) in
-      follows-then g code at [] w (value_of h e w) dropped (λ _. after) idle (λ _. after) idle (effect-follows h room code e at w has free)
-      (λ z u. follows-here g code tt after [] u (λ _. after) idle (quiet-none g code after [] u))
+      follows-then g code at below w (value_of h e w) dropped (λ _. after) (idle below) (λ _. after) (idle below) (effect-follows h room code below e at w has free)
+      (λ z u. follows-here g code tt after below u (λ _. after) (idle below) (quiet-none g code after below u))

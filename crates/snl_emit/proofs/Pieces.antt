@@ -75,8 +75,8 @@ way-over (Left state) u text = tt
 block-runs : (h : Here) (code : List Instr) (room start : ℕ) (b : BlockTree) → HasAt code start (block_piece h b) → block_depth b ≤ room → (w : World) →
     run_of (context_of h room) code start w ≡ then_do (block_effect h b w) leads_to
 block-runs h code room start b has deep w =
-    runs (context_of h room) code start w (block_effect h b w) led_to way-over (led (context_of h room) code last (last + 0) (last + 0)) there
-    (block-follows h room code b 0 0 start w (has_front code start (block_code h 0 0 b) (End ∷ []) has) deep)
+    runs (context_of h room) code start w (block_effect h b w) led_to way-over (led (context_of h room) code [] last (last + 0) (last + 0)) there
+    (block-follows h room code [] b 0 0 start w (has_front code start (block_code h 0 0 b) (End ∷ []) has) (omega (arith, deep)))
   where
     last : ℕ
     last = start + length (block_code h 0 0 b)
@@ -87,7 +87,7 @@ block-runs h code room start b has deep w =
     here' : slice_get code (last + 0) ≡ Some End
     here' = let e : last ≡ last + 0 = omega arith in subst (λ n. slice_get code n ≡ Some End) e here
 
-    there : (way : Way) (u : World) → led (context_of h room) code last (last + 0) (last + 0) way u 1 ≡ Gives (led_to way) u []
+    there : (way : Way) (u : World) → led (context_of h room) code [] last (last + 0) (last + 0) way u 1 ≡ Gives (led_to way) u []
     there Done u = ends (context_of h room) code last [] u here
     there Broken u = ends (context_of h room) code (last + 0) [] u here'
     there Continued u = ends (context_of h room) code (last + 0) [] u here'

@@ -80,29 +80,30 @@ step-cut h (conditional c a b) by n is_before = refl
 step-cut h (assignment e t r) by n is_before = refl
 
 -- `pvPut` of a name
-named-put : (s : Sense) (x : Token) → at_name_code s x (λ v y. Put v ∷ []) (Push (pos 0) ∷ []) ≡ old_code s None ++ put_alone s ∷ []
-named-put (Varies v) x = refl
-named-put (Stands z) x = refl
+named-put : (async : Bool) (s : Sense) (x : Token) → at_name_code s x (λ v y. Put v async ∷ []) (Push (pos 0) ∷ []) ≡ old_code s None ++ put_alone async s ∷ []
+named-put async (Varies v) x = refl
+named-put async (Stands z) x = refl
 
 -- the same of an element
-element-put : (s : Sense) (line : ℕ) → at_code s line (λ v. PutAt v ∷ []) (Push (pos 0) ∷ []) ≡ checked_code s line None ++ put_element s ∷ []
-element-put (Varies v) line = refl
-element-put (Stands z) line = refl
+element-put : (async : Bool) (s : Sense) (line : ℕ) → at_code s line (λ v. PutAt v async ∷ []) (Push (pos 0) ∷ []) ≡ checked_code s line None ++ put_element async s ∷ []
+element-put async (Varies v) line = refl
+element-put async (Stands z) line = refl
 
 -- `pvPut` at any target
-pub put-cut : (h : Here) (e : ExprTree) → target_code h e (λ v x. Put v ∷ []) (λ v x. PutAt v ∷ []) (Push (pos 0) ∷ []) ≡ place_code h None e ++ put_instr h e ∷ []
-put-cut h (parenthesized e) = put-cut h e
-put-cut h (named x) = named-put (sense_of h x) x
-put-cut h (element x b e) =
-    ap (λ l. expression_code h e ++ l) (element-put (sense_of h x) b.pos.line)
-    ∙ sym (append_assoc (expression_code h e) (checked_code (sense_of h x) b.pos.line None) (put_element (sense_of h x) ∷ []))
-put-cut h (constant t) = refl
-put-cut h (call f all) = refl
-put-cut h (postfix e t) = refl
-put-cut h (prefix t e) = refl
-put-cut h (chain e rest) = refl
-put-cut h (conditional c a b) = refl
-put-cut h (assignment e t r) = refl
+pub put-cut : (h : Here) (async : Bool) (e : ExprTree) →
+    target_code h e (λ v x. Put v async ∷ []) (λ v x. PutAt v async ∷ []) (Push (pos 0) ∷ []) ≡ place_code h None e ++ put_instr h async e ∷ []
+put-cut h async (parenthesized e) = put-cut h async e
+put-cut h async (named x) = named-put async (sense_of h x) x
+put-cut h async (element x b e) =
+    ap (λ l. expression_code h e ++ l) (element-put async (sense_of h x) b.pos.line)
+    ∙ sym (append_assoc (expression_code h e) (checked_code (sense_of h x) b.pos.line None) (put_element async (sense_of h x) ∷ []))
+put-cut h async (constant t) = refl
+put-cut h async (call f all) = refl
+put-cut h async (postfix e t) = refl
+put-cut h async (prefix t e) = refl
+put-cut h async (chain e rest) = refl
+put-cut h async (conditional c a b) = refl
+put-cut h async (assignment e t r) = refl
 
 -- what is asked by a name
 named-ask : (s : Sense) (x : Token) (query : Query) (flag : ℕ) → at_name_code s x (λ v y. AskLink query v ∷ []) (Ask query flag ∷ []) ≡ old_code s None ++ ask_alone s query flag ∷ []

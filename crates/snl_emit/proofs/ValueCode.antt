@@ -7,6 +7,7 @@ use Rattle.snl_syntax.specs.Expressions.{ExprTree, TermList, ArgumentList, const
 use Rattle.snl_meaning.specs.declared.instrs.Instr.{Instr}
 use Rattle.snl_meaning.specs.declared.instrs.Instr.TheVariants.{Push, Get, Adjust, AdjustAt, Print, Wait, Put, PutAt, Ask, AskLink, AskElement}
 use Rattle.snl_meaning.specs.declared.instrs.Variable.{Variable}
+use Rattle.snl_resolve.specs.Calls.{has_async}
 use Rattle.snl_emit.specs.ExpressionCode.{CodeOn, expression_code, lead_code, terms_code, target_code, values_code, print_code, wait_code, put_call_code, ask_flag_code, ask_code, expression_depth, terms_depth, target_depth, values_depth, print_depth, wait_depth, put_depth, joint_code, joint_depth, at_code, get_code, put_code, put_at_code, held_depth, count_values}
 use Rattle.snl_meaning.specs.Names.{Here, sense_of, format_number, flag_number}
 use Rattle.snl_meaning.specs.Ran.{Ran, Gives, then_do}
@@ -220,10 +221,11 @@ module _ (h : Here) (room : ℕ) (code : List Instr) where
     put-follows no_arguments = pushes-zero 1 (omega arith)
     put-follows (text t rest) = pushes-zero 1 (omega arith)
     put-follows (value e rest) =
-        target-follows e (λ v x. put_to h.set v) (λ v x. put_element h.set v) (gives (pos 0)) (λ v x. Put v ∷ []) (λ v x. PutAt v ∷ [])
+        let async = has_async rest in
+        target-follows e (λ v x. put_to async h.set v) (λ v x. put_element async h.set v) (gives (pos 0)) (λ v x. Put v async ∷ []) (λ v x. PutAt v async ∷ [])
         (Push (pos 0) ∷ []) 1 1 (omega arith)
-        (λ x v. codes-pushes g code (Put v) (put_to h.set v) (λ at s w. refl) 1 (omega arith))
-        (λ x v. on-one g code (PutAt v) (put_element h.set v) (λ at x s w. refl) 1) (pushes-zero 1 (omega arith))
+        (λ x v. codes-pushes g code (Put v async) (put_to async h.set v) (λ at s w. refl) 1 (omega arith))
+        (λ x v. on-one g code (PutAt v async) (put_element async h.set v) (λ at x s w. refl) 1) (pushes-zero 1 (omega arith))
 
     -- a call that asks
     ask-follows : (all : ArgumentList) (query : Query) → Codes g code (ask_of h all query) (ask_code h all query) (put_depth all)

@@ -22,6 +22,7 @@ use Rattle.snl_meaning.specs.declared.operators.Sign.{Sign}
 use Rattle.snl_meaning.specs.declared.operators.Sign.TheVariants.{Steps, Alone}
 use Rattle.snl_meaning.specs.Names.{Here, sense_of, format_number}
 use Rattle.snl_meaning.specs.Value.{joint_of, compound_of, sign_of, is_decimal}
+use Rattle.snl_resolve.specs.Calls.{has_async}
 use Rattle.snl_emit.specs.Worth.{of_use, worth_of, worth_or, number_of}
 use Rattle.snl_emit.specs.ExpressionCode.{folded, joint_code, if_code, at_code, get_code, renewed_code, put_code, put_at_code, CodeOn, at_name_code, signed_code, called_code, ask_flag_code, count_values, expression_code, lead_code, terms_code, target_code, print_code, values_code, wait_code, put_call_code, ask_code}
 use Rattle.snl_emit.specs.Size.{sized, expression_size, lead_size, terms_size, arguments_size}
@@ -214,7 +215,7 @@ module _ (h : Here) where
     put-call-short no_arguments = omega arith
     put-call-short (text t rest) = omega arith
     put-call-short (value e rest) =
-        omega (arith, target-short e (λ v x. instr.Put v ∷ []) (λ v x. instr.PutAt v ∷ []) (instr.Push (pos 0) ∷ []) 1 (λ v x. omega arith) (λ v x. omega arith) (omega arith))
+        omega (arith, target-short e (λ v x. instr.Put v (has_async rest) ∷ []) (λ v x. instr.PutAt v (has_async rest) ∷ []) (instr.Push (pos 0) ∷ []) 1 (λ v x. omega arith) (λ v x. omega arith) (omega arith))
 
     -- a call that asks
     ask-short : (all : ArgumentList) (query : Query) → length (ask_code h all query) ≤ arguments_size h.sites all + 1

@@ -44,9 +44,9 @@ sign_code h op is_before e =
 abbrev pub call_code : Here → Token → ArgumentList → List Instr
 call_code h f all = called_code (builtin_of f.text.now) (print_code h all) (wait_code h all) (put_call_code h all) (ask_code h all)
 
--- `pvPut` of a target.
-abbrev pub put_target_code : Here → ExprTree → List Instr
-put_target_code h e = target_code h e (λ v x. Put v ∷ []) (λ v x. PutAt v ∷ []) (Push (pos 0) ∷ [])
+-- `pvPut` of a target, with `ASYNC` or without.
+abbrev pub put_target_code : Here → Bool → ExprTree → List Instr
+put_target_code h async e = target_code h e (λ v x. Put v async ∷ []) (λ v x. PutAt v async ∷ []) (Push (pos 0) ∷ [])
 
 -- A call that asks by a target.
 abbrev pub ask_target_code : Here → Query → ExprTree → List Instr

@@ -13,6 +13,7 @@ use Rattle.snl_meaning.specs.declared.names.Sense.TheVariants.{Varies, Stands}
 use Rattle.snl_resolve.specs.declared.constants.Constant.{Constant}
 use Rattle.snl_resolve.specs.declared.constants.Constant.TheVariants.{Worth}
 use Rattle.snl_resolve.specs.Builtins.{builtin_of}
+use Rattle.snl_resolve.specs.Calls.{has_async}
 use Rattle.snl_resolve.specs.Constants.{joined}
 use Rattle.snl_emit.specs.Worth.{worth_of, worth_or, number_of}
 use Rattle.snl_meaning.specs.Value.{constant_of, joint_of, compound_of, sign_of, is_decimal}
@@ -193,7 +194,7 @@ abbrev mutual
 
   -- `pvPut`: what is done at its target
   pub put_call_code : Here → ArgumentList → List Instr
-  put_call_code h (value e rest) = target_code h e (λ v x. Put v ∷ []) (λ v x. PutAt v ∷ []) (Push (pos 0) ∷ [])
+  put_call_code h (value e rest) = target_code h e (λ v x. Put v (has_async rest) ∷ []) (λ v x. PutAt v (has_async rest) ∷ []) (Push (pos 0) ∷ [])
   put_call_code h _ = Push (pos 0) ∷ []
 
   -- a call that asks: of the link of its target, or of an event flag; without an argument, of all links

@@ -67,22 +67,22 @@ adjust_code h by op_line is_before (named x) = adjust_alone (sense_of h x) by op
 adjust_code h by op_line is_before (element x b e) = adjust_at (sense_of h x) by op_line x.pos.line is_before
 adjust_code h by op_line is_before _ = Push (pos 0)
 
--- `pvPut` of a variable; 0 for a name that is none.
-abbrev pub put_alone : Sense → Instr
-put_alone (Varies v) = Put v
-put_alone (Stands z) = Push (pos 0)
+-- `pvPut` of a variable, with `ASYNC` or without; 0 for a name that is none.
+abbrev pub put_alone : Bool → Sense → Instr
+put_alone async (Varies v) = Put v async
+put_alone async (Stands z) = Push (pos 0)
 
 -- The same of an element, after its subscript.
-abbrev pub put_element : Sense → Instr
-put_element (Varies v) = PutAt v
-put_element (Stands z) = Push (pos 0)
+abbrev pub put_element : Bool → Sense → Instr
+put_element async (Varies v) = PutAt v async
+put_element async (Stands z) = Push (pos 0)
 
 -- The instruction of `pvPut` at a target, after its subscript.
-abbrev pub put_instr : Here → ExprTree → Instr
-put_instr h (parenthesized e) = put_instr h e
-put_instr h (named x) = put_alone (sense_of h x)
-put_instr h (element x b e) = put_element (sense_of h x)
-put_instr h _ = Push (pos 0)
+abbrev pub put_instr : Here → Bool → ExprTree → Instr
+put_instr h async (parenthesized e) = put_instr h async e
+put_instr h async (named x) = put_alone async (sense_of h x)
+put_instr h async (element x b e) = put_element async (sense_of h x)
+put_instr h async _ = Push (pos 0)
 
 -- What a call asks by a name: of the link of a variable, or of an event flag.
 abbrev pub ask_alone : Sense → Query → ℕ → Instr

@@ -12,7 +12,7 @@ use crate::parts::count_values;
 use crate::rows::put;
 use crate::targets::{ask_instr, put_instr};
 use snl_meaning::{Instr, Known, is_decimal};
-use snl_resolve::{Builtin, Query, builtin_of};
+use snl_resolve::{Builtin, Query, builtin_of, has_async};
 use snl_syntax::{Argument, Expr};
 use snl_text::Token;
 use std::alloc::AllocError;
@@ -125,23 +125,28 @@ fn emit_put<'a>(
         ≡ spec.put_call_code (here_of known.now) (list_before arguments.now no_arguments)
         ++ reverse code.old.items) }
 {
-    match arguments.first() {
-        Some(Argument::Value(target)) => emit_put_of(target, known, code),
-        _ => put(code, Instr::Push(0)),
+    match arguments {
+        [first, behind @ ..] => match first {
+            Argument::Value(target) => emit_put_of(target, has_async(behind), known, code),
+            Argument::Text(_) => put(code, Instr::Push(0)),
+        },
+        [] => put(code, Instr::Push(0)),
     }
 }
 
-/// `pvPut` of a target: its subscript, if it has one, and the put.
+/// `pvPut` of a target, with `ASYNC` or without: its subscript, if it has one, and the put.
 #[cycle(emission)]
 fn emit_put_of<'a>(
     target: &Expr<'a>,
+    is_async: bool,
     known: &Known<'_, 'a>,
     code: &mut Vec<Instr>,
 ) -> Result<(), AllocError>
     ensures { OnOk result (reverse code.new.items
-        ≡ form.put_target_code (here_of known.now) (view target.now) ++ reverse code.old.items) }
+        ≡ form.put_target_code (here_of known.now) is_async (view target.now)
+        ++ reverse code.old.items) }
 {
-    put(code, put_instr(target, known))?;
+    put(code, put_instr(target, is_async, known))?;
     emit_place(target, known, None, code)
 }
 

@@ -176,34 +176,34 @@ pub fn adjusted<'a>(
     }
 }
 
-/// `pvPut` of a name.
-fn put_alone(sense: Sense) -> Instr
-    ensures { result ≡ spec.put_alone sense }
+/// `pvPut` of a name, with `ASYNC` or without.
+fn put_alone(sense: Sense, is_async: bool) -> Instr
+    ensures { result ≡ spec.put_alone is_async sense }
 {
     match sense {
-        Sense::Varies(variable) => Instr::Put(variable),
+        Sense::Varies(variable) => Instr::Put { variable, is_async },
         Sense::Stands(_) => Instr::Push(0),
     }
 }
 
 /// The same of an element.
-fn put_element(sense: Sense) -> Instr
-    ensures { result ≡ spec.put_element sense }
+fn put_element(sense: Sense, is_async: bool) -> Instr
+    ensures { result ≡ spec.put_element is_async sense }
 {
     match sense {
-        Sense::Varies(variable) => Instr::PutAt(variable),
+        Sense::Varies(variable) => Instr::PutAt { variable, is_async },
         Sense::Stands(_) => Instr::Push(0),
     }
 }
 
-/// The instruction of `pvPut` at a target, after its subscript.
-pub fn put_instr<'a>(target: &Expr<'a>, known: &Known<'_, 'a>) -> Instr
-    ensures { result ≡ spec.put_instr (here_of known.now) (view target.now) }
+/// The instruction of `pvPut` at a target, after its subscript, with `ASYNC` or without.
+pub fn put_instr<'a>(target: &Expr<'a>, is_async: bool, known: &Known<'_, 'a>) -> Instr
+    ensures { result ≡ spec.put_instr (here_of known.now) is_async (view target.now) }
 {
     match target {
-        Expr::Parenthesized(inner) => put_instr(inner, known),
-        Expr::Named(name) => put_alone(known.sense(*name)),
-        Expr::Element { name, .. } => put_element(known.sense(*name)),
+        Expr::Parenthesized(inner) => put_instr(inner, is_async, known),
+        Expr::Named(name) => put_alone(known.sense(*name), is_async),
+        Expr::Element { name, .. } => put_element(known.sense(*name), is_async),
         _ => Instr::Push(0),
     }
 }

@@ -20,7 +20,7 @@ first_queue l = record { size = l.queue; width = l.count; items = [] }
 
 -- What waits for its start, with these variables in its copies, so many event flags, these channels, ties, homes and links:
 -- no time has passed, variables and buffers are what they begin with, no event flag is set, no channel is connected or
--- valued, nothing is marked, and nothing is queued.
+-- valued, nothing is marked, nothing is queued, and no link waits for the answer to a put.
 abbrev pub first_world : List (List Held) → ℕ → List (List ℕ) → List Tied → List (List (Option ℕ)) → List Link → World
 first_world sets flags names ties homes ls = record {
   time = 0;
@@ -38,6 +38,7 @@ first_world sets flags names ties homes ls = record {
   buffers = flat_map (first_buffer sets) ls;
   marks = map (λ vs. replicate (length ls) false) sets;
   queues = map first_queue ls;
+  waiting = replicate (length ls) false;
 }
 
 -- A program that waits for its start.

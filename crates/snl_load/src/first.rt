@@ -104,6 +104,7 @@ pub fn store_of(
         buffers: first_buffers(alloc, sets, links)?,
         marks: marks_of(alloc, sets, links.len())?,
         queues: queues_of(alloc, links)?,
+        waiting: vec![in alloc; false; links.len()]?,
         awaited: 0,
     })
 }

@@ -43,6 +43,7 @@ module _ (p : ProgramTree) (set other : ℕ) (apart : set ≡ other → ⊥) whe
     fetches = λ place link t w home is. own-changes _ w;
     takes = λ place link t item more w home is has. own-changes _ w;
     flushes = λ link w. refl;
+    waits = λ link w. refl;
     marks = λ marks w same. refl;
     notes = λ t w late. refl;
     spends = λ left w is. refl;

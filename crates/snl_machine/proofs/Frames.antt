@@ -104,5 +104,6 @@ first_frame p ls =
     ∙ ap (λ (x : ℕ). let g = first in record g { words = f.words; flags = x }) (length-replicate (length (flags_in p)) false)
     ∙ ap (λ (x : ℕ). let g = first in record g { words = f.words; flags = f.flags; ups = x; valued = x }) (length-replicate names false)
     ∙ ap (λ (x : List (ℕ × ℕ)). let g = first in record g { words = f.words; flags = f.flags; ups = names; valued = names; queues = x }) (queues-room ls)
+    ∙ ap (λ (x : ℕ). record f { waiting = x; buffers = first.buffers; marks = first.marks }) (length-replicate (length ls) false)
     ∙ ap (λ (x : ℕ). record f { buffers = x; marks = first.marks }) (buffers-many sets ls)
     ∙ ap (λ (x : List ℕ). record f { marks = x }) (marks-many (length ls) sets)

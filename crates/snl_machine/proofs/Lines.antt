@@ -3,7 +3,7 @@ use Rattle.std.proofs.Common.{◌≡◌, ◌∙◌, ◌+◌, ap, sym, subst, ari
 use Rattle.snl_syntax.specs.Programs.{ProgramTree}
 use Rattle.snl_code.specs.Heres.{here_in}
 use Rattle.snl_schedule.specs.declared.events.Event.{Event}
-use Rattle.snl_schedule.specs.declared.events.Event.TheVariants.{Up, Down, Val, Tick, Other}
+use Rattle.snl_schedule.specs.declared.events.Event.TheVariants.{Up, Down, Val, Done, Tick, Other}
 use Rattle.snl_schedule.specs.Event.{applied, is_event_fit}
 use Rattle.snl_links.specs.Links.{Link}
 use Rattle.snl_machine.specs.Ranges.{AllFit, Holds, IsSized, IsTied, PiecesFit, EventsFit, Begins, GoesOn, ReachedHold}
@@ -19,7 +19,8 @@ use Rattle.snl_meaning.specs.World.{SetMemory, World, copy_of}
 use Rattle.snl_meaning.proofs.Keeping.{pieces-keep}
 use Rattle.snl_load.specs.Meaning.{program_meaning}
 use Rattle.snl_load.specs.Places.{channels, ties_in}
-use Rattle.snl_schedule.specs.Arrivals.{are_fit}
+use Rattle.snl_schedule.specs.Arrivals.{are_fit, answered}
+use Rattle.snl_schedule.proofs.Answering.{answers_change_no_more}
 
 module _ (p : ProgramTree) (ls : List Link) (sized : IsSized p) (tied : IsTied p ls) where
   -- what holds before a change holds after it
@@ -39,6 +40,7 @@ module _ (p : ProgramTree) (ls : List Link) (sized : IsSized p) (tied : IsTied p
     fetches = fetched_holds p ls sized tied set;
     takes = taken_holds p ls sized tied set;
     flushes = λ link w holds. (holds.0, holds.1, holds.2, holds.3, none-fits (ties_in p ls) w.queues link holds.4);
+    waits = λ link w holds. holds;
     marks = λ marks w same holds. holds;
     notes = λ t w late holds. holds;
     spends = λ left w is holds. holds;
@@ -71,10 +73,15 @@ module _ (p : ProgramTree) (ls : List Link) (sized : IsSized p) (tied : IsTied p
     after = λ u v w a b holds. b (a holds);
   }
 
+  -- puts that are answered
+  answered-holds : (channel : ℕ) (waits : Bool) (w : World) → Stays w (answered (program_meaning p ls waits) channel w)
+  answered-holds channel waits w holds = subst (Holds p ls) (sym (answers_change_no_more (program_meaning p ls waits) channel w)) holds
+
   -- an event that fits
   event-holds : (event : Event) (w : World) → is_event_fit (length (channels ls)) (ties_in p ls) event ≡ true → (waits : Bool) → Stays w (applied (program_meaning p ls waits) event w)
   event-holds (Up channel) w fit waits holds = holds
-  event-holds (Down channel) w fit waits holds = holds
+  event-holds (Down channel) w fit waits holds = answered-holds channel waits _ holds
+  event-holds (Done channel) w fit waits holds = answered-holds channel waits w holds
   event-holds (Val channel values) w fit waits holds =
       let halves = both-true (nat_lt channel (length (channels ls))) (are_fit channel values.items (ties_in p ls)) fit in
       let v = record w { valued = _ } in

@@ -30,6 +30,7 @@ ticks-steady = record {
   copies = λ x w. omega arith;
   marks = λ x w. omega arith;
   flags = λ x w. omega arith;
+  waits = λ x w. omega arith;
   buffers = λ x w. omega arith;
   queues = λ x w. omega arith;
   opens = λ w. omega arith;

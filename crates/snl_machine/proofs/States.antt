@@ -5,6 +5,7 @@ use Rattle.snl_syntax.specs.Programs.{ProgramTree}
 use Rattle.snl_links.specs.Links.{Link}
 use Rattle.snl_code.specs.Heres.{here_in}
 use Rattle.snl_load.specs.Meaning.{program_meaning}
+use Rattle.snl_schedule.proofs.Answering.{answers_change_no_more}
 use Rattle.snl_machine.specs.Worlds.{last_state}
 use Rattle.snl_machine.proofs.Filling.{received-same}
 use Rattle.snl_machine.proofs.Steady.{IsSteady}
@@ -17,7 +18,8 @@ use Rattle.snl_meaning.specs.World.{SetMemory, World, no_copy, copy_of}
 use Rattle.snl_meaning.proofs.Keeping.{pieces-keep}
 use Rattle.snl_meaning.proofs.Ticks.{Any, any-may}
 use Rattle.snl_schedule.specs.declared.events.Event.{Event}
-use Rattle.snl_schedule.specs.declared.events.Event.TheVariants.{Up, Down, Val, Tick, Other}
+use Rattle.snl_schedule.specs.declared.events.Event.TheVariants.{Up, Down, Val, Done, Tick, Other}
+use Rattle.snl_schedule.specs.Arrivals.{answered}
 use Rattle.snl_schedule.specs.Event.{applied, line_of}
 use Rattle.snl_schedule.specs.Instant.{Program}
 use Rattle.snl_schedule.specs.Refresh.{is_marked, with_mark, copied_to, refreshed_link, refreshed_from}
@@ -57,6 +59,7 @@ module _ (Is : (set state : ℕ) → Type 0) where
     fetches = λ place link t w home is. copy-stays set _ w (λ h. h);
     takes = λ place link t item more w home is has. copy-stays set _ w (λ h. h);
     flushes = λ link w h. h;
+    waits = λ link w h. h;
     marks = λ marks w same h. h;
     notes = λ t w late h. h;
     spends = λ left w is h. h;
@@ -80,10 +83,15 @@ module _ (Is : (set state : ℕ) → Type 0) where
   links-stay set number [] w h = h
   links-stay set number (t ∷ ts) w h = links-stay set (number + 1) ts (refreshed_link set number t w) (link-stays set number t w h)
 
+  -- puts that are answered
+  answered-stays : (q : Program) (channel : ℕ) (w : World) → Stays w (answered q channel w)
+  answered-stays q channel w h = subst AllAre (sym (answers_change_no_more q channel w)) h
+
   -- an event
   pub event-stays : (q : Program) (event : Event) (w : World) → Stays w (applied q event w)
   event-stays q (Up channel) w h = h
-  event-stays q (Down channel) w h = h
+  event-stays q (Down channel) w h = answered-stays q channel _ h
+  event-stays q (Done channel) w h = answered-stays q channel w h
   event-stays q (Val channel values) w h =
       let u = record w { valued = _ } in
       subst (λ (cs : List SetMemory). AllAre (record w { copies = cs })) (sym (received-same channel values.items 0 q.links u).0) h

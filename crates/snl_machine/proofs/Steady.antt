@@ -42,7 +42,7 @@ pub record IsSteady (p : ProgramTree) (R S : World → World → Type 0) : Type 
   pub before : (u v w : World) → R u v → S v w → S u w
   pub after : (u v w : World) → S u v → R v w → S u w
 
--- A relation that any change of the copies, marks, event flags, buffers and queues keeps, and of due times those that pieces and
+-- A relation that any change of the copies, marks, event flags, buffers, queues and links that wait keeps, and of due times those that pieces and
 -- rounds make.
 pub record IsLoose (R S : World → World → Type 0) : Type 0 where
   pub nothing : (w : World) → R w w
@@ -50,6 +50,7 @@ pub record IsLoose (R S : World → World → Type 0) : Type 0 where
   pub copies : (x : List SetMemory) (w : World) → R w (record w { copies = x })
   pub marks : (x : List (List Bool)) (w : World) → R w (record w { marks = x })
   pub flags : (x : List Bool) (w : World) → R w (record w { flags = x })
+  pub waits : (x : List Bool) (w : World) → R w (record w { waiting = x })
   pub buffers : (x : List ℤ) (w : World) → R w (record w { buffers = x })
   pub queues : (x : List Queue) (w : World) → R w (record w { queues = x })
   pub opens : (w : World) → R w (record w { due = None })
@@ -75,6 +76,7 @@ module _ (R S : World → World → Type 0) (s : IsLoose R S) where
     fetches = λ place link t w home is. s.copies _ w;
     takes = λ place link t item more w home is has. let u = with_elements set place item w in s.both w u (with_items link more u) (s.copies _ w) (s.queues _ u);
     flushes = λ link w. s.queues _ w;
+    waits = λ link w. s.waits _ w;
     marks = λ marks w same. s.marks marks w;
     notes = s.notes;
     spends = λ left w is. s.weaker w (record w { ticks = left }) (s.spends left w is);

@@ -11,7 +11,7 @@ use Rattle.snl_meaning.specs.Keeping.{world_after}
 use Rattle.snl_meaning.specs.Ran.{Ran, Gives, Faults, then_do}
 use Rattle.snl_meaning.specs.World.{World}
 use Rattle.snl_schedule.specs.declared.events.Event.{Event}
-use Rattle.snl_schedule.specs.declared.events.Event.TheVariants.{Up, Down, Val, Tick, Other}
+use Rattle.snl_schedule.specs.declared.events.Event.TheVariants.{Up, Down, Val, Done, Tick, Other}
 use Rattle.snl_schedule.specs.declared.transitions.Turned.{Turned}
 use Rattle.snl_schedule.specs.declared.transitions.Turned.TheVariants.{Stayed, Moved, Exited}
 use Rattle.snl_schedule.specs.Event.{applied, wake_by, wake_before, woken, wakes_of, all_wakes, event_by, passed, closed, line_by, line_of, HasInstant, AtWake, AtLine}
@@ -171,6 +171,7 @@ module _ (p : ProgramTree) (reached : Table) (q : Program) (sound : IsSoundProgr
   applied-same : (event : Event) (w : World) → applied less event w ≡ applied q event w
   applied-same (Up channel) w = refl
   applied-same (Down channel) w = refl
+  applied-same (Done channel) w = refl
   applied-same (Val channel values) w = refl
   applied-same Tick w = refl
   applied-same Other w = refl

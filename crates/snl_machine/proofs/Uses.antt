@@ -1,6 +1,6 @@
 -- The names that the sites of expressions and statements use: each is a token of its own, in the order of the source, and means what
 -- the scopes round it say.
-use Rattle.std.proofs.Common.{◌≡◌, ◌∙◌, ◌⊎◌, inl, inr, refl, sym, ap, subst, ℕ, Bool, true, false, if◌then◌else◌, List, [], ◌∷◌, ◌++◌, map, Option, None, Some, append_assoc, append-nil}
+use Rattle.std.proofs.Common.{◌≡◌, ◌∙◌, ◌-◌, ◌⊎◌, inl, inr, refl, sym, ap, subst, ℕ, Bool, true, false, if◌then◌else◌, List, [], ◌∷◌, ◌++◌, map, Option, None, Some, append_assoc, append-nil}
 use Rattle.std.specs.List.{AllByRecursion, flat_map}
 use Rattle.std.proofs.lemmas.List.{append-nil}
 use Rattle.snl_text.specs.declared.kinds.Kind.{Kind}
@@ -20,7 +20,7 @@ use Rattle.snl_resolve.specs.declared.sites.Purpose.TheVariants.{Read}
 use Rattle.snl_resolve.specs.declared.sites.Site.{Site}
 use Rattle.snl_resolve.specs.declared.sites.Site.TheVariants.{Use}
 use Rattle.snl_resolve.specs.Builtins.{builtin_of}
-use Rattle.snl_resolve.specs.Calls.{is_fitting, count_of}
+use Rattle.snl_resolve.specs.Calls.{is_fitting, count_of, word_at, is_word, unless}
 use Rattle.snl_resolve.specs.Purposes.{inner, in_parentheses, target, argument, at_constant, at_call, at_change, at_format, is_step}
 use Rattle.snl_resolve.specs.Scopes.{Scope, scope_of, meaning, declared_as, declared_names, declared_by, is_hidden, bare_names}
 use Rattle.snl_resolve.specs.Sites.{in_expression, in_terms, in_arguments, in_value, maybe, declares, in_values, in_initialiser, in_declarator, in_declaration, in_header, in_statement, in_statements, in_block}
@@ -146,6 +146,11 @@ module _ (F : ℕ → Type 0) where
     stepped w q op e true f g = skip (at_change q e op) (in_expression w s (target q) e) (The op ∷ slots e) refl (lead (The op) (in_expression w s (target q) e) (slots e) f)
     stepped w q op e false f g = lead (The op) (in_expression w s (inner q) e) (slots e) g
 
+    -- the word `ASYNC` is no use, and any other argument uses names
+    argument-in : (w : Bool) (q : Purpose) (e : ExprTree) (b : Bool) → Fits (in_expression w s q e) (slots e) → Fits (unless b (in_expression w s q e)) (slots e)
+    argument-in w q e true f = any (slots e)
+    argument-in w q e false f = f
+
     mutual
       pub expressions : (w : Bool) (q : Purpose) (e : ExprTree) → Fits (in_expression w s q e) (slots e)
       expressions w q (constant t) = constants q t t.kind (The t ∷ [])
@@ -157,10 +162,11 @@ module _ (F : ℕ → Type 0) where
           (lead (The b) inside (slots e ++ Sign kind.CloseBracket ∷ []) (trail inside (slots e) (Sign kind.CloseBracket ∷ []) (expressions w (inner q) e)))
       expressions w q (call f all) =
           let r = argument q (builtin_of f.text.now) (is_fitting (builtin_of f.text.now) all) in
-          let inside = in_arguments w s r all in
+          let k = word_at (builtin_of f.text.now) in
+          let inside = in_arguments w s r k all in
           skip (at_call q w f (builtin_of f.text.now) (is_fitting (builtin_of f.text.now) all)) inside (slots (call f all)) refl
           (lead (The f) inside (between_slots kind.OpenParenthesis (argument_slots all) kind.CloseParenthesis)
-          (between kind.OpenParenthesis kind.CloseParenthesis inside (argument_slots all) (arguments w r all)))
+          (between kind.OpenParenthesis kind.CloseParenthesis inside (argument_slots all) (arguments w r k all)))
       expressions w q (postfix e op) =
           let inside = in_expression w s (target q) e in
           skip (at_change q e op) inside (slots e ++ The op ∷ []) refl (trail inside (slots e) (The op ∷ []) (expressions w (target q) e))
@@ -184,20 +190,25 @@ module _ (F : ℕ → Type 0) where
           lead (The op) (in_expression w s q e ++ in_terms w s q rest) (slots e ++ term_slots rest)
           (both (in_expression w s q e) (in_terms w s q rest) (slots e) (term_slots rest) (expressions w q e) (terms w q rest))
 
-      arguments : (w : Bool) (q : Purpose) (l : ArgumentList) → Fits (in_arguments w s q l) (argument_slots l)
-      arguments w q no_arguments = any []
-      arguments w q (value e rest) = both (in_expression w s q e) (in_arguments w s q rest) (slots e) (more_slots rest) (expressions w q e) (more w q rest)
-      arguments w q (text t rest) =
-          skip (at_format q t (count_of rest)) (in_arguments w s q rest) (The t ∷ more_slots rest) refl (lead (The t) (in_arguments w s q rest) (more_slots rest) (more w q rest))
+      arguments : (w : Bool) (q : Purpose) (k : ℕ) (l : ArgumentList) → Fits (in_arguments w s q k l) (argument_slots l)
+      arguments w q k no_arguments = any []
+      arguments w q k (value e rest) =
+          both (unless (is_word k e) (in_expression w s q e)) (in_arguments w s q (k - 1) rest) (slots e) (more_slots rest) (argument-in w q e (is_word k e) (expressions w q e)) (more w q (k - 1) rest)
+      arguments w q k (text t rest) =
+          let behind = in_arguments w s q (k - 1) rest in
+          skip (at_format q t (count_of rest)) behind (The t ∷ more_slots rest) refl (lead (The t) behind (more_slots rest) (more w q (k - 1) rest))
 
-      more : (w : Bool) (q : Purpose) (l : ArgumentList) → Fits (in_arguments w s q l) (more_slots l)
-      more w q no_arguments = any []
-      more w q (value e rest) =
-          lead (Sign kind.Comma) (in_expression w s q e ++ in_arguments w s q rest) (slots e ++ more_slots rest)
-          (both (in_expression w s q e) (in_arguments w s q rest) (slots e) (more_slots rest) (expressions w q e) (more w q rest))
-      more w q (text t rest) =
-          skip (at_format q t (count_of rest)) (in_arguments w s q rest) (Sign kind.Comma ∷ The t ∷ more_slots rest) refl
-          (lead (Sign kind.Comma) (in_arguments w s q rest) (The t ∷ more_slots rest) (lead (The t) (in_arguments w s q rest) (more_slots rest) (more w q rest)))
+      more : (w : Bool) (q : Purpose) (k : ℕ) (l : ArgumentList) → Fits (in_arguments w s q k l) (more_slots l)
+      more w q k no_arguments = any []
+      more w q k (value e rest) =
+          let own = unless (is_word k e) (in_expression w s q e) in
+          let behind = in_arguments w s q (k - 1) rest in
+          lead (Sign kind.Comma) (own ++ behind) (slots e ++ more_slots rest)
+          (both own behind (slots e) (more_slots rest) (argument-in w q e (is_word k e) (expressions w q e)) (more w q (k - 1) rest))
+      more w q k (text t rest) =
+          let behind = in_arguments w s q (k - 1) rest in
+          skip (at_format q t (count_of rest)) behind (Sign kind.Comma ∷ The t ∷ more_slots rest) refl
+          (lead (Sign kind.Comma) behind (The t ∷ more_slots rest) (lead (The t) behind (more_slots rest) (more w q (k - 1) rest)))
 
     -- ---- declarations
 

@@ -13,16 +13,17 @@ use Rattle.snl_meaning.specs.Ran.{Ran, Gives, Faults, also, then_do}
 use Rattle.snl_meaning.specs.Words.{least, noted}
 use Rattle.snl_meaning.specs.World.{World}
 use Rattle.snl_schedule.specs.declared.events.Event.{Event}
-use Rattle.snl_schedule.specs.declared.events.Event.TheVariants.{Up, Down, Val, Tick, Other}
+use Rattle.snl_schedule.specs.declared.events.Event.TheVariants.{Up, Down, Val, Done, Tick, Other}
 use Rattle.snl_schedule.specs.declared.transitions.Turned.{Turned}
 use Rattle.snl_schedule.specs.declared.transitions.Turned.TheVariants.{Stayed, Moved, Exited}
-use Rattle.snl_schedule.specs.Arrivals.{is_of, received_link, received_from}
+use Rattle.snl_schedule.specs.Arrivals.{is_of, received_link, received_from, answered}
 use Rattle.snl_schedule.specs.Event.{applied, wake_by, wake_before, woken, wakes_of, all_wakes, event_by, passed, closed, line_by, line_of}
 use Rattle.snl_schedule.specs.Instant.{Program, first_name, owned, closed_by, exited, round_of, all_rounds, is_ready, started, instant_by, instant_of}
 use Rattle.snl_load.specs.Meaning.{program_meaning}
 use Rattle.snl_machine.specs.Ranges.{Begins, GoesOn}
 use Rattle.snl_machine.specs.Rounds.{Rounds, Last, Leaves, Stops, Again}
 use Rattle.snl_machine.specs.Wakes.{Wakes, NoneLeft, Faulty, Next, IsDueLater, KeepsDue, IsWakeLater, WakesLieLater, WakesEnd, WakesStayLater, TimeNeverFalls, TimeIsTheEvents, TimeIsTheEventsAlone}
+use Rattle.snl_schedule.proofs.Answering.{answers_change_no_more}
 use Rattle.snl_machine.proofs.Rounds.{rounds_end}
 use Rattle.snl_machine.proofs.Parts.{block-keeps}
 use Rattle.snl_machine.proofs.Steady.{IsLoose, IsSteady, loosely, round-turns, started-keeps}
@@ -49,6 +50,7 @@ due-loose = record {
   copies = λ x w. (refl, λ h. h);
   marks = λ x w. (refl, λ h. h);
   flags = λ x w. (refl, λ h. h);
+  waits = λ x w. (refl, λ h. h);
   buffers = λ x w. (refl, λ h. h);
   queues = λ x w. (refl, λ h. h);
   opens = λ w. (refl, λ h n is. absurd (cc));
@@ -93,10 +95,15 @@ links-time : (channel : ℕ) (values : List ℤ) (number : ℕ) (ls : List Tied)
 links-time channel values number [] w = refl
 links-time channel values number (l ∷ ls) w = links-time channel values (number + 1) ls (received_link channel values number l w) ∙ link-time channel values number l w
 
+-- puts that are answered
+answered-time : (p : Program) (channel : ℕ) (w : World) → Same w (answered p channel w)
+answered-time p channel w = ap (λ (u : World). u.time) (answers_change_no_more p channel w)
+
 -- an event
 applied-time : (p : Program) (event : Event) (w : World) → Same w (applied p event w)
 applied-time p (Up channel) w = refl
-applied-time p (Down channel) w = refl
+applied-time p (Down channel) w = answered-time p channel _
+applied-time p (Done channel) w = answered-time p channel w
 applied-time p (Val channel values) w = links-time channel values.items _ p.links _
 applied-time p Tick w = refl
 applied-time p Other w = refl

@@ -12,8 +12,9 @@ use Rattle.snl_machine.specs.Ranges.{counts}
 use Rattle.snl_meaning.specs.Laws.{words_of}
 
 -- The words that a program with some links needs: the elements of the variables in the copy of each state set; the elements of
--- the buffer of each link, and those of all items that its queue can hold; a mark for each state set and link; the state of each
--- state set, and when it entered that; each event flag; of each channel whether it is connected and whether it was valued; the
+-- the buffer of each link, and those of all items that its queue can hold; a mark for each state set and link; of each link whether
+-- it waits for the answer to a put; the state of each state set, and when it entered that; each event flag; of each channel whether
+-- it is connected and whether it was valued; the
 -- time, the phase, the ticks, the wake and the least due time; and as many operands as its deepest expression holds at once.
 abbrev pub footprint : ProgramTree → List Link → ℕ
 footprint p ls =
@@ -21,6 +22,7 @@ footprint p ls =
     + counts ls
     + sum_by (λ (l : Link). l.queue * l.count) ls
     + length p.state_sets * length ls
+    + length ls
     + 2 * length p.state_sets
     + length (flags_in p)
     + 2 * length (channels ls)

@@ -5,7 +5,7 @@ use Rattle.snl_meaning.specs.declared.ties.Tied.{Tied}
 use Rattle.snl_meaning.specs.Keeping.{IsKept}
 use Rattle.snl_meaning.specs.Links.{home_of, elements_at, with_elements, buffer_of, with_buffer, queue_of, is_queued, with_items, enqueued}
 use Rattle.snl_meaning.specs.Words.{natural, noted}
-use Rattle.snl_meaning.specs.World.{World, copy_of, with_element, with_zeros, with_flag}
+use Rattle.snl_meaning.specs.World.{World, copy_of, with_element, with_zeros, with_flag, with_waiting}
 
 -- A relation as in `IsKept`, of which nothing is known where a tick is spent.
 pub record IsKeptByValues (set : ℕ) (May : Variable → ℤ → Type 0) (R : World → World → Type 0) : Type 0 where
@@ -23,6 +23,7 @@ pub record IsKeptByValues (set : ℕ) (May : Variable → ℤ → Type 0) (R : W
   pub takes : (place link : ℕ) (t : Tied) (item : List ℤ) (more : List (List ℤ)) (w : World) → home_of set link w ≡ Some place →
       slice_get w.ties link ≡ Some t → (queue_of link w).items ≡ item ∷ more → R w (with_items link more (with_elements set place item w))
   pub flushes : (link : ℕ) (w : World) → R w (with_items link [] w)
+  pub waits : (link : ℕ) (w : World) → R w (with_waiting link true w)
   pub marks : (marks : List (List Bool)) (w : World) → map (length {A = Bool}) marks ≡ map (length {A = Bool}) w.marks → R w (record w { marks = marks })
   pub notes : (t : ℤ) (w : World) → int_le t (pos w.time) ≡ false → R w (record w { due = noted t w.due })
 
@@ -39,6 +40,7 @@ by-values kept = record {
   fetches = kept.fetches;
   takes = kept.takes;
   flushes = kept.flushes;
+  waits = kept.waits;
   marks = kept.marks;
   notes = kept.notes;
 }

@@ -15,6 +15,7 @@ pub mod Keeping
 pub mod StepKeeps
 pub mod Counts
 pub mod Frames
+pub mod Puts
 pub mod Leaving
 pub mod Forgetting
 pub mod Histories

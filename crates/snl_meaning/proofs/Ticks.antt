@@ -54,6 +54,7 @@ ticks-kept set = record {
   fetches = λ place link t w home is. omega arith;
   takes = λ place link t item more w home is has. omega arith;
   flushes = λ link w. omega arith;
+  waits = λ link w. omega arith;
   marks = λ marks w same. omega arith;
   notes = λ t w late. omega arith;
   spends = λ left w is. omega (arith, is);
@@ -101,12 +102,12 @@ keeps-adjusted set v op op_line line is_before k =
     few (adjusted set v op op_line line is_before k) (words.keeps-adjusted set Any NoMore (by-values (ticks-kept set)) v op op_line line is_before k tt)
 
 -- `pvPut`
-pub keeps-put_to : (set : ℕ) (v : Variable) → Keeps (put_to set v)
-keeps-put_to set v = few (put_to set v) (words.keeps-put_to set Any NoMore (by-values (ticks-kept set)) v)
+pub keeps-put_to : (async : Bool) (set : ℕ) (v : Variable) → Keeps (put_to async set v)
+keeps-put_to async set v = few (put_to async set v) (words.keeps-put_to set Any NoMore (by-values (ticks-kept set)) async v)
 
 -- the same of an element
-pub keeps-put_element : (set : ℕ) (v : Variable) (k : ℤ) → Keeps (put_element set v k)
-keeps-put_element set v k = few (put_element set v k) (words.keeps-put_element set Any NoMore (by-values (ticks-kept set)) v k)
+pub keeps-put_element : (async : Bool) (set : ℕ) (v : Variable) (k : ℤ) → Keeps (put_element async set v k)
+keeps-put_element async set v k = few (put_element async set v k) (words.keeps-put_element set Any NoMore (by-values (ticks-kept set)) async v k)
 
 -- what is asked or told of a flag
 pub keeps-asked : (query : Query) (flag : ℕ) → Keeps (asked query flag)

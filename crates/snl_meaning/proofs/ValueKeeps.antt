@@ -13,6 +13,7 @@ use Rattle.snl_meaning.specs.Ran.{Ran}
 use Rattle.snl_resolve.specs.Builtins.{builtin_of}
 use Rattle.snl_resolve.specs.declared.builtins.Query.{Query}
 use Rattle.snl_meaning.specs.Value.{OnVariable, OnElement, joint_of, compound_of, sign_of, is_decimal, joined_by, either, value_of, chained, at_target, print_of, printing_with, wait_of, put_of, ask_flag, ask_of}
+use Rattle.snl_resolve.specs.Calls.{has_async}
 use Rattle.snl_meaning.specs.Words.{gives, is_subscript, read}
 use Rattle.snl_meaning.specs.World.{World}
 use Rattle.snl_meaning.specs.Keeping.{MayStore}
@@ -124,8 +125,8 @@ module _ (h : Here) (May : Variable → ℤ → Type 0) (R : World → World →
     put-keeps no_arguments w = kept.nothing w
     put-keeps (text t rest) w = kept.nothing w
     put-keeps (value e rest) w =
-        target-keeps e _ _ (gives (pos 0)) (λ v x ok. keeps-put_to h.set May R kept v)
-        (λ v x k ok. keeps-put_element h.set May R kept v k) (keeps-here h.set May R kept (pos 0)) w
+        target-keeps e _ _ (gives (pos 0)) (λ v x ok. keeps-put_to h.set May R kept (has_async rest) v)
+        (λ v x k ok. keeps-put_element h.set May R kept (has_async rest) v k) (keeps-here h.set May R kept (pos 0)) w
 
     -- a call that asks
     ask-keeps : (all : ArgumentList) (query : Query) → Keeps R (ask_of h all query)

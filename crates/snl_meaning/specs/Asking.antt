@@ -1,14 +1,14 @@
 -- What calls ask and tell of event flags, of links, and of how many links there are.
-use Rattle.std.specs.Prelude.{ℕ, ℤ, pos, negsuc, ◌&&◌, Bool, true, false, List, [], ◌∷◌, Option, None, Some, is_some, count_by, slice_get, slice_index_or, if◌then◌else◌}
+use Rattle.std.specs.Prelude.{ℕ, ℤ, pos, negsuc, ◌&&◌, Bool, true, false, not, List, [], ◌∷◌, Option, None, Some, is_some, count_by, slice_get, slice_index_or, if◌then◌else◌}
 use Rattle.snl_arithmetic.specs.Arithmetic.{truth}
 use Rattle.snl_resolve.specs.declared.builtins.Query.{Query}
-use Rattle.snl_resolve.specs.declared.builtins.Query.TheVariants.{EfClear, EfSet, EfTest, EfTestAndClear, PvChannelCount, PvConnectCount, PvConnected, PvFlushQ, PvGet, PvGetQ}
+use Rattle.snl_resolve.specs.declared.builtins.Query.TheVariants.{EfClear, EfSet, EfTest, EfTestAndClear, PvChannelCount, PvConnectCount, PvConnected, PvFlushQ, PvGet, PvGetQ, PvPutComplete}
 use Rattle.snl_meaning.specs.declared.instrs.Variable.{Variable}
 use Rattle.snl_meaning.specs.declared.ties.Tied.{Tied}
 use Rattle.snl_meaning.specs.Links.{link_at, with_elements, buffer_of, queue_of, with_items, unflagged}
 use Rattle.snl_meaning.specs.Ran.{Ran, Gives}
 use Rattle.snl_meaning.specs.Words.{natural, place_of}
-use Rattle.snl_meaning.specs.World.{World, is_set, with_flag}
+use Rattle.snl_meaning.specs.World.{World, is_set, is_waiting, with_flag}
 
 -- ---- channels
 
@@ -67,12 +67,13 @@ taken_of set place link t [] w = Gives (pos 0) (unflagged t.flag w) []
 taken_of set place link t (item ∷ more) w = Gives (pos 1) (drained t.flag more (with_items link more (with_elements set place item w))) []
 
 -- What a call asks or tells of a link whose elements begin at a word. `pvConnected` answers 1 where it is connected, and else
--- 0; `pvFlushQ` empties its queue and answers 0.
+-- 0; `pvPutComplete` answers 0 where it waits for the answer to a put, and else 1; `pvFlushQ` empties its queue and answers 0.
 abbrev pub asked_of : Query → (set place link : ℕ) → Tied → World → Ran ℤ
 asked_of PvGet set place link t w = fetched set place t w
 asked_of PvGetQ set place link t w = taken_of set place link t (queue_of link w).items w
 asked_of PvFlushQ set place link t w = Gives (pos 0) (unflagged t.flag (with_items link [] w)) []
 asked_of PvConnected set place link t w = Gives (truth (is_connected t.channel w)) w []
+asked_of PvPutComplete set place link t w = Gives (truth (not (is_waiting link w))) w []
 asked_of _ set place link t w = Gives (pos 0) w []
 
 -- The answer where no link begins.

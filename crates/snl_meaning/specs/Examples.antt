@@ -9,12 +9,14 @@ use Rattle.snl_syntax.specs.Statements.{StatementTree, StatementList, nested, ex
 use Rattle.snl_resolve.specs.declared.sites.Meaning.TheVariants.{Variable, Flag}
 use Rattle.snl_resolve.specs.declared.sites.Purpose.TheVariants.{Read, Flagged}
 use Rattle.snl_resolve.specs.declared.sites.Site.TheVariants.{Declaration, Use, Format}
+use Rattle.snl_resolve.specs.declared.sites.Size.{Size}
 use Rattle.snl_resolve.specs.declared.sites.Size.TheVariants.{Scalar, Array}
-use Rattle.snl_meaning.specs.declared.faults.Fault.TheVariants.{OutOfRange, DoesNotFit, BudgetSpent}
+use Rattle.snl_meaning.specs.declared.faults.Fault.TheVariants.{OutOfRange, DoesNotFit, BudgetSpent, DivisionByZero}
 use Rattle.snl_meaning.specs.declared.live.Live.TheVariants.{Running}
 use Rattle.snl_meaning.specs.declared.ties.Tied.{Tied}
 use Rattle.snl_meaning.specs.Effect.{Done, Left, effect_of}
-use Rattle.snl_meaning.specs.Names.{Here}
+use Rattle.snl_resolve.specs.Variables.{Held}
+use Rattle.snl_meaning.specs.Names.{Here, variable_in, placed_from}
 use Rattle.snl_meaning.specs.Printing.{print_line, put_line}
 use Rattle.snl_meaning.specs.Ran.{Gives, Faults}
 use Rattle.snl_meaning.specs.Value.{value_of}
@@ -90,6 +92,7 @@ flagged now first last ticks due = record {
   buffers = pos 0 ∷ pos 0 ∷ pos 0 ∷ pos 0 ∷ [];
   marks = [];
   queues = [];
+  waiting = false ∷ false ∷ false ∷ [];
 }
 
 -- the same with a flag that is not set
@@ -133,6 +136,7 @@ abbrev pub ExpressionExamples : Type 0
 ExpressionExamples =
     (value_of here (binary kind.Plus (increased x) (named x)) start ≡ Gives (pos 1) (world (pos 1) (pos 9) 3 None) [])
     × (value_of here (binary kind.AmpersandAmpersand (whole (codes "0")) (binary kind.Slash (whole (codes "1")) (whole (codes "0")))) start ≡ Gives (pos 0) start [])
+    × (value_of here (binary kind.Slash (whole (codes "1")) (whole (codes "0"))) start ≡ Faults DivisionByZero 7 start [])
     × (value_of here (element a (sign kind.OpenBracket) (whole (codes "2"))) start ≡ Faults OutOfRange 7 start [])
     × (value_of here (assignment (element a (sign kind.OpenBracket) (whole (codes "1"))) (sign kind.Equal) (whole (codes "200"))) start ≡ Faults DoesNotFit 9 start [])
     × (value_of here (call (token kind.Name 100 1 (codes "delay")) (value (whole (codes "1")) no_arguments)) start ≡ Gives (pos 0) (world (pos 0) (pos 9) 3 (Some 2000)) [])
@@ -173,4 +177,16 @@ StatementExamples =
     × (effect_of here (for_loop (sign kind.For) (record { start = None; condition = None; step = Some (increased x) })
     (nested (block [] (in_row (if_then (binary kind.Less (named x) (whole (codes "2"))) (continue_loop (sign kind.Continue)) ∷ break_loop (sign kind.Break) ∷ [])))))
     start ≡ Gives Done (world (pos 2) (pos 9) 0 None) [])
+    × (effect_of here (while_less (codes "1") (nested (block [] (in_row (while_loop (sign kind.While) (whole (codes "1")) (break_loop (sign kind.Break)) ∷ expression (increased x) ∷ []))))) start
+    ≡ Gives Done (world (pos 1) (pos 9) 1 None) [])
     × (effect_of here (change_state (sign kind.State) (token kind.Name 32 1 (codes "q"))) start ≡ Gives (Left 1) start [])
+
+-- ---- places
+
+-- `int x[3]`, or `int y`
+abbrev pub held_of : Token → Size → Held
+held_of t size = record { name = t; range = (pos 0, pos 9); size = size; initial = None }
+
+-- The words of two variables stand one after another.
+abbrev pub PlaceExamples : Type 0
+PlaceExamples = (variable_in (placed_from 0 (held_of x (Array 3) ∷ held_of y Scalar ∷ [])) 12 ≡ Some (record { place = 3; size = 1; least = pos 0; greatest = pos 9 }))

@@ -8,7 +8,7 @@ use Rattle.snl_meaning.specs.Names.{Here, variable_at}
 use Rattle.snl_meaning.specs.Ran.{Ran, Gives, Faults}
 use Rattle.snl_meaning.specs.Value.{value_of}
 use Rattle.snl_meaning.specs.Words.{natural, is_subscript, noted}
-use Rattle.snl_meaning.specs.World.{World, copy_of, with_element, with_zeros, with_flag}
+use Rattle.snl_meaning.specs.World.{World, copy_of, with_element, with_zeros, with_flag, with_waiting}
 use Rattle.snl_meaning.specs.declared.ties.Tied.{Tied}
 use Rattle.snl_meaning.specs.Links.{home_of, elements_at, with_elements, buffer_of, with_buffer, queue_of, is_queued, with_items, enqueued}
 
@@ -20,7 +20,7 @@ world_after (Faults fault line w text) = w
 -- A relation between a world and a later one that holds where nothing changes, is handed on from change to change, and
 -- holds of each single change: a number is stored in an element that may be stored to and whose type has it, a variable is
 -- 0 again, an event flag is set or cleared, elements of a link come from the copy to its buffer or to its queue, or from its
--- buffer or from its queue to the copy, a queue is emptied, links are marked, each state set as many of them as before, a due time that has not come is noted, a tick is
+-- buffer or from its queue to the copy, a queue is emptied, a link waits for an answer, links are marked, each state set as many of them as before, a due time that has not come is noted, a tick is
 -- spent.
 pub record IsKept (set : ℕ) (May : Variable → ℤ → Type 0) (R : World → World → Type 0) : Type 0 where
   pub nothing : (w : World) → R w w
@@ -37,6 +37,7 @@ pub record IsKept (set : ℕ) (May : Variable → ℤ → Type 0) (R : World →
   pub takes : (place link : ℕ) (t : Tied) (item : List ℤ) (more : List (List ℤ)) (w : World) → home_of set link w ≡ Some place →
       slice_get w.ties link ≡ Some t → (queue_of link w).items ≡ item ∷ more → R w (with_items link more (with_elements set place item w))
   pub flushes : (link : ℕ) (w : World) → R w (with_items link [] w)
+  pub waits : (link : ℕ) (w : World) → R w (with_waiting link true w)
   pub marks : (marks : List (List Bool)) (w : World) → map (length {A = Bool}) marks ≡ map (length {A = Bool}) w.marks → R w (record w { marks = marks })
   pub notes : (t : ℤ) (w : World) → int_le t (pos w.time) ≡ false → R w (record w { due = noted t w.due })
   pub spends : (left : ℕ) (w : World) → w.ticks ≡ suc left → R w (record w { ticks = left })

@@ -16,6 +16,7 @@ pub mod Examples
 pub mod LinkExamples
 pub mod Known
 pub mod Laws
+pub mod Puts
 pub mod Histories
 pub mod Keeping
 pub mod Counts

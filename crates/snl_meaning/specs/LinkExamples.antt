@@ -5,6 +5,7 @@ use Rattle.snl_text.specs.declared.tokens.Token.{Token}
 use Rattle.snl_syntax.specs.Expressions.{ExprTree, named, call, no_arguments, value}
 use Rattle.snl_meaning.specs.Examples.{token, here, x, a, y, start, linked}
 use Rattle.snl_meaning.specs.Links.{no_queue}
+use Rattle.snl_meaning.specs.Printing.{put_line}
 use Rattle.snl_meaning.specs.Ran.{Gives}
 use Rattle.snl_meaning.specs.Value.{value_of}
 use Rattle.snl_meaning.specs.World.{World}
@@ -16,6 +17,14 @@ call_of name t = call (token kind.Name 100 1 name) (value (named t) no_arguments
 -- `NAME()`
 abbrev pub call_alone : List ℕ → ExprTree
 call_alone name = call (token kind.Name 100 1 name) no_arguments
+
+-- `pvPut(t, ASYNC)`
+abbrev pub async_call : Token → ExprTree
+async_call t = call (token kind.Name 100 1 (codes "pvPut")) (value (named t) (value (named (token kind.Name 100 1 (codes "ASYNC"))) no_arguments))
+
+-- The first link waits for an answer.
+abbrev pub answerless : World
+answerless = record start { waiting = true ∷ false ∷ false ∷ [] }
 
 -- `y` is the number, and its link, which has no channel, has a queue of at most two items. Its buffer has 4.
 abbrev pub queued : Bool → ℤ → List (List ℤ) → World
@@ -50,3 +59,12 @@ LinkExamples =
     × (value_of here (call_of (codes "pvConnected") y) start ≡ Gives (pos 0) start [])
     × (value_of here (call_alone (codes "pvChannelCount")) start ≡ Gives (pos 2) start [])
     × (value_of here (call_alone (codes "pvConnectCount")) start ≡ Gives (pos 1) start [])
+    × (value_of here (async_call x) start ≡ Gives (pos 0) answerless (put_line 1500 (codes "up") (pos 0 ∷ [])))
+    × (value_of here (async_call x) answerless ≡ Gives (negsuc 0) answerless [])
+    × (value_of here (call_of (codes "pvPut") x) answerless ≡ Gives (pos 0) answerless (put_line 1500 (codes "up") (pos 0 ∷ [])))
+    × (value_of here (async_call a) start ≡ Gives (negsuc 1) start [])
+    × (value_of here (async_call y) start ≡ Gives (negsuc 0) start [])
+    × (value_of here (call_of (codes "pvPutComplete") x) start ≡ Gives (pos 1) start [])
+    × (value_of here (call_of (codes "pvPutComplete") x) answerless ≡ Gives (pos 0) answerless [])
+    × (value_of here (call_of (codes "pvPutComplete") y) start ≡ Gives (pos 0) start [])
+    × (value_of here (async_call y) (linked false (pos 0) false) ≡ Gives (pos 0) (linked true (pos 9) true) [])

@@ -19,6 +19,7 @@ pub use Rattle.snl_meaning.specs.declared.operators.Sign.{Sign}
 pub use Rattle.snl_meaning.specs.declared.operators.Sign.TheVariants.{Steps, Alone}
 use Rattle.snl_meaning.specs.Names.{Here, Sense, Varies, Stands, sense_of, flag_number, formats_of, format_number, text_of}
 use Rattle.snl_meaning.specs.Ran.{Ran, Gives, then_do}
+use Rattle.snl_resolve.specs.Calls.{has_async}
 use Rattle.snl_meaning.specs.Asking.{asked, ask_variable, ask_element}
 use Rattle.snl_meaning.specs.Words.{gives, operated, operated_prefix, settled, subscript, read, stored, adjusted, printed, put_to, put_element, waited}
 use Rattle.snl_meaning.specs.World.{World}
@@ -205,9 +206,9 @@ abbrev mutual
   wait_of h (value e rest) w = then_do (value_of h e w) (waited h.set (not (is_decimal e)))
   wait_of h _ w = Gives (pos 0) w []
 
-  -- `pvPut` with its argument. The subscript of an element comes first, and is checked.
+  -- `pvPut` with its argument, and perhaps `ASYNC`. The subscript of an element comes first, and is checked.
   pub put_of : Here → ArgumentList → World → Ran ℤ
-  put_of h (value e rest) w = at_target h e (λ v x. put_to h.set v) (λ v x. put_element h.set v) (gives (pos 0)) w
+  put_of h (value e rest) w = at_target h e (λ v x. put_to (has_async rest) h.set v) (λ v x. put_element (has_async rest) h.set v) (gives (pos 0)) w
   put_of h _ w = Gives (pos 0) w []
 
   -- a call that asks: of the link of a variable or of an element, whose subscript comes first, or of an event flag; without an

@@ -2,10 +2,11 @@
 
 ghost use Rattle.snl_meaning.specs.Counts.{StepsAreBounded, StretchesAreBounded};
 ghost use Rattle.snl_meaning.specs.Endings.{OnlyTicksLeadBack};
-ghost use Rattle.snl_meaning.specs.Examples.{ExpressionExamples, StatementExamples};
+ghost use Rattle.snl_meaning.specs.Examples.{ExpressionExamples, PlaceExamples, StatementExamples};
 ghost use Rattle.snl_meaning.specs.LinkExamples.{LinkExamples};
 ghost use Rattle.snl_meaning.specs.Histories.{QueuesKeepOrder};
 ghost use Rattle.snl_meaning.specs.Frames.{PiecesKeepTheFrame, StepsKeepTheFrame};
+ghost use Rattle.snl_meaning.specs.Puts.{PlainPutsKnowNoMarks, WaitingPutsNothing};
 ghost use Rattle.snl_meaning.specs.Keeping.{ConditionsKeepTicks, PiecesGiveNoTicks, PiecesKeepThePhase, PiecesKeepTime};
 ghost use Rattle.snl_meaning.specs.Laws.{BlocksForget, TextsAreFound, TurnsAreEnough, VariablesAreApart, VariablesLieWithin};
 
@@ -100,6 +101,18 @@ pub fn steps_keep_the_frame()
     ensures { StepsKeepTheFrame }
 {}
 
+/// A plain put neither asks which links wait for an answer nor changes that.
+#[tactic(auto, using(crate::proofs::Puts::plain_puts_know_no_marks))]
+pub fn plain_puts_know_no_marks()
+    ensures { PlainPutsKnowNoMarks }
+{}
+
+/// While its link waits, a put with `ASYNC` to a channel writes nothing and changes nothing.
+#[tactic(auto, using(crate::proofs::Puts::waiting_puts_nothing))]
+pub fn waiting_puts_nothing()
+    ensures { WaitingPutsNothing }
+{}
+
 /// A block forgets what its variables were before it is entered: with another number in an element of one of them, it
 /// does the same.
 #[tactic(auto, using(crate::proofs::Forgetting::blocks_forget))]
@@ -111,4 +124,9 @@ pub fn blocks_forget()
 #[tactic(auto, using(crate::proofs::Histories::queues_keep_order))]
 pub fn queues_keep_order()
     ensures { QueuesKeepOrder }
+{}
+
+/// Where the words of variables stand.
+pub fn examples_of_places()
+    ensures { PlaceExamples }
 {}

@@ -1,3 +1,4 @@
+pub mod FormLaws
 pub mod ConstantLaws
 pub mod WalkLaws
 pub mod TableLaws

@@ -1,5 +1,5 @@
 -- The names that the sites of a program use are those of the program, each with its meaning in the scopes round it.
-use Rattle.std.proofs.Common.{◌≡◌, ℕ, suc, Bool, true, false, ◌||◌, cond, List, [], ◌∷◌, ◌++◌, map, Option, Some, None, refl, sym, ap, ◌∙◌, append_assoc, append-nil}
+use Rattle.std.proofs.Common.{◌≡◌, ℕ, suc, ◌-◌, Bool, true, false, ◌||◌, cond, List, [], ◌∷◌, ◌++◌, map, Option, Some, None, refl, sym, ap, ◌∙◌, append_assoc, append-nil}
 use Rattle.std.specs.List.{flat_map}
 use Rattle.snl_text.specs.declared.tokens.Token.{Token}
 use Rattle.snl_text.specs.declared.kinds.Kind.{Kind}
@@ -14,7 +14,7 @@ use Rattle.snl_resolve.specs.declared.sites.Sort.{Sort}
 use Rattle.snl_resolve.specs.declared.sites.Sort.TheVariants as sorts
 use Rattle.snl_resolve.specs.declared.sites.Site.{Site}
 use Rattle.snl_resolve.specs.Builtins.{builtin_of}
-use Rattle.snl_resolve.specs.Calls.{is_fitting}
+use Rattle.snl_resolve.specs.Calls.{is_fitting, word_at, is_word, unless}
 use Rattle.snl_resolve.specs.Purposes.{inner, in_parentheses, target, argument, at_constant, at_change, is_step}
 use Rattle.snl_resolve.specs.Scopes.{Scope, scope_of, meaning}
 use Rattle.snl_resolve.specs.Parts.{listed_names}
@@ -74,6 +74,11 @@ stepped : (b : Bool) (x : Site) (ls rs : List Site) (names : List Placed) → us
 stepped true x ls rs names e f g = skip x ls names e f
 stepped false x ls rs names e f g = g
 
+-- the word `ASYNC`, or another argument
+not_the_word : (b : Bool) (ls : List Site) (names : List Placed) → Fits ls names → Fits (unless b ls) (unless b names)
+not_the_word true ls names f = none
+not_the_word false ls names f = f
+
 -- expressions, their terms and arguments
 mutual
   expressions : (w : Bool) (c : List Scope) (q : Purpose) (e : ExprTree) → Fits (s.in_expression w c q e) (n.in_expression c e)
@@ -81,7 +86,7 @@ mutual
   expressions w c q (parenthesized e) = expressions w c (in_parentheses q) e
   expressions w c q (named x) = take_name _ c x [] [] refl none
   expressions w c q (element x b e) = take_name _ c x _ _ refl (expressions w c (inner q) e)
-  expressions w c q (call f all) = skip _ _ _ refl (arguments w c (argument q (builtin_of f.text.now) (is_fitting (builtin_of f.text.now) all)) all)
+  expressions w c q (call f all) = skip _ _ _ refl (arguments w c (argument q (builtin_of f.text.now) (is_fitting (builtin_of f.text.now) all)) (word_at (builtin_of f.text.now)) all)
   expressions w c q (postfix e op) = skip _ _ _ refl (expressions w c (target q) e)
   expressions w c q (prefix op e) = stepped (is_step op.kind) (at_change q e op) _ _ _ refl (expressions w c (target q) e) (expressions w c (inner q) e)
   expressions w c q (chain e rest) = both _ _ _ _ (expressions w c (inner q) e) (terms w c (inner q) rest)
@@ -92,10 +97,10 @@ mutual
   terms w c q no_terms = none
   terms w c q (term op e rest) = both _ _ _ _ (expressions w c q e) (terms w c q rest)
 
-  arguments : (w : Bool) (c : List Scope) (q : Purpose) (l : ArgumentList) → Fits (s.in_arguments w c q l) (n.in_arguments c l)
-  arguments w c q no_arguments = none
-  arguments w c q (value e rest) = both _ _ _ _ (expressions w c q e) (arguments w c q rest)
-  arguments w c q (text t rest) = skip _ _ _ refl (arguments w c q rest)
+  arguments : (w : Bool) (c : List Scope) (q : Purpose) (k : ℕ) (l : ArgumentList) → Fits (s.in_arguments w c q k l) (n.in_arguments c k l)
+  arguments w c q k no_arguments = none
+  arguments w c q k (value e rest) = both _ _ _ _ (not_the_word (is_word k e) _ _ (expressions w c q e)) (arguments w c q (k - 1) rest)
+  arguments w c q k (text t rest) = skip _ _ _ refl (arguments w c q (k - 1) rest)
 
 -- an expression that gives a value
 read : (c : List Scope) (e : ExprTree) → Fits (s.in_value c e) (n.in_expression c e)

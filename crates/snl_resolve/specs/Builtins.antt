@@ -2,9 +2,9 @@
 use Rattle.std.specs.Prelude.{ℕ, Bool, true, false, List, Option, Some, None, codes, bytes_eq, if◌then◌else◌}
 use Rattle.snl_resolve.specs.declared.builtins.Builtin.{Builtin}
 use Rattle.snl_resolve.specs.declared.builtins.Builtin.TheVariants.{Delay, Printf, PvPut, Ask}
-use Rattle.snl_resolve.specs.declared.builtins.Query.TheVariants.{EfClear, EfSet, EfTest, EfTestAndClear, PvChannelCount, PvConnectCount, PvConnected, PvFlushQ, PvGet, PvGetQ}
+use Rattle.snl_resolve.specs.declared.builtins.Query.TheVariants.{EfClear, EfSet, EfTest, EfTestAndClear, PvChannelCount, PvConnectCount, PvConnected, PvFlushQ, PvGet, PvGetQ, PvPutComplete}
 use Rattle.snl_resolve.specs.declared.calls.Form.{Form}
-use Rattle.snl_resolve.specs.declared.calls.Form.TheVariants.{ChannelPlace, QueueName, FlagName, Seconds, Nothing, Format}
+use Rattle.snl_resolve.specs.declared.calls.Form.TheVariants.{ChannelPlace, PutPlace, QueueName, FlagName, Seconds, Nothing, Format}
 
 -- One that asks or tells something of channels or queues. Other functions are not known.
 abbrev pub channel_query_of : List ℕ → Option Builtin
@@ -14,7 +14,8 @@ channel_query_of name =
     else (if bytes_eq name (codes "pvConnected") then Some (Ask PvConnected)
     else (if bytes_eq name (codes "pvFlushQ") then Some (Ask PvFlushQ)
     else (if bytes_eq name (codes "pvGet") then Some (Ask PvGet)
-    else (if bytes_eq name (codes "pvGetQ") then Some (Ask PvGetQ) else None)))))
+    else (if bytes_eq name (codes "pvGetQ") then Some (Ask PvGetQ)
+    else (if bytes_eq name (codes "pvPutComplete") then Some (Ask PvPutComplete) else None))))))
 
 -- One that asks or tells something: those of event flags first.
 abbrev pub query_of : List ℕ → Option Builtin
@@ -35,7 +36,7 @@ builtin_of name =
 abbrev pub form_of : Builtin → Form
 form_of Delay = Seconds
 form_of Printf = Format
-form_of PvPut = ChannelPlace
+form_of PvPut = PutPlace
 form_of (Ask EfClear) = FlagName
 form_of (Ask EfSet) = FlagName
 form_of (Ask EfTest) = FlagName
@@ -46,6 +47,7 @@ form_of (Ask PvConnected) = ChannelPlace
 form_of (Ask PvFlushQ) = QueueName
 form_of (Ask PvGet) = ChannelPlace
 form_of (Ask PvGetQ) = QueueName
+form_of (Ask PvPutComplete) = ChannelPlace
 
 -- It is `delay`, which stands in conditions alone.
 abbrev pub is_delay : Option Builtin → Bool

@@ -9,7 +9,7 @@ use Rattle.snl_syntax.specs.Statements.{while_loop, break_loop}
 use Rattle.snl_syntax.specs.Definitions.{DefinitionTree, declaration, event_flags}
 use Rattle.snl_resolve.specs.declared.constants.Constant.TheVariants.{Varies, Faults, Worth}
 use Rattle.snl_resolve.specs.declared.sites.Meaning.TheVariants.{Variable, Flag, Number, Nothing}
-use Rattle.snl_resolve.specs.declared.sites.Purpose.TheVariants.{Read, Ignored}
+use Rattle.snl_resolve.specs.declared.sites.Purpose.TheVariants.{Read, Channel, Ignored}
 use Rattle.snl_resolve.specs.declared.sites.Size.TheVariants.{Scalar, Array, Wrong}
 use Rattle.snl_resolve.specs.declared.sites.Site.TheVariants.{Use, Decimal, Call, Format, Leave}
 use Rattle.snl_resolve.specs.Constants.{constant_of}
@@ -105,3 +105,23 @@ SiteExamples =
     × (in_expression false [] Read (call (name 0 (codes "f")) (value (named (name 2 (codes "x"))) no_arguments))
     ≡ Call (name 0 (codes "f")) false true true ∷ Use Ignored (name 2 (codes "x")) Nothing false ∷ [])
     × (in_statement false [] [] false (while_loop (sign kind.While) (whole (codes "1")) (break_loop (sign kind.Break))) ≡ Leave (sign kind.Break) true ∷ [])
+
+-- ---- `ASYNC`: `pvPut(x, ASYNC)`, `pvPut(x, y)`, `foo(pvPut(x, ASYNC))`, `pvGet(x, ASYNC)`, `pvPut(x, (ASYNC))`, `pvPutComplete(x)`; no name is declared
+abbrev pub use_of : ℕ → List ℕ → ExprTree
+use_of offset bytes = named (name offset bytes)
+
+-- as their sites are computed by hand
+abbrev pub AsyncExamples : Type 0
+AsyncExamples =
+    (in_expression false [] Read (call (name 0 (codes "pvPut")) (value (use_of 6 (codes "x")) (value (use_of 9 (codes "ASYNC")) no_arguments)))
+    ≡ Call (name 0 (codes "pvPut")) true true true ∷ Use Channel (name 6 (codes "x")) Nothing false ∷ [])
+    × (in_expression false [] Read (call (name 0 (codes "pvPut")) (value (use_of 6 (codes "x")) (value (use_of 9 (codes "y")) no_arguments)))
+    ≡ Call (name 0 (codes "pvPut")) true false true ∷ Use Ignored (name 6 (codes "x")) Nothing false ∷ Use Ignored (name 9 (codes "y")) Nothing false ∷ [])
+    × (in_expression false [] Read (call (name 0 (codes "foo")) (value (call (name 4 (codes "pvPut")) (value (use_of 10 (codes "x")) (value (use_of 13 (codes "ASYNC")) no_arguments))) no_arguments))
+    ≡ Call (name 0 (codes "foo")) false true true ∷ Call (name 4 (codes "pvPut")) true true true ∷ Use Ignored (name 10 (codes "x")) Nothing false ∷ [])
+    × (in_expression false [] Read (call (name 0 (codes "pvGet")) (value (use_of 6 (codes "x")) (value (use_of 9 (codes "ASYNC")) no_arguments)))
+    ≡ Call (name 0 (codes "pvGet")) true false true ∷ Use Ignored (name 6 (codes "x")) Nothing false ∷ Use Ignored (name 9 (codes "ASYNC")) Nothing false ∷ [])
+    × (in_expression false [] Read (call (name 0 (codes "pvPut")) (value (use_of 6 (codes "x")) (value (parenthesized (use_of 10 (codes "ASYNC"))) no_arguments)))
+    ≡ Call (name 0 (codes "pvPut")) true false true ∷ Use Ignored (name 6 (codes "x")) Nothing false ∷ Use Ignored (name 10 (codes "ASYNC")) Nothing false ∷ [])
+    × (in_expression false [] Read (call (name 0 (codes "pvPutComplete")) (value (use_of 14 (codes "x")) no_arguments))
+    ≡ Call (name 0 (codes "pvPutComplete")) true true true ∷ Use Channel (name 14 (codes "x")) Nothing false ∷ [])

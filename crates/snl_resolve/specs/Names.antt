@@ -1,5 +1,5 @@
 -- The names that a program uses, each with the scopes round it, innermost first.
-use Rattle.std.specs.Prelude.{ℕ, ◌==◌, List, [], ◌∷◌, ◌++◌, map, Option, None, Some, if◌then◌else◌}
+use Rattle.std.specs.Prelude.{ℕ, ◌-◌, ◌==◌, List, [], ◌∷◌, ◌++◌, map, Option, None, Some, if◌then◌else◌}
 use Rattle.std.specs.List.{flat_map}
 use Rattle.snl_text.specs.declared.tokens.Pos.{Pos}
 use Rattle.snl_text.specs.declared.tokens.Token.{Token}
@@ -8,6 +8,8 @@ use Rattle.snl_syntax.specs.Declarations.{ValueList, no_values, last_value, valu
 use Rattle.snl_syntax.specs.Statements.{StatementTree, StatementList, BlockTree, Header, nested, empty, expression, break_loop, continue_loop, change_state, if_then, if_else, while_loop, for_loop, no_statements, statement, block}
 use Rattle.snl_syntax.specs.Definitions.{PlaceTree, FlagTree, DefinitionTree, declaration, assign, monitor, sync, sync_queue, event_flags, setting}
 use Rattle.snl_syntax.specs.Programs.{ClauseTree, StateTree, StateSetTree, ProgramTree}
+use Rattle.snl_resolve.specs.Builtins.{builtin_of}
+use Rattle.snl_resolve.specs.Calls.{word_at, is_word, unless}
 use Rattle.snl_resolve.specs.Scopes.{Scope, scope_of, meaning}
 use Rattle.snl_resolve.specs.Programs.{program_scopes}
 use Rattle.snl_resolve.specs.Uses.{place_of}
@@ -23,7 +25,7 @@ abbrev mutual
   in_expression s (parenthesized e) = in_expression s e
   in_expression s (named x) = (s, x) ∷ []
   in_expression s (element x b e) = (s, x) ∷ in_expression s e
-  in_expression s (call f all) = in_arguments s all
+  in_expression s (call f all) = in_arguments s (word_at (builtin_of f.text.now)) all
   in_expression s (postfix e op) = in_expression s e
   in_expression s (prefix op e) = in_expression s e
   in_expression s (chain e rest) = in_expression s e ++ in_terms s rest
@@ -35,11 +37,11 @@ abbrev mutual
   in_terms s no_terms = []
   in_terms s (term op e rest) = in_expression s e ++ in_terms s rest
 
-  -- arguments; a string has no names
-  pub in_arguments : List Scope → ArgumentList → List Placed
-  in_arguments s no_arguments = []
-  in_arguments s (value e rest) = in_expression s e ++ in_arguments s rest
-  in_arguments s (text t rest) = in_arguments s rest
+  -- arguments, so many up to the one that may be the word `ASYNC`; that word and a string have no names
+  pub in_arguments : List Scope → ℕ → ArgumentList → List Placed
+  in_arguments s k no_arguments = []
+  in_arguments s k (value e rest) = unless (is_word k e) (in_expression s e) ++ in_arguments s (k - 1) rest
+  in_arguments s k (text t rest) = in_arguments s (k - 1) rest
 
 -- The names in what may be missing.
 abbrev pub if_there : {A B : Type 0} → (A → List B) → Option A → List B

@@ -8,7 +8,7 @@ use Rattle.snl_text.specs.Numbers.{decimal_value}
 use Rattle.snl_syntax.specs.Expressions.{ExprTree, parenthesized}
 use Rattle.snl_resolve.specs.declared.builtins.Builtin.{Builtin}
 use Rattle.snl_resolve.specs.declared.calls.Form.{Form}
-use Rattle.snl_resolve.specs.declared.calls.Form.TheVariants.{ChannelPlace, QueueName, FlagName, Seconds}
+use Rattle.snl_resolve.specs.declared.calls.Form.TheVariants.{ChannelPlace, PutPlace, QueueName, FlagName, Seconds}
 use Rattle.snl_resolve.specs.declared.sites.Purpose.{Purpose}
 use Rattle.snl_resolve.specs.declared.sites.Purpose.TheVariants.{Read, Changed, Channel, Queued, Flagged, Delayed, Ignored}
 use Rattle.snl_resolve.specs.declared.sites.Site.{Site}
@@ -38,6 +38,7 @@ target _ = Changed
 -- What the argument of a call is for, by the form that the call takes.
 abbrev pub argument_of : Form → Purpose
 argument_of ChannelPlace = Channel
+argument_of PutPlace = Channel
 argument_of QueueName = Queued
 argument_of FlagName = Flagged
 argument_of Seconds = Delayed

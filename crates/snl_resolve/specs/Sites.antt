@@ -1,6 +1,6 @@
 -- The sites of expressions, declarations and statements: the places that a rule may speak of, each with what is known
 -- there.
-use Rattle.std.specs.Prelude.{ℕ, Bool, true, false, List, [], ◌∷◌, ◌++◌, map, Option, Some, None, is_some, is_none, ◌⊎◌, if◌then◌else◌}
+use Rattle.std.specs.Prelude.{ℕ, ◌-◌, Bool, true, false, List, [], ◌∷◌, ◌++◌, map, Option, Some, None, is_some, is_none, ◌⊎◌, if◌then◌else◌}
 use Rattle.std.proofs.Common.{inl, inr}
 use Rattle.std.specs.List.{flat_map}
 use Rattle.snl_text.specs.declared.tokens.Token.{Token}
@@ -14,7 +14,7 @@ use Rattle.snl_resolve.specs.declared.sites.Purpose.TheVariants.{Read}
 use Rattle.snl_resolve.specs.declared.sites.Site.{Site}
 use Rattle.snl_resolve.specs.declared.sites.Site.TheVariants.{Declaration, Typed, Declarator, Use, Leave, Move, Target}
 use Rattle.snl_resolve.specs.Builtins.{builtin_of}
-use Rattle.snl_resolve.specs.Calls.{is_fitting, count_of}
+use Rattle.snl_resolve.specs.Calls.{is_fitting, count_of, word_at, is_word, unless}
 use Rattle.snl_resolve.specs.Numbered.{number_of}
 use Rattle.snl_resolve.specs.Purposes.{inner, in_parentheses, target, argument, at_constant, at_call, at_change, at_format, is_step}
 use Rattle.snl_resolve.specs.Scopes.{Scope, scope_of, first_of, meaning, size_of, elements, is_hidden}
@@ -32,7 +32,7 @@ abbrev mutual
   in_expression w s p (element x b e) = Use p x (meaning s x) true ∷ in_expression w s (inner p) e
   in_expression w s p (call f all) =
       at_call p w f (builtin_of f.text.now) (is_fitting (builtin_of f.text.now) all)
-      ∷ in_arguments w s (argument p (builtin_of f.text.now) (is_fitting (builtin_of f.text.now) all)) all
+      ∷ in_arguments w s (argument p (builtin_of f.text.now) (is_fitting (builtin_of f.text.now) all)) (word_at (builtin_of f.text.now)) all
   in_expression w s p (postfix e op) = at_change p e op ∷ in_expression w s (target p) e
   in_expression w s p (prefix op e) =
       if is_step op.kind then at_change p e op ∷ in_expression w s (target p) e else in_expression w s (inner p) e
@@ -45,16 +45,11 @@ abbrev mutual
   in_terms w s p no_terms = []
   in_terms w s p (term op e rest) = in_expression w s p e ++ in_terms w s p rest
 
-  -- arguments; the format of a string is compared with how many stand after it
-  pub in_arguments : Bool → List Scope → Purpose → ArgumentList → List Site
-  in_arguments w s p no_arguments = []
-  in_arguments w s p (value e rest) = in_expression w s p e ++ in_arguments w s p rest
-  in_arguments w s p (text t rest) = at_format p t (count_of rest) ∷ in_arguments w s p rest
-
--- In an argument: a string, with so many arguments after it, or an expression.
-abbrev pub in_argument : Bool → List Scope → Purpose → Token ⊎ ExprTree → ℕ → List Site
-in_argument w s p (inl t) n = at_format p t n ∷ []
-in_argument w s p (inr e) n = in_expression w s p e
+  -- arguments, so many up to the one that may be the word `ASYNC`; the format of a string is compared with how many stand after it
+  pub in_arguments : Bool → List Scope → Purpose → ℕ → ArgumentList → List Site
+  in_arguments w s p k no_arguments = []
+  in_arguments w s p k (value e rest) = unless (is_word k e) (in_expression w s p e) ++ in_arguments w s p (k - 1) rest
+  in_arguments w s p k (text t rest) = at_format p t (count_of rest) ∷ in_arguments w s p (k - 1) rest
 
 -- An expression that gives a value, outside of conditions.
 abbrev pub in_value : List Scope → ExprTree → List Site

@@ -28,6 +28,8 @@ pub enum Query {
     PvGet,
     /// `pvGetQ`
     PvGetQ,
+    /// `pvPutComplete`
+    PvPutComplete,
 }
 
 /// The built-in functions (SNL Reference, "Built-in Functions").
@@ -91,6 +93,8 @@ fn channel_query_of(name: &[u8]) -> Option<Builtin>
         Some(Builtin::Ask(Query::PvGet))
     } else if name == b"pvGetQ".as_slice() {
         Some(Builtin::Ask(Query::PvGetQ))
+    } else if name == b"pvPutComplete".as_slice() {
+        Some(Builtin::Ask(Query::PvPutComplete))
     } else {
         None
     }
@@ -103,11 +107,11 @@ pub fn form_of(builtin: Builtin) -> Form
     match builtin {
         Builtin::Delay => Form::Seconds,
         Builtin::Printf => Form::Format,
-        Builtin::PvPut => Form::ChannelPlace,
+        Builtin::PvPut => Form::PutPlace,
         Builtin::Ask(query) => match query {
             Query::EfClear | Query::EfSet | Query::EfTest | Query::EfTestAndClear => Form::FlagName,
             Query::PvChannelCount | Query::PvConnectCount => Form::Nothing,
-            Query::PvConnected | Query::PvGet => Form::ChannelPlace,
+            Query::PvConnected | Query::PvGet | Query::PvPutComplete => Form::ChannelPlace,
             Query::PvFlushQ | Query::PvGetQ => Form::QueueName,
         },
     }

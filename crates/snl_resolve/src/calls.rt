@@ -13,6 +13,8 @@ use snl_syntax::{Argument, Expr};
 pub enum Form {
     /// A variable with a channel, or an element of one.
     ChannelPlace,
+    /// The same, and the word `ASYNC` behind it or not.
+    PutPlace,
     /// The name of a variable with a queue.
     QueueName,
     /// The name of an event flag.
@@ -60,12 +62,36 @@ fn fits_one(form: Form, argument: &Argument) -> bool
 {
     match argument {
         Argument::Value(value) => match form {
-            Form::ChannelPlace => is_place(value),
+            Form::ChannelPlace | Form::PutPlace => is_place(value),
             Form::QueueName | Form::FlagName => is_name(value),
             Form::Seconds => true,
             Form::Nothing | Form::Format => false,
         },
         Argument::Text(_) => matches!(form, Form::Format),
+    }
+}
+
+/// Whether an expression is the token `ASYNC`, which asks `pvPut` not to wait for the answer of its channel (SNL Reference, "pvPut").
+fn is_async(expression: &Expr) -> bool
+    ensures { result ≡ spec.is_async (view expression.now) }
+{
+    match expression {
+        Expr::Named(name) => name.text == b"ASYNC".as_slice(),
+        _ => false,
+    }
+}
+
+/// Whether an argument and those behind it have the form of a put.
+fn fits_put(first: &Argument, behind: &[Argument]) -> bool
+    ensures { result ≡ spec.fits Form.PutPlace (list_before (first.now ∷ behind.now) no_arguments) }
+{
+    match behind {
+        [] => fits_one(Form::PutPlace, first),
+        [second] => match (first, second) {
+            (Argument::Value(place), Argument::Value(word)) => is_place(place) && is_async(word),
+            _ => false,
+        },
+        _ => false,
     }
 }
 
@@ -76,9 +102,11 @@ fn fits(form: Form, arguments: &[Argument]) -> bool
     match arguments {
         [] => matches!(form, Form::Nothing),
         [argument] => fits_one(form, argument),
-        [first, values @ ..] => {
-            matches!(form, Form::Format) && is_text(first) && are_values(values)
-        }
+        [first, behind @ ..] => match form {
+            Form::PutPlace => fits_put(first, behind),
+            Form::Format => is_text(first) && are_values(behind),
+            _ => false,
+        },
     }
 }
 
@@ -90,4 +118,40 @@ pub fn is_fitting(builtin: Option<Builtin>, arguments: &[Argument]) -> bool
         Some(builtin) => fits(form_of(builtin), arguments),
         None => false,
     }
+}
+
+fn is_async_argument(argument: &Argument) -> bool
+    ensures { result ≡ spec.has_async (list_before (argument.now ∷ []) no_arguments) }
+{
+    match argument {
+        Argument::Value(word) => is_async(word),
+        Argument::Text(_) => false,
+    }
+}
+
+/// Whether the word `ASYNC` stands behind the first argument of a put, as the last one.
+pub fn has_async(behind: &[Argument]) -> bool
+    ensures { result ≡ spec.has_async (list_before behind.now no_arguments) }
+{
+    match behind {
+        [second] => is_async_argument(second),
+        _ => false,
+    }
+}
+
+/// How many arguments of a call there are up to the one that may be the word `ASYNC`; 0 where none may.
+pub fn word_at(builtin: Option<Builtin>) -> usize
+    ensures { result ≡ spec.word_at builtin }
+{
+    match builtin {
+        Some(Builtin::PvPut) => 2,
+        _ => 0,
+    }
+}
+
+/// Whether an argument is the word `ASYNC`, where so many are left up to its place.
+pub fn is_word(left: usize, argument: &Expr) -> bool
+    ensures { result ≡ spec.is_word left (view argument.now) }
+{
+    left == 1 && is_async(argument)
 }

@@ -1,12 +1,16 @@
 //! The sites in expressions.
 
 ghost use Rattle.std.specs.Prelude.{◌≡◌, ◌++◌, map, OnOk};
-ghost use Rattle.snl_syntax.specs.view.Expressions.{view, pair_of, argument_of, list_before};
+ghost use Rattle.snl_syntax.specs.view.Expressions.{view, pair_of, list_before};
 ghost use Rattle.snl_syntax.specs.view.Lists.{term_list};
 ghost use Rattle.snl_syntax.specs.Expressions.{no_arguments};
+ghost use Rattle.snl_resolve.specs.Calls as calls;
+ghost use Rattle.snl_resolve.specs.Calls.{unless};
 ghost use Rattle.snl_resolve.specs.Chains.{scopes_of};
 ghost use Rattle.snl_resolve.specs.Sites as spec;
 
+use crate::builtins::builtin_of;
+use crate::calls::{is_word, word_at};
 use crate::scopes::Scopes;
 use crate::sites::{Purpose, Site};
 use crate::tokens::{note_call, note_change, note_constant, note_format, note_prefix, note_use};
@@ -39,7 +43,8 @@ pub fn note_expression<'a>(
         Expr::Call(name, arguments) => {
             let arguments = arguments.as_slice();
             let inside = note_call(arguments, purpose, in_condition, *name, sites)?;
-            note_arguments(arguments, in_condition, scopes, inside, sites)
+            let word = word_at(builtin_of(name.text));
+            note_arguments(arguments, in_condition, scopes, inside, word, sites)
         }
         Expr::Postfix(target, operator) => {
             note_change(purpose, target, *operator, sites)?;
@@ -89,43 +94,51 @@ fn note_terms<'a>(
     Ok(())
 }
 
-/// Notes the sites in the arguments of a call.
+/// Notes the sites in the arguments of a call, so many up to the one that may be the word `ASYNC`.
 #[cycle(expression)]
 fn note_arguments<'a>(
     arguments: &[Argument<'a>],
     in_condition: bool,
     scopes: &Scopes<'_, 'a>,
     purpose: Purpose,
+    word: usize,
     sites: &mut Vec<Site<'a>>,
 ) -> Result<(), AllocError>
     ensures { OnOk result (sites.new.items ≡ sites.old.items
-        ++ spec.in_arguments in_condition (scopes_of scopes.now) purpose
+        ++ spec.in_arguments in_condition (scopes_of scopes.now) purpose word
         (list_before arguments.now no_arguments)) }
 {
     let mut left = arguments.len();
+    let mut until = word;
     for argument in arguments {
         left -= 1;
-        note_argument(argument, in_condition, scopes, purpose, left, sites)?;
+        match argument {
+            Argument::Value(value) => {
+                note_argument(value, in_condition, scopes, purpose, until, sites)?;
+            }
+            Argument::Text(format) => note_format(purpose, *format, left, sites)?,
+        }
+        until = until.saturating_sub(1);
     }
     Ok(())
 }
 
-/// Notes the sites in an argument, with so many arguments after it.
+/// Notes the sites in an argument that is no string. Where one is left up to it, it may be the word `ASYNC`, in which nothing is noted.
 #[cycle(expression)]
 fn note_argument<'a>(
-    argument: &Argument<'a>,
+    value: &Expr<'a>,
     in_condition: bool,
     scopes: &Scopes<'_, 'a>,
     purpose: Purpose,
-    count: usize,
+    word: usize,
     sites: &mut Vec<Site<'a>>,
 ) -> Result<(), AllocError>
     ensures { OnOk result (sites.new.items ≡ sites.old.items
-        ++ spec.in_argument in_condition (scopes_of scopes.now) purpose
-        (argument_of argument.now) count) }
+        ++ unless (calls.is_word word (view value.now))
+        (spec.in_expression in_condition (scopes_of scopes.now) purpose (view value.now))) }
 {
-    match argument {
-        Argument::Value(value) => note_expression(value, in_condition, scopes, purpose, sites),
-        Argument::Text(format) => note_format(purpose, *format, count, sites),
+    if is_word(word, value) {
+        return Ok(());
     }
+    note_expression(value, in_condition, scopes, purpose, sites)
 }

@@ -1,7 +1,7 @@
 //! Laws of the definitions that the sites speak of, and examples. Each function is its contract.
 
 ghost use Rattle.snl_resolve.specs.Laws.{BindingIsOne, DeclaredIsMeant, PlaceIsMeant};
-ghost use Rattle.snl_resolve.specs.Examples.{ConstantExamples, ScopeExamples, SiteExamples};
+ghost use Rattle.snl_resolve.specs.Examples.{AsyncExamples, ConstantExamples, ScopeExamples, SiteExamples};
 
 /// What a name means by the relation is what it is bound to.
 pub fn binding_is_one()
@@ -31,4 +31,9 @@ pub fn examples_of_scopes()
 /// The sites of small expressions and statements.
 pub fn examples_of_sites()
     ensures { SiteExamples }
+{}
+
+/// The sites of calls with the word `ASYNC`.
+pub fn examples_of_async()
+    ensures { AsyncExamples }
 {}

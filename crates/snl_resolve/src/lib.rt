@@ -31,6 +31,7 @@ mod uses;
 mod variables;
 
 pub use builtins::{Builtin, Query, builtin_of};
+pub use calls::has_async;
 pub use constants::{Constant, constant_of, predefined};
 pub use definition_scopes::scope_of;
 pub use initialisers::range_of;

@@ -25,12 +25,7 @@ pub struct Options {
 pub fn has_letter(letters: &[u8], letter: u8) -> bool
     ensures { result ≡ spec.is_among letters.now letter }
 {
-    for next in letters {
-        if letter == *next {
-            return true;
-        }
-    }
-    false
+    letters.iter().any(|next| letter == *next)
 }
 
 /// The sign of a letter after an option with this sign and these letters, where `before` was in

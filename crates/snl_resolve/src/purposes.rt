@@ -67,7 +67,7 @@ fn argument_of(form: Form) -> Purpose
     ensures { result ≡ spec.argument_of form }
 {
     match form {
-        Form::ChannelPlace => Purpose::Channel,
+        Form::ChannelPlace | Form::PutPlace => Purpose::Channel,
         Form::QueueName => Purpose::Queued,
         Form::FlagName => Purpose::Flagged,
         Form::Seconds => Purpose::Delayed,

@@ -1,3 +1,4 @@
+pub mod NameExampleLaws
 pub mod NamedLaws
 pub mod FactLaws
 pub mod RuleLaws

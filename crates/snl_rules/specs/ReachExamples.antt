@@ -71,6 +71,17 @@ third_state = state_of (name 3 (codes "b")) None []
 abbrev pub three_states : List StateTree
 three_states = first_state ∷ second_state ∷ third_state ∷ []
 
+-- `state a { when () { } exit } state b { when () { } state c } state c { }`
+abbrev pub named_by_one_that_is_not_reached : List StateTree
+named_by_one_that_is_not_reached =
+    state_of (name 1 (codes "a")) None (always (block [] no_statements) to_exit ∷ [])
+    ∷ state_of (name 2 (codes "b")) None (always (block [] no_statements) (to_state (name 10 (codes "c"))) ∷ [])
+    ∷ state_of (name 3 (codes "c")) None [] ∷ []
+
+-- No way leads to a state that is named by a state alone to which none leads.
+abbrev pub NameExamples : Type 0
+NameExamples = IsReached named_by_one_that_is_not_reached 0 × IsUnreachedIn named_by_one_that_is_not_reached (name 2 (codes "b")) × IsUnreachedIn named_by_one_that_is_not_reached (name 3 (codes "c"))
+
 -- The second state is reached. The third has its name, so no way leads to it.
 abbrev pub WayExamples : Type 0
 WayExamples = IsReached three_states 0 × IsReached three_states 1 × IsUnreachedIn three_states (name 3 (codes "b"))

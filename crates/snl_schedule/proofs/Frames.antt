@@ -4,12 +4,12 @@ use Rattle.std.specs.Prelude.{slice_set, slice_index_or}
 use Rattle.snl_meaning.specs.declared.ties.Tied.{Tied}
 use Rattle.snl_meaning.specs.Frames.{Frame, at_time, frame_of}
 use Rattle.snl_meaning.specs.Links.{home_of, with_buffer, buffer_of, is_queued, enqueued, flagged, all_marked, announced}
-use Rattle.snl_meaning.specs.World.{World, with_flag}
-use Rattle.snl_meaning.proofs.Frames.{Same, same-both, copy-same, queue-same, flag-same, buffer-same, elements-same, marks-same}
+use Rattle.snl_meaning.specs.World.{World, with_flag, with_waiting}
+use Rattle.snl_meaning.proofs.Frames.{Same, same-both, copy-same, queue-same, flag-same, buffer-same, elements-same, marks-same, waiting-same}
 use Rattle.snl_meaning.proofs.Sizes.{set-many, mark-many, marked-many}
 use Rattle.snl_schedule.specs.declared.events.Event.{Event}
-use Rattle.snl_schedule.specs.declared.events.Event.TheVariants.{Up, Down, Val, Tick, Other}
-use Rattle.snl_schedule.specs.Arrivals.{is_of, received_link, received_from}
+use Rattle.snl_schedule.specs.declared.events.Event.TheVariants.{Up, Down, Val, Done, Tick, Other}
+use Rattle.snl_schedule.specs.Arrivals.{is_of, at_links, received_link, received_from, answered_link, answered, connected}
 use Rattle.snl_schedule.specs.Event.{applied}
 use Rattle.snl_schedule.specs.Instant.{Program, refreshed_sets}
 use Rattle.snl_schedule.specs.Refresh.{is_marked, with_mark, copied_to, refreshed_link, refreshed_from, refreshed}
@@ -92,10 +92,29 @@ received-same channel values number (t ∷ ts) w =
     let u = received_link channel values number t w in
     same-both w u (received_from channel values (number + 1) ts u) (come-same channel values number t w) (received-same channel values (number + 1) ts u)
 
+-- at one link a put is answered
+answer-same : (channel number : ℕ) (t : Tied) (w : World) → Same w (answered_link channel number t w)
+answer-same channel number t w = by (is_of channel t)
+  where
+    by : (b : Bool) → Same w (if b then with_waiting number false w else w)
+    by true = waiting-same number false w
+    by false = refl
+
+-- at links from a number on
+answered-same : (channel number : ℕ) (ts : List Tied) (w : World) → Same w (at_links (answered_link channel) number ts w)
+answered-same channel number [] w = refl
+answered-same channel number (t ∷ ts) w =
+    let u = answered_link channel number t w in
+    same-both w u (at_links (answered_link channel) (number + 1) ts u) (answer-same channel number t w) (answered-same channel (number + 1) ts u)
+
 -- an event
 pub event-same : (q : Program) (event : Event) (w : World) → Same w (applied q event w)
 event-same q (Up channel) w = ap (λ (n : ℕ). let f = frame_of w in record f { ups = n }) (set-many w.ups channel true)
-event-same q (Down channel) w = ap (λ (n : ℕ). let f = frame_of w in record f { ups = n }) (set-many w.ups channel false)
+event-same q (Down channel) w =
+    let v = connected channel false w in
+    same-both w v (answered q channel v) (ap (λ (n : ℕ). let f = frame_of w in record f { ups = n }) (set-many w.ups channel false))
+    (answered-same channel 0 q.links v)
+event-same q (Done channel) w = answered-same channel 0 q.links w
 event-same q (Val channel values) w =
     let v = record w { valued = slice_set w.valued channel true } in
     same-both w v (received_from channel values.items 0 q.links v) (ap (λ (n : ℕ). let f = frame_of w in record f { valued = n }) (set-many w.valued channel true))

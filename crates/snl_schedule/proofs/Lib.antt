@@ -6,6 +6,7 @@ pub mod OneByOne
 pub mod Opening
 pub mod Facts
 pub mod Rows
+pub mod Answering
 pub mod Going
 pub mod Ending
 pub mod Staying

@@ -2,14 +2,14 @@
 use Rattle.std.proofs.Common.{◌≡◌, ◌∙◌, ◌+◌, ◌-◌, ◌<◌, ◌≤◌, ◌==◌, refl, ℕ, zero, suc, ℤ, Bool, true, false, not, ◌&&◌, ◌||◌, List, [], ◌∷◌, Option, None, Some, ap, sym, arith, map, drop, take, slice_get, slice_index_or, if◌then◌else◌}
 use Rattle.std.proofs.Math.Seq.{drop-nil}
 use Rattle.std.specs.List.{list_all}
-use Rattle.snl_meaning.specs.World.{World}
+use Rattle.snl_meaning.specs.World.{World, with_waiting}
 use Rattle.snl_vm.specs.Marks.{IsFirst}
 use Rattle.snl_vm.specs.Rows.{has_key, numbers_of}
 use Rattle.snl_meaning.specs.declared.ties.Tied.{Tied}
 use Rattle.snl_meaning.specs.Links.{home_of, with_buffer, noticed}
-use Rattle.snl_schedule.specs.Arrivals.{is_of, is_link_fit, are_fit, received_link, received_from}
+use Rattle.snl_schedule.specs.Arrivals.{is_of, is_link_fit, are_fit, AtLink, at_links, received_link, answered_link}
 use Rattle.snl_schedule.specs.Instant.{Program}
-use Rattle.snl_schedule.specs.Linked.{received_over, is_fit_at}
+use Rattle.snl_schedule.specs.Linked.{done_over, is_fit_at}
 use Rattle.snl_schedule.specs.Refresh.{is_marked, with_mark, copied_to, refreshed_from}
 
 -- the member with which the rest of a list begins
@@ -40,36 +40,38 @@ same-key channel l = by l.channel
 
 -- ---- values
 
--- one link, before the others
-one-received : (p : Program) (channel : ℕ) (values : List ℤ) (k : ℕ) (l : Tied) (ls : List Tied) (numbers : List ℕ) (w : World) → slice_get p.links k ≡ Some l →
-    ((u : World) → received_over p channel values numbers u ≡ received_from channel values (k + 1) ls u) →
-    received_over p channel values (if has_key channel l.channel then k ∷ numbers else numbers) w ≡ received_from channel values (k + 1) ls (received_link channel values k l w)
-one-received p channel values k l ls numbers w at onward = by (has_key channel l.channel) refl
-  where
-    by : (b : Bool) → has_key channel l.channel ≡ b →
-        received_over p channel values (if has_key channel l.channel then k ∷ numbers else numbers) w
-        ≡ received_from channel values (k + 1) ls (received_link channel values k l w)
-    by true has =
-        ap (λ (b : Bool). received_over p channel values (if b then k ∷ numbers else numbers) w) has
-        ∙ ap (λ (o : Option Tied). received_over p channel values numbers (elim o [ None ↦ w | Some x ↦ received_link channel values k x w ])) at
-        ∙ onward (received_link channel values k l w)
-    by false has =
-        ap (λ (b : Bool). received_over p channel values (if b then k ∷ numbers else numbers) w) has
-        ∙ onward w
-        ∙ ap (λ (b : Bool). received_from channel values (k + 1) ls (if b then noticed k l (with_buffer l (take l.count values) w) else w)) (sym (same-key channel l ∙ has))
+module _ (p : Program) (channel : ℕ) (act : AtLink) (idle : (number : ℕ) (l : Tied) (w : World) → is_of channel l ≡ false → act number l w ≡ w) where
+  -- one link, before the others
+  one-done : (k : ℕ) (l : Tied) (ls : List Tied) (numbers : List ℕ) (w : World) → slice_get p.links k ≡ Some l →
+      ((u : World) → done_over p act numbers u ≡ at_links act (k + 1) ls u) →
+      done_over p act (if has_key channel l.channel then k ∷ numbers else numbers) w ≡ at_links act (k + 1) ls (act k l w)
+  one-done k l ls numbers w at onward = by (has_key channel l.channel) refl
+    where
+      by : (b : Bool) → has_key channel l.channel ≡ b → done_over p act (if b then k ∷ numbers else numbers) w ≡ at_links act (k + 1) ls (act k l w)
+      by true has =
+          ap (λ (o : Option Tied). done_over p act numbers (elim o [ None ↦ w | Some x ↦ act k x w ])) at
+          ∙ onward (act k l w)
+      by false has = onward w ∙ ap (λ (u : World). at_links act (k + 1) ls u) (sym (idle k l w (same-key channel l ∙ has)))
 
--- those of a channel are all links that take its values
-over-links : (p : Program) (channel : ℕ) (values : List ℤ) (k : ℕ) (ls : List Tied) (w : World) → drop k p.links ≡ ls →
-    received_over p channel values (numbers_of channel k (map (λ l. l.channel) ls)) w ≡ received_from channel values k ls w
-over-links p channel values k [] w is = refl
-over-links p channel values k (l ∷ ls) w is =
-    one-received p channel values k l ls (numbers_of channel (k + 1) (map (λ x. x.channel) ls)) w (front-get p.links k l ls is)
-    (λ u. over-links p channel values (k + 1) ls u (front-next p.links k l ls is))
+  -- those of a channel are all links where something is done
+  over-links : (k : ℕ) (ls : List Tied) (w : World) → drop k p.links ≡ ls →
+      done_over p act (numbers_of channel k (map (λ l. l.channel) ls)) w ≡ at_links act k ls w
+  over-links k [] w is = refl
+  over-links k (l ∷ ls) w is =
+      one-done k l ls (numbers_of channel (k + 1) (map (λ x. x.channel) ls)) w (front-get p.links k l ls is)
+      (λ u. over-links (k + 1) ls u (front-next p.links k l ls is))
 
--- from the first on
-pub over_links : (p : Program) (channel : ℕ) (values : List ℤ) (w : World) →
-    received_over p channel values (numbers_of channel 0 (map (λ l. l.channel) p.links)) w ≡ received_from channel values 0 p.links w
-over_links p channel values w = over-links p channel values 0 p.links w refl
+  -- from the first on
+  pub over_links : (w : World) → done_over p act (numbers_of channel 0 (map (λ l. l.channel) p.links)) w ≡ at_links act 0 p.links w
+  over_links w = over-links 0 p.links w refl
+
+-- values come to no other link
+pub receives_idle : (channel : ℕ) (values : List ℤ) (number : ℕ) (l : Tied) (w : World) → is_of channel l ≡ false → received_link channel values number l w ≡ w
+receives_idle channel values number l w is = ap (λ (b : Bool). if b then noticed number l (with_buffer l (take l.count values) w) else w) is
+
+-- nor do answers
+pub answers_idle : (channel number : ℕ) (l : Tied) (w : World) → is_of channel l ≡ false → answered_link channel number l w ≡ w
+answers_idle channel number l w is = ap (λ (b : Bool). if b then with_waiting number false w else w) is
 
 -- one link, before the others
 one-fits : (all : List Tied) (channel : ℕ) (values : List ℤ) (k : ℕ) (l : Tied) (ls : List Tied) (numbers : List ℕ) → slice_get all k ≡ Some l →

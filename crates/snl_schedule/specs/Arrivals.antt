@@ -3,7 +3,7 @@ use Rattle.std.specs.Prelude.{ℕ, ◌+◌, ℤ, int_le, Bool, true, false, not,
 use Rattle.std.specs.List.{list_all}
 use Rattle.snl_meaning.specs.declared.ties.Tied.{Tied}
 use Rattle.snl_meaning.specs.Links.{with_buffer, noticed}
-use Rattle.snl_meaning.specs.World.{World}
+use Rattle.snl_meaning.specs.World.{World, with_waiting}
 use Rattle.snl_schedule.specs.Instant.{Program}
 
 -- Whether a link is tied to a channel.
@@ -14,10 +14,26 @@ is_of channel l = elim l.channel [ None ↦ false | Some c ↦ c == channel ]
 abbrev pub received_link : ℕ → List ℤ → ℕ → Tied → World → World
 received_link channel values number l w = if is_of channel l then noticed number l (with_buffer l (take l.count values) w) else w
 
--- The same at the links from a number on.
+-- What is done at a link, by its number.
+abbrev pub AtLink : Type 0
+AtLink = ℕ → Tied → World → World
+
+-- That is done at each of some links, with numbers from one on.
+abbrev pub at_links : AtLink → ℕ → List Tied → World → World
+at_links act number [] w = w
+at_links act number (l ∷ ls) w = at_links act (number + 1) ls (act number l w)
+
+-- Values come at the links from a number on.
 abbrev pub received_from : ℕ → List ℤ → ℕ → List Tied → World → World
-received_from channel values number [] w = w
-received_from channel values number (l ∷ ls) w = received_from channel values (number + 1) ls (received_link channel values number l w)
+received_from channel values = at_links (received_link channel values)
+
+-- The puts of a channel were answered: a link of it does not wait any more.
+abbrev pub answered_link : ℕ → AtLink
+answered_link channel number l w = if is_of channel l then with_waiting number false w else w
+
+-- The same at all links of a program.
+abbrev pub answered : Program → ℕ → World → World
+answered p channel w = at_links (answered_link channel) 0 p.links w
 
 -- A channel of a program has values.
 abbrev pub received : Program → ℕ → List ℤ → World → World

@@ -1,20 +1,21 @@
 -- What one line of a trace does: first all wakes before its time, then the event.
 use Rattle.std.specs.Prelude.{◌≡◌, ℕ, zero, suc, ◌-◌, Bool, true, false, ◌&&◌, nat_lt, List, [], Option, None, Some, if◌then◌else◌}
 use Rattle.snl_schedule.specs.declared.events.Event.{Event}
-use Rattle.snl_schedule.specs.declared.events.Event.TheVariants.{Up, Down, Val, Tick, Other}
+use Rattle.snl_schedule.specs.declared.events.Event.TheVariants.{Up, Down, Val, Done, Tick, Other}
 use Rattle.snl_meaning.specs.declared.live.Live.{Live}
 use Rattle.snl_meaning.specs.declared.live.Live.TheVariants.{Running, Ended}
 use Rattle.snl_meaning.specs.Ran.{Ran, Gives, Faults, then_do}
 use Rattle.snl_meaning.specs.World.{World}
 use Rattle.snl_meaning.specs.declared.ties.Tied.{Tied}
-use Rattle.snl_schedule.specs.Arrivals.{connected, received, are_fit}
+use Rattle.snl_schedule.specs.Arrivals.{connected, received, answered, are_fit}
 use Rattle.snl_schedule.specs.Instant.{Program, instant_of}
 
--- What an event changes of channels and buffers.
+-- What an event changes of channels and buffers. A channel that goes down answers no puts any more, so no link of it waits.
 abbrev pub applied : Program → Event → World → World
 applied p (Up channel) w = connected channel true w
-applied p (Down channel) w = connected channel false w
+applied p (Down channel) w = answered p channel (connected channel false w)
 applied p (Val channel values) w = received p channel values.items w
+applied p (Done channel) w = answered p channel w
 applied p Tick w = w
 applied p Other w = w
 
@@ -81,5 +82,6 @@ abbrev pub is_event_fit : ℕ → List Tied → Event → Bool
 is_event_fit channels ls (Up channel) = nat_lt channel channels
 is_event_fit channels ls (Down channel) = nat_lt channel channels
 is_event_fit channels ls (Val channel values) = nat_lt channel channels && are_fit channel values.items ls
+is_event_fit channels ls (Done channel) = nat_lt channel channels
 is_event_fit channels ls Tick = true
 is_event_fit channels ls Other = true

@@ -5,6 +5,7 @@ pub mod Instant
 pub mod Loaded
 pub mod Arrivals
 pub mod Linked
+pub mod Answers
 pub mod Goes
 pub mod Event
 pub mod Laws

@@ -4,7 +4,7 @@ ghost use Rattle.std.specs.Prelude.{◌≡◌, map, take, true};
 ghost use Rattle.std.specs.List.{list_all};
 ghost use Rattle.snl_vm.specs.Views.{world_of};
 ghost use Rattle.snl_schedule.specs.Arrivals as spec;
-ghost use Rattle.snl_schedule.specs.Linked.{received_at, received_over, is_fit_at};
+ghost use Rattle.snl_schedule.specs.Linked.{done_at, done_over, is_fit_at};
 ghost use Rattle.snl_schedule.specs.Loaded.{loaded, program_of};
 
 use crate::plans::{Plan, ProgramContext};
@@ -47,9 +47,8 @@ fn receive_at(
     program: &ProgramContext,
     store: &mut Store,
 )
-    ensures { world_of store.new ≡ received_at (program_of (loaded program.now)) channel
-        values.now
-        number (world_of store.old) }
+    ensures { world_of store.new ≡ done_at (program_of (loaded program.now))
+        (spec.received_link channel values.now) number (world_of store.old) }
 {
     if let Some(link) = program.plan.links.get(number) {
         receive_link(channel, values, number, *link, store);
@@ -64,8 +63,8 @@ fn receive_over(
     program: &ProgramContext,
     store: &mut Store,
 )
-    ensures { world_of store.new ≡ received_over (program_of (loaded program.now)) channel
-        values.now row.now (world_of store.old) }
+    ensures { world_of store.new ≡ done_over (program_of (loaded program.now))
+        (spec.received_link channel values.now) row.now (world_of store.old) }
 {
     for number in row {
         receive_at(channel, values, *number, program, store);
@@ -107,16 +106,50 @@ pub fn connect(channel: usize, now: bool, store: &mut Store)
     }
 }
 
+/// The puts of a channel were answered, at a link of this number: it does not wait any more.
+fn answer_link(channel: usize, number: usize, link: Tied, store: &mut Store)
+    ensures { world_of store.new ≡ spec.answered_link channel number link (world_of store.old) }
+{
+    if is_of(link, channel) {
+        store.set_waiting(number, false);
+    }
+}
+
+/// The same at a number; nothing where there is no such link.
+fn answer_at(channel: usize, number: usize, program: &ProgramContext, store: &mut Store)
+    ensures { world_of store.new ≡ done_at (program_of (loaded program.now))
+        (spec.answered_link channel) number (world_of store.old) }
+{
+    if let Some(link) = program.plan.links.get(number) {
+        answer_link(channel, number, *link, store);
+    }
+}
+
+/// The same at some numbers, one after another.
+fn answer_over(row: &[usize], channel: usize, program: &ProgramContext, store: &mut Store)
+    ensures { world_of store.new ≡ done_over (program_of (loaded program.now))
+        (spec.answered_link channel) row.now (world_of store.old) }
+{
+    for number in row {
+        answer_at(channel, *number, program, store);
+    }
+}
+
+/// The puts of a channel were answered: none of its links waits any more.
+pub fn answer(channel: usize, program: &ProgramContext, store: &mut Store)
+    ensures { world_of store.new ≡ spec.answered (program_of (loaded program.now)) channel
+        (world_of store.old) }
+{
+    answer_over(program.plan.links_of(channel), channel, program, store);
+}
+
 /// Whether the values that a link takes fit its variable.
 fn fit_link(link: Tied, values: &[i64]) -> bool
     ensures { result ≡ spec.is_link_fit values.now link }
 {
-    for value in kept(link, values) {
-        if *value < link.least || link.greatest < *value {
-            return false;
-        }
-    }
-    true
+    kept(link, values)
+        .iter()
+        .all(|value| link.least <= *value && *value <= link.greatest)
 }
 
 /// The same of the link of a number, if there is one.

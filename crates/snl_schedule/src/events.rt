@@ -10,10 +10,12 @@ pub const VALUES_KEPT: usize = 1024;
 pub enum Event {
     /// The channel is connected.
     Up(usize),
-    /// The channel is not connected any more.
+    /// The channel is not connected any more. No link of it waits for an answer then.
     Down(usize),
     /// The channel has these values.
     Val(usize, ArrayVec<i64, VALUES_KEPT>),
+    /// The puts to the channel were answered: no link of it waits any more.
+    Done(usize),
     /// Time has passed.
     Tick,
     /// Something about a channel that the program does not use.

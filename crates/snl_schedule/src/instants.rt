@@ -166,6 +166,7 @@ pub fn rounds<S: Sink, L: Ledger>(
 }
 
 /// What happens at one time, with so many ticks: the start, if it is due, and rounds until one has no transition.
+#[inline(always)]
 pub fn instant<S: Sink, L: Ledger>(
     program: &ProgramContext,
     budget: u32,

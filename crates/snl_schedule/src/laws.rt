@@ -1,5 +1,6 @@
 //! Laws of events. Each function is its contract, and does nothing.
 
+ghost use Rattle.snl_schedule.specs.Answers.{AnswersChangeNoMore, AnswersReachTheChannel};
 ghost use Rattle.snl_schedule.specs.Laws.{AnswersThePhase, EndedAnswersEnded, EndedStays, FlagsStay, RefreshWithoutMarks};
 
 /// An event in a world that has ended gives that world, the answer that it has ended, and no text.
@@ -33,4 +34,16 @@ pub fn refresh_without_marks()
 #[tactic(auto, using(crate::proofs::Staying::flags_stay))]
 pub fn flags_stay()
     ensures { FlagsStay }
+{}
+
+/// An answer to puts changes which links wait, and no more.
+#[tactic(auto, using(crate::proofs::Answering::answers_change_no_more))]
+pub fn answers_change_no_more()
+    ensures { AnswersChangeNoMore }
+{}
+
+/// After it no link of the channel waits, and each other one as before.
+#[tactic(auto, using(crate::proofs::Answering::answers_reach_the_channel))]
+pub fn answers_reach_the_channel()
+    ensures { AnswersReachTheChannel }
 {}

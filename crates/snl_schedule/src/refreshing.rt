@@ -38,6 +38,7 @@ fn unmark(store: &mut Store, set: usize, link: usize)
 }
 
 /// The refresh of a link that is marked.
+#[inline(always)]
 fn take_in(link: usize, tie: Tied, set: usize, store: &mut Store)
     ensures { world_of store.new ≡ spec.with_mark set link false
         (spec.copied_to set (home_of set link (world_of store.old)) tie (world_of store.old)) }
@@ -49,6 +50,7 @@ fn take_in(link: usize, tie: Tied, set: usize, store: &mut Store)
 
 /// The refresh of a state set: the buffer of each link that is marked for it is copied, and the mark is taken away. It
 /// looks at marked links alone.
+#[inline(always)]
 pub fn refresh(set: usize, store: &mut Store)
     ensures { world_of store.new ≡ spec.refreshed set (world_of store.old) }
 {

@@ -11,7 +11,7 @@ ghost use Rattle.snl_vm.specs.Views.{world_of};
 ghost use Rattle.snl_schedule.specs.Loaded.{CanRunLoaded, loaded, program_of};
 ghost use Rattle.snl_schedule.specs.Steps.{all_wakes_steps, event_steps, passed_steps, line_steps};
 
-use crate::arrivals::{connect, fit_links, receive};
+use crate::arrivals::{answer, connect, fit_links, receive};
 use crate::events::Event;
 use crate::instants::instant;
 use crate::plans::{Plan, ProgramContext};
@@ -27,8 +27,12 @@ fn apply(event: &Event, program: &ProgramContext, store: &mut Store)
 {
     match event {
         Event::Up(channel) => connect(*channel, true, store),
-        Event::Down(channel) => connect(*channel, false, store),
+        Event::Down(channel) => {
+            connect(*channel, false, store);
+            answer(*channel, program, store);
+        }
         Event::Val(channel, values) => receive(*channel, values.as_slice(), program, store),
+        Event::Done(channel) => answer(*channel, program, store),
         Event::Tick | Event::Other => {}
     }
 }
@@ -39,7 +43,7 @@ pub fn fits(event: &Event, channels: usize, plan: &Plan) -> bool
     ensures { result ≡ spec.is_event_fit channels plan.now.links.items event.now }
 {
     match event {
-        Event::Up(channel) | Event::Down(channel) => *channel < channels,
+        Event::Up(channel) | Event::Down(channel) | Event::Done(channel) => *channel < channels,
         Event::Val(channel, values) => {
             *channel < channels && fit_links(*channel, values.as_slice(), plan)
         }

@@ -7,4 +7,5 @@ pub mod Definitions
 pub mod Statements
 pub mod Programs
 pub mod Begins
+pub mod GroupExamples
 pub mod view

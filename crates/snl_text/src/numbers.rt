@@ -102,12 +102,7 @@ fn whole_number(text: &[u8]) -> Option<u64>
 fn is_all<C: ByteClass>(bytes: &[u8]) -> bool
     ensures { result ≡ list_all C.has bytes.now }
 {
-    for byte in bytes {
-        if !C::has(*byte) {
-            return false;
-        }
-    }
-    true
+    bytes.iter().all(|byte| C::has(*byte))
 }
 
 /// What a decimal constant is worth.

@@ -18,6 +18,7 @@ pub data Told : Type 0 where
   Down : (name : List ℕ) → Told
   Val : (name : List ℕ) (values : List ℤ) → Told
   Tick : Told
+  Done : (name : List ℕ) → Told
 
 infixl 10 ◌>>=◌
 -- the first fault, or else what comes of the value
@@ -55,13 +56,17 @@ unfoldable pub name_alone : List (List ℕ) → Result (List ℕ) TraceFault
 name_alone [] = Err FieldCount
 name_alone (name ∷ rest) = ended rest >>= λ _. Ok name
 
--- what follows each word: a name; a name; a name, and one or more values; nothing
+-- what `up` tells with these fields after it
 unfoldable pub up_with : List (List ℕ) → Result Told TraceFault
 up_with rest = name_alone rest >>= λ name. Ok (Up name)
 
 -- what `down` tells with these fields after it
 unfoldable pub down_with : List (List ℕ) → Result Told TraceFault
 down_with rest = name_alone rest >>= λ name. Ok (Down name)
+
+-- what `done` tells with these fields after it
+unfoldable pub done_with : List (List ℕ) → Result Told TraceFault
+done_with rest = name_alone rest >>= λ name. Ok (Done name)
 
 -- what `val` tells with these fields after it
 unfoldable pub val_with : List (List ℕ) → Result Told TraceFault
@@ -79,6 +84,7 @@ word_of field =
     else if bytes_eq field (codes "down") then Some words.Down
     else if bytes_eq field (codes "val") then Some words.Val
     else if bytes_eq field (codes "tick") then Some words.Tick
+    else if bytes_eq field (codes "done") then Some words.Done
     else None
 
 -- what a word tells with these fields after it
@@ -88,6 +94,7 @@ told_after (Some words.Up) rest = up_with rest
 told_after (Some words.Down) rest = down_with rest
 told_after (Some words.Val) rest = val_with rest
 told_after (Some words.Tick) rest = tick_with rest
+told_after (Some words.Done) rest = done_with rest
 
 -- what the fields behind the time tell
 unfoldable pub told_by : List (List ℕ) → Result Told TraceFault
@@ -132,6 +139,11 @@ abbrev pub down_at : Option ℕ → Event
 down_at None = events.Other
 down_at (Some number) = events.Down number
 
+-- the same where the puts of a channel were answered
+abbrev pub done_at : Option ℕ → Event
+done_at None = events.Other
+done_at (Some number) = events.Done number
+
 -- an event, if it fits
 abbrev pub if_fits : Bool → Event → Result Event TraceFault
 if_fits fits event = if fits then Ok event else Err OutOfRange
@@ -151,6 +163,7 @@ event_of channel fits (Up name) = Ok (up_at (channel name))
 event_of channel fits (Down name) = Ok (down_at (channel name))
 event_of channel fits (Val name values) = val_at fits (channel name) values
 event_of channel fits Tick = Ok events.Tick
+event_of channel fits (Done name) = Ok (done_at (channel name))
 
 -- the same, with its time, of a line that tells one
 abbrev pub event_at : (List ℕ → Option ℕ) → (Event → Bool) → Option (ℕ × Told) → Result (Option (ℕ × Event)) TraceFault

@@ -16,6 +16,7 @@ use Rattle.snl_trace.specs.Grammar.{Told, ◌>>=◌}
 abbrev pub told : List ℤ → Telling → Told
 told values (telling.Up name) = grammar.Up name.now
 told values (telling.Down name) = grammar.Down name.now
+told values (telling.Done name) = grammar.Done name.now
 told values (telling.Val name) = grammar.Val name.now values
 told values telling.Tick = grammar.Tick
 
@@ -36,9 +37,24 @@ told_seen values heard = option_map (λ at. (at.0, told values at.1)) heard
 abbrev pub event_heard : Event → Heard → Event
 event_heard room (heard.Up channel) = events.Up channel
 event_heard room (heard.Down channel) = events.Down channel
+event_heard room (heard.Done channel) = events.Done channel
 event_heard room heard.Values = room
 event_heard room heard.Tick = events.Tick
 event_heard room heard.Other = events.Other
+
+-- the channel of an event that says no more; 0 of any other
+abbrev pub channel_in : Event → ℕ
+channel_in (events.Up channel) = channel
+channel_in (events.Down channel) = channel
+channel_in (events.Done channel) = channel
+channel_in event = 0
+
+-- the same event of another channel
+abbrev pub with_channel : ℕ → Event → Event
+with_channel number (events.Up channel) = events.Up number
+with_channel number (events.Down channel) = events.Down number
+with_channel number (events.Done channel) = events.Done number
+with_channel number event = event
 
 -- the time and the event that was heard, if one was
 abbrev pub event_seen : Event → Option (ℕ × Heard) → Option (ℕ × Event)
@@ -53,5 +69,6 @@ abbrev pub HasRoom : Event → Type 0
 HasRoom (events.Val channel values) = Unit {0}
 HasRoom (events.Up channel) = ⊥
 HasRoom (events.Down channel) = ⊥
+HasRoom (events.Done channel) = ⊥
 HasRoom events.Tick = ⊥
 HasRoom events.Other = ⊥

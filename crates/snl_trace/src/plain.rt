@@ -179,9 +179,7 @@ fn telling<'t>(text: &'t [u8], values: &mut Values) -> Option<(Telling<'t>, &'t 
 
 /// The plain line that a text begins with, where its time is not below that of the last event. The values of a `val` take
 /// the place of those that stood there. None says nothing.
-///
-/// It is never put in place of its call: in a function of its own the loops have all registers.
-#[inline(never)]
+#[inline(always)]
 pub fn plain_line<'t>(text: &'t [u8], last_ms: u64, values: &mut Values) -> Option<Plain<'t>>
     ensures cut { IfSome result (λ plain. text.now ≡ plain.line.now ++ 10 ∷ plain.rest.now) }
     ensures first { IfSome result (λ plain. All (λ byte. byte ≢ 10) plain.line.now) }

@@ -4,7 +4,7 @@ ghost use Rattle.std.specs.Prelude.{◌≡◌};
 ghost use Rattle.snl_machine.specs.Lookup.{channel_of, fits_of};
 ghost use Rattle.snl_trace.specs.Fields.{fields};
 ghost use Rattle.snl_trace.specs.Grammar as grammar;
-ghost use Rattle.snl_trace.specs.Grammar.{told_of, read_of, if_fits, up_at, down_at};
+ghost use Rattle.snl_trace.specs.Grammar.{told_of, read_of, if_fits, up_at, down_at, done_at};
 ghost use Rattle.snl_trace.specs.Seen.{seen, time_seen, told_seen, event_heard, event_seen, event_at_time, HasRoom};
 
 use crate::fields::{is_ascii_text, is_silent, trimmed};
@@ -25,6 +25,8 @@ pub enum Heard {
     Values,
     /// Time has passed.
     Tick,
+    /// The puts to a channel were answered.
+    Done(usize),
     /// Something about a channel that the program does not use.
     Other,
 }
@@ -56,6 +58,7 @@ fn event_of(heard: Heard, room: Event) -> Event
         Heard::Down(channel) => Event::Down(channel),
         Heard::Values => room,
         Heard::Tick => Event::Tick,
+        Heard::Done(channel) => Event::Done(channel),
         Heard::Other => Event::Other,
     }
 }
@@ -84,6 +87,7 @@ pub fn read_event(
             },
             Some((ms, Telling::Up(name))) => Ok(Some((ms, up(name, machine)))),
             Some((ms, Telling::Down(name))) => Ok(Some((ms, down(name, machine)))),
+            Some((ms, Telling::Done(name))) => Ok(Some((ms, done(name, machine)))),
             Some((ms, Telling::Tick)) => Ok(Some((ms, Heard::Tick))),
         },
         _ => unreachable!(),
@@ -155,6 +159,16 @@ fn down(name: &[u8], machine: &Machine) -> Heard
 {
     match machine.channel(name) {
         Some(channel) => Heard::Down(channel),
+        None => Heard::Other,
+    }
+}
+
+/// What is heard of a channel whose puts were answered.
+fn done(name: &[u8], machine: &Machine) -> Heard
+    ensures { (room : Event) → event_heard room result ≡ done_at (channel_of machine.now name.now) }
+{
+    match machine.channel(name) {
+        Some(channel) => Heard::Done(channel),
         None => Heard::Other,
     }
 }

@@ -3,7 +3,7 @@
 ghost use Rattle.std.specs.Prelude.{◌≡◌, ◌∷◌, [], ◌++◌, ℤ, List, take};
 ghost use Rattle.snl_trace.specs.Fields.{fields};
 ghost use Rattle.snl_trace.specs.Grammar as grammar;
-ghost use Rattle.snl_trace.specs.Grammar.{told_by, kept, values_of, kept_values, up_with, down_with, val_with, tick_with, ended, word_of};
+ghost use Rattle.snl_trace.specs.Grammar.{told_by, kept, values_of, kept_values, up_with, down_with, val_with, tick_with, done_with, ended, word_of};
 ghost use Rattle.snl_trace.specs.Seen.{seen, told};
 
 use crate::fields::{first_field, trimmed};
@@ -26,6 +26,8 @@ pub enum Word {
     Val,
     /// Time passes.
     Tick,
+    /// The puts to a channel were answered.
+    Done,
 }
 
 /// What a line tells, with a channel by its name. The values of a `val` stand apart.
@@ -39,6 +41,8 @@ pub enum Telling<'a> {
     Val(&'a [u8]),
     /// Time passes.
     Tick,
+    /// The puts to the channel of this name were answered.
+    Done(&'a [u8]),
 }
 
 /// The word that a field spells.
@@ -54,6 +58,8 @@ fn word_in(field: &[u8]) -> Option<Word>
         Some(Word::Val)
     } else if field == b"tick".as_slice() {
         Some(Word::Tick)
+    } else if field == b"done".as_slice() {
+        Some(Word::Done)
     } else {
         None
     }
@@ -72,6 +78,7 @@ pub fn heard<'a>(text: &'a [u8], values: &mut Values) -> Result<Telling<'a>, Tra
         Some(Word::Down) => down(rest),
         Some(Word::Val) => val(rest, values),
         Some(Word::Tick) => tick(rest),
+        Some(Word::Done) => done(rest),
     }
 }
 
@@ -89,6 +96,14 @@ fn down(rest: &[u8]) -> Result<Telling, TraceFault>
     ensures { (values : List ℤ) → seen (told values) result ≡ down_with (fields rest.now) }
 {
     Ok(Telling::Down(name_alone(rest)?))
+}
+
+/// What `done` tells: the name that follows it.
+#[tactic(auto, unfolding(crate::specs::Grammar::done_with))]
+fn done(rest: &[u8]) -> Result<Telling, TraceFault>
+    ensures { (values : List ℤ) → seen (told values) result ≡ done_with (fields rest.now) }
+{
+    Ok(Telling::Done(name_alone(rest)?))
 }
 
 /// The name that stands alone in a text.

@@ -20,18 +20,18 @@ queue_words q = q.ring.capacity
 abbrev pub mark_words : Marks → ℕ
 mark_words m = m.count
 
--- Those of a store: the state sets, the buffers, the queues, the marks, the event flags, of each channel whether it is connected
+-- Those of a store: the state sets, the buffers, the queues, the marks, the event flags, of each link whether it waits, of each channel whether it is connected
 -- and whether it was valued, and the time, the phase, the ticks, the wake and the least due time.
 abbrev pub store_words : Store → ℕ
 store_words s =
     sum_by copy_words s.copies.items + length s.buffers.items + sum_by queue_words s.queues.items + sum_by mark_words s.marks.items
-    + length s.flags.items + (length s.ups.items + length s.valued.items) + 5
+    + length s.flags.items + length s.waiting.items + (length s.ups.items + length s.valued.items) + 5
 
 -- The words of the worlds of a frame.
 abbrev pub frame_words : Frame → ℕ
 frame_words f =
     sum_by (λ (words : ℕ). words + 2) f.words + f.buffers + sum_by (λ (room : ℕ × ℕ). room.0 * room.1) f.queues + sum_by (λ (marks : ℕ). marks) f.marks
-    + f.flags + (f.ups + f.valued) + 5
+    + f.flags + f.waiting + (f.ups + f.valued) + 5
 
 -- A store holds the words of its world's frame, so it holds the same number as long as that stays.
 abbrev pub WordsAreOfTheFrame : Type 0

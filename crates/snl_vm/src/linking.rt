@@ -94,6 +94,7 @@ pub fn unsignal(flag: Option<usize>, store: &mut Store)
 }
 
 /// Words from a place on come to the queue of a link as one item, if it has a queue. Answers whether it has.
+#[inline(always)]
 fn enqueue(link: usize, words: &[i64], place: usize, queues: &mut Vec<Queue>) -> bool
     ensures there { result
         ≡ nat_lt 0 (slice_index_or (map queue_view queues.old.items) link spec.no_queue).size }

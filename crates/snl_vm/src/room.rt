@@ -51,6 +51,7 @@ pub fn words_with(store: &Store, others: usize) -> Option<u64>
     let words = with_queues(words, store.queues.as_slice())?;
     let words = with_marks(words, store.marks.as_slice())?;
     let words = words.checked_add(store.flags.len() as u64)?;
+    let words = words.checked_add(store.waiting.len() as u64)?;
     let words = words.checked_add(store.ups.len() as u64)?;
     let words = words.checked_add(store.valued.len() as u64)?;
     words.checked_add(others as u64)

@@ -51,6 +51,8 @@ pub struct Store {
     pub marks: Vec<Marks>,
     /// By link: its queue, whose size is 0 where the link has none.
     pub queues: Vec<Queue>,
+    /// By link: whether it waits for the answer to a put.
+    pub waiting: Vec<bool>,
     /// The number of a link that the start waited for when this was last looked at. No part of the world: it says only
     /// where to look first.
     pub awaited: usize,
@@ -98,7 +100,7 @@ impl SetMemory {
 impl Store {
     ghost use Rattle.snl_vm.specs.Views.{world_of};
     ghost use Rattle.snl_meaning.specs.Links.{home_of, link_at};
-    ghost use Rattle.snl_meaning.specs.World.{copy_of, element_of, is_set, with_element, with_flag, with_zeros};
+    ghost use Rattle.snl_meaning.specs.World.{copy_of, element_of, is_set, is_waiting, with_element, with_flag, with_waiting, with_zeros};
 
     /// A word of a state set's copy that stands so many words after a place; 0 where there is none.
     pub fn word(&self, set: usize, place: usize, after: usize) -> i64
@@ -158,6 +160,22 @@ impl Store {
         ensures { world_of self.new ≡ with_flag flag now (world_of self.old) }
     {
         if let Some(at) = self.flags.get_mut(flag) {
+            *at = now;
+        }
+    }
+
+    /// Whether a link waits for the answer to a put; one that is not there does not.
+    pub fn is_waiting(&self, link: usize) -> bool
+        ensures { is_waiting link (world_of self.now) ≡ result }
+    {
+        self.waiting.get(link).copied().unwrap_or(false)
+    }
+
+    /// Lets a link wait for one, or not any more, where there is one.
+    pub fn set_waiting(&mut self, link: usize, now: bool)
+        ensures { world_of self.new ≡ with_waiting link now (world_of self.old) }
+    {
+        if let Some(at) = self.waiting.get_mut(link) {
             *at = now;
         }
     }

@@ -76,7 +76,7 @@ calls::emit_values-returns t c =
 pub calls::emit_put_of-returns : goal.calls::emit_put_of-returns
 calls::emit_put_of-returns t c =
     on_ok_weaker c.emit_place.result
-    (put-made (here_of c.args.known.now) (view c.args.target.now)
+    (put-made (here_of c.args.known.now) c.args.is_async (view c.args.target.now)
     (reverse c.args.code.now.items) (reverse c.put.new.code.items) (reverse c.emit_place.new.code.items)
     (c.in_ok-put.ensures ∙ ap (λ i. i ∷ reverse c.args.code.now.items) c.put_instr.ensures))
     c.emit_place.ensures

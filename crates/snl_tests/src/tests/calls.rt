@@ -4,7 +4,7 @@ ghost use Rattle.std.specs.Prelude.{◌≡◌, ◌<◌};
 
 use crate::PROGRAM;
 use arrayvec::ArrayVec;
-use snl_check::{Checked, Options, Severity, check};
+use snl_check::{Checked, Options, check};
 use snl_links::Macros;
 use snl_machine::{Event, Live, Machine, Steps, laws as machine};
 use snl_text::{Kind, Lexed, lex};
@@ -50,21 +50,6 @@ fn tokens_of_a_program(rt: HostRuntime) -> Result<(), Fail> {
 }
 
 #[test]
-fn messages_of_a_program(rt: HostRuntime) -> Result<(), Fail> {
-    let lexed = lex(rt.alloc(), PROGRAM)?;
-    let program = parse(rt.alloc(), &lexed)?;
-    let outcome = check(rt.alloc(), program, Options::none())?;
-    let message = outcome.messages.get(0).ok_or("no message")?;
-    assert!(rt; message.severity == Severity::Warning && message.number == 7);
-    assert_eq!(rt;
-        message.text.as_slice(),
-        b"state 'hi' has no clauses".as_slice()
-    );
-    assert_eq!(rt; outcome.messages.len(), 1);
-    Ok(())
-}
-
-#[test]
 fn events_of_a_machine(rt: HostRuntime) -> Result<(), Fail> {
     let mut machine = loaded(rt.alloc(), PROGRAM)?;
     takes_events::<Brand, _>(&rt, rt.alloc(), &mut machine, Blank::new(1))?;
@@ -100,6 +85,7 @@ fn takes_events<L: Ledger, A: Abort>(
     values.push(4);
     let event = Event::Val(0, values);
     assert!(rt; machine.fits(&event) && !machine.fits(&Event::Up(2)));
+    assert!(rt; machine.fits(&Event::Done(1)) && !machine.fits(&Event::Done(2)));
     assert_eq!(rt;
         machine.event(5, &event, &mut sheet, &mut steps)?,
         Live::Running

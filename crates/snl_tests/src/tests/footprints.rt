@@ -8,8 +8,8 @@ use std::alloc::{AllocError, Global};
 use std::process::Abort;
 use std::test::Fail;
 
-/// A copy of one variable, a buffer, a queue of two items, a mark, a state and its entry, a flag, a channel: 1, 1, 2, 1, 2, 1, 2.
-/// With five single words, and two operands at once for `printf`, it is 17.
+/// A copy of one variable, a buffer, a queue of two items, a mark, whether the link waits, a state and its entry, a flag, a channel:
+/// 1, 1, 2, 1, 1, 2, 1, 2. With five single words, and two operands at once for `printf`, it is 18.
 const QUEUED: &[u8] = b"program u
 option +s;
 int x; assign x to \"a\"; monitor x;
@@ -19,8 +19,8 @@ when (delay(1.0) && pvGetQ(x)) { printf(\"%d %d\", x, efTest(f)); } state w
 } }
 ";
 
-/// Two copies of one variable, a buffer, two marks, two states and their entries: 2, 1, 2, 4. With five single words, and two
-/// operands at once for `==`, it is 16.
+/// Two copies of one variable, a buffer, two marks, whether the link waits, two states and their entries: 2, 1, 2, 1, 4. With five
+/// single words, and two operands at once for `==`, it is 17.
 const TWO_SETS: &[u8] = b"program g
 option +s;
 int x; assign x; monitor x;
@@ -35,7 +35,13 @@ state z { when (FALSE) {} state z }
 }
 ";
 
-const PROGRAM_LINES: [&[u8]; 4] = [b"0 up a", b"0 up b", b"0 val a 1", b"5 val a 7"];
+const PROGRAM_LINES: [&[u8]; 5] = [
+    b"0 up a",
+    b"0 up b",
+    b"0 val a 1",
+    b"5 val a 7",
+    b"6 done b",
+];
 
 const QUEUED_LINES: [&[u8]; 5] = [
     b"0 up a",
@@ -73,7 +79,7 @@ fn holds(
 
 #[test]
 fn footprints_of_machines(rt: HostRuntime) -> Result<(), Fail> {
-    holds(&rt, rt.alloc(), PROGRAM, PROGRAM_LINES.as_slice(), 19)?;
-    holds(&rt, rt.alloc(), QUEUED, QUEUED_LINES.as_slice(), 17)?;
-    holds(&rt, rt.alloc(), TWO_SETS, TWO_SETS_LINES.as_slice(), 16)
+    holds(&rt, rt.alloc(), PROGRAM, PROGRAM_LINES.as_slice(), 21)?;
+    holds(&rt, rt.alloc(), QUEUED, QUEUED_LINES.as_slice(), 18)?;
+    holds(&rt, rt.alloc(), TWO_SETS, TWO_SETS_LINES.as_slice(), 17)
 }

@@ -12,6 +12,7 @@ returns c =
     let ups : c.in_ok-vec-2.field-0.items ≡ replicate (length names) false = search (rules, length-map) in
     let valued : c.in_ok-vec-3.field-0.items ≡ replicate (length names) false = search (rules, length-map) in
     let links = sym (length-map c.args.links.now link_view) in
+    let waiting : c.in_ok-vec-4.field-0.items ≡ replicate (length (map link_view c.args.links.now)) false = search (rules, length-map) in
     let marks = c.in_ok-marks_of.ensures ∙ ap (λ (n : ℕ). map (λ vs. replicate n false) (sets_of c.args.sets.now)) links in
     λ j. record {
       time = 0;
@@ -29,4 +30,5 @@ returns c =
       buffers = c.in_ok-first_buffers.ensures j;
       marks = marks j;
       queues = c.in_ok-queues_of.ensures j;
+      waiting = waiting j;
     }

@@ -4,4 +4,4 @@ use Rattle.snl_meaning.proofs.laws.examples_of_expressions.Goals as goal
 
 pub returns : goal.returns
 unfolding decimal_value whole_value value_in value_of without_suffix
-returns c = (refl, refl, refl, refl, refl, refl, refl, refl, refl, refl, refl, refl, refl, refl)
+returns c = (refl, refl, refl, refl, refl, refl, refl, refl, refl, refl, refl, refl, refl, refl, refl)

@@ -1,18 +1,24 @@
-use Rattle.std.proofs.Common.{◌≡◌, ◌+◌, ◌-◌, length, drop, arith}
+use Rattle.std.proofs.Common.{◌≡◌, ◌∙◌, ◌++◌, ap, sym, ◌+◌, ◌-◌, length, drop, inl, inr, Vec, Global, arith}
 use Rattle.std.proofs.lemmas.List.{length-drop}
 use Rattle.std.proofs.lemmas.Result.{on_ok_weaker}
-use Rattle.snl_syntax.specs.view.Expressions.{argument_of}
+use Rattle.snl_syntax.specs.Expressions.{no_arguments}
+use Rattle.snl_syntax.specs.view.Expressions.{view, argument_of, list_before}
+use Rattle.snl_resolve.specs.declared.sites.Site.{Site}
+use Rattle.snl_resolve.specs.Sites.{in_arguments}
+use Rattle.snl_resolve.specs.Builtins.{builtin_of}
+use Rattle.snl_resolve.specs.Calls.{word_at}
 use Rattle.snl_resolve.specs.Chains.{scopes_of}
-use Rattle.snl_resolve.specs.Sites.{in_argument}
-use Rattle.snl_resolve.proofs.WalkLaws.{call_noted, chain_noted, argument_step, argument_noted}
+use Rattle.snl_resolve.proofs.WalkLaws.{call_noted, chain_noted, argument_step, value_noted, text_noted}
+use Rattle.snl_resolve.proofs.expressions.+expression.Goals.{note_arguments-in-Value+in_ok-note_argument-in-Value, note_arguments-in-Text+in_ok-note_format-in-Text}
 use Rattle.snl_resolve.proofs.expressions.+expression.Goals as goal
 
 pub note_expression-returns-in_ok-inside-in-Call : goal.note_expression-returns-in_ok-inside-in-Call
 note_expression-returns-in_ok-inside-in-Call t c =
+    let word : c.word_at-word.result ≡ word_at (builtin_of c.in-Call.name.text.now) = c.word_at-word.ensures ∙ ap word_at c.builtin_of.ensures in
     on_ok_weaker c.note_arguments.result
-    (call_noted c.args.in_condition (scopes_of c.args.scopes.now) c.args.purpose c.in_ok-inside-in-Call.inside c.args.expression.now c.in-Call.name c.in-Call.arguments
+    (call_noted c.args.in_condition (scopes_of c.args.scopes.now) c.args.purpose c.in_ok-inside-in-Call.inside c.word_at-word.result c.args.expression.now c.in-Call.name c.in-Call.arguments
     c.as_slice-arguments.result.now c.args.sites.now.items c.note_call.new.sites.items c.note_arguments.new.sites.items
-    c.in-Call.is c.as_slice-arguments.ensures.value c.in_ok-inside-in-Call.ensures.purpose c.in_ok-inside-in-Call.ensures.sites)
+    c.in-Call.is c.as_slice-arguments.ensures.value c.in_ok-inside-in-Call.ensures.purpose c.in_ok-inside-in-Call.ensures.sites word)
     c.note_arguments.ensures
 
 pub note_expression-returns-in_ok-note_expression-in-Chain : goal.note_expression-returns-in_ok-note_expression-in-Chain
@@ -29,12 +35,23 @@ note_arguments-loop-argument-preserved t c =
     let s = scopes_of c.args.scopes.now in
     let all = c.args.arguments.now in
     let i = c.loop-argument.argument-index in
+    let k = c.loop-argument.until in
     let a = c.argument-item.result in
     let rest = drop (i + 1) all in
     let count : c.loop-argument.left - 1 ≡ length rest = omega (arith, length-drop (i + 1) all) in
-    let left : c.loop-argument.left - 1 + (i + 1) ≡ length all = omega arith in (
-      argument_step c.args.in_condition s c.args.purpose all i a c.loop-argument.sites.items c.note_argument.new.sites.items _
-          (in_argument c.args.in_condition s c.args.purpose (argument_of a) (c.loop-argument.left - 1)) c.loop-argument-test.true c.argument-item.is c.loop-argument.invariant.0
-          c.in_ok-note_argument.ensures (argument_noted c.args.in_condition s c.args.purpose a rest _ count),
+    let left : c.loop-argument.left - 1 + (i + 1) ≡ length all = omega arith in
+    let less : c.saturating_sub-until.result ≡ k - 1 = c.saturating_sub-until.ensures in
+    let step = argument_step c.args.in_condition s c.args.purpose k c.saturating_sub-until.result all i a c.loop-argument.sites.items in (
+      (elim c.match-argument.branch [
+        | note_arguments-in-Value+in_ok-note_argument-in-Value w ↦
+            let is : argument_of a ≡ inr (view w.deref.result.now) = ap argument_of w.in-Value.is ∙ ap (λ e. inr (view e)) (sym w.deref.ensures) in
+            ap (λ (v : Vec Site Global). v.items ++ in_arguments c.args.in_condition s c.args.purpose c.saturating_sub-until.result (list_before rest no_arguments)) w.sites-is
+            ∙ step w.note_argument.new.sites.items _ _ c.loop-argument-test.true c.argument-item.is c.loop-argument.invariant.0 (w.in_ok-note_argument-in-Value.ensures)
+            (value_noted c.args.in_condition s c.args.purpose k rest a (view w.deref.result.now) is) less
+        | note_arguments-in-Text+in_ok-note_format-in-Text w ↦
+            ap (λ (v : Vec Site Global). v.items ++ in_arguments c.args.in_condition s c.args.purpose c.saturating_sub-until.result (list_before rest no_arguments)) w.sites-is
+            ∙ step w.note_format.new.sites.items _ _ c.loop-argument-test.true c.argument-item.is c.loop-argument.invariant.0 (w.in_ok-note_format-in-Text.ensures)
+            (text_noted c.args.in_condition s c.args.purpose k rest a w.in-Text.format (c.loop-argument.left - 1) (ap argument_of w.in-Text.is) count) less
+      ]),
       left,
     )

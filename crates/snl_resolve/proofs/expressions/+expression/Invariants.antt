@@ -13,6 +13,6 @@ invariant-note_terms-loop-term l =
 
 abbrev pub invariant-note_arguments-loop-argument : goal.invariant-note_arguments-loop-argument
 invariant-note_arguments-loop-argument l =
-    (l.sites.items ++ in_arguments l.in_condition (scopes_of l.scopes) l.purpose (list_before (drop l.argument-index l.arguments) no_arguments)
-    ≡ l.initial.sites.items ++ in_arguments l.in_condition (scopes_of l.scopes) l.purpose (list_before l.arguments no_arguments))
+    (l.sites.items ++ in_arguments l.in_condition (scopes_of l.scopes) l.purpose l.until (list_before (drop l.argument-index l.arguments) no_arguments)
+    ≡ l.initial.sites.items ++ in_arguments l.in_condition (scopes_of l.scopes) l.purpose l.word (list_before l.arguments no_arguments))
     × (l.left + l.argument-index ≡ length l.arguments)

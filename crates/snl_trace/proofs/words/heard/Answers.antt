@@ -1,7 +1,7 @@
 use Rattle.std.proofs.Common.{◌≡◌, arith}
 use Rattle.std.proofs.lemmas.Grind.{common_steps}
 use Rattle.snl_trace.specs.Fields.{fields}
-use Rattle.snl_trace.specs.Grammar.{told_by, up_with, down_with, tick_with}
+use Rattle.snl_trace.specs.Grammar.{told_by, up_with, down_with, tick_with, done_with}
 use Rattle.snl_trace.specs.Seen.{seen, told}
 use Rattle.snl_trace.proofs.words.heard.Goals as goal
 
@@ -21,4 +21,10 @@ pub returns-in-Some-Tick : goal.returns-in-Some-Tick
 unfolding told_by
 returns-in-Some-Tick c =
     let ticked : seen (told c.args.values.now.items) c.tick.result ≡ tick_with (fields c.in_ok-field.rest.now) = c.tick.ensures c.args.values.now.items in
+    grind (arith, common_steps)
+
+pub returns-in-Some-Done : goal.returns-in-Some-Done
+unfolding told_by
+returns-in-Some-Done c =
+    let done : seen (told c.args.values.now.items) c.done.result ≡ done_with (fields c.in_ok-field.rest.now) = c.done.ensures c.args.values.now.items in
     grind (arith, common_steps)
