@@ -13,7 +13,7 @@ mod statements;
 
 pub use declarations::{Declaration, Declarator, Initialiser, TypeName, Values};
 pub use definitions::{Assign, ChannelNames, Channels, Def, Flag, Place, Setting, Sync, SyncQueue};
-pub use laws::examples_of_grouping;
 pub use expressions::{Argument, Expr, Term};
+pub use laws::examples_of_grouping;
 pub use programs::{Clause, Program, State, StateSet, Target};
 pub use statements::{Block, Header, Stmt};
