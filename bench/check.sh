@@ -4,7 +4,8 @@
 #   bench/check.sh [RUNS]          30 runs where none are given
 #
 # The source has some 60,000 tokens, 1,000 states, 64 state sets and 1,000 links, and no error. The one it is compared with is
-# half of it: half the tokens, states, state sets and links. The whole has to take at most 2.2 times the time of the half.
+# half of it: half the tokens, states, state sets and links. The whole has to take at most 2.2 times the time of the half. A third
+# source has 250 functions, each of which calls the one above it 49 times.
 # Each time is the best of all runs, less the time for an empty file, for what else the machine does only adds to it.
 set -eu
 cd "$(dirname "$0")/.."
@@ -39,6 +40,21 @@ source_of() {
     }' > "$4"
 }
 
+# a source with so many functions, and so many calls in each
+functions_of() {
+    awk -v count="$1" -v calls="$2" 'BEGIN {
+        print "program chain"
+        print "option +s;"
+        print "int f0(int n) { return n; }"
+        for (i = 1; i < count; i++) {
+            printf "int f%d(int n) { return n", i
+            for (call = 0; call < calls; call++) printf " + f%d(n)", i - 1
+            print "; }"
+        }
+        printf "ss s { state a { when (f%d(1)) {} exit } }\n", count - 1
+    }' > "$3"
+}
+
 # counts the tokens of such a source
 tokens_of() {
     grep -oE '"[^"]*"|[A-Za-z_0-9]+|&&|-=|[^ ]' "$1" | wc -l
@@ -56,22 +72,27 @@ time_run() {
 
 source_of 64 1000 1000 "$work/whole.st"
 source_of 32 500 500 "$work/half.st"
+functions_of 250 49 "$work/chain.st"
 : > "$work/empty.st"
 for source in whole half; do
     said=$("$program" "$work/$source.st" 2>&1 < /dev/null) || { echo "$source.st has an error: $said" >&2; exit 1; }
     [ -z "$said" ] || { echo "$source.st has a warning: $said" >&2; exit 1; }
 done
-whole=999999999 half=$((whole)) empty=$((whole))
+said=$("$program" "$work/chain.st" 2>&1 < /dev/null || true)
+[ "$said" = "$work/chain.st:1: error: E05 not run yet" ] || { echo "chain.st: $said" >&2; exit 1; }
+whole=999999999 half=$((whole)) chain=$((whole)) empty=$((whole))
 for ((turn = 0; turn < runs; turn++)); do
     time_run whole "$work/whole.st"
     time_run half "$work/half.st"
+    time_run chain "$work/chain.st"
     time_run empty "$work/empty.st"
 done
 awk -v runs="$runs" -v tokens="$(tokens_of "$work/whole.st")" -v halved="$(tokens_of "$work/half.st")" \
-    -v whole=$((whole - empty)) -v half=$((half - empty)) 'BEGIN {
+    -v chained="$(tokens_of "$work/chain.st")" -v whole=$((whole - empty)) -v half=$((half - empty)) -v chain=$((chain - empty)) 'BEGIN {
     printf "sources: %d and %d tokens, the best of %d runs\n", tokens, halved, runs
     printf "check:   %.2f million tokens a second (%.2f ms a source)\n", tokens / whole, whole / 1e3
     printf "half:    %.2f million tokens a second (%.2f ms a source)\n", halved / half, half / 1e3
     printf "ratio:   %.2f times the time for %.2f times the tokens\n", whole / half, tokens / halved
+    printf "calls:   %.2f million tokens a second (%.2f ms a source), %.2f of the speed of the first\n", chained / chain, chain / 1e3, (chained / chain) / (tokens / whole)
     exit whole > 2.2 * half
 }'

@@ -7,6 +7,8 @@ from case import Case
 TOKENS, STATE_SETS, STATES = "65536 tokens", "64 state sets", "1024 states"
 CHANNELS, ELEMENTS = "1024 channels", "1024 elements"
 WORDS_OF_A_SET, WORDS = "65536 words in a state set", "1048576 words"
+FUNCTIONS = "256 functions"
+NOT_RUN = "E05 not run yet"
 # With these alone each state set keeps 65,536 words, and sixteen of them keep 1,048,576.
 FULL = [f"int a{k}[1024];" for k in range(64)]
 SIXTEEN = 16
@@ -18,6 +20,7 @@ def cases():
     yield from channels()
     yield from words_of_a_state_set()
     yield from words_of_a_program()
+    yield from functions()
     yield from two_limits()
     yield limited("a sum of 10,000 terms", ["int x;", *sums(10_000)], {})
 
@@ -73,6 +76,18 @@ def words_of_a_program():
         yield limited(f"queues of 4,096 for 255 elements and of {size} for one", [*queues, *sets(1)], {1: WORDS} if size > 3584 else {})
 
 
+def functions():
+    """How many there are. And the words that they keep: each its parameters, the variables of its blocks and one more, once for the
+    program and for no state set."""
+    for count in (256, 257):
+        lines = [*[f"void f{k}() {{ }}" for k in range(count)], *sets(1)]
+        yield limited(f"{count} functions", lines, {259: FUNCTIONS}) if count > 256 else not_run(f"{count} functions", lines)
+    # Sixteen state sets with 65,535 words each leave sixteen words: those of two parameters, of an array of 12 and of the function.
+    for size in (13, 14):
+        lines = [*FULL[1:], "int x[1023];", f"int f(int n, int m) {{ {{ int v[{size}]; }} return n; }}", *sets(SIXTEEN)]
+        yield limited(f"a function of {size + 3} words", lines, {1: WORDS}) if size > 13 else not_run(f"a function of {size + 3} words", lines)
+
+
 def two_limits():
     """Each limit has its place, and where two have the same the first of the list is told; words only beside words."""
     long = "[1025]; } } state a } }"
@@ -122,3 +137,8 @@ def limited(name, lines, passed):
 def told(name, lines, said):
     source = "".join(f"{it}\n" for it in ["program p", "option +s;", *lines])
     return Case(f"limits: {name}", source.encode(), stderr=said.encode(), statuses=(1 if said else 0,), tool="snc")
+
+
+def not_run(name, lines):
+    """A case for a program at a limit that defines functions."""
+    return told(name, lines, f"p.st:1: error: {NOT_RUN}\n")

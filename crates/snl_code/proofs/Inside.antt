@@ -6,9 +6,12 @@ use Rattle.snl_syntax.specs.Expressions.{ExprTree}
 use Rattle.snl_syntax.specs.Programs.{ClauseTree, StateTree, StateSetTree, ProgramTree}
 use Rattle.snl_syntax.specs.Statements.{BlockTree}
 use Rattle.snl_resolve.specs.declared.sites.Purpose.TheVariants.{Read}
-use Rattle.snl_resolve.specs.Programs.{in_definitions, in_target, is_always_true, in_clause, in_clauses, in_plain_block, in_state, in_numbered, in_states, in_all_states, in_numbered_set, in_state_sets, in_all_sets, program_scopes}
-use Rattle.snl_resolve.specs.Scopes.{Scope, scope_of}
-use Rattle.snl_resolve.specs.Sites.{in_expression, in_block, maybe}
+use Rattle.snl_resolve.specs.Programs.{in_definitions, in_target, is_always_true, in_clause, in_clauses, in_plain_block, in_state, in_numbered, in_states, in_all_states, in_numbered_set, in_state_sets, in_all_sets, in_program_parts, program_sight}
+use Rattle.snl_resolve.specs.declared.sites.Room.{Room}
+use Rattle.snl_resolve.specs.declared.sites.Room.TheVariants as room
+use Rattle.snl_resolve.specs.Scopes.{scope_of}
+use Rattle.snl_resolve.specs.Sights.{Sight, within}
+use Rattle.snl_resolve.specs.Sites.{in_expression, in_block, declares, maybe}
 use Rattle.snl_meaning.specs.declared.instrs.Instr.{Instr}
 use Rattle.snl_meaning.specs.declared.instrs.Instr.TheVariants.{End}
 use Rattle.snl_emit.specs.BlockCode.{block_code, condition_piece, block_piece}
@@ -33,43 +36,43 @@ module _ (p : ProgramTree) (set : ℕ) where
   -- ---- pieces
 
   -- a condition that may be missing
-  pub whole-condition : (o : Option ExprTree) (w : Bool) (s : List Scope) → AllIn p (maybe (in_expression w s Read) o) → Whole (Named p set) (maybe_code (condition_piece (h p set)) o)
+  pub whole-condition : (o : Option ExprTree) (w : Bool) (s : Sight) → AllIn p (maybe (in_expression w s Read) o) → Whole (Named p set) (maybe_code (condition_piece (h p set)) o)
   whole-condition None w s all b a = tt
   whole-condition (Some e) w s all b a =
       fits-append (Named p set) b a (expression_code (h p set) e) (End ∷ []) (any-value p set e w s Read (λ good. tt) all b (1 + a) (omega arith)) (tt, tt, tt)
 
   -- a block
-  pub whole-block : (k : BlockTree) (c : Bool) (g : List Token) (s : List Scope) (l : Bool) → AllIn p (in_block c g s l k) → Whole (Named p set) (block_piece (h p set) k)
+  pub whole-block : (k : BlockTree) (c : Room) (g : List Token) (s : Sight) (l : Bool) → AllIn p (in_block c g s l k) → Whole (Named p set) (block_piece (h p set) k)
   whole-block k c g s l all b a =
       fits-append (Named p set) b a (block_code (h p set) 0 0 k) (End ∷ []) (fits-block p set k c g s l all 0 0 b (1 + a) (omega arith) (omega arith)) (tt, tt, tt)
 
   -- one that may be missing
-  whole-maybe : (o : Option BlockTree) (s : List Scope) (g : List Token) → AllIn p (maybe (in_plain_block s g) o) → Whole (Named p set) (maybe_code (block_piece (h p set)) o)
+  whole-maybe : (o : Option BlockTree) (s : Sight) (g : List Token) → AllIn p (maybe (in_plain_block s g) o) → Whole (Named p set) (maybe_code (block_piece (h p set)) o)
   whole-maybe None s g all = λ b a. tt
-  whole-maybe (Some k) s g all = whole-block k false g s false all
+  whole-maybe (Some k) s g all = whole-block k room.Elsewhere g s false all
 
   -- ---- states
 
   -- clauses
-  whole-clauses : (k : ℕ) (cs : List ClauseTree) (s : List Scope) (g : List Token) (blocked : Bool) → AllIn p (in_clauses s g blocked cs) →
+  whole-clauses : (k : ℕ) (cs : List ClauseTree) (s : Sight) (g : List Token) (blocked : Bool) → AllIn p (in_clauses s g blocked cs) →
       Whole (Named p set) (row_code (clause_code (h p set)) k cs)
   whole-clauses k [] s g blocked all = λ b a. tt
   whole-clauses k (c ∷ cs) s g blocked all =
       let more = in_clauses s g (blocked || is_always_true s c) cs in
       let own = in-front p (in_clause s g blocked c) more all in
       let condition = maybe (in_expression true s Read) c.condition in
-      let block = in_block true g s false c.block in
+      let block = in_block room.Clause g s false c.block in
       let two = in-front p (condition ++ block) (in_target g c.target) own.1 in
       whole-append (Named p set) (clause_code (h p set) k c) (row_code (clause_code (h p set)) (suc k) cs)
       (whole-append (Named p set) (maybe_code (condition_piece (h p set)) c.condition) (block_piece (h p set) c.block)
       (whole-condition c.condition true s (in-front p condition block two))
-      (whole-block c.block true g s false (in-back p condition block two)))
+      (whole-block c.block room.Clause g s false (in-back p condition block two)))
       (whole-clauses (suc k) cs s g (blocked || is_always_true s c) (in-back p (in_clause s g blocked c) more all))
 
   -- a state
-  whole-state : (k : ℕ) (st : StateTree) (outer : List Scope) (g : List Token) → AllIn p (in_state outer g st) → Whole (Named p set) (state_code (h p set) k st)
+  whole-state : (k : ℕ) (st : StateTree) (outer : Sight) (g : List Token) → AllIn p (in_state outer g st) → Whole (Named p set) (state_code (h p set) k st)
   whole-state k st outer g all =
-      let s = scope_of outer st.definitions ∷ outer in
+      let s = within (scope_of outer.scopes st.definitions) outer in
       let entry = maybe (in_plain_block s g) st.entry in
       let clauses = in_clauses s g false st.clauses in
       let exit = maybe (in_plain_block s g) st.exit in
@@ -87,7 +90,7 @@ module _ (p : ProgramTree) (set : ℕ) where
   whole-if false k st all = λ b a. tt
 
   -- states
-  whole-states : (reached : ℕ → Bool) (k n : ℕ) (sts : List StateTree) (outer : List Scope) (g : List Token) → AllIn p (in_states outer g n sts) →
+  whole-states : (reached : ℕ → Bool) (k n : ℕ) (sts : List StateTree) (outer : Sight) (g : List Token) → AllIn p (in_states outer g n sts) →
       Whole (Named p set) (row_code (kept_code (h p set) reached) k sts)
   whole-states reached k n [] outer g all = λ b a. tt
   whole-states reached k n (st ∷ sts) outer g all =
@@ -107,13 +110,13 @@ module _ (p : ProgramTree) (reached : Table) where
   whole-here set code runs f b a = fits-map (Named p set) Somewhere b a code (λ i names. (set, runs, names)) (f b a)
 
   -- state sets
-  whole-sets : (k : ℕ) (gs : List StateSetTree) (outer : List Scope) (names : List Token) → k + length gs ≤ length p.state_sets → AllIn p (in_state_sets outer names k gs) →
+  whole-sets : (k : ℕ) (gs : List StateSetTree) (outer : Sight) (names : List Token) → k + length gs ≤ length p.state_sets → AllIn p (in_state_sets outer names k gs) →
       Whole Somewhere (row_code (set_code reached p) k gs)
   whole-sets k [] outer names few all = λ b a. tt
   whole-sets k (g ∷ gs) outer names few all =
       let more = in_state_sets outer names (suc k) gs in
       let own = in-front p (in_numbered_set outer names k g) more all in
-      let inside = scope_of outer g.definitions ∷ outer in
+      let inside = within (scope_of outer.scopes g.definitions) outer in
       whole-append Somewhere (set_code reached p k g) (row_code (set_code reached p) (suc k) gs)
       (whole-here k (set_code reached p k g) (inl (omega (arith, few)))
       (whole-states p k (reached k) 0 0 g.states inside (map (λ s. s.name) g.states) (in-back p (in_definitions false outer g.definitions) (in_all_states inside g.states) own.1)))
@@ -122,11 +125,11 @@ module _ (p : ProgramTree) (reached : Table) where
   -- the program
   whole-program : Whole Somewhere (program_code reached p)
   whole-program =
-      let s = program_scopes p in
+      let s = program_sight p in
       let entry = maybe (in_plain_block s []) p.entry in
       let sets = in_all_sets s p.state_sets in
       let exit = maybe (in_plain_block s []) p.exit in
-      let defs = in_definitions false [] p.definitions in
+      let defs = declares [] (scope_of [] p.definitions) ++ in_program_parts s.scopes [] p.definitions in
       let all = in-all p in
       let three = in-front p (defs ++ entry ++ sets) exit all in
       let two = in-front p (defs ++ entry) sets three in

@@ -7,11 +7,13 @@ use Rattle.snl_syntax.specs.Declarations.{TypeTree, ValueList, InitialiserTree, 
 use Rattle.snl_syntax.specs.Definitions.{declaration}
 use Rattle.snl_syntax.specs.Expressions.{ExprTree, constant, parenthesized, named, element, call, postfix, prefix, chain, conditional, assignment}
 use Rattle.snl_syntax.specs.Programs.{ProgramTree}
-use Rattle.snl_syntax.specs.Statements.{StatementTree, StatementList, BlockTree, nested, empty, expression, break_loop, continue_loop, change_state, if_then, if_else, while_loop, for_loop, no_statements, statement, block}
+use Rattle.snl_syntax.specs.Statements.{StatementTree, StatementList, BlockTree, nested, empty, expression, break_loop, continue_loop, change_state, return_with, if_then, if_else, while_loop, for_loop, no_statements, statement, block}
 use Rattle.snl_resolve.specs.declared.sites.Purpose.{Purpose}
-use Rattle.snl_resolve.specs.declared.sites.Purpose.TheVariants.{Read}
+use Rattle.snl_resolve.specs.declared.sites.Purpose.TheVariants.{Read, Dropped}
+use Rattle.snl_resolve.specs.declared.sites.Room.{Room}
 use Rattle.snl_resolve.specs.Purposes.{inner, in_parentheses, target}
-use Rattle.snl_resolve.specs.Scopes.{Scope, scope_of}
+use Rattle.snl_resolve.specs.Sights.{Sight, within}
+use Rattle.snl_resolve.specs.Scopes.{scope_of}
 use Rattle.snl_resolve.specs.Sites.{in_expression, in_value, maybe, declares, in_values, in_initialiser, in_declarator, in_declaration, in_header, in_statement, in_statements, in_block}
 use Rattle.snl_resolve.specs.Types.{listed_values}
 use Rattle.snl_meaning.specs.declared.instrs.Instr.{Instr}
@@ -35,7 +37,7 @@ module _ (p : ProgramTree) where
   -- the sites of each of some values
   abbrev ValuesIn : List ExprTree → Type 0
   ValuesIn [] = Unit {0}
-  ValuesIn (e ∷ es) = ((s : List Scope) × AllIn p (in_value s e)) × ValuesIn es
+  ValuesIn (e ∷ es) = ((s : Sight) × AllIn p (in_value s e)) × ValuesIn es
 
   -- and of what each of some variables begins with
   abbrev DeclaredIn : List DeclaratorTree → Type 0
@@ -43,19 +45,19 @@ module _ (p : ProgramTree) where
   DeclaredIn (d ∷ ds) = ValuesIn (values_of d.initial) × DeclaredIn ds
 
   -- of a list in braces
-  values-in : (s : List Scope) (vs : ValueList) → AllIn p (in_values s vs) → ValuesIn (listed_values vs)
+  values-in : (s : Sight) (vs : ValueList) → AllIn p (in_values s vs) → ValuesIn (listed_values vs)
   values-in s no_values all = tt
   values-in s (last_value e) all = ((s, all), tt)
   values-in s (value_before e rest) all = ((s, in-front p (in_value s e) (in_values s rest) all), values-in s rest (in-back p (in_value s e) (in_values s rest) all))
 
   -- of an initialiser that may be missing
-  initial-in : (s : List Scope) (o : Option InitialiserTree) → AllIn p (maybe (in_initialiser s) o) → ValuesIn (values_of o)
+  initial-in : (s : Sight) (o : Option InitialiserTree) → AllIn p (maybe (in_initialiser s) o) → ValuesIn (values_of o)
   initial-in s None all = tt
   initial-in s (Some (single e)) all = ((s, all), tt)
   initial-in s (Some (listed vs)) all = values-in s vs all
 
   -- of names of one type
-  names-in : (s : List Scope) (b : Bool) (t : TypeTree) (ds : List DeclaratorTree) → AllIn p (flat_map (in_declarator s b t) ds) → DeclaredIn ds
+  names-in : (s : Sight) (b : Bool) (t : TypeTree) (ds : List DeclaratorTree) → AllIn p (flat_map (in_declarator s b t) ds) → DeclaredIn ds
   names-in s b t [] all = tt
   names-in s b t (d ∷ ds) all =
       let own = in-front p (in_declarator s b t d) (flat_map (in_declarator s b t) ds) all in (
@@ -69,7 +71,7 @@ module _ (p : ProgramTree) where
   declared-append (d ∷ ds) es f g = (f.0, declared-append ds es f.1 g)
 
   -- of declarations
-  declared-in : (s : List Scope) (b : Bool) (ds : List DeclarationTree) → AllIn p (flat_map (in_declaration s b) ds) → DeclaredIn (names_of ds)
+  declared-in : (s : Sight) (b : Bool) (ds : List DeclarationTree) → AllIn p (flat_map (in_declaration s b) ds) → DeclaredIn (names_of ds)
   declared-in s b [] all = tt
   declared-in s b (d ∷ ds) all =
       let own = in-front p (in_declaration s b d) (flat_map (in_declaration s b) ds) all in
@@ -121,7 +123,7 @@ module _ (p : ProgramTree) (set : ℕ) where
   any-stepped (Some x) (Alone op) line other is k = k
 
   -- an expression for what it does
-  any-effect : (e : ExprTree) (w : Bool) (s : List Scope) (u : Purpose) → Asks p set u → AllIn p (in_expression w s u e) → Anywhere p set (effect_code (h p set) e)
+  any-effect : (e : ExprTree) (w : Bool) (s : Sight) (u : Purpose) → Asks p set u → AllIn p (in_expression w s u e) → Anywhere p set (effect_code (h p set) e)
   any-effect (parenthesized e) w s u q all = any-effect e w s (in_parentheses u) (asks-parentheses p set u q) all
   any-effect (assignment e op r) w s u q all =
       any-assigned (named_variable (h p set) e) (compound_of op.kind) op.pos.line (expression_code (h p set) r) (dropping_code (h p set) (assignment e op r)) (named-known e)
@@ -141,12 +143,12 @@ module _ (p : ProgramTree) (set : ℕ) where
   any-effect (conditional c x y) w s u q all = any-dropping (conditional c x y) (any-value p set (conditional c x y) w s u q all)
 
   -- the same of one that may be missing
-  any-dropped : (o : Option ExprTree) (s : List Scope) → AllIn p (maybe (in_value s) o) → Anywhere p set (dropped_code (h p set) o)
+  any-dropped : (o : Option ExprTree) (s : Sight) → AllIn p (maybe (in_value s) o) → Anywhere p set (dropped_code (h p set) o)
   any-dropped None s all = any-none p set
   any-dropped (Some e) s all = any-effect e false s Read (λ good. tt) all
 
   -- a condition that passes the next instruction
-  fits-test : (o : Option ExprTree) (s : List Scope) → AllIn p (maybe (in_value s) o) → (b a : ℕ) → 2 ≤ a → Fits (Named p set) b a (test_code (h p set) o)
+  fits-test : (o : Option ExprTree) (s : Sight) → AllIn p (maybe (in_value s) o) → (b a : ℕ) → 2 ≤ a → Fits (Named p set) b a (test_code (h p set) o)
   fits-test None s all b a two = tt
   fits-test (Some e) s all b a two =
       fits-append (Named p set) b a (expression_code (h p set) e) (instr.JumpIfZero 1 ∷ []) (any-value p set e false s Read (λ good. tt) all b (1 + a) (omega arith)) (omega (arith, two), tt, tt)
@@ -214,14 +216,15 @@ module _ (p : ProgramTree) (set : ℕ) where
 
   mutual
     -- a statement
-    fits-statement : (st : StatementTree) (c : Bool) (g : List Token) (s : List Scope) (l : Bool) → AllIn p (in_statement c g s l st) → (out again b a : ℕ) → out < a → again < a →
+    fits-statement : (st : StatementTree) (c : Room) (g : List Token) (s : Sight) (l : Bool) → AllIn p (in_statement c g s l st) → (out again b a : ℕ) → out < a → again < a →
         Fits (Named p set) b a (statement_code (h p set) out again st)
     fits-statement (nested k) c g s l all out again b a away round = fits-block k c g s l all out again b a away round
     fits-statement empty c g s l all out again b a away round = tt
-    fits-statement (expression e) c g s l all out again b a away round = any-dropped (Some e) s all b a (omega (arith, away))
+    fits-statement (expression e) c g s l all out again b a away round = any-effect e false s Dropped (λ good. tt) all b a (omega (arith, away))
     fits-statement (break_loop t) c g s l all out again b a away round = (omega (arith, away), tt, tt)
     fits-statement (continue_loop t) c g s l all out again b a away round = (omega (arith, round), tt, tt)
     fits-statement (change_state t x) c g s l all out again b a away round = (tt, state-below (h p set).states x.text.now, tt)
+    fits-statement (return_with t e) c g s l all out again b a away round = tt
     fits-statement (if_then e st) c g s l all out again b a away round =
         fits-when (expression_code (h p set) e) (statement_code (h p set) out again st) b a (omega (arith, away))
         (any-value p set e false s Read (λ good. tt) (in-front p (in_value s e) (in_statement c g s l st) all))
@@ -257,7 +260,7 @@ module _ (p : ProgramTree) (set : ℕ) where
         (fits-test parts.condition s (in-back p start condition two)))
 
     -- statements in a row
-    fits-statements : (row : StatementList) (c : Bool) (g : List Token) (s : List Scope) (l : Bool) → AllIn p (in_statements c g s l row) → (out again b a : ℕ) → out < a → again < a →
+    fits-statements : (row : StatementList) (c : Room) (g : List Token) (s : Sight) (l : Bool) → AllIn p (in_statements c g s l row) → (out again b a : ℕ) → out < a → again < a →
         Fits (Named p set) b a (statements_code (h p set) out again row)
     fits-statements no_statements c g s l all out again b a away round = tt
     fits-statements (statement st rest) c g s l all out again b a away round =
@@ -269,11 +272,11 @@ module _ (p : ProgramTree) (set : ℕ) where
         (fits-statements rest c g s l (in-back p (in_statement c g s l st) (in_statements c g s l rest) all) out again (b + length sc) a away round)
 
     -- a block
-    pub fits-block : (k : BlockTree) (c : Bool) (g : List Token) (s : List Scope) (l : Bool) → AllIn p (in_block c g s l k) → (out again b a : ℕ) → out < a → again < a →
+    pub fits-block : (k : BlockTree) (c : Room) (g : List Token) (s : Sight) (l : Bool) → AllIn p (in_block c g s l k) → (out again b a : ℕ) → out < a → again < a →
         Fits (Named p set) b a (block_code (h p set) out again k)
     fits-block (block ds row) c g s l all out again b a away round =
-        let own = scope_of s (map declaration ds) in
-        let inside = own ∷ s in
+        let own = scope_of s.scopes (map declaration ds) in
+        let inside = within own s in
         let variables = flat_map (in_declaration inside true) ds in
         let front = in-front p (declares [] own ++ variables) (in_statements c g inside l row) all in
         let ec = entered_code (h p set) (names_of ds) in

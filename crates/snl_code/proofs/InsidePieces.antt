@@ -7,9 +7,12 @@ use Rattle.snl_syntax.specs.Expressions.{ExprTree}
 use Rattle.snl_syntax.specs.Programs.{ClauseTree, StateTree, StateSetTree, ProgramTree}
 use Rattle.snl_syntax.specs.Statements.{BlockTree}
 use Rattle.snl_resolve.specs.declared.sites.Purpose.TheVariants.{Read}
-use Rattle.snl_resolve.specs.Programs.{in_definitions, in_target, is_always_true, in_clause, in_clauses, in_plain_block, in_state, in_numbered, in_states, in_all_states, in_state_set, in_numbered_set, in_state_sets, in_all_sets, program_scopes}
-use Rattle.snl_resolve.specs.Scopes.{Scope, scope_of}
-use Rattle.snl_resolve.specs.Sites.{in_expression, in_block, maybe}
+use Rattle.snl_resolve.specs.Programs.{in_definitions, in_target, is_always_true, in_clause, in_clauses, in_plain_block, in_state, in_numbered, in_states, in_all_states, in_state_set, in_numbered_set, in_state_sets, in_all_sets, in_program_parts, program_sight}
+use Rattle.snl_resolve.specs.declared.sites.Room.{Room}
+use Rattle.snl_resolve.specs.declared.sites.Room.TheVariants as room
+use Rattle.snl_resolve.specs.Scopes.{scope_of}
+use Rattle.snl_resolve.specs.Sights.{Sight, within}
+use Rattle.snl_resolve.specs.Sites.{in_expression, in_block, declares, maybe}
 use Rattle.snl_meaning.specs.declared.instrs.Instr.{Instr}
 use Rattle.snl_meaning.specs.declared.instrs.Instr.TheVariants.{End}
 use Rattle.snl_emit.specs.BlockCode.{block_code}
@@ -46,11 +49,11 @@ module _ (p : ProgramTree) where
 
   -- of a condition
   abbrev TestIn : ExprTree → Type 0
-  TestIn e = (w : Bool) × (s : List Scope) × AllIn p (in_expression w s Read e)
+  TestIn e = (w : Bool) × (s : Sight) × AllIn p (in_expression w s Read e)
 
   -- of a block
   abbrev ActionIn : BlockTree → Type 0
-  ActionIn b = (c : Bool) × (g : List Token) × (s : List Scope) × (l : Bool) × AllIn p (in_block c g s l b)
+  ActionIn b = (c : Room) × (g : List Token) × (s : Sight) × (l : Bool) × AllIn p (in_block c g s l b)
 
   -- of a piece
   abbrev PieceIn : PieceTree → Type 0
@@ -59,15 +62,15 @@ module _ (p : ProgramTree) where
 
   -- of a clause
   abbrev ClauseIn : ClauseTree → Type 0
-  ClauseIn c = (s : List Scope) × (g : List Token) × (blocked : Bool) × AllIn p (in_clause s g blocked c)
+  ClauseIn c = (s : Sight) × (g : List Token) × (blocked : Bool) × AllIn p (in_clause s g blocked c)
 
   -- of a state
   abbrev StateIn : StateTree → Type 0
-  StateIn st = (outer : List Scope) × (g : List Token) × AllIn p (in_state outer g st)
+  StateIn st = (outer : Sight) × (g : List Token) × AllIn p (in_state outer g st)
 
   -- of a state set
   abbrev SetIn : StateSetTree → Type 0
-  SetIn g = (outer : List Scope) × AllIn p (in_state_set outer g)
+  SetIn g = (outer : Sight) × AllIn p (in_state_set outer g)
 
   -- of what may be missing
   abbrev IfThere : {A : Type 0} → (A → Type 0) → Option A → Type 0
@@ -85,42 +88,42 @@ module _ (p : ProgramTree) where
   map-there P Q f (Some a) is k = k a is
 
   -- clauses
-  clauses-in : (cs : List ClauseTree) (s : List Scope) (g : List Token) (blocked : Bool) → AllIn p (in_clauses s g blocked cs) → (i : ℕ) → IfThere ClauseIn (slice_get cs i)
+  clauses-in : (cs : List ClauseTree) (s : Sight) (g : List Token) (blocked : Bool) → AllIn p (in_clauses s g blocked cs) → (i : ℕ) → IfThere ClauseIn (slice_get cs i)
   clauses-in [] s g blocked all i = tt
   clauses-in (c ∷ cs) s g blocked all zero = (s, g, blocked, in-front p (in_clause s g blocked c) (in_clauses s g (blocked || is_always_true s c) cs) all)
   clauses-in (c ∷ cs) s g blocked all (suc i) =
       clauses-in cs s g (blocked || is_always_true s c) (in-back p (in_clause s g blocked c) (in_clauses s g (blocked || is_always_true s c) cs) all) i
 
   -- states
-  states-in : (sts : List StateTree) (outer : List Scope) (g : List Token) (n : ℕ) → AllIn p (in_states outer g n sts) → (i : ℕ) → IfThere StateIn (slice_get sts i)
+  states-in : (sts : List StateTree) (outer : Sight) (g : List Token) (n : ℕ) → AllIn p (in_states outer g n sts) → (i : ℕ) → IfThere StateIn (slice_get sts i)
   states-in [] outer g n all i = tt
   states-in (st ∷ sts) outer g n all zero = (outer, g, (in-front p (in_numbered outer g n st) (in_states outer g (suc n) sts) all).1)
   states-in (st ∷ sts) outer g n all (suc i) = states-in sts outer g (suc n) (in-back p (in_numbered outer g n st) (in_states outer g (suc n) sts) all) i
 
   -- state sets
-  sets-in : (gs : List StateSetTree) (outer : List Scope) (names : List Token) (n : ℕ) → AllIn p (in_state_sets outer names n gs) → (i : ℕ) → IfThere SetIn (slice_get gs i)
+  sets-in : (gs : List StateSetTree) (outer : Sight) (names : List Token) (n : ℕ) → AllIn p (in_state_sets outer names n gs) → (i : ℕ) → IfThere SetIn (slice_get gs i)
   sets-in [] outer names n all i = tt
   sets-in (g ∷ gs) outer names n all zero = (outer, (in-front p (in_numbered_set outer names n g) (in_state_sets outer names (suc n) gs) all).1)
   sets-in (g ∷ gs) outer names n all (suc i) = sets-in gs outer names (suc n) (in-back p (in_numbered_set outer names n g) (in_state_sets outer names (suc n) gs) all) i
 
   -- a block outside of clauses
-  block-in : (o : Option BlockTree) (s : List Scope) (g : List Token) → AllIn p (maybe (in_plain_block s g) o) → IfThere ActionIn o
+  block-in : (o : Option BlockTree) (s : Sight) (g : List Token) → AllIn p (maybe (in_plain_block s g) o) → IfThere ActionIn o
   block-in None s g all = tt
-  block-in (Some b) s g all = (false, g, s, false, all)
+  block-in (Some b) s g all = (room.Elsewhere, g, s, false, all)
 
   -- a condition
-  condition-in : (o : Option ExprTree) (s : List Scope) → AllIn p (maybe (in_expression true s Read) o) → IfThere TestIn o
+  condition-in : (o : Option ExprTree) (s : Sight) → AllIn p (maybe (in_expression true s Read) o) → IfThere TestIn o
   condition-in None s all = tt
   condition-in (Some e) s all = (true, s, all)
 
   -- the parts of a program
-  parts-in : IfThere ActionIn p.entry × AllIn p (in_all_sets (program_scopes p) p.state_sets) × IfThere ActionIn p.exit
+  parts-in : IfThere ActionIn p.entry × AllIn p (in_all_sets (program_sight p) p.state_sets) × IfThere ActionIn p.exit
   parts-in =
-      let s = program_scopes p in
+      let s = program_sight p in
       let entry = maybe (in_plain_block s []) p.entry in
       let sets = in_all_sets s p.state_sets in
       let exit = maybe (in_plain_block s []) p.exit in
-      let defs = in_definitions false [] p.definitions in
+      let defs = declares [] (scope_of [] p.definitions) ++ in_program_parts s.scopes [] p.definitions in
       let all = in-all p in
       let three = in-front p (defs ++ entry ++ sets) exit all in
       let two = in-front p (defs ++ entry) sets three in
@@ -130,16 +133,16 @@ module _ (p : ProgramTree) where
   state-in : (set state : ℕ) → IfThere StateIn (state_at p set state)
   state-in set state =
       then-there SetIn StateIn (λ g. slice_get g.states state) (slice_get p.state_sets set)
-      (sets-in p.state_sets (program_scopes p) (map (λ g. g.name) p.state_sets) 0 parts-in.1 set)
-      (λ g is. states-in g.states (scope_of is.0 g.definitions ∷ is.0) (map (λ s. s.name) g.states) 0
-      (in-back p (in_definitions false is.0 g.definitions) (in_all_states (scope_of is.0 g.definitions ∷ is.0) g.states) is.1) state)
+      (sets-in p.state_sets (program_sight p) (map (λ g. g.name) p.state_sets) 0 parts-in.1 set)
+      (λ g is. states-in g.states (within (scope_of is.0.scopes g.definitions) is.0) (map (λ s. s.name) g.states) 0
+      (in-back p (in_definitions false is.0 g.definitions) (in_all_states (within (scope_of is.0.scopes g.definitions) is.0) g.states) is.1) state)
 
   -- the parts of a state
   state-parts : (st : StateTree) → StateIn st → IfThere ActionIn st.entry × ((i : ℕ) → IfThere ClauseIn (slice_get st.clauses i)) × IfThere ActionIn st.exit
   state-parts st is =
       let outer = is.0 in
       let g = is.1 in
-      let s = scope_of outer st.definitions ∷ outer in
+      let s = within (scope_of outer.scopes st.definitions) outer in
       let entry = maybe (in_plain_block s g) st.entry in
       let clauses = in_clauses s g false st.clauses in
       let exit = maybe (in_plain_block s g) st.exit in
@@ -157,10 +160,10 @@ module _ (p : ProgramTree) where
       let s = is.0 in
       let g = is.1 in
       let condition = maybe (in_expression true s Read) c.condition in
-      let block = in_block true g s false c.block in
+      let block = in_block room.Clause g s false c.block in
       let own = is.3.1 in
       let two = in-front p (condition ++ block) (in_target g c.target) own in
-      (condition-in c.condition s (in-front p condition block two), (true, g, s, false, in-back p condition block two))
+      (condition-in c.condition s (in-front p condition block two), (room.Clause, g, s, false, in-back p condition block two))
 
   -- a clause by its number
   clause-in : (set state k : ℕ) → IfThere ClauseIn (clause_at p set state k)

@@ -1,5 +1,5 @@
 -- The code of an expression lies inside, wherever it stands, as long as an instruction stands behind it.
-use Rattle.std.proofs.Common.{◌≡◌, ◌-◌, refl, subst, sym, true≢false, arith, ℕ, zero, suc, pos, Option, Bool, true, false, not, List, [], ◌∷◌, ◌++◌}
+use Rattle.std.proofs.Common.{◌≡◌, ◌-◌, ap, refl, subst, sym, true≢false, arith, ℕ, zero, suc, pos, Option, Bool, true, false, not, List, [], ◌∷◌, ◌++◌}
 use Rattle.snl_text.specs.declared.tokens.Token.{Token}
 use Rattle.snl_syntax.specs.Expressions.{ExprTree, TermList, ArgumentList, constant, parenthesized, named, element, call, postfix, prefix, chain, conditional, assignment, no_terms, term, no_arguments, value, text}
 use Rattle.snl_syntax.specs.Programs.{ProgramTree}
@@ -11,10 +11,10 @@ use Rattle.snl_resolve.specs.declared.sites.Purpose.{Purpose}
 use Rattle.snl_resolve.specs.declared.sites.Site.{Site}
 use Rattle.snl_resolve.specs.Constants.{joined}
 use Rattle.snl_resolve.specs.Builtins.{builtin_of}
-use Rattle.snl_resolve.specs.Calls.{is_fitting, is_async, has_async, word_at, is_word, unless}
+use Rattle.snl_resolve.specs.Calls.{is_fitting, or_defined, heading_in, is_async, has_async, word_at, is_word, unless}
 use Rattle.snl_resolve.specs.Purposes.{inner, in_parentheses, target, argument, is_step}
 use Rattle.snl_resolve.specs.Programs.{sites}
-use Rattle.snl_resolve.specs.Scopes.{Scope}
+use Rattle.snl_resolve.specs.Sights.{Sight, called}
 use Rattle.snl_resolve.specs.Sites.{in_expression, in_terms, in_arguments}
 use Rattle.snl_meaning.specs.declared.instrs.Instr.{Instr}
 use Rattle.snl_meaning.specs.declared.instrs.Instr.TheVariants as instr
@@ -63,7 +63,7 @@ module _ (p : ProgramTree) (set : ℕ) where
 
   mutual
     -- an expression
-    pub any-value : (e : ExprTree) (w : Bool) (s : List Scope) (u : Purpose) → Asks p set u → AllIn p (in_expression w s u e) → Anywhere p set (expression_code (h p set) e)
+    pub any-value : (e : ExprTree) (w : Bool) (s : Sight) (u : Purpose) → Asks p set u → AllIn p (in_expression w s u e) → Anywhere p set (expression_code (h p set) e)
     any-value (constant t) w s u q all = any-push p set (constant_of t.kind t.text.now)
     any-value (parenthesized e) w s u q all = any-value e w s (in_parentheses u) (asks-parentheses p set u q) all
     any-value (named x) w s u q all = any-name p set (sense_of (h p set) x) (sense-knows p set x)
@@ -73,13 +73,14 @@ module _ (p : ProgramTree) (set : ℕ) where
         (λ v is. any-one p set (instr.Get v) (λ b a some. some) is) (any-push p set (pos 0)))
     any-value (call f args) w s u q all =
         let o = builtin_of f.text.now in
-        let fit = is_fitting o args in
-        let v = argument u o fit in
-        let r = asks-argument p set u w f o fit q all.0 in
+        let c = called s f in
+        let v = argument u c (is_fitting c args) in
+        let r = asks-argument p set u w f c (is_fitting c args) q all.0 in
         let k = word_at o in
         any-called p set o (print_code (h p set) args) (wait_code (h p set) args) (put_call_code (h p set) args) (ask_code (h p set) args)
         (any-print args w s v k r all.1) (any-wait args w s v k r all.1) (any-put_call args w s v k r all.1)
-        (λ query is. any-ask args w s v r (subst (λ (b : Option Builtin). AllIn p (in_arguments w s v (word_at b) args)) is all.1) query (takes-flag p set u w f o args q all.0 query is))
+        (λ query is. any-ask args w s v r (subst (λ (b : Option Builtin). AllIn p (in_arguments w s v (word_at b) args)) is all.1) query
+        (takes-flag p set u w f c args q all.0 query (ap (λ (b : Option Builtin). or_defined b (heading_in s.functions f.text.now)) is)))
     any-value (postfix e op) w s u q all =
         any-signed p set (sign_of op.kind) _ (expression_code (h p set) e) op.pos.line
         (λ by. any-target e w s (target u) (asks-target p set u q) all.1 _ _ _ (λ v x is. any-one p set (instr.Adjust v by op.pos.line x.pos.line true) (λ b a some. some) is)
@@ -112,7 +113,7 @@ module _ (p : ProgramTree) (set : ℕ) where
         (λ v x is. any-put_at p set (compound_of op.kind) op.pos.line (expression_code (h p set) r) x.pos.line v is right) right
 
     -- operators with their operands, after what stands left of them
-    any-lead : (rest : TermList) (w : Bool) (s : List Scope) (u : Purpose) → Asks p set u → AllIn p (in_terms w s u rest) → (left : Constant) (own : List Instr) → Anywhere p set own →
+    any-lead : (rest : TermList) (w : Bool) (s : Sight) (u : Purpose) → Asks p set u → AllIn p (in_terms w s u rest) → (left : Constant) (own : List Instr) → Anywhere p set own →
         Anywhere p set (lead_code (h p set) rest left own)
     any-lead no_terms w s u q all left own f = f
     any-lead (term op e rest) w s u q all left own f =
@@ -126,7 +127,7 @@ module _ (p : ProgramTree) (set : ℕ) where
         (any-terms rest w s u q behind)))
 
     -- those behind a front
-    any-terms : (rest : TermList) (w : Bool) (s : List Scope) (u : Purpose) → Asks p set u → AllIn p (in_terms w s u rest) → Anywhere p set (terms_code (h p set) rest)
+    any-terms : (rest : TermList) (w : Bool) (s : Sight) (u : Purpose) → Asks p set u → AllIn p (in_terms w s u rest) → Anywhere p set (terms_code (h p set) rest)
     any-terms no_terms w s u q all = any-none p set
     any-terms (term op e rest) w s u q all =
         any-append p set (joint_code (joint_of op.kind) op.pos.line (number_of (sites p) e) (expression_code (h p set) e)) (terms_code (h p set) rest)
@@ -134,7 +135,7 @@ module _ (p : ProgramTree) (set : ℕ) where
         (any-terms rest w s u q (in-back p (in_expression w s u e) (in_terms w s u rest) all))
 
     -- what is done at a target
-    any-target : (e : ExprTree) (w : Bool) (s : List Scope) (u : Purpose) → Asks p set u → AllIn p (in_expression w s u e) → (alone indexed : CodeOn) (other : List Instr) →
+    any-target : (e : ExprTree) (w : Bool) (s : Sight) (u : Purpose) → Asks p set u → AllIn p (in_expression w s u e) → (alone indexed : CodeOn) (other : List Instr) →
         AnyOn alone → AnyOn indexed → Anywhere p set other → Anywhere p set (target_code (h p set) e alone indexed other)
     any-target (parenthesized e) w s u q all alone indexed other f g k = any-target e w s (in_parentheses u) (asks-parentheses p set u q) all alone indexed other f g k
     any-target (named x) w s u q all alone indexed other f g k = any-at_name p set (sense_of (h p set) x) x alone other (sense-knows p set x) f k
@@ -150,7 +151,7 @@ module _ (p : ProgramTree) (set : ℕ) where
     any-target (assignment e op r) w s u q all alone indexed other f g k = k
 
     -- `printf`
-    any-print : (args : ArgumentList) (w : Bool) (s : List Scope) (u : Purpose) (k : ℕ) → Asks p set u → AllIn p (in_arguments w s u k args) → Anywhere p set (print_code (h p set) args)
+    any-print : (args : ArgumentList) (w : Bool) (s : Sight) (u : Purpose) (k : ℕ) → Asks p set u → AllIn p (in_arguments w s u k args) → Anywhere p set (print_code (h p set) args)
     any-print no_arguments w s u k q all = any-push p set (pos 0)
     any-print (value e rest) w s u k q all = any-push p set (pos 0)
     any-print (text t rest) w s u k q all =
@@ -159,7 +160,7 @@ module _ (p : ProgramTree) (set : ℕ) where
         (any-one p set line (λ b a some. some) (text-below (sites p) all.0.0 t _ all.0.1))
 
     -- the values of arguments
-    any-values : (args : ArgumentList) (w : Bool) (s : List Scope) (u : Purpose) (k : ℕ) → Asks p set u → AllIn p (in_arguments w s u k args) → Anywhere p set (values_code (h p set) args)
+    any-values : (args : ArgumentList) (w : Bool) (s : Sight) (u : Purpose) (k : ℕ) → Asks p set u → AllIn p (in_arguments w s u k args) → Anywhere p set (values_code (h p set) args)
     any-values no_arguments w s u k q all = any-none p set
     any-values (text t rest) w s u k q all = any-values rest w s u (k - 1) q all.1
     any-values (value e rest) w s u k q all =
@@ -169,7 +170,7 @@ module _ (p : ProgramTree) (set : ℕ) where
         (any-values rest w s u (k - 1) q (in-back p (unless (is_word k e) (in_expression w s u e)) (in_arguments w s u (k - 1) rest) all))
 
     -- `delay`
-    any-wait : (args : ArgumentList) (w : Bool) (s : List Scope) (u : Purpose) (k : ℕ) → Asks p set u → AllIn p (in_arguments w s u k args) → Anywhere p set (wait_code (h p set) args)
+    any-wait : (args : ArgumentList) (w : Bool) (s : Sight) (u : Purpose) (k : ℕ) → Asks p set u → AllIn p (in_arguments w s u k args) → Anywhere p set (wait_code (h p set) args)
     any-wait no_arguments w s u k q all = any-push p set (pos 0)
     any-wait (text t rest) w s u k q all = any-push p set (pos 0)
     any-wait (value e rest) w s u k q all =
@@ -179,7 +180,7 @@ module _ (p : ProgramTree) (set : ℕ) where
         (any-one p set (instr.Wait (not (is_decimal e))) (λ b a some. some) tt)
 
     -- `pvPut`
-    any-put_call : (args : ArgumentList) (w : Bool) (s : List Scope) (u : Purpose) (k : ℕ) → Asks p set u → AllIn p (in_arguments w s u k args) → Anywhere p set (put_call_code (h p set) args)
+    any-put_call : (args : ArgumentList) (w : Bool) (s : Sight) (u : Purpose) (k : ℕ) → Asks p set u → AllIn p (in_arguments w s u k args) → Anywhere p set (put_call_code (h p set) args)
     any-put_call no_arguments w s u k q all = any-push p set (pos 0)
     any-put_call (text t rest) w s u k q all = any-push p set (pos 0)
     any-put_call (value e rest) w s u k q all =
@@ -194,7 +195,7 @@ module _ (p : ProgramTree) (set : ℕ) where
         (λ there. any-target e w s u q there alone indexed zero one each (any-push p set (pos 0)))
 
     -- calls that ask
-    any-ask : (args : ArgumentList) (w : Bool) (s : List Scope) (u : Purpose) → Asks p set u → AllIn p (in_arguments w s u 0 args) → (query : Query) → TakesFlag p set query u args →
+    any-ask : (args : ArgumentList) (w : Bool) (s : Sight) (u : Purpose) → Asks p set u → AllIn p (in_arguments w s u 0 args) → (query : Query) → TakesFlag p set query u args →
         Anywhere p set (ask_code (h p set) args query)
     any-ask no_arguments w s u q all query takes = any-flag p set query 0 (λ good form. absurd (true≢false (sym (takes good form).1)))
     any-ask (text t rest) w s u q all query takes = any-push p set (pos 0)

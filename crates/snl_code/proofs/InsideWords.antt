@@ -1,6 +1,6 @@
 -- The code of the words of an expression lies inside, wherever it stands, as long as an instruction stands behind it.
 use Rattle.std.proofs.Common.{◌≡◌, ◌∙◌, ◌+◌, ◌<◌, ◌≤◌, refl, sym, ap, subst, true≢false, arith, ℕ, suc, ℤ, pos, Bool, true, false, List, [], ◌∷◌, ◌++◌, Option, None, Some, length, length-append, if◌then◌else◌}
-use Rattle.std.specs.Prelude.{◌||◌, is_some, is_none}
+use Rattle.std.specs.Prelude.{◌||◌, not}
 use Rattle.snl_text.specs.declared.kinds.Kind.{Kind}
 use Rattle.snl_text.specs.declared.tokens.Pos.{Pos}
 use Rattle.snl_text.specs.declared.tokens.Token.{Token}
@@ -18,10 +18,13 @@ use Rattle.snl_resolve.specs.declared.sites.Purpose.{Purpose}
 use Rattle.snl_resolve.specs.declared.sites.Purpose.TheVariants.{Flagged, Ignored}
 use Rattle.snl_resolve.specs.declared.sites.Site.TheVariants.{Use}
 use Rattle.snl_resolve.specs.Builtins.{form_of}
-use Rattle.snl_resolve.specs.Calls.{is_name, fits, is_fitting}
+use Rattle.snl_resolve.specs.declared.calls.CallKind.{CallKind}
+use Rattle.snl_resolve.specs.declared.calls.CallKind.TheVariants.{Unknown, BuiltIn, Defined}
+use Rattle.snl_resolve.specs.Calls.{is_name, fits, is_fitting, is_known}
 use Rattle.snl_resolve.specs.Purposes.{inner, in_parentheses, target, argument_of, argument, is_ignored, at_call, at_change}
 use Rattle.snl_resolve.specs.Programs.{sites}
-use Rattle.snl_resolve.specs.Scopes.{Scope, meaning}
+use Rattle.snl_resolve.specs.Scopes.{meaning}
+use Rattle.snl_resolve.specs.Sights.{Sight}
 use Rattle.snl_resolve.specs.Sites.{in_expression}
 use Rattle.snl_meaning.specs.declared.instrs.Instr.{Instr}
 use Rattle.snl_meaning.specs.declared.instrs.Instr.TheVariants as instr
@@ -219,38 +222,38 @@ module _ (p : ProgramTree) (set : ℕ) where
   asked-form Seconds = tt
   asked-form _ = tt
 
-  -- the arguments of a call that the rules let pass
-  asked-argument : (u : Purpose) (o : Option Builtin) (fit : Bool) → IsAsked u → (is_some o || is_ignored u) ≡ true → (is_none o || fit || is_ignored u) ≡ true →
-      (b : Builtin) × (o ≡ Some b) × (fit ≡ true) × (argument u o fit ≡ argument_of (form_of b))
-  asked-argument Ignored o fit k known fits = absurd k
-  asked-argument _ None fit k known fits = absurd (true≢false (sym known))
-  asked-argument _ (Some b) true k known fits = (b, refl, refl, refl)
-  asked-argument _ (Some b) false k known fits = absurd (true≢false (sym fits))
+  -- the arguments of a call that the rules let pass are for something
+  asked-argument : (u : Purpose) (c : CallKind) (fit : Bool) → IsAsked u → (is_known c || is_ignored u) ≡ true → (not (is_known c) || fit || is_ignored u) ≡ true → IsAsked (argument u c fit)
+  asked-argument Ignored c fit k known fits = absurd k
+  asked-argument _ Unknown fit k known fits = absurd (true≢false (sym known))
+  asked-argument _ (BuiltIn b) true k known fits = asked-form (form_of b)
+  asked-argument _ (BuiltIn b) false k known fits = absurd (true≢false (sym fits))
+  asked-argument _ (Defined f) true k known fits = tt
+  asked-argument _ (Defined f) false k known fits = absurd (true≢false (sym fits))
 
-  -- of a call of the program
-  call-argument : (u : Purpose) (w : Bool) (f : Token) (o : Option Builtin) (fit : Bool) → Asks u → IsSite p (at_call u w f o fit) → FlagsAreDeclared p →
-      (b : Builtin) × (o ≡ Some b) × (fit ≡ true) × (argument u o fit ≡ argument_of (form_of b))
-  call-argument u w f o fit k site good = let kept = good.calls site.0 f _ _ _ site.1 in asked-argument u o fit (k good) kept.0 kept.1
-
-  -- its arguments are not ignored
-  pub asks-argument : (u : Purpose) (w : Bool) (f : Token) (o : Option Builtin) (fit : Bool) → Asks u → IsSite p (at_call u w f o fit) → Asks (argument u o fit)
-  asks-argument u w f o fit k site = λ good.
-      let is = call-argument u w f o fit k site good in subst IsAsked (sym is.3) (asked-form (form_of is.0))
+  -- so they are in a program
+  pub asks-argument : (u : Purpose) (w : Bool) (f : Token) (c : CallKind) (fit : Bool) → Asks u → IsSite p (at_call u w f c fit) → Asks (argument u c fit)
+  asks-argument u w f c fit k site = λ good. let kept = good.calls site.0 f _ _ _ _ _ site.1 in asked-argument u c fit (k good) kept.0 kept.1
 
   -- where a call takes the name of an event flag, its arguments are for that, and have that form
   abbrev pub TakesFlag : Query → Purpose → ArgumentList → Type 0
   TakesFlag query u args = FlagsAreDeclared p → form_of (Ask query) ≡ FlagName → (u ≡ Flagged) × (fits FlagName args ≡ true)
 
-  -- so it is where a function is called
-  pub takes-flag : (u : Purpose) (w : Bool) (f : Token) (o : Option Builtin) (args : ArgumentList) → Asks u → IsSite p (at_call u w f o (is_fitting o args)) → (query : Query) →
-      o ≡ Some (Ask query) → TakesFlag query (argument u o (is_fitting o args)) args
-  takes-flag u w f o args k site query is = λ good form.
-      let call = call-argument u w f o (is_fitting o args) k site good in
-      let both : Some call.0 ≡ Some (Ask query) = sym call.1 ∙ is in
-      let one : call.0 ≡ Ask query = cc in
-      let named_form : form_of call.0 ≡ FlagName = ap form_of one ∙ form in
-      let fit : is_fitting (Some call.0) args ≡ true = ap (λ (b : Option Builtin). is_fitting b args) (sym call.1) ∙ call.2 in
-      (call.3 ∙ ap argument_of named_form, ap (λ (g : Form). fits g args) (sym named_form) ∙ fit)
+  -- so it is where the arguments have their form
+  flagged-argument : (u : Purpose) (query : Query) (fit : Bool) → IsAsked u → (fit || is_ignored u) ≡ true → form_of (Ask query) ≡ FlagName →
+      (argument u (BuiltIn (Ask query)) fit ≡ Flagged) × (fit ≡ true)
+  flagged-argument Ignored query fit k fits form = absurd k
+  flagged-argument _ query true k fits form = (ap argument_of form, refl)
+  flagged-argument _ query false k fits form = absurd (true≢false (sym fits))
+
+  -- and where a function is called
+  pub takes-flag : (u : Purpose) (w : Bool) (f : Token) (c : CallKind) (args : ArgumentList) → Asks u → IsSite p (at_call u w f c (is_fitting c args)) → (query : Query) →
+      c ≡ BuiltIn (Ask query) → TakesFlag query (argument u c (is_fitting c args)) args
+  takes-flag u w f c args k site query is = λ good form.
+      let kept = good.calls site.0 f _ _ _ _ _ site.1 in
+      let fit : (fits (form_of (Ask query)) args || is_ignored u) ≡ true = subst (λ (d : CallKind). (not (is_known d) || is_fitting d args || is_ignored u) ≡ true) is kept.1 in
+      let both = flagged-argument u query (fits (form_of (Ask query)) args) (k good) fit form in
+      (subst (λ (d : CallKind). argument u d (is_fitting d args) ≡ Flagged) (sym is) both.0, ap (λ (g : Form). fits g args) (sym form) ∙ both.1)
 
   -- what is asked of an event flag, by its number
   pub any-flag : (query : Query) (n : ℕ) → Named (instr.Ask query n) → Anywhere (instr.Ask query n ∷ [])
@@ -274,8 +277,8 @@ module _ (p : ProgramTree) (set : ℕ) where
   alone-named e (text t more) is = absurd (true≢false (sym is))
 
   -- it is such a name
-  pub flag-argument : (e : ExprTree) (w : Bool) (s : List Scope) (u : Purpose) → AllIn p (in_expression w s u e) → FlagsAreDeclared p → u ≡ Flagged → is_name e ≡ true → IsFlag e
-  flag-argument (named x) w s u all good is name = flag-named x (meaning s x) false good (subst (λ (v : Purpose). IsSite p (Use v x (meaning s x) false)) is all.0)
+  pub flag-argument : (e : ExprTree) (w : Bool) (s : Sight) (u : Purpose) → AllIn p (in_expression w s u e) → FlagsAreDeclared p → u ≡ Flagged → is_name e ≡ true → IsFlag e
+  flag-argument (named x) w s u all good is name = flag-named x (meaning s.scopes x) false good (subst (λ (v : Purpose). IsSite p (Use v x (meaning s.scopes x) false)) is all.0)
   flag-argument (constant t) w s u all good is name = absurd (true≢false (sym name))
   flag-argument (parenthesized e) w s u all good is name = absurd (true≢false (sym name))
   flag-argument (element x b e) w s u all good is name = absurd (true≢false (sym name))
@@ -300,7 +303,7 @@ module _ (p : ProgramTree) (set : ℕ) where
   any-ask_flag (assignment e op r) query flag = any-push (pos 0)
 
   -- the sites of what stands behind a sign
-  pub prefix-sites : (b : Bool) (w : Bool) (s : List Scope) (u : Purpose) (e : ExprTree) (op : Token) →
+  pub prefix-sites : (b : Bool) (w : Bool) (s : Sight) (u : Purpose) (e : ExprTree) (op : Token) →
       AllIn p (if b then at_change u e op ∷ in_expression w s (target u) e else in_expression w s (inner u) e) → Asks u →
       (q : Purpose) × AllIn p (in_expression w s q e) × Asks q
   prefix-sites true w s u e op all k = (target u, all.1, asks-target u k)

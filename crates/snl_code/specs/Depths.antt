@@ -1,7 +1,7 @@
 -- The depth of a program: the greatest number of operands that one of its expressions holds at once. The sizes and the
 -- initialisers of variables count, and the subscripts of definitions.
 use Rattle.std.specs.Prelude.{ℕ, ◌-◌, ◌^◌, min, max, List, [], ◌∷◌, Option, None, Some}
-use Rattle.snl_syntax.specs.Definitions.{DefinitionTree, declaration, assign, monitor, sync, sync_queue}
+use Rattle.snl_syntax.specs.Definitions.{DefinitionTree, declaration, assign, monitor, sync, sync_queue, function}
 use Rattle.snl_syntax.specs.Programs.{ClauseTree, StateTree, StateSetTree, ProgramTree}
 use Rattle.snl_emit.specs.BlockCode.{maybe_depth, block_depth, entered_depth}
 
@@ -26,6 +26,7 @@ definition_depth (assign a) = maybe_depth a.place.subscript
 definition_depth (monitor p) = maybe_depth p.subscript
 definition_depth (sync y) = maybe_depth y.place.subscript
 definition_depth (sync_queue q) = maybe_depth q.place.subscript
+definition_depth (function f) = block_depth f.body
 definition_depth _ = 0
 
 -- Of a clause.

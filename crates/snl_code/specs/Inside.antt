@@ -1,5 +1,5 @@
 -- What it means that the code of a program lies inside: each instruction leads to one that is there, and names what is there.
-use Rattle.std.specs.Prelude.{◌≡◌, ◌<◌, ◌≤◌, ◌⊎◌, ◌+◌, ◌-◌, ◌^◌, Bool, true, ℕ, List, length, Some, slice_get}
+use Rattle.std.specs.Prelude.{◌≡◌, ◌<◌, ◌≤◌, ◌⊎◌, ◌+◌, ◌-◌, ◌^◌, Bool, true, ℕ, List, Option, length, Some, slice_get}
 use Rattle.snl_text.specs.declared.tokens.Pos.{Pos}
 use Rattle.snl_text.specs.declared.tokens.Token.{Token}
 use Rattle.snl_syntax.specs.Programs.{ProgramTree}
@@ -45,7 +45,8 @@ pub record IsVariableOf (p : ProgramTree) (set : ℕ) (v : Variable) : Type 0 wh
 -- What the rules of calls and of event flags make sure of: each call is one of a known function, with the arguments that it takes;
 -- and each name that is used as an event flag means the declaration of one.
 pub record FlagsAreDeclared (p : ProgramTree) : Type 0 where
-  pub calls : (n : ℕ) (f : Token) (is_known is_fit may_stand : Bool) → slice_get (sites p) n ≡ Some (Call f is_known is_fit may_stand) → (is_known ≡ true) × (is_fit ≡ true)
+  pub calls : (n : ℕ) (f : Token) (is_known is_fit may_stand has_value : Bool) (function : Option Pos) →
+      slice_get (sites p) n ≡ Some (Call f is_known is_fit may_stand has_value function) → (is_known ≡ true) × (is_fit ≡ true)
   pub flags : (n : ℕ) (x : Token) (m : Meaning) (has_subscript : Bool) → slice_get (sites p) n ≡ Some (Use Flagged x m has_subscript) →
       (d : Pos) × (k : ℕ) × (declared_of p x.pos.offset ≡ Some d) × (slice_get (flags_of (sites p)) k ≡ Some d.offset)
 

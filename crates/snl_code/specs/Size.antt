@@ -1,7 +1,8 @@
 -- The size of a program: a number read off the source, than which its code is no longer. A state that is not reached counts 0.
 use Rattle.std.specs.Prelude.{ℕ, suc, ◌+◌, Bool, List, [], ◌∷◌, sum_by, if◌then◌else◌}
 use Rattle.snl_text.specs.declared.tokens.Token.{Token}
-use Rattle.snl_syntax.specs.Definitions.{PlaceTree, NamesTree, DefinitionTree, one_name, name_list, declaration, assign, monitor, sync, sync_queue, event_flags, setting}
+use Rattle.snl_syntax.specs.Functions.{ParameterTree}
+use Rattle.snl_syntax.specs.Definitions.{PlaceTree, NamesTree, DefinitionTree, one_name, name_list, declaration, assign, monitor, sync, sync_queue, event_flags, setting, function}
 use Rattle.snl_syntax.specs.Programs.{TargetTree, to_state, to_exit, ClauseTree, StateTree, StateSetTree, ProgramTree}
 use Rattle.snl_resolve.specs.declared.sites.Site.{Site}
 use Rattle.snl_resolve.specs.Programs.{sites}
@@ -23,6 +24,10 @@ abbrev pub names_size : NamesTree → ℕ
 names_size (one_name t) = token_size t
 names_size (name_list ts) = sum_by token_size ts
 
+-- A parameter.
+abbrev pub parameter_size : ParameterTree → ℕ
+parameter_size p = 8 + token_size p.name
+
 -- A definition, or an option among definitions.
 abbrev pub definition_size : List Site → DefinitionTree → ℕ
 definition_size all (declaration d) = declaration_size all d
@@ -32,6 +37,7 @@ definition_size all (sync y) = 8 + (place_size all y.place + token_size y.flag.n
 definition_size all (sync_queue q) = 8 + (place_size all q.place + (maybe_size (λ f. token_size f.name) q.flag + maybe_size token_size q.size))
 definition_size all (event_flags names) = 8 + sum_by token_size names
 definition_size all (setting o) = 8 + token_size o.name
+definition_size all (function f) = 8 + (token_size f.name + (sum_by parameter_size f.parameters.each + block_size all f.body))
 
 -- ---- states
 

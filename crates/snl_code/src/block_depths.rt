@@ -75,6 +75,7 @@ fn statement_depth(statement: &Stmt) -> usize
     match statement {
         Stmt::Block(block) => block_depth(block),
         Stmt::Expression(value) => expression_depth(value),
+        Stmt::Return { value, .. } => maybe_depth(value),
         Stmt::If { condition, first } => {
             larger(expression_depth(condition), statement_depth(first))
         }

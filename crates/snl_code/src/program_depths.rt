@@ -22,6 +22,7 @@ fn definition_depth(definition: &Def) -> usize
         Def::Monitor(place) => maybe_depth(&place.subscript),
         Def::Sync(sync) => maybe_depth(&sync.place.subscript),
         Def::SyncQueue(queue) => maybe_depth(&queue.place.subscript),
+        Def::Function(function) => block_depth(&function.body),
         Def::EventFlags(_) | Def::Setting(_) => 0,
     }
 }

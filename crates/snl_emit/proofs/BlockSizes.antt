@@ -5,7 +5,7 @@ use Rattle.std.specs.Prelude.{sum_by}
 use Rattle.snl_text.specs.declared.kinds.Kind.{Kind}
 use Rattle.snl_syntax.specs.Expressions.{ExprTree, constant, parenthesized, named, element, call, postfix, prefix, chain, conditional, assignment}
 use Rattle.snl_syntax.specs.Declarations.{DeclaratorTree, DeclarationTree}
-use Rattle.snl_syntax.specs.Statements.{StatementTree, StatementList, BlockTree, nested, empty, expression, break_loop, continue_loop, change_state, if_then, if_else, while_loop, for_loop, no_statements, statement, block}
+use Rattle.snl_syntax.specs.Statements.{StatementTree, StatementList, BlockTree, nested, empty, expression, break_loop, continue_loop, change_state, return_with, if_then, if_else, while_loop, for_loop, no_statements, statement, block}
 use Rattle.snl_meaning.specs.declared.instrs.Instr.{Instr}
 use Rattle.snl_meaning.specs.declared.instrs.Instr.TheVariants as instr
 use Rattle.snl_meaning.specs.declared.instrs.Variable.{Variable}
@@ -127,6 +127,7 @@ module _ (h : Here) where
     statement-short (break_loop t) out again = omega arith
     statement-short (continue_loop t) out again = omega arith
     statement-short (change_state t x) out again = omega arith
+    statement-short (return_with t e) out again = omega arith
     statement-short (if_then c s) out again =
         let held = statement_code h out again s in
         omega (arith, length-append (expression_code h c) (instr.JumpIfZero (length held) ∷ held), value-short h c, statement-short s out again)

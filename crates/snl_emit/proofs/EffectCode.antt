@@ -97,7 +97,8 @@ module _ (h : Here) (room : ℕ) (code : List Instr) (below : List ℤ) where
       let ec = expression_code h e in
       let k = has_back code at ec (Drop ∷ []) has in
       let n : at + length ec + 1 ≡ at + length (ec ++ Drop ∷ []) = omega (arith, length-append ec (Drop ∷ [])) in
-      follows-over at below w (value_of h e w) (at + length ec) (at + length (ec ++ Drop ∷ [])) (λ z. z ∷ below) (value-follows h room code e at below w (has_front code at ec _ has) (omega (arith, free)))
+      follows-over at below w (value_of h e w) (at + length ec) (at + length (ec ++ Drop ∷ [])) (λ z. z ∷ below)
+      (value-follows h room code e at below w (has_front code at ec _ has) (omega (arith, free)))
       (λ z u. subst (λ (m : ℕ). Quiet g code (at + length ec) (z ∷ below) u m below) n (quiet-step g code Drop (at + length ec) (z ∷ below) u (at + length ec + 1) below k.0 refl))
 
   -- a store that takes its number away, after what computes the number
@@ -108,7 +109,8 @@ module _ (h : Here) (room : ℕ) (code : List Instr) (below : List ℤ) where
       let k = has_back code at rc (Assign x.0 0 x.1 ∷ []) has in
       let n : at + length rc + 1 ≡ at + length (rc ++ Assign x.0 0 x.1 ∷ []) = omega (arith, length-append rc (Assign x.0 0 x.1 ∷ [])) in
       subst (λ (m : ℕ). Follows g code at below w (put_at o op_line (value_of h r) h.set x.0 x.1 (pos 0) w) (λ _. m) (idle below)) n
-      (follows-then g code at below w (renewed o op_line (value_of h r) h.set x.0 (pos 0) w) (stored h.set x.0 x.1 (pos 0)) (λ _. at + length rc) (λ z. z ∷ below) (λ _. at + length rc + 1) (idle below)
+      (follows-then g code at below w (renewed o op_line (value_of h r) h.set x.0 (pos 0) w) (stored h.set x.0 x.1 (pos 0))
+      (λ _. at + length rc) (λ z. z ∷ below) (λ _. at + length rc + 1) (idle below)
       (codes-renewed g code o op_line (value_of h r) (expression_code h r) (expression_depth r) (value-follows h room code r) x.0 at below w (has_front code at rc _ has) (omega (arith, free)))
       (λ z u. follows-step g code (Assign x.0 0 x.1) (at + length rc) (z ∷ below) u (stored h.set x.0 x.1 (pos 0) z u) (λ _. at + length rc + 1) (idle below) k.0 refl))
 

@@ -18,7 +18,8 @@ use Rattle.snl_emit.proofs.Leading.{led, left-for, tests, acts-maybe}
 use Rattle.snl_meaning.proofs.Ticks.{HasFewer, Keeps, spent-falls, held-keeps, evaluated-keeps}
 
 -- a loop, from its condition on
-module _ (g : PieceContext) (code : List Instr) (below : List ℤ) (line start onward again test after out away : ℕ) (condition : World → Ran Bool) (body : World → Ran Way) (step : World → Ran (Unit {0}))
+module _ (g : PieceContext) (code : List Instr) (below : List ℤ) (line start onward again test after out away : ℕ)
+    (condition : World → Ran Bool) (body : World → Ran Way) (step : World → Ran (Unit {0}))
     (conditions : (w : World) → Follows g code again below w (condition w) (λ (b : Bool). if b then test else after) (idle below))
     (tick : (w : World) → Follows g code test below w (spent line w) (λ _. start) (idle below))
     (bodies : (w : World) → Continues (run_at g code start below w) (body w) (led g code below onward after onward))

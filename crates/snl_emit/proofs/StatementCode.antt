@@ -1,6 +1,6 @@
 -- The code of a statement and of a block does what they do.
 use Rattle.std.proofs.Common.{◌≡◌, ◌+◌, ◌≤◌, ℕ, ℤ, List, [], ◌∷◌, ◌++◌, None, Some, refl, ap, arith, length, length-append}
-use Rattle.snl_syntax.specs.Statements.{StatementTree, StatementList, BlockTree, nested, empty, expression, break_loop, continue_loop, change_state, if_then, if_else, while_loop, for_loop, no_statements, statement, block}
+use Rattle.snl_syntax.specs.Statements.{StatementTree, StatementList, BlockTree, nested, empty, expression, break_loop, continue_loop, change_state, return_with, if_then, if_else, while_loop, for_loop, no_statements, statement, block}
 use Rattle.snl_meaning.specs.declared.instrs.Instr.{Instr}
 use Rattle.snl_meaning.specs.declared.instrs.Instr.TheVariants.{Jump, JumpIfZero}
 use Rattle.snl_emit.specs.BlockCode.{effect_code, dropped_code, test_code, loop_code, when_code, entered_code, statement_code, statements_code, block_code, statement_depth, statements_depth, block_depth}
@@ -42,8 +42,10 @@ module _ (h : Here) (room : ℕ) (code : List Instr) (below : List ℤ) where
     statement-follows (break_loop t) out again at w has free =
         continues-here g code Broken at below w (at + 1 + out) below (led g code below (at + 1) (at + 1 + out) (at + 1 + again)) (quiet-jump g code out at (at + 1 + out) below w has.0 refl) refl
     statement-follows (continue_loop t) out again at w has free =
-        continues-here g code Continued at below w (at + 1 + again) below (led g code below (at + 1) (at + 1 + out) (at + 1 + again)) (quiet-jump g code again at (at + 1 + again) below w has.0 refl) refl
+        continues-here g code Continued at below w (at + 1 + again) below (led g code below (at + 1) (at + 1 + out) (at + 1 + again))
+        (quiet-jump g code again at (at + 1 + again) below w has.0 refl) refl
     statement-follows (change_state t x) out again at w has free = record { by = λ k. (1, ap (λ o. then_do (step_of g o at below w) (from_there (exec g code 0))) has.0) }
+    statement-follows (return_with t e) out again at w has free = continues-done g code below at w (at + 0) (at + 0 + out) (at + 0 + again) (omega arith)
     statement-follows (if_then c s) out again at w has free =
         let cc' = expression_code h c in
         let hc = statement_code h out again s in

@@ -215,7 +215,8 @@ module _ (h : Here) where
     put-call-short no_arguments = omega arith
     put-call-short (text t rest) = omega arith
     put-call-short (value e rest) =
-        omega (arith, target-short e (λ v x. instr.Put v (has_async rest) ∷ []) (λ v x. instr.PutAt v (has_async rest) ∷ []) (instr.Push (pos 0) ∷ []) 1 (λ v x. omega arith) (λ v x. omega arith) (omega arith))
+        let async = has_async rest in
+        omega (arith, target-short e (λ v x. instr.Put v async ∷ []) (λ v x. instr.PutAt v async ∷ []) (instr.Push (pos 0) ∷ []) 1 (λ v x. omega arith) (λ v x. omega arith) (omega arith))
 
     -- a call that asks
     ask-short : (all : ArgumentList) (query : Query) → length (ask_code h all query) ≤ arguments_size h.sites all + 1

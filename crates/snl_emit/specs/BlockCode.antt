@@ -3,7 +3,7 @@ use Rattle.std.specs.Prelude.{ℕ, suc, ◌+◌, List, [], ◌∷◌, ◌++◌, 
 use Rattle.snl_text.specs.declared.kinds.Kind.{Kind}
 use Rattle.snl_syntax.specs.Expressions.{ExprTree, parenthesized, named, assignment, postfix, prefix}
 use Rattle.snl_syntax.specs.Declarations.{DeclaratorTree}
-use Rattle.snl_syntax.specs.Statements.{StatementTree, StatementList, BlockTree, nested, empty, expression, break_loop, continue_loop, change_state, if_then, if_else, while_loop, for_loop, no_statements, statement, block}
+use Rattle.snl_syntax.specs.Statements.{StatementTree, StatementList, BlockTree, nested, empty, expression, break_loop, continue_loop, change_state, return_with, if_then, if_else, while_loop, for_loop, no_statements, statement, block}
 use Rattle.snl_meaning.specs.declared.instrs.Instr.{Instr}
 use Rattle.snl_meaning.specs.declared.instrs.Instr.TheVariants.{Increment, Drop, Jump, JumpIfZero, Tick, Clear, Assign, Leave, End}
 use Rattle.snl_meaning.specs.declared.instrs.Variable.{Variable}
@@ -147,6 +147,7 @@ abbrev mutual
   statement_code h out again (break_loop t) = Jump out ∷ []
   statement_code h out again (continue_loop t) = Jump again ∷ []
   statement_code h out again (change_state t x) = Leave (state_number h x) ∷ []
+  statement_code h out again (return_with t e) = []
   statement_code h out again (if_then c s) = when_code (expression_code h c) (statement_code h out again s)
   statement_code h out again (if_else c s e) =
       let second = statement_code h out again e in
@@ -177,6 +178,7 @@ abbrev mutual
   statement_depth (break_loop t) = 0
   statement_depth (continue_loop t) = 0
   statement_depth (change_state t x) = 0
+  statement_depth (return_with t e) = maybe_depth e
   statement_depth (if_then c s) = max (expression_depth c) (statement_depth s)
   statement_depth (if_else c s e) = max (expression_depth c) (max (statement_depth s) (statement_depth e))
   statement_depth (while_loop t c s) = max (expression_depth c) (statement_depth s)

@@ -4,7 +4,7 @@
 use Rattle.std.specs.Prelude.{ℕ, ◌+◌, List, Option, None, Some, sum_by}
 use Rattle.snl_syntax.specs.Expressions.{ExprTree, TermList, ArgumentList, constant, parenthesized, named, element, call, postfix, prefix, chain, conditional, assignment, no_terms, term, no_arguments, value, text}
 use Rattle.snl_syntax.specs.Declarations.{DeclaratorTree, DeclarationTree}
-use Rattle.snl_syntax.specs.Statements.{StatementTree, StatementList, BlockTree, nested, empty, expression, break_loop, continue_loop, change_state, if_then, if_else, while_loop, for_loop, no_statements, statement, block}
+use Rattle.snl_syntax.specs.Statements.{StatementTree, StatementList, BlockTree, nested, empty, expression, break_loop, continue_loop, change_state, return_with, if_then, if_else, while_loop, for_loop, no_statements, statement, block}
 use Rattle.snl_resolve.specs.declared.constants.Constant.{Constant}
 use Rattle.snl_resolve.specs.declared.constants.Constant.TheVariants.{Worth}
 use Rattle.snl_resolve.specs.declared.sites.Site.{Site}
@@ -80,6 +80,7 @@ abbrev mutual
   statement_size sites (break_loop t) = 8
   statement_size sites (continue_loop t) = 8
   statement_size sites (change_state t x) = 8 + 8
+  statement_size sites (return_with t e) = 8 + maybe_size (expression_size sites) e
   statement_size sites (if_then c s) = 8 + (expression_size sites c + statement_size sites s)
   statement_size sites (if_else c s e) = 8 + (expression_size sites c + (statement_size sites s + statement_size sites e))
   statement_size sites (while_loop t c s) = 8 + (expression_size sites c + statement_size sites s)

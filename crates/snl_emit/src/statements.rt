@@ -140,7 +140,7 @@ fn emit_statement<'a>(
 {
     match statement {
         Stmt::Block(block) => emit_nested(block, known, around, code),
-        Stmt::Empty => Ok(()),
+        Stmt::Empty | Stmt::Return { .. } => Ok(()),
         Stmt::Expression(value) => emit_effect(value, known, code),
         Stmt::Break(_) => put_jump(code, around.end),
         Stmt::Continue(_) => put_jump(code, around.again),

@@ -5,11 +5,9 @@ ghost use Rattle.std.specs.List.{flat_map};
 ghost use Rattle.snl_links.specs.LinkViews.{link_view};
 ghost use Rattle.snl_meaning.specs.Effect.{values_of};
 ghost use Rattle.snl_resolve.specs.Constants.{constant_of};
-ghost use Rattle.snl_resolve.specs.Held.{held_view};
+ghost use Rattle.snl_resolve.specs.Held.{begun, held_view};
 ghost use Rattle.snl_resolve.specs.Scopes.{is_hidden};
-ghost use Rattle.snl_syntax.specs.view.Declarations.{initialiser_view};
 ghost use Rattle.snl_syntax.specs.view.Expressions.{boxed, view};
-ghost use Rattle.snl_syntax.specs.view.Shown.{shown};
 ghost use Rattle.snl_load.specs.Initials as spec;
 ghost use Rattle.snl_load.specs.Sets.{sets_of};
 
@@ -41,12 +39,12 @@ fn listed<'p, 'a>(each: &'p [Box<Expr<'a>>], from: usize, more: usize) -> Option
 /// The value that is written for the element that stands so many elements after another one, if one is written.
 #[tactic(auto, using(crate::proofs::Listed::values_listed))]
 fn value_for<'p, 'a>(
-    initial: &'p Option<Initialiser<'a>>,
+    initial: Option<&'p Initialiser<'a>>,
     from: usize,
     more: usize,
 ) -> Option<&'p Expr<'a>>
     ensures { option_map (λ e. view e.now) result
-        ≡ slice_get (values_of (shown initialiser_view initial.now)) (from + more) }
+        ≡ slice_get (values_of (begun initial.entry)) (from + more) }
 {
     match initial {
         None => None,

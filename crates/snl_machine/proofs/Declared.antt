@@ -7,8 +7,8 @@ use Rattle.snl_text.specs.declared.kinds.Kind.TheVariants.{Comma, Semicolon, Els
 use Rattle.snl_syntax.specs.Slots.{Slot, The, Sign}
 use Rattle.snl_syntax.specs.Sequences.{between_slots, maybe_slots, row_slots, parted_slots}
 use Rattle.snl_syntax.specs.Declarations.{TypeTree, DeclaratorTree, DeclarationTree, type_slots, declarator_slots, declaration_slots}
-use Rattle.snl_syntax.specs.Definitions.{DefinitionTree, declaration, assign, monitor, sync, sync_queue, event_flags, setting, definition_slots}
-use Rattle.snl_syntax.specs.Statements.{StatementTree, StatementList, BlockTree, nested, empty, expression, break_loop, continue_loop, change_state, if_then, if_else, while_loop, for_loop, no_statements, statement, block, condition_slots, header_slots, statement_slots, statement_list_slots, block_slots}
+use Rattle.snl_syntax.specs.Definitions.{DefinitionTree, declaration, assign, monitor, sync, sync_queue, event_flags, setting, function, definition_slots}
+use Rattle.snl_syntax.specs.Statements.{StatementTree, StatementList, BlockTree, nested, empty, expression, break_loop, continue_loop, change_state, return_with, if_then, if_else, while_loop, for_loop, no_statements, statement, block, condition_slots, header_slots, statement_slots, statement_list_slots, block_slots}
 use Rattle.snl_syntax.specs.Programs.{ClauseTree, StateTree, StateSetTree, ProgramTree, clause_slots, entry_slots, exit_slots, state_slots, state_set_slots, macros_slots, program_slots, target_slots}
 use Rattle.snl_syntax.specs.Expressions.{slots}
 use Rattle.snl_resolve.specs.Programs.{program_scopes}
@@ -77,6 +77,7 @@ module _ (R : List Slot → List Held → Type 0) (any : (ss : List Slot) → R 
   definitions s (sync_queue q) = any _
   definitions s (event_flags names) = any _
   definitions s (setting o) = any _
+  definitions s (function f) = any _
 
   -- statements and blocks
   mutual
@@ -87,6 +88,7 @@ module _ (R : List Slot → List Held → Type 0) (any : (ss : List Slot) → R 
     statements s (break_loop t) = any _
     statements s (continue_loop t) = any _
     statements s (change_state t x) = any _
+    statements s (return_with t e) = any _
     statements s (if_then c a) = lead (Sign If) (condition_slots c ++ statement_slots a) (by_statement s a) (after (condition_slots c) (statement_slots a) (by_statement s a) (statements s a))
     statements s (if_else c a b) =
         lead (Sign If) (condition_slots c ++ (statement_slots a ++ Sign Else ∷ statement_slots b)) (by_statement s a ++ by_statement s b)

@@ -5,7 +5,7 @@ use Rattle.std.specs.List.{flat_map}
 use Rattle.std.proofs.lemmas.List.{map-append}
 use Rattle.snl_text.specs.declared.tokens.Token.{Token}
 use Rattle.snl_syntax.specs.Declarations.{DeclaratorTree}
-use Rattle.snl_syntax.specs.Definitions.{DefinitionTree, declaration, assign, monitor, sync, sync_queue, event_flags, setting}
+use Rattle.snl_syntax.specs.Definitions.{DefinitionTree, declaration, assign, monitor, sync, sync_queue, event_flags, setting, function}
 use Rattle.snl_resolve.specs.declared.scopes.Declared.{Declared}
 use Rattle.snl_resolve.specs.declared.sites.Meaning.{Meaning}
 use Rattle.snl_resolve.specs.declared.sites.Meaning.TheVariants.{Number, Nothing}
@@ -84,6 +84,7 @@ definition-alike h name (sync y) = refl
 definition-alike h name (sync_queue q) = refl
 definition-alike h name (event_flags names) = refl
 definition-alike h name (setting o) = refl
+definition-alike h name (function f) = refl
 
 -- those of definitions, without their sizes and with them
 all-alike : (h : List ℕ → Bool) (name : List ℕ) (ds : List DefinitionTree) → is_some (first_of name (bare_names ds)) ≡ is_some (first_of name (flat_map (declared_by h) ds))
@@ -139,6 +140,7 @@ module _ (s : List Scope) where
   of-definition (sync_queue q) x is = absurd is
   of-definition (event_flags names) x is = of-flags names x is
   of-definition (setting o) x is = absurd is
+  of-definition (function f) x is = absurd is
 
   -- definitions
   of-definitions : (ds : List DefinitionTree) (x : Declared) → In x (flat_map (declared_by (is_hidden s)) ds) → IsOf (flat_map (by_definition s) ds) x

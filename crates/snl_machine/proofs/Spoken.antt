@@ -8,8 +8,9 @@ use Rattle.std.proofs.lemmas.List.Sums.{sum_by-append, sum_by-cons}
 use Rattle.snl_text.specs.declared.tokens.Pos.{Pos}
 use Rattle.snl_text.specs.declared.tokens.Token.{Token}
 use Rattle.snl_syntax.specs.Expressions.{ExprTree}
-use Rattle.snl_syntax.specs.Definitions.{NamesTree, one_name, name_list, ChannelsTree, DefinitionTree, declaration, assign, monitor, sync, sync_queue, event_flags, setting}
+use Rattle.snl_syntax.specs.Definitions.{NamesTree, one_name, name_list, ChannelsTree, DefinitionTree, declaration, assign, monitor, sync, sync_queue, event_flags, setting, function}
 use Rattle.snl_syntax.specs.Programs.{StateTree, StateSetTree, ProgramTree}
+use Rattle.snl_resolve.specs.declared.calls.Heading.{Heading}
 use Rattle.snl_resolve.specs.declared.constants.Constant.{Constant}
 use Rattle.snl_resolve.specs.declared.constants.Constant.TheVariants.{Varies, Faults, Worth}
 use Rattle.snl_resolve.specs.declared.options.Options.{Options}
@@ -25,8 +26,9 @@ use Rattle.snl_resolve.specs.declared.sites.Sort.TheVariants.{Assign}
 use Rattle.snl_resolve.specs.Constants.{constant_of}
 use Rattle.snl_resolve.specs.Numbered.{is_later}
 use Rattle.snl_resolve.specs.Parts.{listed_names, element_by, element_at, one_element, part_of, is_wrong_subscript, is_wrong_part}
-use Rattle.snl_resolve.specs.Programs.{queue_size, in_definition, in_definitions, at_state, in_state, in_numbered, in_states, in_all_states, in_state_set, in_numbered_set, in_state_sets, in_all_sets, in_plain_block, in_clauses, program_scopes, sites}
+use Rattle.snl_resolve.specs.Programs.{queue_size, in_definition, in_definitions, in_function, in_program_part, in_program_parts, program_sight, at_state, in_state, in_numbered, in_states, in_all_states, in_state_set, in_numbered_set, in_state_sets, in_all_sets, in_plain_block, in_clauses, program_scopes, sites}
 use Rattle.snl_resolve.specs.Scopes.{Scope, elements, is_array, is_hidden, meaning, declared_as, scope_of}
+use Rattle.snl_resolve.specs.Sights.{Sight, within, headings_by}
 use Rattle.snl_resolve.specs.Sites.{declares, in_value, maybe}
 use Rattle.snl_resolve.specs.Variables.{Held, by_definitions, by_maybe, by_clause, by_state, by_state_set}
 use Rattle.snl_rules.specs.declared.rules.Rule.TheVariants.{WrongArray}
@@ -255,15 +257,17 @@ module _ (p : ProgramTree) (queue : ℕ → ℕ) where
   IsGood s = Good IsMeant tt tt s
 
   -- a definition
-  definition : (in_state : Bool) (s : List Scope) → IsGood s → (d : DefinitionTree) → Fits (said_by s d) (in_definition in_state s d)
+  definition : (in_state : Bool) (s : Sight) → IsGood s.scopes → (d : DefinitionTree) → Fits (said_by s.scopes d) (in_definition in_state s d)
   definition in_state s good (declaration d) = λ fine. (omega arith, tt)
-  definition in_state s good (assign a) = assign-says (is_hidden s) a.word a.place.name (maybe (in_value s) a.place.subscript) (meaning s a.place.name) a.place.subscript a.channels (good a.place.name)
-  definition in_state s good (monitor a) = quiet monitored (λ x. refl) (λ x. tt) (place_part s a) (in_definition in_state s (monitor a))
-  definition in_state s good (sync y) = quiet (λ x. synced x (flag_at s y.flag) 0) (λ x. refl) (λ x. tt) (place_part s y.place) (in_definition in_state s (sync y))
+  definition in_state s good (assign a) =
+      assign-says (is_hidden s.scopes) a.word a.place.name (maybe (in_value s) a.place.subscript) (meaning s.scopes a.place.name) a.place.subscript a.channels (good a.place.name)
+  definition in_state s good (monitor a) = quiet monitored (λ x. refl) (λ x. tt) (place_part s.scopes a) (in_definition in_state s (monitor a))
+  definition in_state s good (sync y) = quiet (λ x. synced x (flag_at s.scopes y.flag) 0) (λ x. refl) (λ x. tt) (place_part s.scopes y.place) (in_definition in_state s (sync y))
   definition in_state s good (sync_queue q) =
-      quiet (λ x. synced x (flag_if_there s q.flag) (queue_size q.size)) (λ x. refl) (λ x. tt) (place_part s q.place) (in_definition in_state s (sync_queue q))
+      quiet (λ x. synced x (flag_if_there s.scopes q.flag) (queue_size q.size)) (λ x. refl) (λ x. tt) (place_part s.scopes q.place) (in_definition in_state s (sync_queue q))
   definition in_state s good (event_flags names) = λ fine. (omega arith, tt)
   definition in_state s good (setting o) = λ fine. (omega arith, tt)
+  definition in_state s good (function f) = λ fine. (omega arith, tt)
 
   -- all of some variables are declared in the program
   abbrev Up : List Held → Type 0
@@ -278,75 +282,102 @@ module _ (p : ProgramTree) (queue : ℕ → ℕ) where
       by (Some z) t of = let w = of z refl in (w.0, up w.0 w.1, ap (λ (x : Token). x.pos) w.2, w.3)
 
   -- definitions in their scope
-  definitions : (in_state : Bool) (outer : List Scope) (ds : List DefinitionTree) → Up (by_definitions outer ds) → IsGood outer → Fits (said_in outer ds) (in_definitions in_state outer ds)
+  definitions : (in_state : Bool) (outer : Sight) (ds : List DefinitionTree) → Up (by_definitions outer.scopes ds) → IsGood outer.scopes →
+      Fits (said_in outer.scopes ds) (in_definitions in_state outer ds)
   definitions in_state outer ds up good =
-      after (declares [] (scope_of outer ds)) (flat_map (in_definition in_state (scope_of outer ds ∷ outer)) ds) (said_in outer ds)
-      (each (said_by (scope_of outer ds ∷ outer)) (in_definition in_state (scope_of outer ds ∷ outer)) (definition in_state (scope_of outer ds ∷ outer) (more-good outer ds up good)) ds)
+      let own = scope_of outer.scopes ds in
+      let inside = within own outer in
+      after (declares [] own) (flat_map (in_definition in_state inside) ds) (said_in outer.scopes ds)
+      (each (said_by inside.scopes) (in_definition in_state inside) (definition in_state inside (more-good outer.scopes ds up good)) ds)
+
+  -- a definition of the program: a function says nothing of links
+  program-part : (s : Sight) → IsGood s.scopes → (d : DefinitionTree) → Fits (said_by s.scopes d) (in_program_part s d)
+  program-part s good (function f) = any (in_function s f)
+  program-part s good (declaration d) = definition false s good (declaration d)
+  program-part s good (assign a) = definition false s good (assign a)
+  program-part s good (monitor a) = definition false s good (monitor a)
+  program-part s good (sync y) = definition false s good (sync y)
+  program-part s good (sync_queue q) = definition false s good (sync_queue q)
+  program-part s good (event_flags names) = definition false s good (event_flags names)
+  program-part s good (setting o) = definition false s good (setting o)
+
+  -- those of the program
+  program-parts : (s : List Scope) → IsGood s → (above : List Heading) (ds : List DefinitionTree) → Fits (flat_map (said_by s) ds) (in_program_parts s above ds)
+  program-parts s good above [] = any []
+  program-parts s good above (d ∷ ds) =
+      let here : Sight = record { scopes = s; functions = above } in
+      both (said_by s d) (flat_map (said_by s) ds) (in_program_part here d) (in_program_parts s (above ++ headings_by d) ds)
+      (program-part here good d) (program-parts s good (above ++ headings_by d) ds)
 
   -- ---- states and state sets
 
   -- a state
-  state : (outer : List Scope) (names : List Token) (s : StateTree) → Up (by_state outer s) → IsGood outer → Fits (said_in_state outer s) (in_state outer names s)
+  state : (outer : Sight) (names : List Token) (s : StateTree) → Up (by_state outer.scopes s) → IsGood outer.scopes → Fits (said_in_state outer.scopes s) (in_state outer names s)
   state outer names s up good =
-      let inside = scope_of outer s.definitions ∷ outer in
-      let xs = said_in outer s.definitions in
+      let inside = within (scope_of outer.scopes s.definitions) outer in
+      let xs = said_in outer.scopes s.definitions in
       let defs = in_definitions true outer s.definitions in
       let entry = maybe (in_plain_block inside names) s.entry in
       let clauses = in_clauses inside names false s.clauses in
       let exit = maybe (in_plain_block inside names) s.exit in
-      let own = by_definitions outer s.definitions in
-      let first = by_maybe inside s.entry in
-      let middle = flat_map (by_clause inside) s.clauses in
-      let last = by_maybe inside s.exit in
+      let own = by_definitions outer.scopes s.definitions in
+      let first = by_maybe inside.scopes s.entry in
+      let middle = flat_map (by_clause inside.scopes) s.clauses in
+      let last = by_maybe inside.scopes s.exit in
       trail (defs ++ entry ++ clauses) exit xs (trail (defs ++ entry) clauses xs (trail defs entry xs
       (definitions true outer s.definitions (λ v is. up v (in-left v (own ++ first ++ middle) last (in-left v (own ++ first) middle (in-left v own first is)))) good)))
 
   -- states
-  states : (outer : List Scope) (names : List Token) (k : ℕ) (ss : List StateTree) → Up (flat_map (by_state outer) ss) → IsGood outer →
-      Fits (flat_map (said_in_state outer) ss) (in_states outer names k ss)
+  states : (outer : Sight) (names : List Token) (k : ℕ) (ss : List StateTree) → Up (flat_map (by_state outer.scopes) ss) → IsGood outer.scopes →
+      Fits (flat_map (said_in_state outer.scopes) ss) (in_states outer names k ss)
   states outer names k [] up good = any []
   states outer names k (s ∷ ss) up good =
-      both (said_in_state outer s) (flat_map (said_in_state outer) ss) (in_numbered outer names k s) (in_states outer names (suc k) ss)
-      (after (at_state names k s ∷ []) (in_state outer names s) (said_in_state outer s) (state outer names s (λ v is. up v (in-left v (by_state outer s) (flat_map (by_state outer) ss) is)) good))
-      (states outer names (suc k) ss (λ v is. up v (in-right v (by_state outer s) (flat_map (by_state outer) ss) is)) good)
+      let scopes = outer.scopes in
+      both (said_in_state scopes s) (flat_map (said_in_state scopes) ss) (in_numbered outer names k s) (in_states outer names (suc k) ss)
+      (after (at_state names k s ∷ []) (in_state outer names s) (said_in_state scopes s) (state outer names s (λ v is. up v (in-left v (by_state scopes s) (flat_map (by_state scopes) ss) is)) good))
+      (states outer names (suc k) ss (λ v is. up v (in-right v (by_state scopes s) (flat_map (by_state scopes) ss) is)) good)
 
   -- a state set
-  state-set : (outer : List Scope) (g : StateSetTree) → Up (by_state_set outer g) → IsGood outer → Fits (said_in_set outer g) (in_state_set outer g)
+  state-set : (outer : Sight) (g : StateSetTree) → Up (by_state_set outer.scopes g) → IsGood outer.scopes → Fits (said_in_set outer.scopes g) (in_state_set outer g)
   state-set outer g up good =
-      let inside = scope_of outer g.definitions ∷ outer in
-      let own = by_definitions outer g.definitions in
-      let rest = flat_map (by_state inside) g.states in
+      let inside = within (scope_of outer.scopes g.definitions) outer in
+      let own = by_definitions outer.scopes g.definitions in
+      let rest = flat_map (by_state inside.scopes) g.states in
       let defs-up : Up own = λ v is. up v (in-left v own rest is) in
-      both (said_in outer g.definitions) (flat_map (said_in_state inside) g.states) (in_definitions false outer g.definitions) (in_all_states inside g.states)
+      both (said_in outer.scopes g.definitions) (flat_map (said_in_state inside.scopes) g.states) (in_definitions false outer g.definitions) (in_all_states inside g.states)
       (definitions false outer g.definitions defs-up good)
-      (states inside (map (λ (s : StateTree). s.name) g.states) 0 g.states (λ v is. up v (in-right v own rest is)) (more-good outer g.definitions defs-up good))
+      (states inside (map (λ (s : StateTree). s.name) g.states) 0 g.states (λ v is. up v (in-right v own rest is)) (more-good outer.scopes g.definitions defs-up good))
 
   -- state sets
-  state-sets : (outer : List Scope) (names : List Token) (k : ℕ) (gs : List StateSetTree) → Up (flat_map (by_state_set outer) gs) → IsGood outer →
-      Fits (flat_map (said_in_set outer) gs) (in_state_sets outer names k gs)
+  state-sets : (outer : Sight) (names : List Token) (k : ℕ) (gs : List StateSetTree) → Up (flat_map (by_state_set outer.scopes) gs) → IsGood outer.scopes →
+      Fits (flat_map (said_in_set outer.scopes) gs) (in_state_sets outer names k gs)
   state-sets outer names k [] up good = any []
   state-sets outer names k (g ∷ gs) up good =
-      both (said_in_set outer g) (flat_map (said_in_set outer) gs) (in_numbered_set outer names k g) (in_state_sets outer names (suc k) gs)
-      (after (StateSet g.word g.name (is_later names k g.name) ∷ []) (in_state_set outer g) (said_in_set outer g)
-      (state-set outer g (λ v is. up v (in-left v (by_state_set outer g) (flat_map (by_state_set outer) gs) is)) good))
-      (state-sets outer names (suc k) gs (λ v is. up v (in-right v (by_state_set outer g) (flat_map (by_state_set outer) gs) is)) good)
+      let scopes = outer.scopes in
+      both (said_in_set scopes g) (flat_map (said_in_set scopes) gs) (in_numbered_set outer names k g) (in_state_sets outer names (suc k) gs)
+      (after (StateSet g.word g.name (is_later names k g.name) ∷ []) (in_state_set outer g) (said_in_set scopes g)
+      (state-set outer g (λ v is. up v (in-left v (by_state_set scopes g) (flat_map (by_state_set scopes) gs) is)) good))
+      (state-sets outer names (suc k) gs (λ v is. up v (in-right v (by_state_set scopes g) (flat_map (by_state_set scopes) gs) is)) good)
 
   -- all of a program
   pub program : Fits (said_in_program p) (sites p)
   program =
-      let s = program_scopes p in
+      let s = program_sight p in
       let own = by_definitions [] p.definitions in
-      let first = by_maybe s p.entry in
-      let middle = flat_map (by_state_set s) p.state_sets in
-      let last = by_maybe s p.exit in
-      let defs = in_definitions false [] p.definitions in
+      let first = by_maybe s.scopes p.entry in
+      let middle = flat_map (by_state_set s.scopes) p.state_sets in
+      let last = by_maybe s.scopes p.exit in
+      let names = declares [] (scope_of [] p.definitions) in
+      let parts = in_program_parts s.scopes [] p.definitions in
+      let defs = names ++ parts in
       let entry = maybe (in_plain_block s []) p.entry in
       let sets = in_all_sets s p.state_sets in
       let exit = maybe (in_plain_block s []) p.exit in
       let defs-up : Up own = λ v is. in-left v (own ++ first ++ middle) last (in-left v (own ++ first) middle (in-left v own first is)) in
       let none : IsGood [] = good-none IsMeant tt tt in
+      let good = more-good [] p.definitions defs-up none in
       trail (defs ++ entry ++ sets) exit (said_in_program p)
-      (both (said_in [] p.definitions) (flat_map (said_in_set s) p.state_sets) (defs ++ entry) sets
-      (trail defs entry (said_in [] p.definitions) (definitions false [] p.definitions defs-up none))
+      (both (said_in [] p.definitions) (flat_map (said_in_set s.scopes) p.state_sets) (defs ++ entry) sets
+      (trail defs entry (said_in [] p.definitions) (after names parts (said_in [] p.definitions) (program-parts s.scopes good [] p.definitions)))
       (state-sets s (map (λ (g : StateSetTree). g.name) p.state_sets) 0 p.state_sets (λ v is. in-left v (own ++ first ++ middle) last (in-right v (own ++ first) middle is))
-      (more-good [] p.definitions defs-up none)))
+      good))

@@ -2,7 +2,7 @@
 use Rattle.std.proofs.Common.{ℕ, zero, suc, ℤ, Bool, true, false, List, [], ◌++◌, None, Some, Contains, if◌then◌else◌}
 use Rattle.std.proofs.lemmas.List.Elements.{Contains-append_left, Contains-append_right, Contains-push}
 use Rattle.snl_text.specs.declared.tokens.Token.{Token}
-use Rattle.snl_syntax.specs.Statements.{StatementTree, StatementList, BlockTree, nested, empty, expression, break_loop, continue_loop, change_state, if_then, if_else, while_loop, for_loop, no_statements, statement, block}
+use Rattle.snl_syntax.specs.Statements.{StatementTree, StatementList, BlockTree, nested, empty, expression, break_loop, continue_loop, change_state, return_with, if_then, if_else, while_loop, for_loop, no_statements, statement, block}
 use Rattle.snl_rules.specs.Reach.{targets_in_statement, targets_in_statements, targets_in_block}
 use Rattle.snl_meaning.specs.Effect.{Way, Done, Broken, Continued, Left, ends, done, if_done, unless_broken, held_by, evaluated, turned, turns, looped, names_of, entered, effect_of, effects_of, block_effect}
 use Rattle.snl_meaning.specs.Names.{Here, state_number}
@@ -98,6 +98,7 @@ module _ (h : Here) (Is : ℕ → Type 0) where
     effect-leads (break_loop t) all w = tt
     effect-leads (continue_loop t) all w = tt
     effect-leads (change_state t x) all w = all x (Contains-push [] x)
+    effect-leads (return_with t e) all w = tt
     effect-leads (if_then c s) all w =
         leads-then Is (value_of h c w) (either (effect_of h s) (ends Done)) (either-leads Is (effect_of h s) (ends Done) (λ u. effect-leads s all u) (λ u. tt))
     effect-leads (if_else c s e) all w =

@@ -11,18 +11,20 @@ use Rattle.snl_syntax.specs.Sequences.{maybe_slots, row_slots, parted_slots, bet
 use Rattle.snl_syntax.specs.Expressions.{ExprTree, TermList, ArgumentList, constant, parenthesized, named, element, call, postfix, prefix, chain, conditional, assignment, no_terms, term, no_arguments, value, text, slots, term_slots, argument_slots, more_slots}
 use Rattle.snl_syntax.specs.Declarations.{TypeTree, ValueList, InitialiserTree, DeclaratorTree, DeclarationTree, no_values, last_value, value_before, single, listed, type_slots, bracket_slots, value_slots, initialiser_slots, declarator_slots, declaration_slots}
 use Rattle.snl_syntax.specs.Definitions.{declaration}
-use Rattle.snl_syntax.specs.Statements.{StatementTree, StatementList, BlockTree, Header, nested, empty, expression, break_loop, continue_loop, change_state, if_then, if_else, while_loop, for_loop, no_statements, statement, block, condition_slots, ended_slots, header_slots, statement_slots, statement_list_slots, block_slots}
+use Rattle.snl_syntax.specs.Statements.{StatementTree, StatementList, BlockTree, Header, nested, empty, expression, break_loop, continue_loop, change_state, return_with, if_then, if_else, while_loop, for_loop, no_statements, statement, block, condition_slots, ended_slots, header_slots, statement_slots, statement_list_slots, block_slots}
 use Rattle.snl_resolve.specs.declared.scopes.Declared.{Declared}
 use Rattle.snl_resolve.specs.declared.sites.Meaning.{Meaning}
 use Rattle.snl_resolve.specs.declared.sites.Meaning.TheVariants.{Flag}
 use Rattle.snl_resolve.specs.declared.sites.Purpose.{Purpose}
-use Rattle.snl_resolve.specs.declared.sites.Purpose.TheVariants.{Read}
+use Rattle.snl_resolve.specs.declared.sites.Purpose.TheVariants.{Read, Dropped}
+use Rattle.snl_resolve.specs.declared.sites.Room.{Room}
 use Rattle.snl_resolve.specs.declared.sites.Site.{Site}
 use Rattle.snl_resolve.specs.declared.sites.Site.TheVariants.{Use}
 use Rattle.snl_resolve.specs.Builtins.{builtin_of}
 use Rattle.snl_resolve.specs.Calls.{is_fitting, count_of, word_at, is_word, unless}
 use Rattle.snl_resolve.specs.Purposes.{inner, in_parentheses, target, argument, at_constant, at_call, at_change, at_format, is_step}
 use Rattle.snl_resolve.specs.Scopes.{Scope, scope_of, meaning, declared_as, declared_names, declared_by, is_hidden, bare_names}
+use Rattle.snl_resolve.specs.Sights.{Sight, called, within}
 use Rattle.snl_resolve.specs.Sites.{in_expression, in_terms, in_arguments, in_value, maybe, declares, in_values, in_initialiser, in_declarator, in_declaration, in_header, in_statement, in_statements, in_block}
 use Rattle.snl_resolve.specs.Uses.{use_at}
 use Rattle.snl_machine.proofs.Declared.{In, in-either}
@@ -139,7 +141,7 @@ module _ (F : ℕ → Type 0) where
   constants q t kind.Decimal sl = skip _ [] sl refl (any sl)
   constants q t _ sl = any sl
 
-  module _ (s : List Scope) (good : IsGood s) where
+  module _ (s : Sight) (good : IsGood s.scopes) where
     -- `++` and `--`, or another prefix operator
     stepped : (w : Bool) (q : Purpose) (op : Token) (e : ExprTree) (b : Bool) → Fits (in_expression w s (target q) e) (slots e) → Fits (in_expression w s (inner q) e) (slots e) →
         Fits (if b then at_change q e op ∷ in_expression w s (target q) e else in_expression w s (inner q) e) (The op ∷ slots e)
@@ -155,16 +157,16 @@ module _ (F : ℕ → Type 0) where
       pub expressions : (w : Bool) (q : Purpose) (e : ExprTree) → Fits (in_expression w s q e) (slots e)
       expressions w q (constant t) = constants q t t.kind (The t ∷ [])
       expressions w q (parenthesized e) = between kind.OpenParenthesis kind.CloseParenthesis (in_expression w s (in_parentheses q) e) (slots e) (expressions w (in_parentheses q) e)
-      expressions w q (named x) = take (Use q x (meaning s x) false) x (meaning s x) [] [] refl (good x) (any [])
+      expressions w q (named x) = take (Use q x (meaning s.scopes x) false) x (meaning s.scopes x) [] [] refl (good x) (any [])
       expressions w q (element x b e) =
           let inside = in_expression w s (inner q) e in
-          take (Use q x (meaning s x) true) x (meaning s x) inside (The b ∷ (slots e ++ Sign kind.CloseBracket ∷ [])) refl (good x)
+          take (Use q x (meaning s.scopes x) true) x (meaning s.scopes x) inside (The b ∷ (slots e ++ Sign kind.CloseBracket ∷ [])) refl (good x)
           (lead (The b) inside (slots e ++ Sign kind.CloseBracket ∷ []) (trail inside (slots e) (Sign kind.CloseBracket ∷ []) (expressions w (inner q) e)))
       expressions w q (call f all) =
-          let r = argument q (builtin_of f.text.now) (is_fitting (builtin_of f.text.now) all) in
+          let r = argument q (called s f) (is_fitting (called s f) all) in
           let k = word_at (builtin_of f.text.now) in
           let inside = in_arguments w s r k all in
-          skip (at_call q w f (builtin_of f.text.now) (is_fitting (builtin_of f.text.now) all)) inside (slots (call f all)) refl
+          skip (at_call q w f (called s f) (is_fitting (called s f) all)) inside (slots (call f all)) refl
           (lead (The f) inside (between_slots kind.OpenParenthesis (argument_slots all) kind.CloseParenthesis)
           (between kind.OpenParenthesis kind.CloseParenthesis inside (argument_slots all) (arguments w r k all)))
       expressions w q (postfix e op) =
@@ -193,7 +195,8 @@ module _ (F : ℕ → Type 0) where
       arguments : (w : Bool) (q : Purpose) (k : ℕ) (l : ArgumentList) → Fits (in_arguments w s q k l) (argument_slots l)
       arguments w q k no_arguments = any []
       arguments w q k (value e rest) =
-          both (unless (is_word k e) (in_expression w s q e)) (in_arguments w s q (k - 1) rest) (slots e) (more_slots rest) (argument-in w q e (is_word k e) (expressions w q e)) (more w q (k - 1) rest)
+          both (unless (is_word k e) (in_expression w s q e)) (in_arguments w s q (k - 1) rest) (slots e) (more_slots rest)
+          (argument-in w q e (is_word k e) (expressions w q e)) (more w q (k - 1) rest)
       arguments w q k (text t rest) =
           let behind = in_arguments w s q (k - 1) rest in
           skip (at_format q t (count_of rest)) behind (The t ∷ more_slots rest) refl (lead (The t) behind (more_slots rest) (more w q (k - 1) rest))
@@ -296,13 +299,15 @@ module _ (F : ℕ → Type 0) where
   block-good s good ds = good-more IsKnown tt tt (scope_of s (map declaration ds)) s (block-known (is_hidden (bare_names (map declaration ds) ∷ s)) ds) good
 
   mutual
-    statements : (s : List Scope) → IsGood s → (c : Bool) (g : List Token) (l : Bool) (a : StatementTree) → Fits (in_statement c g s l a) (statement_slots a)
+    statements : (s : Sight) → IsGood s.scopes → (c : Room) (g : List Token) (l : Bool) (a : StatementTree) → Fits (in_statement c g s l a) (statement_slots a)
     statements s good c g l (nested b) = blocks s good c g l b
     statements s good c g l empty = any (statement_slots empty)
-    statements s good c g l (expression e) = trail (in_value s e) (slots e) (Sign kind.Semicolon ∷ []) (values-in s good e)
+    statements s good c g l (expression e) = trail (in_expression false s Dropped e) (slots e) (Sign kind.Semicolon ∷ []) (expressions s good false Dropped e)
     statements s good c g l (break_loop t) = skip _ [] (statement_slots (break_loop t)) refl (any (statement_slots (break_loop t)))
     statements s good c g l (continue_loop t) = skip _ [] (statement_slots (continue_loop t)) refl (any (statement_slots (continue_loop t)))
     statements s good c g l (change_state t x) = skip _ _ (statement_slots (change_state t x)) refl (skip _ [] (statement_slots (change_state t x)) refl (any (statement_slots (change_state t x))))
+    statements s good c g l (return_with t e) =
+        skip _ (maybe (in_value s) e) (statement_slots (return_with t e)) refl (lead (The t) (maybe (in_value s) e) (ended_slots e kind.Semicolon) (ended s good e kind.Semicolon))
     statements s good c g l (if_then e a) =
         lead (Sign kind.If) (in_statement c g s l (if_then e a)) (condition_slots e ++ statement_slots a)
         (both (in_value s e) (in_statement c g s l a) (condition_slots e) (statement_slots a) (conditions s good e) (statements s good c g l a))
@@ -317,18 +322,18 @@ module _ (F : ℕ → Type 0) where
         lead (The t) (in_statement c g s l (for_loop t h a)) (header_slots h ++ statement_slots a)
         (both (in_header s h) (in_statement c g s true a) (header_slots h) (statement_slots a) (headers s good h) (statements s good c g true a))
 
-    rows : (s : List Scope) → IsGood s → (c : Bool) (g : List Token) (l : Bool) (all : StatementList) → Fits (in_statements c g s l all) (statement_list_slots all)
+    rows : (s : Sight) → IsGood s.scopes → (c : Room) (g : List Token) (l : Bool) (all : StatementList) → Fits (in_statements c g s l all) (statement_list_slots all)
     rows s good c g l no_statements = any []
     rows s good c g l (statement a rest) =
         both (in_statement c g s l a) (in_statements c g s l rest) (statement_slots a) (statement_list_slots rest) (statements s good c g l a) (rows s good c g l rest)
 
-    pub blocks : (s : List Scope) → IsGood s → (c : Bool) (g : List Token) (l : Bool) (b : BlockTree) → Fits (in_block c g s l b) (block_slots b)
+    pub blocks : (s : Sight) → IsGood s.scopes → (c : Room) (g : List Token) (l : Bool) (b : BlockTree) → Fits (in_block c g s l b) (block_slots b)
     blocks s good c g l (block ds all) =
-        let inside = scope_of s (map declaration ds) ∷ s in
-        let within = block-good s good ds in
+        let inside = within (scope_of s.scopes (map declaration ds)) s in
+        let good-inside = block-good s.scopes good ds in
         let rest = row_slots declaration_slots ds ++ (statement_list_slots all ++ Sign kind.CloseBrace ∷ []) in
         lead (Sign kind.OpenBrace) (in_block c g s l (block ds all)) rest
-        (three (declares [] (scope_of s (map declaration ds))) (flat_map (in_declaration inside true) ds) (in_statements c g inside l all)
+        (three (declares [] (scope_of s.scopes (map declaration ds))) (flat_map (in_declaration inside true) ds) (in_statements c g inside l all)
         [] (row_slots declaration_slots ds) (statement_list_slots all ++ Sign kind.CloseBrace ∷ [])
-        (no-uses [] (scope_of s (map declaration ds))) (each (in_declaration inside true) declaration_slots (declarations inside within true) ds)
-        (trail (in_statements c g inside l all) (statement_list_slots all) (Sign kind.CloseBrace ∷ []) (rows inside within c g l all)))
+        (no-uses [] (scope_of s.scopes (map declaration ds))) (each (in_declaration inside true) declaration_slots (declarations inside good-inside true) ds)
+        (trail (in_statements c g inside l all) (statement_list_slots all) (Sign kind.CloseBrace ∷ []) (rows inside good-inside c g l all)))

@@ -2,7 +2,7 @@
 use Rattle.std.proofs.Common.{◌≡◌, refl, ℕ, zero, suc, ℤ, pos, Bool, true, false, nat_lt, List, [], ◌∷◌, Option, None, Some}
 use Rattle.snl_syntax.specs.Expressions.{ExprTree}
 use Rattle.snl_syntax.specs.Declarations.{DeclaratorTree}
-use Rattle.snl_syntax.specs.Statements.{StatementTree, StatementList, BlockTree, nested, empty, expression, break_loop, continue_loop, change_state, if_then, if_else, while_loop, for_loop, no_statements, statement, block}
+use Rattle.snl_syntax.specs.Statements.{StatementTree, StatementList, BlockTree, nested, empty, expression, break_loop, continue_loop, change_state, return_with, if_then, if_else, while_loop, for_loop, no_statements, statement, block}
 use Rattle.snl_arithmetic.specs.Arithmetic.{is_zero}
 use Rattle.snl_meaning.specs.declared.instrs.Variable.{Variable}
 use Rattle.snl_meaning.specs.Effect.{Way, Done, Broken, Continued, Left, ends, done, if_done, unless_broken, holds, held_by, dropped, evaluated, turned, turns, looped, variable_for, cleared_maybe, all_cleared, begun, begun_with, values_of, all_begun, names_of, entered, effect_of, effects_of, block_effect}
@@ -110,6 +110,7 @@ module _ (h : Here) (May : Variable → ℤ → Type 0) (R : World → World →
     effect-keeps (break_loop t) w = kept.nothing w
     effect-keeps (continue_loop t) w = kept.nothing w
     effect-keeps (change_state t x) w = kept.nothing w
+    effect-keeps (return_with t e) w = kept.nothing w
     effect-keeps (if_then c s) w =
         keeps-then h.set May R (by-values kept) (value_of h c) (either (effect_of h s) (ends Done)) (value-keeps h May R may (by-values kept) c)
         (either-keeps (effect_of h s) (ends Done) (effect-keeps s) (keeps-here h.set May R (by-values kept) Done)) w

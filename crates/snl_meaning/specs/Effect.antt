@@ -3,7 +3,7 @@ use Rattle.std.specs.Prelude.{ℕ, zero, suc, ℤ, pos, Bool, true, false, List,
 use Rattle.std.specs.List.{flat_map}
 use Rattle.snl_syntax.specs.Expressions.{ExprTree}
 use Rattle.snl_syntax.specs.Declarations.{InitialiserTree, DeclaratorTree, DeclarationTree, single, listed}
-use Rattle.snl_syntax.specs.Statements.{StatementTree, StatementList, BlockTree, nested, empty, expression, break_loop, continue_loop, change_state, if_then, if_else, while_loop, for_loop, no_statements, statement, block}
+use Rattle.snl_syntax.specs.Statements.{StatementTree, StatementList, BlockTree, nested, empty, expression, break_loop, continue_loop, change_state, return_with, if_then, if_else, while_loop, for_loop, no_statements, statement, block}
 use Rattle.snl_arithmetic.specs.Arithmetic.{is_zero}
 use Rattle.snl_resolve.specs.Types.{listed_values}
 use Rattle.snl_meaning.specs.declared.faults.Fault.TheVariants.{BudgetSpent}
@@ -135,6 +135,8 @@ abbrev mutual
   effect_of h (break_loop t) w = Gives Broken w []
   effect_of h (continue_loop t) w = Gives Continued w []
   effect_of h (change_state t x) w = Gives (Left (state_number h x)) w []
+  -- no function runs yet, and outside of functions the rules refuse it
+  effect_of h (return_with t e) w = Gives Done w []
   effect_of h (if_then c s) w = then_do (value_of h c w) (either (effect_of h s) (ends Done))
   effect_of h (if_else c s e) w = then_do (value_of h c w) (either (effect_of h s) (effect_of h e))
   effect_of h (while_loop t c s) w = looped t.pos.line (held_by h (Some c)) (effect_of h s) (evaluated h None) w

@@ -1,8 +1,13 @@
 -- What the lists of the code hold is what is found.
-use Rattle.std.proofs.Common.{◌≡◌, ◌↔◌, ◌⊎◌, inl, inr, true, false, [], Bool, List, ◌++◌, Option, map, subst, sym, ◌∙◌, Contains, append_assoc}
+use Rattle.std.proofs.Common.{◌≡◌, ◌↔◌, ◌⊎◌, inl, inr, true, false, [], Bool, List, ◌∷◌, ◌++◌, Option, map, refl, subst, sym, ◌∙◌, Contains, append_assoc}
 use Rattle.snl_text.specs.declared.tokens.Pos.{Pos}
 use Rattle.snl_text.specs.declared.tokens.Token.{Token}
+use Rattle.std.specs.List.{flat_map, list_any}
+use Rattle.std.proofs.lemmas.Bool.{false≢true}
+use Rattle.snl_syntax.specs.Definitions.{DefinitionTree, declaration, assign, monitor, sync, sync_queue, event_flags, setting, function}
+use Rattle.snl_syntax.specs.Functions.{FunctionTree}
 use Rattle.snl_syntax.specs.Programs.{ProgramTree}
+use Rattle.snl_resolve.specs.Variables.{function_by}
 use Rattle.snl_resolve.specs.declared.options.Options.{Options}
 use Rattle.snl_resolve.specs.Programs.{sites}
 use Rattle.snl_rules.specs.declared.rules.Broken.{Broken}
@@ -11,10 +16,10 @@ use Rattle.snl_rules.specs.Reach.{IsUnreached}
 use Rattle.snl_rules.specs.Words.{IsOverfullSet, IsOverfull}
 use Rattle.snl_messages.specs.declared.matters.Matter.TheVariants.{TooManyWords}
 use Rattle.snl_messages.specs.Findings.{Finding, of_broken, of_unreached, of_embedded, of_overfull, finding}
-use Rattle.snl_messages.specs.Lists.{of_beyond, of_mode, of_words, found, has_error}
-use Rattle.snl_messages.specs.Says.{IsOfSite, IsOfState, IsOfEmbedded, IsOfTokens, IsOfMode, IsFound, IsOfWords, IsFoundAtAll}
+use Rattle.snl_messages.specs.Lists.{of_beyond, of_mode, of_words, of_functions, is_function, found, has_error}
+use Rattle.snl_messages.specs.Says.{IsOfSite, IsOfState, IsOfEmbedded, IsOfTokens, IsOfMode, IsFound, HasNoError, IsOfWords, IsOfFunctions}
 use Rattle.snl_messages.specs.Silence.{is_safe}
-use Rattle.snl_messages.proofs.ListLaws.{beyond_is, mode_is, words_are, some_error, no_error}
+use Rattle.snl_messages.proofs.ListLaws.{beyond_is, mode_is, words_are, functions_are, some_error, no_error}
 use Rattle.snl_messages.proofs.MemberLaws.{members, joined}
 
 -- What is found by the lists is what is found by the rules.
@@ -34,11 +39,10 @@ found_is o p embedded beyond broken names sites_broken unreached f =
     joined (map of_broken broken) (states ++ (c ++ (tokens ++ mode))) f (IsOfSite p f) (IsOfState p f ⊎ (IsOfEmbedded embedded f ⊎ (IsOfTokens beyond f ⊎ IsOfMode o p f)))
     (members of_broken broken (IsBroken (sites p)) sites_broken f) from_states
 
--- Where an error is among what is found, that is all.
-pub with_error : (o : Options) (p : ProgramTree) (embedded : List Pos) (beyond : Option Pos) (fs : List Finding) →
-    ((f : Finding) → Contains fs f ↔ IsFound o p embedded beyond f) → has_error fs ≡ true →
-    (f : Finding) → Contains fs f ↔ IsFoundAtAll o p embedded beyond f
-with_error o p embedded beyond fs same error f = (
+-- Where an error is among what is found, that is all: more is found only without one.
+pub with_error : (Is More : Finding → Type 0) (fs : List Finding) → ((f : Finding) → Contains fs f ↔ Is f) → has_error fs ≡ true →
+    (f : Finding) → Contains fs f ↔ (Is f ⊎ (HasNoError Is × More f))
+with_error Is More fs same error f = (
   (λ h. inl ((same f).0 h)),
   (λ h. elim h [
     | inl w ↦ (same f).1 w
@@ -46,12 +50,10 @@ with_error o p embedded beyond fs same error f = (
   ]),
 )
 
--- Where none is, the limits of words are found too.
-pub without_error : (o : Options) (p : ProgramTree) (embedded : List Pos) (beyond : Option Pos) (old new : List Finding) →
-    ((f : Finding) → Contains old f ↔ IsFound o p embedded beyond f) → has_error old ≡ false →
-    ((f : Finding) → Contains new f ↔ (Contains old f ⊎ IsOfWords p f)) →
-    (f : Finding) → Contains new f ↔ IsFoundAtAll o p embedded beyond f
-without_error o p embedded beyond old new same none grown f = (
+-- Where none is, that is found too.
+pub without_error : (Is More : Finding → Type 0) (old new : List Finding) → ((f : Finding) → Contains old f ↔ Is f) → has_error old ≡ false →
+    ((f : Finding) → Contains new f ↔ (Contains old f ⊎ More f)) → (f : Finding) → Contains new f ↔ (Is f ⊎ (HasNoError Is × More f))
+without_error Is More old new same none grown f = (
   (λ h. elim ((grown f).0 h) [
     | inl w ↦ inl ((same f).0 w)
     | inr w ↦ inr ((λ g there error. no_error old none g ((same g).1 there) error), w)
@@ -79,3 +81,32 @@ words_grown p old new sets full same all is f =
     (IsOverfull p × (f ≡ finding TooManyWords p.word.pos [])) set total in
     subst (λ l. Contains l f ↔ (Contains old f ⊎ IsOfWords p f)) (sym (is ∙ append_assoc old (map of_overfull sets) (of_words full p.word)))
     (joined old (map of_overfull sets ++ of_words full p.word) f (Contains old f) (IsOfWords p f) ((λ h. h), (λ h. h)) added)
+
+-- A row with a first function is not empty.
+not_empty : (f : FunctionTree) (fs : List FunctionTree) → f ∷ fs ≡ [] → ⊥
+not_empty f fs e = cc
+
+-- Some definition is a function where there are functions.
+some_function : (ds : List DefinitionTree) → (list_any is_function ds ≡ true) ↔ (flat_map function_by ds ≡ [] → ⊥)
+some_function [] = ((λ e. absurd (false≢true e)), (λ h. absurd (h refl)))
+some_function (function f ∷ ds) = ((λ e. not_empty f (flat_map function_by ds)), (λ h. refl))
+some_function (declaration d ∷ ds) = some_function ds
+some_function (assign a ∷ ds) = some_function ds
+some_function (monitor a ∷ ds) = some_function ds
+some_function (sync s ∷ ds) = some_function ds
+some_function (sync_queue q ∷ ds) = some_function ds
+some_function (event_flags names ∷ ds) = some_function ds
+some_function (setting s ∷ ds) = some_function ds
+
+-- That functions do not run is found where there are some.
+pub functions_grown : (p : ProgramTree) (old new : List Finding) (some : Bool) → some ≡ list_any is_function p.definitions →
+    new ≡ old ++ of_functions some p.word → (f : Finding) → Contains new f ↔ (Contains old f ⊎ IsOfFunctions p f)
+functions_grown p old new some is en f =
+    let law = some_function p.definitions in
+    let listed = functions_are some p.word f in
+    let total : Contains (of_functions some p.word) f ↔ IsOfFunctions p f = (
+      (λ h. let v = listed.0 h in (law.0 (sym is ∙ v.0), v.1)),
+      (λ v. listed.1 (is ∙ law.1 v.0, v.1)),
+    ) in
+    subst (λ l. Contains l f ↔ (Contains old f ⊎ IsOfFunctions p f)) (sym en)
+    (joined old (of_functions some p.word) f (Contains old f) (IsOfFunctions p f) ((λ h. h), (λ h. h)) total)

@@ -11,14 +11,14 @@ use Rattle.snl_resolve.specs.declared.sites.Meaning.{Meaning}
 use Rattle.snl_resolve.specs.declared.sites.Meaning.TheVariants.{Number, Nothing}
 use Rattle.snl_resolve.specs.declared.sites.Purpose.TheVariants.{Read}
 use Rattle.snl_resolve.specs.declared.sites.Site.{Site}
-use Rattle.snl_resolve.specs.declared.sites.Site.TheVariants.{Declaration, Typed, Declarator, Defined, Setting, Use, Decimal, Call, Format, Change, Leave, Move, Target, Clause, State, StateSet}
+use Rattle.snl_resolve.specs.declared.sites.Site.TheVariants.{Declaration, Typed, Declarator, Defined, Setting, Use, Decimal, Call, Format, Change, Leave, Move, Target, Clause, State, StateSet, Function, Return}
 use Rattle.snl_resolve.specs.declared.sites.Site.TheVariants as Sites
 use Rattle.snl_resolve.specs.declared.sites.Size.TheVariants.{Scalar, TooLong, Wrong}
 use Rattle.snl_resolve.specs.declared.sites.Sort.TheVariants.{Assign, Sync}
 use Rattle.snl_rules.specs.declared.rules.Rule.{Rule}
-use Rattle.snl_rules.specs.declared.rules.Rule.TheVariants.{TooManySets, TooManyStates, TooManyChannels, TooManyElements, WrongType, WrongDecimal, Undeclared, DeclaredTwice, NoVariable, UnknownFunction, WrongArguments, DelayElsewhere, AssignedTwice, Unassigned, NoFlag, SyncedTwice, NoQueue, StateTwice, StateSetTwice, NoState, StateElsewhere, OutsideLoop, BadInitialiser, WrongArray, NotAssignable, UnknownOption, BadFormat, QueueSize, NeverReached, NotMonitored, UnusedVariable, UnusedFlag, NoClauses}
+use Rattle.snl_rules.specs.declared.rules.Rule.TheVariants.{TooManySets, TooManyStates, TooManyFunctions, TooManyChannels, TooManyElements, WrongType, WrongDecimal, Undeclared, DeclaredTwice, NoVariable, UnknownFunction, WrongArguments, DelayElsewhere, AssignedTwice, Unassigned, NoFlag, SyncedTwice, NoQueue, StateTwice, StateSetTwice, NoState, StateElsewhere, OutsideLoop, BadInitialiser, WrongArray, NotAssignable, UnknownOption, BadFormat, QueueSize, NoValue, ReturnElsewhere, NeverReached, NotMonitored, UnusedVariable, UnusedFlag, NoClauses, UnusedFunction}
 use Rattle.snl_messages.specs.declared.matters.Matter.{Matter}
-use Rattle.snl_messages.specs.declared.matters.Matter.TheVariants.{TooManyTokens, TooManyWordsOfSet, TooManyWords, EmbeddedC, NotSafe, Unreached}
+use Rattle.snl_messages.specs.declared.matters.Matter.TheVariants.{TooManyTokens, TooManyWordsOfSet, TooManyWords, NotRun, EmbeddedC, NotSafe, Unreached}
 use Rattle.snl_messages.specs.declared.messages.Severity.{Severity}
 use Rattle.snl_messages.specs.declared.messages.Severity.TheVariants.{Error, Warning}
 use Rattle.snl_messages.specs.Findings.{finding, said_at}
@@ -42,7 +42,7 @@ use_of m = Use Read (at 7 (codes "x")) m false
 
 -- A call of `f` there.
 abbrev pub call_of : Site
-call_of = Call (at 7 (codes "f")) false false true
+call_of = Call (at 7 (codes "f")) false false true false None
 
 -- A size of a queue there.
 abbrev pub at_number : Site
@@ -63,6 +63,7 @@ LimitExamples =
     × Says TooManyStates (State (at 3 (codes "state")) (at 9 (codes "x")) false true) Error 4 (codes "limit passed: 1024 states") 3
     × Says TooManyChannels (Defined Assign (at 3 (codes "assign")) (at 10 (codes "x")) Nothing false false None) Error 4 (codes "limit passed: 1024 channels") 3
     × Says TooManyElements (Declarator (at 7 (codes "x")) TooLong true) Error 4 (codes "limit passed: 1024 elements") 7
+    × Says TooManyFunctions (Function (at 7 (codes "f")) false) Error 4 (codes "limit passed: 256 functions") 7
 
 -- E11 to E20.
 abbrev pub EarlyErrors : Type 0
@@ -72,14 +73,15 @@ EarlyErrors =
     × Says WrongDecimal (Decimal (at 7 (codes "0.5")) false) Error 12 (codes "decimal constant not allowed here") 7
     × Says Undeclared (use_of Nothing) Error 13 (codes "'x' is not declared") 7
     × Says DeclaredTwice (Declaration (at 7 (codes "x")) false true 1) Error 14 (codes "'x' is declared twice") 7
+    × Says DeclaredTwice (Function (at 7 (codes "f")) true) Error 14 (codes "'f' is declared twice") 7
     × Says NoVariable (use_of Number) Error 15 (codes "'x' is not a variable") 7
     × Says UnknownFunction call_of Error 16 (codes "unknown function 'f'") 7
     × Says WrongArguments call_of Error 17 (codes "wrong arguments for 'f'") 7
-    × Says DelayElsewhere (Call (at 7 (codes "delay")) true true false) Error 18 (codes "delay is only allowed in a when condition") 7
+    × Says DelayElsewhere (Call (at 7 (codes "delay")) true true false true None) Error 18 (codes "delay is only allowed in a when condition") 7
     × Says AssignedTwice (Defined Assign (at 3 (codes "assign")) (at 10 (codes "x")) Nothing false false None) Error 19 (codes "'x' is assigned twice") 10
     × Says Unassigned (use_of Nothing) Error 20 (codes "'x' is not assigned") 7
 
--- E21 to E33.
+-- E21 to E35.
 abbrev pub LateErrors : Type 0
 LateErrors =
     Says NoFlag (use_of Nothing) Error 21 (codes "'x' is not an event flag") 7
@@ -96,8 +98,10 @@ LateErrors =
     × Says UnknownOption (Setting (at 10 (codes "+")) (at 11 (codes "sqa")) (Some 113)) Error 31 (codes "option '+q' is not supported") 11
     × Says BadFormat (Format (at 7 (codes "\"%x\"")) false) Error 32 (codes "bad printf format") 7
     × Says QueueSize at_number Error 33 (codes "queue size must be 1 to 4096") 7
+    × Says NoValue call_of Error 34 (codes "'f' has no value") 7
+    × Says ReturnElsewhere (Return (at 7 (codes "return")) false) Error 35 (codes "return not allowed here") 7
 
--- W3 to W7.
+-- W3 to W8.
 abbrev pub Warnings : Type 0
 Warnings =
     Says NeverReached (Clause (at 7 (codes "when")) true) Warning 3 (codes "clause is never reached") 7
@@ -105,8 +109,9 @@ Warnings =
     × Says UnusedVariable (Declaration (at 7 (codes "x")) false false 1) Warning 5 (codes "variable 'x' is not used") 7
     × Says UnusedFlag (Declaration (at 7 (codes "x")) true false 0) Warning 6 (codes "event flag 'x' is not used") 7
     × Says NoClauses (State (at 3 (codes "state")) (at 9 (codes "x")) false false) Warning 7 (codes "state 'x' has no clauses") 9
+    × Says UnusedFunction (Function (at 7 (codes "f")) false) Warning 8 (codes "function 'f' is not used") 7
 
--- W1, W2, E10, and the limits of tokens and words.
+-- W1, W2, E05, E10, and the limits of tokens and words.
 abbrev pub OtherExamples : Type 0
 OtherExamples =
     Tells NotSafe [] Warning 1 (codes "not in safe mode, safe mode is used")
@@ -114,6 +119,7 @@ OtherExamples =
     × Tells TooManyTokens [] Error 4 (codes "limit passed: 65536 tokens")
     × Tells TooManyWordsOfSet [] Error 4 (codes "limit passed: 65536 words in a state set")
     × Tells TooManyWords [] Error 4 (codes "limit passed: 1048576 words")
+    × Tells NotRun [] Error 5 (codes "not run yet")
     × Tells EmbeddedC [] Error 10 (codes "embedded C is not supported")
 
 -- Every message.
@@ -133,11 +139,12 @@ abbrev pub silent : Options
 silent = record { s = None; c = None; u = Some true; w = Some false }
 
 -- `option +qs; option -w;` after a given `+w`: the accepted letters beside a refused one count, and the last sign of each
--- is in force. W5 is given under `+u` alone, and under `-w` no warning is; an error always is.
+-- is in force. W5, W6 and W8 are given under `+u` alone, and under `-w` no warning is; an error always is.
 abbrev pub OptionExamples : Type 0
 OptionExamples =
     (after_definitions (record { s = None; c = Some false; u = None; w = Some true }) (option_of Plus (codes "qs") ∷ option_of Minus (codes "w") ∷ [])
     ≡ record { s = Some true; c = Some false; u = None; w = Some false })
     × (is_let_through no_options Warning 5 ≡ false) × (is_let_through no_options Warning 7 ≡ true)
     × (is_let_through with_unused Warning 5 ≡ true) × (is_let_through with_unused Warning 6 ≡ true)
+    × (is_let_through no_options Warning 8 ≡ false) × (is_let_through with_unused Warning 8 ≡ true) × (is_let_through silent Warning 8 ≡ false)
     × (is_let_through silent Warning 5 ≡ false) × (is_let_through silent Warning 7 ≡ false) × (is_let_through silent Error 13 ≡ true)

@@ -3,7 +3,7 @@ use Rattle.std.specs.Prelude.{ℕ, List, [], ◌∷◌, ◌++◌, Option, None, 
 use Rattle.snl_text.specs.declared.tokens.Pos.{Pos}
 use Rattle.snl_text.specs.declared.tokens.Token.{Token}
 use Rattle.snl_resolve.specs.declared.sites.Site.{Site}
-use Rattle.snl_resolve.specs.declared.sites.Site.TheVariants.{Declaration, Typed, Declarator, Defined, QueueSize, Setting, Use, Decimal, Call, Format, Change, Leave, Move, Target, Clause, State, StateSet}
+use Rattle.snl_resolve.specs.declared.sites.Site.TheVariants.{Declaration, Typed, Declarator, Defined, QueueSize, Setting, Use, Decimal, Call, Format, Change, Leave, Move, Target, Clause, State, StateSet, Function, Return}
 use Rattle.snl_rules.specs.declared.rules.Broken.{Broken}
 use Rattle.snl_rules.specs.declared.rules.Rule.{Rule}
 use Rattle.snl_rules.specs.declared.rules.Rule.TheVariants.{TooManySets, TooManyStates, TooManyChannels}
@@ -37,7 +37,9 @@ token_of (QueueSize t good) = t
 token_of (Setting sign t refused) = t
 token_of (Use p t m sub) = t
 token_of (Decimal t good) = t
-token_of (Call t known fitting may) = t
+token_of (Call t known fitting may valued function) = t
+token_of (Function t taken) = t
+token_of (Return t may) = t
 token_of (Format t good) = t
 token_of (Change t good) = t
 token_of (Leave t in_loop) = t

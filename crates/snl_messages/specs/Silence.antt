@@ -34,9 +34,9 @@ gives_warnings o = unwrap_or o.w true
 abbrev pub gives_unused : Options → Bool
 gives_unused o = unwrap_or o.u false
 
--- W5 and W6 are on names that are not used.
+-- W5, W6 and W8 are on names that are not used.
 abbrev pub is_unused : ℕ → Bool
-is_unused number = number == 5 || number == 6
+is_unused number = number == 5 || number == 6 || number == 8
 
 -- Whether a message with this letter and number is given. An error always is.
 abbrev pub is_let_through : Options → Severity → ℕ → Bool

@@ -1,9 +1,9 @@
 -- What each message says: its number, and its text round what it quotes.
 use Rattle.std.specs.Prelude.{ℕ, Bool, true, false, List, [], ◌++◌, codes, if◌then◌else◌}
 use Rattle.snl_rules.specs.declared.rules.Rule.{Rule}
-use Rattle.snl_rules.specs.declared.rules.Rule.TheVariants.{TooManySets, TooManyStates, TooManyChannels, TooManyElements, WrongType, WrongDecimal, Undeclared, DeclaredTwice, NoVariable, UnknownFunction, WrongArguments, DelayElsewhere, AssignedTwice, Unassigned, NoFlag, SyncedTwice, NoQueue, StateTwice, StateSetTwice, NoState, StateElsewhere, OutsideLoop, BadInitialiser, WrongArray, NotAssignable, UnknownOption, BadFormat, QueueSize, NeverReached, NotMonitored, UnusedVariable, UnusedFlag, NoClauses}
+use Rattle.snl_rules.specs.declared.rules.Rule.TheVariants.{TooManySets, TooManyStates, TooManyFunctions, TooManyChannels, TooManyElements, WrongType, WrongDecimal, Undeclared, DeclaredTwice, NoVariable, UnknownFunction, WrongArguments, DelayElsewhere, AssignedTwice, Unassigned, NoFlag, SyncedTwice, NoQueue, StateTwice, StateSetTwice, NoState, StateElsewhere, OutsideLoop, BadInitialiser, WrongArray, NotAssignable, UnknownOption, BadFormat, QueueSize, NoValue, ReturnElsewhere, NeverReached, NotMonitored, UnusedVariable, UnusedFlag, NoClauses, UnusedFunction}
 use Rattle.snl_messages.specs.declared.matters.Matter.{Matter}
-use Rattle.snl_messages.specs.declared.matters.Matter.TheVariants.{AtSite, TooManyTokens, TooManyWordsOfSet, TooManyWords, EmbeddedC, NotSafe, Unreached}
+use Rattle.snl_messages.specs.declared.matters.Matter.TheVariants.{AtSite, TooManyTokens, TooManyWordsOfSet, TooManyWords, NotRun, EmbeddedC, NotSafe, Unreached}
 use Rattle.snl_messages.specs.declared.messages.Severity.{Severity}
 use Rattle.snl_messages.specs.declared.messages.Severity.TheVariants.{Error, Warning}
 
@@ -43,6 +43,7 @@ wording_of TooManySets = limit 1 (codes "limit passed: 64 state sets")
 wording_of TooManyStates = limit 2 (codes "limit passed: 1024 states")
 wording_of TooManyChannels = limit 3 (codes "limit passed: 1024 channels")
 wording_of TooManyElements = limit 4 (codes "limit passed: 1024 elements")
+wording_of TooManyFunctions = limit 7 (codes "limit passed: 256 functions")
 wording_of WrongType = error 11 (codes "type '") (codes "' is not supported")
 wording_of WrongDecimal = plain_error 12 (codes "decimal constant not allowed here")
 wording_of Undeclared = error 13 (codes "'") (codes "' is not declared")
@@ -67,11 +68,14 @@ wording_of NotAssignable = plain_error 30 (codes "not assignable")
 wording_of UnknownOption = error 31 (codes "option '") (codes "' is not supported")
 wording_of BadFormat = plain_error 32 (codes "bad printf format")
 wording_of QueueSize = plain_error 33 (codes "queue size must be 1 to 4096")
+wording_of NoValue = error 34 (codes "'") (codes "' has no value")
+wording_of ReturnElsewhere = plain_error 35 (codes "return not allowed here")
 wording_of NeverReached = plain_warning 3 (codes "clause is never reached")
 wording_of NotMonitored = warning 4 (codes "'") (codes "' is synced but not monitored")
 wording_of UnusedVariable = warning 5 (codes "variable '") (codes "' is not used")
 wording_of UnusedFlag = warning 6 (codes "event flag '") (codes "' is not used")
 wording_of NoClauses = warning 7 (codes "state '") (codes "' has no clauses")
+wording_of UnusedFunction = warning 8 (codes "function '") (codes "' is not used")
 
 -- What a message says about a matter.
 abbrev pub wording : Matter → Wording
@@ -79,6 +83,7 @@ wording (AtSite rule) = wording_of rule
 wording TooManyTokens = limit 0 (codes "limit passed: 65536 tokens")
 wording TooManyWordsOfSet = limit 5 (codes "limit passed: 65536 words in a state set")
 wording TooManyWords = limit 6 (codes "limit passed: 1048576 words")
+wording NotRun = plain_error 5 (codes "not run yet")
 wording EmbeddedC = plain_error 10 (codes "embedded C is not supported")
 wording NotSafe = plain_warning 1 (codes "not in safe mode, safe mode is used")
 wording Unreached = warning 2 (codes "state '") (codes "' cannot be reached")

@@ -17,6 +17,8 @@ pub enum Matter {
     TooManyWordsOfSet,
     /// E04: more than 1,048,576 words over all.
     TooManyWords,
+    /// E05: a function is defined, and functions do not run yet.
+    NotRun,
     /// E10: a piece of embedded C.
     EmbeddedC,
     /// W1: safe mode is not asked for.
@@ -30,8 +32,11 @@ fn number_of(rule: Rule) -> u8
     ensures { result ≡ (wording_of rule).number }
 {
     match rule {
-        Rule::TooManySets | Rule::TooManyStates | Rule::TooManyChannels | Rule::TooManyElements =>
-            4,
+        Rule::TooManySets
+        | Rule::TooManyStates
+        | Rule::TooManyFunctions
+        | Rule::TooManyChannels
+        | Rule::TooManyElements => 4,
         Rule::WrongType => 11,
         Rule::WrongDecimal => 12,
         Rule::Undeclared => 13,
@@ -55,11 +60,14 @@ fn number_of(rule: Rule) -> u8
         Rule::UnknownOption => 31,
         Rule::BadFormat => 32,
         Rule::QueueSize => 33,
+        Rule::NoValue => 34,
+        Rule::ReturnElsewhere => 35,
         Rule::NeverReached => 3,
         Rule::NotMonitored => 4,
         Rule::UnusedVariable => 5,
         Rule::UnusedFlag => 6,
         Rule::NoClauses => 7,
+        Rule::UnusedFunction => 8,
     }
 }
 
@@ -70,6 +78,7 @@ fn before_of(rule: Rule) -> &'static [u8]
     match rule {
         Rule::TooManySets => b"limit passed: 64 state sets",
         Rule::TooManyStates => b"limit passed: 1024 states",
+        Rule::TooManyFunctions => b"limit passed: 256 functions",
         Rule::TooManyChannels => b"limit passed: 1024 channels",
         Rule::TooManyElements => b"limit passed: 1024 elements",
         Rule::WrongType => b"type '",
@@ -87,9 +96,11 @@ fn before_of(rule: Rule) -> &'static [u8]
         Rule::UnknownOption => b"option '",
         Rule::BadFormat => b"bad printf format",
         Rule::QueueSize => b"queue size must be 1 to 4096",
+        Rule::ReturnElsewhere => b"return not allowed here",
         Rule::NeverReached => b"clause is never reached",
         Rule::UnusedVariable => b"variable '",
         Rule::UnusedFlag => b"event flag '",
+        Rule::UnusedFunction => b"function '",
         _ => b"'",
     }
 }
@@ -114,7 +125,8 @@ fn after_of(rule: Rule) -> &'static [u8]
         Rule::NoState => b"' in this state set",
         Rule::OutsideLoop => b"' outside a loop",
         Rule::NotMonitored => b"' is synced but not monitored",
-        Rule::UnusedVariable | Rule::UnusedFlag => b"' is not used",
+        Rule::UnusedVariable | Rule::UnusedFlag | Rule::UnusedFunction => b"' is not used",
+        Rule::NoValue => b"' has no value",
         Rule::NoClauses => b"' has no clauses",
         _ => b"",
     }
@@ -127,6 +139,7 @@ fn is_quoting(rule: Rule) -> bool
     match rule {
         Rule::TooManySets
         | Rule::TooManyStates
+        | Rule::TooManyFunctions
         | Rule::TooManyChannels
         | Rule::TooManyElements
         | Rule::WrongDecimal
@@ -135,6 +148,7 @@ fn is_quoting(rule: Rule) -> bool
         | Rule::NotAssignable
         | Rule::BadFormat
         | Rule::QueueSize
+        | Rule::ReturnElsewhere
         | Rule::NeverReached => false,
         _ => true,
     }
@@ -149,7 +163,8 @@ fn warns(rule: Rule) -> bool
         | Rule::NotMonitored
         | Rule::UnusedVariable
         | Rule::UnusedFlag
-        | Rule::NoClauses => true,
+        | Rule::NoClauses
+        | Rule::UnusedFunction => true,
         _ => false,
     }
 }
@@ -163,6 +178,7 @@ fn rank_of(rule: Rule) -> u8
         Rule::TooManyStates => 2,
         Rule::TooManyChannels => 3,
         Rule::TooManyElements => 4,
+        Rule::TooManyFunctions => 7,
         _ => 0,
     }
 }
@@ -175,6 +191,7 @@ impl Matter {
         match self {
             Matter::AtSite(rule) => number_of(rule),
             Matter::TooManyTokens | Matter::TooManyWordsOfSet | Matter::TooManyWords => 4,
+            Matter::NotRun => 5,
             Matter::EmbeddedC => 10,
             Matter::NotSafe => 1,
             Matter::Unreached => 2,
@@ -213,6 +230,7 @@ impl Matter {
             Matter::TooManyTokens => b"limit passed: 65536 tokens",
             Matter::TooManyWordsOfSet => b"limit passed: 65536 words in a state set",
             Matter::TooManyWords => b"limit passed: 1048576 words",
+            Matter::NotRun => b"not run yet",
             Matter::EmbeddedC => b"embedded C is not supported",
             Matter::NotSafe => b"not in safe mode, safe mode is used",
             Matter::Unreached => b"state '",

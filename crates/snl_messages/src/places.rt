@@ -19,12 +19,14 @@ fn token_of<'a>(site: Site<'a>) -> Token<'a>
         | Site::Setting { name, .. }
         | Site::Use { name, .. }
         | Site::Call { name, .. }
+        | Site::Function { name, .. }
         | Site::Target { name, .. }
         | Site::State { name, .. }
         | Site::StateSet { name, .. } => name,
         Site::Typed { word, .. }
         | Site::Leave { word, .. }
         | Site::Move { word, .. }
+        | Site::Return { word, .. }
         | Site::Clause { word, .. } => word,
         Site::QueueSize { number, .. } | Site::Decimal { number, .. } => number,
         Site::Format { text, .. } => text,

@@ -43,7 +43,7 @@ fn is_let_through(options: Options, is_warning: bool, number: u8) -> bool
 {
     if !is_warning {
         true
-    } else if number == 5 || number == 6 {
+    } else if number == 5 || number == 6 || number == 8 {
         options.w.unwrap_or(true) && options.u.unwrap_or(false)
     } else {
         options.w.unwrap_or(true)

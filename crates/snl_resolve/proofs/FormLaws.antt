@@ -1,10 +1,16 @@
 -- The forms of the arguments of calls.
-use Rattle.std.proofs.Common.{◌≡◌, ◌≤◌, false, List, [], ◌∷◌, length, refl, arith}
+use Rattle.std.proofs.Common.{◌≡◌, ◌≤◌, suc, false, List, [], ◌∷◌, length, refl, ap, arith}
 use Rattle.snl_syntax.specs.declared.expressions.Argument.{Argument, Value', Text}
 use Rattle.snl_syntax.specs.Expressions.{no_arguments}
 use Rattle.snl_syntax.specs.view.Expressions.{list_before}
 use Rattle.snl_resolve.specs.declared.calls.Form.TheVariants.{PutPlace}
-use Rattle.snl_resolve.specs.Calls.{fits, has_async}
+use Rattle.snl_resolve.specs.Calls.{fits, has_async, count_of}
+
+-- How many arguments there are.
+pub count_list : (l : List Argument) → count_of (list_before l no_arguments) ≡ length l
+count_list [] = refl
+count_list (Value' p e ∷ l) = ap suc (count_list l)
+count_list (Text t ∷ l) = ap suc (count_list l)
 
 -- three of them
 three : (a b c : Argument) (l : List Argument) → fits PutPlace (list_before (a ∷ b ∷ c ∷ l) no_arguments) ≡ false

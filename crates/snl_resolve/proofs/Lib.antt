@@ -3,6 +3,7 @@ pub mod ConstantLaws
 pub mod WalkLaws
 pub mod TableLaws
 pub mod NumberLaws
+pub mod FunctionLaws
 pub mod ListLaws
 pub mod BlockLaws
 pub mod ProgramLaws

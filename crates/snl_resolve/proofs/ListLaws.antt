@@ -4,7 +4,7 @@ use Rattle.std.specs.List.{flat_map}
 use Rattle.snl_syntax.specs.Expressions.{ExprTree}
 use Rattle.snl_syntax.specs.view.Declarations.{value_list}
 use Rattle.snl_resolve.specs.Types.{listed_values}
-use Rattle.snl_resolve.specs.Scopes.{Scope}
+use Rattle.snl_resolve.specs.Sights.{Sight}
 use Rattle.snl_resolve.specs.Sites.{in_values, in_value}
 
 -- the values of a list in braces, with a comma after the last or not
@@ -15,7 +15,7 @@ listed_of (e ∷ []) false = refl
 listed_of (e ∷ f ∷ all) comma = ap (λ l. e ∷ l) (listed_of (f ∷ all) comma)
 
 -- and their sites
-pub sites_of_list : (s : List Scope) (es : List ExprTree) (comma : Bool) → in_values s (value_list es comma) ≡ flat_map (in_value s) es
+pub sites_of_list : (s : Sight) (es : List ExprTree) (comma : Bool) → in_values s (value_list es comma) ≡ flat_map (in_value s) es
 sites_of_list s [] comma = refl
 sites_of_list s (e ∷ []) true = refl
 sites_of_list s (e ∷ []) false = sym (append-nil (in_value s e))

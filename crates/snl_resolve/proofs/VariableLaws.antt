@@ -1,9 +1,12 @@
 -- The variables of definitions, blocks, states, state sets and programs, from those of their parts.
-use Rattle.std.proofs.Common.{◌≡◌, ℕ, ◌<◌, ◌≤◌, List, [], ◌∷◌, ◌++◌, length, get_or, map, slice_get, Option, Some, None, option_map, sym, ap, ◌∙◌, append_assoc}
+use Rattle.std.proofs.Common.{◌≡◌, ℕ, ◌<◌, ◌≤◌, List, [], ◌∷◌, ◌++◌, length, get_or, map, slice_get, Option, Some, None, option_map, Box, Global, sym, ap, ◌∙◌, append_assoc, append-nil}
 use Rattle.std.proofs.lemmas.Option.{slice_get-map, slice_get-get_or, slice_get_past}
 use Rattle.std.specs.List.{flat_map}
 use Rattle.snl_syntax.specs.declared.declarations.Declaration.{Declaration}
 use Rattle.snl_syntax.specs.declared.definitions.Def.{Def}
+use Rattle.snl_syntax.specs.declared.definitions.Def.TheVariants as def
+use Rattle.snl_syntax.specs.declared.functions.Function.{Function}
+use Rattle.snl_syntax.specs.declared.functions.Parameter.{Parameter}
 use Rattle.snl_syntax.specs.declared.statements.Block.{Block as DeclaredBlock}
 use Rattle.snl_syntax.specs.declared.statements.Stmt.{Stmt, Block}
 use Rattle.snl_syntax.specs.declared.programs.Clause.{Clause}
@@ -17,11 +20,13 @@ use Rattle.snl_syntax.specs.view.Lists.{statement_list}
 use Rattle.snl_syntax.specs.view.Shown.{shown, held}
 use Rattle.snl_syntax.specs.view.Declarations.{declaration_view}
 use Rattle.snl_syntax.specs.view.Definitions.{definition_view}
+use Rattle.snl_syntax.specs.view.Functions.{parameter_view, function_view}
 use Rattle.snl_syntax.specs.view.Statements.{statement_view, block_view}
 use Rattle.snl_syntax.specs.view.Programs.{clause_view, state_view, state_set_view, program_view}
 use Rattle.snl_syntax.proofs.StatementRows.{view_block}
 use Rattle.snl_resolve.specs.Scopes.{Scope, scope_of}
-use Rattle.snl_resolve.specs.Variables.{Held, by_declaration, by_definition, by_definitions, by_statement, by_statements, by_block, by_maybe, by_clause, by_blocks, by_state, by_state_set, by_numbered, for_first, by_parts, variables_of}
+use Rattle.snl_resolve.specs.Sights.{parameters_of}
+use Rattle.snl_resolve.specs.Variables.{Held, by_declaration, by_definition, by_definitions, by_statement, by_statements, by_block, by_maybe, held_parameter, by_function, function_by, by_clause, by_blocks, by_state, by_state_set, by_numbered, for_first, by_parts, variables_of}
 
 -- three parts in a row
 three_parts : (old a b c : List Held) → ((old ++ a) ++ b) ++ c ≡ old ++ ((a ++ b) ++ c)
@@ -56,6 +61,27 @@ block_held s b ds es ss names scope old mid new ed ee et en ec em e =
 pub nested_held : (s : List Scope) (a : Stmt) (b : DeclaredBlock) (old new : List Held) → a ≡ Block b
     → new ≡ old ++ by_block s (block_view b) → new ≡ old ++ by_statement s (statement_view a)
 nested_held s a b old new ea e = e ∙ ap (λ x. old ++ by_statement s x) (sym (ap statement_view ea ∙ view_block b))
+
+-- a function: its parameters, then its body, round which they stand
+pub function_held : (s : List Scope) (f : Function) (ps : List Parameter) (b : DeclaredBlock) (scope : Scope) (old one new : List Held)
+    → ps ≡ f.parameters.each.items → b ≡ f.body.value → scope ≡ parameters_of (map parameter_view ps)
+    → one ≡ old ++ map held_parameter (map parameter_view ps)
+    → new ≡ one ++ by_block (scope ∷ s) (block_view b)
+    → new ≡ old ++ by_function s (function_view f)
+function_held s f ps b scope old one new ep eb es e1 en =
+    let inside = parameters_of (map parameter_view f.parameters.each.items) in
+    let same : scope ≡ inside = es ∙ ap (λ x. parameters_of (map parameter_view x)) ep in
+    en
+    ∙ (λ j. e1 j ++ by_block (same j ∷ s) (block_view (eb j)))
+    ∙ (λ j. (old ++ map held_parameter (map parameter_view (ep j))) ++ by_block (inside ∷ s) (block_view f.body.value))
+    ∙ append_assoc old _ _
+
+-- a definition that is a function
+pub definition_held : (s : List Scope) (d : Def) (b : Box Function Global) (f : Function) (old new : List Held) → d ≡ def.Function b → f ≡ b.value
+    → new ≡ old ++ by_function s (function_view f) → new ≡ old ++ flat_map (by_function s) (function_by (definition_view d))
+definition_held s d b f old new ed ef en =
+    en ∙ ap (λ x. old ++ by_function s (function_view x)) ef ∙ ap (λ l. old ++ l) (sym (append-nil _))
+    ∙ ap (λ x. old ++ flat_map (by_function s) (function_by (definition_view x))) (sym ed)
 
 -- the blocks of a state: `entry`, its clauses, `exit`
 pub blocks_held : (s : List Scope) (entry exit : Option BlockTree) (cs : List ClauseTree) (old one two new : List Held)

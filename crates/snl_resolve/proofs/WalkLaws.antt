@@ -1,5 +1,5 @@
 -- The sites of forms that hold a vector.
-use Rattle.std.proofs.Common.{◌≡◌, ℕ, ◌+◌, ◌-◌, ◌<◌, suc, Bool, List, [], ◌∷◌, ◌++◌, length, drop, get_or, map, Vec, Box, Global, ◌⊎◌, inl, inr, refl, sym, ap, ◌∙◌, append_assoc}
+use Rattle.std.proofs.Common.{◌≡◌, ℕ, ◌+◌, ◌-◌, ◌<◌, Bool, List, [], ◌∷◌, ◌++◌, length, drop, get_or, map, Vec, Box, Global, ◌⊎◌, inl, inr, refl, sym, ap, ◌∙◌, append_assoc}
 use Rattle.std.proofs.lemmas.List.{drop_more}
 use Rattle.snl_text.specs.declared.tokens.Token.{Token}
 use Rattle.snl_syntax.specs.declared.expressions.Expr.{Expr, Chain, Call}
@@ -12,35 +12,30 @@ use Rattle.snl_resolve.specs.declared.sites.Purpose.{Purpose}
 use Rattle.snl_resolve.specs.declared.sites.Site.{Site}
 use Rattle.snl_resolve.specs.Builtins.{builtin_of}
 use Rattle.snl_resolve.specs.Calls.{is_fitting, count_of, word_at, is_word, unless}
-use Rattle.snl_resolve.specs.Scopes.{Scope}
+use Rattle.snl_resolve.specs.Sights.{Sight, called}
 use Rattle.snl_resolve.specs.Purposes.{inner, argument, at_call, at_format}
 use Rattle.snl_resolve.specs.Sites.{in_expression, in_terms, in_arguments}
 use Rattle.snl_syntax.proofs.Rows.{view_chain, view_call}
-
--- how many arguments there are
-pub count_list : (l : List Argument) → count_of (list_before l no_arguments) ≡ length l
-count_list [] = refl
-count_list (Value' p e ∷ l) = ap suc (count_list l)
-count_list (Text t ∷ l) = ap suc (count_list l)
+use Rattle.snl_resolve.proofs.FormLaws.{count_list}
 
 -- A call: its site, then those of its arguments.
-pub call_noted : (w : Bool) (s : List Scope) (p q : Purpose) (k : ℕ) (e : Expr) (f : Token) (v : Vec Argument Global) (items : List Argument) (old mid new : List Site)
+pub call_noted : (w : Bool) (s : Sight) (p q : Purpose) (k : ℕ) (e : Expr) (f : Token) (v : Vec Argument Global) (items : List Argument) (old mid new : List Site)
     → e ≡ Call f v → items ≡ v.items
-    → q ≡ argument p (builtin_of f.text.now) (is_fitting (builtin_of f.text.now) (list_before items no_arguments))
-    → mid ≡ old ++ at_call p w f (builtin_of f.text.now) (is_fitting (builtin_of f.text.now) (list_before items no_arguments)) ∷ []
+    → q ≡ argument p (called s f) (is_fitting (called s f) (list_before items no_arguments))
+    → mid ≡ old ++ at_call p w f (called s f) (is_fitting (called s f) (list_before items no_arguments)) ∷ []
     → k ≡ word_at (builtin_of f.text.now)
     → new ≡ mid ++ in_arguments w s q k (list_before items no_arguments)
     → new ≡ old ++ in_expression w s p (view e)
 call_noted w s p q k e f v items old mid new ee ei eq em ek en =
-    let builtin = builtin_of f.text.now in
+    let c = called s f in
     en
     ∙ (λ j. em j ++ in_arguments w s (eq j) (ek j) (list_before items no_arguments))
-    ∙ (λ j. (old ++ at_call p w f builtin (is_fitting builtin (list_before (ei j) no_arguments)) ∷ [])
-    ++ in_arguments w s (argument p builtin (is_fitting builtin (list_before (ei j) no_arguments))) (word_at builtin) (list_before (ei j) no_arguments))
+    ∙ (λ j. (old ++ at_call p w f c (is_fitting c (list_before (ei j) no_arguments)) ∷ [])
+    ++ in_arguments w s (argument p c (is_fitting c (list_before (ei j) no_arguments))) (word_at (builtin_of f.text.now)) (list_before (ei j) no_arguments))
     ∙ append_assoc old _ _ ∙ ap (λ x. old ++ in_expression w s p x) (sym (ap view ee ∙ view_call f v))
 
 -- A chain: its first operand, then the others.
-pub chain_noted : (w : Bool) (s : List Scope) (p q r : Purpose) (e d : Expr) (b : Box Expr Global) (v : Vec Term Global) (items : List Term) (old mid new : List Site)
+pub chain_noted : (w : Bool) (s : Sight) (p q r : Purpose) (e d : Expr) (b : Box Expr Global) (v : Vec Term Global) (items : List Term) (old mid new : List Site)
     → e ≡ Chain b v → d ≡ b.value → items ≡ v.items → q ≡ inner p → r ≡ inner p
     → mid ≡ old ++ in_expression w s q (view d) → new ≡ mid ++ in_terms w s r (term_list (map pair_of items))
     → new ≡ old ++ in_expression w s p (view e)
@@ -51,7 +46,7 @@ chain_noted w s p q r e d b v items old mid new ee ed ei eq er em en =
     ∙ append_assoc old _ _ ∙ ap (λ x. old ++ in_expression w s p x) (sym (ap view ee ∙ view_chain b v))
 
 -- One more argument is noted.
-pub argument_step : (w : Bool) (s : List Scope) (p : Purpose) (k next : ℕ) (all : List Argument) (i : ℕ) (a : Argument) (before now start at : List Site) → i < length all → a ≡ get_or all i a
+pub argument_step : (w : Bool) (s : Sight) (p : Purpose) (k next : ℕ) (all : List Argument) (i : ℕ) (a : Argument) (before now start at : List Site) → i < length all → a ≡ get_or all i a
     → before ++ in_arguments w s p k (list_before (drop i all) no_arguments) ≡ start
     → now ≡ before ++ at
     → in_arguments w s p k (list_before (a ∷ drop (i + 1) all) no_arguments) ≡ at ++ in_arguments w s p (k - 1) (list_before (drop (i + 1) all) no_arguments)
@@ -63,7 +58,7 @@ argument_step w s p k next all i a before now start at h ea inv en ex less =
     ∙ ap (λ x. x ++ rest) en ∙ append_assoc before at rest ∙ ap (λ x. before ++ x) (sym ex)
     ∙ ap (λ (l : List Argument). before ++ in_arguments w s p k (list_before l no_arguments)) (ap (λ x. x ∷ drop (i + 1) all) ea ∙ sym (drop_more all i a h)) ∙ inv
 
-module _ (w : Bool) (s : List Scope) (p : Purpose) (k : ℕ) (rest : List Argument) where
+module _ (w : Bool) (s : Sight) (p : Purpose) (k : ℕ) (rest : List Argument) where
   -- what is noted of an argument, and of those after it
   abbrev noted : Token ⊎ ExprTree → List Site
   noted (inl t) = at_format p t (count_of (list_before rest no_arguments)) ∷ in_arguments w s p (k - 1) (list_before rest no_arguments)

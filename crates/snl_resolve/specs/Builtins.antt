@@ -1,5 +1,5 @@
 -- The built-in functions, each by its name.
-use Rattle.std.specs.Prelude.{ℕ, Bool, true, false, List, Option, Some, None, codes, bytes_eq, if◌then◌else◌}
+use Rattle.std.specs.Prelude.{ℕ, List, Option, Some, None, codes, bytes_eq, if◌then◌else◌}
 use Rattle.snl_resolve.specs.declared.builtins.Builtin.{Builtin}
 use Rattle.snl_resolve.specs.declared.builtins.Builtin.TheVariants.{Delay, Printf, PvPut, Ask}
 use Rattle.snl_resolve.specs.declared.builtins.Query.TheVariants.{EfClear, EfSet, EfTest, EfTestAndClear, PvChannelCount, PvConnectCount, PvConnected, PvFlushQ, PvGet, PvGetQ, PvPutComplete}
@@ -48,8 +48,3 @@ form_of (Ask PvFlushQ) = QueueName
 form_of (Ask PvGet) = ChannelPlace
 form_of (Ask PvGetQ) = QueueName
 form_of (Ask PvPutComplete) = ChannelPlace
-
--- It is `delay`, which stands in conditions alone.
-abbrev pub is_delay : Option Builtin → Bool
-is_delay (Some Delay) = true
-is_delay _ = false

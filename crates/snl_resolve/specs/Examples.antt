@@ -1,5 +1,5 @@
 -- Examples: constants, meanings and sites of small trees, computed.
-use Rattle.std.specs.Prelude.{◌≡◌, ℕ, pos, negsuc, Bool, true, false, List, [], ◌∷◌, Some, None, Ok, Err, codes}
+use Rattle.std.specs.Prelude.{◌≡◌, ℕ, pos, negsuc, Bool, true, false, List, [], ◌∷◌, Some, None, codes}
 use Rattle.snl_text.specs.declared.tokens.Token.{Token}
 use Rattle.snl_text.specs.declared.kinds.Kind.{Kind}
 use Rattle.snl_text.specs.declared.kinds.Kind.TheVariants as kind
@@ -16,6 +16,8 @@ use Rattle.snl_resolve.specs.Constants.{constant_of}
 use Rattle.snl_resolve.specs.Numbered.{number_of}
 use Rattle.snl_resolve.specs.Scopes.{scope_of, meaning}
 use Rattle.snl_resolve.specs.Sites.{in_expression, in_statement}
+use Rattle.snl_resolve.specs.Sights.{Sight}
+use Rattle.snl_resolve.specs.declared.sites.Room.TheVariants as room
 
 -- a token at an offset
 abbrev pub token : Kind → ℕ → List ℕ → Token
@@ -90,21 +92,25 @@ ScopeExamples =
 abbrev pub half : ExprTree
 half = constant (token kind.Decimal 6 (codes "0.5"))
 
+-- nothing is in sight
+abbrev pub bare : Sight
+bare = record { scopes = []; functions = [] }
+
 -- as the sites of these are computed by hand
 abbrev pub SiteExamples : Type 0
 SiteExamples =
-    (in_expression true [] Read (call (name 0 (codes "delay")) (value half no_arguments))
-    ≡ Call (name 0 (codes "delay")) true true true ∷ Decimal (token kind.Decimal 6 (codes "0.5")) true ∷ [])
-    × (in_expression true [] Read (call (name 0 (codes "delay")) (value (parenthesized half) no_arguments))
-    ≡ Call (name 0 (codes "delay")) true true true ∷ Decimal (token kind.Decimal 6 (codes "0.5")) false ∷ [])
-    × (in_expression false [] Read (call (name 0 (codes "delay")) no_arguments) ≡ Call (name 0 (codes "delay")) true false false ∷ [])
-    × (in_expression false [] Read (call (name 0 (codes "printf")) (text (token kind.Text 7 (codes "\"%x\"")) (value (whole (codes "1")) no_arguments)))
-    ≡ Call (name 0 (codes "printf")) true true true ∷ Format (token kind.Text 7 (codes "\"%x\"")) false ∷ [])
-    × (in_expression false [] Read (call (name 0 (codes "printf")) (text (token kind.Text 7 (codes "\"%ld%%\"")) (value (whole (codes "1")) no_arguments)))
-    ≡ Call (name 0 (codes "printf")) true true true ∷ Format (token kind.Text 7 (codes "\"%ld%%\"")) true ∷ [])
-    × (in_expression false [] Read (call (name 0 (codes "f")) (value (named (name 2 (codes "x"))) no_arguments))
-    ≡ Call (name 0 (codes "f")) false true true ∷ Use Ignored (name 2 (codes "x")) Nothing false ∷ [])
-    × (in_statement false [] [] false (while_loop (sign kind.While) (whole (codes "1")) (break_loop (sign kind.Break))) ≡ Leave (sign kind.Break) true ∷ [])
+    (in_expression true bare Read (call (name 0 (codes "delay")) (value half no_arguments))
+    ≡ Call (name 0 (codes "delay")) true true true true None ∷ Decimal (token kind.Decimal 6 (codes "0.5")) true ∷ [])
+    × (in_expression true bare Read (call (name 0 (codes "delay")) (value (parenthesized half) no_arguments))
+    ≡ Call (name 0 (codes "delay")) true true true true None ∷ Decimal (token kind.Decimal 6 (codes "0.5")) false ∷ [])
+    × (in_expression false bare Read (call (name 0 (codes "delay")) no_arguments) ≡ Call (name 0 (codes "delay")) true false false true None ∷ [])
+    × (in_expression false bare Read (call (name 0 (codes "printf")) (text (token kind.Text 7 (codes "\"%x\"")) (value (whole (codes "1")) no_arguments)))
+    ≡ Call (name 0 (codes "printf")) true true true true None ∷ Format (token kind.Text 7 (codes "\"%x\"")) false ∷ [])
+    × (in_expression false bare Read (call (name 0 (codes "printf")) (text (token kind.Text 7 (codes "\"%ld%%\"")) (value (whole (codes "1")) no_arguments)))
+    ≡ Call (name 0 (codes "printf")) true true true true None ∷ Format (token kind.Text 7 (codes "\"%ld%%\"")) true ∷ [])
+    × (in_expression false bare Read (call (name 0 (codes "f")) (value (named (name 2 (codes "x"))) no_arguments))
+    ≡ Call (name 0 (codes "f")) false true true true None ∷ Use Ignored (name 2 (codes "x")) Nothing false ∷ [])
+    × (in_statement room.Clause [] bare false (while_loop (sign kind.While) (whole (codes "1")) (break_loop (sign kind.Break))) ≡ Leave (sign kind.Break) true ∷ [])
 
 -- ---- `ASYNC`: `pvPut(x, ASYNC)`, `pvPut(x, y)`, `foo(pvPut(x, ASYNC))`, `pvGet(x, ASYNC)`, `pvPut(x, (ASYNC))`, `pvPutComplete(x)`; no name is declared
 abbrev pub use_of : ℕ → List ℕ → ExprTree
@@ -113,15 +119,15 @@ use_of offset bytes = named (name offset bytes)
 -- as their sites are computed by hand
 abbrev pub AsyncExamples : Type 0
 AsyncExamples =
-    (in_expression false [] Read (call (name 0 (codes "pvPut")) (value (use_of 6 (codes "x")) (value (use_of 9 (codes "ASYNC")) no_arguments)))
-    ≡ Call (name 0 (codes "pvPut")) true true true ∷ Use Channel (name 6 (codes "x")) Nothing false ∷ [])
-    × (in_expression false [] Read (call (name 0 (codes "pvPut")) (value (use_of 6 (codes "x")) (value (use_of 9 (codes "y")) no_arguments)))
-    ≡ Call (name 0 (codes "pvPut")) true false true ∷ Use Ignored (name 6 (codes "x")) Nothing false ∷ Use Ignored (name 9 (codes "y")) Nothing false ∷ [])
-    × (in_expression false [] Read (call (name 0 (codes "foo")) (value (call (name 4 (codes "pvPut")) (value (use_of 10 (codes "x")) (value (use_of 13 (codes "ASYNC")) no_arguments))) no_arguments))
-    ≡ Call (name 0 (codes "foo")) false true true ∷ Call (name 4 (codes "pvPut")) true true true ∷ Use Ignored (name 10 (codes "x")) Nothing false ∷ [])
-    × (in_expression false [] Read (call (name 0 (codes "pvGet")) (value (use_of 6 (codes "x")) (value (use_of 9 (codes "ASYNC")) no_arguments)))
-    ≡ Call (name 0 (codes "pvGet")) true false true ∷ Use Ignored (name 6 (codes "x")) Nothing false ∷ Use Ignored (name 9 (codes "ASYNC")) Nothing false ∷ [])
-    × (in_expression false [] Read (call (name 0 (codes "pvPut")) (value (use_of 6 (codes "x")) (value (parenthesized (use_of 10 (codes "ASYNC"))) no_arguments)))
-    ≡ Call (name 0 (codes "pvPut")) true false true ∷ Use Ignored (name 6 (codes "x")) Nothing false ∷ Use Ignored (name 10 (codes "ASYNC")) Nothing false ∷ [])
-    × (in_expression false [] Read (call (name 0 (codes "pvPutComplete")) (value (use_of 14 (codes "x")) no_arguments))
-    ≡ Call (name 0 (codes "pvPutComplete")) true true true ∷ Use Channel (name 14 (codes "x")) Nothing false ∷ [])
+    (in_expression false bare Read (call (name 0 (codes "pvPut")) (value (use_of 6 (codes "x")) (value (use_of 9 (codes "ASYNC")) no_arguments)))
+    ≡ Call (name 0 (codes "pvPut")) true true true true None ∷ Use Channel (name 6 (codes "x")) Nothing false ∷ [])
+    × (in_expression false bare Read (call (name 0 (codes "pvPut")) (value (use_of 6 (codes "x")) (value (use_of 9 (codes "y")) no_arguments)))
+    ≡ Call (name 0 (codes "pvPut")) true false true true None ∷ Use Ignored (name 6 (codes "x")) Nothing false ∷ Use Ignored (name 9 (codes "y")) Nothing false ∷ [])
+    × (in_expression false bare Read (call (name 0 (codes "foo")) (value (call (name 4 (codes "pvPut")) (value (use_of 10 (codes "x")) (value (use_of 13 (codes "ASYNC")) no_arguments))) no_arguments))
+    ≡ Call (name 0 (codes "foo")) false true true true None ∷ Call (name 4 (codes "pvPut")) true true true true None ∷ Use Ignored (name 10 (codes "x")) Nothing false ∷ [])
+    × (in_expression false bare Read (call (name 0 (codes "pvGet")) (value (use_of 6 (codes "x")) (value (use_of 9 (codes "ASYNC")) no_arguments)))
+    ≡ Call (name 0 (codes "pvGet")) true false true true None ∷ Use Ignored (name 6 (codes "x")) Nothing false ∷ Use Ignored (name 9 (codes "ASYNC")) Nothing false ∷ [])
+    × (in_expression false bare Read (call (name 0 (codes "pvPut")) (value (use_of 6 (codes "x")) (value (parenthesized (use_of 10 (codes "ASYNC"))) no_arguments)))
+    ≡ Call (name 0 (codes "pvPut")) true false true true None ∷ Use Ignored (name 6 (codes "x")) Nothing false ∷ Use Ignored (name 10 (codes "ASYNC")) Nothing false ∷ [])
+    × (in_expression false bare Read (call (name 0 (codes "pvPutComplete")) (value (use_of 14 (codes "x")) no_arguments))
+    ≡ Call (name 0 (codes "pvPutComplete")) true true true true None ∷ Use Channel (name 14 (codes "x")) Nothing false ∷ [])

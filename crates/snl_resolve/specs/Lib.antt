@@ -8,6 +8,7 @@ pub mod Parts
 pub mod Options
 pub mod Purposes
 pub mod Numbered
+pub mod Sights
 pub mod Sites
 pub mod Programs
 pub mod Uses
@@ -16,7 +17,9 @@ pub mod Variables
 pub mod Tables
 pub mod Chains
 pub mod NumberTables
+pub mod FunctionTables
 pub mod Held
 pub mod Names
 pub mod Laws
 pub mod Examples
+pub mod FunctionExamples

@@ -5,12 +5,13 @@ use Rattle.snl_text.specs.declared.tokens.Pos.{Pos}
 use Rattle.snl_text.specs.declared.tokens.Token.{Token}
 use Rattle.snl_syntax.specs.Expressions.{ExprTree, TermList, ArgumentList, constant, parenthesized, named, element, call, postfix, prefix, chain, conditional, assignment, no_terms, term, no_arguments, value, text}
 use Rattle.snl_syntax.specs.Declarations.{ValueList, no_values, last_value, value_before, InitialiserTree, single, listed, DeclaratorTree, DeclarationTree}
-use Rattle.snl_syntax.specs.Statements.{StatementTree, StatementList, BlockTree, Header, nested, empty, expression, break_loop, continue_loop, change_state, if_then, if_else, while_loop, for_loop, no_statements, statement, block}
-use Rattle.snl_syntax.specs.Definitions.{PlaceTree, FlagTree, DefinitionTree, declaration, assign, monitor, sync, sync_queue, event_flags, setting}
+use Rattle.snl_syntax.specs.Statements.{StatementTree, StatementList, BlockTree, Header, nested, empty, expression, break_loop, continue_loop, change_state, return_with, if_then, if_else, while_loop, for_loop, no_statements, statement, block}
+use Rattle.snl_syntax.specs.Definitions.{PlaceTree, FlagTree, DefinitionTree, declaration, assign, monitor, sync, sync_queue, event_flags, setting, function}
 use Rattle.snl_syntax.specs.Programs.{ClauseTree, StateTree, StateSetTree, ProgramTree}
 use Rattle.snl_resolve.specs.Builtins.{builtin_of}
 use Rattle.snl_resolve.specs.Calls.{word_at, is_word, unless}
 use Rattle.snl_resolve.specs.Scopes.{Scope, scope_of, meaning}
+use Rattle.snl_resolve.specs.Sights.{parameter_scope}
 use Rattle.snl_resolve.specs.Programs.{program_scopes}
 use Rattle.snl_resolve.specs.Uses.{place_of}
 
@@ -79,6 +80,7 @@ abbrev mutual
   in_statement s (break_loop t) = []
   in_statement s (continue_loop t) = []
   in_statement s (change_state t x) = []
+  in_statement s (return_with t e) = if_there (in_expression s) e
   in_statement s (if_then e a) = in_expression s e ++ in_statement s a
   in_statement s (if_else e a b) = in_expression s e ++ in_statement s a ++ in_statement s b
   in_statement s (while_loop t e a) = in_expression s e ++ in_statement s a
@@ -111,6 +113,12 @@ in_definition s (sync y) = in_place s y.place ++ in_flag s y.flag
 in_definition s (sync_queue q) = in_place s q.place ++ if_there (in_flag s) q.flag
 in_definition s (event_flags names) = []
 in_definition s (setting o) = []
+in_definition s (function f) = []
+
+-- In a definition of the program: the parameters of a function stand round its body.
+abbrev pub in_program_part : List Scope → DefinitionTree → List Placed
+in_program_part s (function f) = in_block (parameter_scope f ∷ s) f.body
+in_program_part s d = in_definition s d
 
 -- The same of definitions, whose own scope stands round them too.
 abbrev pub in_definitions : List Scope → List DefinitionTree → List Placed
@@ -134,7 +142,7 @@ in_state_set outer g = in_definitions outer g.definitions ++ flat_map (in_state 
 -- All of a program, in the order of the source.
 abbrev pub names_of : ProgramTree → List Placed
 names_of p =
-    in_definitions [] p.definitions ++ if_there (in_block (program_scopes p)) p.entry
+    flat_map (in_program_part (program_scopes p)) p.definitions ++ if_there (in_block (program_scopes p)) p.entry
     ++ flat_map (in_state_set (program_scopes p)) p.state_sets ++ if_there (in_block (program_scopes p)) p.exit
 
 -- What the first of some names at an offset means, by the place of the declaration.

@@ -1,20 +1,19 @@
 -- What the parts of an expression are for, and the sites of its tokens.
-use Rattle.std.specs.Prelude.{ℕ, Bool, true, false, not, ◌||◌, List, [], ◌∷◌, Option, Some, None, is_some, is_none}
+use Rattle.std.specs.Prelude.{ℕ, Bool, true, false, not, ◌||◌, List, [], ◌∷◌, Option, Some, None}
 use Rattle.snl_text.specs.declared.tokens.Token.{Token}
 use Rattle.snl_text.specs.declared.kinds.Kind.{Kind}
 use Rattle.snl_text.specs.declared.kinds.Kind.TheVariants as kind
 use Rattle.snl_text.specs.declared.numbers.DecimalValue.{DecimalValue}
 use Rattle.snl_text.specs.Numbers.{decimal_value}
 use Rattle.snl_syntax.specs.Expressions.{ExprTree, parenthesized}
-use Rattle.snl_resolve.specs.declared.builtins.Builtin.{Builtin}
 use Rattle.snl_resolve.specs.declared.calls.Form.{Form}
 use Rattle.snl_resolve.specs.declared.calls.Form.TheVariants.{ChannelPlace, PutPlace, QueueName, FlagName, Seconds}
 use Rattle.snl_resolve.specs.declared.sites.Purpose.{Purpose}
-use Rattle.snl_resolve.specs.declared.sites.Purpose.TheVariants.{Read, Changed, Channel, Queued, Flagged, Delayed, Ignored}
+use Rattle.snl_resolve.specs.declared.sites.Purpose.TheVariants.{Read, Changed, Channel, Queued, Flagged, Delayed, Dropped, Ignored}
 use Rattle.snl_resolve.specs.declared.sites.Site.{Site}
 use Rattle.snl_resolve.specs.declared.sites.Site.TheVariants.{Decimal, Call, Format, Change}
-use Rattle.snl_resolve.specs.Builtins.{form_of, is_delay}
-use Rattle.snl_resolve.specs.Calls.{is_place}
+use Rattle.snl_resolve.specs.Builtins.{form_of}
+use Rattle.snl_resolve.specs.Calls.{is_place, CallKind, BuiltIn, Defined, is_known, is_delay, has_value, place_called}
 use Rattle.snl_resolve.specs.Formats.{conversions_of}
 use Rattle.snl_resolve.specs.Numbered.{is_number}
 
@@ -28,6 +27,7 @@ inner _ = Read
 -- Only the argument itself is a `delay`'s, and not what stands in parentheses there.
 abbrev pub in_parentheses : Purpose → Purpose
 in_parentheses Delayed = Read
+in_parentheses Dropped = Read
 in_parentheses p = p
 
 -- What is assigned to.
@@ -45,9 +45,10 @@ argument_of Seconds = Delayed
 argument_of _ = Read
 
 -- The arguments of a call, by its function and whether they have its form. Those of an unknown or wrong call are ignored.
-abbrev pub argument : Purpose → Option Builtin → Bool → Purpose
-argument Ignored builtin fitting = Ignored
-argument p (Some builtin) true = argument_of (form_of builtin)
+abbrev pub argument : Purpose → CallKind → Bool → Purpose
+argument Ignored c fitting = Ignored
+argument p (BuiltIn b) true = argument_of (form_of b)
+argument p (Defined f) true = Read
 argument p _ _ = Ignored
 
 -- It stands in an unknown or wrong call.
@@ -73,11 +74,17 @@ abbrev pub at_constant : Purpose → Token → Kind → List Site
 at_constant p t kind.Decimal = Decimal t (is_good_decimal p t.text.now) ∷ []
 at_constant p t k = []
 
--- A call: its function is known, its arguments have the form, and a `delay` stands in a condition.
-abbrev pub at_call : Purpose → Bool → Token → Option Builtin → Bool → Site
-at_call p in_condition f builtin fitting =
-    Call f (is_some builtin || is_ignored p) (is_none builtin || fitting || is_ignored p)
-    (in_condition || not (is_delay builtin) || is_ignored p)
+-- Its value is dropped.
+abbrev pub is_dropped : Purpose → Bool
+is_dropped Dropped = true
+is_dropped p = false
+
+-- A call: its function is known, its arguments have the form, a `delay` stands in a condition, and there is a value where one is used; with the
+-- place of a function of the program.
+abbrev pub at_call : Purpose → Bool → Token → CallKind → Bool → Site
+at_call p in_condition f c fitting =
+    Call f (is_known c || is_ignored p) (not (is_known c) || fitting || is_ignored p) (in_condition || not (is_delay c) || is_ignored p)
+    (has_value c || is_dropped p || is_ignored p) (place_called c)
 
 -- A name or an element, in parentheses or not.
 abbrev pub is_target : ExprTree → Bool

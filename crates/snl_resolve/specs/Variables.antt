@@ -4,7 +4,10 @@ use Rattle.std.specs.List.{flat_map}
 use Rattle.snl_text.specs.declared.tokens.Token.{Token}
 use Rattle.snl_syntax.specs.Statements.{StatementTree, StatementList, BlockTree, nested, if_then, if_else, while_loop, for_loop, no_statements, statement, block}
 use Rattle.snl_syntax.specs.Declarations.{TypeTree, InitialiserTree, DeclaratorTree, DeclarationTree}
-use Rattle.snl_syntax.specs.Definitions.{DefinitionTree, declaration}
+use Rattle.snl_syntax.specs.Definitions.{DefinitionTree, declaration, function}
+use Rattle.snl_syntax.specs.Functions.{ParameterTree, FunctionTree}
+use Rattle.snl_resolve.specs.declared.sites.Size.TheVariants.{Scalar}
+use Rattle.snl_resolve.specs.Sights.{parameter_scope}
 use Rattle.snl_syntax.specs.Programs.{ClauseTree, StateTree, StateSetTree, ProgramTree}
 use Rattle.snl_resolve.specs.declared.sites.Size.{Size}
 use Rattle.snl_resolve.specs.Programs.{program_scopes}
@@ -59,6 +62,27 @@ abbrev mutual
 abbrev pub by_maybe : List Scope → Option BlockTree → List Held
 by_maybe s None = []
 by_maybe s (Some b) = by_block s b
+
+-- The variable of a parameter.
+abbrev pub held_parameter : ParameterTree → Held
+held_parameter p = record { name = p.name; range = range_or_long (range_of p.type_name); size = Scalar; initial = None }
+
+-- The variables of a function: its parameters, and those of its body.
+abbrev pub by_function : List Scope → FunctionTree → List Held
+by_function s f = map held_parameter f.parameters.each ++ by_block (parameter_scope f ∷ s) f.body
+
+-- The function that a definition is, if it is one.
+abbrev pub function_by : DefinitionTree → List FunctionTree
+function_by (function f) = f ∷ []
+function_by _ = []
+
+-- The functions of a program, in the order of the source.
+abbrev pub functions_of : ProgramTree → List FunctionTree
+functions_of p = flat_map function_by p.definitions
+
+-- The variables that all state sets share: those of the functions.
+abbrev pub shared_variables : ProgramTree → List Held
+shared_variables p = flat_map (by_function (program_scopes p)) (functions_of p)
 
 -- The variables of a clause are those of its block.
 abbrev pub by_clause : List Scope → ClauseTree → List Held

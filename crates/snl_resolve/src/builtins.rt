@@ -116,10 +116,3 @@ pub fn form_of(builtin: Builtin) -> Form
         },
     }
 }
-
-/// Whether a function is `delay`, which stands in conditions alone.
-pub fn is_delay(builtin: Option<Builtin>) -> bool
-    ensures { result ≡ spec.is_delay builtin }
-{
-    matches!(builtin, Some(Builtin::Delay))
-}

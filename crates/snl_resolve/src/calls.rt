@@ -7,6 +7,7 @@ ghost use Rattle.snl_resolve.specs.Calls as spec;
 
 use crate::builtins::{Builtin, form_of};
 use snl_syntax::{Argument, Expr};
+use snl_text::{Pos, Token};
 
 /// What a call takes.
 #[derive(Clone, Copy)]
@@ -25,6 +26,64 @@ pub enum Form {
     Nothing,
     /// A string, then expressions.
     Format,
+}
+
+/// What a call sees of a function of the program.
+#[derive(Clone, Copy)]
+pub struct Heading<'a> {
+    /// Its token has the place of the function.
+    pub name: Token<'a>,
+    /// How many arguments it takes.
+    pub parameters: usize,
+    /// Whether it has a value.
+    pub has_value: bool,
+}
+
+/// What a call calls.
+#[derive(Clone, Copy)]
+pub enum CallKind<'a> {
+    /// No function that is in sight.
+    Unknown,
+    /// A built-in function.
+    BuiltIn(Builtin),
+    /// A function of the program.
+    Defined(Heading<'a>),
+}
+
+impl<'a> CallKind<'a> {
+    /// Whether it is known what is called.
+    pub fn is_known(self) -> bool
+        ensures { result ≡ spec.is_known self.entry }
+    {
+        !matches!(self, CallKind::Unknown)
+    }
+
+    /// Whether it is `delay`, which stands in conditions alone.
+    pub fn is_delay(self) -> bool
+        ensures { result ≡ spec.is_delay self.entry }
+    {
+        matches!(self, CallKind::BuiltIn(Builtin::Delay))
+    }
+
+    /// Whether the call has a value, or that is not known.
+    pub fn has_value(self) -> bool
+        ensures { result ≡ spec.has_value self.entry }
+    {
+        match self {
+            CallKind::Defined(heading) => heading.has_value,
+            _ => true,
+        }
+    }
+
+    /// The place of a function of the program.
+    pub fn place(self) -> Option<Pos>
+        ensures { result ≡ spec.place_called self.entry }
+    {
+        match self {
+            CallKind::Defined(heading) => Some(heading.name.pos),
+            _ => None,
+        }
+    }
 }
 
 /// Whether an expression is a name or an element.
@@ -110,13 +169,17 @@ fn fits(form: Form, arguments: &[Argument]) -> bool
     }
 }
 
-/// Whether arguments have the form that the call of a function takes, if it is known.
-pub fn is_fitting(builtin: Option<Builtin>, arguments: &[Argument]) -> bool
-    ensures { result ≡ spec.is_fitting builtin (list_before arguments.now no_arguments) }
+/// Whether arguments have the form that a call takes; those of an unknown one never have.
+#[tactic(auto, using(crate::proofs::FormLaws::count_list))]
+pub fn is_fitting(arguments: &[Argument], kind: CallKind) -> bool
+    ensures { result ≡ spec.is_fitting kind.entry (list_before arguments.now no_arguments) }
 {
-    match builtin {
-        Some(builtin) => fits(form_of(builtin), arguments),
-        None => false,
+    match kind {
+        CallKind::Unknown => false,
+        CallKind::BuiltIn(builtin) => fits(form_of(builtin), arguments),
+        CallKind::Defined(heading) => {
+            are_values(arguments) && arguments.len() == heading.parameters
+        }
     }
 }
 

@@ -5,13 +5,13 @@ ghost use Rattle.std.specs.List.{flat_map};
 ghost use Rattle.snl_syntax.specs.view.Expressions.{boxed, view};
 ghost use Rattle.snl_syntax.specs.view.Declarations.{type_view, declarator_view, declaration_view, initialiser_view};
 ghost use Rattle.snl_syntax.specs.view.Shown.{shown};
-ghost use Rattle.snl_resolve.specs.Chains.{scopes_of};
+ghost use Rattle.snl_resolve.specs.Chains.{sight_of};
 ghost use Rattle.snl_resolve.specs.Sites as spec;
 
 use crate::expressions::note_expression;
 use crate::initialisers::{is_good_initialiser, range_of};
 use crate::rows::pushed;
-use crate::scopes::Scopes;
+use crate::sights::Sight;
 use crate::sites::{Purpose, Site};
 use crate::sizes::size_of;
 use snl_syntax::{Declaration, Declarator, Expr, Initialiser, TypeName};
@@ -20,26 +20,26 @@ use std::alloc::AllocError;
 /// Notes the sites in an expression that stands for its value, outside of a condition.
 pub fn note_value<'a>(
     value: &Expr<'a>,
-    scopes: &Scopes<'_, 'a>,
+    sight: &Sight<'_, 'a>,
     sites: &mut Vec<Site<'a>>,
 ) -> Result<(), AllocError>
     ensures { OnOk result (sites.new.items ≡ sites.old.items
-        ++ spec.in_value (scopes_of scopes.now) (view value.now)) }
+        ++ spec.in_value (sight_of sight.now) (view value.now)) }
 {
-    note_expression(value, false, scopes, Purpose::Read, sites)
+    note_expression(value, false, sight, Purpose::Read, sites)
 }
 
 /// Notes the sites in an expression that may be missing.
 pub fn note_if_there<'a>(
     value: &Option<Box<Expr<'a>>>,
-    scopes: &Scopes<'_, 'a>,
+    sight: &Sight<'_, 'a>,
     sites: &mut Vec<Site<'a>>,
 ) -> Result<(), AllocError>
     ensures { OnOk result (sites.new.items ≡ sites.old.items
-        ++ spec.maybe (spec.in_value (scopes_of scopes.now)) (shown boxed value.now)) }
+        ++ spec.maybe (spec.in_value (sight_of sight.now)) (shown boxed value.now)) }
 {
     if let Some(value) = value {
-        note_value(value, scopes, sites)?;
+        note_value(value, sight, sites)?;
     }
     Ok(())
 }
@@ -47,14 +47,14 @@ pub fn note_if_there<'a>(
 /// Notes the sites in several of them.
 fn note_values<'a>(
     values: &[Box<Expr<'a>>],
-    scopes: &Scopes<'_, 'a>,
+    sight: &Sight<'_, 'a>,
     sites: &mut Vec<Site<'a>>,
 ) -> Result<(), AllocError>
     ensures { OnOk result (sites.new.items ≡ sites.old.items
-        ++ flat_map (spec.in_value (scopes_of scopes.now)) (map boxed values.now)) }
+        ++ flat_map (spec.in_value (sight_of sight.now)) (map boxed values.now)) }
 {
     for value in values {
-        note_value(value, scopes, sites)?;
+        note_value(value, sight, sites)?;
     }
     Ok(())
 }
@@ -63,61 +63,67 @@ fn note_values<'a>(
 #[tactic(auto, using(crate::proofs::ListLaws::sites_of_list))]
 fn note_initialiser<'a>(
     initial: &Option<Initialiser<'a>>,
-    scopes: &Scopes<'_, 'a>,
+    sight: &Sight<'_, 'a>,
     sites: &mut Vec<Site<'a>>,
 ) -> Result<(), AllocError>
     ensures { OnOk result (sites.new.items ≡ sites.old.items
-        ++ spec.maybe (spec.in_initialiser (scopes_of scopes.now))
+        ++ spec.maybe (spec.in_initialiser (sight_of sight.now))
         (shown initialiser_view initial.now)) }
 {
     match initial {
         None => Ok(()),
-        Some(Initialiser::Single(value)) => note_value(value, scopes, sites),
-        Some(Initialiser::List(values)) => note_values(values.each.as_slice(), scopes, sites),
+        Some(Initialiser::Single(value)) => note_value(value, sight, sites),
+        Some(Initialiser::List(values)) => note_values(values.each.as_slice(), sight, sites),
     }
 }
 
 /// The site of a declared name of this type, in a block or not.
 fn declarator_site<'a>(
     declarator: &Declarator<'a>,
-    scopes: &Scopes<'_, 'a>,
+    sight: &Sight<'_, 'a>,
     in_block: bool,
     type_name: TypeName<'a>,
 ) -> Site<'a>
-    ensures { result ≡ spec.at_declarator (scopes_of scopes.now) in_block
+    ensures { result ≡ spec.at_declarator (sight_of sight.now) in_block
         (type_view type_name.entry) (declarator_view declarator.now) }
 {
-    let size = size_of(declarator.sizes.as_slice(), scopes);
+    let size = size_of(declarator.sizes.as_slice(), &sight.scopes);
     let initial = &declarator.initial;
     Site::Declarator {
         name: declarator.name,
         size,
-        has_good_initialiser: is_good_initialiser(initial, scopes, in_block, type_name, size),
+        has_good_initialiser: is_good_initialiser(
+            initial,
+            &sight.scopes,
+            in_block,
+            type_name,
+            size,
+        ),
     }
 }
 
 /// Notes the sites in a declared name with its sizes and its initialiser.
 fn note_declarator<'a>(
     declarator: &Declarator<'a>,
-    scopes: &Scopes<'_, 'a>,
+    sight: &Sight<'_, 'a>,
     in_block: bool,
     type_name: TypeName<'a>,
     sites: &mut Vec<Site<'a>>,
 ) -> Result<(), AllocError>
     ensures { OnOk result (sites.new.items ≡ sites.old.items
-        ++ spec.in_declarator (scopes_of scopes.now) in_block (type_view type_name.entry)
+        ++ spec.in_declarator (sight_of sight.now) in_block (type_view type_name.entry)
         (declarator_view declarator.now)) }
 {
     pushed(
         sites,
-        declarator_site(declarator, scopes, in_block, type_name),
+        declarator_site(declarator, sight, in_block, type_name),
     )?;
-    note_values(declarator.sizes.as_slice(), scopes, sites)?;
-    note_initialiser(&declarator.initial, scopes, sites)
+    note_values(declarator.sizes.as_slice(), sight, sites)?;
+    note_initialiser(&declarator.initial, sight, sites)
 }
 
-/// Notes the type of a declaration.
-fn note_type<'a>(type_name: TypeName<'a>, sites: &mut Vec<Site<'a>>) -> Result<(), AllocError>
+/// Notes a type, of a declaration, a function or a parameter.
+pub fn note_type<'a>(type_name: TypeName<'a>, sites: &mut Vec<Site<'a>>) -> Result<(), AllocError>
     ensures { OnOk result (sites.new.items ≡ sites.old.items
         ++ spec.at_type (type_view type_name.entry) ∷ []) }
 {
@@ -132,17 +138,17 @@ fn note_type<'a>(type_name: TypeName<'a>, sites: &mut Vec<Site<'a>>) -> Result<(
 /// Notes the sites in declared names of this type.
 fn note_declarators<'a>(
     declarators: &[Declarator<'a>],
-    scopes: &Scopes<'_, 'a>,
+    sight: &Sight<'_, 'a>,
     in_block: bool,
     type_name: TypeName<'a>,
     sites: &mut Vec<Site<'a>>,
 ) -> Result<(), AllocError>
     ensures { OnOk result (sites.new.items ≡ sites.old.items
-        ++ flat_map (spec.in_declarator (scopes_of scopes.now) in_block
+        ++ flat_map (spec.in_declarator (sight_of sight.now) in_block
         (type_view type_name.entry)) (map declarator_view declarators.now)) }
 {
     for declarator in declarators {
-        note_declarator(declarator, scopes, in_block, type_name, sites)?;
+        note_declarator(declarator, sight, in_block, type_name, sites)?;
     }
     Ok(())
 }
@@ -150,14 +156,14 @@ fn note_declarators<'a>(
 /// Notes the sites in a declaration; its names are noted with their scope.
 pub fn note_declaration<'a>(
     declared: &Declaration<'a>,
-    scopes: &Scopes<'_, 'a>,
+    sight: &Sight<'_, 'a>,
     in_block: bool,
     sites: &mut Vec<Site<'a>>,
 ) -> Result<(), AllocError>
     ensures { OnOk result (sites.new.items ≡ sites.old.items
-        ++ spec.in_declaration (scopes_of scopes.now) in_block (declaration_view declared.now)) }
+        ++ spec.in_declaration (sight_of sight.now) in_block (declaration_view declared.now)) }
 {
     let names = declared.names.as_slice();
     note_type(declared.type_name, sites)?;
-    note_declarators(names, scopes, in_block, declared.type_name, sites)
+    note_declarators(names, sight, in_block, declared.type_name, sites)
 }

@@ -5,7 +5,7 @@ ghost use Rattle.std.specs.List.{flat_map};
 ghost use Rattle.snl_syntax.specs.view.Shown.{shown};
 ghost use Rattle.snl_syntax.specs.view.Definitions.{definition_view, place_view, assign_view, flag_view, queue_view, sync_view, setting_view};
 ghost use Rattle.snl_syntax.specs.Definitions.{sync, sync_queue};
-ghost use Rattle.snl_resolve.specs.Chains.{scopes_of};
+ghost use Rattle.snl_resolve.specs.Chains.{sight_of};
 ghost use Rattle.snl_resolve.specs.Scopes.{scope_of};
 ghost use Rattle.snl_resolve.specs.Sites.{maybe};
 ghost use Rattle.snl_resolve.specs.Programs as spec;
@@ -15,7 +15,8 @@ use crate::definition_scopes::definition_scope;
 use crate::options::refused;
 use crate::parts::{is_wrong_part, listed_names, part_of};
 use crate::rows::pushed;
-use crate::scopes::{Scope, Scopes};
+use crate::scopes::Scope;
+use crate::sights::Sight;
 use crate::sites::{Purpose, Site, Sort};
 use crate::tokens::note_use;
 use snl_syntax::{Assign, Def, Flag, Place, Setting, Sync, SyncQueue};
@@ -27,21 +28,21 @@ fn defined_site<'a>(
     place: &Place<'a>,
     sort: Sort,
     word: Token<'a>,
-    scopes: &Scopes<'_, 'a>,
+    sight: &Sight<'_, 'a>,
     list: Option<usize>,
 ) -> Site<'a>
-    ensures { result ≡ spec.at_defined sort word.entry (scopes_of scopes.now)
+    ensures { result ≡ spec.at_defined sort word.entry (sight_of sight.now)
         (place_view place.now) list }
 {
-    let meaning = scopes.meaning(place.name);
+    let meaning = sight.scopes.meaning(place.name);
     Site::Defined {
         sort,
         word,
         name: place.name,
         meaning,
         has_subscript: place.subscript.is_some(),
-        is_wrong: is_wrong_part(&place.subscript, scopes, meaning, list),
-        part: part_of(&place.subscript, scopes, meaning, list),
+        is_wrong: is_wrong_part(&place.subscript, &sight.scopes, meaning, list),
+        part: part_of(&place.subscript, &sight.scopes, meaning, list),
     }
 }
 
@@ -50,40 +51,40 @@ fn note_defined<'a>(
     place: &Place<'a>,
     sort: Sort,
     word: Token<'a>,
-    scopes: &Scopes<'_, 'a>,
+    sight: &Sight<'_, 'a>,
     list: Option<usize>,
     sites: &mut Vec<Site<'a>>,
 ) -> Result<(), AllocError>
     ensures { OnOk result (sites.new.items ≡ sites.old.items
-        ++ spec.defined sort word.entry (scopes_of scopes.now) (place_view place.now) list) }
+        ++ spec.defined sort word.entry (sight_of sight.now) (place_view place.now) list) }
 {
-    pushed(sites, defined_site(place, sort, word, scopes, list))?;
-    note_if_there(&place.subscript, scopes, sites)
+    pushed(sites, defined_site(place, sort, word, sight, list))?;
+    note_if_there(&place.subscript, sight, sites)
 }
 
 /// Notes the event flag of a `sync` or `syncQ`.
 fn note_flag<'a>(
-    scopes: &Scopes<'_, 'a>,
+    sight: &Sight<'_, 'a>,
     flag: Flag<'a>,
     sites: &mut Vec<Site<'a>>,
 ) -> Result<(), AllocError>
     ensures { OnOk result (sites.new.items ≡ sites.old.items
-        ++ spec.in_flag (scopes_of scopes.now) (flag_view flag.entry)) }
+        ++ spec.in_flag (sight_of sight.now) (flag_view flag.entry)) }
 {
-    note_use(scopes, Purpose::Flagged, flag.name, false, sites)
+    note_use(&sight.scopes, Purpose::Flagged, flag.name, false, sites)
 }
 
 /// Notes the event flag of a `syncQ`, where one is written.
 fn note_any_flag<'a>(
-    scopes: &Scopes<'_, 'a>,
+    sight: &Sight<'_, 'a>,
     flag: Option<Flag<'a>>,
     sites: &mut Vec<Site<'a>>,
 ) -> Result<(), AllocError>
     ensures { OnOk result (sites.new.items ≡ sites.old.items
-        ++ maybe (spec.in_flag (scopes_of scopes.now)) (shown flag_view flag.entry)) }
+        ++ maybe (spec.in_flag (sight_of sight.now)) (shown flag_view flag.entry)) }
 {
     match flag {
-        Some(flag) => note_flag(scopes, flag, sites),
+        Some(flag) => note_flag(sight, flag, sites),
         None => Ok(()),
     }
 }
@@ -132,44 +133,44 @@ fn note_size<'a>(number: Option<Token<'a>>, sites: &mut Vec<Site<'a>>) -> Result
 /// Notes the sites in a `sync`.
 fn note_sync<'a>(
     sync: &Sync<'a>,
-    scopes: &Scopes<'_, 'a>,
+    sight: &Sight<'_, 'a>,
     sites: &mut Vec<Site<'a>>,
 ) -> Result<(), AllocError>
     ensures { OnOk result (sites.new.items ≡ sites.old.items
-        ++ spec.in_sync (scopes_of scopes.now) (sync_view sync.now)) }
+        ++ spec.in_sync (sight_of sight.now) (sync_view sync.now)) }
 {
     let place = &sync.place;
-    note_defined(place, Sort::Sync, place.name, scopes, None, sites)?;
-    note_flag(scopes, sync.flag, sites)
+    note_defined(place, Sort::Sync, place.name, sight, None, sites)?;
+    note_flag(sight, sync.flag, sites)
 }
 
 /// Notes the sites in a `syncQ`.
 fn note_queue<'a>(
     queue: &SyncQueue<'a>,
-    scopes: &Scopes<'_, 'a>,
+    sight: &Sight<'_, 'a>,
     sites: &mut Vec<Site<'a>>,
 ) -> Result<(), AllocError>
     ensures { OnOk result (sites.new.items ≡ sites.old.items
-        ++ spec.in_queue (scopes_of scopes.now) (queue_view queue.now)) }
+        ++ spec.in_queue (sight_of sight.now) (queue_view queue.now)) }
 {
     let sort = Sort::Queue(queue_size(queue.size));
-    note_defined(&queue.place, sort, queue.word, scopes, None, sites)?;
-    note_any_flag(scopes, queue.flag, sites)?;
+    note_defined(&queue.place, sort, queue.word, sight, None, sites)?;
+    note_any_flag(sight, queue.flag, sites)?;
     note_size(queue.size, sites)
 }
 
 /// Notes the sites in an `assign`.
 fn note_assign<'a>(
     assign: &Assign<'a>,
-    scopes: &Scopes<'_, 'a>,
+    sight: &Sight<'_, 'a>,
     sites: &mut Vec<Site<'a>>,
 ) -> Result<(), AllocError>
     ensures { OnOk result (sites.new.items ≡ sites.old.items
-        ++ spec.in_assign (scopes_of scopes.now) (assign_view assign.now)) }
+        ++ spec.in_assign (sight_of sight.now) (assign_view assign.now)) }
 {
     let list = listed_names(&assign.channels);
     let place = &assign.place;
-    note_defined(place, Sort::Assign, assign.word, scopes, list, sites)
+    note_defined(place, Sort::Assign, assign.word, sight, list, sites)
 }
 
 /// Notes an option, of a state or elsewhere.
@@ -190,24 +191,25 @@ fn note_setting<'a>(
 }
 
 /// Notes the sites in a definition or an option, of a state or elsewhere; declared names are noted
-/// with their scope.
-fn note_definition<'a>(
+/// with their scope, and a function with those of its program.
+pub fn note_definition<'a>(
     definition: &Def<'a>,
     in_state: bool,
-    scopes: &Scopes<'_, 'a>,
+    sight: &Sight<'_, 'a>,
     sites: &mut Vec<Site<'a>>,
 ) -> Result<(), AllocError>
     ensures { OnOk result (sites.new.items ≡ sites.old.items
-        ++ spec.in_definition in_state (scopes_of scopes.now) (definition_view definition.now)) }
+        ++ spec.in_definition in_state (sight_of sight.now) (definition_view definition.now)) }
 {
     match definition {
-        Def::Declaration(declared) => note_declaration(declared, scopes, false, sites),
-        Def::Assign(assign) => note_assign(assign, scopes, sites),
-        Def::Monitor(place) => note_defined(place, Sort::Monitor, place.name, scopes, None, sites),
-        Def::Sync(sync) => note_sync(sync, scopes, sites),
-        Def::SyncQueue(queue) => note_queue(queue, scopes, sites),
+        Def::Declaration(declared) => note_declaration(declared, sight, false, sites),
+        Def::Assign(assign) => note_assign(assign, sight, sites),
+        Def::Monitor(place) => note_defined(place, Sort::Monitor, place.name, sight, None, sites),
+        Def::Sync(sync) => note_sync(sync, sight, sites),
+        Def::SyncQueue(queue) => note_queue(queue, sight, sites),
         Def::EventFlags(_) => Ok(()),
         Def::Setting(setting) => note_setting(in_state, *setting, sites),
+        Def::Function(_) => Ok(()),
     }
 }
 
@@ -215,15 +217,15 @@ fn note_definition<'a>(
 fn note_each<'a>(
     definitions: &[Def<'a>],
     in_state: bool,
-    scopes: &Scopes<'_, 'a>,
+    sight: &Sight<'_, 'a>,
     sites: &mut Vec<Site<'a>>,
 ) -> Result<(), AllocError>
     ensures { OnOk result (sites.new.items ≡ sites.old.items
-        ++ flat_map (spec.in_definition in_state (scopes_of scopes.now))
+        ++ flat_map (spec.in_definition in_state (sight_of sight.now))
         (map definition_view definitions.now)) }
 {
     for definition in definitions {
-        note_definition(definition, in_state, scopes, sites)?;
+        note_definition(definition, in_state, sight, sites)?;
     }
     Ok(())
 }
@@ -234,16 +236,16 @@ pub fn note_definitions<'a>(
     alloc: Global,
     definitions: &[Def<'a>],
     in_state: bool,
-    outer: &Scopes<'_, 'a>,
+    outer: &Sight<'_, 'a>,
     sites: &mut Vec<Site<'a>>,
 ) -> Result<Scope<'a>, AllocError>
     ensures scope { IfOk result (λ scope. scope
-        ≡ scope_of (scopes_of outer.now) (map definition_view definitions.now)) }
+        ≡ scope_of (sight_of outer.now).scopes (map definition_view definitions.now)) }
     ensures sites { OnOk result (sites.new.items ≡ sites.old.items
-        ++ spec.in_definitions in_state (scopes_of outer.now)
+        ++ spec.in_definitions in_state (sight_of outer.now)
         (map definition_view definitions.now)) }
 {
-    let scope = definition_scope(alloc, definitions, outer, sites)?;
-    note_each(definitions, in_state, &Scopes::Within(&scope, outer), sites)?;
+    let scope = definition_scope(alloc, definitions, &outer.scopes, sites)?;
+    note_each(definitions, in_state, &outer.within(&scope), sites)?;
     Ok(scope)
 }

@@ -6,12 +6,12 @@ ghost use Rattle.snl_syntax.specs.view.Lists.{term_list};
 ghost use Rattle.snl_syntax.specs.Expressions.{no_arguments};
 ghost use Rattle.snl_resolve.specs.Calls as calls;
 ghost use Rattle.snl_resolve.specs.Calls.{unless};
-ghost use Rattle.snl_resolve.specs.Chains.{scopes_of};
+ghost use Rattle.snl_resolve.specs.Chains.{sight_of};
 ghost use Rattle.snl_resolve.specs.Sites as spec;
 
 use crate::builtins::builtin_of;
 use crate::calls::{is_word, word_at};
-use crate::scopes::Scopes;
+use crate::sights::Sight;
 use crate::sites::{Purpose, Site};
 use crate::tokens::{note_call, note_change, note_constant, note_format, note_prefix, note_use};
 use snl_syntax::{Argument, Expr, Term};
@@ -22,46 +22,46 @@ use std::alloc::AllocError;
 pub fn note_expression<'a>(
     expression: &Expr<'a>,
     in_condition: bool,
-    scopes: &Scopes<'_, 'a>,
+    sight: &Sight<'_, 'a>,
     purpose: Purpose,
     sites: &mut Vec<Site<'a>>,
 ) -> Result<(), AllocError>
     ensures { OnOk result (sites.new.items ≡ sites.old.items
-        ++ spec.in_expression in_condition (scopes_of scopes.now) purpose (view expression.now)) }
+        ++ spec.in_expression in_condition (sight_of sight.now) purpose (view expression.now)) }
 {
     let inner = purpose.inner();
     match expression {
         Expr::Constant(token) => note_constant(purpose, *token, sites),
-        Expr::Named(name) => note_use(scopes, purpose, *name, false, sites),
+        Expr::Named(name) => note_use(&sight.scopes, purpose, *name, false, sites),
         Expr::Parenthesized(part) => {
-            note_expression(part, in_condition, scopes, purpose.in_parentheses(), sites)
+            note_expression(part, in_condition, sight, purpose.in_parentheses(), sites)
         }
         Expr::Element { name, index, .. } => {
-            note_use(scopes, purpose, *name, true, sites)?;
-            note_expression(index, in_condition, scopes, inner, sites)
+            note_use(&sight.scopes, purpose, *name, true, sites)?;
+            note_expression(index, in_condition, sight, inner, sites)
         }
         Expr::Call(name, arguments) => {
             let arguments = arguments.as_slice();
-            let inside = note_call(arguments, purpose, in_condition, *name, sites)?;
+            let inside = note_call(arguments, sight, purpose, in_condition, *name, sites)?;
             let word = word_at(builtin_of(name.text));
-            note_arguments(arguments, in_condition, scopes, inside, word, sites)
+            note_arguments(arguments, in_condition, sight, inside, word, sites)
         }
         Expr::Postfix(target, operator) => {
             note_change(purpose, target, *operator, sites)?;
-            note_expression(target, in_condition, scopes, purpose.target(), sites)
+            note_expression(target, in_condition, sight, purpose.target(), sites)
         }
         Expr::Prefix(operator, operand) => {
             let inside = note_prefix(operand, purpose, *operator, sites)?;
-            note_expression(operand, in_condition, scopes, inside, sites)
+            note_expression(operand, in_condition, sight, inside, sites)
         }
         Expr::Chain(first, terms) => {
-            note_expression(first, in_condition, scopes, inner, sites)?;
-            note_terms(terms.as_slice(), in_condition, scopes, inner, sites)
+            note_expression(first, in_condition, sight, inner, sites)?;
+            note_terms(terms.as_slice(), in_condition, sight, inner, sites)
         }
         Expr::Conditional { condition, yes, no } => {
-            note_expression(condition, in_condition, scopes, inner, sites)?;
-            note_expression(yes, in_condition, scopes, inner, sites)?;
-            note_expression(no, in_condition, scopes, inner, sites)
+            note_expression(condition, in_condition, sight, inner, sites)?;
+            note_expression(yes, in_condition, sight, inner, sites)?;
+            note_expression(no, in_condition, sight, inner, sites)
         }
         Expr::Assignment {
             target,
@@ -69,8 +69,8 @@ pub fn note_expression<'a>(
             value,
         } => {
             note_change(purpose, target, *operator, sites)?;
-            note_expression(target, in_condition, scopes, purpose.target(), sites)?;
-            note_expression(value, in_condition, scopes, inner, sites)
+            note_expression(target, in_condition, sight, purpose.target(), sites)?;
+            note_expression(value, in_condition, sight, inner, sites)
         }
     }
 }
@@ -80,16 +80,16 @@ pub fn note_expression<'a>(
 fn note_terms<'a>(
     terms: &[Term<'a>],
     in_condition: bool,
-    scopes: &Scopes<'_, 'a>,
+    sight: &Sight<'_, 'a>,
     purpose: Purpose,
     sites: &mut Vec<Site<'a>>,
 ) -> Result<(), AllocError>
     ensures { OnOk result (sites.new.items ≡ sites.old.items
-        ++ spec.in_terms in_condition (scopes_of scopes.now) purpose (term_list
+        ++ spec.in_terms in_condition (sight_of sight.now) purpose (term_list
         (map pair_of terms.now))) }
 {
     for term in terms {
-        note_expression(&term.operand, in_condition, scopes, purpose, sites)?;
+        note_expression(&term.operand, in_condition, sight, purpose, sites)?;
     }
     Ok(())
 }
@@ -99,13 +99,13 @@ fn note_terms<'a>(
 fn note_arguments<'a>(
     arguments: &[Argument<'a>],
     in_condition: bool,
-    scopes: &Scopes<'_, 'a>,
+    sight: &Sight<'_, 'a>,
     purpose: Purpose,
     word: usize,
     sites: &mut Vec<Site<'a>>,
 ) -> Result<(), AllocError>
     ensures { OnOk result (sites.new.items ≡ sites.old.items
-        ++ spec.in_arguments in_condition (scopes_of scopes.now) purpose word
+        ++ spec.in_arguments in_condition (sight_of sight.now) purpose word
         (list_before arguments.now no_arguments)) }
 {
     let mut left = arguments.len();
@@ -114,7 +114,7 @@ fn note_arguments<'a>(
         left -= 1;
         match argument {
             Argument::Value(value) => {
-                note_argument(value, in_condition, scopes, purpose, until, sites)?;
+                note_argument(value, in_condition, sight, purpose, until, sites)?;
             }
             Argument::Text(format) => note_format(purpose, *format, left, sites)?,
         }
@@ -128,17 +128,17 @@ fn note_arguments<'a>(
 fn note_argument<'a>(
     value: &Expr<'a>,
     in_condition: bool,
-    scopes: &Scopes<'_, 'a>,
+    sight: &Sight<'_, 'a>,
     purpose: Purpose,
     word: usize,
     sites: &mut Vec<Site<'a>>,
 ) -> Result<(), AllocError>
     ensures { OnOk result (sites.new.items ≡ sites.old.items
         ++ unless (calls.is_word word (view value.now))
-        (spec.in_expression in_condition (scopes_of scopes.now) purpose (view value.now))) }
+        (spec.in_expression in_condition (sight_of sight.now) purpose (view value.now))) }
 {
     if is_word(word, value) {
         return Ok(());
     }
-    note_expression(value, in_condition, scopes, purpose, sites)
+    note_expression(value, in_condition, sight, purpose, sites)
 }

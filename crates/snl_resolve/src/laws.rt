@@ -2,6 +2,7 @@
 
 ghost use Rattle.snl_resolve.specs.Laws.{BindingIsOne, DeclaredIsMeant, PlaceIsMeant};
 ghost use Rattle.snl_resolve.specs.Examples.{AsyncExamples, ConstantExamples, ScopeExamples, SiteExamples};
+ghost use Rattle.snl_resolve.specs.FunctionExamples.{CallExamples, FunctionExamples, SharedExamples};
 
 /// What a name means by the relation is what it is bound to.
 pub fn binding_is_one()
@@ -36,4 +37,19 @@ pub fn examples_of_sites()
 /// The sites of calls with the word `ASYNC`.
 pub fn examples_of_async()
     ensures { AsyncExamples }
+{}
+
+/// The sites of functions, of their parameters and of `return`.
+pub fn examples_of_functions()
+    ensures { FunctionExamples }
+{}
+
+/// The sites of calls of functions.
+pub fn examples_of_calls()
+    ensures { CallExamples }
+{}
+
+/// The variables of functions.
+pub fn examples_of_shared_variables()
+    ensures { SharedExamples }
 {}

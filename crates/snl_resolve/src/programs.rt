@@ -4,14 +4,17 @@ ghost use Rattle.std.specs.Prelude.{◌≡◌, [], ◌++◌, map, OnOk, IfOk};
 ghost use Rattle.snl_syntax.specs.view.Shown.{shown, held};
 ghost use Rattle.snl_syntax.specs.view.Statements.{block_view};
 ghost use Rattle.snl_syntax.specs.view.Programs.{state_view, state_set_view, program_view};
-ghost use Rattle.snl_resolve.specs.Chains.{scopes_of};
+ghost use Rattle.snl_resolve.specs.Chains.{sight_of};
 ghost use Rattle.snl_resolve.specs.Programs as spec;
 ghost use Rattle.snl_resolve.specs.Sites.{maybe};
 
+use crate::definition_scopes::definition_scope;
 use crate::definitions::note_definitions;
+use crate::functions::note_program_parts;
 use crate::numbered::Numbered;
 use crate::rows::pushed;
 use crate::scopes::Scopes;
+use crate::sights::Sight;
 use crate::sites::Site;
 use crate::states::{note_plain_block, note_state};
 use snl_syntax::{Block, Program, State, StateSet};
@@ -55,13 +58,13 @@ fn state_site<'a>(state: &State<'a>, names: &Numbered<'a>, number: usize) -> Sit
 fn note_numbered<'a>(
     alloc: Global,
     state: &State<'a>,
-    outer: &Scopes<'_, 'a>,
+    outer: &Sight<'_, 'a>,
     names: &Numbered<'a>,
     number: usize,
     sites: &mut Vec<Site<'a>>,
 ) -> Result<(), AllocError>
     ensures { OnOk result (sites.new.items ≡ sites.old.items
-        ++ spec.in_numbered (scopes_of outer.now) names.now number (state_view state.now)) }
+        ++ spec.in_numbered (sight_of outer.now) names.now number (state_view state.now)) }
 {
     pushed(sites, state_site(state, names, number))?;
     note_state(alloc, state, outer, names, sites)
@@ -71,12 +74,12 @@ fn note_numbered<'a>(
 fn note_each_state<'a>(
     alloc: Global,
     states: &[State<'a>],
-    outer: &Scopes<'_, 'a>,
+    outer: &Sight<'_, 'a>,
     names: &Numbered<'a>,
     sites: &mut Vec<Site<'a>>,
 ) -> Result<(), AllocError>
     ensures { OnOk result (sites.new.items ≡ sites.old.items
-        ++ spec.in_states (scopes_of outer.now) names.now 0 (map state_view states.now)) }
+        ++ spec.in_states (sight_of outer.now) names.now 0 (map state_view states.now)) }
 {
     for (number, state) in states.iter().enumerate() {
         note_numbered(alloc, state, outer, names, number, sites)?;
@@ -88,11 +91,11 @@ fn note_each_state<'a>(
 fn note_states<'a>(
     alloc: Global,
     states: &[State<'a>],
-    outer: &Scopes<'_, 'a>,
+    outer: &Sight<'_, 'a>,
     sites: &mut Vec<Site<'a>>,
 ) -> Result<(), AllocError>
     ensures { OnOk result (sites.new.items ≡ sites.old.items
-        ++ spec.in_all_states (scopes_of outer.now) (map state_view states.now)) }
+        ++ spec.in_all_states (sight_of outer.now) (map state_view states.now)) }
 {
     let names = state_names(alloc, states)?;
     note_each_state(alloc, states, outer, &names, sites)
@@ -102,32 +105,28 @@ fn note_states<'a>(
 fn note_state_set<'a>(
     alloc: Global,
     set: &StateSet<'a>,
-    outer: &Scopes<'_, 'a>,
+    outer: &Sight<'_, 'a>,
     sites: &mut Vec<Site<'a>>,
 ) -> Result<(), AllocError>
     ensures { OnOk result (sites.new.items ≡ sites.old.items
-        ++ spec.in_state_set (scopes_of outer.now) (state_set_view set.now)) }
+        ++ spec.in_state_set (sight_of outer.now) (state_set_view set.now)) }
 {
     let scope = note_definitions(alloc, set.definitions.as_slice(), false, outer, sites)?;
-    note_states(
-        alloc,
-        set.states.as_slice(),
-        &Scopes::Within(&scope, &*outer),
-        sites,
-    )
+    let states = set.states.as_slice();
+    note_states(alloc, states, &outer.within(&scope), sites)
 }
 
 /// Notes a state set of this number, and the sites in it.
 fn note_numbered_set<'a>(
     alloc: Global,
     set: &StateSet<'a>,
-    outer: &Scopes<'_, 'a>,
+    outer: &Sight<'_, 'a>,
     names: &Numbered<'a>,
     number: usize,
     sites: &mut Vec<Site<'a>>,
 ) -> Result<(), AllocError>
     ensures { OnOk result (sites.new.items ≡ sites.old.items
-        ++ spec.in_numbered_set (scopes_of outer.now) names.now number (state_set_view set.now)) }
+        ++ spec.in_numbered_set (sight_of outer.now) names.now number (state_set_view set.now)) }
 {
     let site = Site::StateSet {
         word: set.word,
@@ -142,12 +141,12 @@ fn note_numbered_set<'a>(
 fn note_each_set<'a>(
     alloc: Global,
     sets: &[StateSet<'a>],
-    outer: &Scopes<'_, 'a>,
+    outer: &Sight<'_, 'a>,
     names: &Numbered<'a>,
     sites: &mut Vec<Site<'a>>,
 ) -> Result<(), AllocError>
     ensures { OnOk result (sites.new.items ≡ sites.old.items
-        ++ spec.in_state_sets (scopes_of outer.now) names.now 0 (map state_set_view sets.now)) }
+        ++ spec.in_state_sets (sight_of outer.now) names.now 0 (map state_set_view sets.now)) }
 {
     for (number, set) in sets.iter().enumerate() {
         note_numbered_set(alloc, set, outer, names, number, sites)?;
@@ -159,11 +158,11 @@ fn note_each_set<'a>(
 fn note_state_sets<'a>(
     alloc: Global,
     sets: &[StateSet<'a>],
-    outer: &Scopes<'_, 'a>,
+    outer: &Sight<'_, 'a>,
     sites: &mut Vec<Site<'a>>,
 ) -> Result<(), AllocError>
     ensures { OnOk result (sites.new.items ≡ sites.old.items
-        ++ spec.in_all_sets (scopes_of outer.now) (map state_set_view sets.now)) }
+        ++ spec.in_all_sets (sight_of outer.now) (map state_set_view sets.now)) }
 {
     let names = set_names(alloc, sets)?;
     note_each_set(alloc, sets, outer, &names, sites)
@@ -173,15 +172,15 @@ fn note_state_sets<'a>(
 fn note_program_block<'a>(
     alloc: Global,
     block: &Option<Box<Block<'a>>>,
-    scopes: &Scopes<'_, 'a>,
+    sight: &Sight<'_, 'a>,
     sites: &mut Vec<Site<'a>>,
 ) -> Result<(), AllocError>
     ensures { OnOk result (sites.new.items ≡ sites.old.items
-        ++ maybe (spec.in_plain_block (scopes_of scopes.now) [])
+        ++ maybe (spec.in_plain_block (sight_of sight.now) [])
         (shown (held block_view) block.now)) }
 {
     let no_states = Numbered::empty(alloc);
-    note_plain_block(alloc, block, scopes, &no_states, sites)
+    note_plain_block(alloc, block, sight, &no_states, sites)
 }
 
 /// Notes the sites in the blocks and the state sets of a program, within its own scope.
@@ -190,16 +189,16 @@ fn note_parts<'a>(
     entry: &Option<Box<Block<'a>>>,
     sets: &[StateSet<'a>],
     exit: &Option<Box<Block<'a>>>,
-    scopes: &Scopes<'_, 'a>,
+    sight: &Sight<'_, 'a>,
     sites: &mut Vec<Site<'a>>,
 ) -> Result<(), AllocError>
     ensures { OnOk result (sites.new.items ≡ sites.old.items
-        ++ spec.in_parts (scopes_of scopes.now) (shown (held block_view) entry.now)
+        ++ spec.in_parts (sight_of sight.now) (shown (held block_view) entry.now)
         (map state_set_view sets.now) (shown (held block_view) exit.now)) }
 {
-    note_program_block(alloc, entry, scopes, sites)?;
-    note_state_sets(alloc, sets, scopes, sites)?;
-    note_program_block(alloc, exit, scopes, sites)
+    note_program_block(alloc, entry, sight, sites)?;
+    note_state_sets(alloc, sets, sight, sites)?;
+    note_program_block(alloc, exit, sight, sites)
 }
 
 /// Notes the sites in a program.
@@ -213,10 +212,15 @@ fn note_program<'a>(
 {
     let outside = Scopes::Outside;
     let definitions = program.definitions.as_slice();
-    let scope = note_definitions(alloc, definitions, false, &outside, sites)?;
-    let sets = program.state_sets.as_slice();
+    let scope = definition_scope(alloc, definitions, &outside, sites)?;
     let scopes = Scopes::Within(&scope, &outside);
-    note_parts(alloc, &program.entry, sets, &program.exit, &scopes, sites)
+    let functions = note_program_parts(alloc, definitions, scopes, sites)?;
+    let sight = Sight {
+        scopes,
+        functions: &functions,
+    };
+    let sets = program.state_sets.as_slice();
+    note_parts(alloc, &program.entry, sets, &program.exit, &sight, sites)
 }
 
 /// The sites of a program, in the order of the source, but that the declared names stand first in

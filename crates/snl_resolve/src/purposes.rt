@@ -6,8 +6,8 @@ ghost use Rattle.snl_resolve.specs.Formats.{conversions_of};
 ghost use Rattle.snl_resolve.specs.Numbered.{is_number};
 ghost use Rattle.snl_resolve.specs.Purposes as spec;
 
-use crate::builtins::{Builtin, form_of, is_delay};
-use crate::calls::{Form, is_place};
+use crate::builtins::form_of;
+use crate::calls::{CallKind, Form, is_place};
 use crate::formats::{conversions, unquoted};
 use crate::sites::{Purpose, Site};
 use snl_syntax::Expr;
@@ -29,7 +29,7 @@ impl Purpose {
         ensures { result ≡ spec.in_parentheses self }
     {
         match self {
-            Purpose::Delayed => Purpose::Read,
+            Purpose::Delayed | Purpose::Dropped => Purpose::Read,
             other => other,
         }
     }
@@ -45,12 +45,13 @@ impl Purpose {
     }
 
     /// That of the arguments of a call, by its function and whether they have its form.
-    pub fn argument(self, builtin: Option<Builtin>, is_fitting: bool) -> Purpose
-        ensures { result ≡ spec.argument self builtin is_fitting }
+    pub fn argument(self, kind: CallKind, is_fitting: bool) -> Purpose
+        ensures { result ≡ spec.argument self kind.entry is_fitting }
     {
-        match (self, builtin, is_fitting) {
+        match (self, kind, is_fitting) {
             (Purpose::Ignored, _, _) => Purpose::Ignored,
-            (_, Some(builtin), true) => argument_of(form_of(builtin)),
+            (_, CallKind::BuiltIn(builtin), true) => argument_of(form_of(builtin)),
+            (_, CallKind::Defined(_), true) => Purpose::Read,
             _ => Purpose::Ignored,
         }
     }
@@ -59,6 +60,12 @@ impl Purpose {
         ensures { result ≡ spec.is_ignored self }
     {
         matches!(self, Purpose::Ignored)
+    }
+
+    fn is_dropped(self) -> bool
+        ensures { result ≡ spec.is_dropped self }
+    {
+        matches!(self, Purpose::Dropped)
     }
 }
 
@@ -101,17 +108,20 @@ pub fn call_site<'a>(
     purpose: Purpose,
     in_condition: bool,
     name: Token<'a>,
-    builtin: Option<Builtin>,
+    kind: CallKind<'a>,
     is_fitting: bool,
 ) -> Site<'a>
-    ensures { result ≡ spec.at_call purpose in_condition name.entry builtin is_fitting }
+    ensures { result ≡ spec.at_call purpose in_condition name.entry kind.entry is_fitting }
 {
     let is_ignored = purpose.is_ignored();
+    let is_known = kind.is_known();
     Site::Call {
         name,
-        is_known: builtin.is_some() || is_ignored,
-        is_fitting: builtin.is_none() || is_fitting || is_ignored,
-        may_stand: in_condition || !is_delay(builtin) || is_ignored,
+        is_known: is_known || is_ignored,
+        is_fitting: !is_known || is_fitting || is_ignored,
+        may_stand: in_condition || !kind.is_delay() || is_ignored,
+        has_value: kind.has_value() || purpose.is_dropped() || is_ignored,
+        function: kind.place(),
     }
 }
 

@@ -43,6 +43,8 @@ pub enum Purpose {
     Flagged,
     /// It is the whole argument of a `delay`.
     Delayed,
+    /// Its value is dropped: it is a whole statement.
+    Dropped,
     /// It stands in an unknown or wrong call: names still count as used, and nothing else is asked.
     Ignored,
 }
@@ -94,7 +96,7 @@ pub enum Site<'a> {
         is_later: bool,
         words: usize,
     },
-    /// The type of a declaration.
+    /// The type of a declaration, of a function or of a parameter.
     Typed {
         word: Token<'a>,
         second: Option<Token<'a>>,
@@ -141,11 +143,23 @@ pub enum Site<'a> {
         number: Token<'a>,
         is_good: bool,
     },
-    /// A call of a function.
+    /// A call of a function, and the place of the function where the program has it.
     Call {
         name: Token<'a>,
         is_known: bool,
         is_fitting: bool,
+        may_stand: bool,
+        has_value: bool,
+        function: Option<Pos>,
+    },
+    /// A function, and whether its name is taken.
+    Function {
+        name: Token<'a>,
+        is_taken: bool,
+    },
+    /// A `return`.
+    Return {
+        word: Token<'a>,
         may_stand: bool,
     },
     /// A string as an argument.
@@ -193,4 +207,15 @@ pub enum Site<'a> {
         name: Token<'a>,
         is_later: bool,
     },
+}
+
+/// Where a statement stands.
+#[derive(Clone, Copy)]
+pub enum Room {
+    /// In a clause's block.
+    Clause,
+    /// In another block of a state or of the program.
+    Elsewhere,
+    /// In a function, that has a value or not.
+    Function(bool),
 }

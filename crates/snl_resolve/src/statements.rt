@@ -7,46 +7,65 @@ ghost use Rattle.snl_syntax.specs.view.Declarations.{declaration_view};
 ghost use Rattle.snl_syntax.specs.view.Lists.{statement_list};
 ghost use Rattle.snl_syntax.specs.view.Statements.{statement_view, header_view, block_view};
 ghost use Rattle.snl_syntax.specs.view.Shown.{shown};
-ghost use Rattle.snl_resolve.specs.Chains.{scopes_of};
+ghost use Rattle.snl_resolve.specs.Chains.{sight_of};
 ghost use Rattle.snl_resolve.specs.Numbered.{number_of};
 ghost use Rattle.snl_resolve.specs.Sites as spec;
 
 use crate::declarations::{note_declaration, note_if_there, note_value};
+use crate::expressions::note_expression;
 use crate::numbered::Numbered;
 use crate::rows::pushed;
-use crate::scopes::Scopes;
 use crate::scoping::block_scope;
-use crate::sites::Site;
+use crate::sights::Sight;
+use crate::sites::{Purpose, Room, Site};
 use snl_syntax::{Block, Declaration, Expr, Header, Stmt};
 use snl_text::Token;
 use std::alloc::{AllocError, Global};
 
+/// What stands round statements, beside what is in sight there.
+#[derive(Clone, Copy)]
+pub struct Around<'n, 'a> {
+    /// Where they stand.
+    pub room: Room,
+    /// The names of the states of their state set.
+    pub states: &'n Numbered<'a>,
+}
+
+impl Room {
+    /// Whether a state may be changed: in a clause's block alone.
+    fn is_clause(self) -> bool
+        ensures { result ≡ spec.is_clause self }
+    {
+        matches!(self, Room::Clause)
+    }
+}
+
 /// Notes the sites between the parentheses of a `for`.
 fn note_header<'a>(
     header: &Header<'a>,
-    scopes: &Scopes<'_, 'a>,
+    sight: &Sight<'_, 'a>,
     sites: &mut Vec<Site<'a>>,
 ) -> Result<(), AllocError>
     ensures { OnOk result (sites.new.items ≡ sites.old.items
-        ++ spec.in_header (scopes_of scopes.now) (header_view header.now)) }
+        ++ spec.in_header (sight_of sight.now) (header_view header.now)) }
 {
-    note_if_there(&header.start, scopes, sites)?;
-    note_if_there(&header.condition, scopes, sites)?;
-    note_if_there(&header.step, scopes, sites)
+    note_if_there(&header.start, sight, sites)?;
+    note_if_there(&header.condition, sight, sites)?;
+    note_if_there(&header.step, sight, sites)
 }
 
 /// Notes the sites in the declarations of a block.
 fn note_declarations<'a>(
     declarations: &[Declaration<'a>],
-    scopes: &Scopes<'_, 'a>,
+    sight: &Sight<'_, 'a>,
     sites: &mut Vec<Site<'a>>,
 ) -> Result<(), AllocError>
     ensures { OnOk result (sites.new.items ≡ sites.old.items
-        ++ flat_map (spec.in_declaration (scopes_of scopes.now) true)
+        ++ flat_map (spec.in_declaration (sight_of sight.now) true)
         (map declaration_view declarations.now)) }
 {
     for declared in declarations {
-        note_declaration(declared, scopes, true, sites)?;
+        note_declaration(declared, sight, true, sites)?;
     }
     Ok(())
 }
@@ -65,18 +84,46 @@ fn note_leave<'a>(
 
 /// Notes a state statement and its target.
 fn note_move<'a>(
-    is_in_clause: bool,
-    states: &Numbered<'a>,
+    around: &Around<'_, 'a>,
     word: Token<'a>,
     name: Token<'a>,
     sites: &mut Vec<Site<'a>>,
 ) -> Result<(), AllocError>
     ensures { OnOk result (sites.new.items ≡ sites.old.items
-        ++ Site.Move word.entry is_in_clause
-        ∷ Site.Target name.entry (number_of states.now name.entry.text.now) is_in_clause ∷ []) }
+        ++ Site.Move word.entry (spec.is_clause around.now.room)
+        ∷ Site.Target name.entry (number_of around.now.states.now name.entry.text.now)
+        (spec.is_clause around.now.room) ∷ []) }
 {
+    let is_in_clause = around.room.is_clause();
     pushed(sites, Site::Move { word, is_in_clause })?;
-    note_target(states, name, is_in_clause, sites)
+    note_target(around.states, name, is_in_clause, sites)
+}
+
+/// Whether a `return` may stand in a place: in a function, with a value where the function has one.
+fn may_return(value: &Option<Box<Expr>>, room: Room) -> bool
+    ensures { result ≡ spec.may_return room (shown boxed value.now) }
+{
+    match room {
+        Room::Function(has_value) => has_value == value.is_some(),
+        _ => false,
+    }
+}
+
+/// Notes a `return`, and the sites in its value.
+fn note_return<'a>(
+    value: &Option<Box<Expr<'a>>>,
+    room: Room,
+    word: Token<'a>,
+    sight: &Sight<'_, 'a>,
+    sites: &mut Vec<Site<'a>>,
+) -> Result<(), AllocError>
+    ensures { OnOk result (sites.new.items ≡ sites.old.items
+        ++ Site.Return word.entry (spec.may_return room (shown boxed value.now))
+        ∷ spec.maybe (spec.in_value (sight_of sight.now)) (shown boxed value.now)) }
+{
+    let may_stand = may_return(value, room);
+    pushed(sites, Site::Return { word, may_stand })?;
+    note_if_there(value, sight, sites)
 }
 
 /// Notes the target of a clause or of a state statement.
@@ -100,52 +147,51 @@ pub fn note_target<'a>(
     )
 }
 
-/// Notes the sites in a statement: in a clause's block or not, beside states of these names, in a
-/// loop or not.
+/// Notes the sites in a statement, in a loop or not.
 #[cycle(statement)]
 fn note_statement<'a>(
     alloc: Global,
     statement: &Stmt<'a>,
-    in_clause: bool,
-    states: &Numbered<'a>,
-    scopes: &Scopes<'_, 'a>,
+    around: &Around<'_, 'a>,
+    sight: &Sight<'_, 'a>,
     in_loop: bool,
     sites: &mut Vec<Site<'a>>,
 ) -> Result<(), AllocError>
     ensures { OnOk result (sites.new.items ≡ sites.old.items
-        ++ spec.in_statement in_clause states.now (scopes_of scopes.now) in_loop
+        ++ spec.in_statement around.now.room around.now.states.now (sight_of sight.now) in_loop
         (statement_view statement.now)) }
 {
     match statement {
         Stmt::Empty => Ok(()),
-        Stmt::Block(block) => note_block(alloc, block, in_clause, states, scopes, in_loop, sites),
-        Stmt::Expression(value) => note_value(value, scopes, sites),
+        Stmt::Block(block) => note_block(alloc, block, around, sight, in_loop, sites),
+        Stmt::Expression(value) => { note_expression(value, false, sight, Purpose::Dropped, sites) }
         Stmt::Break(word) | Stmt::Continue(word) => note_leave(*word, in_loop, sites),
-        Stmt::State { word, name } => note_move(in_clause, states, *word, *name, sites),
+        Stmt::State { word, name } => note_move(around, *word, *name, sites),
+        Stmt::Return { word, value } => note_return(value, around.room, *word, sight, sites),
         Stmt::If { condition, first } => {
-            note_value(condition, scopes, sites)?;
-            note_statement(alloc, first, in_clause, states, scopes, in_loop, sites)
+            note_value(condition, sight, sites)?;
+            note_statement(alloc, first, around, sight, in_loop, sites)
         }
         Stmt::IfElse {
             condition,
             first,
             second,
         } => {
-            note_value(condition, scopes, sites)?;
-            note_statement(alloc, first, in_clause, states, scopes, in_loop, sites)?;
-            note_statement(alloc, second, in_clause, states, scopes, in_loop, sites)
+            note_value(condition, sight, sites)?;
+            note_statement(alloc, first, around, sight, in_loop, sites)?;
+            note_statement(alloc, second, around, sight, in_loop, sites)
         }
         Stmt::While {
             condition,
             body,
             ..
         } => {
-            note_value(condition, scopes, sites)?;
-            note_statement(alloc, body, in_clause, states, scopes, true, sites)
+            note_value(condition, sight, sites)?;
+            note_statement(alloc, body, around, sight, true, sites)
         }
         Stmt::For { header, body, .. } => {
-            note_header(header, scopes, sites)?;
-            note_statement(alloc, body, in_clause, states, scopes, true, sites)
+            note_header(header, sight, sites)?;
+            note_statement(alloc, body, around, sight, true, sites)
         }
     }
 }
@@ -155,18 +201,17 @@ fn note_statement<'a>(
 fn note_statements<'a>(
     alloc: Global,
     statements: &[Stmt<'a>],
-    in_clause: bool,
-    states: &Numbered<'a>,
-    scopes: &Scopes<'_, 'a>,
+    around: &Around<'_, 'a>,
+    sight: &Sight<'_, 'a>,
     in_loop: bool,
     sites: &mut Vec<Site<'a>>,
 ) -> Result<(), AllocError>
     ensures { OnOk result (sites.new.items ≡ sites.old.items
-        ++ spec.in_statements in_clause states.now (scopes_of scopes.now) in_loop (statement_list
+        ++ spec.in_statements around.now.room around.now.states.now (sight_of sight.now) in_loop (statement_list
         (map statement_view statements.now))) }
 {
     for statement in statements {
-        note_statement(alloc, statement, in_clause, states, scopes, in_loop, sites)?;
+        note_statement(alloc, statement, around, sight, in_loop, sites)?;
     }
     Ok(())
 }
@@ -176,26 +221,18 @@ fn note_statements<'a>(
 pub fn note_block<'a>(
     alloc: Global,
     block: &Block<'a>,
-    in_clause: bool,
-    states: &Numbered<'a>,
-    outer: &Scopes<'_, 'a>,
+    around: &Around<'_, 'a>,
+    outer: &Sight<'_, 'a>,
     in_loop: bool,
     sites: &mut Vec<Site<'a>>,
 ) -> Result<(), AllocError>
     ensures { OnOk result (sites.new.items ≡ sites.old.items
-        ++ spec.in_block in_clause states.now (scopes_of outer.now) in_loop
+        ++ spec.in_block around.now.room around.now.states.now (sight_of outer.now) in_loop
         (block_view block.now)) }
 {
-    let scope = block_scope(alloc, block.declarations.as_slice(), outer, sites)?;
-    let scopes = Scopes::Within(&scope, &*outer);
-    note_declarations(block.declarations.as_slice(), &scopes, sites)?;
-    note_statements(
-        alloc,
-        block.statements.as_slice(),
-        in_clause,
-        states,
-        &scopes,
-        in_loop,
-        sites,
-    )
+    let scope = block_scope(alloc, block.declarations.as_slice(), &outer.scopes, sites)?;
+    let sight = (&*outer).within(&scope);
+    note_declarations(block.declarations.as_slice(), &sight, sites)?;
+    let statements = block.statements.as_slice();
+    note_statements(alloc, statements, around, &sight, in_loop, sites)
 }

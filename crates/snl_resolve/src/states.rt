@@ -6,7 +6,7 @@ ghost use Rattle.snl_syntax.specs.view.Expressions.{boxed};
 ghost use Rattle.snl_syntax.specs.view.Statements.{block_view};
 ghost use Rattle.snl_syntax.specs.view.Programs.{target_view, clause_view, state_view};
 ghost use Rattle.snl_resolve.specs.declared.sites.Purpose.{Purpose};
-ghost use Rattle.snl_resolve.specs.Chains.{scopes_of};
+ghost use Rattle.snl_resolve.specs.Chains.{sight_of};
 ghost use Rattle.snl_resolve.specs.Sites.{in_expression, maybe};
 ghost use Rattle.snl_resolve.specs.Programs as spec;
 
@@ -15,9 +15,9 @@ use crate::definitions::note_definitions;
 use crate::expressions::note_expression;
 use crate::numbered::Numbered;
 use crate::rows::pushed;
-use crate::scopes::Scopes;
-use crate::sites::{Purpose, Site};
-use crate::statements::{note_block, note_target};
+use crate::sights::Sight;
+use crate::sites::{Purpose, Room, Site};
+use crate::statements::{Around, note_block, note_target};
 use snl_syntax::{Block, Clause, Expr, State, Target};
 use std::alloc::{AllocError, Global};
 
@@ -25,16 +25,20 @@ use std::alloc::{AllocError, Global};
 pub fn note_plain_block<'a>(
     alloc: Global,
     block: &Option<Box<Block<'a>>>,
-    scopes: &Scopes<'_, 'a>,
+    sight: &Sight<'_, 'a>,
     states: &Numbered<'a>,
     sites: &mut Vec<Site<'a>>,
 ) -> Result<(), AllocError>
     ensures { OnOk result (sites.new.items ≡ sites.old.items
-        ++ maybe (spec.in_plain_block (scopes_of scopes.now) states.now)
+        ++ maybe (spec.in_plain_block (sight_of sight.now) states.now)
         (shown (held block_view) block.now)) }
 {
     if let Some(block) = block {
-        note_block(alloc, block, false, states, scopes, false, sites)?;
+        let around = Around {
+            room: Room::Elsewhere,
+            states,
+        };
+        note_block(alloc, block, &around, sight, false, sites)?;
     }
     Ok(())
 }
@@ -42,15 +46,15 @@ pub fn note_plain_block<'a>(
 /// Notes the sites in the condition of a clause.
 fn note_condition<'a>(
     condition: &Option<Box<Expr<'a>>>,
-    scopes: &Scopes<'_, 'a>,
+    sight: &Sight<'_, 'a>,
     sites: &mut Vec<Site<'a>>,
 ) -> Result<(), AllocError>
     ensures { OnOk result (sites.new.items ≡ sites.old.items
-        ++ maybe (in_expression true (scopes_of scopes.now) Purpose.Read)
+        ++ maybe (in_expression true (sight_of sight.now) Purpose.Read)
         (shown boxed condition.now)) }
 {
     if let Some(condition) = condition {
-        note_expression(condition, true, scopes, Purpose::Read, sites)?;
+        note_expression(condition, true, sight, Purpose::Read, sites)?;
     }
     Ok(())
 }
@@ -71,11 +75,11 @@ fn note_end<'a>(
 }
 
 /// Whether a clause has no condition, or a constant one that does not fault and is not 0.
-fn is_always_true<'a>(clause: &Clause<'a>, scopes: &Scopes<'_, 'a>) -> bool
-    ensures { result ≡ spec.is_always_true (scopes_of scopes.now) (clause_view clause.now) }
+fn is_always_true<'a>(clause: &Clause<'a>, sight: &Sight<'_, 'a>) -> bool
+    ensures { result ≡ spec.is_always_true (sight_of sight.now) (clause_view clause.now) }
 {
     match &clause.condition {
-        Some(condition) => match constant_of(condition, scopes) {
+        Some(condition) => match constant_of(condition, &sight.scopes) {
             Constant::Worth(number) => number != 0,
             _ => false,
         },
@@ -87,18 +91,22 @@ fn is_always_true<'a>(clause: &Clause<'a>, scopes: &Scopes<'_, 'a>) -> bool
 fn note_clause<'a>(
     alloc: Global,
     clause: &Clause<'a>,
-    scopes: &Scopes<'_, 'a>,
+    sight: &Sight<'_, 'a>,
     states: &Numbered<'a>,
     is_blocked: bool,
     sites: &mut Vec<Site<'a>>,
 ) -> Result<(), AllocError>
     ensures { OnOk result (sites.new.items ≡ sites.old.items
-        ++ spec.in_clause (scopes_of scopes.now) states.now is_blocked (clause_view clause.now)) }
+        ++ spec.in_clause (sight_of sight.now) states.now is_blocked (clause_view clause.now)) }
 {
     let word = clause.word;
     pushed(sites, Site::Clause { word, is_blocked })?;
-    note_condition(&clause.condition, scopes, sites)?;
-    note_block(alloc, &clause.block, true, states, scopes, false, sites)?;
+    note_condition(&clause.condition, sight, sites)?;
+    let around = Around {
+        room: Room::Clause,
+        states,
+    };
+    note_block(alloc, &clause.block, &around, sight, false, sites)?;
     note_end(states, clause.target, sites)
 }
 
@@ -106,17 +114,17 @@ fn note_clause<'a>(
 fn note_clauses<'a>(
     alloc: Global,
     clauses: &[Clause<'a>],
-    scopes: &Scopes<'_, 'a>,
+    sight: &Sight<'_, 'a>,
     states: &Numbered<'a>,
     sites: &mut Vec<Site<'a>>,
 ) -> Result<(), AllocError>
     ensures { OnOk result (sites.new.items ≡ sites.old.items
-        ++ spec.in_clauses (scopes_of scopes.now) states.now false (map clause_view clauses.now)) }
+        ++ spec.in_clauses (sight_of sight.now) states.now false (map clause_view clauses.now)) }
 {
     let mut is_blocked = false;
     for clause in clauses {
-        note_clause(alloc, clause, scopes, states, is_blocked, sites)?;
-        is_blocked |= is_always_true(clause, scopes);
+        note_clause(alloc, clause, sight, states, is_blocked, sites)?;
+        is_blocked |= is_always_true(clause, sight);
     }
     Ok(())
 }
@@ -124,43 +132,31 @@ fn note_clauses<'a>(
 /// Notes the sites in the blocks and the clauses of a state, within its own scope.
 fn note_blocks<'a>(
     alloc: Global,
-    entry: &Option<Box<Block<'a>>>,
-    clauses: &[Clause<'a>],
-    exit: &Option<Box<Block<'a>>>,
-    scopes: &Scopes<'_, 'a>,
+    state: &State<'a>,
+    sight: &Sight<'_, 'a>,
     states: &Numbered<'a>,
     sites: &mut Vec<Site<'a>>,
 ) -> Result<(), AllocError>
     ensures { OnOk result (sites.new.items ≡ sites.old.items
-        ++ spec.in_blocks (scopes_of scopes.now) states.now (shown (held block_view) entry.now)
-        (map clause_view clauses.now) (shown (held block_view) exit.now)) }
+        ++ spec.in_blocks (sight_of sight.now) states.now (shown (held block_view) state.now.entry)
+        (map clause_view state.now.clauses.items) (shown (held block_view) state.now.exit)) }
 {
-    note_plain_block(alloc, entry, scopes, states, sites)?;
-    note_clauses(alloc, clauses, scopes, states, sites)?;
-    note_plain_block(alloc, exit, scopes, states, sites)
+    note_plain_block(alloc, &state.entry, sight, states, sites)?;
+    note_clauses(alloc, state.clauses.as_slice(), sight, states, sites)?;
+    note_plain_block(alloc, &state.exit, sight, states, sites)
 }
 
 /// Notes the sites in a state of a state set whose states have these names.
 pub fn note_state<'a>(
     alloc: Global,
     state: &State<'a>,
-    outer: &Scopes<'_, 'a>,
+    outer: &Sight<'_, 'a>,
     states: &Numbered<'a>,
     sites: &mut Vec<Site<'a>>,
 ) -> Result<(), AllocError>
     ensures { OnOk result (sites.new.items ≡ sites.old.items
-        ++ spec.in_state (scopes_of outer.now) states.now (state_view state.now)) }
+        ++ spec.in_state (sight_of outer.now) states.now (state_view state.now)) }
 {
     let scope = note_definitions(alloc, state.definitions.as_slice(), true, outer, sites)?;
-    let clauses = state.clauses.as_slice();
-    let scopes = Scopes::Within(&scope, &*outer);
-    note_blocks(
-        alloc,
-        &state.entry,
-        clauses,
-        &state.exit,
-        &scopes,
-        states,
-        sites,
-    )
+    note_blocks(alloc, state, &outer.within(&scope), states, sites)
 }

@@ -3,17 +3,17 @@
 ghost use Rattle.std.specs.Prelude.{◌≡◌, [], ◌∷◌, ◌++◌, OnOk, IfOk};
 ghost use Rattle.snl_syntax.specs.view.Expressions.{view, list_before};
 ghost use Rattle.snl_syntax.specs.Expressions.{no_arguments};
-ghost use Rattle.snl_resolve.specs.Builtins.{builtin_of as builtin_named};
 ghost use Rattle.snl_resolve.specs.Calls as calls;
-ghost use Rattle.snl_resolve.specs.Chains.{scopes_of};
+ghost use Rattle.snl_resolve.specs.Chains.{scopes_of, sight_of};
 ghost use Rattle.snl_resolve.specs.Scopes.{meaning};
+ghost use Rattle.snl_resolve.specs.Sights.{called};
 ghost use Rattle.snl_resolve.specs.Purposes as spec;
 
-use crate::builtins::builtin_of;
 use crate::calls::is_fitting;
 use crate::purposes::{call_site, change_site, format_site, is_good_decimal, is_step};
 use crate::rows::pushed;
 use crate::scopes::Scopes;
+use crate::sights::Sight;
 use crate::sites::{Purpose, Site};
 use snl_syntax::{Argument, Expr};
 use snl_text::{Kind, Token};
@@ -100,27 +100,25 @@ pub fn note_prefix<'a>(
 /// Notes a call; gives what its arguments are for.
 pub fn note_call<'a>(
     arguments: &[Argument<'a>],
+    sight: &Sight<'_, 'a>,
     purpose: Purpose,
     in_condition: bool,
     name: Token<'a>,
     sites: &mut Vec<Site<'a>>,
 ) -> Result<Purpose, AllocError>
     ensures purpose { IfOk result (λ inside. inside
-        ≡ spec.argument purpose (builtin_named name.entry.text.now)
-        (calls.is_fitting (builtin_named name.entry.text.now)
+        ≡ spec.argument purpose (called (sight_of sight.now) name.entry)
+        (calls.is_fitting (called (sight_of sight.now) name.entry)
         (list_before arguments.now no_arguments))) }
     ensures sites { OnOk result (sites.new.items ≡ sites.old.items
-        ++ spec.at_call purpose in_condition name.entry (builtin_named name.entry.text.now)
-        (calls.is_fitting (builtin_named name.entry.text.now)
+        ++ spec.at_call purpose in_condition name.entry (called (sight_of sight.now) name.entry)
+        (calls.is_fitting (called (sight_of sight.now) name.entry)
         (list_before arguments.now no_arguments)) ∷ []) }
 {
-    let builtin = builtin_of(name.text);
-    let fitting = is_fitting(builtin, arguments);
-    pushed(
-        sites,
-        call_site(purpose, in_condition, name, builtin, fitting),
-    )?;
-    Ok(purpose.argument(builtin, fitting))
+    let kind = sight.called(name);
+    let fitting = is_fitting(arguments, kind);
+    pushed(sites, call_site(purpose, in_condition, name, kind, fitting))?;
+    Ok(purpose.argument(kind, fitting))
 }
 
 /// Notes a string as an argument, with so many arguments after it.

@@ -2,11 +2,13 @@
 
 ghost use Rattle.std.specs.Prelude.{◌≡◌, ◌++◌, map, OnOk, IfOk};
 ghost use Rattle.std.specs.List.{flat_map};
-ghost use Rattle.snl_syntax.specs.view.Declarations.{declaration_view, declarator_view, type_view};
+ghost use Rattle.snl_syntax.specs.view.Declarations.{declaration_view, declarator_view, initialiser_view, type_view};
+ghost use Rattle.snl_syntax.specs.view.Shown.{shown};
 ghost use Rattle.snl_syntax.specs.view.Definitions.{definition_view};
 ghost use Rattle.snl_resolve.specs.Chains.{scopes_of};
 ghost use Rattle.snl_resolve.specs.Scopes.{scope_of};
 ghost use Rattle.snl_resolve.specs.Variables as spec;
+ghost use Rattle.snl_resolve.specs.Held as held;
 ghost use Rattle.snl_resolve.specs.Held.{held_view};
 
 use crate::definition_scopes::definition_names;
@@ -19,7 +21,7 @@ use snl_syntax::{Declaration, Declarator, Def, Initialiser, TypeName};
 use snl_text::Token;
 use std::alloc::{AllocError, Global};
 
-/// A variable of a state set's copy.
+/// A variable of a state set's copy, or of a function.
 #[derive(Clone, Copy)]
 pub struct Held<'p, 'a> {
     /// Its name, with the place of its declaration.
@@ -30,7 +32,17 @@ pub struct Held<'p, 'a> {
     /// What its declaration says of its size.
     pub size: Size,
     /// What it begins with, if anything is written.
-    pub initial: &'p Option<Initialiser<'a>>,
+    pub initial: Option<&'p Initialiser<'a>>,
+}
+
+/// What a variable begins with, if anything is written.
+fn begun<'p, 'a>(initial: &'p Option<Initialiser<'a>>) -> Option<&'p Initialiser<'a>>
+    ensures { held.begun result ≡ shown initialiser_view initial.now }
+{
+    match initial {
+        Some(initial) => Some(initial),
+        None => None,
+    }
 }
 
 /// The variable of a declared name.
@@ -47,7 +59,7 @@ fn held_for<'p, 'a>(
         name: declarator.name,
         range: range_of(type_name).unwrap_or((i64::MIN, i64::MAX)),
         size: size_of(declarator.sizes.as_slice(), scopes),
-        initial: &declarator.initial,
+        initial: begun(&declarator.initial),
     }
 }
 

@@ -9,12 +9,12 @@ use Rattle.snl_resolve.specs.declared.sites.Part.{Part}
 use Rattle.snl_resolve.specs.declared.sites.Sort.{Sort}
 use Rattle.snl_resolve.specs.declared.sites.Sort.TheVariants.{Assign, Monitor}
 use Rattle.snl_resolve.specs.declared.sites.Site.{Site}
-use Rattle.snl_resolve.specs.declared.sites.Site.TheVariants.{Declaration, Defined, Use, State, StateSet}
+use Rattle.snl_resolve.specs.declared.sites.Site.TheVariants.{Declaration, Defined, Use, State, StateSet, Function}
 use Rattle.snl_rules.specs.declared.rules.Broken.{Broken}
 use Rattle.snl_rules.specs.declared.rules.Rule.{Rule}
 use Rattle.snl_rules.specs.declared.rules.Rule.TheVariants as r
 use Rattle.snl_rules.specs.Elements.{is_assign, is_sync}
-use Rattle.snl_rules.specs.Rules.{when, Told, ByElements, Together, Breaks, IsBroken, unused, sets_at, states_at, channels_at}
+use Rattle.snl_rules.specs.Rules.{when, Told, ByElements, Together, Breaks, IsBroken, unused, sets_at, states_at, functions_at, channels_at}
 use Rattle.snl_rules.specs.Tests.{SeenFacts, AllFacts, seen_facts, all_facts, by_elements, together, rules_at, broken_at, broken_from, all_broken}
 use Rattle.snl_rules.proofs.RuleLaws.{twice_decides, unmonitored_decides, unassigned_decides, definition_decides, use_decides, unassigned_use_decides, queue_decides, unused_decides, over_decides}
 
@@ -97,6 +97,8 @@ together_law before all (Use p t m sub) rule =
     (join_law _ _ _ _ rule (when_law _ _ (unassigned_use_decides all p m) r.Unassigned rule) (when_law _ _ (queue_decides all p m) r.NoQueue rule))
 together_law before all (State word t later clauses) rule = when_law _ _ (over_decides 1024 (sum_by states_at before) 1) r.TooManyStates rule
 together_law before all (StateSet word t later) rule = when_law _ _ (over_decides 64 (sum_by sets_at before) 1) r.TooManySets rule
+together_law before all (Function t taken) rule =
+    join_law _ _ _ _ rule (when_law _ _ (unused_decides all t) r.UnusedFunction rule) (when_law _ _ (over_decides 256 (sum_by functions_at before) 1) r.TooManyFunctions rule)
 together_law before all s rule = nothing_law rule
 
 -- all rules of a site

@@ -8,7 +8,7 @@ use Rattle.std.proofs.lemmas.List.Sums.{sum_by_more}
 use Rattle.snl_resolve.specs.declared.sites.Part.{Part}
 use Rattle.snl_resolve.specs.declared.sites.Site.{Site}
 use Rattle.snl_rules.specs.Elements.{part_at, is_assign, is_sync}
-use Rattle.snl_rules.specs.Rules.{sets_at, states_at, channels_at}
+use Rattle.snl_rules.specs.Rules.{sets_at, states_at, functions_at, channels_at}
 use Rattle.snl_rules.specs.Tests.{first_or, first_whole, whole_by, room, room_after, SeenFacts, seen_facts, seen_after}
 use Rattle.snl_rules.proofs.NamedLaws.{named_step}
 
@@ -103,6 +103,7 @@ seen_step all i s h = λ j. record {
   synced = named_step is_sync all i s h j;
   sets = counted 64 sets_at all i s h j;
   states = counted 1024 states_at all i s h j;
+  functions = counted 256 functions_at all i s h j;
   channels = counted 1024 channels_at all i s h j;
 }
 

@@ -19,10 +19,11 @@ same_limit words all e =
     elim (cases_lt 65536 all) [ inl h ↦ lt-ltb 65536 words (omega arith) ∙ sym (lt-ltb 65536 all h) | inr h ↦ le-ltb 65536 words (omega arith) ∙ sym (le-ltb 65536 all h) ]
 
 -- and so with the limit over all
-pub is_above_all : (b : Bool) (stores links s l : ℕ) → b ≡ nat_lt 1048576 (capped (stores + links)) → stores ≡ capped s → links ≡ capped l → (b ≡ true) ↔ (1048576 < s + l)
-is_above_all b stores links s l e es el = (
-  (λ h. let more = ltb-true 1048576 (capped (stores + links)) (sym e ∙ h) in omega arith),
-  (λ h. e ∙ lt-ltb 1048576 (capped (stores + links)) (omega arith)),
+pub is_above_all : (b : Bool) (stores links functions s l f : ℕ) → b ≡ nat_lt 1048576 (capped (capped (stores + links) + functions))
+    → stores ≡ capped s → links ≡ capped l → functions ≡ capped f → (b ≡ true) ↔ (1048576 < s + (l + f))
+is_above_all b stores links functions s l f e es el ef = (
+  (λ h. let more = ltb-true 1048576 (capped (capped (stores + links) + functions)) (sym e ∙ h) in omega arith),
+  (λ h. e ∙ lt-ltb 1048576 (capped (capped (stores + links) + functions)) (omega arith)),
 )
 
 -- The token is the `ss` of an overfull one of these state sets, counted from a number on.

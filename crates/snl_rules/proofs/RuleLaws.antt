@@ -6,6 +6,7 @@ use Rattle.std.proofs.lemmas.Bool.{false≢true, true≢false, eqb-true, eqb-fal
 use Rattle.std.proofs.lemmas.Bool.Decides.{Decides-eqb, Decides-ltb, Decides-and, Decides-or, Decides-not, Decides-like, Decides-at, Decides-below_or}
 use Rattle.std.proofs.lemmas.List.Folds.{Any-from_list_any, list_any-from_Any}
 use Rattle.std.proofs.lemmas.List.Elements.{All-nil, All-cons, All-head, All-tail}
+use Rattle.snl_text.specs.declared.tokens.Pos.{Pos}
 use Rattle.snl_text.specs.declared.tokens.Token.{Token}
 use Rattle.snl_resolve.specs.declared.sites.Extent.{Extent}
 use Rattle.snl_resolve.specs.declared.sites.Extent.TheVariants.{Whole, Front, Element}
@@ -13,17 +14,17 @@ use Rattle.snl_resolve.specs.declared.sites.Meaning.{Meaning}
 use Rattle.snl_resolve.specs.declared.sites.Meaning.TheVariants.{Variable, Flag, Number}
 use Rattle.snl_resolve.specs.declared.sites.Part.{Part}
 use Rattle.snl_resolve.specs.declared.sites.Purpose.{Purpose}
-use Rattle.snl_resolve.specs.declared.sites.Purpose.TheVariants.{Read, Channel, Queued, Flagged, Delayed, Ignored}
+use Rattle.snl_resolve.specs.declared.sites.Purpose.TheVariants.{Read, Channel, Queued, Flagged, Delayed, Dropped, Ignored}
 use Rattle.snl_resolve.specs.declared.sites.Size.{Size}
 use Rattle.snl_resolve.specs.declared.sites.Size.TheVariants.{Scalar}
 use Rattle.snl_resolve.specs.declared.sites.Sort.{Sort}
 use Rattle.snl_resolve.specs.declared.sites.Sort.TheVariants.{Assign, Queue}
 use Rattle.snl_resolve.specs.declared.sites.Site.{Site}
-use Rattle.snl_resolve.specs.declared.sites.Site.TheVariants.{Defined, Use}
+use Rattle.snl_resolve.specs.declared.sites.Site.TheVariants.{Defined, Use, Call}
 use Rattle.snl_resolve.specs.Scopes.{is_array}
 use Rattle.snl_rules.specs.Elements.{is_assign, is_monitor, is_queue, part_at, IsIn, HasElement, IsOf, HasExtent, NamesElement, NamesVariable, SomeElement, FirstAssign, is_whole, AssignedWhole, AssignedByElements}
-use Rattle.snl_rules.specs.Rules.{WrongDefinition, NamedTwice, UnassignedExtent, Unassigned, NotMonitored, WrongChannel, WrongUse, UnassignedUse, WithoutQueue, IsMeant, UsesDeclared, Unused}
-use Rattle.snl_rules.specs.Tests.{is_in, has_element, is_of, names_element, names_variable, some_below, named_of, overlaps, names_again, lacks, lacks_some, whole_by, first_or, first_whole, is_yes, is_no, is_meant, uses_declared, room, is_over, all_facts, is_wrong_definition, is_unassigned_extent, is_unassigned, is_wrong_channel, is_wrong_use, is_unassigned_use, is_without_queue}
+use Rattle.snl_rules.specs.Rules.{WrongDefinition, NamedTwice, UnassignedExtent, Unassigned, NotMonitored, WrongChannel, WrongUse, UnassignedUse, WithoutQueue, IsMeant, IsPlace, UsesDeclared, Unused}
+use Rattle.snl_rules.specs.Tests.{is_in, has_element, is_of, names_element, names_variable, some_below, named_of, overlaps, names_again, lacks, lacks_some, whole_by, first_or, first_whole, is_yes, is_no, is_meant, is_place, uses_declared, room, is_over, all_facts, is_wrong_definition, is_unassigned_extent, is_unassigned, is_wrong_channel, is_wrong_use, is_unassigned_use, is_without_queue}
 
 -- what never holds
 never : Decides false ⊥
@@ -276,6 +277,7 @@ use_decides all Queued (Variable d size) sub = channel_decides all d.offset size
 use_decides all p (Variable d size) sub = plain_decides (is_array size) sub
 use_decides all Read Number sub = itself sub
 use_decides all Delayed Number sub = itself sub
+use_decides all Dropped Number sub = itself sub
 use_decides all p m sub = never
 
 -- E20 in an expression
@@ -289,7 +291,7 @@ pub queue_decides : (all : List Site) (p : Purpose) (m : Meaning) → Decides (i
 queue_decides all Queued (Variable d size) = no_variable_decides is_queue all d.offset
 queue_decides all p m = never
 
--- ---- W5, W6
+-- ---- W5, W6, W8
 
 -- a meaning is a declaration
 meant_decides : (v : ℕ) (m : Meaning) → Decides (is_meant v m) (IsMeant v m)
@@ -297,13 +299,19 @@ meant_decides v (Variable d size) = Decides-eqb d.offset v
 meant_decides v (Flag d) = Decides-eqb d.offset v
 meant_decides v m = never
 
--- a site uses a declaration
+-- a function is at a place
+place_decides : (v : ℕ) (p : Option Pos) → Decides (is_place v p) (IsPlace v p)
+place_decides v None = never
+place_decides v (Some p) = Decides-eqb p.offset v
+
+-- a site uses a declaration or a function
 uses_decides : (v : ℕ) (s : Site) → Decides (uses_declared v s) (UsesDeclared v s)
 uses_decides v (Use p t m sub) = meant_decides v m
 uses_decides v (Defined sort word t m sub wrong part) = meant_decides v m
+uses_decides v (Call t known fitting may valued function) = place_decides v function
 uses_decides v s = never
 
--- W5, W6
+-- W5, W6, W8
 pub unused_decides : (all : List Site) (t : Token) → Decides (not (list_any (uses_declared t.pos.offset) all)) (Unused all t)
 unused_decides all t =
     Decides-not (list_any (uses_declared t.pos.offset) all) (any_decides (uses_declared t.pos.offset) (UsesDeclared t.pos.offset) (uses_decides t.pos.offset) all)

@@ -87,5 +87,6 @@ seen_in s = record {
   synced = named_in s.synced;
   sets = s.sets;
   states = s.states;
+  functions = s.functions;
   channels = s.channels;
 }

@@ -9,3 +9,4 @@ pub mod Counts
 pub mod ReachExamples
 pub mod Laws
 pub mod Examples
+pub mod FunctionExamples

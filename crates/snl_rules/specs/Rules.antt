@@ -1,6 +1,7 @@
 -- The rules: what it is for a site of a program to break one. Each stands beside its number.
 use Rattle.std.specs.Prelude.{◌≡◌, ℕ, ◌+◌, ◌<◌, ◌≤◌, Bool, true, false, not, ◌&&◌, List, [], ◌∷◌, ◌++◌, Option, None, Some, is_some, is_none, IsTrue, ◌⊎◌}
 use Rattle.std.specs.List.{Any, Contains, sum_by}
+use Rattle.snl_text.specs.declared.tokens.Pos.{Pos}
 use Rattle.snl_text.specs.declared.tokens.Token.{Token}
 use Rattle.snl_resolve.specs.declared.sites.Extent.{Extent}
 use Rattle.snl_resolve.specs.declared.sites.Extent.TheVariants.{Whole, Front, Element}
@@ -8,13 +9,13 @@ use Rattle.snl_resolve.specs.declared.sites.Meaning.{Meaning}
 use Rattle.snl_resolve.specs.declared.sites.Meaning.TheVariants.{Variable, Flag, Number, Nothing}
 use Rattle.snl_resolve.specs.declared.sites.Part.{Part}
 use Rattle.snl_resolve.specs.declared.sites.Purpose.{Purpose}
-use Rattle.snl_resolve.specs.declared.sites.Purpose.TheVariants.{Read, Changed, Channel, Queued, Flagged, Delayed, Ignored}
+use Rattle.snl_resolve.specs.declared.sites.Purpose.TheVariants.{Read, Changed, Channel, Queued, Flagged, Delayed, Dropped, Ignored}
 use Rattle.snl_resolve.specs.declared.sites.Size.{Size}
 use Rattle.snl_resolve.specs.declared.sites.Size.TheVariants.{Scalar, TooLong, Wrong}
 use Rattle.snl_resolve.specs.declared.sites.Sort.{Sort}
 use Rattle.snl_resolve.specs.declared.sites.Sort.TheVariants.{Assign, Monitor, Queue}
 use Rattle.snl_resolve.specs.declared.sites.Site.{Site}
-use Rattle.snl_resolve.specs.declared.sites.Site.TheVariants.{Declaration, Typed, Declarator, Defined, QueueSize, Setting, Use, Decimal, Call, Format, Change, Leave, Move, Target, Clause, State, StateSet}
+use Rattle.snl_resolve.specs.declared.sites.Site.TheVariants.{Declaration, Typed, Declarator, Defined, QueueSize, Setting, Use, Decimal, Call, Format, Change, Leave, Move, Target, Clause, State, StateSet, Function, Return}
 use Rattle.snl_resolve.specs.Scopes.{is_array}
 use Rattle.snl_rules.specs.declared.rules.Broken.{Broken}
 use Rattle.snl_rules.specs.declared.rules.Rule.{Rule}
@@ -78,8 +79,13 @@ alone (Setting sign t refused) = when (is_some refused) r.UnknownOption
 alone (Use p t m sub) = when (is_undeclared p m) r.Undeclared ++ when (is_no_variable p m) r.NoVariable ++ when (is_no_flag p m) r.NoFlag
 -- E12
 alone (Decimal t good) = when (not good) r.WrongDecimal
--- E16, E17, E18
-alone (Call t known fitting may) = when (not known) r.UnknownFunction ++ when (not fitting) r.WrongArguments ++ when (not may) r.DelayElsewhere
+-- E16, E17, E18, E34
+alone (Call t known fitting may valued function) =
+    when (not known) r.UnknownFunction ++ when (not fitting) r.WrongArguments ++ when (not may) r.DelayElsewhere ++ when (not valued) r.NoValue
+-- E14 (of a function)
+alone (Function t taken) = when taken r.DeclaredTwice
+-- E35
+alone (Return t may) = when (not may) r.ReturnElsewhere
 -- E32
 alone (Format t good) = when (not good) r.BadFormat
 -- E30
@@ -97,7 +103,7 @@ alone (State word t later clauses) = when later r.StateTwice ++ when (not clause
 -- E24 (of a state set)
 alone (StateSet word t later) = when later r.StateSetTwice
 
--- ---- limits: E04 of state sets, states and channels
+-- ---- limits: E04 of state sets, states, functions and channels
 
 -- With the site the limit is passed, and with those before it alone it was not.
 abbrev pub Passes : ℕ → (Site → ℕ) → List Site → Site → Type 0
@@ -112,6 +118,11 @@ sets_at s = 0
 abbrev pub states_at : Site → ℕ
 states_at (State word t later clauses) = 1
 states_at s = 0
+
+-- One where a function is defined.
+abbrev pub functions_at : Site → ℕ
+functions_at (Function t taken) = 1
+functions_at s = 0
 
 -- One channel for the whole of a variable, else one for each element that there is.
 abbrev pub channels_in : Extent → ℕ
@@ -192,6 +203,7 @@ WrongUse all Queued (Variable d size) sub = WrongChannel all d.offset size sub
 WrongUse all p (Variable d size) sub = sub ≡ not (is_array size)
 WrongUse all Read Number sub = IsTrue sub
 WrongUse all Delayed Number sub = IsTrue sub
+WrongUse all Dropped Number sub = IsTrue sub
 WrongUse all p m sub = ⊥
 
 -- E20 in an expression: the channel or the queue is used of a variable that no `assign` names.
@@ -213,13 +225,19 @@ IsMeant offset (Variable d size) = d.offset ≡ offset
 IsMeant offset (Flag d) = d.offset ≡ offset
 IsMeant offset m = ⊥
 
--- The site has a name that means the declaration at this offset, whatever else is wrong there.
+-- There is a place, and it is at this offset.
+abbrev pub IsPlace : ℕ → Option Pos → Type 0
+IsPlace offset None = ⊥
+IsPlace offset (Some p) = p.offset ≡ offset
+
+-- The site has a name that means the declaration or the function at this offset, whatever else is wrong there.
 abbrev pub UsesDeclared : ℕ → Site → Type 0
 UsesDeclared offset (Use p t m sub) = IsMeant offset m
 UsesDeclared offset (Defined sort word t m sub wrong part) = IsMeant offset m
+UsesDeclared offset (Call t known fitting may valued function) = IsPlace offset function
 UsesDeclared offset s = ⊥
 
--- W5, W6: no name means the declaration.
+-- W5, W6, W8: no name means the declaration or the function.
 abbrev pub Unused : List Site → Token → Type 0
 Unused all t = Any (UsesDeclared t.pos.offset) all → ⊥
 
@@ -247,6 +265,8 @@ Together before all (Use p t m sub) rule =
 Together before all (State word t later clauses) rule = Told (Passes 1024 states_at before (State word t later clauses)) r.TooManyStates rule
 -- E04 (64 state sets)
 Together before all (StateSet word t later) rule = Told (Passes 64 sets_at before (StateSet word t later)) r.TooManySets rule
+-- W8, E04 (256 functions)
+Together before all (Function t taken) rule = Told (Unused all t) r.UnusedFunction rule ⊎ Told (Passes 256 functions_at before (Function t taken)) r.TooManyFunctions rule
 Together before all s rule = ⊥
 
 -- A site breaks a rule, beside the sites before it and all sites.

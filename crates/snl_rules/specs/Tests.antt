@@ -1,25 +1,26 @@
 -- The tests by which the rules are told, on what tables know of the sites before a site and of all sites.
 use Rattle.std.specs.Prelude.{ℕ, zero, suc, ◌-◌, Bool, false, not, ◌&&◌, ◌||◌, ◌==◌, nat_le, nat_lt, List, [], ◌∷◌, ◌++◌, map, Option, None, Some, if◌then◌else◌}
 use Rattle.std.specs.List.{list_any, sum_by}
+use Rattle.snl_text.specs.declared.tokens.Pos.{Pos}
 use Rattle.snl_resolve.specs.declared.sites.Extent.{Extent}
 use Rattle.snl_resolve.specs.declared.sites.Extent.TheVariants.{Whole, Front, Element}
 use Rattle.snl_resolve.specs.declared.sites.Meaning.{Meaning}
 use Rattle.snl_resolve.specs.declared.sites.Meaning.TheVariants.{Variable, Flag, Number}
 use Rattle.snl_resolve.specs.declared.sites.Part.{Part}
 use Rattle.snl_resolve.specs.declared.sites.Purpose.{Purpose}
-use Rattle.snl_resolve.specs.declared.sites.Purpose.TheVariants.{Read, Channel, Queued, Flagged, Delayed, Ignored}
+use Rattle.snl_resolve.specs.declared.sites.Purpose.TheVariants.{Read, Channel, Queued, Flagged, Delayed, Dropped, Ignored}
 use Rattle.snl_resolve.specs.declared.sites.Size.{Size}
 use Rattle.snl_resolve.specs.declared.sites.Size.TheVariants.{Scalar}
 use Rattle.snl_resolve.specs.declared.sites.Sort.{Sort}
 use Rattle.snl_resolve.specs.declared.sites.Sort.TheVariants.{Assign, Monitor, Queue}
 use Rattle.snl_resolve.specs.declared.sites.Site.{Site}
-use Rattle.snl_resolve.specs.declared.sites.Site.TheVariants.{Declaration, Defined, Use, State, StateSet}
+use Rattle.snl_resolve.specs.declared.sites.Site.TheVariants.{Declaration, Defined, Use, Call, State, StateSet, Function}
 use Rattle.snl_resolve.specs.Scopes.{is_array}
 use Rattle.snl_rules.specs.declared.rules.Broken.{Broken}
 use Rattle.snl_rules.specs.declared.rules.Rule.{Rule}
 use Rattle.snl_rules.specs.declared.rules.Rule.TheVariants as r
 use Rattle.snl_rules.specs.Elements.{is_assign, is_monitor, is_queue, is_sync, part_at, is_whole}
-use Rattle.snl_rules.specs.Rules.{when, alone, unused, sets_at, states_at, channels_at}
+use Rattle.snl_rules.specs.Rules.{when, alone, unused, sets_at, states_at, functions_at, channels_at}
 
 -- ---- elements
 
@@ -131,10 +132,16 @@ is_meant offset (Variable d size) = d.offset == offset
 is_meant offset (Flag d) = d.offset == offset
 is_meant offset m = false
 
--- The site has a name that means that declaration.
+-- There is a place, and it is at this offset.
+abbrev pub is_place : ℕ → Option Pos → Bool
+is_place offset None = false
+is_place offset (Some p) = p.offset == offset
+
+-- The site has a name that means that declaration or function.
 abbrev pub uses_declared : ℕ → Site → Bool
 uses_declared offset (Use p t m sub) = is_meant offset m
 uses_declared offset (Defined sort word t m sub wrong part) = is_meant offset m
+uses_declared offset (Call t known fitting may valued function) = is_place offset function
 uses_declared offset s = false
 
 -- ---- limits: how many more are allowed, nothing once the limit is passed
@@ -179,6 +186,7 @@ pub record SeenFacts : Type 0 where
   pub synced : Named
   pub sets : Option ℕ
   pub states : Option ℕ
+  pub functions : Option ℕ
   pub channels : Option ℕ
 
 -- The facts of the sites before a site.
@@ -188,6 +196,7 @@ seen_facts before = record {
   synced = named_of is_sync before;
   sets = room 64 (sum_by sets_at before);
   states = room 1024 (sum_by states_at before);
+  functions = room 256 (sum_by functions_at before);
   channels = room 1024 (sum_by channels_at before);
 }
 
@@ -198,6 +207,7 @@ seen_after f s = record {
   synced = with_part f.synced (part_at is_sync s);
   sets = room_after f.sets (sets_at s);
   states = room_after f.states (states_at s);
+  functions = room_after f.functions (functions_at s);
   channels = room_after f.channels (channels_at s);
 }
 
@@ -253,6 +263,7 @@ is_wrong_use a Queued (Variable d size) sub = is_wrong_channel a d.offset size s
 is_wrong_use a p (Variable d size) sub = is_wrong_plain size sub
 is_wrong_use a Read Number sub = sub
 is_wrong_use a Delayed Number sub = sub
+is_wrong_use a Dropped Number sub = sub
 is_wrong_use a p m sub = false
 
 -- E20 in an expression.
@@ -280,6 +291,7 @@ together f a (Defined sort word t m sub wrong part) =
 together f a (Use p t m sub) = by_use a p m sub
 together f a (State word t later clauses) = when (is_over f.states 1) r.TooManyStates
 together f a (StateSet word t later) = when (is_over f.sets 1) r.TooManySets
+together f a (Function t taken) = when (not (a.used t.pos.offset)) r.UnusedFunction ++ when (is_over f.functions 1) r.TooManyFunctions
 together f a s = []
 
 -- All rules that a site breaks.

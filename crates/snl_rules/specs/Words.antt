@@ -1,5 +1,5 @@
--- How many words a program's stores take, and the buffers and queues of its links.
-use Rattle.std.specs.Prelude.{◌≡◌, ℕ, suc, ◌+◌, ◌*◌, ◌<◌, ◌==◌, List, [], ◌∷◌, slice_get, Option, None, Some, if◌then◌else◌}
+-- How many words a program's stores take, its functions, and the buffers and queues of its links.
+use Rattle.std.specs.Prelude.{◌≡◌, ℕ, suc, ◌+◌, ◌*◌, ◌<◌, ◌==◌, List, [], ◌∷◌, length, slice_get, Option, None, Some, if◌then◌else◌}
 use Rattle.std.specs.List.{sum_by}
 use Rattle.std.specs.Option.{unwrap_or}
 use Rattle.snl_text.specs.declared.tokens.Token.{Token}
@@ -13,7 +13,7 @@ use Rattle.snl_resolve.specs.declared.sites.Site.{Site}
 use Rattle.snl_resolve.specs.declared.sites.Site.TheVariants.{Defined}
 use Rattle.snl_resolve.specs.Programs.{sites}
 use Rattle.snl_resolve.specs.Scopes.{elements, or_in}
-use Rattle.snl_resolve.specs.Variables.{Held, variables_of}
+use Rattle.snl_resolve.specs.Variables.{Held, variables_of, functions_of, shared_variables}
 
 -- ---- the stores of state sets
 
@@ -89,12 +89,18 @@ link_words queue (Some p) = count p.extent + count p.extent * queue p.variable.o
 abbrev pub links_words : List Site → ℕ
 links_words all = sum_by (λ s. link_words (queue_size all) (assigned_by s)) all
 
+-- ---- functions
+
+-- The variables of functions, and a place to return to for each function; all state sets share them.
+abbrev pub function_words : ProgramTree → ℕ
+function_words p = sum_by variable_words (shared_variables p) + length (functions_of p)
+
 -- ---- all in all
 
--- The stores of all state sets, with the buffers and queues of all links.
+-- The stores of all state sets, with the buffers and queues of all links, and what functions take.
 abbrev pub all_words : ProgramTree → ℕ
-all_words p = sets_words p 0 p.state_sets + links_words (sites p)
+all_words p = sets_words p 0 p.state_sets + (links_words (sites p) + function_words p)
 
--- The stores and the links take more than 1,048,576 words.
+-- The stores, the links and the functions take more than 1,048,576 words.
 abbrev pub IsOverfull : ProgramTree → Type 0
 IsOverfull p = 1048576 < all_words p

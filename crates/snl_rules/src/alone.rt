@@ -88,16 +88,19 @@ fn tell_call(
     is_known: bool,
     is_fitting: bool,
     may_stand: bool,
+    has_value: bool,
     found: &mut Vec<Rule>,
 ) -> Result<(), AllocError>
     ensures { OnOk result (found.new.items ≡ found.old.items
         ++ (spec.when (not is_known) Rule.UnknownFunction
         ++ spec.when (not is_fitting) Rule.WrongArguments
-        ++ spec.when (not may_stand) Rule.DelayElsewhere)) }
+        ++ spec.when (not may_stand) Rule.DelayElsewhere
+        ++ spec.when (not has_value) Rule.NoValue)) }
 {
     tell_when(!is_known, Rule::UnknownFunction, found)?;
     tell_when(!is_fitting, Rule::WrongArguments, found)?;
-    tell_when(!may_stand, Rule::DelayElsewhere, found)
+    tell_when(!may_stand, Rule::DelayElsewhere, found)?;
+    tell_when(!has_value, Rule::NoValue, found)
 }
 
 /// Adds what is wrong with a state.
@@ -135,8 +138,11 @@ pub fn tell_alone(site: &Site, found: &mut Vec<Rule>) -> Result<(), AllocError>
             is_known,
             is_fitting,
             may_stand,
+            has_value,
             ..
-        } => tell_call(*is_known, *is_fitting, *may_stand, found),
+        } => tell_call(*is_known, *is_fitting, *may_stand, *has_value, found),
+        Site::Function { is_taken, .. } => tell_when(*is_taken, Rule::DeclaredTwice, found),
+        Site::Return { may_stand, .. } => tell_when(!*may_stand, Rule::ReturnElsewhere, found),
         Site::Format { is_good, .. } => tell_when(!*is_good, Rule::BadFormat, found),
         Site::Change { is_good, .. } => tell_when(!*is_good, Rule::NotAssignable, found),
         Site::Leave { is_in_loop, .. } => tell_when(!*is_in_loop, Rule::OutsideLoop, found),

@@ -18,6 +18,8 @@ use std::alloc::{AllocError, Global};
 const MOST_SETS: usize = 64;
 /// States in all state sets of a program.
 const MOST_STATES: usize = 1024;
+/// Functions of a program.
+const MOST_FUNCTIONS: usize = 256;
 /// Channels of a program.
 const MOST_CHANNELS: usize = 1024;
 
@@ -32,7 +34,7 @@ pub struct Known {
     pub queued: Elements,
     /// Of each variable that is assigned, whether the first `assign` is of its whole.
     firsts: IndexMap<usize, bool>,
-    /// The declarations that some name means.
+    /// The declarations and functions that some name means.
     used: IndexSet<usize>,
 }
 
@@ -47,6 +49,8 @@ pub struct Seen {
     pub sets: Option<usize>,
     /// How many more states, likewise.
     pub states: Option<usize>,
+    /// How many more functions, likewise.
+    pub functions: Option<usize>,
     /// How many more channels, likewise.
     pub channels: Option<usize>,
 }
@@ -86,7 +90,7 @@ fn note_firsts(firsts: &mut IndexMap<usize, bool>, sites: &[Site]) -> Result<(),
     Ok(())
 }
 
-/// Notes the declaration that a site means.
+/// Notes the declaration or the function that a site means.
 fn note_used(used: &mut IndexSet<usize>, site: &Site) -> Result<(), AllocError>
     ensures { OnOk result ((v : ℕ) → contains nat_eq used.new v
         ≡ (contains nat_eq used.old v || tests.uses_declared v site.now)) }
@@ -98,12 +102,18 @@ fn note_used(used: &mut IndexSet<usize>, site: &Site) -> Result<(), AllocError>
             }
             Meaning::Number | Meaning::Nothing => {}
         },
+        Site::Call {
+            function: Some(function),
+            ..
+        } => {
+            used.insert(function.offset)?;
+        }
         _ => {}
     }
     Ok(())
 }
 
-/// Notes the declarations that some site means.
+/// Notes the declarations and functions that some site means.
 fn note_uses(used: &mut IndexSet<usize>, sites: &[Site]) -> Result<(), AllocError>
     requires { (v : ℕ) → contains nat_eq used.old v ≡ false }
     ensures { OnOk result ((v : ℕ) → contains nat_eq used.new v
@@ -149,7 +159,7 @@ impl Known {
         self.firsts.get(&variable).copied()
     }
 
-    /// Whether some name means a declaration.
+    /// Whether some name means a declaration or a function.
     pub fn is_used(&self, declared: usize) -> bool
         ensures { result ≡ (spec.known_in self.now).used declared }
     {
@@ -173,6 +183,16 @@ fn states_at(site: &Site) -> usize
 {
     match site {
         Site::State { .. } => 1,
+        _ => 0,
+    }
+}
+
+/// One where a function is defined.
+fn functions_at(site: &Site) -> usize
+    ensures { result ≡ rules.functions_at site.now }
+{
+    match site {
+        Site::Function { .. } => 1,
         _ => 0,
     }
 }
@@ -220,6 +240,7 @@ impl Seen {
             synced: Elements::new(alloc),
             sets: Some(MOST_SETS),
             states: Some(MOST_STATES),
+            functions: Some(MOST_FUNCTIONS),
             channels: Some(MOST_CHANNELS),
         }
     }
@@ -233,6 +254,7 @@ impl Seen {
         self.synced.note_site(Naming::Syncing, site)?;
         self.sets = room_after(self.sets, sets_at(site));
         self.states = room_after(self.states, states_at(site));
+        self.functions = room_after(self.functions, functions_at(site));
         self.channels = room_after(self.channels, channels_at(site));
         Ok(())
     }

@@ -2,6 +2,7 @@
 
 ghost use Rattle.snl_rules.specs.Laws.{ToldIsBroken};
 ghost use Rattle.snl_rules.specs.Examples.{AssignExamples, LimitExamples, OrderExamples, SyncExamples, UseExamples};
+ghost use Rattle.snl_rules.specs.FunctionExamples.{FunctionExamples, FunctionWords};
 
 /// What the tests tell is what is broken by the rules.
 pub fn told_is_broken()
@@ -31,4 +32,14 @@ pub fn examples_of_uses()
 /// Each limit, reached and passed.
 pub fn examples_of_limits()
     ensures { LimitExamples }
+{}
+
+/// Functions and their calls, and their limit.
+pub fn examples_of_functions()
+    ensures { FunctionExamples }
+{}
+
+/// The words that functions take.
+pub fn examples_of_function_words()
+    ensures { FunctionWords }
 {}

@@ -5,6 +5,7 @@ mod alone;
 mod breaking;
 mod elements;
 mod facts;
+mod function_words;
 pub mod laws;
 mod link_words;
 mod queues;

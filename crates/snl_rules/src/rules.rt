@@ -9,6 +9,8 @@ pub enum Rule {
     TooManySets,
     /// E04: more than 1,024 states in all state sets.
     TooManyStates,
+    /// E04: more than 256 functions.
+    TooManyFunctions,
     /// E04: more than 1,024 channels.
     TooManyChannels,
     /// E04: an array of more than 1,024 elements.
@@ -19,7 +21,7 @@ pub enum Rule {
     WrongDecimal,
     /// E13: a name that no scope declares.
     Undeclared,
-    /// E14: a name that its scope declares before.
+    /// E14: a name that its scope declares before, or a function whose name is taken.
     DeclaredTwice,
     /// E15: an event flag or a predefined name where a variable has to stand.
     NoVariable,
@@ -61,6 +63,10 @@ pub enum Rule {
     BadFormat,
     /// E33: a queue of a size that is not 1 to 4,096.
     QueueSize,
+    /// E34: a call that has no value where one is used.
+    NoValue,
+    /// E35: a `return` outside of functions, or with a value where its function has none, or without.
+    ReturnElsewhere,
     /// W3: a clause after one that is always taken.
     NeverReached,
     /// W4: an element that is synced and that no `monitor` names.
@@ -71,6 +77,8 @@ pub enum Rule {
     UnusedFlag,
     /// W7: a state without clauses.
     NoClauses,
+    /// W8: a function that nothing calls.
+    UnusedFunction,
 }
 
 /// A rule, and a site that breaks it.

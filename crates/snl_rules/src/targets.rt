@@ -27,7 +27,11 @@ fn push_statement<'a>(statement: &Stmt<'a>, names: &mut Vec<Token<'a>>) -> Resul
             push_statement(second, names)?;
         }
         Stmt::While { body, .. } | Stmt::For { body, .. } => push_statement(body, names)?,
-        Stmt::Empty | Stmt::Expression(_) | Stmt::Break(_) | Stmt::Continue(_) => {}
+        Stmt::Empty
+        | Stmt::Expression(_)
+        | Stmt::Break(_)
+        | Stmt::Continue(_)
+        | Stmt::Return { .. } => {}
     }
     Ok(())
 }

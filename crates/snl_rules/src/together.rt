@@ -1,7 +1,8 @@
 //! The rules that a site breaks beside the sites before it and all sites.
 
-ghost use Rattle.std.specs.Prelude.{◌≡◌, ◌++◌, OnOk, Some};
+ghost use Rattle.std.specs.Prelude.{◌≡◌, ◌++◌, not, OnOk, Some};
 ghost use Rattle.snl_resolve.specs.Scopes.{is_array};
+ghost use Rattle.snl_rules.specs.Rules.{when};
 ghost use Rattle.snl_rules.specs.Tests as tests;
 ghost use Rattle.snl_rules.specs.ElementTables as spec;
 
@@ -155,7 +156,7 @@ fn is_wrong_use(known: &Known, purpose: Purpose, meaning: Meaning, has_subscript
             Meaning::Variable(_, size) => is_wrong_subscript(size, has_subscript),
             _ => false,
         },
-        Purpose::Read | Purpose::Delayed => match meaning {
+        Purpose::Read | Purpose::Delayed | Purpose::Dropped => match meaning {
             Meaning::Variable(_, size) => is_wrong_subscript(size, has_subscript),
             Meaning::Number => has_subscript,
             _ => false,
@@ -185,6 +186,21 @@ fn is_without_queue(known: &Known, purpose: Purpose, meaning: Meaning) -> bool
         }
         _ => false,
     }
+}
+
+/// W8 and E04 at a function.
+fn tell_function(
+    seen: &Seen,
+    known: &Known,
+    place: usize,
+    found: &mut Vec<Rule>,
+) -> Result<(), AllocError>
+    ensures { OnOk result (found.new.items ≡ found.old.items
+        ++ (when (not ((spec.known_in known.now).used place)) Rule.UnusedFunction
+        ++ when (tests.is_over (spec.seen_in seen.now).functions 1) Rule.TooManyFunctions)) }
+{
+    tell_when(!known.is_used(place), Rule::UnusedFunction, found)?;
+    tell_when(is_over(seen.functions, 1), Rule::TooManyFunctions, found)
 }
 
 /// E29, E20 and E23 at a name in an expression.
@@ -256,6 +272,7 @@ pub fn tell_together(
         } => tell_use(known, *purpose, *meaning, *has_subscript, found)?,
         Site::State { .. } => tell_when(is_over(seen.states, 1), Rule::TooManyStates, found)?,
         Site::StateSet { .. } => tell_when(is_over(seen.sets, 1), Rule::TooManySets, found)?,
+        Site::Function { name, .. } => tell_function(seen, known, name.pos.offset, found)?,
         _ => {}
     }
     Ok(())

@@ -9,6 +9,7 @@ ghost use Rattle.snl_resolve.specs.Programs as program_sites;
 ghost use Rattle.snl_rules.specs.Words as spec;
 ghost use Rattle.snl_rules.specs.Counts.{IsSharedIn, capped, own_words_in, overfull_at, overfull_from};
 
+use crate::function_words::words_of_functions;
 use crate::link_words::words_of_all_links;
 use snl_resolve::{Held, Scope, Scopes, Site, push_definitions, push_parts};
 use snl_syntax::{Program, StateSet};
@@ -16,7 +17,7 @@ use snl_text::Token;
 use std::alloc::{AllocError, Global};
 
 /// The words of variables, at most 2^64 - 1.
-fn words_of_variables(held: &[Held]) -> u64
+pub fn words_of_variables(held: &[Held]) -> u64
     ensures { result ≡ capped (sum_by spec.variable_words (map held_view held.now)) }
 {
     let mut words: u64 = 0;
@@ -213,20 +214,22 @@ fn words_of_stores(alloc: Global, program: &Program) -> Result<u64, AllocError>
     Ok(words)
 }
 
-/// Whether so many words of stores and of links are more than there may be.
-fn is_above(stores: u64, links: u64) -> bool
-    ensures { result ≡ nat_lt 1048576 (capped (stores + links)) }
+/// Whether so many words of stores, of links and of functions are more than there may be.
+fn is_above(stores: u64, links: u64, functions: u64) -> bool
+    ensures { result ≡ nat_lt 1048576 (capped (capped (stores + links) + functions)) }
 {
-    1_048_576 < stores.saturating_add(links)
+    1_048_576 < stores.saturating_add(links).saturating_add(functions)
 }
 
-/// Whether the stores of all state sets, with the buffers and queues of all links, take more than
-/// 1,048,576 words. The sites are those of the program. The only error is that memory ends.
+/// Whether the stores of all state sets, with the buffers and queues of all links and what functions
+/// take, have more than 1,048,576 words. The sites are those of the program. The only error is that
+/// memory ends.
 pub fn is_overfull(alloc: Global, program: &Program, sites: &[Site]) -> Result<bool, AllocError>
     requires { sites.now ≡ program_sites.sites (program_view program.now) }
     ensures { IfOk result (λ b. (b ≡ true) ↔ spec.IsOverfull (program_view program.now)) }
 {
     let stores = words_of_stores(alloc, program)?;
     let links = words_of_all_links(alloc, sites)?;
-    Ok(is_above(stores, links))
+    let functions = words_of_functions(alloc, program)?;
+    Ok(is_above(stores, links, functions))
 }

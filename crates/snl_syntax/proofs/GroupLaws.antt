@@ -1,5 +1,5 @@
 -- How `a < b < c` is grouped.
-use Rattle.std.proofs.Common.{◌≡◌, ℕ, ◌<◌, ◌≤◌, refl, inl, inr, arith}
+use Rattle.std.proofs.Common.{ℕ, ◌<◌, refl, inl, arith}
 use Rattle.snl_syntax.specs.Expressions.{IsExpr}
 use Rattle.snl_syntax.specs.GroupExamples.{to_the_left, to_the_right, GroupExamples}
 

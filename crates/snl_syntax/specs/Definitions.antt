@@ -2,11 +2,12 @@
 use Rattle.std.specs.Prelude.{◌≡◌, ℕ, Bool, true, false, List, [], ◌∷◌, ◌++◌, Option}
 use Rattle.snl_text.specs.declared.tokens.Token.{Token}
 use Rattle.snl_text.specs.declared.kinds.Kind.{Kind}
-use Rattle.snl_text.specs.declared.kinds.Kind.TheVariants.{Name, Whole, Text, Assign, EventFlag, Monitor, OptionWord, Sync, SyncQueue, To, OpenBrace, CloseBrace, Semicolon, Comma, Plus, Minus}
+use Rattle.snl_text.specs.declared.kinds.Kind.TheVariants.{Name, Whole, Text, Assign, EventFlag, Monitor, OptionWord, Sync, SyncQueue, To, Void, OpenBrace, CloseBrace, Semicolon, Comma, Plus, Minus}
 use Rattle.snl_syntax.specs.Slots.{Slot, The, Sign}
 use Rattle.snl_syntax.specs.Sequences.{between_slots, maybe_slots, IfThere, sign_slots, parted_slots, EachOfSome}
 use Rattle.snl_syntax.specs.Expressions.{ExprTree, IsExpr}
 use Rattle.snl_syntax.specs.Declarations.{starts_declaration, DeclarationTree, bracket_slots, declaration_slots, IsDeclaration}
+use Rattle.snl_syntax.specs.Functions.{FunctionTree, function_slots, IsFunction}
 
 -- A variable, or an element of one.
 pub record PlaceTree : Type 0 where
@@ -48,7 +49,7 @@ pub record SettingTree : Type 0 where
   pub sign : Token
   pub name : Token
 
--- A definition, or an option among definitions.
+-- A definition, or an option or a function among definitions.
 pub data DefinitionTree : Type 0 where
   declaration : DeclarationTree → DefinitionTree
   assign : AssignTree → DefinitionTree
@@ -57,6 +58,7 @@ pub data DefinitionTree : Type 0 where
   sync_queue : QueueTree → DefinitionTree
   event_flags : List Token → DefinitionTree
   setting : SettingTree → DefinitionTree
+  function : FunctionTree → DefinitionTree
 
 -- A kind of token that begins a definition.
 abbrev pub starts_definition : Kind → Bool
@@ -71,6 +73,11 @@ starts_definition k = starts_declaration k
 abbrev pub starts_part : Kind → Bool
 starts_part OptionWord = true
 starts_part k = starts_definition k
+
+-- A kind of token that begins a definition, an option or a function.
+abbrev pub starts_program_part : Kind → Bool
+starts_program_part Void = true
+starts_program_part k = starts_part k
 
 -- The sign of an option.
 abbrev pub is_sign : Kind → Bool
@@ -115,7 +122,7 @@ queue_slots q = The q.word ∷ (place_slots q.place ++ (maybe_slots flag_slots q
 abbrev pub setting_slots : SettingTree → List Slot
 setting_slots o = Sign OptionWord ∷ The o.sign ∷ The o.name ∷ Sign Semicolon ∷ []
 
--- def : decl | assign | 'monitor' place ';' | sync | syncq | 'evflag' NAME ( ',' NAME )* ';' | option
+-- def : decl | assign | 'monitor' place ';' | sync | syncq | 'evflag' NAME ( ',' NAME )* ';' | option | fdef
 abbrev pub definition_slots : DefinitionTree → List Slot
 definition_slots (declaration d) = declaration_slots d
 definition_slots (assign a) = assign_slots a
@@ -124,6 +131,7 @@ definition_slots (sync s) = sync_slots s
 definition_slots (sync_queue q) = queue_slots q
 definition_slots (event_flags names) = between_slots EventFlag (parted_slots Comma token_slots names) Semicolon
 definition_slots (setting o) = setting_slots o
+definition_slots (function f) = function_slots f
 
 -- Well formed, with expressions that are nested at most n deep; the brackets of a place do not count.
 abbrev pub IsPlace : ℕ → PlaceTree → Type 0
@@ -145,7 +153,7 @@ IsQueue n q = (q.word.kind ≡ SyncQueue) × IsPlace n q.place × IfThere (λ f.
 abbrev pub IsSetting : SettingTree → Type 0
 IsSetting o = (is_sign o.sign.kind ≡ true) × (o.name.kind ≡ Name)
 
--- a definition that is no option
+-- a definition that is no option and no function
 abbrev pub IsDefinition : ℕ → DefinitionTree → Type 0
 IsDefinition n (declaration d) = IsDeclaration n d
 IsDefinition n (assign a) = IsAssign n a
@@ -154,8 +162,14 @@ IsDefinition n (sync s) = IsSync n s
 IsDefinition n (sync_queue q) = IsQueue n q
 IsDefinition n (event_flags names) = EachOfSome (λ t. t.kind ≡ Name) names
 IsDefinition n (setting o) = ⊥
+IsDefinition n (function f) = ⊥
 
 -- a definition or an option
 abbrev pub IsPart : ℕ → DefinitionTree → Type 0
 IsPart n (setting o) = IsSetting o
 IsPart n d = IsDefinition n d
+
+-- a definition, an option or a function
+abbrev pub IsProgramPart : ℕ → DefinitionTree → Type 0
+IsProgramPart n (function f) = IsFunction n f
+IsProgramPart n d = IsPart n d

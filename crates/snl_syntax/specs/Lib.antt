@@ -3,6 +3,7 @@ pub mod Slots
 pub mod Sequences
 pub mod Expressions
 pub mod Declarations
+pub mod Functions
 pub mod Definitions
 pub mod Statements
 pub mod Programs

@@ -5,7 +5,7 @@ use Rattle.snl_text.specs.declared.kinds.Kind.TheVariants.{Name, Text, Program, 
 use Rattle.snl_syntax.specs.Slots.{Slot, The, Sign}
 use Rattle.snl_syntax.specs.Sequences.{between_slots, maybe_slots, IfThere, row_slots, Each, EachOfSome}
 use Rattle.snl_syntax.specs.Expressions.{ExprTree, slots, IsExpr}
-use Rattle.snl_syntax.specs.Definitions.{DefinitionTree, token_slots, definition_slots, IsDefinition, IsPart}
+use Rattle.snl_syntax.specs.Definitions.{DefinitionTree, token_slots, definition_slots, IsDefinition, IsPart, IsProgramPart}
 use Rattle.snl_syntax.specs.Statements.{BlockTree, block_slots, IsBlock}
 use Rattle.snl_syntax.specs.Begins.{Sort}
 
@@ -74,7 +74,7 @@ state_set_slots s = The s.word ∷ The s.name ∷ between_slots OpenBrace (row_s
 abbrev pub macros_slots : Token → List Slot
 macros_slots t = between_slots OpenParenthesis (token_slots t) CloseParenthesis
 
--- program : 'program' NAME [ macros ] ( def | option )* [ entry ] ss+ [ exit ]
+-- program : 'program' NAME [ macros ] ( def | option | fdef )* [ entry ] ss+ [ exit ]
 abbrev pub program_slots : ProgramTree → List Slot
 program_slots p = The p.word ∷ The p.name ∷ (maybe_slots macros_slots p.macros ++ (row_slots definition_slots p.definitions ++
     (maybe_slots entry_slots p.entry ++ (row_slots state_set_slots p.state_sets ++ maybe_slots exit_slots p.exit))))
@@ -90,12 +90,12 @@ IsClause n c = (c.word.kind ≡ When) × IfThere (IsExpr n) c.condition × IsBlo
 abbrev pub IsState : ℕ → StateTree → Type 0
 IsState n s = (s.word.kind ≡ State) × (s.name.kind ≡ Name) × Each (IsPart n) s.definitions × IfThere (IsBlock n) s.entry × Each (IsClause n) s.clauses × IfThere (IsBlock n) s.exit
 
--- Options stand in programs and states alone.
+-- Options stand in programs and states alone, and functions in programs alone.
 abbrev pub IsStateSet : ℕ → StateSetTree → Type 0
 IsStateSet n s = (s.word.kind ≡ StateSet) × (s.name.kind ≡ Name) × Each (IsDefinition n) s.definitions × EachOfSome (IsState n) s.states
 
 abbrev pub IsProgram : ℕ → ProgramTree → Type 0
-IsProgram n p = (p.word.kind ≡ Program) × (p.name.kind ≡ Name) × IfThere (λ t. t.kind ≡ Text) p.macros × Each (IsPart n) p.definitions × IfThere (IsBlock n) p.entry × EachOfSome (IsStateSet n) p.state_sets × IfThere (IsBlock n) p.exit
+IsProgram n p = (p.word.kind ≡ Program) × (p.name.kind ≡ Name) × IfThere (λ t. t.kind ≡ Text) p.macros × Each (IsProgramPart n) p.definitions × IfThere (IsBlock n) p.entry × EachOfSome (IsStateSet n) p.state_sets × IfThere (IsBlock n) p.exit
 
 abbrev pub programs : Sort ProgramTree
 programs = record { slots = program_slots; within = IsProgram }

@@ -2,7 +2,7 @@
 use Rattle.std.specs.Prelude.{◌≡◌, ℕ, Bool, true, false, List, [], ◌∷◌, ◌++◌, Option}
 use Rattle.snl_text.specs.declared.tokens.Token.{Token}
 use Rattle.snl_text.specs.declared.kinds.Kind.{Kind}
-use Rattle.snl_text.specs.declared.kinds.Kind.TheVariants.{Name, OpenBrace, CloseBrace, OpenParenthesis, CloseParenthesis, Semicolon, If, Else, While, For, Break, Continue, State}
+use Rattle.snl_text.specs.declared.kinds.Kind.TheVariants.{Name, OpenBrace, CloseBrace, OpenParenthesis, CloseParenthesis, Semicolon, If, Else, While, For, Break, Continue, State, Return}
 use Rattle.snl_syntax.specs.Slots.{Slot, The, Sign}
 use Rattle.snl_syntax.specs.Expressions.{ExprTree, slots, Under, IsExpr}
 use Rattle.snl_syntax.specs.Sequences.{maybe_slots, IfThere, row_slots, Each}
@@ -15,7 +15,7 @@ pub record Header : Type 0 where
   pub step : Option ExprTree
 
 -- Statements without the pointers of the declared ones. Kept are the tokens whose places messages and
--- faults name: `break`, `continue`, the word and the name of a state statement, and the word of a loop.
+-- faults name: `break`, `continue`, `return`, the word and the name of a state statement, and the word of a loop.
 mutual
   pub data StatementTree : Type 0 where
     nested : BlockTree → StatementTree
@@ -24,6 +24,7 @@ mutual
     break_loop : Token → StatementTree
     continue_loop : Token → StatementTree
     change_state : Token → Token → StatementTree
+    return_with : Token → Option ExprTree → StatementTree
     if_then : ExprTree → StatementTree → StatementTree
     if_else : ExprTree → StatementTree → StatementTree → StatementTree
     while_loop : Token → ExprTree → StatementTree → StatementTree
@@ -49,7 +50,7 @@ abbrev pub header_slots : Header → List Slot
 header_slots h = Sign OpenParenthesis ∷ (ended_slots h.start Semicolon ++ (ended_slots h.condition Semicolon ++ ended_slots h.step CloseParenthesis))
 
 -- The spelling, one line a form:
---   stmt  : block | ';' | expr ';' | 'break' ';' | 'continue' ';' | 'state' NAME ';'
+--   stmt  : block | ';' | expr ';' | 'break' ';' | 'continue' ';' | 'state' NAME ';' | 'return' [ expr ] ';'
 --         | 'if' '(' expr ')' stmt [ 'else' stmt ] | 'while' '(' expr ')' stmt | 'for' header stmt
 --   block : '{' decl* stmt* '}'
 abbrev mutual
@@ -60,6 +61,7 @@ abbrev mutual
   statement_slots (break_loop t) = The t ∷ Sign Semicolon ∷ []
   statement_slots (continue_loop t) = The t ∷ Sign Semicolon ∷ []
   statement_slots (change_state t x) = The t ∷ The x ∷ Sign Semicolon ∷ []
+  statement_slots (return_with t e) = The t ∷ ended_slots e Semicolon
   statement_slots (if_then c s) = Sign If ∷ (condition_slots c ++ statement_slots s)
   statement_slots (if_else c s e) = Sign If ∷ (condition_slots c ++ (statement_slots s ++ Sign Else ∷ statement_slots e))
   statement_slots (while_loop t c s) = The t ∷ (condition_slots c ++ statement_slots s)
@@ -95,6 +97,7 @@ abbrev mutual
   IsWellStatement limit (break_loop t) n = t.kind ≡ Break
   IsWellStatement limit (continue_loop t) n = t.kind ≡ Continue
   IsWellStatement limit (change_state t x) n = (t.kind ≡ State) × (x.kind ≡ Name)
+  IsWellStatement limit (return_with t e) n = (t.kind ≡ Return) × IfThere (IsExpr limit) e
   IsWellStatement limit (if_then c s) n = Under n (λ m. IsExpr limit c × IsWellStatement limit s m)
   IsWellStatement limit (if_else c s e) n = Under n (λ m. IsExpr limit c × IsWellStatement limit s m × (is_closed s ≡ true) × IsWellStatement limit e m)
   IsWellStatement limit (while_loop t c s) n = (t.kind ≡ While) × Under n (λ m. IsExpr limit c × IsWellStatement limit s m)

@@ -2,6 +2,7 @@ pub mod Lists
 pub mod Shown
 pub mod Expressions
 pub mod Declarations
-pub mod Definitions
 pub mod Statements
+pub mod Functions
+pub mod Definitions
 pub mod Programs

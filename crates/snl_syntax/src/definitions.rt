@@ -1,9 +1,10 @@
 //! The trees of definitions and options.
 
-use crate::{Declaration, Expr};
+use crate::{Declaration, Expr, Function};
 use snl_text::Token;
 
-/// `decl | assign | monitor | sync | syncq | evflag`, and, in a program and in a state, `option`.
+/// `decl | assign | monitor | sync | syncq | evflag`, in a program and in a state `option`, and in a
+/// program `fdef`.
 #[derive(Drop)]
 pub enum Def<'a> {
     Declaration(Declaration<'a>),
@@ -15,6 +16,7 @@ pub enum Def<'a> {
     /// `evflag : 'evflag' NAME ( ',' NAME )* ';'`, with at least one name.
     EventFlags(Vec<Token<'a>>),
     Setting(Setting<'a>),
+    Function(Box<Function<'a>>),
 }
 
 /// `place : NAME [ '[' expr ']' ]`

@@ -7,6 +7,7 @@
 mod declarations;
 mod definitions;
 mod expressions;
+mod functions;
 mod laws;
 mod programs;
 mod statements;
@@ -14,6 +15,7 @@ mod statements;
 pub use declarations::{Declaration, Declarator, Initialiser, TypeName, Values};
 pub use definitions::{Assign, ChannelNames, Channels, Def, Flag, Place, Setting, Sync, SyncQueue};
 pub use expressions::{Argument, Expr, Term};
+pub use functions::{Function, Parameter, Parameters};
 pub use laws::examples_of_grouping;
 pub use programs::{Clause, Program, State, StateSet, Target};
 pub use statements::{Block, Header, Stmt};

@@ -34,7 +34,7 @@ pub struct StateSet<'a> {
     /// `ss`
     pub word: Token<'a>,
     pub name: Token<'a>,
-    /// No options.
+    /// No options and no functions.
     pub definitions: Vec<Def<'a>>,
     /// At least one; the first is the initial one.
     pub states: Vec<State<'a>>,
@@ -46,6 +46,7 @@ pub struct State<'a> {
     /// `state`
     pub word: Token<'a>,
     pub name: Token<'a>,
+    /// No functions.
     pub definitions: Vec<Def<'a>>,
     pub entry: Option<Box<Block<'a>>>,
     pub clauses: Vec<Clause<'a>>,

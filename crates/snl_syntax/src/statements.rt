@@ -22,6 +22,11 @@ pub enum Stmt<'a> {
         word: Token<'a>,
         name: Token<'a>,
     },
+    /// `return [ expression ] ;`
+    Return {
+        word: Token<'a>,
+        value: Option<Box<Expr<'a>>>,
+    },
     /// `if ( condition ) first` without `else`.
     If {
         condition: Box<Expr<'a>>,

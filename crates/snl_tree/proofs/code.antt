@@ -9,6 +9,7 @@ pub mod ValueTurns
 pub mod Climbing
 pub mod DefinitionForms
 pub mod StatementForms
+pub mod FunctionForms
 pub mod ProgramForms
 pub mod ProgramLess
 pub mod ProgramWithin

@@ -7,10 +7,12 @@ pub mod Theorem
 pub mod Values
 pub mod DeclarationLaws
 pub mod DefinitionLaws
+pub mod OptionLaws
 pub mod Blocks
 pub mod StatementShapes
 pub mod StatementReads
 pub mod StatementLimits
+pub mod FunctionLaws
 pub mod ProgramLaws
 pub mod ProgramParsing
 pub mod OneAnswer

@@ -5,6 +5,7 @@ pub mod Declarations
 pub mod Definitions
 pub mod Statements
 pub mod StatementSteps
+pub mod Functions
 pub mod Programs
 pub mod Moves
 pub mod Sources

@@ -12,6 +12,6 @@ pub use faults::ParseFault;
 pub use parsing::{NESTING_LIMIT, TOKEN_LIMIT, parse};
 pub use snl_syntax::{
     Argument, Assign, Block, ChannelNames, Channels, Clause, Declaration, Declarator, Def, Expr,
-    Flag, Header, Initialiser, Place, Program, Setting, State, StateSet, Stmt, Sync, SyncQueue,
-    Target, Term, TypeName, Values,
+    Flag, Function, Header, Initialiser, Parameter, Parameters, Place, Program, Setting, State,
+    StateSet, Stmt, Sync, SyncQueue, Target, Term, TypeName, Values,
 };

@@ -16,13 +16,14 @@ use std::alloc::Global;
 
 /// How deep expressions and statements may be nested: the most `(`, `[`, prefix operators, `?` and assignment
 /// operators that may be open at a token of an expression, and likewise the most braces, `if`, `else`, `while`
-/// and `for` of a clause's block, an entry or an exit.
+/// and `for` of a clause's block, an entry, an exit or the body of a function.
 pub const NESTING_LIMIT: usize = 64;
 
 /// How many tokens a program may have that is compiled. Past it [`Program::beyond`] is a place.
 pub const TOKEN_LIMIT: usize = 65_536;
 
-/// Reads all the tokens of a source as one program (SNL Reference, on programs, definitions and statements).
+/// Reads all the tokens of a source as one program (SNL Reference, on programs, definitions, statements, and
+/// "Function Definitions").
 /// The program takes the pieces of embedded C, the names of files and the count of tokens along.
 ///
 /// Tokens are named by their number, from 0. `Unexpected` names the first with which no program goes on that

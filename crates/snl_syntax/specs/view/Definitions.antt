@@ -13,10 +13,11 @@ use Rattle.snl_syntax.specs.declared.definitions.Flag.{Flag}
 use Rattle.snl_syntax.specs.declared.definitions.Sync.{Sync}
 use Rattle.snl_syntax.specs.declared.definitions.SyncQueue.{SyncQueue}
 use Rattle.snl_syntax.specs.declared.definitions.Setting.{Setting}
-use Rattle.snl_syntax.specs.view.Shown.{shown}
+use Rattle.snl_syntax.specs.view.Shown.{shown, held}
 use Rattle.snl_syntax.specs.view.Expressions.{boxed}
 use Rattle.snl_syntax.specs.view.Declarations.{declaration_view}
-use Rattle.snl_syntax.specs.Definitions.{PlaceTree, NamesTree, one_name, name_list, ChannelsTree, AssignTree, FlagTree, SyncTree, QueueTree, SettingTree, DefinitionTree, declaration, assign, monitor, sync, sync_queue, event_flags, setting}
+use Rattle.snl_syntax.specs.view.Functions.{function_view}
+use Rattle.snl_syntax.specs.Definitions.{PlaceTree, NamesTree, one_name, name_list, ChannelsTree, AssignTree, FlagTree, SyncTree, QueueTree, SettingTree, DefinitionTree, declaration, assign, monitor, sync, sync_queue, event_flags, setting, function}
 
 abbrev pub place_view : Place → PlaceTree
 place_view p = record { name = p.name; subscript = shown boxed p.subscript }
@@ -54,6 +55,7 @@ definition_view (Declared.Sync s) = sync (sync_view s)
 definition_view (Declared.SyncQueue q) = sync_queue (queue_view q)
 definition_view (Declared.EventFlags v) = event_flags (token_list v)
 definition_view (Declared.Setting s) = setting (setting_view s)
+definition_view (Declared.Function f) = function (held function_view f)
 
 abbrev pub definition_views : Vec Def Global → List DefinitionTree
 definition_views v = map definition_view v.items

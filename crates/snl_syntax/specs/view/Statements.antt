@@ -4,13 +4,13 @@ use Rattle.std.proofs.Common.{Global}
 use Rattle.snl_syntax.specs.declared.declarations.Declaration.{Declaration}
 use Rattle.snl_syntax.specs.declared.statements.Header.{Header}
 use Rattle.snl_syntax.specs.declared.statements.Block.{Block}
-use Rattle.snl_syntax.specs.declared.statements.Stmt.{Stmt, Block', Empty, Expression, Break, Continue, State, If', IfElse', While', For', Row_of-Stmt, end_of-Stmt, more_of-Stmt}
+use Rattle.snl_syntax.specs.declared.statements.Stmt.{Stmt, Block', Empty, Expression, Break, Continue, State, Return, If', IfElse', While', For', Row_of-Stmt, end_of-Stmt, more_of-Stmt}
 use Rattle.snl_syntax.specs.view.Shown.{shown}
 use Rattle.snl_syntax.specs.view.Expressions.{boxed}
 use Rattle.snl_syntax.specs.Declarations.{DeclarationTree}
 use Rattle.snl_syntax.specs.view.Declarations.{declaration_view}
 use Rattle.snl_syntax.specs.Statements as trees
-use Rattle.snl_syntax.specs.Statements.{StatementTree, StatementList, BlockTree, nested, empty, expression, break_loop, continue_loop, change_state, if_then, if_else, while_loop, for_loop, no_statements, statement, block}
+use Rattle.snl_syntax.specs.Statements.{StatementTree, StatementList, BlockTree, nested, empty, expression, break_loop, continue_loop, change_state, return_with, if_then, if_else, while_loop, for_loop, no_statements, statement, block}
 use Rattle.snl_syntax.specs.view.Lists.{statement_list}
 
 abbrev pub header_view : Header → trees.Header
@@ -27,6 +27,7 @@ abbrev mutual
   statement_view (Break t) = break_loop t
   statement_view (Continue t) = continue_loop t
   statement_view (State t x) = change_state t x
+  statement_view (Return t e) = return_with t (shown boxed e)
   statement_view (If' c p s) = if_then (boxed c) (statement_view s)
   statement_view (IfElse' c p s q e) = if_else (boxed c) (statement_view s) (statement_view e)
   statement_view (While' t c p s) = while_loop t (boxed c) (statement_view s)

@@ -33,3 +33,7 @@ pub unbuilt : {A B : Type 0} (tree : A) (halt : Halt) → ((left : List Token) �
 unbuilt {A} {B} tree halts.Stuck h left r = absurd (let e = h [] in cc)
 unbuilt {A} {B} tree halts.Deep h left r = absurd (let e = h [] in cc)
 unbuilt {A} {B} tree halts.Memory h left r = tt
+
+-- where memory ended, nothing is said of what is read
+pub no_room : {B : Type 0} (halt : Halt) → halt ≡ halts.Memory → (left : List Token) (r : Read B) → Fails halt left r
+no_room halt e left r = subst (λ h. Fails h left r) (sym e) tt

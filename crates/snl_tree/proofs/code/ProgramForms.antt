@@ -5,6 +5,7 @@ use Rattle.snl_text.specs.declared.kinds.Kind.TheVariants.{Name, Program, StateS
 use Rattle.snl_syntax.specs.Kinds.{is}
 use Rattle.snl_tree.specs.reading.Readers.{one, sign, ◌>>=◌}
 use Rattle.snl_tree.specs.reading.Definitions.{definitions_at, parts_at}
+use Rattle.snl_tree.specs.reading.Functions.{program_parts_at}
 use Rattle.snl_tree.specs.reading.Statements.{block_at}
 use Rattle.snl_tree.specs.reading.Programs.{target_at, condition_at, clause_at, entry_at, exit_at, clauses_at, state_at, states_at, state_set_at, state_sets_at, macros_at, program_at}
 use Rattle.snl_tree.proofs.code.Forms.{bind_assoc}
@@ -28,7 +29,7 @@ unfolding state_set_at
 state_set_form n ts = simp bind_assoc
 
 -- a program is read as its word, a name and its parts
-pub program_form : (n : ℕ) (ts : List Token) → program_at n ts ≡ (one (is Program) ts >>= λ a. one (is Name) a.1 >>= λ b. macros_at b.1 >>= λ c. parts_at n c.1 >>= λ d. entry_at n d.1 >>= λ e.
+pub program_form : (n : ℕ) (ts : List Token) → program_at n ts ≡ (one (is Program) ts >>= λ a. one (is Name) a.1 >>= λ b. macros_at b.1 >>= λ c. program_parts_at n c.1 >>= λ d. entry_at n d.1 >>= λ e.
     state_sets_at n e.1 >>= λ f. exit_at n f.1 >>= λ g. Ok (record { word = a.0; name = b.0; macros = c.0; definitions = d.0; entry = e.0; state_sets = f.0; exit = g.0 }, g.1))
 unfolding program_at
 program_form n ts = simp bind_assoc

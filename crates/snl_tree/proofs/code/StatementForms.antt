@@ -2,15 +2,15 @@
 use Rattle.std.proofs.Common.{◌≡◌, ℕ, zero, suc, ◌-◌, ◌<◌, length, Bool, true, false, true≢false, List, [], ◌∷◌, Ok, Err, Some, None, ◌⊎◌, inl, inr, refl, sym, ap, ◌∙◌, subst}
 use Rattle.snl_text.specs.declared.tokens.Token.{Token}
 use Rattle.snl_text.specs.declared.kinds.Kind.{Kind}
-use Rattle.snl_text.specs.declared.kinds.Kind.TheVariants.{Name, OpenBrace, CloseBrace, Semicolon, If, Else, While, For, Break, Continue, State}
+use Rattle.snl_text.specs.declared.kinds.Kind.TheVariants.{Name, OpenBrace, CloseBrace, Semicolon, If, Else, While, For, Break, Continue, State, Return}
 use Rattle.snl_syntax.specs.Kinds.{is}
 use Rattle.snl_tree.specs.reading.Readers.{Stuck, Deep, Read, Reader, starts, one, sign, both, nothing, under, ◌>>=◌}
 use Rattle.snl_tree.specs.reading.Sequences.{before}
 use Rattle.snl_syntax.specs.Expressions.{ExprTree}
 use Rattle.snl_tree.specs.reading.Expressions.{inside, level_at, opened}
-use Rattle.snl_syntax.specs.Statements.{Header, StatementTree, nested, empty, expression, break_loop, continue_loop, change_state, if_then, if_else, while_loop, for_loop, block, statement_slots, is_closed}
+use Rattle.snl_syntax.specs.Statements.{Header, StatementTree, nested, empty, expression, break_loop, continue_loop, change_state, return_with, if_then, if_else, while_loop, for_loop, block, statement_slots, is_closed}
 use Rattle.snl_syntax.specs.view.Lists.{statement_list}
-use Rattle.snl_tree.specs.reading.Statements.{condition_at, header_at, Inner, declarations_at, statements_at, block_of, empty_at, expression_statement_at, break_at, continue_at, change_state_at, else_at, if_tree, if_at, while_at, for_at, word_statement_at, statement_of, statements_inside, statement_at, block_at}
+use Rattle.snl_tree.specs.reading.Statements.{condition_at, ended_at, header_at, Inner, declarations_at, statements_at, block_of, empty_at, expression_statement_at, break_at, continue_at, change_state_at, return_at, else_at, if_tree, if_at, while_at, for_at, word_statement_at, statement_of, statements_inside, statement_at, block_at}
 use Rattle.snl_tree.specs.reading.StatementSteps.{ended_word_at, statement_row_at, if_rest}
 use Rattle.snl_tree.proofs.spelling.Laws.{Ends, Sound}
 use Rattle.snl_tree.proofs.spelling.Choices.{true_is}
@@ -149,12 +149,13 @@ module _ (l : ℕ) (i : Inner) (h : Tidy i) where
 
   -- a statement that nests none leaves no `else` that it would take
   leaves_word : (ts : List Token) → Leaves is_closed (word_statement_at l ts)
-  unfolding word_statement_at break_at continue_at change_state_at expression_statement_at
+  unfolding word_statement_at break_at continue_at change_state_at return_at expression_statement_at
   leaves_word ts =
       leaves_choice (starts (is Break) ts) _ _ (leaves_free break_loop is_closed (λ _. refl) (before (one (is Break)) Semicolon ts))
       (leaves_choice (starts (is Continue) ts) _ _ (leaves_free continue_loop is_closed (λ _. refl) (before (one (is Continue)) Semicolon ts))
       (leaves_choice (starts (is State) ts) _ _ (leaves_free (λ x. change_state x.0 x.1) is_closed (λ _. refl) (both (one (is State)) (λ _. before (one (is Name)) Semicolon) ts))
-      (leaves_free expression is_closed (λ _. refl) (before (level_at (inside l) 15) Semicolon ts))))
+      (leaves_choice (starts (is Return) ts) _ _ (leaves_free (λ x. return_with x.0 x.1) is_closed (λ _. refl) (both (one (is Return)) (λ _. ended_at l Semicolon) ts))
+      (leaves_free expression is_closed (λ _. refl) (before (level_at (inside l) 15) Semicolon ts)))))
 
   -- a statement leaves no `else` that it would take where those nested in it do not
   leaves_statement : (ts : List Token) → Leaves is_closed (statement_of l i ts)
@@ -246,8 +247,13 @@ change_form : (ts : List Token) → change_state_at ts ≡ (one (is State) ts >>
 unfolding change_state_at ended_word_at
 change_form ts = simp bind_assoc
 
+-- a `return` is read as its word, and an expression that may be missing with a semicolon
+pub return_form : (l : ℕ) (ts : List Token) → return_at l ts ≡ (one (is Return) ts >>= λ x. ended_at l Semicolon x.1 >>= λ y. Ok (return_with x.0 y.0, y.1))
+unfolding return_at
+return_form l ts = simp bind_assoc
+
 -- an expression as a statement is read as the expression and a semicolon
-expression_form : (l : ℕ) (ts : List Token) → expression_statement_at l ts ≡ (level_at (inside l) 15 ts >>= λ x. sign Semicolon x.1 >>= λ y. Ok (expression x.0, y.1))
+pub expression_form : (l : ℕ) (ts : List Token) → expression_statement_at l ts ≡ (level_at (inside l) 15 ts >>= λ x. sign Semicolon x.1 >>= λ y. Ok (expression x.0, y.1))
 unfolding expression_statement_at
 expression_form l ts = simp bind_assoc
 
@@ -258,13 +264,13 @@ pub word_statement_form : (l : ℕ) (ts : List Token) → word_statement_at l ts
     | true ↦ (ended_word_at Continue ts >>= λ x. Ok (continue_loop x.0, x.1))
     | false ↦ elim (starts (is State) ts) [
       | true ↦ (one (is State) ts >>= λ x. ended_word_at Name x.1 >>= λ y. Ok (change_state x.0 y.0, y.1))
-      | false ↦ (level_at (inside l) 15 ts >>= λ x. sign Semicolon x.1 >>= λ y. Ok (expression x.0, y.1))
+      | false ↦ elim (starts (is Return) ts) [ true ↦ return_at l ts | false ↦ expression_statement_at l ts ]
     ]
   ]
 ]
 unfolding word_statement_at break_at continue_at ended_word_at
 word_statement_form l ts =
-    elim_same (starts (is Break) ts) _ _ _ _ refl (elim_same (starts (is Continue) ts) _ _ _ _ refl (elim_same (starts (is State) ts) _ _ _ _ (change_form ts) (expression_form l ts)))
+    elim_same (starts (is Break) ts) _ _ _ _ refl (elim_same (starts (is Continue) ts) _ _ _ _ refl (elim_same (starts (is State) ts) _ _ _ _ (change_form ts) refl))
 
 -- a statement is read by the sign or word that it begins with
 pub statement_form : (l n : ℕ) (ts : List Token) → statement_at l n ts ≡ elim (starts (is OpenBrace) ts) [

@@ -6,7 +6,7 @@ use Rattle.snl_tree.specs.declared.readers.cursor.Halt.{Halt}
 use Rattle.snl_tree.specs.declared.readers.cursor.Halt.TheVariants as halts
 use Rattle.snl_syntax.specs.Kinds.{is}
 use Rattle.snl_tree.specs.reading.Readers as reading
-use Rattle.snl_tree.specs.reading.Readers.{Fault, Read, Reader, starts, many, ◌>>=◌}
+use Rattle.snl_tree.specs.reading.Readers.{Fault, Read, Reader, starts, many, made, ◌>>=◌}
 use Rattle.snl_tree.specs.reading.Moves.{Fails}
 use Rattle.snl_tree.specs.reading.Sequences.{behind, some_of, parted}
 use Rattle.snl_tree.proofs.code.Loops.{many_turn, many_stop, map_snoc}
@@ -56,6 +56,11 @@ pub found_part : {A X : Type 0} (k : Kind) (item : Reader A) (show : X → A) (t
     → item ts ≡ Ok (show x, rest) → Found (is k) (behind k item) show (parted k item ts) items rest
 found_part k item show ts rest x items empty v w e =
     subst (λ z. Found (is k) (behind k item) show (parted k item ts) z rest) (sym (begun x empty items v w)) (first_of (is k) item (behind k item) show ts rest x e)
+
+-- with a first thing that was read before, those that are left are read
+pub found_after : {A X : Type 0} (test : Kind → Bool) (item : Reader A) (show : X → A) (ts : List Token) (x : X) (items empty : List X) → empty ≡ [] → items ≡ empty ++ x ∷ []
+    → Found test item show (made (λ xs. show x ∷ xs) (many test item) ts) items ts
+found_after test item show ts x items empty v w = subst (λ z. Found test item show (made (λ xs. show x ∷ xs) (many test item) ts) z ts) (sym (begun x empty items v w)) refl
 
 -- a fault in the first
 

@@ -61,7 +61,7 @@ no_close CloseParenthesis e = absurd (true≢false (sym e))
 no_close _ e = refl
 
 -- the reader of an expression that may be missing before a semicolon is right
-right_semicolon : Right (ended_form Semicolon) (λ n. ended_at n Semicolon)
+pub right_semicolon : Right (ended_form Semicolon) (λ n. ended_at n Semicolon)
 right_semicolon = right_ended Semicolon (lit< tt) no_semicolon refl
 
 -- the reader of an expression that may be missing before a closing parenthesis is right

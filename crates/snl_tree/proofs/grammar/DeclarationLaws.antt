@@ -10,7 +10,7 @@ use Rattle.snl_tree.specs.reading.Sequences.{maybe, behind, before, between}
 use Rattle.snl_syntax.specs.Expressions.{ExprTree, slots}
 use Rattle.snl_tree.specs.reading.Expressions.{inside, level_at}
 use Rattle.snl_syntax.specs.Declarations.{starts_declaration, may_be_unsigned, is_second, TypeTree, ValueList, InitialiserTree, single, listed, DeclaratorTree, DeclarationTree, type_slots, initialiser_slots, declarator_slots, declaration_slots, IsType, IsInitialiser, IsDeclarator, IsDeclaration}
-use Rattle.snl_tree.specs.reading.Declarations.{type_at, bracket_at, sizes_at, values_at, initialiser, initialiser_at, declarator_at, declarators_at, declaration_at}
+use Rattle.snl_tree.specs.reading.Declarations.{type_at, bracket_at, sizes_at, values_at, initialiser, initialiser_at, ends_at, declarator_at, more_declarators_at, declarators_at, declaration_at}
 use Rattle.snl_tree.proofs.spelling.Laws.{Links}
 use Rattle.snl_tree.proofs.spelling.Choices.{Heads, is_true, true_is}
 use Rattle.snl_tree.proofs.grammar.Shapes.{can_open, heads_opens, avoids_heads}
@@ -146,11 +146,16 @@ abbrev pub declarator_form : Form DeclaratorTree
 declarator_form = record { slots = declarator_slots; good = IsDeclarator; follow = λ _ k. EndsItem k }
 
 -- all that belongs to a declared name
-abbrev ends_form : Form (List ExprTree × Option InitialiserTree)
+abbrev pub ends_form : Form (List ExprTree × Option InitialiserTree)
 ends_form = both_form sizes_form (λ _. initial_form)
 
+-- a comma or a semicolon may follow all that belongs to a declared name
+pub ends_follow : (x : List ExprTree × Option InitialiserTree) (k : Kind) → EndsItem k → ends_form.follow x k
+ends_follow x k e = initial_follow x.1 k e
+
 -- the reader of all that belongs to a declared name is right
-right_ends : Right ends_form (λ n. both (sizes_at n) (λ _. maybe (is Equal) (behind Equal (initialiser_at n))))
+pub right_ends : Right ends_form ends_at
+unfolding ends_at
 right_ends = right_both sizes_form (λ _. initial_form) sizes_at (λ n _. maybe (is Equal) (behind Equal (initialiser_at n))) right_sizes (λ _. right_initial) (λ _ _ o _ _. initial_link o)
 
 -- the reader of declared names is right
@@ -158,11 +163,22 @@ pub right_declarator : Right declarator_form declarator_at
 unfolding declarator_at
 right_declarator =
     right_made (both_form (one_form (is Name)) (λ _. ends_form)) declarator_form (λ x. record { name = x.0; sizes = x.1.0; initial = x.1.1 })
-    (λ n. both (one (is Name)) (λ _. both (sizes_at n) (λ _. maybe (is Equal) (behind Equal (initialiser_at n)))))
-    (right_both (one_form (is Name)) (λ _. ends_form) (λ _. one (is Name)) (λ n _. both (sizes_at n) (λ _. maybe (is Equal) (behind Equal (initialiser_at n)))) (right_kind Name) (λ _. right_ends)
+    (λ n. both (one (is Name)) (λ _. ends_at n))
+    (right_both (one_form (is Name)) (λ _. ends_form) (λ _. one (is Name)) (λ n _. ends_at n) (right_kind Name) (λ _. right_ends)
     (λ _ _ b _ _. links_any (λ _. Unit {0}) (ends_form.follow b) (ends_form.slots b) (λ _. tt)))
     (λ n x g. ((is_true Name x.0.kind g.0, g.1.0, g.1.1), refl)) (λ n d g. ((d.name, (d.sizes, d.initial)), (true_is Name d.name.kind g.0, (g.1, g.2)), refl))
-    (λ n x g k f. initial_follow x.1.1 k f)
+    (λ n x g k f. ends_follow x.1 k f)
+
+-- further declared names, each after a comma, before a semicolon
+abbrev pub more_form : Form (List DeclaratorTree)
+more_form = many_form (behind_form Comma declarator_form) (λ k. k ≡ Semicolon)
+
+-- the reader of further declared names is right
+pub right_more_declarators : Right more_form more_declarators_at
+unfolding more_declarators_at
+right_more_declarators = right_many (is Comma) (behind_form Comma declarator_form) (λ k. k ≡ Semicolon) (λ n. behind Comma (declarator_at n))
+    (right_behind Comma declarator_form declarator_at right_declarator) (λ _ _ _. refl) (λ k e. subst (λ z. is Comma z ≡ false) (sym e) refl)
+    (λ _ _ _ k e. inl (is_true Comma k e)) (λ _ _ _ k e. inr e)
 
 -- declared names with commas between them, before a semicolon
 abbrev pub declarators_form : Form (List DeclaratorTree)

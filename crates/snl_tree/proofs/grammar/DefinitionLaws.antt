@@ -1,23 +1,23 @@
--- The readers of definitions and options are right.
+-- The readers of definitions are right.
 use Rattle.std.proofs.Common.{◌≡◌, ℕ, ◌<◌, length, Ok, Bool, true, false, true≢false, List, [], ◌∷◌, ◌++◌, Option, Some, None, ◌⊎◌, inl, inr, refl, sym, ap, subst, append-nil}
 use Rattle.snl_text.specs.declared.tokens.Token.{Token}
 use Rattle.snl_text.specs.declared.kinds.Kind.{Kind}
-use Rattle.snl_text.specs.declared.kinds.Kind.TheVariants.{Name, Whole, Text, Assign, EventFlag, Monitor, OptionWord, Sync, SyncQueue, To, Plus, OpenBrace, CloseBrace, OpenBracket, Semicolon, Comma}
+use Rattle.snl_text.specs.declared.kinds.Kind.TheVariants.{Name, Whole, Text, Assign, EventFlag, Monitor, Sync, SyncQueue, To, OpenBrace, CloseBrace, OpenBracket, Semicolon, Comma}
 use Rattle.snl_syntax.specs.Kinds.{is}
 use Rattle.snl_syntax.specs.Slots.{Slot, The}
 use Rattle.snl_tree.specs.reading.Readers.{one, both, either}
 use Rattle.snl_syntax.specs.Sequences.{EachOfSome, Each, IfThere, sign_slots}
 use Rattle.snl_tree.specs.reading.Sequences.{maybe, whether, behind, before, between, parted}
 use Rattle.snl_syntax.specs.Expressions.{ExprTree}
-use Rattle.snl_syntax.specs.Declarations.{starts_declaration}
+use Rattle.snl_syntax.specs.Declarations.{starts_declaration, DeclarationTree}
 use Rattle.snl_tree.specs.reading.Declarations.{bracket_at, declaration_at}
-use Rattle.snl_syntax.specs.Definitions.{PlaceTree, NamesTree, one_name, name_list, ChannelsTree, AssignTree, FlagTree, SyncTree, QueueTree, SettingTree, DefinitionTree, declaration, assign, monitor, sync, sync_queue, event_flags, setting, starts_definition, starts_part, is_sign, place_slots, names_slots, channels_slots, assign_slots, flag_slots, sync_slots, queue_slots, setting_slots, definition_slots, IsPlace, AreNames, IsAssign, IsSync, IsQueue, IsSetting, IsDefinition, IsPart}
-use Rattle.snl_tree.specs.reading.Definitions.{place_at, strings_at, channel_names, names_at, channels_at, starts_channels, assign_at, monitor_at, flag_at, starts_flag, sync_at, queue_at, flags_at, event_flags_at, setting_at, FormOfDefinition, definition, definition_at, part, part_at, definitions_at, parts_at}
+use Rattle.snl_syntax.specs.Definitions.{PlaceTree, NamesTree, one_name, name_list, ChannelsTree, AssignTree, FlagTree, SyncTree, QueueTree, DefinitionTree, declaration, assign, monitor, sync, sync_queue, event_flags, setting, function, starts_definition, place_slots, names_slots, channels_slots, assign_slots, flag_slots, sync_slots, queue_slots, definition_slots, IsPlace, AreNames, IsAssign, IsSync, IsQueue, IsDefinition}
+use Rattle.snl_tree.specs.reading.Definitions.{place_at, strings_at, channel_names, names_at, channels_at, starts_channels, assign_at, monitor_at, flag_at, starts_flag, sync_at, queue_at, flags_at, event_flags_at, FormOfOther, other, other_at, definition, definition_at, definitions_at}
 use Rattle.snl_tree.proofs.spelling.Laws.{Links}
 use Rattle.snl_tree.proofs.spelling.Choices.{Heads, is_true, true_is}
 use Rattle.snl_tree.proofs.grammar.Shapes.{avoids_heads}
 use Rattle.snl_tree.proofs.grammar.Inside.{links_any}
-use Rattle.snl_tree.proofs.spelling.Rights.{Form, Right, token_of, one_form, right_one, right_kind, both_form, right_both, right_made, either_form, right_either, maybe_form, right_maybe, whether_form, right_whether, behind_form, right_behind, before_form, right_before, between_form, right_between, many_form, right_many, parted_form, right_parted, right_less}
+use Rattle.snl_tree.proofs.spelling.Rights.{Form, Right, one_form, right_kind, both_form, right_both, right_made, either_form, right_either, maybe_form, right_maybe, whether_form, right_whether, behind_form, right_behind, before_form, right_before, between_form, right_between, many_form, right_many, parted_form, right_parted, right_less}
 use Rattle.snl_tree.proofs.grammar.DeclarationLaws.{bracket_form, right_bracket, declaration_form, right_declaration, declaration_heads}
 
 -- places
@@ -361,26 +361,6 @@ pub right_event_flags : Right event_flags_form (λ _. event_flags_at)
 unfolding event_flags_at
 right_event_flags = right_between EventFlag (tokens_form Name) (λ _. flags_at) Semicolon right_flags (λ _ _ _. refl)
 
--- options
-
--- an option, up to its semicolon
-abbrev pub setting_form : Form SettingTree
-setting_form = record { slots = setting_slots; good = λ _. IsSetting; follow = λ _ _. Unit {0} }
-
--- the sign and the name of an option, and the semicolon
-abbrev signed_form : Form (Token × Token)
-signed_form = both_form (one_form is_sign) (λ _. before_form (one_form (is Name)) Semicolon)
-
--- the reader of options is right
-pub right_setting : Right setting_form (λ _. setting_at)
-unfolding setting_at
-right_setting =
-    right_made (behind_form OptionWord signed_form) setting_form (λ x. record { sign = x.0; name = x.1 }) (λ _. behind OptionWord (both (one is_sign) (λ _. before (one (is Name)) Semicolon)))
-    (right_behind OptionWord signed_form (λ _. both (one is_sign) (λ _. before (one (is Name)) Semicolon))
-    (right_both (one_form is_sign) (λ _. before_form (one_form (is Name)) Semicolon) (λ _. one is_sign) (λ _ _. before (one (is Name)) Semicolon) (right_one is_sign (token_of Plus) refl)
-    (λ _. right_before (one_form (is Name)) (λ _. one (is Name)) Semicolon (right_kind Name) (λ _ _ _. tt)) (λ _ _ _ _ _. tt)))
-    (λ n x g. ((g.0, is_true Name x.1.kind g.1), refl)) (λ n o g. ((o.sign, o.name), (g.0, true_is Name o.name.kind g.1), refl)) (λ n x g k f. tt)
-
 -- all definitions
 
 -- a queue or event flags
@@ -395,13 +375,9 @@ from_sync = either_form sync_form queue_or_flags
 abbrev from_monitor : Form (PlaceTree ⊎ (SyncTree ⊎ (QueueTree ⊎ List Token)))
 from_monitor = either_form monitor_form from_sync
 
--- all definitions but declarations
+-- the forms of all definitions but declarations
 abbrev from_assign : Form (AssignTree ⊎ (PlaceTree ⊎ (SyncTree ⊎ (QueueTree ⊎ List Token))))
 from_assign = either_form assign_form from_monitor
-
--- all forms of definitions
-abbrev any_form : Form FormOfDefinition
-any_form = either_form declaration_form from_assign
 
 -- a condition that the words `monitor`, `sync`, `syncq` and `evflag` pass
 abbrev Words : (Kind → Type 0) → Type 0
@@ -423,17 +399,14 @@ monitor_heads n P (inl p) w g = w.0
 monitor_heads n P (inr x) w g = sync_heads n P x w.1 w.2 w.3 g
 
 -- a definition that is no declaration begins with its word
-assign_heads : (n : ℕ) (P : Kind → Type 0) (x : AssignTree ⊎ (PlaceTree ⊎ (SyncTree ⊎ (QueueTree ⊎ List Token)))) → P Assign → Words P → from_assign.good n x → Heads P (from_assign.slots x)
+assign_heads : (n : ℕ) (P : Kind → Type 0) (x : FormOfOther) → P Assign → Words P → from_assign.good n x → Heads P (from_assign.slots x)
 assign_heads n P (inl a) w v g = subst P (sym g.0) w
 assign_heads n P (inr x) w v g = monitor_heads n P x v g
 
--- the choice between the readers of all definitions is right
-right_any : Right any_form (λ n. either starts_declaration (declaration_at n)
-    (either (is Assign) (assign_at n) (either (is Monitor) (monitor_at n) (either (is Sync) (sync_at n) (either (is SyncQueue) (queue_at n) event_flags_at)))))
+-- the choice between the readers of all definitions but declarations is right
+right_any : Right from_assign (λ n. either (is Assign) (assign_at n) (either (is Monitor) (monitor_at n) (either (is Sync) (sync_at n) (either (is SyncQueue) (queue_at n) event_flags_at))))
 right_any =
-    right_either starts_declaration declaration_form from_assign declaration_at (λ n. either (is Assign) (assign_at n)
-    (either (is Monitor) (monitor_at n) (either (is Sync) (sync_at n) (either (is SyncQueue) (queue_at n) event_flags_at)))) right_declaration
-    (right_either (is Assign) assign_form from_monitor assign_at (λ n. either (is Monitor) (monitor_at n) (either (is Sync) (sync_at n) (either (is SyncQueue) (queue_at n) event_flags_at)))
+    right_either (is Assign) assign_form from_monitor assign_at (λ n. either (is Monitor) (monitor_at n) (either (is Sync) (sync_at n) (either (is SyncQueue) (queue_at n) event_flags_at)))
     right_assign
     (right_either (is Monitor) monitor_form from_sync monitor_at (λ n. either (is Sync) (sync_at n) (either (is SyncQueue) (queue_at n) event_flags_at)) right_monitor
     (right_either (is Sync) sync_form queue_or_flags sync_at (λ n. either (is SyncQueue) (queue_at n) event_flags_at) right_sync
@@ -441,65 +414,112 @@ right_any =
     (λ _ _ _. refl) (λ n x g. avoids_heads (is Sync) (queue_or_flags.follow x) (queue_or_flags.slots x) (queue_heads n (λ k. is Sync k ≡ false) x refl refl g)))
     (λ _ _ _. refl) (λ n x g. avoids_heads (is Monitor) (from_sync.follow x) (from_sync.slots x) (sync_heads n (λ k. is Monitor k ≡ false) x refl refl refl g)))
     (λ _ a g. true_is Assign a.word.kind g.0) (λ n x g. avoids_heads (is Assign) (from_monitor.follow x) (from_monitor.slots x)
-    (monitor_heads n (λ k. is Assign k ≡ false) x (refl, refl, refl, refl) g)))
-    declaration_heads (λ n x g. avoids_heads starts_declaration (from_assign.follow x) (from_assign.slots x) (assign_heads n (λ k. starts_declaration k ≡ false) x refl (refl, refl, refl, refl) g))
+    (monitor_heads n (λ k. is Assign k ≡ false) x (refl, refl, refl, refl) g))
 
--- a definition that is no option, which anything may follow
+-- a well-formed definition that is no declaration, no option and no function
+abbrev pub IsOther : ℕ → DefinitionTree → Type 0
+IsOther n (declaration d) = ⊥
+IsOther n d = IsDefinition n d
+
+-- a definition that is no declaration, which anything may follow
+abbrev pub other_form : Form DefinitionTree
+other_form = record { slots = definition_slots; good = IsOther; follow = λ _ _. Unit {0} }
+
+-- any kind may follow each form of a definition that is no declaration
+other_free : (x : FormOfOther) (k : Kind) → from_assign.follow x k
+other_free (inl a) k = tt
+other_free (inr (inl p)) k = tt
+other_free (inr (inr (inl s))) k = tt
+other_free (inr (inr (inr (inl q)))) k = tt
+other_free (inr (inr (inr (inr names)))) k = tt
+
+-- the reader of definitions that are no declarations is right
+pub right_other : Right other_form other_at
+unfolding other_at
+right_other =
+    right_made from_assign other_form other
+    (λ n. either (is Assign) (assign_at n) (either (is Monitor) (monitor_at n) (either (is Sync) (sync_at n) (either (is SyncQueue) (queue_at n) event_flags_at))))
+    right_any into onto (λ n x g k f. other_free x k)
+  where
+    into : (n : ℕ) (x : FormOfOther) → from_assign.good n x → IsOther n (other x) × (definition_slots (other x) ≡ from_assign.slots x)
+    into n (inl a) g = (g, refl)
+    into n (inr (inl p)) g = (g, refl)
+    into n (inr (inr (inl s))) g = (g, refl)
+    into n (inr (inr (inr (inl q)))) g = (g, refl)
+    into n (inr (inr (inr (inr names)))) g = (some_is Name names g, refl)
+
+    onto : (n : ℕ) (d : DefinitionTree) → IsOther n d → (x : FormOfOther) × from_assign.good n x × (other x ≡ d)
+    onto n (declaration d) g = absurd g
+    onto n (assign a) g = (inl a, g, refl)
+    onto n (monitor p) g = (inr (inl p), g, refl)
+    onto n (sync s) g = (inr (inr (inl s)), g, refl)
+    onto n (sync_queue q) g = (inr (inr (inr (inl q))), g, refl)
+    onto n (event_flags names) g = (inr (inr (inr (inr names))), is_some Name names g, refl)
+    onto n (setting o) g = absurd g
+    onto n (function f) g = absurd g
+
+-- a definition that is no declaration begins with the word of one of five
+pub other_heads : (n : ℕ) (P : Kind → Type 0) (d : DefinitionTree) → P Assign → P Monitor × P Sync × P SyncQueue × P EventFlag → IsOther n d → Heads P (definition_slots d)
+other_heads n P (declaration d) w v g = absurd g
+other_heads n P (assign a) w v g = subst P (sym g.0) w
+other_heads n P (monitor p) w v g = v.0
+other_heads n P (sync s) w v g = v.1
+other_heads n P (sync_queue q) w v g = subst P (sym g.0) v.2
+other_heads n P (event_flags names) w v g = v.3
+other_heads n P (setting o) w v g = absurd g
+other_heads n P (function f) w v g = absurd g
+
+-- a declaration, or a definition that is none
+abbrev any_form : Form (DeclarationTree ⊎ DefinitionTree)
+any_form = either_form declaration_form other_form
+
+-- a definition that is no option and no function, which anything may follow
 abbrev pub definition_form : Form DefinitionTree
 definition_form = record { slots = definition_slots; good = IsDefinition; follow = λ _ _. Unit {0} }
 
 -- any kind may follow each form of a definition
-any_free : (x : FormOfDefinition) (k : Kind) → any_form.follow x k
+any_free : (x : DeclarationTree ⊎ DefinitionTree) (k : Kind) → any_form.follow x k
 any_free (inl d) k = tt
-any_free (inr (inl a)) k = tt
-any_free (inr (inr (inl p))) k = tt
-any_free (inr (inr (inr (inl s)))) k = tt
-any_free (inr (inr (inr (inr (inl q))))) k = tt
-any_free (inr (inr (inr (inr (inr names))))) k = tt
+any_free (inr d) k = tt
 
 -- the reader of definitions is right
 pub right_definition : Right definition_form definition_at
 unfolding definition_at
 right_definition =
-    right_made any_form definition_form definition (λ n. either starts_declaration (declaration_at n)
-    (either (is Assign) (assign_at n) (either (is Monitor) (monitor_at n) (either (is Sync) (sync_at n) (either (is SyncQueue) (queue_at n) event_flags_at)))))
-    right_any into onto (λ n x g k f. any_free x k)
+    right_made any_form definition_form definition (λ n. either starts_declaration (declaration_at n) (other_at n))
+    (right_either starts_declaration declaration_form other_form declaration_at other_at right_declaration right_other declaration_heads
+    (λ n d g. avoids_heads starts_declaration (λ _. Unit {0}) (definition_slots d) (other_heads n (λ k. starts_declaration k ≡ false) d refl (refl, refl, refl, refl) g)))
+    into onto (λ n x g k f. any_free x k)
   where
-    into : (n : ℕ) (x : FormOfDefinition) → any_form.good n x → IsDefinition n (definition x) × (definition_slots (definition x) ≡ any_form.slots x)
+    into : (n : ℕ) (x : DeclarationTree ⊎ DefinitionTree) → any_form.good n x → IsDefinition n (definition x) × (definition_slots (definition x) ≡ any_form.slots x)
     into n (inl d) g = (g, refl)
-    into n (inr (inl a)) g = (g, refl)
-    into n (inr (inr (inl p))) g = (g, refl)
-    into n (inr (inr (inr (inl s)))) g = (g, refl)
-    into n (inr (inr (inr (inr (inl q))))) g = (g, refl)
-    into n (inr (inr (inr (inr (inr names))))) g = (some_is Name names g, refl)
+    into n (inr (declaration d)) g = absurd g
+    into n (inr (assign a)) g = (g, refl)
+    into n (inr (monitor p)) g = (g, refl)
+    into n (inr (sync s)) g = (g, refl)
+    into n (inr (sync_queue q)) g = (g, refl)
+    into n (inr (event_flags names)) g = (g, refl)
+    into n (inr (setting o)) g = absurd g
+    into n (inr (function f)) g = absurd g
 
-    onto : (n : ℕ) (d : DefinitionTree) → IsDefinition n d → (x : FormOfDefinition) × any_form.good n x × (definition x ≡ d)
+    onto : (n : ℕ) (d : DefinitionTree) → IsDefinition n d → (x : DeclarationTree ⊎ DefinitionTree) × any_form.good n x × (definition x ≡ d)
     onto n (declaration d) g = (inl d, g, refl)
-    onto n (assign a) g = (inr (inl a), g, refl)
-    onto n (monitor p) g = (inr (inr (inl p)), g, refl)
-    onto n (sync s) g = (inr (inr (inr (inl s))), g, refl)
-    onto n (sync_queue q) g = (inr (inr (inr (inr (inl q)))), g, refl)
-    onto n (event_flags names) g = (inr (inr (inr (inr (inr names)))), is_some Name names g, refl)
+    onto n (assign a) g = (inr (assign a), g, refl)
+    onto n (monitor p) g = (inr (monitor p), g, refl)
+    onto n (sync s) g = (inr (sync s), g, refl)
+    onto n (sync_queue q) g = (inr (sync_queue q), g, refl)
+    onto n (event_flags names) g = (inr (event_flags names), g, refl)
     onto n (setting o) g = absurd g
+    onto n (function f) g = absurd g
 
 -- what begins a declaration begins a definition
-declaration_starts : (k : Kind) → starts_declaration k ≡ true → starts_definition k ≡ true
+pub declaration_starts : (k : Kind) → starts_declaration k ≡ true → starts_definition k ≡ true
 declaration_starts Assign e = refl
 declaration_starts Monitor e = refl
 declaration_starts Sync e = refl
 declaration_starts SyncQueue e = refl
 declaration_starts EventFlag e = refl
 declaration_starts _ e = e
-
--- what begins a definition begins a definition or an option
-definition_starts : (k : Kind) → starts_definition k ≡ true → starts_part k ≡ true
-definition_starts OptionWord e = refl
-definition_starts _ e = e
-
--- what begins a definition is not the word `option`
-no_option : (k : Kind) → starts_definition k ≡ true → is OptionWord k ≡ false
-no_option OptionWord e = absurd (true≢false (sym e))
-no_option _ e = refl
 
 -- a definition begins with a word that begins definitions
 pub definition_heads : (n : ℕ) (d : DefinitionTree) → IsDefinition n d → Heads (λ k. starts_definition k ≡ true) (definition_slots d)
@@ -510,60 +530,12 @@ definition_heads n (sync s) g = refl
 definition_heads n (sync_queue q) g = ap starts_definition g.0
 definition_heads n (event_flags names) g = refl
 definition_heads n (setting o) g = absurd g
-
--- with options among them
-
--- a definition or an option, which anything may follow
-abbrev pub part_form : Form DefinitionTree
-part_form = record { slots = definition_slots; good = IsPart; follow = λ _ _. Unit {0} }
+definition_heads n (function f) g = absurd g
 
 -- slots whose first passes one condition pass a weaker one
-heads_more : (P Q : Kind → Type 0) (ss : List Slot) → ((k : Kind) → P k → Q k) → Heads P ss → Heads Q ss
+pub heads_more : (P Q : Kind → Type 0) (ss : List Slot) → ((k : Kind) → P k → Q k) → Heads P ss → Heads Q ss
 heads_more P Q [] f h = h
 heads_more P Q (s ∷ ss) f h = f _ h
-
--- the reader of definitions and options is right
-pub right_part : Right part_form part_at
-unfolding part_at
-right_part = right_made (either_form setting_form definition_form) part_form part (λ n. either (is OptionWord) setting_at (definition_at n))
-    (right_either (is OptionWord) setting_form definition_form (λ _. setting_at) definition_at right_setting right_definition (λ _ _ _. refl)
-    (λ n d g. avoids_heads (is OptionWord) (λ _. Unit {0}) (definition_slots d) (heads_more (λ k. starts_definition k ≡ true) (λ k. is OptionWord k ≡ false) (definition_slots d) no_option
-    (definition_heads n d g))))
-    into onto follows
-  where
-    into : (n : ℕ) (x : SettingTree ⊎ DefinitionTree) → (either_form setting_form definition_form).good n x
-        → IsPart n (part x) × (definition_slots (part x) ≡ (either_form setting_form definition_form).slots x)
-    into n (inl o) g = (g, refl)
-    into n (inr (setting o)) g = absurd g
-    into n (inr (declaration d)) g = (g, refl)
-    into n (inr (assign a)) g = (g, refl)
-    into n (inr (monitor p)) g = (g, refl)
-    into n (inr (sync s)) g = (g, refl)
-    into n (inr (sync_queue q)) g = (g, refl)
-    into n (inr (event_flags names)) g = (g, refl)
-
-    onto : (n : ℕ) (d : DefinitionTree) → IsPart n d → (x : SettingTree ⊎ DefinitionTree) × (either_form setting_form definition_form).good n x × (part x ≡ d)
-    onto n (setting o) g = (inl o, g, refl)
-    onto n (declaration d) g = (inr (declaration d), g, refl)
-    onto n (assign a) g = (inr (assign a), g, refl)
-    onto n (monitor p) g = (inr (monitor p), g, refl)
-    onto n (sync s) g = (inr (sync s), g, refl)
-    onto n (sync_queue q) g = (inr (sync_queue q), g, refl)
-    onto n (event_flags names) g = (inr (event_flags names), g, refl)
-
-    follows : (n : ℕ) (x : SettingTree ⊎ DefinitionTree) → (either_form setting_form definition_form).good n x → (k : Kind) → Unit {0} → (either_form setting_form definition_form).follow x k
-    follows n (inl o) g k f = tt
-    follows n (inr d) g k f = tt
-
--- a definition or an option begins with a word that begins either
-pub part_heads : (n : ℕ) (d : DefinitionTree) → IsPart n d → Heads (λ k. starts_part k ≡ true) (definition_slots d)
-part_heads n (setting o) g = refl
-part_heads n (declaration d) g = definition_starts d.type_name.word.kind (definition_heads n (declaration d) g)
-part_heads n (assign a) g = ap starts_part g.0
-part_heads n (monitor p) g = refl
-part_heads n (sync s) g = refl
-part_heads n (sync_queue q) g = ap starts_part g.0
-part_heads n (event_flags names) g = refl
 
 -- rows of them
 
@@ -576,15 +548,6 @@ pub right_definitions : (P : Kind → Type 0) → ((k : Kind) → P k → starts
 unfolding definitions_at
 right_definitions P stop = right_many starts_definition definition_form P definition_at right_definition definition_heads stop (λ _ _ _ _ _. tt) (λ _ _ _ _ _. tt)
 
--- a row of definitions and options, which the kinds of P may follow
-abbrev pub parts_form : (Kind → Type 0) → Form (List DefinitionTree)
-parts_form P = many_form part_form P
-
--- the reader of rows of definitions and options is right where what follows begins none
-pub right_parts : (P : Kind → Type 0) → ((k : Kind) → P k → starts_part k ≡ false) → Right (parts_form P) parts_at
-unfolding parts_at
-right_parts P stop = right_many starts_part part_form P part_at right_part part_heads stop (λ _ _ _ _ _. tt) (λ _ _ _ _ _. tt)
-
 -- fewer tokens are left after each
 
 -- fewer tokens are left after a definition
@@ -592,10 +555,6 @@ pub definition_less : (n : ℕ) (ts rest : List Token) (d : DefinitionTree) → 
 definition_less n ts rest d h =
     right_less definition_form definition_at right_definition (λ n d g. heads_more (λ k. starts_definition k ≡ true) (λ _. Unit {0}) (definition_slots d) (λ _ _. tt) (definition_heads n d g)) n
     ts rest d h
-
--- fewer tokens are left after a definition or an option
-pub part_less : (n : ℕ) (ts rest : List Token) (d : DefinitionTree) → part_at n ts ≡ Ok (d, rest) → length rest < length ts
-part_less n ts rest d h = right_less part_form part_at right_part (λ n d g. heads_more (λ k. starts_part k ≡ true) (λ _. Unit {0}) (definition_slots d) (λ _ _. tt) (part_heads n d g)) n ts rest d h
 
 -- fewer tokens are left after a comma and a token
 pub next_token_less : (K : Kind) (ts rest : List Token) (t : Token) → behind Comma (one (is K)) ts ≡ Ok (t, rest) → length rest < length ts

@@ -11,8 +11,9 @@ use Rattle.snl_syntax.specs.Sequences.{IfThere, EachOfSome, row_slots}
 use Rattle.snl_tree.specs.reading.Sequences.{maybe, behind, between}
 use Rattle.snl_syntax.specs.Expressions.{ExprTree}
 use Rattle.snl_tree.specs.reading.Expressions.{inside, level_at, is_no_close}
-use Rattle.snl_syntax.specs.Definitions.{DefinitionTree, starts_definition, starts_part, definition_slots}
+use Rattle.snl_syntax.specs.Definitions.{DefinitionTree, starts_definition, starts_part, starts_program_part, definition_slots}
 use Rattle.snl_tree.specs.reading.Definitions.{definitions_at, parts_at}
+use Rattle.snl_tree.specs.reading.Functions.{program_parts_at}
 use Rattle.snl_syntax.specs.Statements.{BlockTree}
 use Rattle.snl_tree.specs.reading.Statements.{block_at}
 use Rattle.snl_syntax.specs.Programs.{TargetTree, to_state, to_exit, ClauseTree, StateTree, StateSetTree, ProgramTree, target_slots, clause_slots, state_slots, state_set_slots, program_slots, IsTarget, IsClause, IsState, IsStateSet, IsProgram}
@@ -24,8 +25,10 @@ use Rattle.snl_tree.proofs.grammar.Shapes.{heads_opens, open_no_close}
 use Rattle.snl_tree.proofs.grammar.Inside.{links_any}
 use Rattle.snl_tree.proofs.spelling.Rights.{Form, Right, one_form, right_kind, sign_form, right_sign, both_form, right_both, right_made, either_form, right_either, maybe_form, right_maybe, behind_form, right_behind, between_form, right_between, many_form, right_many, some_form, right_some_of}
 use Rattle.snl_tree.proofs.grammar.Values.{expression_form, right_expression}
-use Rattle.snl_tree.proofs.grammar.DefinitionLaws.{heads_links, definitions_form, right_definitions, part_heads, parts_form, right_parts}
+use Rattle.snl_tree.proofs.grammar.DefinitionLaws.{heads_links, definitions_form, right_definitions}
+use Rattle.snl_tree.proofs.grammar.OptionLaws.{parts_form, right_parts}
 use Rattle.snl_tree.proofs.grammar.StatementLimits.{later_form, right_later, block_form, right_block}
+use Rattle.snl_tree.proofs.grammar.FunctionLaws.{program_part_heads, program_parts_form, right_program_parts}
 
 -- one of some kinds
 
@@ -323,14 +326,14 @@ BehindAll k = Among (Entry ∷ StateSet ∷ []) k
 
 -- what may come after the name and the macros of a program: a definition, its entry or a state set
 abbrev BehindMacros : Kind → Type 0
-BehindMacros k = (starts_part k ≡ true) ⊎ BehindAll k
+BehindMacros k = (starts_program_part k ≡ true) ⊎ BehindAll k
 
 -- what may come after the macros is no opening parenthesis
 no_parenthesis : (k : Kind) → BehindMacros k → is OpenParenthesis k ≡ false
 no_parenthesis k (inr e) = among (λ z. is OpenParenthesis z ≡ false) (Entry ∷ StateSet ∷ []) k (refl, (refl, tt)) e
 no_parenthesis k (inl e) = go k e
   where
-    go : (k : Kind) → starts_part k ≡ true → is OpenParenthesis k ≡ false
+    go : (k : Kind) → starts_program_part k ≡ true → is OpenParenthesis k ≡ false
     go OpenParenthesis e = sym e
     go _ e = refl
 
@@ -393,26 +396,27 @@ entered_link n P a b (Some body, x) g = a
 
 -- the definitions of a program, and all after them
 abbrev defined_form : Form (List DefinitionTree × (Option BlockTree × (List StateSetTree × Option BlockTree)))
-defined_form = both_form (later_form (parts_form BehindAll)) (λ _. entered_form)
+defined_form = both_form (program_parts_form BehindAll) (λ _. entered_form)
 
 -- a definition, the entry or a state set may follow the macros
 macros_link : (n : ℕ) (o : Option Token) (x : List DefinitionTree × (Option BlockTree × (List StateSetTree × Option BlockTree))) → defined_form.good n x
     → Links (macros_form.follow o) (defined_form.follow x) (defined_form.slots x)
 macros_link n (Some t) x g = free (defined_form.follow x) (defined_form.slots x)
 macros_link n None ([], x) g = entered_link n BehindMacros (inr (inl refl)) (inr (inr (inl refl))) x g.1
-macros_link n None (d ∷ all, x) g = heads_links (λ k. starts_part k ≡ true) BehindMacros (entered_form.follow x) (definition_slots d ++ row_slots definition_slots all) (entered_form.slots x)
-    (heads_append (λ k. starts_part k ≡ true) (definition_slots d) (row_slots definition_slots all) (part_heads (suc n) d g.0.0)) (λ k e. inl e)
+macros_link n None (d ∷ all, x) g = heads_links (λ k. starts_program_part k ≡ true) BehindMacros (entered_form.follow x) (definition_slots d ++ row_slots definition_slots all) (entered_form.slots x)
+    (heads_append (λ k. starts_program_part k ≡ true) (definition_slots d) (row_slots definition_slots all) (program_part_heads (suc n) d g.0.0)) (λ k e. inl e)
 
 -- all of a program after its name
 abbrev behind_name : Form (Option Token × (List DefinitionTree × (Option BlockTree × (List StateSetTree × Option BlockTree))))
 behind_name = both_form macros_form (λ _. defined_form)
 
 -- the reader of all of a program after its name is right
-right_behind_name : Right behind_name (λ n. both macros_at (λ _. both (parts_at (suc n)) (λ _. both (entry_at (suc n)) (λ _. both (state_sets_at (suc n)) (λ _. exit_at (suc n))))))
+right_behind_name : Right behind_name (λ n. both macros_at (λ _. both (program_parts_at (suc n)) (λ _. both (entry_at (suc n)) (λ _. both (state_sets_at (suc n)) (λ _. exit_at (suc n))))))
 right_behind_name =
-    right_both macros_form (λ _. defined_form) (λ _. macros_at) (λ n _. both (parts_at (suc n)) (λ _. both (entry_at (suc n)) (λ _. both (state_sets_at (suc n)) (λ _. exit_at (suc n))))) right_macros
-    (λ _. right_both (later_form (parts_form BehindAll)) (λ _. entered_form) (λ n. parts_at (suc n)) (λ n _. both (entry_at (suc n)) (λ _. both (state_sets_at (suc n)) (λ _. exit_at (suc n))))
-    (right_later (parts_form BehindAll) parts_at (right_parts BehindAll (λ k e. among (λ z. starts_part z ≡ false) (Entry ∷ StateSet ∷ []) k (refl, (refl, tt)) e)))
+    right_both macros_form (λ _. defined_form) (λ _. macros_at)
+    (λ n _. both (program_parts_at (suc n)) (λ _. both (entry_at (suc n)) (λ _. both (state_sets_at (suc n)) (λ _. exit_at (suc n))))) right_macros
+    (λ _. right_both (program_parts_form BehindAll) (λ _. entered_form) (λ n. program_parts_at (suc n)) (λ n _. both (entry_at (suc n)) (λ _. both (state_sets_at (suc n)) (λ _. exit_at (suc n))))
+    (right_program_parts BehindAll (λ k e. among (λ z. starts_program_part z ≡ false) (Entry ∷ StateSet ∷ []) k (refl, (refl, tt)) e))
     (λ _. right_both set_entry (λ _. sets_form) (λ n. entry_at (suc n)) (λ n _. both (state_sets_at (suc n)) (λ _. exit_at (suc n)))
     (right_entry (λ k. k ≡ StateSet) (λ k e. subst (λ z. is Entry z ≡ false) (sym e) refl))
     (λ _. right_both state_sets_form (λ _. exit_form Never) (λ n. state_sets_at (suc n)) (λ n _. exit_at (suc n)) right_state_sets (λ _. right_exit Never (λ k e. absurd e)) (λ _ _ o _ _. last_exit o))
@@ -430,11 +434,12 @@ unfolding program_at
 right_program = right_made (both_form (one_form (is Program)) (λ _. both_form (one_form (is Name)) (λ _. behind_name))) program_form
     (λ x. record { word = x.0; name = x.1.0; macros = x.1.1.0; definitions = x.1.1.1.0; entry = x.1.1.1.1.0; state_sets = x.1.1.1.1.1.0; exit = x.1.1.1.1.1.1 })
     (λ n. both (one (is Program)) (λ _. both (one (is Name))
-    (λ _. both macros_at (λ _. both (parts_at (suc n)) (λ _. both (entry_at (suc n)) (λ _. both (state_sets_at (suc n)) (λ _. exit_at (suc n))))))))
+    (λ _. both macros_at (λ _. both (program_parts_at (suc n)) (λ _. both (entry_at (suc n)) (λ _. both (state_sets_at (suc n)) (λ _. exit_at (suc n))))))))
     (right_both (one_form (is Program)) (λ _. both_form (one_form (is Name)) (λ _. behind_name)) (λ _. one (is Program))
-    (λ n _. both (one (is Name)) (λ _. both macros_at (λ _. both (parts_at (suc n)) (λ _. both (entry_at (suc n)) (λ _. both (state_sets_at (suc n)) (λ _. exit_at (suc n))))))) (right_kind Program)
+    (λ n _. both (one (is Name)) (λ _. both macros_at (λ _. both (program_parts_at (suc n)) (λ _. both (entry_at (suc n)) (λ _. both (state_sets_at (suc n)) (λ _. exit_at (suc n)))))))
+    (right_kind Program)
     (λ _. right_both (one_form (is Name)) (λ _. behind_name) (λ _. one (is Name))
-    (λ n _. both macros_at (λ _. both (parts_at (suc n)) (λ _. both (entry_at (suc n)) (λ _. both (state_sets_at (suc n)) (λ _. exit_at (suc n)))))) (right_kind Name)
+    (λ n _. both macros_at (λ _. both (program_parts_at (suc n)) (λ _. both (entry_at (suc n)) (λ _. both (state_sets_at (suc n)) (λ _. exit_at (suc n)))))) (right_kind Name)
     (λ _. right_behind_name) (λ _ _ b _ _. free (behind_name.follow b) (behind_name.slots b))) (λ _ _ _ _ _. tt))
     (λ n x g. ((is_true Program x.0.kind g.0, is_true Name x.1.0.kind g.1.0, text_is x.1.1.0 g.1.1.0, g.1.1.1.0, g.1.1.1.1.0, g.1.1.1.1.1.0, g.1.1.1.1.1.1), refl))
     (λ n p g. (

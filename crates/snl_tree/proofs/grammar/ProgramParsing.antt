@@ -5,13 +5,14 @@ use Rattle.snl_text.specs.declared.kinds.Kind.{Kind}
 use Rattle.snl_tree.specs.reading.Readers.{Stuck, Deep, Read}
 use Rattle.snl_syntax.specs.Sequences.{IfThere, Each, EachOfSome}
 use Rattle.snl_syntax.specs.Begins.{Sort, Spells, Begins, IsUnexpected, IsTooDeep}
-use Rattle.snl_syntax.specs.Definitions.{IsDefinition, IsPart}
+use Rattle.snl_syntax.specs.Definitions.{DefinitionTree, declaration, assign, monitor, sync, sync_queue, event_flags, setting, function, IsDefinition, IsPart, IsProgramPart}
 use Rattle.snl_syntax.specs.Statements.{BlockTree, block, IsBlock}
 use Rattle.snl_syntax.specs.Programs.{StateTree, StateSetTree, ProgramTree, program_slots, IsClause, IsState, IsStateSet, IsProgram, programs}
 use Rattle.snl_tree.specs.reading.Programs.{program_at}
 use Rattle.snl_tree.specs.Answers.{HasProgram}
 use Rattle.snl_tree.proofs.spelling.Laws.{Sound}
-use Rattle.snl_tree.proofs.grammar.DefinitionLaws.{right_definition, right_part}
+use Rattle.snl_tree.proofs.grammar.DefinitionLaws.{right_definition}
+use Rattle.snl_tree.proofs.grammar.OptionLaws.{right_part}
 use Rattle.snl_tree.proofs.grammar.ProgramLaws.{right_program}
 use Rattle.snl_tree.proofs.grammar.Theorem.{shape_of, unexpected, too_deep, one_tree, unambiguous}
 
@@ -36,6 +37,17 @@ block_first : (o : Option BlockTree) → IfThere (IsBlock 0) o → IfThere (IsBl
 block_first None g = g
 block_first (Some b) g = absurd (no_block b g)
 
+-- a definition of a program within limit 0 is within limit 1; it is no function, since that has a block
+part_first : (d : DefinitionTree) → IsProgramPart 0 d → IsProgramPart 1 d
+part_first (declaration d) g = right_part.raise 0 (declaration d) g
+part_first (assign a) g = right_part.raise 0 (assign a) g
+part_first (monitor p) g = right_part.raise 0 (monitor p) g
+part_first (sync s) g = right_part.raise 0 (sync s) g
+part_first (sync_queue q) g = right_part.raise 0 (sync_queue q) g
+part_first (event_flags names) g = right_part.raise 0 (event_flags names) g
+part_first (setting o) g = right_part.raise 0 (setting o) g
+part_first (function f) g = absurd (no_block f.body g.3)
+
 -- a state within limit 0 is within limit 1
 state_first : (s : StateTree) → IsState 0 s → IsState 1 s
 state_first s g = (
@@ -58,7 +70,7 @@ program_more zero p g = (
   g.0,
   g.1,
   g.2,
-  each_more (IsPart 0) (IsPart 1) (right_part.raise 0) p.definitions g.3,
+  each_more (IsProgramPart 0) (IsProgramPart 1) part_first p.definitions g.3,
   block_first p.entry g.4,
   some_more (IsStateSet 0) (IsStateSet 1) set_first
       p.state_sets g.5,

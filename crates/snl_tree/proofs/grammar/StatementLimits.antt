@@ -2,21 +2,21 @@
 use Rattle.std.proofs.Common.{◌≡◌, ℕ, zero, suc, ◌≤◌, ◌+◌, Bool, true, false, List, [], Some, None, inr, length, subst, arith}
 use Rattle.snl_text.specs.declared.tokens.Token.{Token}
 use Rattle.snl_text.specs.declared.kinds.Kind.{Kind}
-use Rattle.snl_text.specs.declared.kinds.Kind.TheVariants.{Name, OpenBrace, CloseBrace, Semicolon, If, Else, While, For, Break, Continue, State}
+use Rattle.snl_text.specs.declared.kinds.Kind.TheVariants.{Name, OpenBrace, CloseBrace, Semicolon, If, Else, While, For, Break, Continue, State, Return}
 use Rattle.snl_syntax.specs.Kinds.{is}
 use Rattle.snl_tree.specs.reading.Readers.{Reader, left, one, sign, both, nothing, many, under, made}
 use Rattle.snl_tree.specs.reading.Sequences.{before}
 use Rattle.snl_tree.specs.reading.Expressions.{inside, level_at}
-use Rattle.snl_syntax.specs.Statements.{StatementTree, BlockTree, nested, empty, expression, break_loop, continue_loop, change_state, while_loop, for_loop, no_statements, block, block_slots, is_closed, IsBlock}
+use Rattle.snl_syntax.specs.Statements.{StatementTree, BlockTree, nested, empty, expression, break_loop, continue_loop, change_state, return_with, while_loop, for_loop, no_statements, block, block_slots, is_closed, IsBlock}
 use Rattle.snl_syntax.specs.view.Lists.{statement_list}
-use Rattle.snl_tree.specs.reading.Statements.{opens_statement, condition_at, header_at, Inner, declarations_at, statements_at, block_of, empty_at, expression_statement_at, break_at, continue_at, change_state_at, else_at, if_tree, if_at, while_at, for_at, word_statement_at, statement_of, statements_inside, block_at}
+use Rattle.snl_tree.specs.reading.Statements.{opens_statement, condition_at, ended_at, header_at, Inner, declarations_at, statements_at, block_of, empty_at, expression_statement_at, break_at, continue_at, change_state_at, return_at, else_at, if_tree, if_at, while_at, for_at, word_statement_at, statement_of, statements_inside, block_at}
 use Rattle.snl_tree.proofs.spelling.Laws.{ends}
 use Rattle.snl_tree.proofs.spelling.Growth.{Grows, Opens, grows_one, grows_sign, grows_nothing, grows_made, grows_both, grows_either, grows_choice, grows_many, opens_one, opens_sign, grows_under_none}
 use Rattle.snl_tree.proofs.spelling.Rights.{Form, Right}
 use Rattle.snl_tree.proofs.grammar.Values.{right_expression}
 use Rattle.snl_tree.proofs.grammar.Blocks.{right_condition, right_header, right_declarations}
 use Rattle.snl_tree.proofs.grammar.StatementShapes.{block_more}
-use Rattle.snl_tree.proofs.grammar.StatementReads.{StatementLaws, content_shape, reads_content, looped_shape, reads_looped, counted_shape, reads_counted, chosen_shape, reads_chosen, reads_inside, reads_block_at}
+use Rattle.snl_tree.proofs.grammar.StatementReads.{StatementLaws, right_return, content_shape, reads_content, looped_shape, reads_looped, counted_shape, reads_counted, chosen_shape, reads_chosen, reads_inside, reads_block_at}
 
 -- More depth is left on the right, where expressions may be nested so deep.
 abbrev Higher : ℕ → Inner → Inner → Type 0
@@ -112,6 +112,11 @@ module _ (l k : ℕ) (i j : Inner) (h : Higher (suc l + k) i j) where
       (λ m d laws. ends (counted_shape (suc l + k) m) (both (header_at (suc l + k)) (λ _. d)) (reads_counted (suc l + k) m d laws))
       (λ a b g. grows_both (header_at l) (header_at (suc l + k)) (λ _. a) (λ _. b) (right_header.grows l k) (λ _. g)))
 
+  -- the reader of `return` statements grows with the limit
+  grows_return : Grows (return_at l) (return_at (suc l + k))
+  unfolding return_at
+  grows_return = grows_made (λ x. return_with x.0 x.1) (both (one (is Return)) (λ _. ended_at l Semicolon)) (both (one (is Return)) (λ _. ended_at (suc l + k) Semicolon)) (right_return.grows l k)
+
   -- the reader of statements that nest none grows with the limit
   grows_word_statement : Grows (word_statement_at l) (word_statement_at (suc l + k))
   unfolding word_statement_at expression_statement_at
@@ -119,9 +124,10 @@ module _ (l k : ℕ) (i j : Inner) (h : Higher (suc l + k) i j) where
       grows_choice (is Break) break_at break_at _ _ grows_break
       (grows_choice (is Continue) continue_at continue_at _ _ grows_continue
       (grows_choice (is State) change_state_at change_state_at _ _ grows_change
+      (grows_choice (is Return) (return_at l) (return_at (suc l + k)) _ _ grows_return
       (grows_made expression (before (level_at (inside l) 15) Semicolon) (before (level_at (inside (suc l + k)) 15) Semicolon)
       (grows_made (λ x. x.0) (both (level_at (inside l) 15) (λ _. sign Semicolon)) (both (level_at (inside (suc l + k)) 15) (λ _. sign Semicolon))
-      (grows_both (level_at (inside l) 15) (level_at (inside (suc l + k)) 15) (λ _. sign Semicolon) (λ _. sign Semicolon) (right_expression.grows l k) (λ _. grows_sign Semicolon))))))
+      (grows_both (level_at (inside l) 15) (level_at (inside (suc l + k)) 15) (λ _. sign Semicolon) (λ _. sign Semicolon) (right_expression.grows l k) (λ _. grows_sign Semicolon)))))))
 
   -- the reader of empty statements is the same at any depth
   grows_empty : Grows empty_at empty_at

@@ -1,9 +1,9 @@
 -- The readers of statements and blocks are right.
-use Rattle.std.proofs.Common.{◌≡◌, ℕ, zero, suc, ◌≤◌, ◌<◌, lit<, Bool, true, false, true≢false, List, [], ◌∷◌, ◌++◌, Ok, Err, ◌⊎◌, inl, inr, refl, sym, ap, ◌∙◌, subst, arith, nat_eq, eq-or-lt_of_le, append_assoc, append-nil}
+use Rattle.std.proofs.Common.{◌≡◌, ℕ, zero, suc, ◌≤◌, ◌<◌, lit<, Bool, true, false, true≢false, List, [], ◌∷◌, ◌++◌, Option, Ok, Err, ◌⊎◌, inl, inr, refl, sym, ap, ◌∙◌, subst, arith, nat_eq, eq-or-lt_of_le, append_assoc, append-nil}
 use Rattle.std.proofs.lemmas.Bool.Decides.{nat_tests}
 use Rattle.snl_text.specs.declared.tokens.Token.{Token}
 use Rattle.snl_text.specs.declared.kinds.Kind.{Kind}
-use Rattle.snl_text.specs.declared.kinds.Kind.TheVariants.{Name, Char, Short, Int, Long, Unsigned, Int8, Int16, Int32, Int64, Uint8, Uint16, Uint32, Uint64, Float, Double, StringType, OpenBrace, CloseBrace, Semicolon, If, Else, While, For, Break, Continue, State}
+use Rattle.snl_text.specs.declared.kinds.Kind.TheVariants.{Name, Char, Short, Int, Long, Unsigned, Int8, Int16, Int32, Int64, Uint8, Uint16, Uint32, Uint64, Float, Double, StringType, OpenBrace, CloseBrace, Semicolon, If, Else, While, For, Break, Continue, State, Return}
 use Rattle.snl_syntax.specs.Kinds.{is}
 use Rattle.snl_syntax.specs.Slots.{Slot, Sign}
 use Rattle.snl_tree.specs.reading.Readers.{Read, Reader, one, sign, both, choice, nothing, many, under, made}
@@ -11,9 +11,9 @@ use Rattle.snl_tree.specs.reading.Sequences.{before}
 use Rattle.snl_syntax.specs.Expressions.{ExprTree, IsExpr}
 use Rattle.snl_tree.specs.reading.Expressions.{inside, level_at}
 use Rattle.snl_syntax.specs.Declarations.{DeclarationTree, starts_declaration}
-use Rattle.snl_syntax.specs.Statements.{Header, StatementTree, StatementList, BlockTree, nested, empty, expression, break_loop, continue_loop, change_state, if_then, if_else, while_loop, for_loop, no_statements, statement, block, statement_slots, statement_list_slots, block_slots, condition_slots, is_closed, IsWellStatement, AreWellStatements, IsWellBlock}
+use Rattle.snl_syntax.specs.Statements.{Header, StatementTree, StatementList, BlockTree, nested, empty, expression, break_loop, continue_loop, change_state, return_with, if_then, if_else, while_loop, for_loop, no_statements, statement, block, statement_slots, statement_list_slots, block_slots, condition_slots, is_closed, IsWellStatement, AreWellStatements, IsWellBlock}
 use Rattle.snl_syntax.specs.view.Lists.{statement_list}
-use Rattle.snl_tree.specs.reading.Statements.{opens_statement, condition_at, header_at, Inner, declarations_at, statements_at, block_of, empty_at, expression_statement_at, break_at, continue_at, change_state_at, else_at, if_tree, if_at, while_at, for_at, word_statement_at, statement_of, statements_inside, statement_at, block_at}
+use Rattle.snl_tree.specs.reading.Statements.{opens_statement, condition_at, ended_at, header_at, Inner, declarations_at, statements_at, block_of, empty_at, expression_statement_at, break_at, continue_at, change_state_at, return_at, else_at, if_tree, if_at, while_at, for_at, word_statement_at, statement_of, statements_inside, statement_at, block_at}
 use Rattle.snl_tree.proofs.spelling.Laws.{Shape, Sound, Reads, Links}
 use Rattle.snl_tree.proofs.spelling.Both.{both_shape, reads_both}
 use Rattle.snl_tree.proofs.spelling.Choices.{Heads, is_true, true_is, one_shape, reads_one, sign_shape, reads_sign, nothing_shape, reads_nothing, either_shape, reads_either, reads_choice, reads_made}
@@ -22,8 +22,8 @@ use Rattle.snl_tree.proofs.grammar.Shapes.{not_is, avoids_heads}
 use Rattle.snl_tree.proofs.grammar.Inside.{under_map, nest_shape, Given, reads_given}
 use Rattle.snl_tree.proofs.spelling.Rights.{Form, at_depth, Right, one_form, right_kind, before_form, right_before, both_form, right_both}
 use Rattle.snl_tree.proofs.grammar.Values.{expression_form, right_expression}
-use Rattle.snl_tree.proofs.grammar.Blocks.{condition_form, right_condition, header_form, right_header, declarations_form, right_declarations, free_links}
-use Rattle.snl_tree.proofs.grammar.StatementShapes.{kind_form, form, form_most, brace_form, semicolon_form, if_form, while_form, for_form, break_form, continue_form, state_form, statement_heads, heads_open}
+use Rattle.snl_tree.proofs.grammar.Blocks.{condition_form, right_condition, ended_form, right_semicolon, header_form, right_header, declarations_form, right_declarations, free_links}
+use Rattle.snl_tree.proofs.grammar.StatementShapes.{kind_form, form, form_most, brace_form, semicolon_form, if_form, while_form, for_form, break_form, continue_form, state_form, return_form, statement_heads, heads_open}
 
 -- What may stand after a statement: anything but an `else` that it would take.
 abbrev pub statement_follow : StatementTree → Kind → Type 0
@@ -116,7 +116,7 @@ abbrev pub content_shape : ℕ → ℕ → Shape (List DeclarationTree × Statem
 content_shape l m = both_shape (at_depth declarations_form l) (λ _. closed_shape l m)
 
 -- what a statement begins with is no type
-statement_no_type : (k : Kind) → kind_form k ≤ 8 → starts_declaration k ≡ false
+statement_no_type : (k : Kind) → kind_form k ≤ 9 → starts_declaration k ≡ false
 statement_no_type Char h = absurd (omega arith)
 statement_no_type Short h = absurd (omega arith)
 statement_no_type Int h = absurd (omega arith)
@@ -206,13 +206,13 @@ reads_empty l n = reads_made (sign_shape Semicolon) (form_shape l n 1) (λ _. em
     onto _ g = let h = g.0 in absurd (omega arith)
 
 -- the reader of expressions as statements is right
-reads_expression_statement : (l n : ℕ) → Reads (from_shape l n 8) (expression_statement_at l)
+reads_expression_statement : (l n : ℕ) → Reads (from_shape l n 9) (expression_statement_at l)
 unfolding expression_statement_at
-reads_expression_statement l n = reads_made (at_depth (before_form expression_form Semicolon) l) (from_shape l n 8) expression (before (level_at (inside l) 15) Semicolon)
+reads_expression_statement l n = reads_made (at_depth (before_form expression_form Semicolon) l) (from_shape l n 9) expression (before (level_at (inside l) 15) Semicolon)
     ((right_before expression_form (λ n. level_at (inside n) 15) Semicolon right_expression (λ _ _ _. lit< tt)).reads l)
     (λ e g. ((omega arith, g), refl)) onto (λ e g k f. tt)
   where
-    onto : (s : StatementTree) → (8 ≤ form s) × IsWellStatement l s n → (e : ExprTree) × IsExpr l e × (expression e ≡ s)
+    onto : (s : StatementTree) → (9 ≤ form s) × IsWellStatement l s n → (e : ExprTree) × IsExpr l e × (expression e ≡ s)
     onto (expression e) g = (e, g.1, refl)
     onto _ g = let h = g.0 in absurd (omega arith)
 
@@ -260,6 +260,25 @@ reads_change_state l n = reads_made (at_depth change_form l) (form_shape l n 7) 
   where
     onto : (s : StatementTree) → (form s ≡ 7) × IsWellStatement l s n → (x : Token × Token) × change_form.good l x × (change_state x.0 x.1 ≡ s)
     onto (change_state t x) g = ((t, x), (true_is State t.kind g.1.0, true_is Name x.kind g.1.1), refl)
+    onto _ g = let h = g.0 in absurd (omega arith)
+
+-- the word `return`, and an expression that may be missing before a semicolon
+abbrev return_parts : Form (Token × Option ExprTree)
+return_parts = both_form (one_form (is Return)) (λ _. ended_form Semicolon)
+
+-- the reader of the word `return`, an expression that may be missing and a semicolon is right
+pub right_return : Right return_parts (λ n. both (one (is Return)) (λ _. ended_at n Semicolon))
+right_return =
+    right_both (one_form (is Return)) (λ _. ended_form Semicolon) (λ _. one (is Return)) (λ n _. ended_at n Semicolon) (right_kind Return) (λ _. right_semicolon) (λ _ _ _ _ _. free_links _ _)
+
+-- the reader of `return` statements is right
+reads_return : (l n : ℕ) → Reads (form_shape l n 8) (return_at l)
+unfolding return_at
+reads_return l n = reads_made (at_depth return_parts l) (form_shape l n 8) (λ x. return_with x.0 x.1) (both (one (is Return)) (λ _. ended_at l Semicolon)) (right_return.reads l)
+    (λ x g. ((refl, (is_true Return x.0.kind g.0, g.1)), refl)) onto (λ x g k f. tt)
+  where
+    onto : (s : StatementTree) → (form s ≡ 8) × IsWellStatement l s n → (x : Token × Option ExprTree) × return_parts.good l x × (return_with x.0 x.1 ≡ s)
+    onto (return_with t e) g = ((t, e), (true_is Return t.kind g.1.0, g.1.1), refl)
     onto _ g = let h = g.0 in absurd (omega arith)
 
 -- a loop
@@ -440,7 +459,8 @@ unfolding word_statement_at
 reads_word_statement l n =
     choose l n 5 Break break_form break_at _ (reads_break l n)
     (choose l n 6 Continue continue_form continue_at _ (reads_continue l n)
-    (choose l n 7 State state_form change_state_at (expression_statement_at l) (reads_change_state l n) (reads_expression_statement l n)))
+    (choose l n 7 State state_form change_state_at _ (reads_change_state l n)
+    (choose l n 8 Return return_form (return_at l) (expression_statement_at l) (reads_return l n) (reads_expression_statement l n))))
 
 -- the reader of statements is right where the one of those nested in them is
 reads_statement : (l n : ℕ) (i : Inner) → Given (StatementLaws l) n i → Reads (statement_shape l n) (statement_of l i)

@@ -1,19 +1,19 @@
 -- Facts of the trees of statements.
 use Rattle.std.proofs.Common.{◌≡◌, ℕ, zero, suc, ◌≤◌, true, true≢false, refl, sym, ap, arith, nat_eq}
 use Rattle.snl_text.specs.declared.kinds.Kind.{Kind}
-use Rattle.snl_text.specs.declared.kinds.Kind.TheVariants.{Name, Whole, Decimal, Character, OpenBrace, OpenParenthesis, Semicolon, If, While, For, Break, Continue, State, Plus, Minus, Bang, Tilde, PlusPlus, MinusMinus}
+use Rattle.snl_text.specs.declared.kinds.Kind.TheVariants.{Name, Whole, Decimal, Character, OpenBrace, OpenParenthesis, Semicolon, If, While, For, Break, Continue, State, Return, Plus, Minus, Bang, Tilde, PlusPlus, MinusMinus}
 use Rattle.snl_syntax.specs.Kinds.{is}
 use Rattle.snl_syntax.specs.Expressions.{slots, Under, IsExpr}
 use Rattle.snl_syntax.specs.Sequences.{Each}
 use Rattle.snl_syntax.specs.Declarations.{IsDeclaration}
-use Rattle.snl_syntax.specs.Statements.{StatementTree, StatementList, BlockTree, nested, empty, expression, break_loop, continue_loop, change_state, if_then, if_else, while_loop, for_loop, no_statements, statement, block, statement_slots, is_closed, IsHeader, IsWellStatement, AreWellStatements, IsWellBlock}
+use Rattle.snl_syntax.specs.Statements.{StatementTree, StatementList, BlockTree, nested, empty, expression, break_loop, continue_loop, change_state, return_with, if_then, if_else, while_loop, for_loop, no_statements, statement, block, statement_slots, is_closed, IsHeader, IsWellStatement, AreWellStatements, IsWellBlock}
 use Rattle.snl_tree.specs.reading.Statements.{opens_statement}
 use Rattle.snl_tree.proofs.spelling.Choices.{Heads}
 use Rattle.snl_tree.proofs.spelling.Lists.{heads_append}
 use Rattle.snl_tree.proofs.grammar.Shapes.{can_open, heads_opens, well_more}
-use Rattle.snl_tree.proofs.grammar.Blocks.{right_header, right_declarations}
+use Rattle.snl_tree.proofs.grammar.Blocks.{right_semicolon, right_header, right_declarations}
 
--- The forms by what they begin with, in the order in which they are tried; 9 is what begins none.
+-- The forms by what they begin with, in the order in which they are tried; 10 is what begins none.
 abbrev pub kind_form : Kind → ℕ
 kind_form OpenBrace = 0
 kind_form Semicolon = 1
@@ -23,18 +23,19 @@ kind_form For = 4
 kind_form Break = 5
 kind_form Continue = 6
 kind_form State = 7
-kind_form Whole = 8
-kind_form Decimal = 8
-kind_form Character = 8
-kind_form Name = 8
-kind_form OpenParenthesis = 8
-kind_form Plus = 8
-kind_form Minus = 8
-kind_form Bang = 8
-kind_form Tilde = 8
-kind_form PlusPlus = 8
-kind_form MinusMinus = 8
-kind_form _ = 9
+kind_form Return = 8
+kind_form Whole = 9
+kind_form Decimal = 9
+kind_form Character = 9
+kind_form Name = 9
+kind_form OpenParenthesis = 9
+kind_form Plus = 9
+kind_form Minus = 9
+kind_form Bang = 9
+kind_form Tilde = 9
+kind_form PlusPlus = 9
+kind_form MinusMinus = 9
+kind_form _ = 10
 
 -- the number of the form of a statement
 abbrev pub form : StatementTree → ℕ
@@ -47,10 +48,11 @@ form (for_loop t h s) = 4
 form (break_loop t) = 5
 form (continue_loop t) = 6
 form (change_state t x) = 7
-form (expression e) = 8
+form (return_with t e) = 8
+form (expression e) = 9
 
--- what can begin an expression begins form 8
-opens_form : (k : Kind) → can_open k ≡ true → kind_form k ≡ 8
+-- what can begin an expression begins form 9
+opens_form : (k : Kind) → can_open k ≡ true → kind_form k ≡ 9
 opens_form Whole e = refl
 opens_form Decimal e = refl
 opens_form Character e = refl
@@ -64,8 +66,8 @@ opens_form PlusPlus e = refl
 opens_form MinusMinus e = refl
 opens_form _ e = absurd (true≢false (sym e))
 
--- what begins one of the forms 0 to 8 opens a statement
-form_opens : (k : Kind) → kind_form k ≤ 8 → opens_statement k ≡ true
+-- what begins one of the forms 0 to 9 opens a statement
+form_opens : (k : Kind) → kind_form k ≤ 9 → opens_statement k ≡ true
 form_opens OpenBrace e = refl
 form_opens Semicolon e = refl
 form_opens If e = refl
@@ -74,6 +76,7 @@ form_opens For e = refl
 form_opens Break e = refl
 form_opens Continue e = refl
 form_opens State e = refl
+form_opens Return e = refl
 form_opens Whole e = refl
 form_opens Decimal e = refl
 form_opens Character e = refl
@@ -87,8 +90,8 @@ form_opens PlusPlus e = refl
 form_opens MinusMinus e = refl
 form_opens _ e = absurd (omega arith)
 
--- the number of the form of a statement is 8 at most
-pub form_most : (s : StatementTree) → form s ≤ 8
+-- the number of the form of a statement is 9 at most
+pub form_most : (s : StatementTree) → form s ≤ 9
 form_most (nested b) = omega arith
 form_most empty = omega arith
 form_most (if_then c s) = omega arith
@@ -98,6 +101,7 @@ form_most (for_loop t h s) = omega arith
 form_most (break_loop t) = omega arith
 form_most (continue_loop t) = omega arith
 form_most (change_state t x) = omega arith
+form_most (return_with t e) = omega arith
 form_most (expression e) = omega arith
 
 -- the opening brace alone begins form 0
@@ -140,6 +144,11 @@ pub state_form : (k : Kind) → is State k ≡ nat_eq (kind_form k) 7
 state_form State = refl
 state_form _ = refl
 
+-- the word `return` alone begins form 8
+pub return_form : (k : Kind) → is Return k ≡ nat_eq (kind_form k) 8
+return_form Return = refl
+return_form _ = refl
+
 -- a statement begins with what its form does
 pub statement_heads : (P : Kind → Type 0) (l n : ℕ) (s : StatementTree) → ((k : Kind) → kind_form k ≡ form s → P k) → IsWellStatement l s n → Heads P (statement_slots s)
 statement_heads P l n (nested (block declared all)) f g = f OpenBrace refl
@@ -148,6 +157,7 @@ statement_heads P l n (expression e) f g = heads_append P (slots e) _ (heads_ope
 statement_heads P l n (break_loop t) f g = f t.kind (ap kind_form g)
 statement_heads P l n (continue_loop t) f g = f t.kind (ap kind_form g)
 statement_heads P l n (change_state t x) f g = f t.kind (ap kind_form g.0)
+statement_heads P l n (return_with t e) f g = f t.kind (ap kind_form g.0)
 statement_heads P l n (if_then c s) f g = f If refl
 statement_heads P l n (if_else c s e) f g = f If refl
 statement_heads P l n (while_loop t c s) f g = f t.kind (ap kind_form g.0)
@@ -173,6 +183,7 @@ mutual
   statement_more l n (break_loop t) g = g
   statement_more l n (continue_loop t) g = g
   statement_more l n (change_state t x) g = g
+  statement_more l n (return_with t e) g = (g.0, right_semicolon.raise l e g.1)
   statement_more l n (if_then c s) g =
       under_more (λ m. IsExpr l c × IsWellStatement l s m) (λ m. IsExpr (suc l) c × IsWellStatement (suc l) s m) n (λ m h. ((h.0.0, well_more c l h.0.1), statement_more l m s h.1)) g
   statement_more l n (if_else c s e) g =

@@ -1,6 +1,7 @@
 -- How declarations are read, with the depth that is left for what is nested in their expressions.
 use Rattle.std.specs.Prelude.{ℕ, Bool, List, ◌⊎◌, Option, Some, None, not, length}
 use Rattle.std.proofs.Common.{inl, inr, zero, suc}
+use Rattle.snl_text.specs.declared.tokens.Token.{Token}
 use Rattle.snl_text.specs.declared.kinds.Kind.{Kind}
 use Rattle.snl_text.specs.declared.kinds.Kind.TheVariants.{Name, OpenBrace, CloseBrace, OpenBracket, CloseBracket, Semicolon, Comma, Equal}
 use Rattle.snl_syntax.specs.Kinds.{is}
@@ -46,10 +47,21 @@ initialiser (inr e) = single e
 unfoldable pub initialiser_at : ℕ → Reader InitialiserTree
 initialiser_at n = made initialiser (either (is OpenBrace) (between OpenBrace (values_at n) CloseBrace) (level_at (inside n) 14))
 
--- NAME ( '[' expr ']' )* [ '=' init ]
+-- ( '[' expr ']' )* [ '=' init ]
+unfoldable pub ends_at : ℕ → Reader (List ExprTree × Option InitialiserTree)
+ends_at n = both (sizes_at n) (λ _. maybe (is Equal) (behind Equal (initialiser_at n)))
+
+-- a name with what belongs to it
+abbrev pub declarator : Token → List ExprTree × Option InitialiserTree → DeclaratorTree
+declarator x e = record { name = x; sizes = e.0; initial = e.1 }
+
+-- NAME and what belongs to it
 unfoldable pub declarator_at : ℕ → Reader DeclaratorTree
-declarator_at n = made (λ x. record { name = x.0; sizes = x.1.0; initial = x.1.1 }) (both (one (is Name)) (λ _.
-    both (sizes_at n) (λ _. maybe (is Equal) (behind Equal (initialiser_at n)))))
+declarator_at n = made (λ x. declarator x.0 x.1) (both (one (is Name)) (λ _. ends_at n))
+
+-- ( ',' dname )*
+unfoldable pub more_declarators_at : ℕ → Reader (List DeclaratorTree)
+more_declarators_at n = many (is Comma) (behind Comma (declarator_at n))
 
 unfoldable pub declarators_at : ℕ → Reader (List DeclaratorTree)
 declarators_at n = parted Comma (declarator_at n)

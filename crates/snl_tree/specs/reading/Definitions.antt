@@ -75,21 +75,30 @@ event_flags_at = between EventFlag flags_at Semicolon
 unfoldable pub setting_at : Reader SettingTree
 setting_at = made (λ x. record { sign = x.0; name = x.1 }) (behind OptionWord (both (one is_sign) (λ _. before (one (is Name)) Semicolon)))
 
--- the forms of a definition, told apart by their first words
-abbrev pub FormOfDefinition : Type 0
-FormOfDefinition = DeclarationTree ⊎ (AssignTree ⊎ (PlaceTree ⊎ (SyncTree ⊎ (QueueTree ⊎ List Token))))
+-- the forms of a definition that is no declaration, told apart by their first words
+abbrev pub FormOfOther : Type 0
+FormOfOther = AssignTree ⊎ (PlaceTree ⊎ (SyncTree ⊎ (QueueTree ⊎ List Token)))
 
-abbrev pub definition : FormOfDefinition → DefinitionTree
+-- a definition that is no declaration, by its form
+abbrev pub other : FormOfOther → DefinitionTree
+other (inl a) = assign a
+other (inr (inl p)) = monitor p
+other (inr (inr (inl s))) = sync s
+other (inr (inr (inr (inl q)))) = sync_queue q
+other (inr (inr (inr (inr names)))) = event_flags names
+
+-- assign | monitor | sync | syncq | evflag
+unfoldable pub other_at : ℕ → Reader DefinitionTree
+other_at n = made other (either (is Assign) (assign_at n) (either (is Monitor) (monitor_at n) (either (is Sync) (sync_at n) (either (is SyncQueue) (queue_at n) event_flags_at))))
+
+-- a declaration, or a definition that is none
+abbrev pub definition : DeclarationTree ⊎ DefinitionTree → DefinitionTree
 definition (inl d) = declaration d
-definition (inr (inl a)) = assign a
-definition (inr (inr (inl p))) = monitor p
-definition (inr (inr (inr (inl s)))) = sync s
-definition (inr (inr (inr (inr (inl q))))) = sync_queue q
-definition (inr (inr (inr (inr (inr names))))) = event_flags names
+definition (inr d) = d
 
 -- decl | assign | monitor | sync | syncq | evflag
 unfoldable pub definition_at : ℕ → Reader DefinitionTree
-definition_at n = made definition (either starts_declaration (declaration_at n) (either (is Assign) (assign_at n) (either (is Monitor) (monitor_at n) (either (is Sync) (sync_at n) (either (is SyncQueue) (queue_at n) event_flags_at)))))
+definition_at n = made definition (either starts_declaration (declaration_at n) (other_at n))
 
 abbrev pub part : SettingTree ⊎ DefinitionTree → DefinitionTree
 part (inl o) = setting o

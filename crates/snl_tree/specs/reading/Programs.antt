@@ -9,6 +9,7 @@ use Rattle.snl_tree.specs.reading.Sequences.{maybe, behind, between, some_of}
 use Rattle.snl_syntax.specs.Expressions.{ExprTree}
 use Rattle.snl_tree.specs.reading.Expressions.{inside, level_at, is_no_close}
 use Rattle.snl_tree.specs.reading.Definitions.{definitions_at, parts_at}
+use Rattle.snl_tree.specs.reading.Functions.{program_parts_at}
 use Rattle.snl_syntax.specs.Statements.{BlockTree}
 use Rattle.snl_tree.specs.reading.Statements.{block_at}
 use Rattle.snl_syntax.specs.Programs.{TargetTree, to_state, to_exit, ClauseTree, StateTree, StateSetTree, ProgramTree}
@@ -66,4 +67,4 @@ macros_at = maybe (is OpenParenthesis) (between OpenParenthesis (one (is Text)) 
 -- 'program' NAME [ '(' STRING ')' ] pdef* [entry] ss+ [exit]
 unfoldable pub program_at : ℕ → Reader ProgramTree
 program_at n = made (λ x. record { word = x.0; name = x.1.0; macros = x.1.1.0; definitions = x.1.1.1.0; entry = x.1.1.1.1.0; state_sets = x.1.1.1.1.1.0; exit = x.1.1.1.1.1.1 })
-    (both (one (is Program)) (λ _. both (one (is Name)) (λ _. both macros_at (λ _. both (parts_at n) (λ _. both (entry_at n) (λ _. both (state_sets_at n) (λ _. exit_at n)))))))
+    (both (one (is Program)) (λ _. both (one (is Name)) (λ _. both macros_at (λ _. both (program_parts_at n) (λ _. both (entry_at n) (λ _. both (state_sets_at n) (λ _. exit_at n)))))))

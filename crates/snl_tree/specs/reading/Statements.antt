@@ -3,7 +3,7 @@
 use Rattle.std.specs.Prelude.{ℕ, Bool, true, false, List, Option, Some, None, ◌⊎◌}
 use Rattle.std.proofs.Common.{inl, inr, zero, suc}
 use Rattle.snl_text.specs.declared.kinds.Kind.{Kind}
-use Rattle.snl_text.specs.declared.kinds.Kind.TheVariants.{Name, Whole, Decimal, Character, OpenBrace, CloseBrace, OpenParenthesis, CloseParenthesis, Semicolon, If, Else, While, For, Break, Continue, State, Plus, Minus, Bang, Tilde, PlusPlus, MinusMinus}
+use Rattle.snl_text.specs.declared.kinds.Kind.TheVariants.{Name, Whole, Decimal, Character, OpenBrace, CloseBrace, OpenParenthesis, CloseParenthesis, Semicolon, If, Else, While, For, Break, Continue, State, Return, Plus, Minus, Bang, Tilde, PlusPlus, MinusMinus}
 use Rattle.snl_syntax.specs.Kinds.{is, is_other}
 use Rattle.snl_tree.specs.reading.Readers.{Reader, one, sign, both, either, choice, nothing, many, under, made}
 use Rattle.snl_tree.specs.reading.Sequences.{maybe, behind, before, between}
@@ -12,7 +12,7 @@ use Rattle.snl_tree.specs.reading.Expressions.{inside, level_at}
 use Rattle.snl_syntax.specs.Declarations.{DeclarationTree, starts_declaration}
 use Rattle.snl_tree.specs.reading.Declarations.{declaration_at}
 use Rattle.snl_syntax.specs.view.Lists.{statement_list}
-use Rattle.snl_syntax.specs.Statements.{Header, StatementTree, StatementList, BlockTree, nested, empty, expression, break_loop, continue_loop, change_state, if_then, if_else, while_loop, for_loop, block, is_closed}
+use Rattle.snl_syntax.specs.Statements.{Header, StatementTree, StatementList, BlockTree, nested, empty, expression, break_loop, continue_loop, change_state, return_with, if_then, if_else, while_loop, for_loop, block, is_closed}
 
 -- What a statement may begin with: a brace, a semicolon, a word of a statement, or what an expression may
 -- begin with.
@@ -25,6 +25,7 @@ opens_statement For = true
 opens_statement Break = true
 opens_statement Continue = true
 opens_statement State = true
+opens_statement Return = true
 opens_statement Whole = true
 opens_statement Decimal = true
 opens_statement Character = true
@@ -87,6 +88,10 @@ continue_at = made continue_loop (before (one (is Continue)) Semicolon)
 unfoldable pub change_state_at : Reader StatementTree
 change_state_at = made (λ x. change_state x.0 x.1) (both (one (is State)) (λ _. before (one (is Name)) Semicolon))
 
+-- 'return' [ expr ] ';'
+unfoldable pub return_at : ℕ → Reader StatementTree
+return_at l = made (λ x. return_with x.0 x.1) (both (one (is Return)) (λ _. ended_at l Semicolon))
+
 -- [ 'else' stmt ] after a statement that is closed; one that is not has taken an `else` before.
 abbrev pub else_at : Bool → Reader StatementTree → Reader ((Unit {0} × StatementTree) ⊎ Unit {0})
 else_at true d = either (is Else) (both (sign Else) (λ _. d)) nothing
@@ -110,7 +115,7 @@ for_at l i = made (λ x. for_loop x.0 x.1.0 x.1.1) (under (is For) i (one (is Fo
 
 -- the statements that one word or sign tells apart
 unfoldable pub word_statement_at : ℕ → Reader StatementTree
-word_statement_at l = choice (is Break) break_at (choice (is Continue) continue_at (choice (is State) change_state_at (expression_statement_at l)))
+word_statement_at l = choice (is Break) break_at (choice (is Continue) continue_at (choice (is State) change_state_at (choice (is Return) (return_at l) (expression_statement_at l))))
 
 unfoldable pub statement_of : ℕ → Inner → Reader StatementTree
 statement_of l i = choice (is OpenBrace) (made nested (block_of l i)) (choice (is Semicolon) empty_at (choice (is If) (if_at l i) (choice (is While) (while_at l i) (choice (is For) (for_at l i) (word_statement_at l)))))

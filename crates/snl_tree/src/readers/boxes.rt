@@ -4,5 +4,6 @@
 pub mod declarations;
 pub mod definitions;
 pub mod expressions;
+pub mod functions;
 pub mod programs;
 pub mod statements;

@@ -1,11 +1,12 @@
 //! The readers of declarations.
 
-ghost use Rattle.std.specs.Prelude.{◌≡◌, ◌<◌, Ok};
+ghost use Rattle.std.specs.Prelude.{◌≡◌, ◌<◌, ◌∷◌, Ok};
 ghost use Rattle.snl_tree.specs.reading.Sequences as sequences;
 ghost use Rattle.snl_syntax.specs.view.Shown.{shown, held};
 ghost use Rattle.snl_syntax.specs.Declarations as kinds;
 ghost use Rattle.snl_tree.specs.reading.Declarations as specs;
 ghost use Rattle.snl_tree.specs.reading.Readers as readers;
+ghost use Rattle.snl_tree.specs.reading.Readers.{made};
 ghost use Rattle.snl_syntax.specs.Kinds.{is};
 ghost use Rattle.snl_tree.specs.reading.Moves.{Moves, MovesToken};
 ghost use Rattle.snl_syntax.specs.view.Expressions.{boxed};
@@ -92,7 +93,7 @@ fn second_word<'t, 'a>(cursor: &mut Cursor<'t, 'a>, first: Kind) -> Option<Token
 
 /// Reads the words of a type.
 #[tactic(auto, unfolding(crate::specs::reading::Declarations::type_at))]
-fn type_name<'t, 'a>(cursor: &mut Cursor<'t, 'a>) -> Result<TypeName<'a>, Halt>
+pub fn type_name<'t, 'a>(cursor: &mut Cursor<'t, 'a>) -> Result<TypeName<'a>, Halt>
     ensures { Moves type_view result cursor.new.left.now (specs.type_at cursor.old.left.now) }
 {
     let word = type_word(cursor)?;
@@ -169,8 +170,24 @@ fn initial<'t, 'a>(
     Ok(Some(initial))
 }
 
+/// Reads all that belongs to a declared name, which was read before.
+#[tactic(auto, unfolding(crate::specs::reading::Declarations::ends_at))]
+pub fn declarator_of<'t, 'a>(
+    alloc: Global,
+    cursor: &mut Cursor<'t, 'a>,
+    depth: usize,
+    name: Token<'a>,
+) -> Result<Box<Declarator<'a>>, Halt>
+    ensures { Moves (held declarator_view) result cursor.new.left.now
+        (made (specs.declarator name.entry) (specs.ends_at depth) cursor.old.left.now) }
+{
+    let sizes = sizes(alloc, cursor, depth)?;
+    let initial = initial(alloc, cursor, depth)?;
+    boxed_declarator(alloc, name, sizes, initial)
+}
+
 /// Reads a declared name with all that belongs to it.
-#[tactic(auto, unfolding(crate::specs::reading::Declarations::declarator_at))]
+#[tactic(auto, using(crate::proofs::code::FunctionForms::declarator_form))]
 fn declarator<'t, 'a>(
     alloc: Global,
     cursor: &mut Cursor<'t, 'a>,
@@ -180,9 +197,7 @@ fn declarator<'t, 'a>(
         (specs.declarator_at depth cursor.old.left.now) }
 {
     let name = token(cursor, Kind::Name)?;
-    let sizes = sizes(alloc, cursor, depth)?;
-    let initial = initial(alloc, cursor, depth)?;
-    boxed_declarator(alloc, name, sizes, initial)
+    declarator_of(alloc, cursor, depth, name)
 }
 
 /// Reads a comma and the declared name after it.
@@ -199,7 +214,28 @@ fn next_declarator<'t, 'a>(
     Ok(next)
 }
 
+/// Reads further declared names, each after a comma, behind a first one.
+pub fn declarators_of<'t, 'a>(
+    alloc: Global,
+    first: Box<Declarator<'a>>,
+    cursor: &mut Cursor<'t, 'a>,
+    depth: usize,
+) -> Result<Vec<Declarator<'a>>, Halt>
+    ensures { Moves declarator_views result cursor.new.left.now
+        (made (λ all. declarator_view first.entry.value ∷ all) (specs.more_declarators_at depth)
+        cursor.old.left.now) }
+{
+    let mut found = Vec::new(alloc);
+    added(&mut found, first)?;
+    while at(cursor, Kind::Comma) {
+        let next = next_declarator(alloc, cursor, depth)?;
+        added(&mut found, next)?;
+    }
+    Ok(found)
+}
+
 /// Reads declared names with commas between them.
+#[tactic(auto, using(crate::proofs::code::FunctionForms::declarators_form))]
 fn declarators<'t, 'a>(
     alloc: Global,
     cursor: &mut Cursor<'t, 'a>,
@@ -208,14 +244,8 @@ fn declarators<'t, 'a>(
     ensures { Moves declarator_views result cursor.new.left.now
         (specs.declarators_at depth cursor.old.left.now) }
 {
-    let mut found = Vec::new(alloc);
     let first = declarator(alloc, cursor, depth)?;
-    added(&mut found, first)?;
-    while at(cursor, Kind::Comma) {
-        let next = next_declarator(alloc, cursor, depth)?;
-        added(&mut found, next)?;
-    }
-    Ok(found)
+    declarators_of(alloc, first, cursor, depth)
 }
 
 /// Reads the values of a list, up to its closing brace.

@@ -1,4 +1,4 @@
-//! The readers of definitions and options.
+//! The readers of definitions.
 
 ghost use Rattle.std.specs.Prelude.{◌≡◌, Ok};
 ghost use Rattle.snl_tree.specs.reading.Sequences as sequences;
@@ -14,14 +14,14 @@ ghost use Rattle.snl_syntax.specs.view.Expressions.{boxed};
 ghost use Rattle.snl_syntax.specs.view.Definitions.{place_view, token_list, names_view, channels_view, flag_view, definition_view, definition_views};
 
 use crate::readers::boxes::definitions::{
-    boxed_place, push_assign, push_declared, push_event_flags, push_monitor, push_setting,
-    push_sync, push_sync_queue,
+    boxed_place, push_assign, push_declared, push_event_flags, push_monitor, push_sync,
+    push_sync_queue,
 };
 use crate::readers::cursor::{Cursor, Halt, at, sign, token};
 use crate::readers::declarations::{at_declaration, bracket, declaration};
-use crate::readers::parts::{at_definition, at_part};
+use crate::readers::parts::at_definition;
 use crate::readers::room::pushed;
-use snl_syntax::{ChannelNames, Channels, Def, Expr, Flag, Place, Setting};
+use snl_syntax::{ChannelNames, Channels, Def, Expr, Flag, Place};
 use snl_text::{Kind, Token};
 use std::alloc::Global;
 
@@ -282,52 +282,17 @@ fn event_flags<'t, 'a>(
     push_event_flags(row, names)
 }
 
-/// Reads the sign of an option.
-fn option_sign<'t, 'a>(cursor: &mut Cursor<'t, 'a>) -> Result<Token<'a>, Halt>
-    ensures { MovesToken result cursor.new.left.now
-        (readers.one kinds.is_sign cursor.old.left.now) }
-{
-    match cursor.left {
-        [first, after @ ..] if matches!(first.kind, Kind::Plus | Kind::Minus) => {
-            cursor.left = after;
-            Ok(*first)
-        }
-        _ => Err(Halt::Stuck),
-    }
-}
-
-/// Reads an option, and puts it at the end of a row.
-#[tactic(auto, unfolding(crate::specs::reading::Definitions::setting_at))]
-fn setting<'t, 'a>(cursor: &mut Cursor<'t, 'a>, row: &mut Vec<Def<'a>>) -> Result<(), Halt>
-    ensures { Adds definition_view row.old.items result row.new.items cursor.new.left.now
-        (made kinds.setting specs.setting_at cursor.old.left.now) }
-{
-    sign(cursor, Kind::OptionWord)?;
-    let sign_token = option_sign(cursor)?;
-    let name = token(cursor, Kind::Name)?;
-    sign(cursor, Kind::Semicolon)?;
-    let setting = Setting {
-        sign: sign_token,
-        name,
-    };
-    push_setting(row, setting)
-}
-
-/// Reads a definition, and puts it at the end of a row.
-#[tactic(auto, using(crate::proofs::code::DefinitionForms::definition_cases))]
-fn definition<'t, 'a>(
+/// Reads a definition that is no declaration, and puts it at the end of a row.
+#[tactic(auto, using(crate::proofs::code::DefinitionForms::other_cases))]
+pub fn other<'t, 'a>(
     alloc: Global,
     cursor: &mut Cursor<'t, 'a>,
     depth: usize,
     row: &mut Vec<Def<'a>>,
 ) -> Result<(), Halt>
     ensures { Adds definition_view row.old.items result row.new.items cursor.new.left.now
-        (specs.definition_at depth cursor.old.left.now) }
+        (specs.other_at depth cursor.old.left.now) }
 {
-    if at_declaration(cursor) {
-        let declaration = declaration(alloc, cursor, depth)?;
-        return push_declared(row, declaration);
-    }
     if at(cursor, Kind::Assign) {
         return assign(alloc, cursor, depth, row);
     }
@@ -343,21 +308,22 @@ fn definition<'t, 'a>(
     event_flags(alloc, cursor, row)
 }
 
-/// Reads a definition or an option, and puts it at the end of a row.
-#[tactic(auto, using(crate::proofs::code::DefinitionForms::part_cases))]
-fn part<'t, 'a>(
+/// Reads a definition, and puts it at the end of a row.
+#[tactic(auto, using(crate::proofs::code::DefinitionForms::definition_cases))]
+pub fn definition<'t, 'a>(
     alloc: Global,
     cursor: &mut Cursor<'t, 'a>,
     depth: usize,
     row: &mut Vec<Def<'a>>,
 ) -> Result<(), Halt>
     ensures { Adds definition_view row.old.items result row.new.items cursor.new.left.now
-        (specs.part_at depth cursor.old.left.now) }
+        (specs.definition_at depth cursor.old.left.now) }
 {
-    if at(cursor, Kind::OptionWord) {
-        return setting(cursor, row);
+    if at_declaration(cursor) {
+        let declaration = declaration(alloc, cursor, depth)?;
+        return push_declared(row, declaration);
     }
-    definition(alloc, cursor, depth, row)
+    other(alloc, cursor, depth, row)
 }
 
 /// Reads the definitions of a state set.
@@ -372,22 +338,6 @@ pub fn definitions<'t, 'a>(
     let mut found = Vec::new(alloc);
     while at_definition(cursor) {
         definition(alloc, cursor, depth, &mut found)?;
-    }
-    Ok(found)
-}
-
-/// Reads the definitions and options of a program or a state.
-pub fn parts<'t, 'a>(
-    alloc: Global,
-    cursor: &mut Cursor<'t, 'a>,
-    depth: usize,
-) -> Result<Vec<Def<'a>>, Halt>
-    ensures { Moves definition_views result cursor.new.left.now
-        (specs.parts_at depth cursor.old.left.now) }
-{
-    let mut found = Vec::new(alloc);
-    while at_part(cursor) {
-        part(alloc, cursor, depth, &mut found)?;
     }
     Ok(found)
 }

@@ -1,4 +1,4 @@
-//! Whether a definition or an option begins here.
+//! Whether a definition, an option or a function begins here.
 
 ghost use Rattle.std.specs.Prelude.{◌≡◌};
 ghost use Rattle.snl_syntax.specs.Definitions as kinds;
@@ -45,5 +45,25 @@ fn starts_part(kind: Kind) -> bool
     match kind {
         Kind::OptionWord => true,
         _ => starts_definition(kind),
+    }
+}
+
+/// Whether a definition, an option or a function is here.
+pub fn at_program_part(cursor: &Cursor) -> bool
+    ensures { result ≡ readers.starts kinds.starts_program_part cursor.now.left.now }
+{
+    match cursor.left {
+        [first, ..] => starts_program_part(first.kind),
+        [] => false,
+    }
+}
+
+/// Whether a token of this kind begins a definition, an option or a function.
+fn starts_program_part(kind: Kind) -> bool
+    ensures { result ≡ kinds.starts_program_part kind }
+{
+    match kind {
+        Kind::Void => true,
+        _ => starts_part(kind),
     }
 }

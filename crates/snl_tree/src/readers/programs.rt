@@ -16,9 +16,11 @@ use crate::readers::boxes::programs::{
     boxed_program, push_clause, push_state, push_state_set, source_parts,
 };
 use crate::readers::cursor::{Cursor, Halt, at, before, sign, token};
-use crate::readers::definitions::{definitions, parts};
+use crate::readers::definitions::definitions;
 use crate::readers::expressions::level;
+use crate::readers::functions::program_parts;
 use crate::readers::kinds::COMMA;
+use crate::readers::options::parts;
 use crate::readers::statements::block;
 use snl_syntax::{Block, Clause, Expr, Program, State, StateSet, Target};
 use snl_text::{Kind, Lexed, Token};
@@ -247,7 +249,7 @@ pub fn program<'t, 'a>(
     let word = token(cursor, Kind::Program)?;
     let name = token(cursor, Kind::Name)?;
     let macros = macros(cursor)?;
-    let definitions = parts(alloc, cursor, depth)?;
+    let definitions = program_parts(alloc, cursor, depth)?;
     let entry = entry(alloc, cursor, depth)?;
     let state_sets = state_sets(alloc, cursor, depth)?;
     let exit = exit(alloc, cursor, depth)?;

@@ -11,7 +11,7 @@ ghost use Rattle.snl_syntax.specs.view.Expressions.{boxed};
 
 use crate::readers::boxes::statements::{
     boxed_block, boxed_break, boxed_change, boxed_continue, boxed_empty, boxed_expression,
-    boxed_for, boxed_header, boxed_if, boxed_if_else, boxed_nested, boxed_while,
+    boxed_for, boxed_header, boxed_if, boxed_if_else, boxed_nested, boxed_return, boxed_while,
 };
 use crate::readers::cursor::{Cursor, Halt, at, before, open_sign, open_token, sign, token};
 use crate::readers::declarations::{at_declaration, declaration};
@@ -36,6 +36,7 @@ fn opens_statement(kind: Kind) -> bool
             | Kind::Break
             | Kind::Continue
             | Kind::State
+            | Kind::Return
             | Kind::Whole
             | Kind::Decimal
             | Kind::Character
@@ -140,7 +141,37 @@ fn declarations<'t, 'a>(
     Ok(found)
 }
 
-/// Reads a statement that nests no other: `break`, `continue`, a state statement or an expression.
+/// Reads a `return`, with its value if it has one.
+#[tactic(auto, using(crate::proofs::code::StatementForms::return_form))]
+fn return_statement<'t, 'a>(
+    alloc: Global,
+    cursor: &mut Cursor<'t, 'a>,
+    limit: usize,
+) -> Result<Box<Stmt<'a>>, Halt>
+    ensures { Moves (held statement_view) result cursor.new.left.now
+        (specs.return_at limit cursor.old.left.now) }
+{
+    let word = token(cursor, Kind::Return)?;
+    let value = ended(alloc, cursor, limit, Kind::Semicolon)?;
+    boxed_return(alloc, word, value)
+}
+
+/// Reads an expression that is a statement.
+#[tactic(auto, using(crate::proofs::code::StatementForms::expression_form))]
+fn expression_statement<'t, 'a>(
+    alloc: Global,
+    cursor: &mut Cursor<'t, 'a>,
+    limit: usize,
+) -> Result<Box<Stmt<'a>>, Halt>
+    ensures { Moves (held statement_view) result cursor.new.left.now
+        (specs.expression_statement_at limit cursor.old.left.now) }
+{
+    let value = level(alloc, cursor, limit, COMMA)?;
+    sign(cursor, Kind::Semicolon)?;
+    boxed_expression(alloc, value)
+}
+
+/// Reads a statement that nests no other: `break`, `continue`, a state statement, `return` or an expression.
 fn word_statement<'t, 'a>(
     alloc: Global,
     cursor: &mut Cursor<'t, 'a>,
@@ -162,9 +193,10 @@ fn word_statement<'t, 'a>(
         let name = ended_word(cursor, Kind::Name)?;
         return boxed_change(alloc, word, name);
     }
-    let value = level(alloc, cursor, limit, COMMA)?;
-    sign(cursor, Kind::Semicolon)?;
-    boxed_expression(alloc, value)
+    if at(cursor, Kind::Return) {
+        return return_statement(alloc, cursor, limit);
+    }
+    expression_statement(alloc, cursor, limit)
 }
 
 /// Reads a statement. Its expressions may be nested as deep as the limit, and `depth` is left for blocks,

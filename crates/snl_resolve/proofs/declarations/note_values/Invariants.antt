@@ -1,11 +1,11 @@
 use Rattle.std.proofs.Common.{◌≡◌, ◌++◌, map, drop}
 use Rattle.std.specs.List.{flat_map}
 use Rattle.snl_syntax.specs.view.Expressions.{boxed}
-use Rattle.snl_resolve.specs.Chains.{scopes_of}
+use Rattle.snl_resolve.specs.Chains.{sight_of}
 use Rattle.snl_resolve.specs.Sites.{in_value}
 use Rattle.snl_resolve.proofs.declarations.note_values.Given as goal
 
 abbrev pub invariant-loop-value : goal.invariant-loop-value
 invariant-loop-value l =
-    l.sites.items ++ flat_map (in_value (scopes_of l.scopes)) (map boxed (drop l.value-index l.values))
-    ≡ l.initial.sites.items ++ flat_map (in_value (scopes_of l.scopes)) (map boxed l.values)
+    l.sites.items ++ flat_map (in_value (sight_of l.sight)) (map boxed (drop l.value-index l.values))
+    ≡ l.initial.sites.items ++ flat_map (in_value (sight_of l.sight)) (map boxed l.values)

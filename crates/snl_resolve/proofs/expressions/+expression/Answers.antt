@@ -1,4 +1,4 @@
-use Rattle.std.proofs.Common.{◌≡◌, ◌∙◌, ◌++◌, ap, sym, ◌+◌, ◌-◌, length, drop, inl, inr, Vec, Global, arith}
+use Rattle.std.proofs.Common.{◌≡◌, ◌∙◌, ◌++◌, ap, sym, ◌+◌, ◌-◌, length, drop, inr, Vec, Global, arith}
 use Rattle.std.proofs.lemmas.List.{length-drop}
 use Rattle.std.proofs.lemmas.Result.{on_ok_weaker}
 use Rattle.snl_syntax.specs.Expressions.{no_arguments}
@@ -7,7 +7,7 @@ use Rattle.snl_resolve.specs.declared.sites.Site.{Site}
 use Rattle.snl_resolve.specs.Sites.{in_arguments}
 use Rattle.snl_resolve.specs.Builtins.{builtin_of}
 use Rattle.snl_resolve.specs.Calls.{word_at}
-use Rattle.snl_resolve.specs.Chains.{scopes_of}
+use Rattle.snl_resolve.specs.Chains.{sight_of}
 use Rattle.snl_resolve.proofs.WalkLaws.{call_noted, chain_noted, argument_step, value_noted, text_noted}
 use Rattle.snl_resolve.proofs.expressions.+expression.Goals.{note_arguments-in-Value+in_ok-note_argument-in-Value, note_arguments-in-Text+in_ok-note_format-in-Text}
 use Rattle.snl_resolve.proofs.expressions.+expression.Goals as goal
@@ -16,7 +16,7 @@ pub note_expression-returns-in_ok-inside-in-Call : goal.note_expression-returns-
 note_expression-returns-in_ok-inside-in-Call t c =
     let word : c.word_at-word.result ≡ word_at (builtin_of c.in-Call.name.text.now) = c.word_at-word.ensures ∙ ap word_at c.builtin_of.ensures in
     on_ok_weaker c.note_arguments.result
-    (call_noted c.args.in_condition (scopes_of c.args.scopes.now) c.args.purpose c.in_ok-inside-in-Call.inside c.word_at-word.result c.args.expression.now c.in-Call.name c.in-Call.arguments
+    (call_noted c.args.in_condition (sight_of c.args.sight.now) c.args.purpose c.in_ok-inside-in-Call.inside c.word_at-word.result c.args.expression.now c.in-Call.name c.in-Call.arguments
     c.as_slice-arguments.result.now c.args.sites.now.items c.note_call.new.sites.items c.note_arguments.new.sites.items
     c.in-Call.is c.as_slice-arguments.ensures.value c.in_ok-inside-in-Call.ensures.purpose c.in_ok-inside-in-Call.ensures.sites word)
     c.note_arguments.ensures
@@ -24,7 +24,7 @@ note_expression-returns-in_ok-inside-in-Call t c =
 pub note_expression-returns-in_ok-note_expression-in-Chain : goal.note_expression-returns-in_ok-note_expression-in-Chain
 note_expression-returns-in_ok-note_expression-in-Chain t c =
     on_ok_weaker c.note_terms.result
-    (chain_noted c.args.in_condition (scopes_of c.args.scopes.now) c.args.purpose c.inner-inner.result c.inner-inner.result c.args.expression.now c.deref-in-Chain.result.now c.in-Chain.first
+    (chain_noted c.args.in_condition (sight_of c.args.sight.now) c.args.purpose c.inner-inner.result c.inner-inner.result c.args.expression.now c.deref-in-Chain.result.now c.in-Chain.first
     c.in-Chain.terms c.as_slice.result.now c.args.sites.now.items c.note_expression-in-Chain.new.sites.items c.note_terms.new.sites.items
     c.in-Chain.is c.deref-in-Chain.ensures c.as_slice.ensures.value c.inner-inner.ensures c.inner-inner.ensures
     c.in_ok-note_expression-in-Chain.ensures)
@@ -32,7 +32,7 @@ note_expression-returns-in_ok-note_expression-in-Chain t c =
 
 pub note_arguments-loop-argument-preserved : goal.note_arguments-loop-argument-preserved
 note_arguments-loop-argument-preserved t c =
-    let s = scopes_of c.args.scopes.now in
+    let s = sight_of c.args.sight.now in
     let all = c.args.arguments.now in
     let i = c.loop-argument.argument-index in
     let k = c.loop-argument.until in

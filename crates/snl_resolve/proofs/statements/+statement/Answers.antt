@@ -1,21 +1,21 @@
 use Rattle.std.proofs.lemmas.Result.{on_ok_weaker}
-use Rattle.snl_resolve.specs.Chains.{scopes_of}
+use Rattle.snl_resolve.specs.Chains.{sight_of}
 use Rattle.snl_resolve.proofs.BlockLaws.{block_noted, nested_noted}
 use Rattle.snl_resolve.proofs.statements.+statement.Goals as goal
 
 pub note_block-returns : goal.note_block-returns
 note_block-returns t c =
     on_ok_weaker c.note_statements.result
-    (block_noted c.args.in_clause c.args.states.now (scopes_of c.args.outer.now) c.args.in_loop c.args.block.now
-    c.as_slice.result.now c.as_slice-2.result.now c.as_slice-3.result.now c.in_ok-scope.scope
+    (block_noted c.args.around.now.room c.args.around.now.states.now (sight_of c.args.outer.now) c.args.in_loop c.args.block.now
+    c.as_slice.result.now c.as_slice-2.result.now c.as_slice-statements.result.now c.in_ok-scope.scope (sight_of c.within-sight.result)
     c.args.sites.now.items c.block_scope.new.sites.items c.note_declarations.new.sites.items c.note_statements.new.sites.items
-    c.as_slice.ensures.value c.as_slice-2.ensures.value c.as_slice-3.ensures.value
-    c.in_ok-scope.ensures.scope c.in_ok-scope.ensures.sites c.in_ok-note_declarations.ensures)
+    c.as_slice.ensures.value c.as_slice-2.ensures.value c.as_slice-statements.ensures.value
+    c.in_ok-scope.ensures.scope c.within-sight.ensures c.in_ok-scope.ensures.sites c.in_ok-note_declarations.ensures)
     c.note_statements.ensures
 
 pub note_statement-returns-in-Block : goal.note_statement-returns-in-Block
 note_statement-returns-in-Block t c =
     on_ok_weaker c.note_block.result
-    (nested_noted c.args.in_clause c.args.states.now (scopes_of c.args.scopes.now) c.args.in_loop c.args.statement.now c.in-Block.block
+    (nested_noted c.args.around.now.room c.args.around.now.states.now (sight_of c.args.sight.now) c.args.in_loop c.args.statement.now c.in-Block.block
     c.args.sites.now.items c.note_block.new.sites.items c.in-Block.is)
     c.note_block.ensures

@@ -1,10 +1,10 @@
 use Rattle.std.proofs.Common.{◌≡◌, ◌++◌, map, drop, false}
 use Rattle.snl_syntax.specs.view.Programs.{clause_view}
-use Rattle.snl_resolve.specs.Chains.{scopes_of}
+use Rattle.snl_resolve.specs.Chains.{sight_of}
 use Rattle.snl_resolve.specs.Programs.{in_clauses}
 use Rattle.snl_resolve.proofs.states.note_clauses.Given as goal
 
 abbrev pub invariant-loop-clause : goal.invariant-loop-clause
 invariant-loop-clause l =
-    l.sites.items ++ in_clauses (scopes_of l.scopes) l.states l.is_blocked (map clause_view (drop l.clause-index l.clauses))
-    ≡ l.initial.sites.items ++ in_clauses (scopes_of l.scopes) l.states false (map clause_view l.clauses)
+    l.sites.items ++ in_clauses (sight_of l.sight) l.states l.is_blocked (map clause_view (drop l.clause-index l.clauses))
+    ≡ l.initial.sites.items ++ in_clauses (sight_of l.sight) l.states false (map clause_view l.clauses)

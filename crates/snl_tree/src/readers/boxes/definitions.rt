@@ -4,12 +4,15 @@ ghost use Rattle.snl_syntax.specs.Definitions as kinds;
 ghost use Rattle.snl_tree.specs.reading.Moves.{Appends, Builds};
 ghost use Rattle.snl_syntax.specs.view.Shown.{shown, held};
 ghost use Rattle.snl_syntax.specs.view.Expressions.{boxed};
-ghost use Rattle.snl_syntax.specs.view.Declarations.{declaration_view};
+ghost use Rattle.snl_syntax.specs.view.Declarations.{type_view, declarator_views, declaration_view};
 ghost use Rattle.snl_syntax.specs.view.Definitions.{place_view, token_list, channels_view, flag_view, setting_view, definition_view};
 
 use crate::readers::cursor::Halt;
 use crate::readers::room::{in_box, pushed};
-use snl_syntax::{Assign, Channels, Declaration, Def, Expr, Flag, Place, Setting, Sync, SyncQueue};
+use snl_syntax::{
+    Assign, Channels, Declaration, Declarator, Def, Expr, Flag, Place, Setting, Sync, SyncQueue,
+    TypeName,
+};
 use snl_text::Token;
 use std::alloc::Global;
 
@@ -36,6 +39,19 @@ pub fn push_declared<'a>(
         (kinds.declaration (held declaration_view declaration.entry)) }
 {
     pushed(row, Def::Declaration(Box::into_inner(declaration)))
+}
+
+/// Puts the declaration of these names at the end of a row.
+#[tactic(auto, using(crate::proofs::code::Building::in_a_row))]
+pub fn push_variables<'a>(
+    row: &mut Vec<Def<'a>>,
+    type_name: TypeName<'a>,
+    names: Vec<Declarator<'a>>,
+) -> Result<(), Halt>
+    ensures { Appends definition_view row.old.items result row.new.items (kinds.declaration
+        record { type_name = type_view type_name.entry; names = declarator_views names.entry }) }
+{
+    pushed(row, Def::Declaration(Declaration { type_name, names }))
 }
 
 /// Puts an assign at the end of a row.

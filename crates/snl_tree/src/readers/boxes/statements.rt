@@ -104,6 +104,19 @@ pub fn boxed_change<'a>(
     in_box(alloc, Stmt::State { word, name })
 }
 
+/// A `return`, with its value if it has one.
+#[tactic(auto, using(crate::proofs::code::Building::in_a_box))]
+pub fn boxed_return<'a>(
+    alloc: Global,
+    word: Token<'a>,
+    value: Option<Box<Expr<'a>>>,
+) -> Result<Box<Stmt<'a>>, Halt>
+    ensures { Builds (held statement_view) result
+        (kinds.return_with word.entry (shown boxed value.entry)) }
+{
+    in_box(alloc, Stmt::Return { word, value })
+}
+
 /// An `if` without `else`.
 #[tactic(auto, using(crate::proofs::code::Building::in_a_box))]
 pub fn boxed_if<'a>(

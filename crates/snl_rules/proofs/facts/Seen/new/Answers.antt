@@ -10,5 +10,6 @@ returns c = λ j. record {
   synced = named_nothing is_sync (named_in c.new-2.result) c.new-2.ensures.element c.new-2.ensures.below c.new-2.ensures.some j;
   sets = Some 64;
   states = Some 1024;
+  functions = Some 256;
   channels = Some 1024;
 }

@@ -30,14 +30,10 @@ returns-in_err-name c = rw (word_statement_form c.args.limit c.args.cursor.now.l
 pub returns-then-at-3 : goal.returns-then-at-3
 returns-then-at-3 c = rw (word_statement_form c.args.limit c.args.cursor.now.left.now) (search rules)
 
--- a fault in an expression is a fault of the statement
-pub returns-in_err-value : goal.returns-in_err-value
-returns-in_err-value c = rw (word_statement_form c.args.limit c.args.cursor.now.left.now) (search rules)
+-- a `return` is a statement
+pub returns-then-at-4 : goal.returns-then-at-4
+returns-then-at-4 c = rw (word_statement_form c.args.limit c.args.cursor.now.left.now) (search rules)
 
--- a fault at the semicolon is a fault of the statement
-pub returns-in_err-sign : goal.returns-in_err-sign
-returns-in_err-sign c = rw (word_statement_form c.args.limit c.args.cursor.now.left.now) (search rules)
-
--- an expression with a semicolon is what the code builds
+-- an expression with a semicolon is a statement
 pub returns : goal.returns
 returns c = rw (word_statement_form c.args.limit c.args.cursor.now.left.now) (search rules)

@@ -4,8 +4,8 @@ use Rattle.snl_syntax.specs.Definitions.{starts_part}
 use Rattle.snl_tree.specs.reading.Definitions.{part_at, parts_at}
 use Rattle.snl_syntax.specs.view.Definitions.{definition_view}
 use Rattle.snl_tree.proofs.code.Turns.{found_none, found_more, found_all, found_fails}
-use Rattle.snl_tree.proofs.grammar.DefinitionLaws.{part_less}
-use Rattle.snl_tree.proofs.readers.definitions.parts.Goals as goal
+use Rattle.snl_tree.proofs.grammar.OptionLaws.{part_less}
+use Rattle.snl_tree.proofs.readers.options.parts.Goals as goal
 
 -- at first no definition or option is found, and all are left to read
 pub loop-alloc-init : goal.loop-alloc-init

@@ -3,7 +3,7 @@ use Rattle.snl_syntax.specs.Definitions.{starts_part}
 use Rattle.snl_tree.specs.reading.Definitions.{part_at, parts_at}
 use Rattle.snl_syntax.specs.view.Definitions.{definition_view}
 use Rattle.snl_tree.proofs.code.Turns.{Found}
-use Rattle.snl_tree.proofs.readers.definitions.parts.Given as goal
+use Rattle.snl_tree.proofs.readers.options.parts.Given as goal
 
 -- the definitions and options are those found, and those left to read
 abbrev pub invariant-loop-alloc : goal.invariant-loop-alloc
