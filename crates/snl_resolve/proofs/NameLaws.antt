@@ -99,10 +99,12 @@ mutual
   expressions w c q (conditional e a b) = both _ _ _ _ (both _ _ _ _ (expressions w c (inner q) e) (expressions w c (inner q) a)) (expressions w c (inner q) b)
   expressions w c q (assignment e op f) = skip _ _ _ refl (both _ _ _ _ (expressions w c (target q) e) (expressions w c (inner q) f))
 
+  -- those of the terms of a chain
   terms : (w : Bool) (c : Sight) (q : Purpose) (l : TermList) → Fits (s.in_terms w c q l) (n.in_terms c.scopes l)
   terms w c q no_terms = none
   terms w c q (term op e rest) = both _ _ _ _ (expressions w c q e) (terms w c q rest)
 
+  -- those of arguments
   arguments : (w : Bool) (c : Sight) (q : Purpose) (k : ℕ) (l : ArgumentList) → Fits (s.in_arguments w c q k l) (n.in_arguments c.scopes k l)
   arguments w c q k no_arguments = none
   arguments w c q k (value e rest) = both _ _ _ _ (not_the_word (is_word k e) _ _ (expressions w c q e)) (arguments w c q (k - 1) rest)
@@ -155,10 +157,12 @@ mutual
   statements k g c l (while_loop t e a) = both _ _ _ _ (read c e) (statements k g c true a)
   statements k g c l (for_loop t h a) = both _ _ _ _ (headers c h) (statements k g c true a)
 
+  -- those of statements
   statement_lists : (k : Room) (g : List Token) (c : Sight) (l : Bool) (a : StatementList) → Fits (s.in_statements k g c l a) (n.in_statements c.scopes a)
   statement_lists k g c l no_statements = none
   statement_lists k g c l (statement a rest) = both _ _ _ _ (statements k g c l a) (statement_lists k g c l rest)
 
+  -- those of a block
   blocks : (k : Room) (g : List Token) (c : Sight) (l : Bool) (b : BlockTree) → Fits (s.in_block k g c l b) (n.in_block c.scopes b)
   blocks k g c l (block ds all) =
       both _ _ _ _ (both _ _ [] _ (declared_names [] (scope_of c.scopes (map declaration ds))) (each _ _ (declarations (within (scope_of c.scopes (map declaration ds)) c) true) ds))

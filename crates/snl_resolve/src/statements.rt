@@ -207,8 +207,8 @@ fn note_statements<'a>(
     sites: &mut Vec<Site<'a>>,
 ) -> Result<(), AllocError>
     ensures { OnOk result (sites.new.items ≡ sites.old.items
-        ++ spec.in_statements around.now.room around.now.states.now (sight_of sight.now) in_loop (statement_list
-        (map statement_view statements.now))) }
+        ++ spec.in_statements around.now.room around.now.states.now (sight_of sight.now) in_loop
+        (statement_list (map statement_view statements.now))) }
 {
     for statement in statements {
         note_statement(alloc, statement, around, sight, in_loop, sites)?;

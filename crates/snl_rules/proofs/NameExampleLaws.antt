@@ -13,10 +13,11 @@ use Rattle.snl_rules.proofs.WayLaws.{leads_named, along}
 abbrev number : Token → Option ℕ
 number t = number_of (state_names named_by_one_that_is_not_reached) t.text.now
 
--- the second state, and the third
+-- the second state
 abbrev second_of_them : StateTree
 second_of_them = state_of (name 2 (codes "b")) None (always (block [] no_statements) (to_state (name 10 (codes "c"))) ∷ [])
 
+-- the third state
 abbrev third_of_them : StateTree
 third_of_them = state_of (name 3 (codes "c")) None []
 

@@ -16,6 +16,7 @@ pub enum Def<'a> {
     /// `evflag : 'evflag' NAME ( ',' NAME )* ';'`, with at least one name.
     EventFlags(Vec<Token<'a>>),
     Setting(Setting<'a>),
+    /// `fdef`, only in a program.
     Function(Box<Function<'a>>),
 }
 

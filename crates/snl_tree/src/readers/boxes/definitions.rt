@@ -79,7 +79,8 @@ pub fn push_assign<'a>(
 /// Puts a monitor at the end of a row.
 #[tactic(auto, using(crate::proofs::code::Building::in_a_row))]
 pub fn push_monitor<'a>(row: &mut Vec<Def<'a>>, place: Box<Place<'a>>) -> Result<(), Halt>
-    ensures { Appends definition_view row.old.items result row.new.items (kinds.monitor (held place_view place.entry)) }
+    ensures { Appends definition_view row.old.items result row.new.items
+        (kinds.monitor (held place_view place.entry)) }
 {
     pushed(row, Def::Monitor(Box::into_inner(place)))
 }
@@ -129,7 +130,8 @@ pub fn push_sync_queue<'a>(
 /// Puts the declaration of event flags at the end of a row.
 #[tactic(auto, using(crate::proofs::code::Building::in_a_row))]
 pub fn push_event_flags<'a>(row: &mut Vec<Def<'a>>, names: Vec<Token<'a>>) -> Result<(), Halt>
-    ensures { Appends definition_view row.old.items result row.new.items (kinds.event_flags (token_list names.entry)) }
+    ensures { Appends definition_view row.old.items result row.new.items
+        (kinds.event_flags (token_list names.entry)) }
 {
     pushed(row, Def::EventFlags(names))
 }
@@ -137,7 +139,8 @@ pub fn push_event_flags<'a>(row: &mut Vec<Def<'a>>, names: Vec<Token<'a>>) -> Re
 /// Puts an option at the end of a row.
 #[tactic(auto, using(crate::proofs::code::Building::in_a_row))]
 pub fn push_setting<'a>(row: &mut Vec<Def<'a>>, setting: Setting<'a>) -> Result<(), Halt>
-    ensures { Appends definition_view row.old.items result row.new.items (kinds.setting (setting_view setting.entry)) }
+    ensures { Appends definition_view row.old.items result row.new.items
+        (kinds.setting (setting_view setting.entry)) }
 {
     pushed(row, Def::Setting(setting))
 }
