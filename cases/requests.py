@@ -1,12 +1,13 @@
 """Memory. A run takes none: snlrun asks for it as often over a trace of one line as over one of ten thousand. And each request of a
-call may be refused: the status is 4 then, nothing is written, and nothing of the trace is read. One alone is of no weight: the
-library that collects the words of the call asks for all their room at first, and else for it word by word."""
+call may be refused: the status is 4 then, nothing is written, and nothing of the trace is read. A call that answers otherwise
+than it has to, or whose requests nobody counted, is a failure, too."""
 import os
 import shutil
 import subprocess
 import tempfile
 from concurrent.futures import ThreadPoolExecutor
 from pathlib import Path
+from typing import NamedTuple
 
 HERE = Path(__file__).resolve().parent
 SOURCE = """program r
@@ -26,8 +27,46 @@ ss two { state b { when (w % 7 == 1) { efSet(f); w = 0; } state b } }
 """
 READY = "0 up a\n0 up p\n0 up q\n0 val p 1\n0 val q 2\n0 val a 1\n"
 LINES = "".join(f"{n} val {'apq'[n % 3]} {n}\n" for n in range(1, 10_001))
-# Calls whose every request is refused in turn. The macro is one that no channel has.
-CALLS = (("snc", ["--tables", "r.st"]), ("snlrun", ["+s", "--budget", "100", "r.st", "A=1"]))
+SOURCES = {
+    "r.st": SOURCE,
+    "syntax.st": SOURCE.replace("ss two", "ss ss"),
+    "byte.st": '# 7 "before.c"\n' + SOURCE + "\n@",
+    "ten.st": SOURCE.replace("int v", "".join(f"assign u{n}; " for n in range(10)) + "int v"),
+    "warned.st": SOURCE.replace("option +s;", "option -s; option +u; int unused;"),
+    "functions.st": SOURCE.replace("int w", "int twice(int n) { int m = n; return m + n; } int w").replace("w % 7", "twice(w) % 7"),
+}
+
+
+class Call(NamedTuple):
+    """A call whose every request is refused in turn."""
+
+    tool: str
+    words: list
+    # Its status where none is refused, and how many requests it has at least.
+    status: int
+    least: int
+    # So many are of no weight: what the library collects it asks all room for at first, and else room for one more each time.
+    # The words of a call are collected so, and the messages that are let through.
+    free: int
+
+
+# The macro is one that no channel has.
+CALLS = (
+    Call("snc", ["--tables", "r.st"], 0, 100, 1),
+    Call("snlrun", ["+s", "--budget", "100", "r.st", "A=1"], 0, 100, 1),
+    Call("snc", ["syntax.st"], 1, 100, 1),
+    Call("snlrun", ["byte.st"], 1, 20, 1),
+    Call("snc", ["--tables", "ten.st"], 1, 100, 2),
+    Call("snlrun", ["warned.st"], 0, 100, 2),
+    Call("snc", ["functions.st"], 1, 100, 2),
+    Call("snlrun", ["functions.st"], 1, 100, 2),
+    Call("snc", ["missing.st"], 3, 10, 1),
+    Call("snc", ["--help"], 0, 10, 1),
+    Call("snlrun", ["--help"], 0, 10, 1),
+    Call("snc", [], 2, 10, 0),
+    Call("snc", ["+z", "r.st"], 2, 5, 1),
+    Call("snlrun", ["--budget", "0", "r.st"], 2, 10, 1),
+)
 OUT_OF_MEMORY = 4
 # The number of a request that no call comes to.
 NEVER = 10**9
@@ -41,7 +80,8 @@ def failures(programs):
     with tempfile.TemporaryDirectory() as name:
         folder = Path(name)
         build(folder)
-        (folder / "r.st").write_text(SOURCE)
+        for file, source in SOURCES.items():
+            (folder / file).write_text(source)
         return [*more_over_a_long_trace(programs, folder), *answered_otherwise(programs, folder)]
 
 
@@ -55,20 +95,26 @@ def build(folder):
 
 
 def more_over_a_long_trace(programs, folder):
-    short, long = (requests(programs["snlrun"], folder, ["r.st"], it) for it in ("0 up a\n", READY + LINES))
-    if short != long:
-        yield f"FAILED requests.py: {short} requests for memory over one line, {long} over ten thousand"
+    short, long = (counted(programs["snlrun"], folder, ["r.st"], it) for it in ("0 up a\n", READY + LINES))
+    if short != long or short[0] != 0 or short[1] < 100:
+        yield f"FAILED requests.py: over one line status {short[0]} and {short[1]} requests, over ten thousand {long[0]} and {long[1]}"
 
 
 def answered_otherwise(programs, folder):
     trace = folder / "trace"
     trace.write_text(READY)
     with ThreadPoolExecutor(os.cpu_count()) as pool:
-        for tool, words in CALLS:
-            count = requests(programs[tool], folder, words, READY)
-            found = pool.map(lambda number: refused(programs[tool], folder, words, trace, number), range(1, count + 1))
+        for call in CALLS:
+            name = " ".join([call.tool, *call.words])
+            program = programs[call.tool]
+            status, count = counted(program, folder, call.words, READY)
+            if status != call.status or count < call.least:
+                yield f"FAILED requests.py: {name}: status {status}, and {count} requests were counted"
+            found = list(pool.map(lambda number: refused(program, folder, call.words, trace, number), range(1, count + 1)))
             told = [f"request {number} of {count} refused: {said}" for number, said in enumerate(found, 1) if said]
-            yield from (f"FAILED requests.py: {tool}, {it}" for it in (told[1:] if told and WITHOUT in told[0] else told))
+            if found.count(WITHOUT) <= call.free:
+                told = [it for it in told if WITHOUT not in it]
+            yield from (f"FAILED requests.py: {name}: {it}" for it in told)
 
 
 def refused(program, folder, words, trace, number):
@@ -84,11 +130,11 @@ def refused(program, folder, words, trace, number):
     return f"status {run.returncode}, {run.stdout!r}, {run.stderr!r}, {read} bytes read"
 
 
-def requests(program, folder, words, trace):
-    """How often it asks over a trace."""
+def counted(program, folder, words, trace):
+    """The status of a call, and how often it asks; 0 where it tells no number."""
     run = called(program, folder, words, {}, input=trace.encode())
-    assert run.returncode == 0, (program, run.returncode, run.stderr)
-    return int(run.stderr.splitlines()[-1])
+    last = run.stderr.splitlines()[-1:]
+    return run.returncode, int(last[0]) if last and last[0].isdigit() else 0
 
 
 def called(program, folder, words, environment, **stdin):
