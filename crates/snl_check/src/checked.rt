@@ -71,13 +71,6 @@ impl<'a> Checked<'a> {
     {
         self.options.c.unwrap_or(true)
     }
-
-    /// The program alone.
-    pub fn into_program(self) -> Program<'a>
-        ensures { result ≡ self.entry.program }
-    {
-        self.program
-    }
 }
 
 /// What a check found.
