@@ -86,6 +86,10 @@ def functions():
     for size in (13, 14):
         lines = [*FULL[1:], "int x[1023];", f"int f(int n, int m) {{ {{ int v[{size}]; }} return n; }}", *sets(SIXTEEN)]
         yield limited(f"a function of {size + 3} words", lines, {1: WORDS}) if size > 13 else not_run(f"a function of {size + 3} words", lines)
+    # So do sixteen functions without a value and without a variable: one word each, for the place to return to.
+    for count in (16, 17):
+        lines = [*FULL[1:], "int x[1023];", *[f"void f{k}() {{ }}" for k in range(count)], *sets(SIXTEEN)]
+        yield limited(f"{count} functions of a word", lines, {1: WORDS}) if count > 16 else not_run(f"{count} functions of a word", lines)
 
 
 def two_limits():
