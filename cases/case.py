@@ -24,7 +24,7 @@ class Case:
     stdout: "bytes | re.Pattern | Path" = b""
     stderr: "bytes | re.Pattern" = b""
     statuses: tuple = (0,)
-    # The program that is called: `snlrun` or `snc`.
+    # The program that is called: `snlrun`, `snc` or `snl`.
     tool: str = "snlrun"
 
     def failure(self, programs):
@@ -34,8 +34,8 @@ class Case:
         except subprocess.TimeoutExpired:
             return f"FAILED {self.name}\n  no end within {SECONDS} seconds"
         said = [] if status in self.statuses else [f"status {status}, not {' or '.join(map(str, self.statuses))}"]
-        if status == 1 and not stderr:
-            said.append("status 1, and no message")
+        if status == 1 and not stderr and not stdout:
+            said.append("status 1, and nothing was said")
         said += differences("stdout", self.stdout, stdout) + differences("stderr", self.stderr, stderr)
         return "\n  ".join([f"FAILED {self.name}", *said]) if said else None
 

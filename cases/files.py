@@ -54,6 +54,9 @@ def cases_of_sections(name, source, sections):
             made[stream] = ANY
     if "tool" in sections:
         made["tool"] = sections["tool"][0]
+    if made.get("tool") == "port":
+        # Which snc there is has not to matter.
+        made["words"] = [b"--snc=", b"p.st"]
     if "args" in sections:
         made["words"] = plain(sections["args"][1]).splitlines()
     if "rows" not in sections:

@@ -4,11 +4,15 @@ Those that need a program which a machine may lack name it in `needs`; `run` the
 """
 import os
 import subprocess
+import sys
 import tempfile
 from dataclasses import dataclass
 from pathlib import Path
 from typing import Callable
 
+# A program of which something is left by hand, and what is said of it.
+UNPORTED = b"program p\noption +s;\nint x;\nss s { state w { when (time(x)) {} exit } }\n"
+NOTED = b"-:4: by hand: function 'time': time(x)\nNEW:4: error: E13 'BY_HAND' is not declared\n"
 # For each call: a package takes seconds, and many of them beside other work.
 SECONDS = 300
 
@@ -25,7 +29,7 @@ class Outside:
         with tempfile.TemporaryDirectory(prefix="snlrun-") as folder:
             built = Path(folder, "built programs")
             os.mkdir(built)
-            for name in ("snc", "snlrun"):
+            for name in ("snc", "snlrun", "snl"):
                 os.symlink(programs[name], built / name)
             try:
                 wrong = self.check(Path(folder), built)
@@ -72,14 +76,20 @@ def not_whole(root, prefix, manual=".1"):
     if said != (root / "examples/light.out").read_text():
         return "the example prints something else"
     called(prefix / "bin/snc", pages / "examples/light.st")
+    for script in ("record", "live"):
+        called(sys.executable, pages / f"scripts/epics/{script}.py", "--help")
+    # The script finds the program that is installed with it.
+    ported = subprocess.run([pages / "scripts/port", "-"], input=UNPORTED, capture_output=True, timeout=SECONDS)
+    if (ported.returncode, ported.stderr) != (1, NOTED):
+        return f"scripts/port says {ported}"
     wanted = [pages / it.relative_to(root) for it in [root / "README.md", root / "VERSION", *root.glob("docs/*.md")]]
-    wanted += [prefix / f"share/man/man1/{it}{manual}" for it in ("snc", "snlrun")]
+    wanted += [prefix / f"share/man/man1/{it}{manual}" for it in ("snc", "snlrun", "snl")]
     return ", ".join(f"{it} is not there" for it in wanted if not it.exists())
 
 
 def manuals(root, folder, built):
     called(root / "bin/install", "--from", built, folder / "prefix")
-    for name in ("snc", "snlrun"):
+    for name in ("snc", "snlrun", "snl"):
         page = folder / f"prefix/share/man/man1/{name}.1"
         shown = called("man", "--warnings", "-l", page, env={**os.environ, "MANWIDTH": "100", "LC_ALL": "C.UTF-8"})
         for title in ("NAME", "SYNOPSIS", "DESCRIPTION", "HELP", "EXIT STATUS", "SEE ALSO"):

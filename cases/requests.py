@@ -1,7 +1,9 @@
 """Memory. A run takes none: snlrun asks for it as often over a trace of one line as over one of ten thousand. And each request of a
-call may be refused: the status is 4 then, nothing is written, and nothing of the trace is read. A call that answers otherwise
-than it has to, or whose requests nobody counted, is a failure, too."""
+call may be refused: the status is 4 then, nothing is written, and nothing of the trace is read, but by `snl`, which makes its
+answer behind the trace. A call that answers otherwise than it has to, or whose requests nobody counted, is a failure, too.
+Where memory ends while tables are written, a beginning of them is left: no program shows that, so a test of snl_tests tells it."""
 import os
+import re
 import shutil
 import subprocess
 import tempfile
@@ -10,6 +12,7 @@ from pathlib import Path
 from typing import NamedTuple
 
 HERE = Path(__file__).resolve().parent
+TABLES = HERE.parent / "docs/TABLES.md"
 SOURCE = """program r
 option +s;
 int x; assign x to "a"; monitor x;
@@ -33,6 +36,7 @@ SOURCES = {
     "byte.st": '# 7 "before.c"\n' + SOURCE + "\n@",
     "ten.st": SOURCE.replace("int v", "".join(f"assign u{n}; " for n in range(10)) + "int v"),
     "warned.st": SOURCE.replace("option +s;", "option -s; option +u; int unused;"),
+    "waiting.st": SOURCE.replace('"q"', '"quiet"').replace('"p"', '"pp"'),
     "functions.st": SOURCE.replace("int w", "int twice(int n) { int m = n; return m + n; } int w").replace("w % 7", "twice(w) % 7"),
 }
 
@@ -46,7 +50,7 @@ class Call(NamedTuple):
     status: int
     least: int
     # So many are of no weight: what the library collects it asks all room for at first, and else room for one more each time.
-    # The words of a call are collected so, and the messages that are let through.
+    # The words of a call are collected so, the messages that are let through, and what names are compared by.
     free: int
 
 
@@ -66,11 +70,20 @@ CALLS = (
     Call("snc", [], 2, 10, 0),
     Call("snc", ["+z", "r.st"], 2, 5, 1),
     Call("snlrun", ["--budget", "0", "r.st"], 2, 10, 1),
+    Call("snl", ["waits", "r.st"], 0, 100, 1),
+    Call("snl", ["waits", "+s", "waiting.st", "A=1"], 1, 100, 3),
+    Call("snl", ["wait", "r.st"], 2, 5, 4),
 )
 OUT_OF_MEMORY = 4
 # The number of a request that no call comes to.
 NEVER = 10**9
 WITHOUT = "the answer is the same without it"
+# The test of `snl_tests`, what it writes with the tables that are left where their call failed, and its status then.
+TEST = "tests::beginnings::tables_or_their_beginning"
+LEFT = re.compile(rb"left: (.*)\nthe test failed: [^\n]+\n", re.DOTALL)
+FAILED = 101
+# Of its requests so many are of no weight: it has a warning, and so messages that are let through (`Call.free`).
+FREE = 1
 
 
 def failures(programs):
@@ -82,7 +95,8 @@ def failures(programs):
         build(folder)
         for file, source in SOURCES.items():
             (folder / file).write_text(source)
-        return [*more_over_a_long_trace(programs, folder), *answered_otherwise(programs, folder)]
+        found = [*more_over_a_long_trace(programs, folder), *answered_otherwise(programs, folder)]
+        return [*found, *tables_left(programs["snl_tests"], folder)]
 
 
 def build(folder):
@@ -110,19 +124,36 @@ def answered_otherwise(programs, folder):
             status, count = counted(program, folder, call.words, READY)
             if status != call.status or count < call.least:
                 yield f"FAILED requests.py: {name}: status {status}, and {count} requests were counted"
-            found = list(pool.map(lambda number: refused(program, folder, call.words, trace, number), range(1, count + 1)))
+            found = list(pool.map(lambda number: refused(program, folder, call, trace, number), range(1, count + 1)))
             told = [f"request {number} of {count} refused: {said}" for number, said in enumerate(found, 1) if said]
             if found.count(WITHOUT) <= call.free:
                 told = [it for it in told if WITHOUT not in it]
             yield from (f"FAILED requests.py: {name}: {it}" for it in told)
 
 
-def refused(program, folder, words, trace, number):
+def tables_left(tests, folder):
+    """Where a request of the test is refused, it fails, and tells the tables that are left or not; once at least some are."""
+    if not os.access(tests, os.X_OK):
+        yield f"FAILED requests.py: there is no program {tests}: build it by `rt ci`, or by `rt test` in the crate snl_tests"
+        return
+    status, count = counted(tests, folder, [TEST], "")
+    whole = re.findall(rb"^```\n(.*?)^```$", TABLES.read_bytes(), re.DOTALL | re.MULTILINE)[1]
+    with ThreadPoolExecutor(os.cpu_count()) as pool:
+        ran = list(pool.map(lambda number: called(tests, folder, [TEST], {"REFUSED": str(number)}), range(1, count + 1)))
+    left = [it[1] for it in (LEFT.fullmatch(one.stderr) for one in ran) if it]
+    begun = [it for it in left if whole.startswith(it) and 0 < len(it) < len(whole)]
+    answered = sum(it.returncode != FAILED for it in ran)
+    if status != 0 or not begun or len(begun) + left.count(b"") < len(left) or answered > FREE:
+        yield f"FAILED requests.py: {TEST}: status {status}, {count} requests, {answered} of no weight, left {left}"
+
+
+def refused(program, folder, call, trace, number):
     """What is wrong with the answer where a request is refused; None where it is right."""
+    words = call.words
     with open(trace, "rb") as stdin:
         run = called(program, folder, words, {"REFUSED": str(number)}, stdin=stdin)
         read = os.lseek(stdin.fileno(), 0, os.SEEK_CUR)
-    if run.returncode == OUT_OF_MEMORY and not run.stdout and not run.stderr and read == 0:
+    if run.returncode == OUT_OF_MEMORY and not run.stdout and not run.stderr and (read == 0 or call.tool == "snl"):
         return None
     plain = called(program, folder, words, {"REFUSED": str(NEVER)}, input=trace.read_bytes())
     if (run.returncode, run.stdout, run.stderr) == (plain.returncode, plain.stdout, plain.stderr):

@@ -40,7 +40,7 @@ class Calls:
     tool: str = "snlrun"
 
     def failure(self, programs):
-        """Runs the calls in a folder that has bin/ and examples/; None where they print what they have to."""
+        """Runs the calls in a folder that has bin/, examples/ and scripts/; None where they print what they have to."""
         with tempfile.TemporaryDirectory(prefix="snlrun-") as folder:
             made_up(Path(folder), self.root, programs)
             how = {"stdout": subprocess.PIPE, "stderr": subprocess.STDOUT, "stdin": subprocess.DEVNULL, "cwd": folder}
@@ -55,8 +55,9 @@ class Calls:
 def made_up(folder, root, programs):
     """Makes a folder in which the calls of a page can be run as from the top of the repository."""
     os.mkdir(folder / "bin")
-    for name in ("snc", "snlrun"):
+    for name in ("snc", "snlrun", "snl"):
         os.symlink(programs[name], folder / "bin" / name)
     (folder / "bin/try").write_text('#!/bin/sh\nname=$1\nshift\nexec "${0%try}$name" "$@"\n')
     os.chmod(folder / "bin/try", 0o755)
-    os.symlink(root / "examples", folder / "examples")
+    for name in ("examples", "scripts"):
+        os.symlink(root / name, folder / name)

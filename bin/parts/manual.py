@@ -29,8 +29,8 @@ PAGE = """.TH {upper} 1 "" "{name} {version}" "State Notation Language"
 .SH SEE ALSO
 {others}
 .PP
-The language, the trace and the messages: the pages LANGUAGE.md, TRACE.md and MESSAGES.md, which are installed beside this one in
-share/doc/snlrun, with examples.
+The language, the trace, the messages and the words of snl: the pages LANGUAGE.md, TRACE.md, MESSAGES.md and TOOLS.md, which are
+installed beside this one in share/doc/snlrun, with examples.
 """
 
 

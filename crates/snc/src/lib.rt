@@ -1,7 +1,7 @@
 //! From the bytes of a program to its messages, and from those of a trace to the lines of its run.
 //!
 //! `read_words` reads the words of a call. `report` checks a program; `session` checks it and, if it has no error, runs
-//! it over a trace.
+//! it over a trace. `judged` gives what the rules say of a source with its program, for who goes on with that.
 #![tactic(auto)]
 
 mod jobs;
@@ -11,8 +11,9 @@ mod reports;
 mod sessions;
 
 pub use jobs::{Report, Status};
+pub use messages::{Findings, judged};
 pub use reports::report;
-pub use sessions::session;
+pub use sessions::{macros_of, session};
 pub use snc_args::{DEFAULT_BUDGET, Job, Tool, WordsFault, read_words};
 pub use snl_check::Options;
 pub use snl_machine::{Sink, SinkFault};

@@ -78,7 +78,7 @@ fn push_named<'t>(
     Ok(())
 }
 
-/// Adds the line of a message.
+/// Adds the line of a message. Fails only where memory ends.
 pub fn push_line(
     out: &mut Vec<u8>,
     names: Names,
@@ -96,7 +96,7 @@ pub fn push_line(
     Ok(())
 }
 
-/// Adds the lines of messages.
+/// Adds the lines of messages. Fails only where memory ends.
 pub fn push_lines(out: &mut Vec<u8>, names: Names, messages: &[Message]) -> Result<(), AllocError>
     ensures { OnOk result (out.new.items ≡ out.old.items
         ++ text_of names.entry.read.now (map (λ name. name.now) names.entry.marked.now) (map said messages.now)) }

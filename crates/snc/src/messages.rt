@@ -17,14 +17,19 @@ use snl_text::{LexFault, Lexed, Pos, Token, lex};
 use snl_tree::{ParseFault, parse};
 use std::alloc::{AllocError, Global};
 
-/// What the rules say of a source: its messages as text, and the program if none is an error.
+/// What the rules say of a source.
 #[derive(Drop)]
 pub struct Findings<'a> {
+    /// A line for each message, in the order of the source.
     pub messages: Vec<u8>,
+    /// The program, if no message is an error.
     pub checked: Option<Checked<'a>>,
 }
 
-/// Reads and checks a source. A lexical fault has its one message alone, and so has a syntax fault.
+/// Reads and checks a source, whose file is called by a word, under the options of a call. A lexical fault has its one
+/// message alone, and so has a syntax fault.
+///
+/// Fails only where memory ran out.
 pub fn judged<'a>(
     alloc: Global,
     source: &'a [u8],

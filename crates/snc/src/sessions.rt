@@ -44,7 +44,7 @@ pub fn session<R: Source, S: Sink>(
 }
 
 /// The macros of a call; none where they were left out.
-fn macros_of(job: &Job) -> Macros<'_>
+pub fn macros_of(job: &Job) -> Macros<'_>
     ensures { result.text.now ≡ unwrap_or (option_map string_bytes job.now.macros) [] }
 {
     match &job.macros {

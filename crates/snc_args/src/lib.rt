@@ -10,4 +10,5 @@ mod options;
 mod reading;
 mod words;
 
+pub use options::{first_refused, options_in_force, rest_of};
 pub use words::{DEFAULT_BUDGET, Job, Tool, WordsFault, read_words};

@@ -50,7 +50,7 @@ fn refused_letter(option: OptionWord<'_>) -> Option<char>
 }
 
 /// The sign and the first refused character of the first option that has one.
-pub(crate) fn first_refused(words: &[String]) -> Option<(char, char)>
+pub fn first_refused(words: &[String]) -> Option<(char, char)>
     ensures { result ≡ spec.first_refused (spec.options_among (map string_bytes words.now)) }
 {
     for word in words {
@@ -65,7 +65,7 @@ pub(crate) fn first_refused(words: &[String]) -> Option<(char, char)>
 }
 
 /// What the options say together: of each letter the last sign is in force.
-pub(crate) fn options_in_force(words: &[String]) -> Options
+pub fn options_in_force(words: &[String]) -> Options
     ensures { result ≡ spec.options_in_force (spec.options_among (map string_bytes words.now)) }
 {
     let mut options = Options::none();
@@ -77,8 +77,8 @@ pub(crate) fn options_in_force(words: &[String]) -> Options
     options
 }
 
-/// The words that are no options, in order.
-pub(crate) fn rest_of<'w>(alloc: Global, words: &'w [String]) -> Result<Vec<&'w str>, AllocError>
+/// The words that are no options, in order. Fails only where memory ran out.
+pub fn rest_of<'w>(alloc: Global, words: &'w [String]) -> Result<Vec<&'w str>, AllocError>
     ensures { IfOk result (λ rest.
         map (λ w. w.now) rest.items ≡ spec.rest_words (map string_bytes words.now)) }
 {

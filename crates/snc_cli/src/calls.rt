@@ -15,8 +15,9 @@ pub fn job_of(rt: &HostRuntime, tool: Tool) -> Result<Job, Status> {
     }
 }
 
-/// The words behind the program's own name. One that is not UTF-8 can't stand in messages, and is refused.
-fn words_of(rt: &HostRuntime) -> Result<Vec<String>, Status> {
+/// The words behind the program's own name. One that is not UTF-8 can't stand in messages: then the user is told so, and the
+/// answer is `Usage`. `Memory` where memory ran out.
+pub fn words_of(rt: &HostRuntime) -> Result<Vec<String>, Status> {
     let mut given = match env::args(rt) {
         Ok(given) => given,
         Err(fault) if fault.kind() == ErrorKind::OutOfMemory => return Err(Status::Memory),

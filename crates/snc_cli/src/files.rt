@@ -17,13 +17,30 @@ pub fn source_of(rt: &HostRuntime, program: &str, path: &str) -> Result<Vec<u8>,
     bytes
 }
 
+/// The same, where `-` stands for standard input: that is read to its end then, or as far as a source may go.
+pub fn source_in(rt: &HostRuntime, program: &str, path: &str) -> Result<Vec<u8>, Status> {
+    if path != "-" {
+        return source_of(rt, program, path);
+    }
+    let bytes = front_of(rt, rt.stdin());
+    if let Err(Status::InputOutput) = &bytes {
+        let _ = eprintln!(rt; "{program}: cannot read standard input");
+    }
+    bytes
+}
+
 /// The bytes of a file, no more than are looked at.
 fn bytes_of(rt: &HostRuntime, path: &str) -> Result<Vec<u8>, Status> {
-    let Ok(file) = File::open(rt, path) else {
-        return Err(Status::InputOutput);
-    };
+    match File::open(rt, path) {
+        Ok(file) => front_of(rt, file),
+        Err(_) => Err(Status::InputOutput),
+    }
+}
+
+/// All bytes, no more than are looked at.
+fn front_of<R: Read + Drop>(rt: &HostRuntime, input: R) -> Result<Vec<u8>, Status> {
     let mut bytes = Vec::new(rt.alloc());
-    let mut front = file.take(SOURCE_LIMIT as u64 + 1);
+    let mut front = input.take(SOURCE_LIMIT as u64 + 1);
     match front.read_to_end(&mut bytes) {
         Ok(_) => Ok(bytes),
         Err(fault) if fault.kind() == ErrorKind::OutOfMemory => Err(Status::Memory),

@@ -1,8 +1,8 @@
-//! What both programs do with the system they run on: the words of a call, the bytes of FILE, messages.
+//! What the programs do with the system they run on: the words of a call, the bytes of FILE, messages.
 #![tactic(auto)]
 
 mod calls;
 mod files;
 
-pub use calls::{job_of, tell, write};
-pub use files::source_of;
+pub use calls::{job_of, tell, words_of, write};
+pub use files::{source_in, source_of};

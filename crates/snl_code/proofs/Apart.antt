@@ -10,7 +10,7 @@ use Rattle.snl_emit.specs.BlockCode.{condition_piece, block_piece}
 use Rattle.snl_emit.proofs.Pieces.{conditions-right}
 use Rattle.snl_code.specs.declared.starts.ClauseStarts.{ClauseStarts}
 use Rattle.snl_code.specs.Apart.{IsAlone, AreApart}
-use Rattle.snl_code.specs.Heres.{here_in}
+use Rattle.snl_code.specs.Heres.{here_in, scene_in}
 use Rattle.snl_code.specs.Layout.{row_code, row_starts, maybe_code, start_after, clause_code, clause_starts, code_if, starts_if, kept_code, kept_starts, program_code, program_starts}
 use Rattle.snl_code.specs.Reached.{Table}
 use Rattle.snl_code.specs.Starts.{StateTable, state_in}
@@ -45,7 +45,7 @@ module _ (p : ProgramTree) (whole : List Instr) (set : ℕ) where
         begins = le;
         ends = omega (arith, short);
         within = omega (arith, long);
-        is = λ room deep. conditions-right h (take (length front) whole) room (length before) c (has-at before piece [] (take (length front) whole) taken) deep;
+        is = λ room deep. conditions-right (scene_in p set) (take (length front) whole) room (length before) c (has-at before piece [] (take (length front) whole) taken) deep;
       }
 
   -- clauses in a row

@@ -4,10 +4,11 @@ use Rattle.std.specs.Prelude.{option_map, option_and_then}
 use Rattle.snl_syntax.specs.Expressions.{ExprTree}
 use Rattle.snl_syntax.specs.Programs.{ProgramTree}
 use Rattle.snl_syntax.specs.Statements.{BlockTree}
-use Rattle.snl_emit.specs.BlockCode.{maybe_depth, block_depth}
-use Rattle.snl_emit.specs.ExpressionCode.{expression_depth}
+use Rattle.snl_emit.specs.Depths.{maybe_depth, block_depth, expression_depth}
 use Rattle.snl_code.specs.declared.starts.Piece.{Piece}
 use Rattle.snl_code.specs.declared.starts.Piece.TheVariants.{ProgramEntry, ProgramExit, Entry, Exit, Condition, Block}
+use Rattle.snl_meaning.specs.Names.{Outline}
+use Rattle.snl_code.specs.Heres.{outlines_in}
 use Rattle.snl_code.specs.Depths.{greatest, depth_if_there, clause_depth, state_depth, set_depth, program_depth}
 use Rattle.snl_code.specs.Pieces.{PieceTree, Test, Action, state_at, clause_at, piece_of, piece_depth, DepthIsEnough}
 
@@ -29,43 +30,47 @@ map-most f g h None n k l = omega arith
 map-most f g h (Some a) n k l = omega (arith, k, l a)
 
 -- a condition that may be missing
-maybe-most : (o : Option ExprTree) → depth_if_there expression_depth o ≤ maybe_depth o
-maybe-most None = omega arith
-maybe-most (Some e) = omega arith
+maybe-most : (fs : List Outline) (o : Option ExprTree) → depth_if_there (expression_depth fs) o ≤ maybe_depth fs o
+maybe-most fs None = omega arith
+maybe-most fs (Some e) = omega arith
 
 module _ (p : ProgramTree) where
+  -- the functions that a piece may call
+  abbrev fs : List Outline
+  fs = outlines_in p
+
   -- a state
-  state-most : (set state : ℕ) → depth_if_there state_depth (state_at p set state) ≤ program_depth p
+  state-most : (set state : ℕ) → depth_if_there (state_depth fs) (state_at p set state) ≤ program_depth p
   state-most set state =
-      then-most set_depth state_depth (λ g. slice_get g.states state) (slice_get p.state_sets set) (program_depth p)
-      (omega (arith, at-most set_depth p.state_sets set)) (λ g. omega (arith, at-most state_depth g.states state))
+      then-most (set_depth fs) (state_depth fs) (λ g. slice_get g.states state) (slice_get p.state_sets set) (program_depth p)
+      (omega (arith, at-most (set_depth fs) p.state_sets set)) (λ g. omega (arith, at-most (state_depth fs) g.states state))
 
   -- a clause
-  clause-most : (set state k : ℕ) → depth_if_there clause_depth (clause_at p set state k) ≤ program_depth p
+  clause-most : (set state k : ℕ) → depth_if_there (clause_depth fs) (clause_at p set state k) ≤ program_depth p
   clause-most set state k =
-      then-most state_depth clause_depth (λ s. slice_get s.clauses k) (state_at p set state) (program_depth p)
-      (state-most set state) (λ s. omega (arith, at-most clause_depth s.clauses k))
+      then-most (state_depth fs) (clause_depth fs) (λ s. slice_get s.clauses k) (state_at p set state) (program_depth p)
+      (state-most set state) (λ s. omega (arith, at-most (clause_depth fs) s.clauses k))
 
   -- a block
-  action : (set : ℕ) (b : Option BlockTree) (n : ℕ) → depth_if_there block_depth b ≤ n → depth_if_there piece_depth (option_map (Action set) b) ≤ n
-  action set b n h = map-most block_depth piece_depth (Action set) b n h (λ a. omega arith)
+  action : (set : ℕ) (b : Option BlockTree) (n : ℕ) → depth_if_there (block_depth fs) b ≤ n → depth_if_there (piece_depth p) (option_map (Action set) b) ≤ n
+  action set b n h = map-most (block_depth fs) (piece_depth p) (Action set) b n h (λ a. omega arith)
 
   -- each piece
-  piece-most : (name : Piece) → depth_if_there piece_depth (piece_of p name) ≤ program_depth p
+  piece-most : (name : Piece) → depth_if_there (piece_depth p) (piece_of p name) ≤ program_depth p
   piece-most ProgramEntry = action 0 p.entry (program_depth p) (omega arith)
   piece-most ProgramExit = action 0 p.exit (program_depth p) (omega arith)
   piece-most (Entry set state) =
-      then-most state_depth piece_depth (λ s. option_map (Action set) s.entry) (state_at p set state) (program_depth p) (state-most set state)
-      (λ s. action set s.entry (state_depth s) (omega arith))
+      then-most (state_depth fs) (piece_depth p) (λ s. option_map (Action set) s.entry) (state_at p set state) (program_depth p) (state-most set state)
+      (λ s. action set s.entry (state_depth fs s) (omega arith))
   piece-most (Exit set state) =
-      then-most state_depth piece_depth (λ s. option_map (Action set) s.exit) (state_at p set state) (program_depth p) (state-most set state)
-      (λ s. action set s.exit (state_depth s) (omega arith))
+      then-most (state_depth fs) (piece_depth p) (λ s. option_map (Action set) s.exit) (state_at p set state) (program_depth p) (state-most set state)
+      (λ s. action set s.exit (state_depth fs s) (omega arith))
   piece-most (Condition set state k) =
-      then-most clause_depth piece_depth (λ c. option_map (Test set) c.condition) (clause_at p set state k) (program_depth p) (clause-most set state k)
-      (λ c. map-most expression_depth piece_depth (Test set) c.condition (clause_depth c) (omega (arith, maybe-most c.condition)) (λ e. omega arith))
+      then-most (clause_depth fs) (piece_depth p) (λ c. option_map (Test set) c.condition) (clause_at p set state k) (program_depth p) (clause-most set state k)
+      (λ c. map-most (expression_depth fs) (piece_depth p) (Test set) c.condition (clause_depth fs c) (omega (arith, maybe-most fs c.condition)) (λ e. omega arith))
   piece-most (Block set state k) =
-      map-most clause_depth piece_depth (λ c. Action set c.block) (clause_at p set state k) (program_depth p) (clause-most set state k) (λ c. omega arith)
+      map-most (clause_depth fs) (piece_depth p) (λ c. Action set c.block) (clause_at p set state k) (program_depth p) (clause-most set state k) (λ c. omega arith)
 
 -- each piece that is there
 pub depth_is_enough : DepthIsEnough
-depth_is_enough p name piece is = subst (λ (o : Option PieceTree). depth_if_there piece_depth o ≤ program_depth p) is (piece-most p name)
+depth_is_enough p name piece is = subst (λ (o : Option PieceTree). depth_if_there (piece_depth p) o ≤ program_depth p) is (piece-most p name)

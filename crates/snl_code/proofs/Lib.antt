@@ -10,6 +10,7 @@ pub mod InsideBlocks
 pub mod Inside
 pub mod InsidePieces
 pub mod CodeInside
-pub mod Copies
+pub mod Rows
 pub mod CodeShort
+pub mod SizesAlike
 pub mod CodeHeld

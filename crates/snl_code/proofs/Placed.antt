@@ -11,7 +11,7 @@ use Rattle.std.proofs.lemmas.List.{length-map}
 use Rattle.std.proofs.lemmas.Option.{slice_get_within}
 use Rattle.snl_rules.specs.Reach.{IsReached}
 use Rattle.snl_code.specs.Depths.{capped, program_depth}
-use Rattle.snl_code.specs.Heres.{here_in, states_by}
+use Rattle.snl_code.specs.Heres.{here_in, scene_in, states_by}
 use Rattle.snl_resolve.specs.Programs.{sites}
 use Rattle.std.specs.List.{flat_map}
 use Rattle.snl_meaning.specs.Endings.{HasAt}
@@ -102,10 +102,10 @@ stands-right p code None None f = tt
 stands-right p code None (Some start) f = absurd f
 stands-right p code (Some piece) None f = absurd f
 stands-right p code (Some (Test set e)) (Some start) f = λ room deep.
-    conditions-right (here_in p set) code room start e
+    conditions-right (scene_in p set) code room start e
     (subst (λ n. HasAt code n (condition_piece (here_in p set) e)) (sym f.3) (has-at f.0 (condition_piece (here_in p set) e) f.1 code f.2)) deep
 stands-right p code (Some (Action set b)) (Some start) f = λ room deep.
-    blocks-right (here_in p set) code room start b
+    blocks-right (scene_in p set) code room start b
     (subst (λ n. HasAt code n (block_piece (here_in p set) b)) (sym f.3) (has-at f.0 (block_piece (here_in p set) b) f.1 code f.2)) deep
 
 module _ (p : ProgramTree) (whole : List Instr) (set : ℕ) where

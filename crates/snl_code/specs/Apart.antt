@@ -3,10 +3,10 @@ use Rattle.std.specs.Prelude.{◌≡◌, ◌≤◌, ℕ, List, [], ◌∷◌, Op
 use Rattle.snl_syntax.specs.Expressions.{ExprTree}
 use Rattle.snl_syntax.specs.Programs.{ClauseTree, ProgramTree}
 use Rattle.snl_meaning.specs.declared.instrs.Instr.{Instr}
-use Rattle.snl_emit.specs.ExpressionCode.{expression_depth}
+use Rattle.snl_emit.specs.Depths.{expression_depth}
 use Rattle.snl_emit.specs.Right.{IsConditionAt}
 use Rattle.snl_code.specs.declared.starts.ClauseStarts.{ClauseStarts}
-use Rattle.snl_code.specs.Heres.{here_in}
+use Rattle.snl_code.specs.Heres.{outlines_in, scene_in}
 
 -- The condition of a clause begins no earlier than some address and ends where its clause's block begins: in the code up to
 -- there alone it is right.
@@ -16,7 +16,7 @@ pub record IsStretch (p : ProgramTree) (set : ℕ) (code : List Instr) (from : �
   pub begins : from ≤ start
   pub ends : start ≤ s.block
   pub within : s.block ≤ length code
-  pub is : (room : ℕ) → expression_depth condition ≤ room → IsConditionAt (here_in p set) (take s.block code) room start condition
+  pub is : (room : ℕ) → expression_depth (outlines_in p) condition ≤ room → IsConditionAt (scene_in p set) (take s.block code) room start condition
 
 -- The same of a condition that may be missing.
 abbrev pub IsAlone : ProgramTree → (set : ℕ) → List Instr → (from : ℕ) → Option ExprTree → ClauseStarts → Type 0

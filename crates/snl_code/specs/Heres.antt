@@ -1,11 +1,12 @@
--- Where the pieces of a program stand: what is known of the program, and on which state set's copy they run.
+-- Where the pieces of a program stand and run: what is known of the program, and on which state set's copy they run.
 use Rattle.std.specs.Prelude.{ℕ, ◌+◌, List, [], ◌∷◌, map, Option, None, Some, slice_get}
 use Rattle.snl_text.specs.declared.tokens.Token.{Token}
 use Rattle.snl_syntax.specs.Programs.{ProgramTree, StateSetTree}
 use Rattle.snl_resolve.specs.Programs.{sites}
 use Rattle.snl_resolve.specs.Variables.{variables_of}
 use Rattle.snl_meaning.specs.declared.names.Placed.{Placed}
-use Rattle.snl_meaning.specs.Names.{Here, placed_from}
+use Rattle.snl_meaning.specs.Names.{Here, Outline, placed_from}
+use Rattle.snl_meaning.specs.Scenes.{Scene}
 
 -- The variables of the copy of a state set, with their places in it: their words stand one after another.
 abbrev pub placed_in : ProgramTree → ℕ → List Placed
@@ -30,12 +31,19 @@ abbrev pub states_by : Option StateSetTree → List Token
 states_by None = []
 states_by (Some g) = map (λ s. s.name) g.states
 
--- What is known on the copy of a state set.
+-- What code knows of the functions of a program. None runs yet.
+abbrev pub outlines_in : ProgramTree → List Outline
+outlines_in p = []
+
+-- What is known where a piece of a state set stands.
 abbrev pub here_in : ProgramTree → ℕ → Here
 here_in p set = record {
-  set = set;
-  set_name = name_by (slice_get p.state_sets set);
   states = states_by (slice_get p.state_sets set);
   sites = sites p;
   variables = placed_in p set;
+  functions = outlines_in p;
 }
+
+-- Where the pieces of a state set run: on its copy, under its name.
+abbrev pub scene_in : ProgramTree → ℕ → Scene
+scene_in p set = record { set = set; set_name = name_by (slice_get p.state_sets set); here = here_in p set }

@@ -1,4 +1,5 @@
 pub mod Heres
+pub mod Copies
 pub mod Reached
 pub mod Depths
 pub mod DepthParts

@@ -6,16 +6,15 @@ use Rattle.snl_syntax.specs.Programs.{ClauseTree, StateTree, ProgramTree}
 use Rattle.snl_syntax.specs.Statements.{BlockTree}
 use Rattle.snl_resolve.specs.Programs.{sites}
 use Rattle.snl_meaning.specs.declared.instrs.Instr.{Instr}
-use Rattle.snl_emit.specs.BlockCode.{block_depth}
-use Rattle.snl_emit.specs.ExpressionCode.{expression_depth}
 use Rattle.snl_meaning.specs.Names.{format_at}
+use Rattle.snl_emit.specs.Depths.{block_depth, expression_depth}
 use Rattle.snl_emit.specs.Right.{IsConditionAt, IsBlockAt}
 use Rattle.snl_code.specs.declared.code.Code.{Code}
 use Rattle.snl_code.specs.declared.starts.Piece.{Piece}
 use Rattle.snl_code.specs.declared.starts.Piece.TheVariants.{ProgramEntry, ProgramExit, Entry, Exit, Condition, Block}
 use Rattle.snl_code.specs.Apart.{AreApart}
 use Rattle.snl_code.specs.Depths.{capped, program_depth}
-use Rattle.snl_code.specs.Heres.{here_in}
+use Rattle.snl_code.specs.Heres.{outlines_in, scene_in}
 use Rattle.snl_code.specs.Reached.{Table, HasState, TellsReached}
 use Rattle.snl_code.specs.Starts.{StateTable, table_of, state_in, holds_in, start_in}
 
@@ -57,20 +56,20 @@ abbrev pub kept_piece : Table → ProgramTree → Piece → Option PieceTree
 kept_piece reached p name = if is_kept reached name then piece_of p name else None
 
 -- How many operands a piece holds at once.
-abbrev pub piece_depth : PieceTree → ℕ
-piece_depth (Test set e) = expression_depth e
-piece_depth (Action set b) = block_depth b
+abbrev pub piece_depth : ProgramTree → PieceTree → ℕ
+piece_depth p (Test set e) = expression_depth (outlines_in p) e
+piece_depth p (Action set b) = block_depth (outlines_in p) b
 
 -- No piece holds more operands than its program does: room for the depth of the program is enough for each of them.
 abbrev pub DepthIsEnough : Type 0
-DepthIsEnough = (p : ProgramTree) (name : Piece) (piece : PieceTree) → piece_of p name ≡ Some piece → piece_depth piece ≤ program_depth p
+DepthIsEnough = (p : ProgramTree) (name : Piece) (piece : PieceTree) → piece_of p name ≡ Some piece → piece_depth p piece ≤ program_depth p
 
 -- ---- the code of a program
 
 -- The code at an address is right for a piece, with room for as many operands as the piece needs at once.
 abbrev pub IsPieceAt : ProgramTree → List Instr → ℕ → PieceTree → Type 0
-IsPieceAt p code start (Test set e) = (room : ℕ) → expression_depth e ≤ room → IsConditionAt (here_in p set) code room start e
-IsPieceAt p code start (Action set b) = (room : ℕ) → block_depth b ≤ room → IsBlockAt (here_in p set) code room start b
+IsPieceAt p code start (Test set e) = (room : ℕ) → expression_depth (outlines_in p) e ≤ room → IsConditionAt (scene_in p set) code room start e
+IsPieceAt p code start (Action set b) = (room : ℕ) → block_depth (outlines_in p) b ≤ room → IsBlockAt (scene_in p set) code room start b
 
 -- There is an address for a piece where there is a piece, and the code there is right for it.
 abbrev pub IsPlaced : ProgramTree → List Instr → Option PieceTree → Option ℕ → Type 0

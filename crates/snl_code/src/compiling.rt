@@ -62,16 +62,6 @@ fn first_places<'a>(alloc: Global, program: &Program<'a>) -> Result<Places, Allo
     Places::of(alloc, variables.as_slice())
 }
 
-/// The name of a state set.
-fn set_name<'a>(sets: &[StateSet<'a>], set: usize) -> &'a [u8]
-    ensures { result.now ≡ heres.name_by (slice_get (map state_set_view sets.now) set) }
-{
-    match sets.get(set) {
-        Some(set) => set.name.text,
-        None => &[],
-    }
-}
-
 /// The names of the states of a state set, in their order. The only error is that memory ends.
 pub fn names_in<'a>(alloc: Global, set: &StateSet<'a>) -> Result<Numbered<'a>, AllocError>
     ensures { IfOk result (λ kept. kept ≡ map (λ s. s.name) (state_set_view set.now).states) }
@@ -93,26 +83,6 @@ fn state_names<'a>(
         return Ok(Numbered::empty(alloc));
     }
     names_in(alloc, &sets[set])
-}
-
-/// What is known of a state set, beside its variables and what the names of the program mean.
-#[derive(Drop)]
-struct Facts<'a> {
-    name: &'a [u8],
-    states: Numbered<'a>,
-}
-
-/// The facts of a state set.
-fn facts_of<'a>(alloc: Global, program: &Program<'a>, set: usize) -> Result<Facts<'a>, AllocError>
-    ensures name { IfOk result (λ facts. facts.name.now
-        ≡ (heres.here_in (program_view program.now) set).set_name) }
-    ensures states { IfOk result (λ facts. facts.states
-        ≡ (heres.here_in (program_view program.now) set).states) }
-{
-    let sets = program.state_sets.as_slice();
-    let name = set_name(sets, set);
-    let states = state_names(alloc, sets, set)?;
-    Ok(Facts { name, states })
 }
 
 /// For each state set whether each of its states is reached.
@@ -157,11 +127,9 @@ fn place_set<'a>(
         ++ spec.set_code (table_by marks.now) (program_view program.now) number
         (state_set_view set.now)) }
 {
-    let facts = facts_of(alloc, program, number)?;
+    let states = state_names(alloc, program.state_sets.as_slice(), number)?;
     let known = Known {
-        set: number,
-        set_name: facts.name,
-        states: &facts.states,
+        states: &states,
         sites,
         variables: places,
     };
@@ -226,12 +194,10 @@ fn place_own<'a>(
     if block.is_none() {
         return Ok(None);
     }
-    let facts = facts_of(alloc, program, 0)?;
+    let states = state_names(alloc, program.state_sets.as_slice(), 0)?;
     let places = first_places(alloc, program)?;
     let known = Known {
-        set: 0,
-        set_name: facts.name,
-        states: &facts.states,
+        states: &states,
         sites,
         variables: &places,
     };
@@ -281,7 +247,7 @@ fn code_of<'a>(
 /// The code of a program, by its sites, the table of what the names in them mean, and the variables of its copies. States
 /// that cannot be reached have no code. It has at most as many instructions as the size of the program says, in which such a
 /// state counts 0. The only error is that memory ends.
-pub fn compile<'a>(
+pub fn compile_by<'a>(
     alloc: Global,
     program: &Program<'a>,
     sites: &[Site<'a>],

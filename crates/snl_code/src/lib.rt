@@ -2,15 +2,19 @@
 #![tactic(auto)]
 
 mod block_depths;
+mod checked;
 mod code;
 mod compiling;
+mod copies;
 mod depths;
 pub mod laws;
 mod placing;
 mod program_depths;
 mod starts;
 
+pub use checked::compile;
 pub use code::Code;
-pub use compiling::{compile, names_in};
+pub use compiling::{compile_by, names_in};
+pub use copies::{Copies, copies_of};
 pub use snl_meaning::Instr;
 pub use starts::Piece;

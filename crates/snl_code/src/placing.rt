@@ -79,7 +79,7 @@ fn place_condition<'a>(
     Ok(Some(start))
 }
 
-/// Adds the code of a block that may be missing; gives where it begins.
+/// Adds the code of a block that may be missing; gives where it begins. Fails only where memory ends.
 pub fn place_block<'a>(
     alloc: Global,
     block: &Option<Box<Block<'a>>>,
@@ -199,6 +199,7 @@ fn marked(marks: &[bool], number: usize) -> bool
 }
 
 /// Adds the code of those states that have a mark; gives where the pieces of all states begin.
+/// Fails only where memory ends.
 pub fn place_states<'a>(
     alloc: Global,
     states: &[State<'a>],

@@ -5,24 +5,30 @@ use Rattle.snl_syntax.specs.Declarations.{DeclaratorTree}
 use Rattle.snl_meaning.specs.declared.instrs.Instr.{Instr}
 use Rattle.snl_meaning.specs.declared.instrs.Instr.TheVariants.{Drop, Clear, Assign}
 use Rattle.snl_meaning.specs.declared.instrs.Variable.{Variable}
-use Rattle.snl_emit.specs.BlockCode.{cleared_code, all_cleared_code, begun_code, begun_with_code, all_begun_code, entered_code, values_depth, entered_depth}
+use Rattle.snl_emit.specs.Depths.{values_depth, entered_depth}
+use Rattle.snl_emit.specs.BlockCode.{cleared_code, all_cleared_code, begun_code, begun_with_code, all_begun_code, entered_code}
 use Rattle.snl_meaning.specs.Effect.{variable_for, cleared_maybe, all_cleared, begun, begun_with, values_of, all_begun, entered}
 use Rattle.snl_emit.specs.ExpressionCode.{expression_code}
-use Rattle.snl_meaning.specs.Names.{Here}
 use Rattle.snl_meaning.specs.Ran.{Ran, Gives, then_do}
 use Rattle.snl_meaning.specs.Endings.{HasAt}
 use Rattle.snl_meaning.specs.Run.{PieceContext, context_of, GoesTo, done_by}
 use Rattle.snl_meaning.specs.Value.{value_of}
 use Rattle.snl_meaning.specs.Words.{stored, cleared}
+use Rattle.snl_meaning.specs.Names.{Outline}
+use Rattle.snl_meaning.specs.Scenes.{Scene}
 use Rattle.snl_meaning.specs.World.{World}
 use Rattle.snl_meaning.proofs.Following.{has_front, has_back, Follows, follows-step, follows-here, follows-then, follows-to, quiet-none}
 use Rattle.snl_emit.proofs.EffectCode.{idle}
 use Rattle.snl_emit.proofs.ValueCode.{value-follows}
 
-module _ (h : Here) (room : ℕ) (code : List Instr) (below : List ℤ) where
+module _ (m : Scene) (room : ℕ) (code : List Instr) (below : List ℤ) where
   -- what the code runs with
   abbrev g : PieceContext
-  g = context_of h room
+  g = context_of m room
+
+  -- the functions that it may call
+  abbrev fs : List Outline
+  fs = m.here.functions
 
   -- code does what a word does, and no operand is left
   abbrev Does : (World → Ran (Unit {0})) → List Instr → Type 0
@@ -44,57 +50,59 @@ module _ (h : Here) (room : ℕ) (code : List Instr) (below : List ℤ) where
       (f at w (has_front code at c c' has)) (λ _ u. k (at + length c) u (has_back code at c c' has)))
 
   -- a variable is 0
-  clears : (o : Option Variable) → Does (cleared_maybe h.set o) (cleared_code o)
+  clears : (o : Option Variable) → Does (cleared_maybe m.set o) (cleared_code o)
   clears None at w has = does-nothing at w has
-  clears (Some v) at w has = follows-step g code (Clear v) at below w (cleared h.set v w) (λ _. at + 1) (idle below) has.0 refl
+  clears (Some v) at w has = follows-step g code (Clear v) at below w (cleared m.set v w) (λ _. at + 1) (idle below) has.0 refl
 
   -- each variable is 0
-  all-clear : (ds : List DeclaratorTree) → Does (all_cleared h ds) (all_cleared_code h ds)
+  all-clear : (ds : List DeclaratorTree) → Does (all_cleared m ds) (all_cleared_code m.here ds)
   all-clear [] = does-nothing
-  all-clear (d ∷ ds) = does-then (cleared_maybe h.set (variable_for h d)) (all_cleared h ds) (cleared_code (variable_for h d)) (all_cleared_code h ds) (clears (variable_for h d)) (all-clear ds)
+  all-clear (d ∷ ds) =
+      does-then (cleared_maybe m.set (variable_for m.here d)) (all_cleared m ds) (cleared_code (variable_for m.here d)) (all_cleared_code m.here ds) (clears (variable_for m.here d)) (all-clear ds)
 
   -- the instruction that stores what a variable begins with
   begins-step : (o : Option Variable) (line k at : ℕ) (z : ℤ) (u : World) →
-      done_by g (begun_code o line k) at (z ∷ below) u ≡ then_do (begun h.set o line k z u) (λ v x. Gives (GoesTo (at + 1) below) x [])
+      done_by g (begun_code o line k) at (z ∷ below) u ≡ then_do (begun m.set o line k z u) (λ v x. Gives (GoesTo (at + 1) below) x [])
   begins-step None line k at z u = refl
   begins-step (Some v) line k at z u = by (nat_lt k v.size)
     where
       by : (b : Bool) → done_by g (if b then Assign v k line else Drop) at (z ∷ below) u
-          ≡ then_do (if b then stored h.set v line (pos k) z u else Gives z u []) (λ x y. Gives (GoesTo (at + 1) below) y [])
+          ≡ then_do (if b then stored m.set v line (pos k) z u else Gives z u []) (λ x y. Gives (GoesTo (at + 1) below) y [])
       by true = refl
       by false = refl
 
   -- one value
-  begins : (d : DeclaratorTree) (k : ℕ) (e : ExprTree) → length below + values_depth (e ∷ []) ≤ room → (at : ℕ) (w : World) →
-      HasAt code at (expression_code h e ++ begun_code (variable_for h d) d.name.pos.line k ∷ []) →
-      Follows g code at below w (then_do (value_of h e w) (begun h.set (variable_for h d) d.name.pos.line k))
-      (λ _. at + length (expression_code h e ++ begun_code (variable_for h d) d.name.pos.line k ∷ [])) (idle below)
+  begins : (d : DeclaratorTree) (k : ℕ) (e : ExprTree) → length below + values_depth fs (e ∷ []) ≤ room → (at : ℕ) (w : World) →
+      HasAt code at (expression_code m.here e ++ begun_code (variable_for m.here d) d.name.pos.line k ∷ []) →
+      Follows g code at below w (then_do (value_of m e w) (begun m.set (variable_for m.here d) d.name.pos.line k))
+      (λ _. at + length (expression_code m.here e ++ begun_code (variable_for m.here d) d.name.pos.line k ∷ [])) (idle below)
   begins d k e free at w has =
-      let ec = expression_code h e in
-      let i = begun_code (variable_for h d) d.name.pos.line k in
+      let ec = expression_code m.here e in
+      let i = begun_code (variable_for m.here d) d.name.pos.line k in
       let there = has_back code at ec (i ∷ []) has in
       let n : at + length ec + 1 ≡ at + length (ec ++ i ∷ []) = omega (arith, length-append ec (i ∷ [])) in
-      follows-to g code at below w (then_do (value_of h e w) (begun h.set (variable_for h d) d.name.pos.line k)) (at + length ec + 1) (at + length (ec ++ i ∷ [])) (idle below) n
-      (follows-then g code at below w (value_of h e w) (begun h.set (variable_for h d) d.name.pos.line k) (λ _. at + length ec) (λ z. z ∷ below) (λ _. at + length ec + 1) (idle below)
-      (value-follows h room code e at below w (has_front code at ec (i ∷ []) has) (omega (arith, free)))
-      (λ z u. follows-step g code i (at + length ec) (z ∷ below) u (begun h.set (variable_for h d) d.name.pos.line k z u) (λ _. at + length ec + 1) (idle below) there.0
-      (begins-step (variable_for h d) d.name.pos.line k (at + length ec) z u)))
+      follows-to g code at below w (then_do (value_of m e w) (begun m.set (variable_for m.here d) d.name.pos.line k)) (at + length ec + 1) (at + length (ec ++ i ∷ [])) (idle below) n
+      (follows-then g code at below w (value_of m e w) (begun m.set (variable_for m.here d) d.name.pos.line k) (λ _. at + length ec) (λ z. z ∷ below) (λ _. at + length ec + 1) (idle below)
+      (value-follows m room code e at below w (has_front code at ec (i ∷ []) has) (omega (arith, free)))
+      (λ z u. follows-step g code i (at + length ec) (z ∷ below) u (begun m.set (variable_for m.here d) d.name.pos.line k z u) (λ _. at + length ec + 1) (idle below) there.0
+      (begins-step (variable_for m.here d) d.name.pos.line k (at + length ec) z u)))
 
   -- the values of one variable
-  begins-with : (d : DeclaratorTree) (k : ℕ) (es : List ExprTree) → length below + values_depth es ≤ room → Does (begun_with h d k es) (begun_with_code h (variable_for h d) d.name.pos.line k es)
+  begins-with : (d : DeclaratorTree) (k : ℕ) (es : List ExprTree) → length below + values_depth fs es ≤ room →
+      Does (begun_with m d k es) (begun_with_code m.here (variable_for m.here d) d.name.pos.line k es)
   begins-with d k [] free = does-nothing
   begins-with d k (e ∷ es) free =
-      does-then (λ w. then_do (value_of h e w) (begun h.set (variable_for h d) d.name.pos.line k)) (begun_with h d (suc k) es)
-      (expression_code h e ++ begun_code (variable_for h d) d.name.pos.line k ∷ []) (begun_with_code h (variable_for h d) d.name.pos.line (suc k) es)
+      does-then (λ w. then_do (value_of m e w) (begun m.set (variable_for m.here d) d.name.pos.line k)) (begun_with m d (suc k) es)
+      (expression_code m.here e ++ begun_code (variable_for m.here d) d.name.pos.line k ∷ []) (begun_with_code m.here (variable_for m.here d) d.name.pos.line (suc k) es)
       (begins d k e (omega (arith, free))) (begins-with d (suc k) es (omega (arith, free)))
 
   -- the values of all variables
-  all-begin : (ds : List DeclaratorTree) → length below + entered_depth ds ≤ room → Does (all_begun h ds) (all_begun_code h ds)
+  all-begin : (ds : List DeclaratorTree) → length below + entered_depth fs ds ≤ room → Does (all_begun m ds) (all_begun_code m.here ds)
   all-begin [] free = does-nothing
   all-begin (d ∷ ds) free =
-      does-then (begun_with h d 0 (values_of d.initial)) (all_begun h ds) (begun_with_code h (variable_for h d) d.name.pos.line 0 (values_of d.initial)) (all_begun_code h ds)
+      does-then (begun_with m d 0 (values_of d.initial)) (all_begun m ds) (begun_with_code m.here (variable_for m.here d) d.name.pos.line 0 (values_of d.initial)) (all_begun_code m.here ds)
       (begins-with d 0 (values_of d.initial) (omega (arith, free))) (all-begin ds (omega (arith, free)))
 
   -- all of them
-  pub enters : (ds : List DeclaratorTree) → length below + entered_depth ds ≤ room → Does (entered h ds) (entered_code h ds)
-  enters ds free = does-then (all_cleared h ds) (all_begun h ds) (all_cleared_code h ds) (all_begun_code h ds) (all-clear ds) (all-begin ds free)
+  pub enters : (ds : List DeclaratorTree) → length below + entered_depth fs ds ≤ room → Does (entered m ds) (entered_code m.here ds)
+  enters ds free = does-then (all_cleared m ds) (all_begun m ds) (all_cleared_code m.here ds) (all_begun_code m.here ds) (all-clear ds) (all-begin ds free)

@@ -14,11 +14,12 @@ use Rattle.snl_resolve.specs.declared.constants.Constant.{Constant}
 use Rattle.snl_resolve.specs.declared.constants.Constant.TheVariants.{Varies, Faults, Worth}
 use Rattle.snl_resolve.specs.Constants.{predefined, worth, outcome, of_token, then_with, applied, as_truth, joined, chosen, prefixed}
 use Rattle.snl_resolve.specs.Uses.{declared_in}
-use Rattle.snl_meaning.specs.Names.{Here, variable_by, or_zero, sense_by}
+use Rattle.snl_meaning.specs.Names.{variable_by, or_zero, sense_by}
 use Rattle.snl_meaning.specs.Ran.{Ran, Gives, also, then_do}
 use Rattle.snl_meaning.specs.Ran as ran
 use Rattle.snl_meaning.specs.Value.{either, both, one_of, joint_of, joined_by, sign_of, signed, constant_of, or_none, named_value, value_of, chained}
 use Rattle.snl_meaning.specs.Words.{outcome_at, operated, operated_prefix, settled}
+use Rattle.snl_meaning.specs.Scenes.{Scene}
 use Rattle.snl_meaning.specs.World.{World}
 use Rattle.snl_meaning.proofs.Following.{also-nil, then_do-also}
 use Rattle.snl_emit.specs.Worth.{unless_declared, worth_of, worth_chain, worth_or, number_of}
@@ -166,51 +167,51 @@ predefined-right None z w is = absurd (cc)
 predefined-right (Some n) z w is = same-number n z w is
 
 -- a name
-name-right : (h : Here) (d : Option Pos) (o : Option ℤ) (z : ℤ) (w : World) → unless_declared d o ≡ Worth z → named_value h.set (sense_by (variable_by h d) o) w ≡ Gives z w []
-name-right h (Some p) o z w is = absurd (cc)
-name-right h None o z w is = predefined-right o z w is
+name-right : (m : Scene) (d : Option Pos) (o : Option ℤ) (z : ℤ) (w : World) → unless_declared d o ≡ Worth z → named_value m.set (sense_by (variable_by m.here d) o) w ≡ Gives z w []
+name-right m (Some p) o z w is = absurd (cc)
+name-right m None o z w is = predefined-right o z w is
 
 -- ---- expressions
 
 mutual
   -- an expression
-  pub folding : (h : Here) (e : ExprTree) (z : ℤ) (w : World) → worth_of h.sites e ≡ Worth z → value_of h e w ≡ Gives z w []
-  folding h (constant t) z w is = constant-right t.kind t.text.now z w is
-  folding h (parenthesized e) z w is = folding h e z w is
-  folding h (named x) z w is = name-right h (declared_in x.pos.offset h.sites) (predefined x.text.now) z w is
-  folding h (element x b e) z w is = absurd (cc)
-  folding h (call f all) z w is = absurd (cc)
-  folding h (postfix e op) z w is = absurd (cc)
-  folding h (prefix op e) z w is = prefixed-right op.kind op.pos.line (worth_of h.sites e) _ (value_of h e) z w (λ v. folding h e v w) is
-  folding h (chain e rest) z w is = folding-chain h rest (worth_of h.sites e) (value_of h e w) z w (λ v. folding h e v w) is
-  folding h (conditional c a b) z w is =
-      chosen-right (worth_of h.sites c) (worth_of h.sites a) (worth_of h.sites b) (value_of h c) (value_of h a) (value_of h b) z w
-      (λ v. folding h c v w) (λ v. folding h a v w) (λ v. folding h b v w) is
-  folding h (assignment e op r) z w is = absurd (cc)
+  pub folding : (m : Scene) (e : ExprTree) (z : ℤ) (w : World) → worth_of m.here.sites e ≡ Worth z → value_of m e w ≡ Gives z w []
+  folding m (constant t) z w is = constant-right t.kind t.text.now z w is
+  folding m (parenthesized e) z w is = folding m e z w is
+  folding m (named x) z w is = name-right m (declared_in x.pos.offset m.here.sites) (predefined x.text.now) z w is
+  folding m (element x b e) z w is = absurd (cc)
+  folding m (call f all) z w is = absurd (cc)
+  folding m (postfix e op) z w is = absurd (cc)
+  folding m (prefix op e) z w is = prefixed-right op.kind op.pos.line (worth_of m.here.sites e) _ (value_of m e) z w (λ v. folding m e v w) is
+  folding m (chain e rest) z w is = folding-chain m rest (worth_of m.here.sites e) (value_of m e w) z w (λ v. folding m e v w) is
+  folding m (conditional c a b) z w is =
+      chosen-right (worth_of m.here.sites c) (worth_of m.here.sites a) (worth_of m.here.sites b) (value_of m c) (value_of m a) (value_of m b) z w
+      (λ v. folding m c v w) (λ v. folding m a v w) (λ v. folding m b v w) is
+  folding m (assignment e op r) z w is = absurd (cc)
 
   -- operators and operands after what stands left of them
-  folding-chain : (h : Here) (rest : TermList) (left : Constant) (r : Ran ℤ) (z : ℤ) (w : World) → ((v : ℤ) → left ≡ Worth v → r ≡ Gives v w []) →
-      worth_chain h.sites rest left ≡ Worth z → then_do r (chained h rest) ≡ Gives z w []
-  folding-chain h no_terms left r z w so is = then_do-gives r ∙ so z is
-  folding-chain h (term op e rest) left r z w so is =
-      let step = joined_by (joint_of op.kind) op.pos.line (value_of h e) in
-      sym (then_do-then_do r step (chained h rest))
-      ∙ folding-chain h rest (joined op.kind left (worth_of h.sites e)) (then_do r step) z w
-      (λ y same. joined-right op.kind op.pos.line left (worth_of h.sites e) r (value_of h e) y w so (λ v. folding h e v w) same) is
+  folding-chain : (m : Scene) (rest : TermList) (left : Constant) (r : Ran ℤ) (z : ℤ) (w : World) → ((v : ℤ) → left ≡ Worth v → r ≡ Gives v w []) →
+      worth_chain m.here.sites rest left ≡ Worth z → then_do r (chained m rest) ≡ Gives z w []
+  folding-chain m no_terms left r z w so is = then_do-gives r ∙ so z is
+  folding-chain m (term op e rest) left r z w so is =
+      let step = joined_by (joint_of op.kind) op.pos.line (value_of m e) in
+      sym (then_do-then_do r step (chained m rest))
+      ∙ folding-chain m rest (joined op.kind left (worth_of m.here.sites e)) (then_do r step) z w
+      (λ y same. joined-right op.kind op.pos.line left (worth_of m.here.sites e) r (value_of m e) y w so (λ v. folding m e v w) same) is
 
 -- what follows the number of the front of a chain is what follows the chain
-pub front-right : (h : Here) (op : Token) (e : ExprTree) (rest : TermList) (left : Constant) (r : Ran ℤ) (z : ℤ) (w : World) → ((v : ℤ) → left ≡ Worth v → r ≡ Gives v w []) →
-    joined op.kind left (worth_of h.sites e) ≡ Worth z → then_do (Gives z w []) (chained h rest) ≡ then_do r (chained h (term op e rest))
-front-right h op e rest left r z w so is =
-    let step = joined_by (joint_of op.kind) op.pos.line (value_of h e) in
-    ap (λ (q : Ran ℤ). then_do q (chained h rest)) (sym (joined-right op.kind op.pos.line left (worth_of h.sites e) r (value_of h e) z w so (λ v. folding h e v w) is))
-    ∙ then_do-then_do r step (chained h rest)
+pub front-right : (m : Scene) (op : Token) (e : ExprTree) (rest : TermList) (left : Constant) (r : Ran ℤ) (z : ℤ) (w : World) → ((v : ℤ) → left ≡ Worth v → r ≡ Gives v w []) →
+    joined op.kind left (worth_of m.here.sites e) ≡ Worth z → then_do (Gives z w []) (chained m rest) ≡ then_do r (chained m (term op e rest))
+front-right m op e rest left r z w so is =
+    let step = joined_by (joint_of op.kind) op.pos.line (value_of m e) in
+    ap (λ (q : Ran ℤ). then_do q (chained m rest)) (sym (joined-right op.kind op.pos.line left (worth_of m.here.sites e) r (value_of m e) z w so (λ v. folding m e v w) is))
+    ∙ then_do-then_do r step (chained m rest)
 
 -- a number that an expression is
-pub number-right : (h : Here) (e : ExprTree) (z : ℤ) → number_of h.sites e ≡ Some z → (w : World) → value_of h e w ≡ Gives z w []
-number-right h e z is w = by (worth_of h.sites e) refl is
+pub number-right : (m : Scene) (e : ExprTree) (z : ℤ) → number_of m.here.sites e ≡ Some z → (w : World) → value_of m e w ≡ Gives z w []
+number-right m e z is w = by (worth_of m.here.sites e) refl is
   where
-    by : (c : Constant) → worth_of h.sites e ≡ c → worth_or c Some None ≡ Some z → value_of h e w ≡ Gives z w []
+    by : (c : Constant) → worth_of m.here.sites e ≡ c → worth_or c Some None ≡ Some z → value_of m e w ≡ Gives z w []
     by Varies same some = absurd (cc)
     by Faults same some = absurd (cc)
-    by (Worth x) same some = let one : x ≡ z = cc in folding h e z w (same ∙ ap (λ (n : ℤ). Worth n) one)
+    by (Worth x) same some = let one : x ≡ z = cc in folding m e z w (same ∙ ap (λ (n : ℤ). Worth n) one)

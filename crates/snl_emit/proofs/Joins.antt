@@ -5,7 +5,8 @@ use Rattle.snl_text.specs.declared.kinds.Kind.{Kind}
 use Rattle.snl_arithmetic.specs.Arithmetic.{is_zero}
 use Rattle.snl_meaning.specs.declared.instrs.Instr.{Instr}
 use Rattle.snl_meaning.specs.declared.instrs.Instr.TheVariants.{Push, Apply, ApplyNumber, Settle, Drop, Jump}
-use Rattle.snl_emit.specs.ExpressionCode.{joint_code, joint_depth}
+use Rattle.snl_emit.specs.Depths.{joint_depth}
+use Rattle.snl_emit.specs.ExpressionCode.{joint_code}
 use Rattle.snl_meaning.specs.Ran.{Ran, Gives, then_do}
 use Rattle.snl_meaning.specs.Endings.{HasAt}
 use Rattle.snl_meaning.specs.Run.{PieceContext, GoesTo, Sticks, goes_with, pushes, done_by}

@@ -4,14 +4,16 @@ use Rattle.snl_syntax.specs.Expressions.{ExprTree}
 use Rattle.snl_arithmetic.specs.Arithmetic.{is_zero}
 use Rattle.snl_meaning.specs.declared.instrs.Instr.{Instr}
 use Rattle.snl_meaning.specs.declared.instrs.Instr.TheVariants.{JumpIfZero}
-use Rattle.snl_emit.specs.BlockCode.{effect_code, dropped_code, test_code, maybe_depth}
+use Rattle.snl_emit.specs.Depths.{maybe_depth}
+use Rattle.snl_emit.specs.BlockCode.{effect_code, dropped_code, test_code}
 use Rattle.snl_meaning.specs.Effect.{Way, Done, Broken, Continued, Left, if_done, holds, held_by, dropped, evaluated}
 use Rattle.snl_emit.specs.ExpressionCode.{expression_code}
-use Rattle.snl_meaning.specs.Names.{Here}
 use Rattle.snl_meaning.specs.Ran.{Ran, Gives, Faults, also}
 use Rattle.snl_meaning.specs.Endings.{HasAt}
 use Rattle.snl_meaning.specs.Run.{PieceContext, context_of, Exit, LeftFor}
 use Rattle.snl_meaning.specs.Value.{value_of, either}
+use Rattle.snl_meaning.specs.Names.{Outline}
+use Rattle.snl_meaning.specs.Scenes.{Scene}
 use Rattle.snl_meaning.specs.World.{World}
 use Rattle.snl_meaning.proofs.Following.{has_front, has_back, Quiet, Continues, run_at, Follows, follows-then, follows-here, continues-here, continues-quiet, quiet-none, quiet-if_zero}
 use Rattle.snl_emit.proofs.ValueCode.{value-follows}
@@ -74,35 +76,39 @@ module _ (g : PieceContext) (code : List Instr) (below : List ℤ) {A : Type 0} 
       by true q = continues-quiet g code test (z ∷ below) u second below (failed u) onward q (f u)
       by false q = continues-quiet g code test (z ∷ below) u (test + 1) below (held u) onward q (h u)
 
-module _ (h : Here) (room : ℕ) (code : List Instr) (below : List ℤ) where
+module _ (m : Scene) (room : ℕ) (code : List Instr) (below : List ℤ) where
   -- what the code runs with
   abbrev g : PieceContext
-  g = context_of h room
+  g = context_of m room
+
+  -- the functions that it may call
+  abbrev fs : List Outline
+  fs = m.here.functions
 
   -- a condition that may be missing
-  pub tests : (o : Option ExprTree) (at : ℕ) (w : World) → HasAt code at (test_code h o) → length below + maybe_depth o ≤ room →
-      Follows g code at below w (held_by h o w) (λ (b : Bool). if b then at + length (test_code h o) else at + length (test_code h o) + 1) (idle below)
+  pub tests : (o : Option ExprTree) (at : ℕ) (w : World) → HasAt code at (test_code m.here o) → length below + maybe_depth fs o ≤ room →
+      Follows g code at below w (held_by m o w) (λ (b : Bool). if b then at + length (test_code m.here o) else at + length (test_code m.here o) + 1) (idle below)
   tests None at w has free = let e : at ≡ at + 0 = omega arith in
       follows-here g code true at below w _ (idle below) (subst (λ n. Quiet g code at below w n below) e (quiet-none g code at below w))
   tests (Some c) at w has free =
-      let cc' = expression_code h c in
+      let cc' = expression_code m.here c in
       let k = has_back code at cc' (JumpIfZero 1 ∷ []) has in
       let behind : at + length cc' + 1 ≡ at + length (cc' ++ JumpIfZero 1 ∷ []) = omega (arith, length-append cc' (JumpIfZero 1 ∷ [])) in
       let beyond : at + length cc' + 1 + 1 ≡ at + length (cc' ++ JumpIfZero 1 ∷ []) + 1 = omega (arith, behind) in
-      follows-then g code at below w (value_of h c w) holds (λ _. at + length cc') (λ z. z ∷ below) _ (idle below)
-      (value-follows h room code c at below w (has_front code at cc' _ has) (omega (arith, free)))
+      follows-then g code at below w (value_of m c w) holds (λ _. at + length cc') (λ z. z ∷ below) _ (idle below)
+      (value-follows m room code c at below w (has_front code at cc' _ has) (omega (arith, free)))
       (λ z u. by z u _ _ (is_zero z) (quiet-if_zero g code 1 (at + length cc') _ _ z below u k.0 beyond behind))
     where
-      by : (z : ℤ) (u : World) (on beyond : ℕ) (b : Bool) → Quiet g code (at + length (expression_code h c)) (z ∷ below) u (if b then beyond else on) below →
-          Follows g code (at + length (expression_code h c)) (z ∷ below) u (Gives (if b then false else true) u []) (λ (x : Bool). if x then on else beyond) (idle below)
-      by z u on beyond true q = follows-here g code false (at + length (expression_code h c)) (z ∷ below) u (λ (x : Bool). if x then on else beyond) (idle below) q
-      by z u on beyond false q = follows-here g code true (at + length (expression_code h c)) (z ∷ below) u (λ (x : Bool). if x then on else beyond) (idle below) q
+      by : (z : ℤ) (u : World) (on beyond : ℕ) (b : Bool) → Quiet g code (at + length (expression_code m.here c)) (z ∷ below) u (if b then beyond else on) below →
+          Follows g code (at + length (expression_code m.here c)) (z ∷ below) u (Gives (if b then false else true) u []) (λ (x : Bool). if x then on else beyond) (idle below)
+      by z u on beyond true q = follows-here g code false (at + length (expression_code m.here c)) (z ∷ below) u (λ (x : Bool). if x then on else beyond) (idle below) q
+      by z u on beyond false q = follows-here g code true (at + length (expression_code m.here c)) (z ∷ below) u (λ (x : Bool). if x then on else beyond) (idle below) q
 
   -- an expression for what it does, which may be missing
-  pub acts-maybe : (o : Option ExprTree) (at : ℕ) (w : World) → HasAt code at (dropped_code h o) → length below + maybe_depth o ≤ room →
-      Follows g code at below w (evaluated h o w) (λ _. at + length (dropped_code h o)) (idle below)
+  pub acts-maybe : (o : Option ExprTree) (at : ℕ) (w : World) → HasAt code at (dropped_code m.here o) → length below + maybe_depth fs o ≤ room →
+      Follows g code at below w (evaluated m o w) (λ _. at + length (dropped_code m.here o)) (idle below)
   acts-maybe None at w has free = let e : at ≡ at + 0 = omega arith in follows-here g code tt at below w _ (idle below) (subst (λ n. Quiet g code at below w n below) e (quiet-none g code at below w))
   acts-maybe (Some e) at w has free =
-      let after = at + length (effect_code h e) in
-      follows-then g code at below w (value_of h e w) dropped (λ _. after) (idle below) (λ _. after) (idle below) (effect-follows h room code below e at w has free)
+      let after = at + length (effect_code m.here e) in
+      follows-then g code at below w (value_of m e w) dropped (λ _. after) (idle below) (λ _. after) (idle below) (effect-follows m room code below e at w has free)
       (λ z u. follows-here g code tt after below u (λ _. after) (idle below) (quiet-none g code after below u))

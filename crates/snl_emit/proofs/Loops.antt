@@ -4,13 +4,15 @@ use Rattle.std.specs.Prelude.{max}
 use Rattle.snl_syntax.specs.Expressions.{ExprTree}
 use Rattle.snl_meaning.specs.declared.instrs.Instr.{Instr}
 use Rattle.snl_meaning.specs.declared.instrs.Instr.TheVariants.{Tick}
-use Rattle.snl_emit.specs.BlockCode.{dropped_code, test_code, maybe_depth, loop_code}
+use Rattle.snl_emit.specs.Depths.{maybe_depth}
+use Rattle.snl_emit.specs.BlockCode.{dropped_code, test_code, loop_code}
 use Rattle.snl_meaning.specs.Effect.{Way, Done, Broken, Continued, Left, unless_broken, held_by, evaluated, turned, turns, looped}
-use Rattle.snl_meaning.specs.Names.{Here}
 use Rattle.snl_meaning.specs.Ran.{Ran, then_do}
 use Rattle.snl_meaning.specs.Endings.{HasAt}
 use Rattle.snl_meaning.specs.Run.{PieceContext, context_of}
 use Rattle.snl_meaning.specs.Words.{spent}
+use Rattle.snl_meaning.specs.Names.{Outline}
+use Rattle.snl_meaning.specs.Scenes.{Scene}
 use Rattle.snl_meaning.specs.World.{World}
 use Rattle.snl_meaning.proofs.Following.{has_front, has_back, Continues, run_at, Follows, follows-step, follows-to, continues-here, continues-quiet, continues-then_if, quiet-none, quiet-jump}
 use Rattle.snl_emit.proofs.EffectCode.{idle}
@@ -60,22 +62,22 @@ module _ (g : PieceContext) (code : List Instr) (below : List ℤ) (line start o
           u (omega (arith, left.is))
 
 -- a loop's code, from its jump on
-module _ (h : Here) (room : ℕ) (code : List Instr) (below : List ℤ) (line : ℕ) (condition step : Option ExprTree) (at out away : ℕ) (body : World → Ran Way) (bc : List Instr)
-    (has : HasAt code at (loop_code line bc (dropped_code h step) (test_code h condition)))
-    (free : length below + max (maybe_depth condition) (maybe_depth step) ≤ room)
-    (bodies : (again after : ℕ) → at + 1 + length bc ≡ again → at + 1 + length bc + (length (dropped_code h step) + length (test_code h condition) + 1) ≡ after →
-    (w : World) → Continues (run_at (context_of h room) code (at + 1) below w) (body w) (led (context_of h room) code below again after again))
+module _ (m : Scene) (room : ℕ) (code : List Instr) (below : List ℤ) (line : ℕ) (condition step : Option ExprTree) (at out away : ℕ) (body : World → Ran Way) (bc : List Instr)
+    (has : HasAt code at (loop_code line bc (dropped_code m.here step) (test_code m.here condition)))
+    (free : length below + max (maybe_depth m.here.functions condition) (maybe_depth m.here.functions step) ≤ room)
+    (bodies : (again after : ℕ) → at + 1 + length bc ≡ again → at + 1 + length bc + (length (dropped_code m.here step) + length (test_code m.here condition) + 1) ≡ after →
+    (w : World) → Continues (run_at (context_of m room) code (at + 1) below w) (body w) (led (context_of m room) code below again after again))
     (body-keeps : Keeps body) where
   -- what the code runs with
   abbrev g : PieceContext
-  g = context_of h room
+  g = context_of m room
 
   -- it does what the loop does
-  pub loop-follows : (w : World) → Continues (run_at g code at below w) (looped line (held_by h condition) body (evaluated h step) w)
-      (led g code below (at + length (loop_code line bc (dropped_code h step) (test_code h condition))) out away)
+  pub loop-follows : (w : World) → Continues (run_at g code at below w) (looped line (held_by m condition) body (evaluated m step) w)
+      (led g code below (at + length (loop_code line bc (dropped_code m.here step) (test_code m.here condition))) out away)
   loop-follows w =
-      let sc = dropped_code h step in
-      let tc = test_code h condition in
+      let sc = dropped_code m.here step in
+      let tc = test_code m.here condition in
       let tick = Tick line (length tc + length sc + length bc) in
       let onward = at + 1 + length bc in
       let again = onward + length sc in
@@ -87,12 +89,12 @@ module _ (h : Here) (room : ℕ) (code : List Instr) (below : List ℤ) (line : 
       let break : onward + (length sc + length tc + 1) ≡ at + length (loop_code line bc sc tc) = omega (arith, after) in
       let first : at + 1 + (length bc + length sc) ≡ again = omega arith in
       let back : test - (length tc + length sc + length bc) ≡ at + 1 = omega arith in
-      continues-quiet g code at below w again below (looped line (held_by h condition) body (evaluated h step) w) _
+      continues-quiet g code at below w again below (looped line (held_by m condition) body (evaluated m step) w) _
       (quiet-jump g code (length bc + length sc) at again below w has.0 first)
-      (turns-follow g code below line (at + 1) onward again test (at + length (loop_code line bc sc tc)) out away (held_by h condition) body (evaluated h step)
-      (λ u. rw (← after) (tests h room code below condition again u (has_front code again tc _ k') (omega (arith, free))))
+      (turns-follow g code below line (at + 1) onward again test (at + length (loop_code line bc sc tc)) out away (held_by m condition) body (evaluated m step)
+      (λ u. rw (← after) (tests m room code below condition again u (has_front code again tc _ k') (omega (arith, free))))
       (λ u. follows-to g code test below u _ _ _ (idle below) back (follows-step g code tick test below u (spent line u) (λ _. test - (length tc + length sc + length bc)) (idle below) k''.0 refl))
       (bodies onward (at + length (loop_code line bc sc tc)) refl break)
-      (λ u. acts-maybe h room code below step onward u (has_front code onward sc _ k) (omega (arith, free)))
-      (held-keeps h condition) body-keeps (evaluated-keeps h step)
+      (λ u. acts-maybe m room code below step onward u (has_front code onward sc _ k) (omega (arith, free)))
+      (held-keeps m condition) body-keeps (evaluated-keeps m step)
       (suc w.ticks) w (omega arith))

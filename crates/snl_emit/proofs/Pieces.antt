@@ -4,15 +4,16 @@ use Rattle.snl_syntax.specs.Expressions.{ExprTree}
 use Rattle.snl_syntax.specs.Statements.{BlockTree}
 use Rattle.snl_meaning.specs.declared.instrs.Instr.{Instr}
 use Rattle.snl_meaning.specs.declared.instrs.Instr.TheVariants.{End}
-use Rattle.snl_emit.specs.BlockCode.{block_code, block_depth, condition_piece, block_piece}
+use Rattle.snl_emit.specs.Depths.{block_depth, expression_depth}
+use Rattle.snl_emit.specs.BlockCode.{block_code, condition_piece, block_piece}
 use Rattle.snl_meaning.specs.Effect.{Way, Done, Broken, Continued, Left, block_effect}
-use Rattle.snl_emit.specs.ExpressionCode.{expression_code, expression_depth}
-use Rattle.snl_meaning.specs.Names.{Here}
+use Rattle.snl_emit.specs.ExpressionCode.{expression_code}
 use Rattle.snl_meaning.specs.Ran.{Ran, Gives, Faults, also, then_do}
 use Rattle.snl_meaning.specs.Endings.{HasAt, IsNotStuck, IsOver}
 use Rattle.snl_emit.specs.Right.{ends_with, led_to, leads_to, ConditionsAreRight, BlocksAreRight}
 use Rattle.snl_meaning.specs.Run.{PieceContext, context_of, Exit, Over, step_of, from_there, exec, run_of}
 use Rattle.snl_meaning.specs.Value.{value_of}
+use Rattle.snl_meaning.specs.Scenes.{Scene}
 use Rattle.snl_meaning.specs.World.{World}
 use Rattle.snl_meaning.proofs.Ends.{enough, not_stuck}
 use Rattle.snl_meaning.proofs.Following.{has_front, has_back, Continues, run_at}
@@ -42,26 +43,26 @@ module _ (g : PieceContext) (code : List Instr) {A : Type 0} (start : ℕ) (w : 
       by (Faults fault line u text) = refl
 
   -- so it is never stuck
-  runs_on : run_of g code start w ≡ then_do r (λ v u. Gives (last v) u []) → (m : ℕ) → IsNotStuck (exec g code m start [] w)
-  runs_on is m = not_stuck g code (suc w.ticks * length code) start [] w (subst IsOver (sym is) over) m
+  runs_on : run_of g code start w ≡ then_do r (λ v u. Gives (last v) u []) → (n : ℕ) → IsNotStuck (exec g code n start [] w)
+  runs_on is n = not_stuck g code (suc w.ticks * length code) start [] w (subst IsOver (sym is) over) n
 
 -- the end of a piece
 ends : (g : PieceContext) (code : List Instr) (at : ℕ) (s : List ℤ) (w : World) → slice_get code at ≡ Some End → exec g code 1 at s w ≡ Gives (Over s) w []
 ends g code at s w there = ap (λ o. then_do (step_of g o at s w) (from_there (exec g code 0))) there
 
 -- the run of a condition
-condition-runs : (h : Here) (code : List Instr) (room start : ℕ) (e : ExprTree) → HasAt code start (condition_piece h e) → expression_depth e ≤ room → (w : World) →
-    run_of (context_of h room) code start w ≡ then_do (value_of h e w) ends_with
-condition-runs h code room start e has deep w =
-    runs (context_of h room) code start w (value_of h e w) (λ z. Over (z ∷ [])) (λ _ _ _. tt) (λ z u. run_at (context_of h room) code (start + length (expression_code h e)) (z ∷ []) u)
-    (λ z u. ends (context_of h room) code (start + length (expression_code h e)) (z ∷ []) u (has_back code start (expression_code h e) (End ∷ []) has).0)
-    (value-follows h room code e start [] w (has_front code start (expression_code h e) (End ∷ []) has) (omega (arith, deep)))
+condition-runs : (m : Scene) (code : List Instr) (room start : ℕ) (e : ExprTree) → HasAt code start (condition_piece m.here e) → expression_depth m.here.functions e ≤ room → (w : World) →
+    run_of (context_of m room) code start w ≡ then_do (value_of m e w) ends_with
+condition-runs m code room start e has deep w =
+    runs (context_of m room) code start w (value_of m e w) (λ z. Over (z ∷ [])) (λ _ _ _. tt) (λ z u. run_at (context_of m room) code (start + length (expression_code m.here e)) (z ∷ []) u)
+    (λ z u. ends (context_of m room) code (start + length (expression_code m.here e)) (z ∷ []) u (has_back code start (expression_code m.here e) (End ∷ []) has).0)
+    (value-follows m room code e start [] w (has_front code start (expression_code m.here e) (End ∷ []) has) (omega (arith, deep)))
 
 -- a condition
 pub conditions-right : ConditionsAreRight
-conditions-right h code room start e has deep = record {
-  is = condition-runs h code room start e has deep;
-  never_stuck = λ w. runs_on (context_of h room) code start w (value_of h e w) (λ z. Over (z ∷ [])) (λ _ _ _. tt) (condition-runs h code room start e has deep w);
+conditions-right m code room start e has deep = record {
+  is = condition-runs m code room start e has deep;
+  never_stuck = λ w. runs_on (context_of m room) code start w (value_of m e w) (λ z. Over (z ∷ [])) (λ _ _ _. tt) (condition-runs m code room start e has deep w);
 }
 
 -- each way out of a block is over
@@ -72,30 +73,30 @@ way-over Continued u text = tt
 way-over (Left state) u text = tt
 
 -- the run of a block
-block-runs : (h : Here) (code : List Instr) (room start : ℕ) (b : BlockTree) → HasAt code start (block_piece h b) → block_depth b ≤ room → (w : World) →
-    run_of (context_of h room) code start w ≡ then_do (block_effect h b w) leads_to
-block-runs h code room start b has deep w =
-    runs (context_of h room) code start w (block_effect h b w) led_to way-over (led (context_of h room) code [] last (last + 0) (last + 0)) there
-    (block-follows h room code [] b 0 0 start w (has_front code start (block_code h 0 0 b) (End ∷ []) has) (omega (arith, deep)))
+block-runs : (m : Scene) (code : List Instr) (room start : ℕ) (b : BlockTree) → HasAt code start (block_piece m.here b) → block_depth m.here.functions b ≤ room → (w : World) →
+    run_of (context_of m room) code start w ≡ then_do (block_effect m b w) leads_to
+block-runs m code room start b has deep w =
+    runs (context_of m room) code start w (block_effect m b w) led_to way-over (led (context_of m room) code [] last (last + 0) (last + 0)) there
+    (block-follows m room code [] b 0 0 start w (has_front code start (block_code m.here 0 0 b) (End ∷ []) has) (omega (arith, deep)))
   where
     last : ℕ
-    last = start + length (block_code h 0 0 b)
+    last = start + length (block_code m.here 0 0 b)
 
     here : slice_get code last ≡ Some End
-    here = (has_back code start (block_code h 0 0 b) (End ∷ []) has).0
+    here = (has_back code start (block_code m.here 0 0 b) (End ∷ []) has).0
 
     here' : slice_get code (last + 0) ≡ Some End
     here' = let e : last ≡ last + 0 = omega arith in subst (λ n. slice_get code n ≡ Some End) e here
 
-    there : (way : Way) (u : World) → led (context_of h room) code [] last (last + 0) (last + 0) way u 1 ≡ Gives (led_to way) u []
-    there Done u = ends (context_of h room) code last [] u here
-    there Broken u = ends (context_of h room) code (last + 0) [] u here'
-    there Continued u = ends (context_of h room) code (last + 0) [] u here'
+    there : (way : Way) (u : World) → led (context_of m room) code [] last (last + 0) (last + 0) way u 1 ≡ Gives (led_to way) u []
+    there Done u = ends (context_of m room) code last [] u here
+    there Broken u = ends (context_of m room) code (last + 0) [] u here'
+    there Continued u = ends (context_of m room) code (last + 0) [] u here'
     there (Left state) u = refl
 
 -- a block
 pub blocks-right : BlocksAreRight
-blocks-right h code room start b has deep = record {
-  is = block-runs h code room start b has deep;
-  never_stuck = λ w. runs_on (context_of h room) code start w (block_effect h b w) led_to way-over (block-runs h code room start b has deep w);
+blocks-right m code room start b has deep = record {
+  is = block-runs m code room start b has deep;
+  never_stuck = λ w. runs_on (context_of m room) code start w (block_effect m b w) led_to way-over (block-runs m code room start b has deep w);
 }

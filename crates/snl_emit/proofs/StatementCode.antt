@@ -3,14 +3,16 @@ use Rattle.std.proofs.Common.{◌≡◌, ◌+◌, ◌≤◌, ℕ, ℤ, List, [],
 use Rattle.snl_syntax.specs.Statements.{StatementTree, StatementList, BlockTree, nested, empty, expression, break_loop, continue_loop, change_state, return_with, if_then, if_else, while_loop, for_loop, no_statements, statement, block}
 use Rattle.snl_meaning.specs.declared.instrs.Instr.{Instr}
 use Rattle.snl_meaning.specs.declared.instrs.Instr.TheVariants.{Jump, JumpIfZero}
-use Rattle.snl_emit.specs.BlockCode.{effect_code, dropped_code, test_code, loop_code, when_code, entered_code, statement_code, statements_code, block_code, statement_depth, statements_depth, block_depth}
+use Rattle.snl_emit.specs.Depths.{statement_depth, statements_depth, block_depth}
+use Rattle.snl_emit.specs.BlockCode.{effect_code, dropped_code, test_code, loop_code, when_code, entered_code, statement_code, statements_code, block_code}
 use Rattle.snl_meaning.specs.Effect.{Way, Done, Broken, Continued, ends, done, if_done, held_by, evaluated, looped, names_of, entered, effect_of, effects_of, block_effect}
 use Rattle.snl_emit.specs.ExpressionCode.{expression_code, if_code}
-use Rattle.snl_meaning.specs.Names.{Here}
 use Rattle.snl_meaning.specs.Ran.{Ran, then_do}
 use Rattle.snl_meaning.specs.Endings.{HasAt}
 use Rattle.snl_meaning.specs.Run.{PieceContext, context_of, step_of, from_there, exec}
 use Rattle.snl_meaning.specs.Value.{value_of, either}
+use Rattle.snl_meaning.specs.Names.{Outline}
+use Rattle.snl_meaning.specs.Scenes.{Scene}
 use Rattle.snl_meaning.specs.World.{World}
 use Rattle.snl_emit.proofs.Entering.{enters}
 use Rattle.snl_meaning.proofs.Following.{has_front, has_back, Continues, run_at, continues-here, continues-then, quiet-jump, quiet-if_zero}
@@ -20,10 +22,14 @@ use Rattle.snl_emit.proofs.ValueCode.{value-follows}
 use Rattle.snl_emit.proofs.EffectCode.{effect-follows}
 use Rattle.snl_meaning.proofs.Ticks.{effect-keeps}
 
-module _ (h : Here) (room : ℕ) (code : List Instr) (below : List ℤ) where
+module _ (m : Scene) (room : ℕ) (code : List Instr) (below : List ℤ) where
   -- what the code runs with
   abbrev g : PieceContext
-  g = context_of h room
+  g = context_of m room
+
+  -- the functions that it may call
+  abbrev fs : List Outline
+  fs = m.here.functions
 
   -- code of n instructions does what a word does, and leads where the word does
   abbrev Leads : (World → Ran Way) → (n out again : ℕ) → (at : ℕ) (w : World) → Type 0
@@ -31,13 +37,13 @@ module _ (h : Here) (room : ℕ) (code : List Instr) (below : List ℤ) where
 
   mutual
     -- a statement
-    statement-follows : (s : StatementTree) (out again at : ℕ) (w : World) → HasAt code at (statement_code h out again s) → length below + statement_depth s ≤ room →
-        Leads (effect_of h s) (length (statement_code h out again s)) out again at w
+    statement-follows : (s : StatementTree) (out again at : ℕ) (w : World) → HasAt code at (statement_code m.here out again s) → length below + statement_depth fs s ≤ room →
+        Leads (effect_of m s) (length (statement_code m.here out again s)) out again at w
     statement-follows (nested b) out again at w has free = block-follows b out again at w has free
     statement-follows empty out again at w has free = continues-done g code below at w (at + 0) (at + 0 + out) (at + 0 + again) (omega arith)
     statement-follows (expression e) out again at w has free =
-        let after = at + length (effect_code h e) in
-        continues-then (run_at g code at below w) (value_of h e w) done _ _ (effect-follows h room code below e at w has free)
+        let after = at + length (effect_code m.here e) in
+        continues-then (run_at g code at below w) (value_of m e w) done _ _ (effect-follows m room code below e at w has free)
         (λ z u. continues-done g code below after u after (after + out) (after + again) refl)
     statement-follows (break_loop t) out again at w has free =
         continues-here g code Broken at below w (at + 1 + out) below (led g code below (at + 1) (at + 1 + out) (at + 1 + again)) (quiet-jump g code out at (at + 1 + out) below w has.0 refl) refl
@@ -47,22 +53,22 @@ module _ (h : Here) (room : ℕ) (code : List Instr) (below : List ℤ) where
     statement-follows (change_state t x) out again at w has free = record { by = λ k. (1, ap (λ o. then_do (step_of g o at below w) (from_there (exec g code 0))) has.0) }
     statement-follows (return_with t e) out again at w has free = continues-done g code below at w (at + 0) (at + 0 + out) (at + 0 + again) (omega arith)
     statement-follows (if_then c s) out again at w has free =
-        let cc' = expression_code h c in
-        let hc = statement_code h out again s in
+        let cc' = expression_code m.here c in
+        let hc = statement_code m.here out again s in
         let test = at + length cc' in
         let k = has_back code at cc' (JumpIfZero (length hc) ∷ hc) has in
         let whole = length (when_code cc' hc) in
         let over : test + 1 + length hc ≡ at + whole = omega (arith, length-append cc' (JumpIfZero (length hc) ∷ hc)) in
-        continues-then (run_at g code at below w) (value_of h c w) (either (effect_of h s) (ends Done)) _ _
-        (value-follows h room code c at below w (has_front code at cc' _ has) (omega (arith, free)))
-        (continues-either g code below test (at + whole) (effect_of h s) (ends Done) _
+        continues-then (run_at g code at below w) (value_of m c w) (either (effect_of m s) (ends Done)) _ _
+        (value-follows m room code c at below w (has_front code at cc' _ has) (omega (arith, free)))
+        (continues-either g code below test (at + whole) (effect_of m s) (ends Done) _
         (λ z u. quiet-if_zero g code (length hc) test (at + whole) (test + 1) z below u k.0 over refl)
         (λ u. renamed g code below (test + 1) u _ _ _ _ _ _ _ over (ap (λ n. n + out) over) (ap (λ n. n + again) over) (statement-follows s out again (test + 1) u k.1 (omega (arith, free))))
         (λ u. continues-done g code below (at + whole) u _ _ _ refl))
     statement-follows (if_else c s e) out again at w has free =
-        let cc' = expression_code h c in
-        let fc = statement_code h out again e in
-        let hc = statement_code h (out + 1 + length fc) (again + 1 + length fc) s in
+        let cc' = expression_code m.here c in
+        let fc = statement_code m.here out again e in
+        let hc = statement_code m.here (out + 1 + length fc) (again + 1 + length fc) s in
         let test = at + length cc' in
         let k = has_back code at cc' _ has in
         let k' = has_back code (test + 1) hc _ k.1 in
@@ -73,9 +79,9 @@ module _ (h : Here) (room : ℕ) (code : List Instr) (below : List ℤ) where
         let second : test + 1 + (length hc + 1) ≡ test + 1 + length hc + 1 = omega arith in
         let away : test + 1 + length hc + (out + 1 + length fc) ≡ at + whole + out = omega (arith, l1, l2) in
         let round : test + 1 + length hc + (again + 1 + length fc) ≡ at + whole + again = omega (arith, l1, l2) in
-        continues-then (run_at g code at below w) (value_of h c w) (either (effect_of h s) (effect_of h e)) _ _
-        (value-follows h room code c at below w (has_front code at cc' _ has) (omega (arith, free)))
-        (continues-either g code below test (test + 1 + length hc + 1) (effect_of h s) (effect_of h e) _
+        continues-then (run_at g code at below w) (value_of m c w) (either (effect_of m s) (effect_of m e)) _ _
+        (value-follows m room code c at below w (has_front code at cc' _ has) (omega (arith, free)))
+        (continues-either g code below test (test + 1 + length hc + 1) (effect_of m s) (effect_of m e) _
         (λ z u. quiet-if_zero g code (length hc + 1) test (test + 1 + length hc + 1) (test + 1) z below u k.0 second refl)
         (λ u. renamed g code below (test + 1) u _ _ _ _ _ _ _ refl away round
         (goes_on_to g code below (test + 1) u _ (test + 1 + length hc) (at + whole) _ _ (λ v. quiet-jump g code (length fc) (test + 1 + length hc) (at + whole) below v k'.0 over)
@@ -83,53 +89,53 @@ module _ (h : Here) (room : ℕ) (code : List Instr) (below : List ℤ) where
         (λ u. renamed g code below (test + 1 + length hc + 1) u _ _ _ _ _ _ _ over (ap (λ n. n + out) over) (ap (λ n. n + again) over)
         (statement-follows e out again (test + 1 + length hc + 1) u k'.1 (omega arith))))
     statement-follows (while_loop t c s) out again at w has free =
-        let tc = test_code h (Some c) in
-        loop-follows h room code below t.pos.line (Some c) None at _ _ (effect_of h s) (statement_code h (length tc + 1) 0 s) has (omega (arith, free))
+        let tc = test_code m.here (Some c) in
+        loop-follows m room code below t.pos.line (Some c) None at _ _ (effect_of m s) (statement_code m.here (length tc + 1) 0 s) has (omega (arith, free))
         (λ a b same far u. renamed g code below (at + 1) u _ _ _ _ _ _ _ same (omega (arith, far)) (omega (arith, same))
         (statement-follows s (length tc + 1) 0 (at + 1) u (has_front code (at + 1) _ _ has.1) (omega arith)))
-        (effect-keeps h s) w
+        (effect-keeps m s) w
     statement-follows (for_loop t parts s) out again at w has free =
-        let ic = dropped_code h parts.start in
-        let sc = dropped_code h parts.step in
-        let tc = test_code h parts.condition in
-        let bc = statement_code h (length sc + length tc + 1) 0 s in
+        let ic = dropped_code m.here parts.start in
+        let sc = dropped_code m.here parts.step in
+        let tc = test_code m.here parts.condition in
+        let bc = statement_code m.here (length sc + length tc + 1) 0 s in
         let here = at + length ic in
         let k = has_back code at ic (loop_code t.pos.line bc sc tc) has in
         let whole = length (ic ++ loop_code t.pos.line bc sc tc) in
         let over : here + length (loop_code t.pos.line bc sc tc) ≡ at + whole = omega (arith, length-append ic (loop_code t.pos.line bc sc tc)) in
-        continues-then (run_at g code at below w) (evaluated h parts.start w) (λ _ u. looped t.pos.line (held_by h parts.condition) (effect_of h s) (evaluated h parts.step) u) _ _
-        (acts-maybe h room code below parts.start at w (has_front code at ic _ has) (omega (arith, free)))
+        continues-then (run_at g code at below w) (evaluated m parts.start w) (λ _ u. looped t.pos.line (held_by m parts.condition) (effect_of m s) (evaluated m parts.step) u) _ _
+        (acts-maybe m room code below parts.start at w (has_front code at ic _ has) (omega (arith, free)))
         (λ _ u. renamed g code below here u _ _ _ _ _ _ _ over refl refl
-        (loop-follows h room code below t.pos.line parts.condition parts.step here _ _ (effect_of h s) bc k (omega (arith, free))
+        (loop-follows m room code below t.pos.line parts.condition parts.step here _ _ (effect_of m s) bc k (omega (arith, free))
         (λ a b same far v. renamed g code below (here + 1) v _ _ _ _ _ _ _ same far (omega (arith, same))
         (statement-follows s (length sc + length tc + 1) 0 (here + 1) v (has_front code (here + 1) bc _ k.1) (omega arith)))
-        (effect-keeps h s) u))
+        (effect-keeps m s) u))
 
     -- statements in a row
-    statements-follow : (all : StatementList) (out again at : ℕ) (w : World) → HasAt code at (statements_code h out again all) → length below + statements_depth all ≤ room →
-        Leads (effects_of h all) (length (statements_code h out again all)) out again at w
+    statements-follow : (all : StatementList) (out again at : ℕ) (w : World) → HasAt code at (statements_code m.here out again all) → length below + statements_depth fs all ≤ room →
+        Leads (effects_of m all) (length (statements_code m.here out again all)) out again at w
     statements-follow no_statements out again at w has free = continues-done g code below at w (at + 0) (at + 0 + out) (at + 0 + again) (omega arith)
     statements-follow (statement s rest) out again at w has free =
-        let rc = statements_code h out again rest in
-        let fc = statement_code h (out + length rc) (again + length rc) s in
+        let rc = statements_code m.here out again rest in
+        let fc = statement_code m.here (out + length rc) (again + length rc) s in
         let l = length-append fc rc in
         let after : at + length fc + length rc ≡ at + length (fc ++ rc) = omega (arith, l) in
         let away : at + length fc + (out + length rc) ≡ at + length (fc ++ rc) + out = omega (arith, l) in
         let round : at + length fc + (again + length rc) ≡ at + length (fc ++ rc) + again = omega (arith, l) in
-        continues-then (run_at g code at below w) (effect_of h s w) (if_done (effects_of h rest)) _ _
+        continues-then (run_at g code at below w) (effect_of m s w) (if_done (effects_of m rest)) _ _
         (statement-follows s (out + length rc) (again + length rc) at w (has_front code at fc rc has) (omega (arith, free)))
-        (goes_on g code below (effects_of h rest) _ _ _ _ _ _ away round
+        (goes_on g code below (effects_of m rest) _ _ _ _ _ _ away round
         (λ u. renamed g code below (at + length fc) u _ _ _ _ _ _ _ after (ap (λ n. n + out) after) (ap (λ n. n + again) after)
         (statements-follow rest out again (at + length fc) u (has_back code at fc rc has) (omega (arith, free)))))
 
     -- a block
-    pub block-follows : (b : BlockTree) (out again at : ℕ) (w : World) → HasAt code at (block_code h out again b) → length below + block_depth b ≤ room →
-        Leads (block_effect h b) (length (block_code h out again b)) out again at w
+    pub block-follows : (b : BlockTree) (out again at : ℕ) (w : World) → HasAt code at (block_code m.here out again b) → length below + block_depth fs b ≤ room →
+        Leads (block_effect m b) (length (block_code m.here out again b)) out again at w
     block-follows (block ds all) out again at w has free =
-        let ec = entered_code h (names_of ds) in
-        let sc = statements_code h out again all in
+        let ec = entered_code m.here (names_of ds) in
+        let sc = statements_code m.here out again all in
         let over : at + length ec + length sc ≡ at + length (ec ++ sc) = omega (arith, length-append ec sc) in
-        continues-then (run_at g code at below w) (entered h (names_of ds) w) (λ _ u. effects_of h all u) _ _
-        (enters h room code below (names_of ds) (omega (arith, free)) at w (has_front code at ec sc has))
+        continues-then (run_at g code at below w) (entered m (names_of ds) w) (λ _ u. effects_of m all u) _ _
+        (enters m room code below (names_of ds) (omega (arith, free)) at w (has_front code at ec sc has))
         (λ _ u. renamed g code below (at + length ec) u _ _ _ _ _ _ _ over (ap (λ n. n + out) over) (ap (λ n. n + again) over)
         (statements-follow all out again (at + length ec) u (has_back code at ec sc has) (omega (arith, free))))

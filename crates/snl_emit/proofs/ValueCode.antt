@@ -8,8 +8,9 @@ use Rattle.snl_meaning.specs.declared.instrs.Instr.{Instr}
 use Rattle.snl_meaning.specs.declared.instrs.Instr.TheVariants.{Push, Get, Adjust, AdjustAt, Print, Wait, Put, PutAt, Ask, AskLink, AskElement}
 use Rattle.snl_meaning.specs.declared.instrs.Variable.{Variable}
 use Rattle.snl_resolve.specs.Calls.{has_async}
-use Rattle.snl_emit.specs.ExpressionCode.{CodeOn, expression_code, lead_code, terms_code, target_code, values_code, print_code, wait_code, put_call_code, ask_flag_code, ask_code, expression_depth, terms_depth, target_depth, values_depth, print_depth, wait_depth, put_depth, joint_code, joint_depth, at_code, get_code, put_code, put_at_code, held_depth, count_values}
-use Rattle.snl_meaning.specs.Names.{Here, sense_of, format_number, flag_number}
+use Rattle.snl_emit.specs.Depths.{expression_depth, terms_depth, target_depth, arguments_depth, print_depth, wait_depth, put_depth, routine_depth, joint_depth, held_depth}
+use Rattle.snl_emit.specs.ExpressionCode.{CodeOn, expression_code, lead_code, terms_code, target_code, values_code, print_code, wait_code, put_call_code, ask_flag_code, ask_code, joint_code, at_code, get_code, put_code, put_at_code, count_values}
+use Rattle.snl_meaning.specs.Names.{sense_of, format_number, flag_number, Outline, outline_named}
 use Rattle.snl_meaning.specs.Ran.{Ran, Gives, then_do}
 use Rattle.snl_meaning.specs.Endings.{HasAt}
 use Rattle.snl_meaning.specs.Run.{PieceContext, context_of}
@@ -18,22 +19,27 @@ use Rattle.snl_resolve.specs.declared.builtins.Query.{Query}
 use Rattle.snl_meaning.specs.Value.{OnVariable, OnElement, constant_of, joint_of, compound_of, sign_of, is_decimal, joined_by, put_at, at_subscript, value_of, chained, at_target, print_of, printing_with, wait_of, put_of, ask_flag, ask_of}
 use Rattle.snl_meaning.specs.Words.{gives, read, adjusted, put_to, put_element, waited}
 use Rattle.snl_meaning.specs.Asking.{asked, ask_variable, ask_element}
+use Rattle.snl_meaning.specs.Scenes.{Scene}
 use Rattle.snl_meaning.specs.World.{World}
 use Rattle.snl_resolve.specs.declared.constants.Constant.{Constant}
 use Rattle.snl_resolve.specs.declared.constants.Constant.TheVariants.{Worth}
 use Rattle.snl_resolve.specs.Constants.{joined}
 use Rattle.snl_emit.specs.Worth.{worth_of, number_of}
-use Rattle.snl_emit.proofs.DepthPositive.{depth-positive}
+use Rattle.snl_emit.proofs.DepthPositive.{depth-positive, routine-positive}
 use Rattle.snl_emit.proofs.Folding.{then_do-gives, same-number, folding, front-right, number-right}
 use Rattle.snl_emit.proofs.FoldedCode.{codes-same, codes-number, codes-folded, codes-or}
 use Rattle.snl_meaning.proofs.Following.{has_front, has_back, follows-then, follows-to}
 use Rattle.snl_emit.proofs.Joins.{Runs, Codes, CodesOn, codes-pushes, on-one, codes-more, on-more, codes-then, on-then, on-none, on-joint}
 use Rattle.snl_emit.proofs.WordCode.{codes-name, codes-at_name, codes-called, on-subscript, on-put, codes-put, codes-signed, codes-either, runs-print}
 
-module _ (h : Here) (room : ℕ) (code : List Instr) where
+module _ (m : Scene) (room : ℕ) (code : List Instr) where
   -- what the code runs with
   abbrev g : PieceContext
-  g = context_of h room
+  g = context_of m room
+
+  -- the functions that it may call
+  abbrev fs : List Outline
+  fs = m.here.functions
 
   -- 0 is pushed
   pushes-zero : (d : ℕ) → 1 ≤ d → Codes g code (gives (pos 0)) (Push (pos 0) ∷ []) d
@@ -41,35 +47,35 @@ module _ (h : Here) (room : ℕ) (code : List Instr) where
 
   -- `++` or `--` of a variable
   adjusts : (op_line : ℕ) (by : Kind) (is_before : Bool) (x : Token) (d : ℕ) → 1 ≤ d → (v : Variable) →
-      Codes g code (adjusted h.set v by op_line x.pos.line is_before (pos 0)) (Adjust v by op_line x.pos.line is_before ∷ []) d
+      Codes g code (adjusted m.set v by op_line x.pos.line is_before (pos 0)) (Adjust v by op_line x.pos.line is_before ∷ []) d
   adjusts op_line by is_before x d some v =
-      codes-pushes g code (Adjust v by op_line x.pos.line is_before) (adjusted h.set v by op_line x.pos.line is_before (pos 0)) (λ at s w. refl) d some
+      codes-pushes g code (Adjust v by op_line x.pos.line is_before) (adjusted m.set v by op_line x.pos.line is_before (pos 0)) (λ at s w. refl) d some
 
   -- `++` or `--` of an element
   adjusts-at : (op_line : ℕ) (by : Kind) (is_before : Bool) (x : Token) (d : ℕ) → (v : Variable) →
-      CodesOn g code (adjusted h.set v by op_line x.pos.line is_before) (AdjustAt v by op_line x.pos.line is_before ∷ []) d
+      CodesOn g code (adjusted m.set v by op_line x.pos.line is_before) (AdjustAt v by op_line x.pos.line is_before ∷ []) d
   adjusts-at op_line by is_before x d v =
-      on-one g code (AdjustAt v by op_line x.pos.line is_before) (adjusted h.set v by op_line x.pos.line is_before) (λ at x s w. refl) d
+      on-one g code (AdjustAt v by op_line x.pos.line is_before) (adjusted m.set v by op_line x.pos.line is_before) (λ at x s w. refl) d
 
   -- `printf` after arguments that were taken
   abbrev PrintsFrom : ℕ → ArgumentList → Type 0
-  PrintsFrom f all = (taken : List ℤ) (n last at : ℕ) (s : List ℤ) (w : World) → length taken + count_values all ≡ n → last ≡ at + length (values_code h all) →
-      slice_get code last ≡ Some (Print f n) → HasAt code at (values_code h all) → length s < room → length s + values_depth (length taken) all ≤ room →
-      Runs g code at (taken ++ s) w (printing_with h f all taken w) (last + 1) s
+  PrintsFrom f all = (taken : List ℤ) (n last at : ℕ) (s : List ℤ) (w : World) → length taken + count_values all ≡ n → last ≡ at + length (values_code m.here all) →
+      slice_get code last ≡ Some (Print f n) → HasAt code at (values_code m.here all) → length s < room → length s + arguments_depth fs (length taken) all ≤ room →
+      Runs g code at (taken ++ s) w (printing_with m f all taken w) (last + 1) s
 
   -- `printf` with all of its arguments
   codes-print : (f : ℕ) (all : ArgumentList) → PrintsFrom f all →
-      Codes g code (printing_with h f all []) (values_code h all ++ Print f (count_values all) ∷ []) (max 1 (values_depth 0 all))
+      Codes g code (printing_with m f all []) (values_code m.here all ++ Print f (count_values all) ∷ []) (max 1 (arguments_depth fs 0 all))
   codes-print f all follow at s w has free =
-      let ac = values_code h all in
+      let ac = values_code m.here all in
       let e : at + length ac + 1 ≡ at + length (ac ++ Print f (count_values all) ∷ []) = omega (arith, length-append ac (Print f (count_values all) ∷ [])) in
       follows-to g code at s w _ _ _ (λ z. z ∷ s) e
       (follow [] (count_values all) (at + length ac) at s w (omega arith) refl (has_back code at ac _ has).0 (has_front code at ac _ has) (omega arith) (omega arith))
 
   -- what is asked of a flag, by an expression
-  flag-follows : (e : ExprTree) (query : Query) → Codes g code (ask_flag h e query) (ask_flag_code h e query ∷ []) 1
+  flag-follows : (e : ExprTree) (query : Query) → Codes g code (ask_flag m e query) (ask_flag_code m.here e query ∷ []) 1
   flag-follows (parenthesized e) query = flag-follows e query
-  flag-follows (named x) query = codes-pushes g code (Ask query (flag_number h x)) (asked query (flag_number h x)) (λ at s w. refl) 1 (omega arith)
+  flag-follows (named x) query = codes-pushes g code (Ask query (flag_number m.here x)) (asked query (flag_number m.here x)) (λ at s w. refl) 1 (omega arith)
   flag-follows (constant t) query = pushes-zero 1 (omega arith)
   flag-follows (element x b e) query = pushes-zero 1 (omega arith)
   flag-follows (call f all) query = pushes-zero 1 (omega arith)
@@ -80,104 +86,106 @@ module _ (h : Here) (room : ℕ) (code : List Instr) where
   flag-follows (assignment e op r) query = pushes-zero 1 (omega arith)
 
   -- an operator with its operand, and those behind it
-  on-term : (op : Token) (e : ExprTree) (rest : TermList) → Codes g code (value_of h e) (expression_code h e) (expression_depth e) →
-      CodesOn g code (chained h rest) (terms_code h rest) (terms_depth rest) →
-      CodesOn g code (chained h (term op e rest)) (terms_code h (term op e rest)) (terms_depth (term op e rest))
+  on-term : (op : Token) (e : ExprTree) (rest : TermList) → Codes g code (value_of m e) (expression_code m.here e) (expression_depth fs e) →
+      CodesOn g code (chained m rest) (terms_code m.here rest) (terms_depth fs rest) →
+      CodesOn g code (chained m (term op e rest)) (terms_code m.here (term op e rest)) (terms_depth fs (term op e rest))
   on-term op e rest f k =
       let j = joint_of op.kind in
-      let d = max (joint_depth j (expression_depth e)) (terms_depth rest) in
-      let l : joint_depth j (expression_depth e) ≤ d = omega arith in
-      let r : terms_depth rest ≤ d = omega arith in
-      on-then g code (joined_by j op.pos.line (value_of h e)) (chained h rest) (joint_code j op.pos.line (number_of h.sites e) (expression_code h e)) (terms_code h rest) d
+      let d = max (joint_depth j (expression_depth fs e)) (terms_depth fs rest) in
+      let l : joint_depth j (expression_depth fs e) ≤ d = omega arith in
+      let r : terms_depth fs rest ≤ d = omega arith in
+      on-then g code (joined_by j op.pos.line (value_of m e)) (chained m rest) (joint_code j op.pos.line (number_of m.here.sites e) (expression_code m.here e)) (terms_code m.here rest) d
       (on-more g code _ _ _ d l
-      (on-joint g code j op.pos.line (number_of h.sites e) (value_of h e) (expression_code h e) (expression_depth e) (λ z is. number-right h e z is) (depth-positive e) f))
+      (on-joint g code j op.pos.line (number_of m.here.sites e) (value_of m e) (expression_code m.here e) (expression_depth fs e) (λ z is. number-right m e z is) (depth-positive fs e) f))
       (on-more g code _ _ _ d r k)
 
   mutual
     -- an expression
-    pub value-follows : (e : ExprTree) → Codes g code (value_of h e) (expression_code h e) (expression_depth e)
+    pub value-follows : (e : ExprTree) → Codes g code (value_of m e) (expression_code m.here e) (expression_depth fs e)
     value-follows (constant t) = codes-pushes g code (Push (constant_of t.kind t.text.now)) (gives (constant_of t.kind t.text.now)) (λ at s w. refl) 1 (omega arith)
     value-follows (parenthesized e) = value-follows e
-    value-follows (named x) = codes-name g code (sense_of h x) 1 (omega arith)
+    value-follows (named x) = codes-name g code (sense_of m.here x) 1 (omega arith)
     value-follows (element x b e) =
-        codes-then g code (value_of h e) (at_subscript (sense_of h x) b.pos.line (read h.set) (gives (pos 0)))
-        (expression_code h e) (at_code (sense_of h x) b.pos.line get_code (Push (pos 0) ∷ [])) (expression_depth e) (value-follows e)
-        (on-subscript g code (sense_of h x) b.pos.line (read h.set) (gives (pos 0)) get_code (Push (pos 0) ∷ []) (expression_depth e)
-        (λ v. on-one g code (Get v) (read h.set v) (λ at x s w. refl) (expression_depth e)) (pushes-zero (expression_depth e) (depth-positive e)))
+        codes-then g code (value_of m e) (at_subscript (sense_of m.here x) b.pos.line (read m.set) (gives (pos 0)))
+        (expression_code m.here e) (at_code (sense_of m.here x) b.pos.line get_code (Push (pos 0) ∷ [])) (expression_depth fs e) (value-follows e)
+        (on-subscript g code (sense_of m.here x) b.pos.line (read m.set) (gives (pos 0)) get_code (Push (pos 0) ∷ []) (expression_depth fs e)
+        (λ v. on-one g code (Get v) (read m.set v) (λ at x s w. refl) (expression_depth fs e)) (pushes-zero (expression_depth fs e) (depth-positive fs e)))
     value-follows (call f all) =
-        codes-called g code (builtin_of f.text.now) (print_of h all) (wait_of h all) (put_of h all) (ask_of h all)
-        (print_code h all) (wait_code h all) (put_call_code h all) (ask_code h all) (print_depth all) (wait_depth all) (put_depth all)
-        (print-follows all) (wait-follows all) (put-follows all) (ask-follows all)
+        codes-called g code (builtin_of f.text.now) (print_of m all) (wait_of m all) (put_of m all) (ask_of m all)
+        (print_code m.here all) (wait_code m.here all) (put_call_code m.here all) (ask_code m.here all) (print_depth fs all) (wait_depth fs all) (put_depth fs all)
+        (routine_depth (outline_named fs f.text.now) (arguments_depth fs 0 all)) (print-follows all) (wait-follows all) (put-follows all) (ask-follows all)
+        (routine-positive (outline_named fs f.text.now) (arguments_depth fs 0 all))
     value-follows (postfix e op) =
-        codes-signed g code (sign_of op.kind) _ (value_of h e) _ (expression_code h e) op.pos.line (target_depth e 2 3) (expression_depth e)
+        codes-signed g code (sign_of op.kind) _ (value_of m e) _ (expression_code m.here e) op.pos.line (target_depth fs e 2 3) (expression_depth fs e)
         (λ by. target-follows e _ _ (gives (pos 0)) (λ v x. Adjust v by op.pos.line x.pos.line true ∷ []) (λ v x. AdjustAt v by op.pos.line x.pos.line true ∷ [])
         (Push (pos 0) ∷ []) 2 3 (omega arith)
         (λ x v. adjusts op.pos.line by true x 2 (omega arith) v) (λ x v. adjusts-at op.pos.line by true x 3 v) (pushes-zero 2 (omega arith))) (value-follows e)
     value-follows (prefix op e) =
-        codes-folded g code (worth_of h.sites (prefix op e)) (value_of h (prefix op e)) _ (expression_depth (prefix op e)) (depth-positive (prefix op e)) (λ z w. folding h (prefix op e) z w)
-        (codes-signed g code (sign_of op.kind) _ (value_of h e) _ (expression_code h e) op.pos.line (target_depth e 2 3) (expression_depth e)
+        codes-folded g code (worth_of m.here.sites (prefix op e)) (value_of m (prefix op e)) _ (expression_depth fs (prefix op e)) (depth-positive fs (prefix op e))
+        (λ z w. folding m (prefix op e) z w)
+        (codes-signed g code (sign_of op.kind) _ (value_of m e) _ (expression_code m.here e) op.pos.line (target_depth fs e 2 3) (expression_depth fs e)
         (λ by. target-follows e _ _ (gives (pos 0)) (λ v x. Adjust v by op.pos.line x.pos.line false ∷ []) (λ v x. AdjustAt v by op.pos.line x.pos.line false ∷ [])
         (Push (pos 0) ∷ []) 2 3 (omega arith)
         (λ x v. adjusts op.pos.line by false x 2 (omega arith) v) (λ x v. adjusts-at op.pos.line by false x 3 v) (pushes-zero 2 (omega arith))) (value-follows e))
     value-follows (chain e rest) =
-        let d = max (expression_depth e) (terms_depth rest) in
-        let l : expression_depth e ≤ d = omega arith in
-        lead-follows rest (worth_of h.sites e) (value_of h e) (expression_code h e) d (omega (arith, depth-positive e)) (omega arith) (λ z w. folding h e z w)
+        let d = max (expression_depth fs e) (terms_depth fs rest) in
+        let l : expression_depth fs e ≤ d = omega arith in
+        lead-follows rest (worth_of m.here.sites e) (value_of m e) (expression_code m.here e) d (omega (arith, depth-positive fs e)) (omega arith) (λ z w. folding m e z w)
         (codes-more g code _ _ _ d l (value-follows e))
     value-follows (conditional c a b) =
-        let d = expression_depth (conditional c a b) in
-        let l : expression_depth c ≤ d = omega arith in
-        let m : expression_depth a ≤ d = omega arith in
-        let r : expression_depth b ≤ d = omega arith in
-        codes-folded g code (worth_of h.sites (conditional c a b)) (value_of h (conditional c a b)) _ d (depth-positive (conditional c a b)) (λ z w. folding h (conditional c a b) z w)
-        (codes-either g code (value_of h c) (value_of h a) (value_of h b) (expression_code h c) (expression_code h a) (expression_code h b) d
-        (codes-more g code _ _ _ d l (value-follows c)) (codes-more g code _ _ _ d m (value-follows a)) (codes-more g code _ _ _ d r (value-follows b)))
+        let d = expression_depth fs (conditional c a b) in
+        let l : expression_depth fs c ≤ d = omega arith in
+        let k : expression_depth fs a ≤ d = omega arith in
+        let r : expression_depth fs b ≤ d = omega arith in
+        codes-folded g code (worth_of m.here.sites (conditional c a b)) (value_of m (conditional c a b)) _ d (depth-positive fs (conditional c a b)) (λ z w. folding m (conditional c a b) z w)
+        (codes-either g code (value_of m c) (value_of m a) (value_of m b) (expression_code m.here c) (expression_code m.here a) (expression_code m.here b) d
+        (codes-more g code _ _ _ d l (value-follows c)) (codes-more g code _ _ _ d k (value-follows a)) (codes-more g code _ _ _ d r (value-follows b)))
     value-follows (assignment e op r) =
         let o = compound_of op.kind in
-        let rc = expression_code h r in
-        let d = expression_depth r in
+        let rc = expression_code m.here r in
+        let d = expression_depth fs r in
         let n : d ≤ d + held_depth o = omega arith in
-        target-follows e (λ v x. put_at o op.pos.line (value_of h r) h.set v x.pos.line (pos 0)) (λ v x. put_at o op.pos.line (value_of h r) h.set v x.pos.line) (value_of h r)
+        target-follows e (λ v x. put_at o op.pos.line (value_of m r) m.set v x.pos.line (pos 0)) (λ v x. put_at o op.pos.line (value_of m r) m.set v x.pos.line) (value_of m r)
         (λ v x. put_code o op.pos.line rc v x.pos.line) (λ v x. put_at_code o op.pos.line rc x.pos.line v) rc (d + held_depth o) (d + held_depth o + 1) (omega arith)
-        (λ x v. codes-put g code o op.pos.line (value_of h r) rc d x.pos.line (value-follows r) v)
-        (λ x v. on-put g code o op.pos.line (value_of h r) rc d x.pos.line (value-follows r) v)
-        (codes-more g code (value_of h r) rc d (d + held_depth o) n (value-follows r))
+        (λ x v. codes-put g code o op.pos.line (value_of m r) rc d x.pos.line (value-follows r) v)
+        (λ x v. on-put g code o op.pos.line (value_of m r) rc d x.pos.line (value-follows r) v)
+        (codes-more g code (value_of m r) rc d (d + held_depth o) n (value-follows r))
 
     -- the operators and operands of one level, after what stands left of them
-    lead-follows : (rest : TermList) (left : Constant) (word : World → Ran ℤ) (own : List Instr) (d : ℕ) → 1 ≤ d → terms_depth rest ≤ d →
+    lead-follows : (rest : TermList) (left : Constant) (word : World → Ran ℤ) (own : List Instr) (d : ℕ) → 1 ≤ d → terms_depth fs rest ≤ d →
         ((z : ℤ) (w : World) → left ≡ Worth z → word w ≡ Gives z w []) → Codes g code word own d →
-        Codes g code (λ w. then_do (word w) (chained h rest)) (lead_code h rest left own) d
+        Codes g code (λ w. then_do (word w) (chained m rest)) (lead_code m.here rest left own) d
     lead-follows no_terms left word own d some enough so f =
-        codes-same g code word (λ w. then_do (word w) (chained h no_terms)) own d (λ w. sym (then_do-gives (word w))) f
+        codes-same g code word (λ w. then_do (word w) (chained m no_terms)) own d (λ w. sym (then_do-gives (word w))) f
     lead-follows (term op e rest) left word own d some enough so f =
-        codes-or g code (joined op.kind left (worth_of h.sites e)) (λ w. then_do (word w) (chained h (term op e rest))) (λ z. lead_code h rest (Worth z) (Push z ∷ []))
-        (own ++ terms_code h (term op e rest)) d
-        (λ z is. codes-same g code (λ w. then_do (gives z w) (chained h rest)) (λ w. then_do (word w) (chained h (term op e rest))) (lead_code h rest (Worth z) (Push z ∷ [])) d
-        (λ w. front-right h op e rest left (word w) z w (λ v. so v w) is)
+        codes-or g code (joined op.kind left (worth_of m.here.sites e)) (λ w. then_do (word w) (chained m (term op e rest))) (λ z. lead_code m.here rest (Worth z) (Push z ∷ []))
+        (own ++ terms_code m.here (term op e rest)) d
+        (λ z is. codes-same g code (λ w. then_do (gives z w) (chained m rest)) (λ w. then_do (word w) (chained m (term op e rest))) (lead_code m.here rest (Worth z) (Push z ∷ [])) d
+        (λ w. front-right m op e rest left (word w) z w (λ v. so v w) is)
         (lead-follows rest (Worth z) (gives z) (Push z ∷ []) d some (omega (arith, enough)) (λ y w. same-number z y w) (codes-number g code z d some)))
-        (codes-then g code word (chained h (term op e rest)) own (terms_code h (term op e rest)) d f
-        (on-more g code _ _ (terms_depth (term op e rest)) d enough (on-term op e rest (value-follows e) (chain-follows rest))))
+        (codes-then g code word (chained m (term op e rest)) own (terms_code m.here (term op e rest)) d f
+        (on-more g code _ _ (terms_depth fs (term op e rest)) d enough (on-term op e rest (value-follows e) (chain-follows rest))))
 
     -- those behind the front
-    chain-follows : (ts : TermList) → CodesOn g code (chained h ts) (terms_code h ts) (terms_depth ts)
+    chain-follows : (ts : TermList) → CodesOn g code (chained m ts) (terms_code m.here ts) (terms_depth fs ts)
     chain-follows no_terms = on-none g code 0
     chain-follows (term op e rest) = on-term op e rest (value-follows e) (chain-follows rest)
 
     -- what is done at a target
     target-follows : (e : ExprTree) (alone : OnVariable) (indexed : OnElement) (other : World → Ran ℤ) (ac ic : CodeOn) (oc : List Instr) (a i : ℕ) → a ≤ i →
         ((x : Token) (v : Variable) → Codes g code (alone v x) (ac v x) a) → ((x : Token) (v : Variable) → CodesOn g code (indexed v x) (ic v x) i) → Codes g code other oc a →
-        Codes g code (at_target h e alone indexed other) (target_code h e ac ic oc) (target_depth e a i)
+        Codes g code (at_target m e alone indexed other) (target_code m.here e ac ic oc) (target_depth fs e a i)
     target-follows (parenthesized e) alone indexed other ac ic oc a i le f d k = target-follows e alone indexed other ac ic oc a i le f d k
-    target-follows (named x) alone indexed other ac ic oc a i le f d k = codes-at_name g code (sense_of h x) x alone other ac oc a (f x) k
+    target-follows (named x) alone indexed other ac ic oc a i le f d k = codes-at_name g code (sense_of m.here x) x alone other ac oc a (f x) k
     target-follows (element x b e) alone indexed other ac ic oc a i le f d k =
-        let m = max (expression_depth e) i in
-        let l : expression_depth e ≤ m = omega arith in
-        let r : i ≤ m = omega arith in
-        let n : a ≤ m = omega arith in
-        codes-then g code (value_of h e) (at_subscript (sense_of h x) b.pos.line (λ v. indexed v x) other)
-        (expression_code h e) (at_code (sense_of h x) b.pos.line (λ v. ic v x) oc) m
-        (codes-more g code _ _ _ m l (value-follows e))
-        (on-subscript g code (sense_of h x) b.pos.line (λ v. indexed v x) other (λ v. ic v x) oc m (λ v. on-more g code _ _ _ m r (d x v)) (codes-more g code other oc a m n k))
+        let most = max (expression_depth fs e) i in
+        let l : expression_depth fs e ≤ most = omega arith in
+        let r : i ≤ most = omega arith in
+        let n : a ≤ most = omega arith in
+        codes-then g code (value_of m e) (at_subscript (sense_of m.here x) b.pos.line (λ v. indexed v x) other)
+        (expression_code m.here e) (at_code (sense_of m.here x) b.pos.line (λ v. ic v x) oc) most
+        (codes-more g code _ _ _ most l (value-follows e))
+        (on-subscript g code (sense_of m.here x) b.pos.line (λ v. indexed v x) other (λ v. ic v x) oc most (λ v. on-more g code _ _ _ most r (d x v)) (codes-more g code other oc a most n k))
     target-follows (constant t) alone indexed other ac ic oc a i le f d k = k
     target-follows (call n all) alone indexed other ac ic oc a i le f d k = k
     target-follows (postfix e o) alone indexed other ac ic oc a i le f d k = k
@@ -187,52 +195,52 @@ module _ (h : Here) (room : ℕ) (code : List Instr) where
     target-follows (assignment e o r) alone indexed other ac ic oc a i le f d k = k
 
     -- `printf`
-    print-follows : (all : ArgumentList) → Codes g code (print_of h all) (print_code h all) (print_depth all)
+    print-follows : (all : ArgumentList) → Codes g code (print_of m all) (print_code m.here all) (print_depth fs all)
     print-follows no_arguments = pushes-zero 1 (omega arith)
     print-follows (value e rest) = pushes-zero 1 (omega arith)
-    print-follows (text t rest) = codes-print (format_number h t) rest (printing-follows (format_number h t) rest)
+    print-follows (text t rest) = codes-print (format_number m.here t) rest (printing-follows (format_number m.here t) rest)
 
     -- the values of `printf`
     printing-follows : (f : ℕ) (all : ArgumentList) → PrintsFrom f all
     printing-follows f no_arguments taken n last at s w is is_last there has free enough =
         let e : last ≡ at = omega arith in
-        let m : length taken ≡ n = omega arith in
-        let start : Runs g code last (taken ++ s) w (printing_with h f no_arguments taken w) (last + 1) s = runs-print g code f n last taken s w there m free in
-        subst (λ p. Runs g code p (taken ++ s) w (printing_with h f no_arguments taken w) (last + 1) s) e start
+        let all : length taken ≡ n = omega arith in
+        let start : Runs g code last (taken ++ s) w (printing_with m f no_arguments taken w) (last + 1) s = runs-print g code f n last taken s w there all free in
+        subst (λ p. Runs g code p (taken ++ s) w (printing_with m f no_arguments taken w) (last + 1) s) e start
     printing-follows f (text t rest) taken n last at s w is is_last there has free enough = printing-follows f rest taken n last at s w is is_last there has free enough
     printing-follows f (value e rest) taken n last at s w is is_last there has free enough =
-        let ec = expression_code h e in
-        let rc = values_code h rest in
+        let ec = expression_code m.here e in
+        let rc = values_code m.here rest in
         let next : last ≡ at + length ec + length rc = omega (arith, length-append ec rc) in
-        follows-then g code at (taken ++ s) w (value_of h e w) (λ z. printing_with h f rest (z ∷ taken)) (λ _. at + length ec) (λ z. z ∷ (taken ++ s)) (λ _. last + 1) (λ z. z ∷ s)
+        follows-then g code at (taken ++ s) w (value_of m e w) (λ z. printing_with m f rest (z ∷ taken)) (λ _. at + length ec) (λ z. z ∷ (taken ++ s)) (λ _. last + 1) (λ z. z ∷ s)
         (value-follows e at (taken ++ s) w (has_front code at ec rc has) (omega (arith, length-append taken s)))
         (λ z u. printing-follows f rest (z ∷ taken) n last (at + length ec) s u (omega arith) next there (has_back code at ec rc has) free (omega arith))
 
     -- `delay`
-    wait-follows : (all : ArgumentList) → Codes g code (wait_of h all) (wait_code h all) (wait_depth all)
+    wait-follows : (all : ArgumentList) → Codes g code (wait_of m all) (wait_code m.here all) (wait_depth fs all)
     wait-follows no_arguments = pushes-zero 1 (omega arith)
     wait-follows (text t rest) = pushes-zero 1 (omega arith)
     wait-follows (value e rest) =
-        codes-then g code (value_of h e) (waited h.set (not (is_decimal e))) (expression_code h e) (Wait (not (is_decimal e)) ∷ []) (expression_depth e) (value-follows e)
-        (on-one g code (Wait (not (is_decimal e))) (waited h.set (not (is_decimal e))) (λ at x s w. refl) (expression_depth e))
+        codes-then g code (value_of m e) (waited m.set (not (is_decimal e))) (expression_code m.here e) (Wait (not (is_decimal e)) ∷ []) (expression_depth fs e) (value-follows e)
+        (on-one g code (Wait (not (is_decimal e))) (waited m.set (not (is_decimal e))) (λ at x s w. refl) (expression_depth fs e))
 
     -- `pvPut`
-    put-follows : (all : ArgumentList) → Codes g code (put_of h all) (put_call_code h all) (put_depth all)
+    put-follows : (all : ArgumentList) → Codes g code (put_of m all) (put_call_code m.here all) (put_depth fs all)
     put-follows no_arguments = pushes-zero 1 (omega arith)
     put-follows (text t rest) = pushes-zero 1 (omega arith)
     put-follows (value e rest) =
         let async = has_async rest in
-        target-follows e (λ v x. put_to async h.set v) (λ v x. put_element async h.set v) (gives (pos 0)) (λ v x. Put v async ∷ []) (λ v x. PutAt v async ∷ [])
+        target-follows e (λ v x. put_to async m.set v) (λ v x. put_element async m.set v) (gives (pos 0)) (λ v x. Put v async ∷ []) (λ v x. PutAt v async ∷ [])
         (Push (pos 0) ∷ []) 1 1 (omega arith)
-        (λ x v. codes-pushes g code (Put v async) (put_to async h.set v) (λ at s w. refl) 1 (omega arith))
-        (λ x v. on-one g code (PutAt v async) (put_element async h.set v) (λ at x s w. refl) 1) (pushes-zero 1 (omega arith))
+        (λ x v. codes-pushes g code (Put v async) (put_to async m.set v) (λ at s w. refl) 1 (omega arith))
+        (λ x v. on-one g code (PutAt v async) (put_element async m.set v) (λ at x s w. refl) 1) (pushes-zero 1 (omega arith))
 
     -- a call that asks
-    ask-follows : (all : ArgumentList) (query : Query) → Codes g code (ask_of h all query) (ask_code h all query) (put_depth all)
+    ask-follows : (all : ArgumentList) (query : Query) → Codes g code (ask_of m all query) (ask_code m.here all query) (put_depth fs all)
     ask-follows no_arguments query = codes-pushes g code (Ask query 0) (asked query 0) (λ at s w. refl) 1 (omega arith)
     ask-follows (text t rest) query = pushes-zero 1 (omega arith)
     ask-follows (value e rest) query =
-        target-follows e (λ v x. ask_variable query h.set v) (λ v x. ask_element query h.set v) (ask_flag h e query) (λ v x. AskLink query v ∷ []) (λ v x. AskElement query v ∷ [])
-        (ask_flag_code h e query ∷ []) 1 1 (omega arith)
-        (λ x v. codes-pushes g code (AskLink query v) (ask_variable query h.set v) (λ at s w. refl) 1 (omega arith))
-        (λ x v. on-one g code (AskElement query v) (ask_element query h.set v) (λ at x s w. refl) 1) (flag-follows e query)
+        target-follows e (λ v x. ask_variable query m.set v) (λ v x. ask_element query m.set v) (ask_flag m e query) (λ v x. AskLink query v ∷ []) (λ v x. AskElement query v ∷ [])
+        (ask_flag_code m.here e query ∷ []) 1 1 (omega arith)
+        (λ x v. codes-pushes g code (AskLink query v) (ask_variable query m.set v) (λ at s w. refl) 1 (omega arith))
+        (λ x v. on-one g code (AskElement query v) (ask_element query m.set v) (λ at x s w. refl) 1) (flag-follows e query)

@@ -8,7 +8,8 @@ use Rattle.snl_arithmetic.specs.Arithmetic.{is_zero}
 use Rattle.snl_meaning.specs.declared.instrs.Instr.{Instr}
 use Rattle.snl_meaning.specs.declared.instrs.Instr.TheVariants.{Push, Load, Check, Peek, Store, StoreAt, Apply, ApplyPrefix, Jump, JumpIfZero, Print}
 use Rattle.snl_meaning.specs.declared.instrs.Variable.{Variable}
-use Rattle.snl_emit.specs.ExpressionCode.{name_code, at_code, put_at_code, renewed_code, put_code, held_depth, CodeOn, at_name_code, called_code, called_depth, signed_code, signed_depth, if_code}
+use Rattle.snl_emit.specs.Depths.{held_depth, called_depth, signed_depth}
+use Rattle.snl_emit.specs.ExpressionCode.{name_code, at_code, put_at_code, renewed_code, put_code, CodeOn, at_name_code, called_code, signed_code, if_code}
 use Rattle.snl_meaning.specs.declared.names.Sense.{Sense}
 use Rattle.snl_meaning.specs.declared.names.Sense.TheVariants.{Varies, Stands}
 use Rattle.snl_meaning.specs.Names.{text_of}
@@ -81,14 +82,14 @@ module _ (g : PieceContext) (code : List Instr) where
   codes-at_name (Stands z) x alone other ac oc d f h = h
 
   -- a call
-  pub codes-called : (function : Option Builtin) (print wait put : World → Ran ℤ) (ask : Query → World → Ran ℤ) (pc wc uc : List Instr) (ac : Query → List Instr) (d e i : ℕ) →
-      Codes g code print pc d → Codes g code wait wc e → Codes g code put uc i → ((query : Query) → Codes g code (ask query) (ac query) i) →
-      Codes g code (called function print wait put ask) (called_code function pc wc uc ac) (called_depth function d e i)
-  codes-called None print wait put ask pc wc uc ac d e i f h k a = codes-pushes g code (Push (pos 0)) (gives (pos 0)) (λ at s w. refl) 1 (omega arith)
-  codes-called (Some Delay) print wait put ask pc wc uc ac d e i f h k a = h
-  codes-called (Some Printf) print wait put ask pc wc uc ac d e i f h k a = f
-  codes-called (Some PvPut) print wait put ask pc wc uc ac d e i f h k a = k
-  codes-called (Some (Ask query)) print wait put ask pc wc uc ac d e i f h k a = a query
+  pub codes-called : (function : Option Builtin) (print wait put : World → Ran ℤ) (ask : Query → World → Ran ℤ) (pc wc uc : List Instr) (ac : Query → List Instr) (d e i r : ℕ) →
+      Codes g code print pc d → Codes g code wait wc e → Codes g code put uc i → ((query : Query) → Codes g code (ask query) (ac query) i) → 1 ≤ r →
+      Codes g code (called function print wait put ask) (called_code function pc wc uc ac) (called_depth function d e i r)
+  codes-called None print wait put ask pc wc uc ac d e i r f h k a some = codes-pushes g code (Push (pos 0)) (gives (pos 0)) (λ at s w. refl) r some
+  codes-called (Some Delay) print wait put ask pc wc uc ac d e i r f h k a some = h
+  codes-called (Some Printf) print wait put ask pc wc uc ac d e i r f h k a some = f
+  codes-called (Some PvPut) print wait put ask pc wc uc ac d e i r f h k a some = k
+  codes-called (Some (Ask query)) print wait put ask pc wc uc ac d e i r f h k a some = a query
 
   -- a sign
   pub codes-signed : (sg : Sign) (stepping : Kind → World → Ran ℤ) (operand : World → Ran ℤ) (sc : Kind → List Instr) (oc : List Instr) (line d e : ℕ) →

@@ -1,5 +1,5 @@
--- The code of statements and blocks, and how many operands it needs at once.
-use Rattle.std.specs.Prelude.{ℕ, suc, ◌+◌, List, [], ◌∷◌, ◌++◌, Option, None, Some, length, max, nat_lt, if◌then◌else◌}
+-- The code of statements and blocks.
+use Rattle.std.specs.Prelude.{ℕ, suc, ◌+◌, List, [], ◌∷◌, ◌++◌, Option, None, Some, length, nat_lt, if◌then◌else◌}
 use Rattle.snl_text.specs.declared.kinds.Kind.{Kind}
 use Rattle.snl_syntax.specs.Expressions.{ExprTree, parenthesized, named, assignment, postfix, prefix}
 use Rattle.snl_syntax.specs.Declarations.{DeclaratorTree}
@@ -8,7 +8,7 @@ use Rattle.snl_meaning.specs.declared.instrs.Instr.{Instr}
 use Rattle.snl_meaning.specs.declared.instrs.Instr.TheVariants.{Increment, Drop, Jump, JumpIfZero, Tick, Clear, Assign, Leave, End}
 use Rattle.snl_meaning.specs.declared.instrs.Variable.{Variable}
 use Rattle.snl_meaning.specs.Effect.{variable_for, values_of, names_of}
-use Rattle.snl_emit.specs.ExpressionCode.{expression_code, expression_depth, renewed_code, if_code}
+use Rattle.snl_emit.specs.ExpressionCode.{expression_code, renewed_code, if_code}
 use Rattle.snl_meaning.specs.declared.names.Sense.{Sense}
 use Rattle.snl_meaning.specs.declared.names.Sense.TheVariants.{Varies, Stands}
 use Rattle.snl_meaning.specs.declared.operators.Sign.{Sign}
@@ -83,11 +83,6 @@ abbrev pub test_code : Here → Option ExprTree → List Instr
 test_code h None = []
 test_code h (Some e) = expression_code h e ++ JumpIfZero 1 ∷ []
 
--- The depth of an expression that may be missing.
-abbrev pub maybe_depth : Option ExprTree → ℕ
-maybe_depth None = 0
-maybe_depth (Some e) = expression_depth e
-
 -- A loop: a jump to the test; the body; the step; the test, which passes the tick; a tick, and back to the body.
 abbrev pub loop_code : ℕ → List Instr → List Instr → List Instr → List Instr
 loop_code line body step test =
@@ -124,16 +119,6 @@ all_begun_code h (d ∷ ds) = begun_with_code h (variable_for h d) d.name.pos.li
 abbrev pub entered_code : Here → List DeclaratorTree → List Instr
 entered_code h ds = all_cleared_code h ds ++ all_begun_code h ds
 
--- The greatest depth of some values.
-abbrev pub values_depth : List ExprTree → ℕ
-values_depth [] = 0
-values_depth (e ∷ es) = max (expression_depth e) (values_depth es)
-
--- The greatest depth in what some variables are declared with: their sizes, and what they begin with.
-abbrev pub entered_depth : List DeclaratorTree → ℕ
-entered_depth [] = 0
-entered_depth (d ∷ ds) = max (max (values_depth d.sizes) (values_depth (values_of d.initial))) (entered_depth ds)
-
 -- ---- statements
 
 -- Of a statement it is known how many instructions stand between its end and the end of the innermost loop, and
@@ -168,31 +153,6 @@ abbrev mutual
   -- a block: the entry, then its statements
   pub block_code : Here → (out again : ℕ) → BlockTree → List Instr
   block_code h out again (block ds all) = entered_code h (names_of ds) ++ statements_code h out again all
-
-abbrev mutual
-  -- a statement
-  pub statement_depth : StatementTree → ℕ
-  statement_depth (nested b) = block_depth b
-  statement_depth empty = 0
-  statement_depth (expression e) = expression_depth e
-  statement_depth (break_loop t) = 0
-  statement_depth (continue_loop t) = 0
-  statement_depth (change_state t x) = 0
-  statement_depth (return_with t e) = maybe_depth e
-  statement_depth (if_then c s) = max (expression_depth c) (statement_depth s)
-  statement_depth (if_else c s e) = max (expression_depth c) (max (statement_depth s) (statement_depth e))
-  statement_depth (while_loop t c s) = max (expression_depth c) (statement_depth s)
-  statement_depth (for_loop t parts s) =
-      max (max (maybe_depth parts.start) (maybe_depth parts.condition)) (max (maybe_depth parts.step) (statement_depth s))
-
-  -- statements
-  pub statements_depth : StatementList → ℕ
-  statements_depth no_statements = 0
-  statements_depth (statement s rest) = max (statement_depth s) (statements_depth rest)
-
-  -- a block, with what its variables are declared with
-  pub block_depth : BlockTree → ℕ
-  block_depth (block ds all) = max (entered_depth (names_of ds)) (statements_depth all)
 
 -- ---- pieces
 

@@ -1,6 +1,6 @@
--- The code of an expression, and how many operands it needs at once. The code pushes the value. That of a constant expression that does
+-- The code of an expression. The code pushes the value. That of a constant expression that does
 -- not fault is the push of its number; one that faults has code, and faults when it is evaluated.
-use Rattle.std.specs.Prelude.{ℕ, suc, ◌+◌, ℤ, pos, true, false, not, List, [], ◌∷◌, ◌++◌, Option, None, Some, length, max}
+use Rattle.std.specs.Prelude.{ℕ, suc, ◌+◌, ℤ, pos, true, false, not, List, [], ◌∷◌, ◌++◌, Option, None, Some, length}
 use Rattle.snl_text.specs.declared.kinds.Kind.{Kind}
 use Rattle.snl_text.specs.declared.tokens.Token.{Token}
 use Rattle.snl_syntax.specs.Expressions.{ExprTree, TermList, ArgumentList, constant, parenthesized, named, element, call, postfix, prefix, chain, conditional, assignment, no_terms, term, no_arguments, value, text}
@@ -44,11 +44,6 @@ joint_code Or line number right = JumpIfZero 2 ∷ Push (pos 1) ∷ Jump (length
 joint_code Sequel line number right = Drop ∷ right
 joint_code (Operation op) line number right = operator_code op line number right
 
--- How much room an operator needs beside its operand.
-abbrev pub joint_depth : Joint → ℕ → ℕ
-joint_depth (Operation op) depth = depth + 1
-joint_depth _ depth = depth
-
 -- A condition, and one of two.
 abbrev pub if_code : List Instr → List Instr → List Instr → List Instr
 if_code condition held failed = condition ++ (JumpIfZero (length held + 1) ∷ (held ++ Jump (length failed) ∷ failed))
@@ -81,11 +76,6 @@ renewed_code (Some op) op_line right v = Load v ∷ (right ++ Apply op op_line �
 abbrev pub put_code : Option Kind → ℕ → List Instr → Variable → ℕ → List Instr
 put_code op op_line right v line = renewed_code op op_line right v ++ Store v line ∷ []
 
--- What an assignment holds while its right side is computed, beside a subscript.
-abbrev pub held_depth : Option Kind → ℕ
-held_depth None = 0
-held_depth (Some op) = 1
-
 -- The code of what is done to a variable, with the use of its name.
 abbrev pub CodeOn : Type 0
 CodeOn = Variable → Token → List Instr
@@ -100,11 +90,6 @@ abbrev pub signed_code : Sign → (Kind → List Instr) → List Instr → ℕ �
 signed_code (Steps op) stepping operand line = stepping op
 signed_code (Alone op) stepping operand line = operand ++ ApplyPrefix op line ∷ []
 
--- How much room a sign needs.
-abbrev pub signed_depth : Sign → ℕ → ℕ → ℕ
-signed_depth (Steps op) stepping operand = stepping
-signed_depth (Alone op) stepping operand = operand
-
 -- The code of a call.
 abbrev pub called_code : Option Builtin → (print wait put : List Instr) → (Query → List Instr) → List Instr
 called_code None print wait put ask = Push (pos 0) ∷ []
@@ -118,14 +103,6 @@ abbrev pub ask_flag_code : Here → ExprTree → Query → Instr
 ask_flag_code h (parenthesized e) query = ask_flag_code h e query
 ask_flag_code h (named x) query = Ask query (flag_number h x)
 ask_flag_code h _ query = Push (pos 0)
-
--- How much room a call needs. One that asks needs as much as `pvPut` does.
-abbrev pub called_depth : Option Builtin → (print wait put : ℕ) → ℕ
-called_depth None print wait put = 1
-called_depth (Some Delay) print wait put = wait
-called_depth (Some Printf) print wait put = print
-called_depth (Some PvPut) print wait put = put
-called_depth (Some (builtin.Ask query)) print wait put = put
 
 -- How many arguments are expressions.
 abbrev pub count_values : ArgumentList → ℕ
@@ -202,54 +179,3 @@ abbrev mutual
   ask_code h no_arguments query = Ask query 0 ∷ []
   ask_code h (value e rest) query = target_code h e (λ v x. AskLink query v ∷ []) (λ v x. AskElement query v ∷ []) (ask_flag_code h e query ∷ [])
   ask_code h (text t rest) query = Push (pos 0) ∷ []
-
--- ---- the depth
-
--- The greatest number of operands at once. It does not look at what names mean. A constant, a variable and a call
--- without an expression need 1; an operator holds what is left of it while its operand is computed.
-abbrev mutual
-  -- an expression
-  pub expression_depth : ExprTree → ℕ
-  expression_depth (constant t) = 1
-  expression_depth (parenthesized e) = expression_depth e
-  expression_depth (named x) = 1
-  expression_depth (element x b e) = expression_depth e
-  expression_depth (call f all) = called_depth (builtin_of f.text.now) (print_depth all) (wait_depth all) (put_depth all)
-  expression_depth (postfix e op) = signed_depth (sign_of op.kind) (target_depth e 2 3) (expression_depth e)
-  expression_depth (prefix op e) = signed_depth (sign_of op.kind) (target_depth e 2 3) (expression_depth e)
-  expression_depth (chain e rest) = max (expression_depth e) (terms_depth rest)
-  expression_depth (conditional c a b) = max (expression_depth c) (max (expression_depth a) (expression_depth b))
-  expression_depth (assignment e op r) =
-      target_depth e (expression_depth r + held_depth (compound_of op.kind)) (expression_depth r + held_depth (compound_of op.kind) + 1)
-
-  -- the operators and operands of one level
-  pub terms_depth : TermList → ℕ
-  terms_depth no_terms = 0
-  terms_depth (term op e rest) = max (joint_depth (joint_of op.kind) (expression_depth e)) (terms_depth rest)
-
-  -- of a target: what is done there to a variable, or to an element after its subscript
-  pub target_depth : ExprTree → ℕ → ℕ → ℕ
-  target_depth (parenthesized e) alone indexed = target_depth e alone indexed
-  target_depth (element x b e) alone indexed = max (expression_depth e) indexed
-  target_depth _ alone indexed = alone
-
-  -- `printf`
-  pub print_depth : ArgumentList → ℕ
-  print_depth (text t rest) = max 1 (values_depth 0 rest)
-  print_depth _ = 1
-
-  -- after so many values
-  pub values_depth : ℕ → ArgumentList → ℕ
-  values_depth k no_arguments = 0
-  values_depth k (text t rest) = values_depth k rest
-  values_depth k (value e rest) = max (expression_depth e + k) (values_depth (suc k) rest)
-
-  -- `delay`
-  pub wait_depth : ArgumentList → ℕ
-  wait_depth (value e rest) = expression_depth e
-  wait_depth _ = 1
-
-  -- `pvPut`, and calls that ask
-  pub put_depth : ArgumentList → ℕ
-  put_depth (value e rest) = target_depth e 1 1
-  put_depth _ = 1

@@ -17,7 +17,7 @@ use snl_syntax::{Argument, Expr};
 use snl_text::Token;
 use std::alloc::AllocError;
 
-/// A call with its arguments.
+/// A call with its arguments. Fails only where memory ends.
 #[cycle(emission)]
 pub fn emit_call<'a>(
     arguments: &[Argument<'a>],

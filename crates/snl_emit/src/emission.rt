@@ -258,7 +258,7 @@ fn emit_sign<'a>(
 }
 
 /// What is done at a target before the right side: its subscript, and the read of its old value
-/// where an operator joins it with the right side.
+/// where an operator joins it with the right side. Fails only where memory ends.
 #[cycle(emission)]
 pub fn emit_place<'a>(
     target: &Expr<'a>,

@@ -22,7 +22,7 @@ pub fn blocks_are_right()
     ensures { BlocksAreRight }
 {}
 
-/// No expression needs more operands than it has tokens.
+/// No expression needs more operands than it has tokens, and as many more as a function that it may call.
 pub fn depth_is_within_tokens()
     ensures { DepthIsWithinTokens }
 {}

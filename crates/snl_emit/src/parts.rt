@@ -23,7 +23,7 @@ pub fn read_name(sense: Sense) -> Instr
     }
 }
 
-/// The read of an element, after its subscript.
+/// The read of an element, after its subscript. Fails only where memory ends.
 pub fn put_read(code: &mut Vec<Instr>, sense: Sense, line: usize) -> Result<(), AllocError>
     ensures { OnOk result (reverse code.new.items
         ≡ element_code sense line ++ reverse code.old.items) }
@@ -40,7 +40,7 @@ pub fn put_read(code: &mut Vec<Instr>, sense: Sense, line: usize) -> Result<(), 
     }
 }
 
-/// The read of a variable's old value, if there is an operator to join it with.
+/// The read of a variable's old value, if there is an operator to join it with. Fails only where memory ends.
 pub fn put_old(
     code: &mut Vec<Instr>,
     sense: Sense,
@@ -55,7 +55,7 @@ pub fn put_old(
     }
 }
 
-/// The check of a subscript, and the read of the element's old value.
+/// The check of a subscript, and the read of the element's old value. Fails only where memory ends.
 pub fn put_checked(
     code: &mut Vec<Instr>,
     sense: Sense,

@@ -5,9 +5,10 @@ use Rattle.snl_syntax.specs.view.Definitions.{channels_view}
 use Rattle.snl_links.specs.declared.said.Said.{Said}
 use Rattle.snl_links.specs.declared.said.Said.TheVariants as declared
 use Rattle.snl_links.specs.declared.ties.Synced.{Synced}
-use Rattle.snl_links.specs.declared.links.Link.{Link}
+use Rattle.snl_links.specs.declared.channels.Link.{Link}
 use Rattle.snl_links.specs.Links as plain
 
+-- What a definition says, with the texts of its channels.
 abbrev pub said_view : Said → plain.Said
 said_view (declared.Assigned name part channels) = plain.assigned name part (shown channels_view channels.now)
 said_view (declared.Monitored part) = plain.monitored part
@@ -18,8 +19,10 @@ abbrev pub said_views : Option Said → List plain.Said
 said_views None = []
 said_views (Some s) = said_view s ∷ []
 
+-- The event flag and the queue of a link.
 abbrev pub synced_view : Synced → plain.Synced
 synced_view y = record { flag = y.flag; queue = y.queue }
 
+-- A link, with its name as bytes.
 abbrev pub link_view : Link → plain.Link
 link_view l = record { variable = l.variable; first = l.first; count = l.count; name = l.name.items; monitored = l.monitored; flag = l.flag; queue = l.queue }

@@ -2,14 +2,16 @@
 #![tactic(auto)]
 
 mod appending;
+mod channels;
+mod checked;
 mod facts;
 pub mod laws;
-mod links;
+mod listing;
 mod macros;
 mod said;
-mod tables;
 mod texts;
 mod ties;
 
-pub use links::{Link, Macros, links_of};
-pub use tables::{sign_in_force, tables_of};
+pub use channels::{Link, Macros, links_of};
+pub use checked::{links, tables};
+pub use listing::{sign_in_force, tables_of};

@@ -223,7 +223,7 @@ fn push_sets<'p, 'a>(
     Ok(())
 }
 
-/// Adds what all definitions of a program say, in the order of the source.
+/// Adds what all definitions of a program say, in the order of the source. Fails only where memory ends.
 pub fn push_said<'p, 'a>(
     alloc: Global,
     program: &'p Program<'a>,

@@ -4,7 +4,7 @@ use Rattle.snl_syntax.specs.Programs.{ClauseTree, ProgramTree}
 use Rattle.snl_code.specs.declared.starts.Piece.{Piece}
 use Rattle.snl_code.specs.declared.starts.Piece.TheVariants.{Condition, Block}
 use Rattle.snl_code.specs.Depths.{program_depth}
-use Rattle.snl_code.specs.Heres.{here_in}
+use Rattle.snl_code.specs.Heres.{here_in, scene_in}
 use Rattle.snl_code.specs.Pieces.{IsPlaced, PieceTree, Test, Action, piece_of, kept_piece, clause_at}
 use Rattle.snl_code.specs.Starts.{ProgramTable, holds_in, start_in}
 use Rattle.snl_code.proofs.Deepest.{depth_is_enough}
@@ -24,7 +24,7 @@ use Rattle.snl_load.proofs.Pieces.{condition-means, block-means}
 module _ (p : ProgramTree) (code : List Instr) (t : ProgramTable) (room set : ℕ) (placed : (name : Piece) → IsPlaced p code (kept_piece (holds_in t) p name) (start_in t name))
     (enough : program_depth p ≤ room) (state : ℕ) (held : holds_in t set state ≡ true) where
   abbrev pub context : PieceContext
-  context = context_of (here_in p set) room
+  context = context_of (scene_in p set) room
 
   -- the code has the piece of a name that stands in the state
   kept : (o : Option PieceTree) → (if holds_in t set state then o else None) ≡ o
@@ -32,7 +32,7 @@ module _ (p : ProgramTree) (code : List Instr) (t : ProgramTable) (room set : �
 
   -- the condition of a clause
   condition : (k : ℕ) (c : ClauseTree) → clause_at p set state k ≡ Some c →
-      ((w : World) → held_at context code (start_in t (Condition set state k)) w ≡ held_by (here_in p set) c.condition w) × CanTest context code (start_in t (Condition set state k))
+      ((w : World) → held_at context code (start_in t (Condition set state k)) w ≡ held_by (scene_in p set) c.condition w) × CanTest context code (start_in t (Condition set state k))
   condition k c at =
       let name = Condition set state k in
       let is : piece_of p name ≡ option_map (Test set) c.condition = ap (option_and_then (λ d. option_map (Test set) d.condition)) at in
@@ -41,7 +41,7 @@ module _ (p : ProgramTree) (code : List Instr) (t : ProgramTable) (room set : �
 
   -- the block of a clause
   block : (k : ℕ) (c : ClauseTree) → clause_at p set state k ≡ Some c → let start = unwrap_or (start_in t (Block set state k)) 0 in
-      ((w : World) → left_at context code start w ≡ then_do (block_effect (here_in p set) c.block w) left_for) × ((w : World) → IsOver (run_of context code start w))
+      ((w : World) → left_at context code start w ≡ then_do (block_effect (scene_in p set) c.block w) left_for) × ((w : World) → IsOver (run_of context code start w))
   block k c at =
       let name = Block set state k in by (start_in t name) (subst (λ (o : Option PieceTree). IsPlaced p code o (start_in t name)) (kept (piece_of p name) ∙ is) (placed name))
     where
@@ -49,17 +49,17 @@ module _ (p : ProgramTree) (code : List Instr) (t : ProgramTable) (room set : �
       is = ap (option_map (λ d. Action set d.block)) at
 
       by : (start : Option ℕ) → IsPlaced p code (Some (Action set c.block)) start →
-          ((w : World) → left_at context code (unwrap_or start 0) w ≡ then_do (block_effect (here_in p set) c.block w) left_for)
+          ((w : World) → left_at context code (unwrap_or start 0) w ≡ then_do (block_effect (scene_in p set) c.block w) left_for)
           × ((w : World) → IsOver (run_of context code (unwrap_or start 0) w))
       by None there = absurd there
       by (Some start) there = block-means p code room set c.block start there (omega (arith, enough, depth_is_enough p (Block set state k) (Action set c.block) is))
 
   -- a clause means what its plan runs
-  clause-means : (k : ℕ) (c : ClauseTree) → clause_at p set state k ≡ Some c → clause_of context code (clause_plan (here_in p set).states t set state k c) ≡ clause_meaning (here_in p set) c
+  clause-means : (k : ℕ) (c : ClauseTree) → clause_at p set state k ≡ Some c → clause_of context code (clause_plan (here_in p set).states t set state k c) ≡ clause_meaning (scene_in p set) c
   clause-means k c at =
       let tests = (condition k c at).0 in
       let acts = (block k c at).0 in
-      let m = clause_meaning (here_in p set) c in
+      let m = clause_meaning (scene_in p set) c in
       λ j. record { holds = λ w. tests w j; acts = λ w. acts w j; target = m.target; line = m.line }
 
   -- and it can run
@@ -76,7 +76,7 @@ module _ (p : ProgramTree) (code : List Instr) (t : ProgramTable) (room set : �
 
   -- clauses mean what their plans run
   pub clauses-mean : (k : ℕ) (cs : List ClauseTree) → StandFrom k cs →
-      map (clause_of context code) (clause_plans (here_in p set).states t set state k cs) ≡ map (clause_meaning (here_in p set)) cs
+      map (clause_of context code) (clause_plans (here_in p set).states t set state k cs) ≡ map (clause_meaning (scene_in p set)) cs
   clauses-mean k [] stand = refl
   clauses-mean k (c ∷ cs) stand = λ j. clause-means k c (stand 0 k c (omega arith) refl) j ∷ clauses-mean (k + 1) cs (next k c cs stand) j
 

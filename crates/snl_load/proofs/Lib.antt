@@ -1,4 +1,3 @@
-pub mod Rows
 pub mod Names
 pub mod Ends
 pub mod Listed

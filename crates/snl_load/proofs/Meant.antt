@@ -6,13 +6,13 @@ use Rattle.snl_syntax.specs.Statements.{BlockTree}
 use Rattle.snl_code.specs.declared.starts.Piece.{Piece}
 use Rattle.snl_code.specs.declared.starts.Piece.TheVariants.{ProgramEntry, ProgramExit}
 use Rattle.snl_code.specs.Depths.{program_depth}
-use Rattle.snl_code.specs.Heres.{here_in, name_by, states_by}
+use Rattle.snl_code.specs.Heres.{outlines_in, here_in, scene_in, name_by, states_by}
 use Rattle.snl_code.specs.Pieces.{IsPlaced, PieceTree, Action, piece_of, kept_piece, state_at}
 use Rattle.snl_code.specs.Starts.{table_of, holds_in, start_in}
 use Rattle.snl_code.proofs.Deepest.{depth_is_enough}
 use Rattle.snl_links.specs.Links.{Link}
 use Rattle.snl_meaning.specs.declared.instrs.Instr.{Instr}
-use Rattle.snl_emit.specs.BlockCode.{block_depth}
+use Rattle.snl_emit.specs.Depths.{block_depth}
 use Rattle.snl_meaning.specs.Names.{formats_of}
 use Rattle.snl_meaning.specs.Run.{PieceContext, context_of}
 use Rattle.snl_meaning.specs.World.{World}
@@ -39,7 +39,7 @@ module _ (p : ProgramTree) (ls : List Link) (waits : Bool) (c : Code) (t : Loade
 
   -- the code of a state set runs with what is known of it
   contexts : (k : ℕ) (g : StateSetTree) (plan : SetPlan) → slice_get p.state_sets k ≡ Some g → set_view plan ≡ set_plan (table_of c) k g →
-      context_in t k plan ≡ context_of (here_in p k) t.room
+      context_in t k plan ≡ context_of (scene_in p k) t.room
   contexts k g plan at one =
       let names : plan.name.items ≡ name_by (slice_get p.state_sets k) = ap (λ (v : PlainSet). v.name) one ∙ sym (ap name_by at) in
       let texts : t.formats ≡ formats_of (here_in p k) = is.formats ∙ is.code_is.texts in
@@ -62,7 +62,7 @@ module _ (p : ProgramTree) (ls : List Link) (waits : Bool) (c : Code) (t : Loade
       set_of (context_in t k plan) t.code plan ≡ set_reached (holds_in (table_of c)) (set_meaning p k g)
   set-means k g plan at one =
       let names = ap (λ (v : PlainSet). v.name) one in
-      let states : map (state_of (context_in t k plan) t.code) plan.states.items ≡ states_reached (holds_in (table_of c) k) 0 (map (state_meaning (here_in p k)) g.states) =
+      let states : map (state_of (context_in t k plan) t.code) plan.states.items ≡ states_reached (holds_in (table_of c) k) 0 (map (state_meaning (scene_in p k)) g.states) =
       ap (λ (s : PieceContext). map (state_of s t.code) plan.states.items) (contexts k g plan at one)
       ∙ states-mean p t.code (table_of c) t.room k pieces enough 0 g.states plan.states.items (stands k g at) (states-planned k g plan at one)
       in λ j. record { set = k; name = names j; states = states j }
@@ -75,22 +75,22 @@ module _ (p : ProgramTree) (ls : List Link) (waits : Bool) (c : Code) (t : Loade
       (states-run p t.code (table_of c) t.room k pieces enough 0 g.states plan.states.items (stands k g at) (states-planned k g plan at one))
 
   -- the program's own blocks run with the copy and the name of the first state set
-  own-contexts : first_name (sets_from t 0 t.plan.sets.items) ≡ name_by (slice_get p.state_sets 0) → own_context t ≡ context_of (here_in p 0) t.room
+  own-contexts : first_name (sets_from t 0 t.plan.sets.items) ≡ name_by (slice_get p.state_sets 0) → own_context t ≡ context_of (scene_in p 0) t.room
   own-contexts names =
       let texts : t.formats ≡ formats_of (here_in p 0) = is.formats ∙ is.code_is.texts in
       λ j. record { set = 0; name = names j; formats = texts j; room = t.room }
 
   -- one of them does what its code does, and comes to its end
-  own : own_context t ≡ context_of (here_in p 0) t.room → (name : Piece) (start : Option ℕ) (b : Option BlockTree) → piece_of p name ≡ option_map (Action 0) b →
+  own : own_context t ≡ context_of (scene_in p 0) t.room → (name : Piece) (start : Option ℕ) (b : Option BlockTree) → piece_of p name ≡ option_map (Action 0) b →
       kept_piece (holds_in (table_of c)) p name ≡ piece_of p name → start ≡ start_in (table_of c) name →
-      ((w : World) → block_at (own_context t) t.code start w ≡ block_meaning (here_in p 0) b w) × CanDo (own_context t) t.code start
+      ((w : World) → block_at (own_context t) t.code start w ≡ block_meaning (scene_in p 0) b w) × CanDo (own_context t) t.code start
   own same name start b piece kept at =
       let there = subst (λ (o : Option PieceTree). IsPlaced p t.code o (start_in (table_of c) name)) (kept ∙ piece) (pieces name) in
-      let fits : (x : BlockTree) → b ≡ Some x → block_depth x ≤ t.room =
+      let fits : (x : BlockTree) → b ≡ Some x → block_depth (outlines_in p) x ≤ t.room =
       λ x some. omega (arith, enough, depth_is_enough p name (Action 0 x) (piece ∙ ap (option_map (Action 0)) some)) in
       let means = outer-means p t.code t.room 0 b (start_in (table_of c) name) there fits in (
-        λ w. ap (λ (s : PieceContext). block_at s t.code start w) same ∙ ap (λ (o : Option ℕ). block_at (context_of (here_in p 0) t.room) t.code o w) at ∙ means.0 w,
-        subst (λ (s : PieceContext). CanDo s t.code start) (sym same) (subst (λ (o : Option ℕ). CanDo (context_of (here_in p 0) t.room) t.code o) (sym at) means.1),
+        λ w. ap (λ (s : PieceContext). block_at s t.code start w) same ∙ ap (λ (o : Option ℕ). block_at (context_of (scene_in p 0) t.room) t.code o w) at ∙ means.0 w,
+        subst (λ (s : PieceContext). CanDo s t.code start) (sym same) (subst (λ (o : Option ℕ). CanDo (context_of (scene_in p 0) t.room) t.code o) (sym at) means.1),
       )
 
   -- state sets that stand in the program from a number on
@@ -149,7 +149,7 @@ plans_are_right p ls waits c t is =
     let all = t.plan.sets.items in
     let sets = sets-mean p ls waits c t is 0 p.state_sets all (all-stand p) plans in
     let first : first_name (sets_from t 0 all) ≡ name_by (slice_get p.state_sets 0) = ap first_name sets ∙ first-name p (holds_in (table_of c)) in
-    let context : own_context t ≡ context_of (here_in p 0) t.room = own-contexts p ls waits c t is first in
+    let context : own_context t ≡ context_of (scene_in p 0) t.room = own-contexts p ls waits c t is first in
     let entry = own p ls waits c t is context ProgramEntry t.plan.blocks.entry p.entry refl refl (ap (λ (v : PlainPlan). v.blocks.entry) is.plan) in
     let exit = own p ls waits c t is context ProgramExit t.plan.blocks.exit p.exit refl refl (ap (λ (v : PlainPlan). v.blocks.exit) is.plan) in (
       λ j. record { name = names j; links = links j; waits = waiting j; entry = λ w. entry.0 w j; sets = sets j; exit = λ w. exit.0 w j },

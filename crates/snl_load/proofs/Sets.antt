@@ -5,7 +5,7 @@ use Rattle.snl_syntax.specs.Statements.{BlockTree}
 use Rattle.snl_code.specs.declared.starts.Piece.{Piece}
 use Rattle.snl_code.specs.declared.starts.Piece.TheVariants.{Entry, Exit}
 use Rattle.snl_code.specs.Depths.{program_depth}
-use Rattle.snl_code.specs.Heres.{here_in}
+use Rattle.snl_code.specs.Heres.{here_in, scene_in}
 use Rattle.snl_code.specs.Pieces.{IsPlaced, PieceTree, Action, piece_of, kept_piece, clause_at, state_at}
 use Rattle.snl_code.specs.Starts.{ProgramTable, holds_in, start_in}
 use Rattle.snl_code.proofs.Deepest.{depth_is_enough}
@@ -24,7 +24,7 @@ use Rattle.snl_load.proofs.Pieces.{outer-means}
 module _ (p : ProgramTree) (code : List Instr) (t : ProgramTable) (room set : ℕ) (placed : (name : Piece) → IsPlaced p code (kept_piece (holds_in t) p name) (start_in t name))
     (enough : program_depth p ≤ room) where
   abbrev pub context : PieceContext
-  context = context_of (here_in p set) room
+  context = context_of (scene_in p set) room
 
   -- the clauses of a state stand in it
   stands : (k : ℕ) (s : StateTree) → state_at p set k ≡ Some s → (j n : ℕ) (c : ClauseTree) → n ≡ 0 + j → slice_get s.clauses j ≡ Some c → clause_at p set k n ≡ Some c
@@ -34,7 +34,7 @@ module _ (p : ProgramTree) (code : List Instr) (t : ProgramTable) (room set : �
 
   -- an entry or an exit block of a state that the code has
   outer : (name : Piece) (b : Option BlockTree) → piece_of p name ≡ option_map (Action set) b → kept_piece (holds_in t) p name ≡ piece_of p name →
-      ((w : World) → block_at context code (start_in t name) w ≡ block_meaning (here_in p set) b w) × CanDo context code (start_in t name)
+      ((w : World) → block_at context code (start_in t name) w ≡ block_meaning (scene_in p set) b w) × CanDo context code (start_in t name)
   outer name b is kept =
       outer-means p code room set b (start_in t name) (subst (λ (o : Option PieceTree). IsPlaced p code o (start_in t name)) (kept ∙ is) (placed name))
       (λ x there. omega (arith, enough, depth_is_enough p name (Action set x) (is ∙ ap (option_map (Action set)) there)))
@@ -49,7 +49,7 @@ module _ (p : ProgramTree) (code : List Instr) (t : ProgramTable) (room set : �
 
   -- What is known of the plan of a state: it means the state, and its pieces can run.
   abbrev pub IsRight : Bool → ℕ → StateTree → StatePlan → Type 0
-  IsRight b k s plan = (state_of context code plan ≡ if_reached b (state_meaning (here_in p set) s)) × CanRunState context code plan
+  IsRight b k s plan = (state_of context code plan ≡ if_reached b (state_meaning (scene_in p set) s)) × CanRunState context code plan
 
   -- one of a state that the code has
   held-right : (k : ℕ) (s : StateTree) (plan : StatePlan) → holds_in t set k ≡ true → state_at p set k ≡ Some s → state_view plan ≡ state_plan (here_in p set).states t set k s →
@@ -59,12 +59,12 @@ module _ (p : ProgramTree) (code : List Instr) (t : ProgramTable) (room set : �
       let entry = outer (Entry set k) s.entry (ap (option_and_then (λ d. option_map (Action set) d.entry)) at) (kept (piece_of p (Entry set k))) in
       let exit = outer (Exit set k) s.exit (ap (option_and_then (λ d. option_map (Action set) d.exit)) at) (kept (piece_of p (Exit set k))) in
       let names = ap (λ (v : PlainState). v.name) is in
-      let enters : (w : World) → block_at context code plan.blocks.entry w ≡ block_meaning (here_in p set) s.entry w =
+      let enters : (w : World) → block_at context code plan.blocks.entry w ≡ block_meaning (scene_in p set) s.entry w =
       λ w. ap (λ (v : PlainState). block_at context code v.blocks.entry w) is ∙ entry.0 w in
       let planned : plan.clauses.items ≡ clause_plans (here_in p set).states t set k 0 s.clauses =
       ap (λ (v : PlainState). v.clauses) is ∙ ap (λ (b : Bool). clauses_if b (here_in p set).states t set k s.clauses) held in
       let clauses = ap (map (clause_of context code)) planned ∙ clauses-mean p code t room set placed enough k held 0 s.clauses (stands k s at) in
-      let leaves : (w : World) → block_at context code plan.blocks.exit w ≡ block_meaning (here_in p set) s.exit w =
+      let leaves : (w : World) → block_at context code plan.blocks.exit w ≡ block_meaning (scene_in p set) s.exit w =
       λ w. ap (λ (v : PlainState). block_at context code v.blocks.exit w) is ∙ exit.0 w in
       let again = ap (λ (v : PlainState). v.again) is in (
         λ j. record { name = names j; entry = λ w. enters w j; clauses = clauses j; exit = λ w. leaves w j; again = again j },
@@ -118,7 +118,7 @@ module _ (p : ProgramTree) (code : List Instr) (t : ProgramTable) (room set : �
 
   -- states mean what their plans run
   pub states-mean : (k : ℕ) (ss : List StateTree) (plans : List StatePlan) → StandFrom k ss → map state_view plans ≡ state_plans (here_in p set).states t set k ss →
-      map (state_of context code) plans ≡ states_reached (holds_in t set) k (map (state_meaning (here_in p set)) ss)
+      map (state_of context code) plans ≡ states_reached (holds_in t set) k (map (state_meaning (scene_in p set)) ss)
   states-mean k [] [] stand is = refl
   states-mean k [] (plan ∷ plans) stand is = absurd (cc)
   states-mean k (s ∷ ss) [] stand is = absurd (cc)

@@ -6,7 +6,8 @@ use Rattle.snl_links.specs.Links.{Link}
 use Rattle.snl_meaning.specs.declared.live.Live.TheVariants.{Waiting}
 use Rattle.snl_meaning.specs.World.{Queue, SetMemory, World}
 use Rattle.snl_resolve.specs.Variables.{Held}
-use Rattle.snl_load.specs.Initials.{all_elements, first_buffer, held_sets}
+use Rattle.snl_code.specs.Copies.{held_sets}
+use Rattle.snl_load.specs.Initials.{all_elements, first_buffer}
 use Rattle.snl_meaning.specs.declared.ties.Tied.{Tied}
 use Rattle.snl_load.specs.Places.{channels, flags_in, placed_sets, ties_in, homes_in}
 

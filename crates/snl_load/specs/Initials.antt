@@ -1,15 +1,13 @@
 -- What variables, and the buffers of their links, begin with.
 use Rattle.std.specs.Prelude.{ℕ, zero, suc, ◌+◌, ℤ, pos, int_le, ◌&&◌, ◌==◌, List, [], ◌∷◌, Option, None, Some, slice_get, replicate, if◌then◌else◌}
 use Rattle.snl_syntax.specs.Expressions.{ExprTree}
-use Rattle.snl_syntax.specs.Programs.{StateSetTree, ProgramTree}
 use Rattle.snl_links.specs.Links.{Link}
 use Rattle.snl_meaning.specs.Effect.{values_of}
 use Rattle.snl_resolve.specs.declared.constants.Constant.{Constant}
 use Rattle.snl_resolve.specs.declared.constants.Constant.TheVariants.{Worth}
 use Rattle.snl_resolve.specs.Constants.{constant_of}
 use Rattle.snl_resolve.specs.Scopes.{elements, is_hidden}
-use Rattle.snl_resolve.specs.Variables.{Held, variables_of}
-use Rattle.snl_load.specs.Places.{for_each_set}
+use Rattle.snl_resolve.specs.Variables.{Held}
 
 -- What a constant is worth in a range, and 0 where it has no place there. The rules refuse a first value that is none,
 -- but for a variable of a block: that begins anew whenever the block is entered.
@@ -56,9 +54,3 @@ buffer_by (Some v) l = first_elements v l.first l.count
 -- The buffer of a link of variables of these copies.
 abbrev pub first_buffer : List (List Held) → Link → List ℤ
 first_buffer sets l = buffer_by (held_among sets l.variable.offset) l
-
--- ---- the variables of a program
-
--- The variables of the copies of state sets with numbers from k on.
-abbrev pub held_sets : ProgramTree → ℕ → List StateSetTree → List (List Held)
-held_sets p = for_each_set (variables_of p)

@@ -4,13 +4,14 @@ use Rattle.snl_text.specs.declared.tokens.Token.{Token}
 use Rattle.snl_syntax.specs.Definitions.{DefinitionTree}
 use Rattle.snl_syntax.specs.Programs.{TargetTree, to_state, to_exit, ClauseTree, StateTree, StateSetTree, ProgramTree}
 use Rattle.snl_syntax.specs.Statements.{BlockTree}
-use Rattle.snl_code.specs.Heres.{here_in}
+use Rattle.snl_code.specs.Heres.{scene_in}
 use Rattle.snl_links.specs.Links.{Link}
 use Rattle.snl_links.specs.Tables.{sign_in_force}
 use Rattle.snl_meaning.specs.Effect.{Way, Left, held_by, block_effect}
-use Rattle.snl_meaning.specs.Names.{Here, or_first}
+use Rattle.snl_meaning.specs.Names.{or_first}
 use Rattle.snl_resolve.specs.Numbered.{number_of}
 use Rattle.snl_meaning.specs.Ran.{Ran, Gives, then_do}
+use Rattle.snl_meaning.specs.Scenes.{Scene}
 use Rattle.snl_meaning.specs.World.{World}
 use Rattle.snl_schedule.specs.declared.plans.Again.{Again}
 use Rattle.snl_schedule.specs.declared.plans.Destination.{Destination}
@@ -29,9 +30,9 @@ abbrev pub finished : Way → World → Ran (Unit {0})
 finished way w = Gives tt w []
 
 -- An entry or an exit block. A missing one does nothing.
-abbrev pub block_meaning : Here → Option BlockTree → World → Ran (Unit {0})
-block_meaning h None w = turn.nothing w
-block_meaning h (Some b) w = then_do (block_effect h b w) finished
+abbrev pub block_meaning : Scene → Option BlockTree → World → Ran (Unit {0})
+block_meaning m None w = turn.nothing w
+block_meaning m (Some b) w = then_do (block_effect m b w) finished
 
 -- What a state does also where a transition leads from it to itself, by the letters `t`, `e` and `x` of its options: with
 -- `+t` it sets the time of its entry, with `-e` it does its entry block, with `-x` its exit block.
@@ -44,27 +45,27 @@ target_of states (to_state x) = State (or_first (number_of states x.text.now))
 target_of states to_exit = Exit
 
 -- A clause: its condition, its block, where it leads, the line of its word.
-abbrev pub clause_meaning : Here → ClauseTree → turn.Clause
-clause_meaning h c = record {
-  holds = held_by h c.condition;
-  acts = λ w. then_do (block_effect h c.block w) left_for;
-  target = target_of h.states c.target;
+abbrev pub clause_meaning : Scene → ClauseTree → turn.Clause
+clause_meaning m c = record {
+  holds = held_by m c.condition;
+  acts = λ w. then_do (block_effect m c.block w) left_for;
+  target = target_of m.here.states c.target;
   line = c.word.pos.line;
 }
 
 -- A state.
-abbrev pub state_meaning : Here → StateTree → turn.State
-state_meaning h s = record {
+abbrev pub state_meaning : Scene → StateTree → turn.State
+state_meaning m s = record {
   name = s.name.text.now;
-  entry = block_meaning h s.entry;
-  clauses = map (clause_meaning h) s.clauses;
-  exit = block_meaning h s.exit;
+  entry = block_meaning m s.entry;
+  clauses = map (clause_meaning m) s.clauses;
+  exit = block_meaning m s.exit;
   again = again_of s.definitions;
 }
 
 -- A state set of this number.
 abbrev pub set_meaning : ProgramTree → ℕ → StateSetTree → turn.StateSet
-set_meaning p k g = record { set = k; name = g.name.text.now; states = map (state_meaning (here_in p k)) g.states }
+set_meaning p k g = record { set = k; name = g.name.text.now; states = map (state_meaning (scene_in p k)) g.states }
 
 -- State sets with numbers from k on.
 abbrev pub set_meanings : ProgramTree → ℕ → List StateSetTree → List turn.StateSet
@@ -77,7 +78,7 @@ program_meaning p ls waits = record {
   name = p.name.text.now;
   links = ties_in p ls;
   waits = waits;
-  entry = block_meaning (here_in p 0) p.entry;
+  entry = block_meaning (scene_in p 0) p.entry;
   sets = set_meanings p 0 p.state_sets;
-  exit = block_meaning (here_in p 0) p.exit;
+  exit = block_meaning (scene_in p 0) p.exit;
 }

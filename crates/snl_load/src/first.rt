@@ -3,11 +3,12 @@
 ghost use Rattle.std.specs.Prelude.{◌≡◌, map, false, replicate, IfOk};
 ghost use Rattle.snl_links.specs.LinkViews.{link_view};
 ghost use Rattle.snl_vm.specs.Views.{copy_view, world_of};
+ghost use Rattle.snl_code.specs.Copies.{sets_of};
 ghost use Rattle.snl_load.specs.First as spec;
 ghost use Rattle.snl_vm.specs.Marks as tables;
 ghost use Rattle.snl_vm.specs.Queues.{queue_view};
 ghost use Rattle.snl_load.specs.Places as places;
-ghost use Rattle.snl_load.specs.Sets.{names_in, sets_of};
+ghost use Rattle.snl_load.specs.Sets.{names_in};
 
 use crate::initials::{first_buffers, first_words};
 use crate::links::homes_in;

@@ -8,8 +8,8 @@ ghost use Rattle.snl_resolve.specs.Constants.{constant_of};
 ghost use Rattle.snl_resolve.specs.Held.{begun, held_view};
 ghost use Rattle.snl_resolve.specs.Scopes.{is_hidden};
 ghost use Rattle.snl_syntax.specs.view.Expressions.{boxed, view};
+ghost use Rattle.snl_code.specs.Copies.{sets_of};
 ghost use Rattle.snl_load.specs.Initials as spec;
-ghost use Rattle.snl_load.specs.Sets.{sets_of};
 
 use snl_links::Link;
 use snl_resolve::{Constant, Held, Scopes, constant_of};

@@ -2,7 +2,6 @@
 #![tactic(auto)]
 
 mod channels;
-mod copies;
 mod first;
 mod initials;
 pub mod laws;
@@ -10,6 +9,5 @@ mod links;
 mod plans;
 
 pub use channels::{channel_number, channels_of};
-pub use copies::{Copies, copies_of};
 pub use first::store_of;
 pub use plans::plan_of;

@@ -23,7 +23,7 @@ fn home_in(places: &Places, link: &Link) -> Option<usize>
     }
 }
 
-/// The same of all links in one copy.
+/// The words of a copy where the elements of each link begin.
 fn homes_of(alloc: Global, places: &Places, links: &[Link]) -> Result<Homes, AllocError>
     ensures { IfOk result (λ homes. homes.places.items
         ≡ map (spec.home_in places.now) (map link_view links.now)) }
@@ -35,7 +35,7 @@ fn homes_of(alloc: Global, places: &Places, links: &[Link]) -> Result<Homes, All
     Homes::new(alloc, homes)
 }
 
-/// The same in all copies. The only error is that memory ends.
+/// The words where the elements of each link begin, in each copy that has its variable. The only error is that memory ends.
 pub fn homes_in(alloc: Global, copies: &[Places], links: &[Link]) -> Result<Vec<Homes>, AllocError>
     ensures { IfOk result (λ homes. map (λ h. h.places.items) homes.items
         ≡ spec.homes_in copies.now (map link_view links.now)) }

@@ -3,7 +3,7 @@ use Rattle.std.proofs.Common.{◌≡◌, ◌∙◌, ◌+◌, refl, sym, ℕ, Boo
 use Rattle.std.specs.Prelude.{slice_set}
 use Rattle.std.proofs.lemmas.List.{get_or-set_other}
 use Rattle.snl_syntax.specs.Programs.{StateSetTree, ProgramTree}
-use Rattle.snl_code.specs.Heres.{here_in}
+use Rattle.snl_code.specs.Heres.{here_in, scene_in}
 use Rattle.snl_meaning.specs.declared.ties.Tied.{Tied}
 use Rattle.snl_meaning.specs.Keeping.{IsKept, PiecesKeep, world_after}
 use Rattle.snl_meaning.specs.Links.{home_of}
@@ -50,8 +50,8 @@ module _ (p : ProgramTree) (set other : ℕ) (apart : set ≡ other → ⊥) whe
   }
 
   -- conditions and blocks
-  pieces : PiecesKeep (here_in p set) Same
-  pieces = pieces-keep (here_in p set) Any Same (any-may (here_in p set)) same-kept
+  pieces : PiecesKeep (scene_in p set) Same
+  pieces = pieces-keep (scene_in p set) Any Same (any-may (here_in p set)) same-kept
 
   -- the refresh of a link
   link-same : (number : ℕ) (t : Tied) (w : World) → Same w (refreshed_link set number t w)

@@ -1,15 +1,17 @@
 -- A plan and its code, as they are loaded.
-use Rattle.std.proofs.Common.{◌≡◌, ◌∙◌, ◌<◌, ◌-◌, ◌^◌, ℕ, Bool, List, Result, Ok, Err, IfOk, refl, ap, length}
+use Rattle.std.proofs.Common.{◌≡◌, ◌∙◌, ◌<◌, ◌≤◌, ◌-◌, ◌^◌, ℕ, Bool, List, Result, Ok, Err, IfOk, refl, ap, length}
 use Rattle.snl_syntax.specs.Programs.{ProgramTree}
 use Rattle.snl_code.specs.declared.code.Code.{Code}
+use Rattle.snl_code.specs.Inside.{IsInside}
 use Rattle.snl_code.specs.Pieces.{IsCodeOf}
-use Rattle.snl_code.specs.Starts.{table_of}
+use Rattle.snl_code.specs.Size.{program_size}
+use Rattle.snl_code.specs.Starts.{table_of, holds_in}
 use Rattle.snl_links.specs.Links.{Link, links}
 use Rattle.snl_meaning.specs.World.{World}
 use Rattle.snl_meaning.specs.declared.ties.Tied.{Tied}
 use Rattle.snl_schedule.specs.declared.plans.Plan.{Plan}
+use Rattle.snl_code.specs.Copies.{held_sets}
 use Rattle.snl_load.specs.First.{first_world, first_world_of}
-use Rattle.snl_load.specs.Initials.{held_sets}
 use Rattle.snl_meaning.specs.declared.names.Placed.{Placed}
 use Rattle.snl_load.specs.Places.{channels, flags_in, placed_sets, homes_in}
 use Rattle.snl_load.specs.Plans.{PlainPlan, plan_view, program_plan}
@@ -27,8 +29,9 @@ module _ (p : ProgramTree) (ls given : List Link) (waits : Bool) (code : Code) (
   plan-is = planned ∙ ap (λ (l : List Link). program_plan p l waits (table_of code)) links-are
 
   -- code and plan of a program, where there was room for the operands
-  pub loaded-is : IsCodeOf p code → code.depth < 2 ^ 64 - 1 → IsLoadedOf p ls waits code (loaded_by plan code)
-  loaded-is right counted = record { code_is = right; code = refl; formats = refl; room = refl; counted = counted; plan = plan-is }
+  pub loaded-is : IsCodeOf p code → IsInside p code → length code.instrs.items ≤ program_size (holds_in (table_of code)) p → code.depth < 2 ^ 64 - 1 →
+      IsLoadedOf p ls waits code (loaded_by plan code)
+  loaded-is right inside short counted = record { code_is = right; inside = inside; short = short; code = refl; formats = refl; room = refl; counted = counted; plan = plan-is }
 
   -- the store is the first one
   pub first-is : (w : World) (names : List (List ℕ)) (ties : List Tied) (copies : List (List Placed)) → names ≡ channels ls → ties ≡ plan.links.items →

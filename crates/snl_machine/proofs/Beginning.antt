@@ -13,8 +13,9 @@ use Rattle.snl_meaning.specs.Effect.{values_of}
 use Rattle.snl_meaning.specs.Laws.{words_of}
 use Rattle.snl_meaning.specs.Names.{behind, variable_from, placed_from}
 use Rattle.snl_meaning.specs.World.{SetMemory, no_copy, copy_of}
+use Rattle.snl_code.specs.Copies.{held_sets}
 use Rattle.snl_load.specs.First.{first_copy, first_queue, first_world_of}
-use Rattle.snl_load.specs.Initials.{worth_in, first_by, first_element, first_elements, all_elements, held_among, buffer_by, first_buffer, held_sets}
+use Rattle.snl_load.specs.Initials.{worth_in, first_by, first_element, first_elements, all_elements, held_among, buffer_by, first_buffer}
 use Rattle.snl_load.specs.Places.{place_after, channels, flags_in, placed_sets, for_each_set, tie_of, ties_from}
 use Rattle.snl_resolve.specs.declared.constants.Constant.{Constant}
 use Rattle.snl_resolve.specs.declared.constants.Constant.TheVariants.{Varies, Faults, Worth}

@@ -1,21 +1,19 @@
--- The buffers of links have words of their own, and values of a channel come to those of its links alone.
-use Rattle.std.proofs.Common.{◌≡◌, ◌∙◌, ◌+◌, ◌<◌, ◌≤◌, ◌⊎◌, inl, inr, refl, sym, ap, subst, arith, true≢false, ℕ, zero, suc, ℤ, Bool, true, false, List, [], ◌∷◌, ◌++◌, Option, None, Some, slice_get, length, take, drop, get_or-set_other, if◌then◌else◌}
-use Rattle.std.specs.Prelude.{◌-◌, ◌^◌, is_some, slice_set, slice_index_or}
+-- The buffers of links have words of their own, and what is done where values of a channel come to its links.
+use Rattle.std.proofs.Common.{◌≡◌, ◌∙◌, ◌+◌, ◌<◌, ◌≤◌, ◌⊎◌, inl, inr, refl, sym, ap, subst, arith, true≢false, ℕ, zero, suc, ℤ, Bool, true, false, List, [], ◌∷◌, ◌++◌, Option, None, Some, slice_get, length, take, drop, if◌then◌else◌}
+use Rattle.std.specs.Prelude.{◌-◌, ◌^◌}
 use Rattle.std.proofs.lemmas.Bool.{cases_order}
 use Rattle.snl_syntax.specs.Programs.{ProgramTree}
 use Rattle.snl_links.specs.Links.{Link}
 use Rattle.snl_load.specs.Places.{channels, flags_in, placed_sets, ties_in}
-use Rattle.snl_machine.specs.Layout.{BuffersAreCells, FeedsFillBuffers}
+use Rattle.snl_machine.specs.Layout.{BuffersAreCells}
 use Rattle.snl_machine.specs.Ranges.{counts}
 use Rattle.snl_machine.proofs.Cells.{words-same, overwritten-away, overwritten-front}
 use Rattle.snl_machine.proofs.Filling.{tie-within, tie-apart, take-few}
-use Rattle.snl_machine.proofs.Fitting.{set-index}
 use Rattle.snl_meaning.specs.declared.ties.Tied.{Tied}
-use Rattle.snl_meaning.specs.Links.{buffer_of, with_buffer, queue_of, no_queue, is_queued, enqueued, put_into, flagged, marked_at, marked_but, marked_from, all_marked}
-use Rattle.snl_meaning.specs.World.{World, is_set, with_flag}
+use Rattle.snl_meaning.specs.Links.{buffer_of, with_buffer, is_queued, enqueued, flagged, all_marked}
+use Rattle.snl_meaning.specs.World.{World, with_flag}
 use Rattle.snl_meaning.proofs.Sizes.{overwritten-many}
 use Rattle.snl_schedule.specs.Arrivals.{is_of, received_link, received_from}
-use Rattle.snl_schedule.specs.Refresh.{is_marked}
 
 -- ---- buffers
 
@@ -61,7 +59,7 @@ module _ (p : ProgramTree) (ls : List Link) (few : counts ls ≤ 2 ^ 64 - 1) whe
       by (inr (inr more)) = absurd (separate (λ (e : i ≡ j). omega (arith, e, more)))
 
 -- numbers that come to the buffer of a link leave that of another one
-away-from : (t r : Tied) (zs : List ℤ) (w : World) → AreApart t r → length zs ≤ t.count → buffer_of r (with_buffer t zs w) ≡ buffer_of r w
+pub away-from : (t r : Tied) (zs : List ℤ) (w : World) → AreApart t r → length zs ≤ t.count → buffer_of r (with_buffer t zs w) ≡ buffer_of r w
 away-from t r zs w apart short =
     words-same (with_buffer t zs w).buffers w.buffers r.from r.count (λ j less. overwritten-away zs w.buffers t.from (r.from + j) (by j less apart))
   where
@@ -81,55 +79,20 @@ buffers_are_cells = record {
   );
 }
 
--- ---- marks
-
--- a mark of another link
-pub mark-away : (marks : List (List Bool)) (set other link i : ℕ) (now : Bool) → (i ≡ link → ⊥) →
-    slice_index_or (slice_index_or (slice_set marks set (slice_set (slice_index_or marks set []) link now)) other []) i false ≡ slice_index_or (slice_index_or marks other []) i false
-mark-away marks set other link i now not = by (set-index marks set other new [])
-  where
-    new : List Bool
-    new = slice_set (slice_index_or marks set []) link now
-
-    by : (slice_index_or (slice_set marks set new) other [] ≡ slice_index_or marks other []) ⊎ ((set ≡ other) × (slice_index_or (slice_set marks set new) other [] ≡ new)) →
-        slice_index_or (slice_index_or (slice_set marks set new) other []) i false ≡ slice_index_or (slice_index_or marks other []) i false
-    by (inl same) = ap (λ (row : List Bool). slice_index_or row i false) same
-    by (inr own) =
-        ap (λ (row : List Bool). slice_index_or row i false) own.1 ∙ get_or-set_other (slice_index_or marks set []) link i now false not
-        ∙ ap (λ (n : ℕ). slice_index_or (slice_index_or marks n []) i false) own.0
-
--- after a link was marked for a state set, where that has its variable
-at-away : (set other link i : ℕ) (homes : List (Option ℕ)) (marks : List (List Bool)) → (i ≡ link → ⊥) →
-    slice_index_or (slice_index_or (marked_at set link homes marks) other []) i false ≡ slice_index_or (slice_index_or marks other []) i false
-at-away set other link i homes marks not = by (is_some (slice_index_or homes link None))
-  where
-    by : (b : Bool) →
-        slice_index_or (slice_index_or (if b then slice_set marks set (slice_set (slice_index_or marks set []) link true) else marks) other []) i false
-        ≡ slice_index_or (slice_index_or marks other []) i false
-    by true = mark-away marks set other link i true not
-    by false = refl
-
--- after it was marked for all of some
-from-away : (link other i set : ℕ) (homes : List (List (Option ℕ))) (marks : List (List Bool)) → (i ≡ link → ⊥) →
-    slice_index_or (slice_index_or (marked_from None link set homes marks) other []) i false ≡ slice_index_or (slice_index_or marks other []) i false
-from-away link other i set [] marks not = refl
-from-away link other i set (h ∷ homes) marks not =
-    from-away link other i (set + 1) homes (marked_but None set link h marks) not ∙ at-away set other link i h marks not
-
 -- ---- values that come
 
 -- each single change at a link keeps a relation
 pub record IsKeptAt (values : List ℤ) (R : World → World → Type 0) (number : ℕ) (t : Tied) : Type 0 where
   pub fills : (w : World) → R w (with_buffer t (take t.count values) w)
-  pub enqueues : (w : World) → R w (enqueued number w.buffers t.from w)
-  pub marks : (w : World) → R w (all_marked None number w)
-  pub signals : (flag : ℕ) (w : World) → t.flag ≡ Some flag → R w (with_flag flag true w)
+  pub enqueues : t.is_monitored ≡ true → (w : World) → is_queued number w ≡ true → R w (enqueued number w.buffers t.from w)
+  pub marks : t.is_monitored ≡ true → (w : World) → is_queued number w ≡ false → R w (all_marked None number w)
+  pub signals : t.is_monitored ≡ true → (flag : ℕ) (w : World) → t.flag ≡ Some flag → R w (with_flag flag true w)
 
 -- what each change at a link of the channel keeps is kept where values come to links
 module _ (channel : ℕ) (values : List ℤ) (R : World → World → Type 0) (nothing : (w : World) → R w w) (both : (a b c : World) → R a b → R b c → R a c) where
   -- at a link
-  link-keeps : (number : ℕ) (t : Tied) (w : World) → (is_of channel t ≡ true → IsKeptAt values R number t) → R w (received_link channel values number t w)
-  link-keeps number t w kept = by (is_of channel t) t.is_monitored (is_queued number there) t.flag refl refl
+  pub link-keeps : (number : ℕ) (t : Tied) (w : World) → (is_of channel t ≡ true → IsKeptAt values R number t) → R w (received_link channel values number t w)
+  link-keeps number t w kept = by (is_of channel t) t.is_monitored (is_queued number there) t.flag refl refl refl refl
     where
       there : World
       there = with_buffer t (take t.count values) w
@@ -137,18 +100,18 @@ module _ (channel : ℕ) (values : List ℤ) (R : World → World → Type 0) (n
       told : Bool → World
       told queued = if queued then enqueued number there.buffers t.from there else all_marked None number there
 
-      announces : (queued : Bool) → IsKeptAt values R number t → R there (told queued)
-      announces true k = k.enqueues there
-      announces false k = k.marks there
+      announces : (queued : Bool) → t.is_monitored ≡ true → is_queued number there ≡ queued → IsKeptAt values R number t → R there (told queued)
+      announces true on some k = k.enqueues on there some
+      announces false on some k = k.marks on there some
 
-      by : (own monitored queued : Bool) (flag : Option ℕ) → is_of channel t ≡ own → t.flag ≡ flag →
+      by : (own monitored queued : Bool) (flag : Option ℕ) → is_of channel t ≡ own → t.is_monitored ≡ monitored → is_queued number there ≡ queued → t.flag ≡ flag →
           R w (if own then (if monitored then flagged flag (told queued) else there) else w)
-      by false monitored queued flag is has = nothing w
-      by true false queued flag is has = (kept is).fills w
-      by true true queued None is has = both w there (told queued) ((kept is).fills w) (announces queued (kept is))
-      by true true queued (Some flag) is has =
-          both w (told queued) (with_flag flag true (told queued)) (both w there (told queued) ((kept is).fills w) (announces queued (kept is)))
-          ((kept is).signals flag (told queued) has)
+      by false monitored queued flag is on some has = nothing w
+      by true false queued flag is on some has = (kept is).fills w
+      by true true queued None is on some has = both w there (told queued) ((kept is).fills w) (announces queued on some (kept is))
+      by true true queued (Some flag) is on some has =
+          both w (told queued) (with_flag flag true (told queued)) (both w there (told queued) ((kept is).fills w) (announces queued on some (kept is)))
+          ((kept is).signals on flag (told queued) has)
 
   -- at links from a number on
   pub links-keep : (number : ℕ) (ts : List Tied) (w : World) → ((i n : ℕ) (t : Tied) → n ≡ number + i → slice_get ts i ≡ Some t → is_of channel t ≡ true → IsKeptAt values R n t) →
@@ -178,6 +141,45 @@ module _ (channel : ℕ) (values : List ℤ) {A : Type 0} (look : World → A) w
       look (received_from channel values 0 ts w) ≡ look w
   stay ts w kept = links-keep channel values Stays none two 0 ts w (λ i n t is at own. subst (λ (m : ℕ). IsKeptAt values Stays m t) (sym (let e : n ≡ i = omega (arith, is) in e)) (kept i t at own))
 
+-- the same of a relation that says that what holds still does
+module _ (channel : ℕ) (values : List ℤ) (Holds : World → Type 0) where
+  -- it still does
+  abbrev pub Lasts : World → World → Type 0
+  Lasts w u = Holds w → Holds u
+
+  -- at a link
+  link-lasts : (number : ℕ) (t : Tied) (w : World) → (is_of channel t ≡ true → IsKeptAt values Lasts number t) → Holds w → Holds (received_link channel values number t w)
+  link-lasts number t w = link-keeps channel values Lasts (λ v held. held) (λ a b c first second held. second (first held)) number t w
+
+  -- at links from a number on
+  links-last : (number : ℕ) (ts : List Tied) (w : World) → ((i n : ℕ) (t : Tied) → n ≡ number + i → slice_get ts i ≡ Some t → is_of channel t ≡ true → IsKeptAt values Lasts n t) →
+      Holds w → Holds (received_from channel values number ts w)
+  links-last number ts w = links-keep channel values Lasts (λ v held. held) (λ a b c first second held. second (first held)) number ts w
+
+-- what holds before a link of the channel, and what that makes hold, where all other links keep both
+module _ (channel : ℕ) (values : List ℤ) (Before After : World → Type 0) where
+  -- a link keeps both
+  abbrev pub KeepsBoth : ℕ → Tied → Type 0
+  KeepsBoth number t = IsKeptAt values (Lasts channel values Before) number t × IsKeptAt values (Lasts channel values After) number t
+
+  -- what one among them makes hold, holds after all
+  pub among : (number : ℕ) (ts : List Tied) (i n : ℕ) (t : Tied) (w : World) → n ≡ number + i → slice_get ts i ≡ Some t →
+      ((v : World) → Before v → After (received_link channel values n t v)) →
+      ((j m : ℕ) (r : Tied) → m ≡ number + j → slice_get ts j ≡ Some r → (n ≡ m → ⊥) → is_of channel r ≡ true → KeepsBoth m r) →
+      Before w → After (received_from channel values number ts w)
+  among number [] i n t w is at own kept before = absurd (cc)
+  among number (x ∷ ts) zero n t w is at own kept before =
+      let e : n ≡ number = omega (arith, is) in
+      let one : t ≡ x = cc in
+      let mine : After (received_link channel values number x w) =
+      subst (λ (y : Tied). After (received_link channel values number y w)) one (subst (λ (m : ℕ). After (received_link channel values m t w)) e (own w before)) in
+      links-last channel values After (number + 1) ts (received_link channel values number x w)
+      (λ j m r at_m is_r member. (kept (suc j) m r (omega (arith, at_m)) is_r (λ (f : n ≡ m). omega (arith, is, at_m, f)) member).1) mine
+  among number (x ∷ ts) (suc i) n t w is at own kept before =
+      let first : Before (received_link channel values number x w) =
+      link-lasts channel values Before number x w (λ member. (kept 0 number x (omega arith) refl (λ (f : n ≡ number). omega (arith, is, f)) member).0) before in
+      among (number + 1) ts i n t (received_link channel values number x w) (omega (arith, is)) at own (λ j m r at_m is_r. kept (suc j) m r (omega (arith, at_m)) is_r) first
+
 -- how many words there are
 length-stays : (channel : ℕ) (values : List ℤ) (number : ℕ) (t : Tied) (w : World) → length (received_link channel values number t w).buffers ≡ length w.buffers
 length-stays channel values number t w =
@@ -185,9 +187,9 @@ length-stays channel values number t w =
     link-keeps channel values (Stays channel values L) (none channel values L) (two channel values L) number t w
     (λ own. record {
       fills = λ u. overwritten-many (take t.count values) u.buffers t.from;
-      enqueues = λ u. refl;
-      marks = λ u. refl;
-      signals = λ flag u is. refl;
+      enqueues = λ on u some. refl;
+      marks = λ on u some. refl;
+      signals = λ on flag u is. refl;
     })
 
 -- the buffer of a link
@@ -201,13 +203,13 @@ apart-stays channel values number t r w apart =
     link-keeps channel values (Stays channel values (buffer_of r)) (none channel values (buffer_of r)) (two channel values (buffer_of r)) number t w
     (λ own. record {
       fills = λ u. away-from t r (take t.count values) u (apart own) (take-few t.count values);
-      enqueues = λ u. refl;
-      marks = λ u. refl;
-      signals = λ flag u is. refl;
+      enqueues = λ on u some. refl;
+      marks = λ on u some. refl;
+      signals = λ on flag u is. refl;
     })
 
 -- one that stands apart from links stays
-all-apart-stay : (channel : ℕ) (values : List ℤ) (number : ℕ) (ts : List Tied) (r : Tied) (w : World) → ((i : ℕ) (t : Tied) → slice_get ts i ≡ Some t → is_of channel t ≡ true → AreApart t r) →
+pub all-apart-stay : (channel : ℕ) (values : List ℤ) (number : ℕ) (ts : List Tied) (r : Tied) (w : World) → ((i : ℕ) (t : Tied) → slice_get ts i ≡ Some t → is_of channel t ≡ true → AreApart t r) →
     buffer_of r (received_from channel values number ts w) ≡ buffer_of r w
 all-apart-stay channel values number [] r w apart = refl
 all-apart-stay channel values number (t ∷ ts) r w apart =
@@ -215,23 +217,23 @@ all-apart-stay channel values number (t ∷ ts) r w apart =
     ∙ apart-stays channel values number t r w (apart 0 t refl)
 
 -- what a link has after values came to it
-abbrev After : (values : List ℤ) → Tied → World → List ℤ
-After values t w = take t.count values ++ drop (length (take t.count values)) (buffer_of t w)
+abbrev pub Filled : (values : List ℤ) → Tied → World → List ℤ
+Filled values t w = take t.count values ++ drop (length (take t.count values)) (buffer_of t w)
 
 -- a link of the channel, where values come to it alone
 own-filled : (channel : ℕ) (values : List ℤ) (number : ℕ) (t : Tied) (w : World) → is_of channel t ≡ true → t.from + t.count ≤ length w.buffers →
-    buffer_of t (received_link channel values number t w) ≡ After values t w
+    buffer_of t (received_link channel values number t w) ≡ Filled values t w
 own-filled channel values number t w own within = by (is_of channel t) t.is_monitored (is_queued number there) t.flag own
   where
     there : World
     there = with_buffer t (take t.count values) w
 
-    filled : buffer_of t there ≡ After values t w
+    filled : buffer_of t there ≡ Filled values t w
     filled = overwritten-front (take t.count values) w.buffers t.from t.count (take-few t.count values) within
 
     by : (is monitored queued : Bool) (flag : Option ℕ) → is ≡ true →
         buffer_of t (if is then (if monitored then flagged flag (if queued then enqueued number there.buffers t.from there else all_marked None number there) else there) else w)
-        ≡ After values t w
+        ≡ Filled values t w
     by false monitored queued flag e = absurd (true≢false (sym e))
     by true false queued flag e = filled
     by true true true None e = filled
@@ -240,13 +242,13 @@ own-filled channel values number t w own within = by (is_of channel t) t.is_moni
     by true true false (Some flag) e = filled
 
 -- a link of the channel among others
-filled-among : (channel : ℕ) (values : List ℤ) (number : ℕ) (ts : List Tied) (i : ℕ) (t : Tied) (w : World) →
+pub filled-among : (channel : ℕ) (values : List ℤ) (number : ℕ) (ts : List Tied) (i : ℕ) (t : Tied) (w : World) →
     ((a b : ℕ) (r s : Tied) → slice_get ts a ≡ Some r → slice_get ts b ≡ Some s → (a ≡ b → ⊥) → AreApart r s) →
-    slice_get ts i ≡ Some t → is_of channel t ≡ true → t.from + t.count ≤ length w.buffers → buffer_of t (received_from channel values number ts w) ≡ After values t w
+    slice_get ts i ≡ Some t → is_of channel t ≡ true → t.from + t.count ≤ length w.buffers → buffer_of t (received_from channel values number ts w) ≡ Filled values t w
 filled-among channel values number [] i t w apart is own within = absurd (cc)
 filled-among channel values number (x ∷ ts) zero t w apart is own within =
     let one : x ≡ t = cc in
-    let mine : buffer_of t (received_link channel values number x w) ≡ After values t w =
+    let mine : buffer_of t (received_link channel values number x w) ≡ Filled values t w =
     ap (λ (y : Tied). buffer_of t (received_link channel values number y w)) one ∙ own-filled channel values number t w own within in
     all-apart-stay channel values (number + 1) ts t (received_link channel values number x w)
     (λ j r at member. apart (suc j) 0 r t at is (λ (e : suc j ≡ 0). omega (arith, e))) ∙ mine
@@ -257,70 +259,3 @@ filled-among channel values number (x ∷ ts) (suc i) t w apart is own within =
     (λ a b r s at_r at_s not. apart (suc a) (suc b) r s at_r at_s (λ (e : suc a ≡ suc b). not (let same : a ≡ b = omega (arith, e) in same))) is own (omega (arith, within, many))
     ∙ ap (λ (l : List ℤ). take t.count values ++ drop (length (take t.count values)) l)
     (apart-stays channel values number x t w (λ member. apart 0 (suc i) x t refl is (λ (e : 0 ≡ suc i). omega (arith, e))))
-
--- ---- feeds
-
-module _ (p : ProgramTree) (ls : List Link) (channel : ℕ) (values : List ℤ) where
-  -- a link that is not of the channel has another number than one that is
-  other-number : (i j : ℕ) (t r : Tied) → slice_get (ties_in p ls) i ≡ Some t → slice_get (ties_in p ls) j ≡ Some r → is_of channel t ≡ false → is_of channel r ≡ true → i ≡ j → ⊥
-  other-number i j t r is_t is_r foreign member e =
-      let both : Some t ≡ Some r = sym is_t ∙ ap (slice_get (ties_in p ls)) e ∙ is_r in
-      let one : t ≡ r = cc in
-      true≢false (sym member ∙ ap (is_of channel) (sym one) ∙ foreign)
-
-  -- its queue
-  queue-stays : (i : ℕ) (t : Tied) (w : World) → slice_get (ties_in p ls) i ≡ Some t → is_of channel t ≡ false →
-      queue_of i (received_from channel values 0 (ties_in p ls) w) ≡ queue_of i w
-  queue-stays i t w is foreign = stay channel values (queue_of i) (ties_in p ls) w (λ j r at member. record {
-    fills = λ u. refl;
-    enqueues = λ u. get_or-set_other u.queues j i (put_into u.buffers r.from (queue_of j u)) no_queue (other-number i j t r is at foreign member);
-    marks = λ u. refl;
-    signals = λ flag u has. refl;
-  })
-
-  -- its marks
-  marks-stay : (i : ℕ) (t : Tied) (w : World) → slice_get (ties_in p ls) i ≡ Some t → is_of channel t ≡ false → (set : ℕ) →
-      is_marked set i (received_from channel values 0 (ties_in p ls) w) ≡ is_marked set i w
-  marks-stay i t w is foreign set = stay channel values (is_marked set i) (ties_in p ls) w (λ j r at member. record {
-    fills = λ u. refl;
-    enqueues = λ u. refl;
-    marks = λ u. from-away j set i 0 u.homes u.marks (other-number i j t r is at foreign member);
-    signals = λ flag u has. refl;
-  })
-
-  -- an event flag of no link of the channel
-  flag-stays : (flag : ℕ) (w : World) → ((i : ℕ) (t : Tied) → slice_get (ties_in p ls) i ≡ Some t → is_of channel t ≡ true → t.flag ≡ Some flag → ⊥) →
-      is_set flag (received_from channel values 0 (ties_in p ls) w) ≡ is_set flag w
-  flag-stays flag w not = stay channel values (is_set flag) (ties_in p ls) w (λ j r at member. record {
-    fills = λ u. refl;
-    enqueues = λ u. refl;
-    marks = λ u. refl;
-    signals = λ own u has. get_or-set_other u.flags own flag true false (λ (e : flag ≡ own). not j r at member (has ∙ ap (λ (n : ℕ). Some n) (sym e)));
-  })
-
-  -- all the rest
-  rest-stays : (w : World) → record (received_from channel values 0 (ties_in p ls) w) { buffers = w.buffers; queues = w.queues; marks = w.marks; flags = w.flags } ≡ w
-  rest-stays w =
-      stay channel values (λ (u : World). record u { buffers = w.buffers; queues = w.queues; marks = w.marks; flags = w.flags }) (ties_in p ls) w
-      (λ j r at member. record { fills = λ u. refl; enqueues = λ u. refl; marks = λ u. refl; signals = λ flag u has. refl })
-
--- the law
-pub feeds_fill_buffers : FeedsFillBuffers
-feeds_fill_buffers p ls waits channel values w tied laid = record {
-  own = λ i t is own.
-      let lies = tie-lies p ls tied.few i t is in
-      let many = laid.buffers in
-      filled-among channel values 0 (ties_in p ls) i t there (ties-apart p ls tied.few) is own (omega (arith, lies, many));
-  others = λ i t is foreign. (
-    all-apart-stay channel values 0 (ties_in p ls) t there
-        (λ j r at member. ties-apart p ls tied.few j i r t at is (λ (e : j ≡ i). other-number p ls channel values i j t r is at foreign member (sym e))),
-    queue-stays p ls channel values i t there is foreign,
-    marks-stay p ls channel values i t there is foreign,
-  );
-  flags = λ flag not. flag-stays p ls channel values flag there not;
-  valued = ap (λ (u : World). u.valued) (rest-stays p ls channel values there);
-  rest = ap (λ (u : World). record u { valued = w.valued }) (rest-stays p ls channel values there);
-}
-  where
-    there : World
-    there = record w { valued = slice_set w.valued channel true }

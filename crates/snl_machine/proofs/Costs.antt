@@ -10,8 +10,7 @@ use Rattle.snl_meaning.specs.Links.{home_of}
 use Rattle.snl_meaning.specs.Ran.{Ran, Gives, Faults, also, then_do}
 use Rattle.snl_meaning.specs.Run.{PieceContext, Step, GoesTo, EndsWith, LeavesFor, Sticks, Exit, Over, LeftFor, Unfinished, Stuck, done_by, step_of, from_there, exec, run_of, steps_of}
 use Rattle.snl_meaning.specs.World.{World}
-use Rattle.snl_meaning.proofs.StepKeeps.{step-keeps}
-use Rattle.snl_meaning.proofs.Ticks.{NoMore, ticks-kept}
+use Rattle.snl_meaning.proofs.Counts.{after-also, run-keeps}
 use Rattle.snl_vm.specs.Running.{value_left, left_at, state_left}
 use Rattle.snl_schedule.specs.Plans.{held_at, block_at, ended, CanDo}
 use Rattle.snl_schedule.specs.Refresh.{is_marked, with_mark, copied_to, refreshed_link, refreshed_from, refreshed}
@@ -78,29 +77,6 @@ costs-last len room w steps (Faults f line u text) go still h = record { still =
 
 -- ---- runs
 
--- text does not matter
-after-also : {A : Type 0} (text : List ℕ) (r : Ran A) → (world_after (also text r)).ticks ≡ (world_after r).ticks
-after-also text (Gives v w t) = refl
-after-also text (Faults f line w t) = refl
-
--- no run gives ticks back
-exec-still : (g : PieceContext) (code : List Instr) (n at : ℕ) (s : List ℤ) (w : World) → (world_after (exec g code n at s w)).ticks ≤ w.ticks
-exec-still g code zero at s w = omega arith
-exec-still g code (suc n) at s w = by (slice_get code at) (λ i. step-keeps g NoMore (ticks-kept g.set) i at s w) (λ at' s' u. exec-still g code n at' s' u)
-  where
-    go : (r : Ran Step) → (world_after r).ticks ≤ w.ticks → ((at' : ℕ) (s' : List ℤ) (u : World) → (world_after (exec g code n at' s' u)).ticks ≤ u.ticks) →
-        (world_after (then_do r (from_there (exec g code n)))).ticks ≤ w.ticks
-    go (Gives (GoesTo at' s') u text) kept rest = let same = after-also text (exec g code n at' s' u) in let h = rest at' s' u in omega (arith, same, kept, h)
-    go (Gives (EndsWith s') u text) kept rest = kept
-    go (Gives (LeavesFor state) u text) kept rest = kept
-    go (Gives Sticks u text) kept rest = kept
-    go (Faults f line u text) kept rest = kept
-
-    by : (o : Option Instr) → ((i : Instr) → (world_after (done_by g i at s w)).ticks ≤ w.ticks) →
-        ((at' : ℕ) (s' : List ℤ) (u : World) → (world_after (exec g code n at' s' u)).ticks ≤ u.ticks) → (world_after (then_do (step_of g o at s w) (from_there (exec g code n)))).ticks ≤ w.ticks
-    by None kept rest = omega arith
-    by (Some i) kept rest = go (done_by g i at s w) (kept i) rest
-
 -- three times as much, in another form
 pub three : (n len : ℕ) → n * (3 * len) ≡ 3 * (n * len)
 three n len = sym (mul_assoc n 3 len) ∙ ap (λ k. k * len) (mul_comm n 3) ∙ mul_assoc 3 n len
@@ -127,17 +103,19 @@ value-still Unfinished u = refl
 value-still Stuck u = refl
 
 -- what follows a step and changes no ticks
-then-still : {A B : Type 0} (w : World) (r : Ran A) (go : A → World → Ran B) → ((a : A) (u : World) → (world_after (go a u)).ticks ≡ u.ticks) → (world_after r).ticks ≤ w.ticks →
-    (world_after (then_do r go)).ticks ≤ w.ticks
-then-still w (Gives a u text) go still h = let same = after-also text (go a u) in let k = still a u in omega (arith, h, same, k)
-then-still w (Faults f line u text) go still h = h
+then-same : {A B : Type 0} (r : Ran A) (go : A → World → Ran B) → ((a : A) (u : World) → (world_after (go a u)).ticks ≡ u.ticks) → (world_after (then_do r go)).ticks ≡ (world_after r).ticks
+then-same (Gives a u text) go same = after-also text (go a u) ∙ same a u
+then-same (Faults f line u text) go same = refl
+
+-- a condition leaves the ticks of its run
+pub held-ticks : (g : PieceContext) (code : List Instr) (start : ℕ) (w : World) → (world_after (held_at g code (Some start) w)).ticks ≡ (world_after (run_of g code start w)).ticks
+held-ticks g code start w = then-same (then_do (run_of g code start w) value_left) holds (λ z u. refl) ∙ then-same (run_of g code start w) value_left value-still
 
 -- no condition gives ticks back
 pub held-still : (g : PieceContext) (code : List Instr) (condition : Option ℕ) (w : World) → (world_after (held_at g code condition w)).ticks ≤ w.ticks
 held-still g code None w = omega arith
 held-still g code (Some start) w =
-    let r = run_of g code start w in
-    then-still w (then_do r value_left) holds (λ z u. refl) (then-still w r value_left value-still (exec-still g code (suc w.ticks * length code) start [] w))
+    let same = held-ticks g code start w in let kept = run-keeps g code (suc w.ticks * length code) start [] w in omega (arith, same, kept)
 
 module _ (bounded : StepsAreBounded) (g : PieceContext) (code : List Instr) where
   -- a run that comes to its end
@@ -145,7 +123,7 @@ module _ (bounded : StepsAreBounded) (g : PieceContext) (code : List Instr) wher
   left-costs start over w =
       let r = run_of g code start w in
       costs-last (length code) (length code) w (steps_of g code start w) r state_left left-still
-      (bound-costs (length code) w (steps_of g code start w) r (exec-still g code (suc w.ticks * length code) start [] w) (bounded g code start w (over w)))
+      (bound-costs (length code) w (steps_of g code start w) r (run-keeps g code (suc w.ticks * length code) start [] w) (bounded g code start w (over w)))
 
   -- an entry or an exit block
   pub block-costs : (start : Option ℕ) → CanDo g code start → (w : World) → Costs (length code) (length code) w (block_steps g code start w) (block_at g code start w)

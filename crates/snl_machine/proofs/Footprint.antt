@@ -1,11 +1,11 @@
 -- A machine of a program holds the words that the program needs.
+use Rattle.snl_code.specs.Copies.{held_sets}
 use Rattle.std.proofs.Common.{◌≡◌, ◌∙◌, ◌+◌, ◌*◌, ◌-◌, ◌^◌, ◌<◌, refl, sym, ap, arith, ℕ, List, [], ◌∷◌, map, length}
 use Rattle.std.specs.List.{sum_by}
 use Rattle.std.proofs.Math.Nat.{zero-mul, suc-mul}
 use Rattle.std.proofs.lemmas.List.Sums.{sum_by-cons}
 use Rattle.snl_code.specs.Depths.{capped, program_depth}
 use Rattle.snl_links.specs.Links.{Link}
-use Rattle.snl_load.specs.Initials.{held_sets}
 use Rattle.snl_machine.specs.Footprint.{MachinesHoldTheFootprint}
 use Rattle.snl_machine.proofs.LaidOut.{sets-many}
 use Rattle.snl_meaning.specs.Laws.{words_of}
@@ -43,7 +43,7 @@ pub machines_hold_the_footprint : MachinesHoldTheFootprint
 machines_hold_the_footprint p ls waits budget m is =
     let sets = held_sets p 0 p.state_sets in
     let many : length sets ≡ length p.state_sets = sets-many (variables_of p) 0 p.state_sets in
-    let store = words_are_of_the_frame m.store ∙ ap frame_words is.world_is.frame_is in
+    let store = words_are_of_the_frame m.memory.store ∙ ap frame_words is.world_is.frame_is in
     let room = m.room ∙ not-capped m.code.depth (program_depth p) is.loaded.code_is.depth is.loaded.counted in
     let copies = with-two sets in
     let queues = queues-room ls in

@@ -5,9 +5,10 @@ use Rattle.std.specs.List.{flat_map}
 use Rattle.std.proofs.lemmas.List.{length-replicate}
 use Rattle.snl_syntax.specs.Programs.{ProgramTree}
 use Rattle.snl_links.specs.Links.{Link}
-use Rattle.snl_code.specs.Heres.{here_in}
+use Rattle.snl_code.specs.Copies.{held_sets}
+use Rattle.snl_code.specs.Heres.{scene_in}
 use Rattle.snl_load.specs.First.{first_copy, first_queue, first_world_of}
-use Rattle.snl_load.specs.Initials.{all_elements, held_among, buffer_by, first_buffer, held_sets}
+use Rattle.snl_load.specs.Initials.{all_elements, held_among, buffer_by, first_buffer}
 use Rattle.snl_load.specs.Meaning.{program_meaning}
 use Rattle.snl_load.specs.Places.{channels, flags_in}
 use Rattle.snl_machine.specs.Frames.{frame_in, FrameStays, FirstFrame}
@@ -33,9 +34,9 @@ frame-steady : (p : ProgramTree) → IsSteady p SameButTime SameButTime
 frame-steady p = record {
   nothing = λ w. refl;
   both = but-both;
-  pieces = λ set. let h = here_in p set in let k = pieces_keep_the_frame h in record {
-    condition = λ e w. but-same w (world_after (held_by h e w)) (k.condition e w);
-    block = λ b w. but-same w (world_after (block_effect h b w)) (k.block b w);
+  pieces = λ set. let m = scene_in p set in let k = pieces_keep_the_frame m in record {
+    condition = λ e w. but-same w (world_after (held_by m e w)) (k.condition e w);
+    block = λ b w. but-same w (world_after (block_effect m b w)) (k.block b w);
   };
   refreshes = λ set w. but-same w (refreshed set w) (refreshed-same set w);
   enters = λ set state within is_timed w. but-same w (entered_in set state is_timed w) (entered-same set state is_timed w);

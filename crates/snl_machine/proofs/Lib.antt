@@ -20,7 +20,9 @@ pub mod Unreached
 pub mod Reached
 pub mod Tasks
 pub mod Cells
+pub mod Marked
 pub mod Buffers
+pub mod Feeds
 pub mod Refreshed
 pub mod LaidOut
 pub mod Footprint

@@ -1,7 +1,7 @@
 -- A line of a trace keeps what copies, buffers and queues hold within their types.
 use Rattle.std.proofs.Common.{◌≡◌, ◌∙◌, ◌+◌, ap, sym, subst, arith, ℕ, Bool, true, slice_get, List, Some, length, nat_lt, if◌then◌else◌}
 use Rattle.snl_syntax.specs.Programs.{ProgramTree}
-use Rattle.snl_code.specs.Heres.{here_in}
+use Rattle.snl_code.specs.Heres.{scene_in}
 use Rattle.snl_schedule.specs.declared.events.Event.{Event}
 use Rattle.snl_schedule.specs.declared.events.Event.TheVariants.{Up, Down, Val, Done, Tick, Other}
 use Rattle.snl_schedule.specs.Event.{applied, is_event_fit}
@@ -47,8 +47,8 @@ module _ (p : ProgramTree) (ls : List Link) (sized : IsSized p) (tied : IsTied p
   }
 
   -- all of them
-  pieces-hold : (set : ℕ) → PiecesKeep (here_in p set) Stays
-  pieces-hold set = pieces-keep (here_in p set) (May p sized set) Stays (may p sized set) (holds-kept set)
+  pieces-hold : (set : ℕ) → PiecesKeep (scene_in p set) Stays
+  pieces-hold set = pieces-keep (scene_in p set) (May p sized set) Stays (may p sized set) (holds-kept set)
 
   -- each change of a run
   holds-steady : IsSteady p Stays Stays

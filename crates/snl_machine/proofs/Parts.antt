@@ -2,7 +2,7 @@
 use Rattle.std.proofs.Common.{◌≤◌, ℕ, List, [], ◌∷◌, Option, None, Some, map}
 use Rattle.snl_syntax.specs.Programs.{TargetTree, to_state, to_exit, ClauseTree, StateTree, ProgramTree}
 use Rattle.snl_syntax.specs.Statements.{BlockTree}
-use Rattle.snl_code.specs.Heres.{here_in}
+use Rattle.snl_code.specs.Heres.{here_in, scene_in}
 use Rattle.snl_meaning.specs.Effect.{Way, Done, Broken, Continued, Left, block_effect}
 use Rattle.snl_meaning.specs.Keeping.{PiecesKeep}
 use Rattle.snl_meaning.specs.World.{World}
@@ -28,7 +28,7 @@ module _ (p : ProgramTree) (set : ℕ) where
   left-leads (Faults f line w text) h = tt
 
 module _ (p : ProgramTree) (set : ℕ) (R : World → World → Type 0) (nothing : (w : World) → R w w) (both : (u v w : World) → R u v → R v w → R u w)
-    (pieces : PiecesKeep (here_in p set) R) where
+    (pieces : PiecesKeep (scene_in p set) R) where
   -- the state that a block leaves for changes nothing
   left-keeps : (way : Way) → Keeps R (left_for way)
   left-keeps Done w = nothing w
@@ -37,29 +37,29 @@ module _ (p : ProgramTree) (set : ℕ) (R : World → World → Type 0) (nothing
   left-keeps (Left state) w = nothing w
 
   -- an entry or an exit block
-  pub block-keeps : (b : Option BlockTree) → Keeps R (block_meaning (here_in p set) b)
+  pub block-keeps : (b : Option BlockTree) → Keeps R (block_meaning (scene_in p set) b)
   block-keeps None w = nothing w
-  block-keeps (Some b) w = then-keeps R both w (block_effect (here_in p set) b w) finished (pieces.block b w) (λ way u. nothing u)
+  block-keeps (Some b) w = then-keeps R both w (block_effect (scene_in p set) b w) finished (pieces.block b w) (λ way u. nothing u)
 
   -- clauses
-  clauses-keep : (cs : List ClauseTree) → ClausesKeep R (last_state p set) (map (clause_meaning (here_in p set)) cs)
+  clauses-keep : (cs : List ClauseTree) → ClausesKeep R (last_state p set) (map (clause_meaning (scene_in p set)) cs)
   clauses-keep [] = tt
   clauses-keep (c ∷ cs) = (
     record {
       holds = pieces.condition c.condition;
-      acts = λ w. then-keeps R both w (block_effect (here_in p set) c.block w) left_for (pieces.block c.block w) left-keeps;
+      acts = λ w. then-keeps R both w (block_effect (scene_in p set) c.block w) left_for (pieces.block c.block w) left-keeps;
       leads = target-leads p set c.target;
-      leaves = λ w. left-leads p set (block_effect (here_in p set) c.block w)
-          (block-leads (here_in p set) (λ n. n ≤ last_state p set) c.block (λ x among. state-below (here_in p set).states x.text.now) w);
+      leaves = λ w. left-leads p set (block_effect (scene_in p set) c.block w)
+          (block-leads (scene_in p set) (λ n. n ≤ last_state p set) c.block (λ x among. state-below (here_in p set).states x.text.now) w);
     },
     clauses-keep cs,
   )
 
   -- a state
-  state-keeps : (q : StateTree) → StateKeeps R (last_state p set) (state_meaning (here_in p set) q)
+  state-keeps : (q : StateTree) → StateKeeps R (last_state p set) (state_meaning (scene_in p set) q)
   state-keeps q = record { entry = block-keeps q.entry; clauses = clauses-keep q.clauses; exit = block-keeps q.exit }
 
   -- states
-  pub states-keep : (qs : List StateTree) → StatesKeep R (last_state p set) (map (state_meaning (here_in p set)) qs)
+  pub states-keep : (qs : List StateTree) → StatesKeep R (last_state p set) (map (state_meaning (scene_in p set)) qs)
   states-keep [] = tt
   states-keep (q ∷ qs) = (state-keeps q, states-keep qs)

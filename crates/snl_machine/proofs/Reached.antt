@@ -10,8 +10,8 @@ use Rattle.snl_resolve.specs.Numbered.{number_of}
 use Rattle.snl_rules.specs.Reach.{targets_if_there, targets_after, targets_in_block, targets_in_clause, targets_in_state, state_names}
 use Rattle.snl_rules.proofs.WayLaws.{leads_within, reached_more}
 use Rattle.snl_links.specs.Links.{Link}
-use Rattle.snl_code.specs.Heres.{here_in, states_by}
-use Rattle.snl_load.specs.Initials.{held_sets}
+use Rattle.snl_code.specs.Copies.{held_sets}
+use Rattle.snl_code.specs.Heres.{scene_in, states_by}
 use Rattle.snl_load.specs.Meaning.{left_for, finished, block_meaning, target_of, clause_meaning, state_meaning, set_meaning, set_meanings, program_meaning}
 use Rattle.snl_load.specs.Reached.{if_reached, states_reached}
 use Rattle.snl_machine.specs.Reached.{Table, HasState, IsIn, IsClosed, FirstAreReached, ReachedStay, UnreachedDoNothing, InstantsAreTheSame, ReachedAreClosed}
@@ -22,7 +22,8 @@ use Rattle.snl_machine.proofs.Unreached.{AreSoundSets, IsSoundProgram, line-same
 use Rattle.snl_machine.proofs.Worlds.{copies-first}
 use Rattle.snl_meaning.specs.Effect.{Way, Done, Broken, Continued, Left, held_by, block_effect}
 use Rattle.snl_meaning.specs.Keeping.{PiecesKeep, world_after}
-use Rattle.snl_meaning.specs.Names.{Here, or_first}
+use Rattle.snl_meaning.specs.Names.{or_first}
+use Rattle.snl_meaning.specs.Scenes.{Scene}
 use Rattle.snl_meaning.specs.Ran.{Ran, Gives, Faults, then_do}
 use Rattle.snl_schedule.specs.Turn.{State, no_state}
 
@@ -36,22 +37,22 @@ same-at table k (q ∷ qs) (suc n) is =
     same-at table (k + 1) qs n (λ less. ap table (let e : k + 1 + n ≡ k + suc n = omega arith in e) ∙ is (omega (arith, less)))
 
 module _ (p : ProgramTree) (reached : Table) (set : ℕ) where
-  -- where the pieces of a state set stand
-  abbrev h : Here
-  h = here_in p set
+  -- where the pieces of a state set run
+  abbrev m : Scene
+  m = scene_in p set
 
   -- conditions and blocks leave good worlds
-  pieces : PiecesKeep h (λ w u. Good p reached w → Good p reached u)
-  pieces = pieces-stay (IsIn p reached) h
+  pieces : PiecesKeep m (λ w u. Good p reached w → Good p reached u)
+  pieces = pieces-stay (IsIn p reached) m
 
   -- an entry or an exit block
-  block-stays : (o : Option BlockTree) → Stays p reached (block_meaning h o)
+  block-stays : (o : Option BlockTree) → Stays p reached (block_meaning m o)
   block-stays None w good = good
   block-stays (Some b) w good =
-      after-then p reached (Plain p reached) (Plain p reached) (block_effect h b w) finished (after-world p reached (block_effect h b w) (pieces.block b w good)) (λ way u k. k)
+      after-then p reached (Plain p reached) (Plain p reached) (block_effect m b w) finished (after-world p reached (block_effect m b w) (pieces.block b w good)) (λ way u k. k)
 
   -- where a clause leads
-  leads-in : (target : TargetTree) → NameOnly h (IsIn p reached set) (targets_after target) → LeadsIn p reached set (target_of h.states target)
+  leads-in : (target : TargetTree) → NameOnly m.here (IsIn p reached set) (targets_after target) → LeadsIn p reached set (target_of m.here.states target)
   leads-in (to_state x) all = all x (Contains-push [] x)
   leads-in to_exit all = tt
 
@@ -65,37 +66,37 @@ module _ (p : ProgramTree) (reached : Table) (set : ℕ) where
   leaves-in (Faults f line w text) leads good = good
 
   -- a clause whose targets are in the table
-  clause-sound : (c : ClauseTree) → NameOnly h (IsIn p reached set) (targets_in_clause c) → IsSound p reached set (clause_meaning h c)
+  clause-sound : (c : ClauseTree) → NameOnly m.here (IsIn p reached set) (targets_in_clause c) → IsSound p reached set (clause_meaning m c)
   clause-sound c all = record {
-    holds = λ w good. after-world p reached (held_by h c.condition w) (pieces.condition c.condition w good);
+    holds = λ w good. after-world p reached (held_by m c.condition w) (pieces.condition c.condition w good);
     acts = λ w good.
-        leaves-in (block_effect h c.block w)
-        (block-leads h (IsIn p reached set) c.block (front h (IsIn p reached set) (targets_in_block c.block) (targets_after c.target) all) w) (pieces.block c.block w good);
-    leads = leads-in c.target (behind h (IsIn p reached set) (targets_in_block c.block) (targets_after c.target) all);
+        leaves-in (block_effect m c.block w)
+        (block-leads m (IsIn p reached set) c.block (front m.here (IsIn p reached set) (targets_in_block c.block) (targets_after c.target) all) w) (pieces.block c.block w good);
+    leads = leads-in c.target (behind m.here (IsIn p reached set) (targets_in_block c.block) (targets_after c.target) all);
   }
 
   -- clauses
-  clauses-sound : (cs : List ClauseTree) → NameOnly h (IsIn p reached set) (flat_map targets_in_clause cs) → AreSound p reached set (map (clause_meaning h) cs)
+  clauses-sound : (cs : List ClauseTree) → NameOnly m.here (IsIn p reached set) (flat_map targets_in_clause cs) → AreSound p reached set (map (clause_meaning m) cs)
   clauses-sound [] all = tt
   clauses-sound (c ∷ cs) all = (
-    clause-sound c (front h (IsIn p reached set) (targets_in_clause c) (flat_map targets_in_clause cs) all),
-    clauses-sound cs (behind h (IsIn p reached set) (targets_in_clause c) (flat_map targets_in_clause cs) all),
+    clause-sound c (front m.here (IsIn p reached set) (targets_in_clause c) (flat_map targets_in_clause cs) all),
+    clauses-sound cs (behind m.here (IsIn p reached set) (targets_in_clause c) (flat_map targets_in_clause cs) all),
   )
 
   -- a state
-  state-sound : (q : StateTree) → NameOnly h (IsIn p reached set) (targets_in_state q) → IsSoundState p reached set (state_meaning h q)
+  state-sound : (q : StateTree) → NameOnly m.here (IsIn p reached set) (targets_in_state q) → IsSoundState p reached set (state_meaning m q)
   state-sound q all =
       let entry = targets_if_there q.entry in
       let clauses = flat_map targets_in_clause q.clauses in
       record {
         entry = block-stays q.entry;
-        clauses = clauses-sound q.clauses (behind h (IsIn p reached set) entry clauses (front h (IsIn p reached set) (entry ++ clauses) (targets_if_there q.exit) all));
+        clauses = clauses-sound q.clauses (behind m.here (IsIn p reached set) entry clauses (front m.here (IsIn p reached set) (entry ++ clauses) (targets_if_there q.exit) all));
         exit = block-stays q.exit;
       }
 
   -- the state of a number
-  state-at : (qs : List StateTree) (n : ℕ) → ((q : StateTree) → slice_get qs n ≡ Some q → IsSoundState p reached set (state_meaning h q)) →
-      IsSoundState p reached set (slice_index_or (map (state_meaning h) qs) n no_state)
+  state-at : (qs : List StateTree) (n : ℕ) → ((q : StateTree) → slice_get qs n ≡ Some q → IsSoundState p reached set (state_meaning m q)) →
+      IsSoundState p reached set (slice_index_or (map (state_meaning m) qs) n no_state)
   state-at [] n all = record { entry = λ w good. good; clauses = tt; exit = λ w good. good }
   state-at (q ∷ qs) zero all = all q refl
   state-at (q ∷ qs) (suc n) all = state-at qs n all
@@ -106,7 +107,7 @@ module _ (p : ProgramTree) (reached : Table) (set : ℕ) where
     has n less = subst (λ (o : Option StateSetTree). n < length (states_by o)) (sym at) (let long = length-map g.states (λ (s : StateTree). s.name) in omega (arith, less, long))
 
     -- what a state that is in the table names as a target is in it
-    named : (i : ℕ) (q : StateTree) → slice_get g.states i ≡ Some q → reached set i ≡ true → NameOnly h (IsIn p reached set) (targets_in_state q)
+    named : (i : ℕ) (q : StateTree) → slice_get g.states i ≡ Some q → reached set i ≡ true → NameOnly m.here (IsIn p reached set) (targets_in_state q)
     named i q stands is x among =
         subst (λ (o : Option StateSetTree). IsIn p reached set (or_first (number_of (states_by o) x.text.now))) (sym at) (by (number_of (state_names g.states) x.text.now) refl)
       where
@@ -119,9 +120,9 @@ module _ (p : ProgramTree) (reached : Table) (set : ℕ) where
     set-sound = record {
       first = closed.first set;
       same = λ state is.
-          same-at (reached set) 0 (map (state_meaning h) g.states) state
+          same-at (reached set) 0 (map (state_meaning m) g.states) state
           (λ less. ap (reached set) (let e : 0 + state ≡ state = omega arith in e)
-          ∙ is (has state (let long = length-map g.states (state_meaning h) in omega (arith, less, long))));
+          ∙ is (has state (let long = length-map g.states (state_meaning m) in omega (arith, less, long))));
       states = λ state is. state-at g.states state (λ q stands. state-sound q (named state q stands (is (has state (slice_get_within g.states state q stands)))));
     }
 

@@ -1,4 +1,4 @@
--- A refresh writes the elements of marked links, and leaves everything else as it is.
+-- A refresh writes the elements of marked links, clears their marks, and leaves everything else as it is.
 use Rattle.std.proofs.Common.{◌≡◌, ◌∙◌, ◌+◌, ◌<◌, ◌≤◌, ◌⊎◌, inl, inr, refl, sym, ap, subst, arith, ℕ, zero, suc, ℤ, pos, Bool, true, false, List, [], ◌∷◌, Option, None, Some, slice_get, length, get_or-set_same, get_or-set_other, if◌then◌else◌}
 use Rattle.std.specs.Prelude.{slice_set, slice_index_or}
 use Rattle.snl_syntax.specs.Programs.{ProgramTree}
@@ -6,9 +6,9 @@ use Rattle.snl_links.specs.Links.{Link}
 use Rattle.snl_load.specs.Places.{ties_in}
 use Rattle.snl_machine.specs.Layout.{HasWords, CopiesStay, IsLaidOut, IsTiedTo, RefreshesFillVariables}
 use Rattle.snl_machine.specs.Ranges.{IsSized, IsTied}
-use Rattle.snl_machine.proofs.Buffers.{mark-away}
 use Rattle.snl_machine.proofs.Cells.{words-same, overwritten-away, elements-written, IsThere, home-there, home-words, home-away, home-element}
 use Rattle.snl_machine.proofs.Fitting.{set-index}
+use Rattle.snl_machine.proofs.Marked.{mark-away, mark-cleared}
 use Rattle.snl_machine.proofs.Queued.{length-words}
 use Rattle.snl_meaning.specs.declared.ties.Tied.{Tied}
 use Rattle.snl_meaning.specs.Links.{home_of, elements_at, with_elements, buffer_of}
@@ -52,6 +52,15 @@ module _ (set : ℕ) where
       by true None marked is = refl
       by true (Some place) marked is =
           elements-away place (buffer_of t w) q w (subst (λ (n : ℕ). Outside place n q) (sym (length-words w.buffers t.from t.count)) (out place marked is))
+
+  -- it clears the mark of the link,
+  link-cleared : (number : ℕ) (t : Tied) (w : World) → is_marked set number (refreshed_link set number t w) ≡ false
+  link-cleared number t w = by (is_marked set number w) (home_of set number w) refl
+    where
+      by : (b : Bool) (home : Option ℕ) → is_marked set number w ≡ b → is_marked set number (if b then with_mark set number false (copied_to set home t w) else w) ≡ false
+      by false home is = is
+      by true None is = mark-cleared w.marks set number
+      by true (Some place) is = mark-cleared w.marks set number
 
   -- it leaves marks of other links,
   link-marks : (number : ℕ) (t : Tied) (w : World) (other i : ℕ) → (i ≡ number → ⊥) → is_marked other i (refreshed_link set number t w) ≡ is_marked other i w
@@ -141,6 +150,21 @@ module _ (set : ℕ) where
       (ap (λ (hs : List (List (Option ℕ))). slice_index_or (slice_index_or hs set []) n None) (sym homes) ∙ home))
       ∙ link-away number t w q (λ place marked home. out 0 number place t (omega arith) refl marked home)
 
+  -- marks of links with lower numbers
+  links-marks : (number : ℕ) (ts : List Tied) (w : World) (other i : ℕ) → i < number → is_marked other i (refreshed_from set number ts w) ≡ is_marked other i w
+  links-marks number [] w other i less = refl
+  links-marks number (t ∷ ts) w other i less =
+      links-marks (number + 1) ts (refreshed_link set number t w) other i (omega (arith, less)) ∙ link-marks number t w other i (λ (e : i ≡ number). omega (arith, less, e))
+
+  -- each of their own marks is cleared
+  links-cleared : (number : ℕ) (ts : List Tied) (w : World) (i n : ℕ) → n ≡ number + i → i < length ts → is_marked set n (refreshed_from set number ts w) ≡ false
+  links-cleared number [] w i n is less = absurd (omega (arith, less))
+  links-cleared number (t ∷ ts) w zero n is less =
+      let u = refreshed_link set number t w in
+      let e : n ≡ number = omega (arith, is) in
+      links-marks (number + 1) ts u set n (omega (arith, is)) ∙ ap (λ (m : ℕ). is_marked set m u) e ∙ link-cleared number t w
+  links-cleared number (t ∷ ts) w (suc i) n is less = links-cleared (number + 1) ts (refreshed_link set number t w) i n (omega (arith, is)) (omega (arith, less))
+
   -- marks of other state sets
   links-others : (number : ℕ) (ts : List Tied) (w : World) (other i : ℕ) → (set ≡ other → ⊥) → is_marked other i (refreshed_from set number ts w) ≡ is_marked other i w
   links-others number [] w other i not = refl
@@ -216,6 +240,7 @@ refreshes_fill_variables p ls set w sized tied laid here = record {
       (λ i n place t at is marked home.
       home-away p ls set w sized tied laid n place t (there n place t (theirs i n t at is) home) j m y is_y less (λ ties. not (n, marked, ties)));
   copies = links-copies set 0 w.ties w;
+  cleared = λ i less. links-cleared set 0 w.ties w i i (let e : i ≡ 0 + i = omega arith in e) (let many = ap (length {A = Tied}) laid.ties in omega (arith, less, many));
   marks = links-others set 0 w.ties w;
   rest = links-rest set 0 w.ties w;
 }

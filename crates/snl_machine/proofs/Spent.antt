@@ -1,6 +1,6 @@
 -- What a turn of a state set costs.
 use Rattle.std.proofs.Common.{◌≡◌, ◌+◌, ◌*◌, ◌≤◌, ℕ, zero, suc, Bool, true, false, List, [], ◌∷◌, Option, None, Some, refl, ap, sym, subst, arith, length, map, slice_get, slice_index_or, if◌then◌else◌}
-use Rattle.std.proofs.Math.Nat.{mul-le-mul_right, suc-mul}
+use Rattle.std.proofs.Math.Nat.{suc-mul}
 use Rattle.snl_output.specs.Lines.{go_line}
 use Rattle.snl_meaning.specs.declared.instrs.Instr.{Instr}
 use Rattle.snl_meaning.specs.Endings.{IsOver}
@@ -23,10 +23,11 @@ use Rattle.snl_schedule.specs.Turn.{State, StateSet, no_state, nothing, state_in
 use Rattle.snl_meaning.specs.Counts.{StepsAreBounded}
 use Rattle.snl_machine.proofs.Costs.{paid, Costs, costs-also, costs-between, costs-told, costs-nothing, costs-from, costs-then, costs-last, held-still, left-costs, block-costs, refreshed-still}
 
--- The condition of a clause takes no more steps than lie in the code from an address up to the clause's block.
+-- The condition of a clause takes no more steps than lie in the code from an address up to the clause's block, and what the
+-- ticks that it spends pay for.
 pub record IsTested (g : PieceContext) (code : List Instr) (from : ℕ) (c : ClausePlan) : Type 0 where
   pub within : c.block ≤ length code
-  pub test : (w : World) → held_steps g code c.condition w + from ≤ c.block
+  pub test : (w : World) → held_steps g code c.condition w + from + paid (length code) (world_after (held_at g code c.condition w)).ticks ≤ c.block + paid (length code) w.ticks
 
 -- The same of clauses one after another.
 abbrev pub AreTested : PieceContext → List Instr → ℕ → List ClausePlan → Type 0
@@ -135,30 +136,24 @@ module _ (bounded : StepsAreBounded) (g : PieceContext) (code : List Instr) (s :
       (w : World) → Costs len len w (chosen_steps g code (transition_steps g code s state) cs w + from) (then_do (chosen (map (clause_of g code) cs) w) (fired of state))
   chooses state from [] tested le over w = record { still = omega arith; fits = omega (arith, le) }
   chooses state from (c ∷ cs) tested le over w =
-      by (held_at g code c.condition w) (held-still g code c.condition w) (λ u. chooses state c.block cs tested.1 tested.0.within (λ d n is. over d (suc n) is) u)
+      by (held_at g code c.condition w) (held-still g code c.condition w) (tested.0.test w) (λ u. chooses state c.block cs tested.1 tested.0.within (λ d n is. over d (suc n) is) u)
     where
-      by : (r : Ran Bool) → (world_after r).ticks ≤ w.ticks →
+      by : (r : Ran Bool) → (world_after r).ticks ≤ w.ticks → held_steps g code c.condition w + from + paid len (world_after r).ticks ≤ c.block + paid len w.ticks →
           ((u : World) → Costs len len u (chosen_steps g code (transition_steps g code s state) cs u + c.block) (then_do (chosen (map (clause_of g code) cs) u) (fired of state))) →
           Costs len len w (held_steps g code c.condition w + steps_then r (chosen_if_steps (transition_steps g code s state c) (chosen_steps g code (transition_steps g code s state) cs)) + from)
           (then_do (then_do r (chosen_if (clause_of g code c) (chosen (map (clause_of g code) cs)))) (fired of state))
-      by (Gives true u text) still others =
+      by (Gives true u text) still test others =
           let t = fires state c (over c 0 refl) u in
-          let k : paid len u.ticks ≤ paid len w.ticks = mul-le-mul_right (3 * len) still in
-          let h = tested.0.test w in
           let b = tested.0.within in
           costs-also len len w (held_steps g code c.condition w + transition_steps g code s state c u + from) _ (transition of state (clause_of g code c) u)
-          (record { still = omega (arith, t.still, still); fits = omega (arith, t.fits, k, h, b) })
-      by (Gives false u text) still others =
+          (record { still = omega (arith, t.still, still); fits = omega (arith, t.fits, test, b) })
+      by (Gives false u text) still test others =
           let t = others u in
-          let k : paid len u.ticks ≤ paid len w.ticks = mul-le-mul_right (3 * len) still in
-          let h = tested.0.test w in
           costs-between len len w (held_steps g code c.condition w + chosen_steps g code (transition_steps g code s state) cs u + from) text (chosen (map (clause_of g code) cs) u) (fired of state)
-          (record { still = omega (arith, t.still, still); fits = omega (arith, t.fits, k, h) })
-      by (Faults f line u text) still others =
-          let k : paid len u.ticks ≤ paid len w.ticks = mul-le-mul_right (3 * len) still in
-          let h = tested.0.test w in
+          (record { still = omega (arith, t.still, still); fits = omega (arith, t.fits, test) })
+      by (Faults f line u text) still test others =
           let b = tested.0.within in
-          record { still = still; fits = omega (arith, k, h, b) }
+          record { still = still; fits = omega (arith, test, b) }
 
   -- the conditions of a state, and the transition
   tries : (from : ℕ) (w : World) → Costs len len w (tried_steps g code s from w) (tried of from w)

@@ -3,7 +3,7 @@ use Rattle.std.proofs.Common.{◌≡◌, ◌≤◌, ◌+◌, arith, ℕ, zero, s
 use Rattle.std.specs.Prelude.{slice_set, slice_index_or}
 use Rattle.snl_syntax.specs.Programs.{ProgramTree}
 use Rattle.snl_links.specs.Links.{Link}
-use Rattle.snl_code.specs.Heres.{here_in}
+use Rattle.snl_code.specs.Heres.{scene_in}
 use Rattle.snl_load.specs.Meaning.{program_meaning}
 use Rattle.snl_schedule.proofs.Answering.{answers_change_no_more}
 use Rattle.snl_machine.specs.Worlds.{last_state}
@@ -13,7 +13,7 @@ use Rattle.snl_machine.proofs.Whole.{line-keeps}
 use Rattle.snl_meaning.specs.declared.ties.Tied.{Tied}
 use Rattle.snl_meaning.specs.Keeping.{IsKept, PiecesKeep, world_after}
 use Rattle.snl_meaning.specs.Links.{home_of}
-use Rattle.snl_meaning.specs.Names.{Here}
+use Rattle.snl_meaning.specs.Scenes.{Scene}
 use Rattle.snl_meaning.specs.World.{SetMemory, World, no_copy, copy_of}
 use Rattle.snl_meaning.proofs.Keeping.{pieces-keep}
 use Rattle.snl_meaning.proofs.Ticks.{Any, any-may}
@@ -66,8 +66,8 @@ module _ (Is : (set state : ℕ) → Type 0) where
   }
 
   -- conditions and blocks
-  pub pieces-stay : (h : Here) → PiecesKeep h Stays
-  pieces-stay h = pieces-keep h Any Stays (any-may h) (states-kept h.set)
+  pub pieces-stay : (m : Scene) → PiecesKeep m Stays
+  pieces-stay m = pieces-keep m Any Stays (any-may m.here) (states-kept m.set)
 
   -- the refresh of a link
   link-stays : (set number : ℕ) (t : Tied) (w : World) → Stays w (refreshed_link set number t w)
@@ -108,7 +108,7 @@ module _ (p : ProgramTree) where
   states-steady = record {
     nothing = λ w h. h;
     both = λ u v w a b h. b (a h);
-    pieces = λ set. pieces-stay Exists (here_in p set);
+    pieces = λ set. pieces-stay Exists (scene_in p set);
     refreshes = λ set w. links-stay Exists set 0 w.ties w;
     enters = λ set state within is_timed w. copy-stays Exists set _ w (λ h. within);
     opens = λ w h. h;

@@ -12,7 +12,7 @@ use Rattle.snl_meaning.specs.Words.{noted}
 use Rattle.snl_meaning.specs.World.{Queue, SetMemory, World}
 use Rattle.snl_meaning.proofs.Keeping.{pieces-keep}
 use Rattle.snl_meaning.proofs.Ticks.{Any, any-may}
-use Rattle.snl_code.specs.Heres.{here_in}
+use Rattle.snl_code.specs.Heres.{here_in, scene_in}
 use Rattle.snl_load.specs.Meaning.{set_meaning, set_meanings, program_meaning}
 use Rattle.snl_meaning.specs.declared.ties.Tied.{Tied}
 use Rattle.snl_schedule.specs.declared.transitions.Turned.{Turned}
@@ -29,7 +29,7 @@ use Rattle.snl_machine.proofs.Turning.{Keeps, Stands, Turns, IsSteadyOn, after-t
 pub record IsSteady (p : ProgramTree) (R S : World → World → Type 0) : Type 0 where
   pub nothing : (w : World) → R w w
   pub both : (u v w : World) → R u v → R v w → R u w
-  pub pieces : (set : ℕ) → PiecesKeep (here_in p set) R
+  pub pieces : (set : ℕ) → PiecesKeep (scene_in p set) R
   pub refreshes : (set : ℕ) (w : World) → R w (refreshed set w)
   pub enters : (set state : ℕ) → state ≤ last_state p set → (is_timed : Bool) (w : World) → R w (entered_in set state is_timed w)
   -- at the beginning of a round no due time is noted
@@ -108,7 +108,7 @@ module _ (R S : World → World → Type 0) (s : IsLoose R S) where
   loosely p = record {
     nothing = s.nothing;
     both = s.both;
-    pieces = λ set. pieces-keep (here_in p set) Any R (any-may (here_in p set)) (kept set);
+    pieces = λ set. pieces-keep (scene_in p set) Any R (any-may (here_in p set)) (kept set);
     refreshes = λ set w. links-keep set 0 w.ties w;
     enters = λ set state within is_timed w. s.copies _ w;
     opens = s.opens;

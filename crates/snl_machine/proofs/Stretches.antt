@@ -1,5 +1,6 @@
 -- The conditions of each state of a program lie beside each other in its code.
-use Rattle.std.proofs.Common.{◌≡◌, ◌∙◌, ◌≤◌, ◌+◌, ℕ, zero, suc, ℤ, Bool, true, false, if◌then◌else◌, List, [], ◌∷◌, Option, None, Some, refl, ap, sym, subst, arith, length, map, take, slice_get, option_map, option_and_then, unwrap_or}
+use Rattle.std.proofs.Common.{◌≡◌, ◌∙◌, ◌≤◌, ◌+◌, ◌*◌, ℕ, zero, suc, ℤ, Bool, true, false, if◌then◌else◌, List, [], ◌∷◌, Option, None, Some, refl, ap, sym, subst, arith, length, map, take, slice_get, option_map, option_and_then, unwrap_or}
+use Rattle.std.proofs.Math.Nat.{mul-le-mul_right}
 use Rattle.snl_text.specs.declared.tokens.Token.{Token}
 use Rattle.snl_syntax.specs.Expressions.{ExprTree}
 use Rattle.snl_syntax.specs.Programs.{ClauseTree, StateTree, StateSetTree, ProgramTree}
@@ -8,14 +9,14 @@ use Rattle.snl_code.specs.declared.starts.ClauseStarts.{ClauseStarts}
 use Rattle.snl_code.specs.declared.starts.Piece.TheVariants.{Condition, Block}
 use Rattle.snl_code.specs.Apart.{IsStretch, IsAlone, AreApart}
 use Rattle.snl_code.specs.Depths.{program_depth}
-use Rattle.snl_code.specs.Heres.{here_in, name_by, states_by}
+use Rattle.snl_code.specs.Heres.{here_in, scene_in, name_by, states_by}
 use Rattle.snl_code.specs.Pieces.{IsPlaced, PieceTree, Test, piece_of, kept_piece, piece_depth, state_at}
 use Rattle.snl_code.specs.Starts.{StateTable, ProgramTable, table_of, state_in, is_held, holds_in, start_in}
 use Rattle.snl_code.proofs.Deepest.{depth_is_enough}
 use Rattle.snl_links.specs.Links.{Link}
 use Rattle.snl_meaning.specs.declared.instrs.Instr.{Instr}
 use Rattle.snl_meaning.specs.Endings.{IsOver}
-use Rattle.snl_meaning.specs.Keeping.{ConditionsKeepTicks, world_after}
+use Rattle.snl_meaning.specs.Keeping.{world_after}
 use Rattle.snl_meaning.specs.Names.{formats_of}
 use Rattle.snl_meaning.specs.Ran.{Ran, Gives, Faults, then_do}
 use Rattle.snl_meaning.specs.Run.{PieceContext, Exit, Over, context_of, run_of, steps_of}
@@ -25,10 +26,13 @@ use Rattle.snl_schedule.specs.declared.plans.ClausePlan.{ClausePlan}
 use Rattle.snl_schedule.specs.declared.plans.SetPlan.{SetPlan}
 use Rattle.snl_schedule.specs.declared.plans.StatePlan.{StatePlan}
 use Rattle.snl_schedule.specs.Loaded.{Loaded, context_in}
+use Rattle.snl_schedule.specs.Plans.{held_at}
 use Rattle.snl_schedule.specs.Steps.{held_steps}
 use Rattle.snl_load.specs.Plans.{PlainState, PlainSet, PlainPlan, state_view, set_view, clause_plan, clause_plans, clauses_if, state_plan, state_plans, set_plan, set_plans}
 use Rattle.snl_load.specs.Right.{IsLoadedOf}
 use Rattle.snl_meaning.specs.Counts.{StretchesAreBounded}
+use Rattle.snl_meaning.proofs.Counts.{run-keeps}
+use Rattle.snl_machine.proofs.Costs.{paid, three, held-ticks}
 use Rattle.snl_machine.proofs.Spent.{IsTested, AreTested}
 use Rattle.snl_machine.proofs.Instants.{AllTested}
 
@@ -40,11 +44,6 @@ ends_with z w = Gives (Over (z ∷ [])) w []
 over-ends : (r : Ran ℤ) → IsOver (then_do r ends_with)
 over-ends (Gives z w text) = tt
 over-ends (Faults f line w text) = tt
-
--- it changes no ticks
-after-ends : (r : Ran ℤ) → (world_after (then_do r ends_with)).ticks ≡ (world_after r).ticks
-after-ends (Gives z w text) = refl
-after-ends (Faults f line w text) = refl
 
 -- ---- what stands in a plan
 
@@ -83,7 +82,7 @@ sets-planned tb k (g ∷ gs) (plan ∷ plans) same = let rest : map set_view pla
 pub as-many : (p : ProgramTree) (ls : List Link) (waits : Bool) (c : Code) (t : Loaded) → IsLoadedOf p ls waits c t → length t.plan.sets.items ≡ length p.state_sets
 as-many p ls waits c t is = sets-planned (table_of c) 0 p.state_sets t.plan.sets.items (ap (λ (v : PlainPlan). v.sets) is.plan)
 
-module _ (stretches : StretchesAreBounded) (still : ConditionsKeepTicks) (p : ProgramTree) (ls : List Link) (waits : Bool) (c : Code) (t : Loaded) (is : IsLoadedOf p ls waits c t)
+module _ (stretches : StretchesAreBounded) (p : ProgramTree) (ls : List Link) (waits : Bool) (c : Code) (t : Loaded) (is : IsLoadedOf p ls waits c t)
     (apart : (set state : ℕ) (s : StateTree) (x : StateTable) → state_at p set state ≡ Some s → state_in (table_of c) set state ≡ Some x → x.is_reached ≡ true →
     AreApart p set c.instrs.items 0 s.clauses x.clauses) where
   -- the code
@@ -96,23 +95,24 @@ module _ (stretches : StretchesAreBounded) (still : ConditionsKeepTicks) (p : Pr
 
   -- what the code of a state set runs with
   abbrev context : ℕ → PieceContext
-  context set = context_of (here_in p set) t.room
+  context set = context_of (scene_in p set) t.room
 
   -- there is room for all pieces
   enough : program_depth p ≤ t.room
   enough = omega (arith, is.room, is.counted, is.code_is.depth)
 
-  -- a condition stays in its stretch
-  stays : (set from : ℕ) (e : ExprTree) (s : ClauseStarts) (h : IsStretch p set code from e s) → piece_depth (Test set e) ≤ t.room → (w : World) →
-      steps_of (context set) code h.start w + from ≤ s.block
+  -- a condition stays in its stretch, but for what its ticks pay for
+  stays : (set from : ℕ) (e : ExprTree) (s : ClauseStarts) (h : IsStretch p set code from e s) → piece_depth p (Test set e) ≤ t.room → (w : World) →
+      steps_of (context set) code h.start w + from + paid (length code) (world_after (run_of (context set) code h.start w)).ticks ≤ s.block + paid (length code) w.ticks
   stays set from e s h deep w =
       let g = context set in
-      let run : run_of g (take s.block code) h.start w ≡ then_do (value_of (here_in p set) e w) ends_with = (h.is t.room deep).is w in
-      let over = subst (λ (r : Ran Exit). IsOver r) (sym run) (over-ends (value_of (here_in p set) e w)) in
-      let same = ap (λ (r : Ran Exit). (world_after r).ticks) run ∙ after-ends (value_of (here_in p set) e w) ∙ still (here_in p set) e w in
-      let k = stretches g code s.block h.start w over same h.within in
+      let run : run_of g (take s.block code) h.start w ≡ then_do (value_of (scene_in p set) e w) ends_with = (h.is t.room deep).is w in
+      let over = subst (λ (r : Ran Exit). IsOver r) (sym run) (over-ends (value_of (scene_in p set) e w)) in
+      let k = stretches g code s.block h.start w over h.within in
+      let after = (world_after (run_of g code h.start w)).ticks in
+      let kept : after * length code ≤ w.ticks * length code = mul-le-mul_right (length code) (run-keeps g code (suc w.ticks * length code) h.start [] w) in
       let b = h.begins in
-      omega (arith, k, b)
+      omega (arith, k, b, kept, three after (length code), three w.ticks (length code))
 
   module _ (set state : ℕ) (st : StateTree) (x : StateTable) (at : state_at p set state ≡ Some st) (there : state_in tb set state ≡ Some x) (held : x.is_reached ≡ true) where
     -- the plan of a clause
@@ -156,17 +156,26 @@ module _ (stretches : StretchesAreBounded) (still : ConditionsKeepTicks) (p : Pr
     tested j from d s found starts = by d.condition refl
       where
         -- up to its block
-        to-block : (condition : Option ℕ) → start_in tb (Condition set state j) ≡ condition → s.block ≤ length code → ((w : World) → held_steps (context set) code condition w + from ≤ s.block) →
+        to-block : (condition : Option ℕ) → start_in tb (Condition set state j) ≡ condition → s.block ≤ length code →
+            ((w : World) → held_steps (context set) code condition w + from + paid (length code) (world_after (held_at (context set) code condition w)).ticks ≤ s.block + paid (length code) w.ticks) →
             IsTested (context set) code from (plan_of j d)
         to-block condition begins within test =
             let b = block-is j s starts in
-            record { within = omega (arith, b, within); test = λ w. let h = test w in let e = ap (λ (o : Option ℕ). held_steps (context set) code o w) begins in omega (arith, b, e, h) }
+            record {
+              within = omega (arith, b, within);
+              test = λ w.
+                  let h = test w in
+                  let e = ap (λ (o : Option ℕ). held_steps (context set) code o w) begins in
+                  let t = ap (λ (o : Option ℕ). paid (length code) (world_after (held_at (context set) code o w)).ticks) begins in
+                  omega (arith, b, e, t, h);
+            }
 
         by : (o : Option ExprTree) → d.condition ≡ o → IsAlone p set code from o s → IsTested (context set) code from (plan_of j d)
         by None none alone = let le = alone.0 in to-block None (none-is j (piece-is j d found ∙ ap (option_map (Test set)) none)) alone.1 (λ w. omega (arith, le))
         by (Some e) some alone =
             let deep = depth_is_enough p (Condition set state j) (Test set e) (piece-is j d found ∙ ap (option_map (Test set)) some) in
-            to-block (Some alone.start) (condition-is j s starts ∙ alone.there) alone.within (λ w. stays set from e s alone (omega (arith, deep, enough)) w)
+            to-block (Some alone.start) (condition-is j s starts ∙ alone.there) alone.within
+            (λ w. let h = stays set from e s alone (omega (arith, deep, enough)) w in let t = ap (paid (length code)) (held-ticks (context set) code alone.start w) in omega (arith, h, t))
 
     -- clauses with numbers from j on
     rows-tested : (j from : ℕ) (ds : List ClauseTree) (ss : List ClauseStarts) → ((i n : ℕ) (d : ClauseTree) → n ≡ j + i → slice_get ds i ≡ Some d → slice_get st.clauses n ≡ Some d) →

@@ -6,6 +6,7 @@ use Rattle.snl_syntax.specs.Statements.{StatementTree, StatementList, BlockTree,
 use Rattle.snl_rules.specs.Reach.{targets_in_statement, targets_in_statements, targets_in_block}
 use Rattle.snl_meaning.specs.Effect.{Way, Done, Broken, Continued, Left, ends, done, if_done, unless_broken, held_by, evaluated, turned, turns, looped, names_of, entered, effect_of, effects_of, block_effect}
 use Rattle.snl_meaning.specs.Names.{Here, state_number}
+use Rattle.snl_meaning.specs.Scenes.{Scene}
 use Rattle.snl_meaning.specs.Ran.{Ran, Gives, Faults, also, then_do}
 use Rattle.snl_meaning.specs.Value.{value_of, either}
 use Rattle.snl_meaning.specs.Words.{spent}
@@ -89,35 +90,36 @@ module _ (h : Here) (Is : ℕ → Type 0) where
   pub behind : (xs ys : List Token) → NameOnly h Is (xs ++ ys) → NameOnly h Is ys
   behind xs ys all x among = all x (Contains-append_right xs ys x among)
 
+module _ (m : Scene) (Is : ℕ → Type 0) where
   mutual
     -- a statement
-    effect-leads : (s : StatementTree) → NameOnly h Is (targets_in_statement s) → (w : World) → Leads Is (effect_of h s w)
+    effect-leads : (s : StatementTree) → NameOnly m.here Is (targets_in_statement s) → (w : World) → Leads Is (effect_of m s w)
     effect-leads (nested b) all w = block-leads b all w
     effect-leads empty all w = tt
-    effect-leads (expression e) all w = leads-then Is (value_of h e w) done (λ z u. tt)
+    effect-leads (expression e) all w = leads-then Is (value_of m e w) done (λ z u. tt)
     effect-leads (break_loop t) all w = tt
     effect-leads (continue_loop t) all w = tt
     effect-leads (change_state t x) all w = all x (Contains-push [] x)
     effect-leads (return_with t e) all w = tt
     effect-leads (if_then c s) all w =
-        leads-then Is (value_of h c w) (either (effect_of h s) (ends Done)) (either-leads Is (effect_of h s) (ends Done) (λ u. effect-leads s all u) (λ u. tt))
+        leads-then Is (value_of m c w) (either (effect_of m s) (ends Done)) (either-leads Is (effect_of m s) (ends Done) (λ u. effect-leads s all u) (λ u. tt))
     effect-leads (if_else c s e) all w =
-        let here = front (targets_in_statement s) (targets_in_statement e) all in
-        let there = behind (targets_in_statement s) (targets_in_statement e) all in
-        leads-then Is (value_of h c w) (either (effect_of h s) (effect_of h e)) (either-leads Is (effect_of h s) (effect_of h e) (λ u. effect-leads s here u) (λ u. effect-leads e there u))
-    effect-leads (while_loop t c s) all w = turns-lead Is t.pos.line (held_by h (Some c)) (effect_of h s) (evaluated h None) (λ u. effect-leads s all u) (suc w.ticks) w
+        let here = front m.here Is (targets_in_statement s) (targets_in_statement e) all in
+        let there = behind m.here Is (targets_in_statement s) (targets_in_statement e) all in
+        leads-then Is (value_of m c w) (either (effect_of m s) (effect_of m e)) (either-leads Is (effect_of m s) (effect_of m e) (λ u. effect-leads s here u) (λ u. effect-leads e there u))
+    effect-leads (while_loop t c s) all w = turns-lead Is t.pos.line (held_by m (Some c)) (effect_of m s) (evaluated m None) (λ u. effect-leads s all u) (suc w.ticks) w
     effect-leads (for_loop t parts s) all w =
-        leads-then Is (evaluated h parts.start w) (λ _ u. looped t.pos.line (held_by h parts.condition) (effect_of h s) (evaluated h parts.step) u)
-        (λ _ u. turns-lead Is t.pos.line (held_by h parts.condition) (effect_of h s) (evaluated h parts.step) (λ v. effect-leads s all v) (suc u.ticks) u)
+        leads-then Is (evaluated m parts.start w) (λ _ u. looped t.pos.line (held_by m parts.condition) (effect_of m s) (evaluated m parts.step) u)
+        (λ _ u. turns-lead Is t.pos.line (held_by m parts.condition) (effect_of m s) (evaluated m parts.step) (λ v. effect-leads s all v) (suc u.ticks) u)
 
     -- statements in a row
-    effects-lead : (ss : StatementList) → NameOnly h Is (targets_in_statements ss) → (w : World) → Leads Is (effects_of h ss w)
+    effects-lead : (ss : StatementList) → NameOnly m.here Is (targets_in_statements ss) → (w : World) → Leads Is (effects_of m ss w)
     effects-lead no_statements all w = tt
     effects-lead (statement s rest) all w =
-        let here = front (targets_in_statement s) (targets_in_statements rest) all in
-        let there = behind (targets_in_statement s) (targets_in_statements rest) all in
-        leads-after Is (effect_of h s w) (if_done (effects_of h rest)) (effect-leads s here w) (done-leads Is (effects_of h rest) (λ u. effects-lead rest there u))
+        let here = front m.here Is (targets_in_statement s) (targets_in_statements rest) all in
+        let there = behind m.here Is (targets_in_statement s) (targets_in_statements rest) all in
+        leads-after Is (effect_of m s w) (if_done (effects_of m rest)) (effect-leads s here w) (done-leads Is (effects_of m rest) (λ u. effects-lead rest there u))
 
     -- a block
-    pub block-leads : (b : BlockTree) → NameOnly h Is (targets_in_block b) → (w : World) → Leads Is (block_effect h b w)
-    block-leads (block ds ss) all w = leads-then Is (entered h (names_of ds) w) (λ _ u. effects_of h ss u) (λ _ u. effects-lead ss all u)
+    pub block-leads : (b : BlockTree) → NameOnly m.here Is (targets_in_block b) → (w : World) → Leads Is (block_effect m b w)
+    block-leads (block ds ss) all w = leads-then Is (entered m (names_of ds) w) (λ _ u. effects_of m ss u) (λ _ u. effects-lead ss all u)

@@ -4,7 +4,7 @@ use Rattle.std.specs.List.{sum_by}
 use Rattle.snl_syntax.specs.Programs.{ProgramTree}
 use Rattle.snl_code.specs.Depths.{program_depth}
 use Rattle.snl_links.specs.Links.{Link}
-use Rattle.snl_load.specs.Initials.{held_sets}
+use Rattle.snl_code.specs.Copies.{held_sets}
 use Rattle.snl_load.specs.Places.{channels, flags_in}
 use Rattle.snl_machine.specs.declared.machine.Machine.{Machine}
 use Rattle.snl_machine.specs.MachineOf.{IsMachineOf, words_held}

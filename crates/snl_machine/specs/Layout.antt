@@ -1,6 +1,6 @@
 -- Laws of layout: a world keeps the variables of a copy, and the buffers of all links, as flat lists of words. What was stored is
 -- read where it was stored, and everything else is as before.
-use Rattle.std.specs.Prelude.{◌≡◌, ◌<◌, ◌≤◌, ◌+◌, ◌-◌, ◌^◌, ◌⊎◌, Bool, true, false, ℕ, ℤ, pos, List, [], ◌∷◌, ◌++◌, length, take, drop, replicate, Some, slice_get, slice_set, slice_index_or}
+use Rattle.std.specs.Prelude.{◌≡◌, ◌<◌, ◌≤◌, ◌+◌, ◌-◌, ◌^◌, ◌⊎◌, Bool, true, false, ℕ, ℤ, pos, List, [], ◌∷◌, ◌++◌, length, take, drop, replicate, None, Some, slice_get, slice_set, slice_index_or}
 use Rattle.snl_syntax.specs.Programs.{ProgramTree}
 use Rattle.snl_links.specs.Links.{Link}
 use Rattle.snl_load.specs.Meaning.{program_meaning}
@@ -11,8 +11,9 @@ use Rattle.snl_meaning.specs.declared.instrs.Variable.{Variable}
 use Rattle.snl_meaning.specs.declared.names.Placed.{Placed}
 use Rattle.snl_meaning.specs.declared.ties.Tied.{Tied}
 use Rattle.snl_meaning.specs.Laws.{words_of}
-use Rattle.snl_meaning.specs.Links.{home_of, elements_at, with_elements, buffer_of, with_buffer, queue_of}
+use Rattle.snl_meaning.specs.Links.{home_of, elements_at, with_elements, buffer_of, with_buffer, queue_of, is_queued}
 use Rattle.snl_meaning.specs.Names.{placed_from, variable_in}
+use Rattle.snl_meaning.specs.Queues.{put_in}
 use Rattle.snl_meaning.specs.World.{World, copy_of, is_set, element_of, words_at, with_element, with_zeros}
 use Rattle.snl_resolve.specs.Variables.{Held, variables_of}
 use Rattle.snl_schedule.specs.Arrivals.{is_of, received}
@@ -114,15 +115,44 @@ pub record BuffersAreCells : Type 0 where
 
 -- ---- feeds
 
+-- A link is a monitored one of a channel, and has this number.
+abbrev pub IsMonitored : ProgramTree → List Link → (channel i : ℕ) → Tied → Type 0
+IsMonitored p ls channel i t = (slice_get (ties_in p ls) i ≡ Some t) × (is_of channel t ≡ true) × (t.is_monitored ≡ true)
+
+-- A world has a mark of a link for a state set, set or not.
+abbrev pub HasMark : (set link : ℕ) → World → Type 0
+HasMark set link w = link < length (slice_index_or w.marks set [])
+
+-- The queue of a link and its marks are as before.
+abbrev pub QueueAndMarksStay : (link : ℕ) → World → World → Type 0
+QueueAndMarksStay link w u = (queue_of link u ≡ queue_of link w) × ((set : ℕ) → is_marked set link u ≡ is_marked set link w)
+
+-- A link with a queue got an item: its whole buffer, with what came, is the newest one. A full queue lost what was its newest item
+-- before. All else of the queue, and the link's marks, are as before.
+pub record IsEnqueued (link : ℕ) (t : Tied) (w u : World) : Type 0 where
+  pub queue : let q = queue_of link w in q.width ≡ t.count → queue_of link u ≡ record q { items = put_in q.size (buffer_of t u) q.items }
+  pub marks : (set : ℕ) → is_marked set link u ≡ is_marked set link w
+
+-- A link without a queue is marked for each state set whose copy has its variable, if the world has that mark. Its marks for
+-- other state sets are as before, and so is its queue.
+pub record IsAllMarked (link : ℕ) (w u : World) : Type 0 where
+  pub marks : (set place : ℕ) → home_of set link w ≡ Some place → HasMark set link w → is_marked set link u ≡ true
+  pub others : (set : ℕ) → home_of set link w ≡ None → is_marked set link u ≡ is_marked set link w
+  pub queue : queue_of link u ≡ queue_of link w
+
 -- What is known after values of a channel came. Each link of the channel has them in its buffer: missing ones leave what was
--- there, surplus ones are dropped. All else that changes is that the channel was valued, and the queues, marks and event flags of
--- links of the channel: buffers, queues and marks of other links, other event flags, and all the rest are as before.
+-- there, surplus ones are dropped. If it is monitored, its queue got the whole buffer as an item, or it is marked where it has no
+-- queue, and its event flag is set. All else that changes is that the channel was valued: queues and marks of links of the channel
+-- that are not monitored, buffers, queues and marks of other links, other event flags, and all the rest are as before.
 pub record IsFed (p : ProgramTree) (ls : List Link) (channel : ℕ) (values : List ℤ) (w u : World) : Type 0 where
   pub own : (i : ℕ) (t : Tied) → slice_get (ties_in p ls) i ≡ Some t → is_of channel t ≡ true →
       buffer_of t u ≡ take t.count values ++ drop (length (take t.count values)) (buffer_of t w)
-  pub others : (i : ℕ) (t : Tied) → slice_get (ties_in p ls) i ≡ Some t → is_of channel t ≡ false →
-      (buffer_of t u ≡ buffer_of t w) × (queue_of i u ≡ queue_of i w) × ((set : ℕ) → is_marked set i u ≡ is_marked set i w)
-  pub flags : (flag : ℕ) → ((i : ℕ) (t : Tied) → slice_get (ties_in p ls) i ≡ Some t → is_of channel t ≡ true → t.flag ≡ Some flag → ⊥) → is_set flag u ≡ is_set flag w
+  pub queued : (i : ℕ) (t : Tied) → IsMonitored p ls channel i t → is_queued i w ≡ true → IsEnqueued i t w u
+  pub marked : (i : ℕ) (t : Tied) → IsMonitored p ls channel i t → is_queued i w ≡ false → IsAllMarked i w u
+  pub flagged : (i flag : ℕ) (t : Tied) → IsMonitored p ls channel i t → t.flag ≡ Some flag → flag < length w.flags → is_set flag u ≡ true
+  pub unmonitored : (i : ℕ) (t : Tied) → slice_get (ties_in p ls) i ≡ Some t → is_of channel t ≡ true → t.is_monitored ≡ false → QueueAndMarksStay i w u
+  pub others : (i : ℕ) (t : Tied) → slice_get (ties_in p ls) i ≡ Some t → is_of channel t ≡ false → (buffer_of t u ≡ buffer_of t w) × QueueAndMarksStay i w u
+  pub flags : (flag : ℕ) → ((i : ℕ) (t : Tied) → IsMonitored p ls channel i t → t.flag ≡ Some flag → ⊥) → is_set flag u ≡ is_set flag w
   pub valued : u.valued ≡ slice_set w.valued channel true
   pub rest : record u { valued = w.valued; buffers = w.buffers; queues = w.queues; marks = w.marks; flags = w.flags } ≡ w
 
@@ -134,13 +164,14 @@ FeedsFillBuffers = (p : ProgramTree) (ls : List Link) (waits : Bool) (channel : 
 -- ---- refreshes
 
 -- What is known after a refresh of a state set. A marked link whose variable the copy has, and whose elements no other one ties, has
--- in them what its buffer has. Each element that no marked link ties, the marks of other state sets, other copies and all the rest
--- are as before.
+-- in them what its buffer has. No link is marked for the state set any more. Each element that no marked link ties, the marks of
+-- other state sets, other copies and all the rest are as before.
 pub record IsRefreshed (p : ProgramTree) (ls : List Link) (set : ℕ) (w u : World) : Type 0 where
   pub fresh : (i place : ℕ) (t : Tied) → slice_get (ties_in p ls) i ≡ Some t → is_marked set i w ≡ true → home_of set i w ≡ Some place → IsAlone p ls set w i →
       elements_at set place t u ≡ buffer_of t w
   pub elements : ElementsStay p set (λ j m. (i : ℕ) × (is_marked set i w ≡ true) × IsTiedTo p ls set i j m) w u
   pub copies : CopiesStay set w u
+  pub cleared : (i : ℕ) → i < length (ties_in p ls) → is_marked set i u ≡ false
   pub marks : (other i : ℕ) → (set ≡ other → ⊥) → is_marked other i u ≡ is_marked other i w
   pub rest : record u { copies = w.copies; marks = w.marks } ≡ w
 

@@ -35,11 +35,11 @@ task_of p ls waits = record { program = program_meaning p ls waits; channels = c
 
 -- The world that a machine's run has come to.
 abbrev pub world_held : Machine → World
-world_held m = world_of m.store
+world_held m = world_of m.memory.store
 
 -- How many words it holds: those of its store, and the room of its operands.
 abbrev pub words_held : Machine → ℕ
-words_held m = store_words m.store + room_of m.operands
+words_held m = store_words m.memory.store + room_of m.memory.operands
 
 -- What no event changes of a machine: its plan, its code, the names of its channels, its budget, and how many words it holds.
 pub record Fixed : Type 0 where

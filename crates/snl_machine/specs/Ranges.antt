@@ -2,7 +2,8 @@
 -- than it can.
 use Rattle.std.specs.Prelude.{◌≡◌, ◌<◌, ◌≤◌, ◌+◌, ◌-◌, ◌^◌, ◌&&◌, int_le, Bool, true, ℕ, ℤ, pos, All, List, [], ◌∷◌, length, Some, slice_get, slice_index_or}
 use Rattle.snl_syntax.specs.Programs.{ProgramTree}
-use Rattle.snl_code.specs.Heres.{here_in}
+use Rattle.snl_code.specs.Copies.{held_sets}
+use Rattle.snl_code.specs.Heres.{scene_in}
 use Rattle.snl_schedule.specs.declared.events.Event.{Event}
 use Rattle.snl_schedule.specs.Event.{line_of, is_event_fit}
 use Rattle.snl_links.specs.Links.{Link}
@@ -13,7 +14,7 @@ use Rattle.snl_meaning.specs.Laws.{words_of}
 use Rattle.snl_meaning.specs.Names.{variable_in}
 use Rattle.snl_meaning.specs.World.{Queue, World, copy_of}
 use Rattle.snl_load.specs.First.{first_world_of}
-use Rattle.snl_load.specs.Initials.{held_among, held_sets}
+use Rattle.snl_load.specs.Initials.{held_among}
 use Rattle.snl_load.specs.Meaning.{program_meaning}
 use Rattle.snl_load.specs.Places.{placed_in, placed_sets, channels, ties_in, homes_in}
 use Rattle.snl_resolve.specs.Variables.{Held, variables_of}
@@ -90,7 +91,7 @@ FirstHolds = (p : ProgramTree) (ls : List Link) → IsSized p → IsTied p ls �
 
 -- What holds that before a condition or a block holds it after, also where the piece comes to a fault.
 abbrev pub PiecesFit : Type 0
-PiecesFit = (p : ProgramTree) (ls : List Link) (set : ℕ) → IsSized p → IsTied p ls → PiecesKeep (here_in p set) (λ w u. Holds p ls w → Holds p ls u)
+PiecesFit = (p : ProgramTree) (ls : List Link) (set : ℕ) → IsSized p → IsTied p ls → PiecesKeep (scene_in p set) (λ w u. Holds p ls w → Holds p ls u)
 
 -- A line of a trace keeps it: what holds that before an event that fits holds it after, also where the run comes to a fault.
 abbrev pub EventsFit : Type 0

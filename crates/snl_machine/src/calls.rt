@@ -4,6 +4,7 @@ ghost use Rattle.std.specs.Prelude.{◌≡◌, ◌↔◌, ◌-◌, ◌^◌, ◌<
 ghost use Rattle.snl_syntax.specs.Programs.{ProgramTree};
 ghost use Rattle.snl_links.specs.Links.{Link};
 ghost use Rattle.snl_load.specs.Meaning.{program_meaning};
+ghost use Rattle.snl_meaning.specs.Links.{home_of};
 ghost use Rattle.snl_schedule.specs.Event.{HasInstant, line_of};
 ghost use Rattle.snl_schedule.specs.Steps.{line_steps};
 ghost use Rattle.snl_vm.specs.Counting.{Adds};
@@ -41,11 +42,20 @@ impl Machine {
         }
     }
 
+    /// The word of a state set's copy where the elements of a link begin: with it who hears that a clause fired tells the value
+    /// of a variable among the words. State sets and links have the numbers from 0 on, in the order of their definitions. None
+    /// where the copy does not have the link's variable, or there is no such state set or link.
+    pub fn home(&self, set: usize, link: usize) -> Option<usize>
+        ensures { result ≡ home_of set link (world_held self.now) }
+    {
+        self.memory.store.home(set, link)
+    }
+
     /// The time of the last event, in milliseconds, or of the wake at which the program ended; 0 before the first event.
     pub fn time(&self) -> u64
         ensures { result ≡ (world_held self.now).time }
     {
-        self.store.time
+        self.memory.store.time
     }
 
     /// How many words the machine holds: the elements of variables, buffers and queues, and what it knows of state sets, links,
@@ -104,16 +114,8 @@ impl Machine {
             code: self.code.instrs(),
             formats: self.code.texts(),
             room: self.code.depth(),
+            budget: self.budget,
         };
-        take(
-            ms,
-            event,
-            &program,
-            self.budget,
-            &mut self.store,
-            &mut self.operands,
-            sink,
-            steps,
-        )
+        take(ms, event, &program, &mut self.memory, sink, steps)
     }
 }

@@ -40,8 +40,9 @@ pub fn ticks_within_budget()
     ensures { TicksWithinBudget }
 {}
 
-/// An instant takes no more steps than its budget and its state sets allow: with a budget B and n state sets
-/// `(B + 1)(n + 4) + n` times as many as the code has instructions.
+/// An instant takes no more steps than its budget and its source allow: with a budget B and n state sets at most
+/// `(B + 1)(n + 4) + n` times the size of the program, a number read off the source in which a state that cannot be reached
+/// counts 0.
 pub fn instants_are_bounded()
     ensures { InstantsAreBounded }
 {}

@@ -9,10 +9,11 @@ pub mod laws;
 mod loading;
 mod machine;
 mod making;
+mod telling;
 
 pub use loading::Loads;
 pub use machine::Machine;
-pub use snl_meaning::{Fault, Live};
-pub use snl_output::{Sink, SinkFault, Stop};
+pub use snl_meaning::{Fault, Live, Tied};
+pub use snl_output::{Fired, Refusal, Refused, Sink, SinkFault, Stop};
 pub use snl_schedule::{Event, VALUES_KEPT};
 pub use snl_vm::Steps;

@@ -1,4 +1,4 @@
-//! `Machine`: a program with its code and its store.
+//! `Machine`: a program with its code and the memory of its run.
 
 ghost use Rattle.std.specs.Prelude.{◌≡◌, ◌+◌};
 ghost use Rattle.snl_vm.specs.Footprint.{store_words};
@@ -10,9 +10,9 @@ ghost use Rattle.snl_schedule.proofs.Facts.{loaded-fact};
 use indexmap::IndexSet;
 use snl_code::Code;
 use snl_schedule::Plan;
-use snl_vm::{Operands, Store};
+use snl_vm::Memory;
 
-/// A program with its store. It owns all that it holds, and nothing of the source.
+/// A program with the memory of its run. It owns all that it holds, and nothing of the source.
 #[derive(Drop)]
 pub struct Machine {
     /// What the state sets and the links are.
@@ -22,11 +22,11 @@ pub struct Machine {
     pub(crate) names: IndexSet<Vec<u8>>,
     /// How many ticks an instant may take.
     pub(crate) budget: u32,
-    pub(crate) store: Store,
-    pub(crate) operands: Operands,
+    /// All that a run changes.
+    pub(crate) memory: Memory,
     /// How many words the store and the operands take.
     pub(crate) footprint: u64,
-    ghost words: { footprint ≡ store_words store + room_of operands },
-    ghost room: { room_of operands ≡ code.depth },
+    ghost words: { footprint ≡ store_words memory.store + room_of memory.operands },
+    ghost room: { room_of memory.operands ≡ code.depth },
     ghost runs: { CanRunLoaded (loaded_by plan code) } by { loaded-fact (loaded_by plan code) },
 }

@@ -6,17 +6,16 @@ use Rattle.snl_syntax.specs.Statements.{StatementTree, StatementList, BlockTree,
 use Rattle.snl_arithmetic.specs.Arithmetic.{is_zero}
 use Rattle.snl_meaning.specs.declared.instrs.Variable.{Variable}
 use Rattle.snl_meaning.specs.Effect.{Way, Done, Broken, Continued, Left, ends, done, if_done, unless_broken, holds, held_by, dropped, evaluated, turned, turns, looped, variable_for, cleared_maybe, all_cleared, begun, begun_with, values_of, all_begun, names_of, entered, effect_of, effects_of, block_effect}
-use Rattle.snl_meaning.specs.Names.{Here}
+use Rattle.snl_meaning.specs.Scenes.{Scene}
 use Rattle.snl_meaning.specs.Ran.{Ran, Gives, then_do}
 use Rattle.snl_meaning.specs.Value.{value_of, either}
 use Rattle.snl_meaning.specs.Words.{stored, spent}
 use Rattle.snl_meaning.specs.World.{World}
 use Rattle.snl_meaning.specs.Keeping.{IsKept, MayStore}
-use Rattle.snl_meaning.proofs.Changes.{by-values}
 use Rattle.snl_meaning.proofs.ValueKeeps.{value-keeps}
 use Rattle.snl_meaning.proofs.WordKeeps.{Keeps, KeepsOn, keeps-then, keeps-here, keeps-stored, keeps-spent, after-test, after-true}
 
-module _ (h : Here) (May : Variable → ℤ → Type 0) (R : World → World → Type 0) (may : MayStore h May) (kept : IsKept h.set May R) where
+module _ (m : Scene) (May : Variable → ℤ → Type 0) (R : World → World → Type 0) (may : MayStore m.here May) (kept : IsKept m.set May R) where
   -- what follows a statement
   if_done-keeps : (go : World → Ran Way) → Keeps R go → KeepsOn R (if_done go)
   if_done-keeps go k Done w = k w
@@ -36,29 +35,29 @@ module _ (h : Here) (May : Variable → ℤ → Type 0) (R : World → World →
   either-keeps held failed k j z w = after-test (R w) (is_zero z) _ _ (j w) (k w)
 
   -- a condition that may be missing
-  pub held-keeps : (o : Option ExprTree) → Keeps R (held_by h o)
+  pub held-keeps : (o : Option ExprTree) → Keeps R (held_by m o)
   held-keeps None w = kept.nothing w
-  held-keeps (Some e) w = keeps-then h.set May R (by-values kept) (value_of h e) holds (value-keeps h May R may (by-values kept) e) (λ z u. kept.nothing u) w
+  held-keeps (Some e) w = keeps-then m.set May R kept (value_of m e) holds (value-keeps m May R may kept e) (λ z u. kept.nothing u) w
 
   -- an expression for what it does
-  pub evaluated-keeps : (o : Option ExprTree) → Keeps R (evaluated h o)
+  pub evaluated-keeps : (o : Option ExprTree) → Keeps R (evaluated m o)
   evaluated-keeps None w = kept.nothing w
-  evaluated-keeps (Some e) w = keeps-then h.set May R (by-values kept) (value_of h e) dropped (value-keeps h May R may (by-values kept) e) (λ z u. kept.nothing u) w
+  evaluated-keeps (Some e) w = keeps-then m.set May R kept (value_of m e) dropped (value-keeps m May R may kept e) (λ z u. kept.nothing u) w
 
   -- a turn
   turned-keeps : (line : ℕ) (body go : World → Ran Way) → Keeps R body → Keeps R go → KeepsOn R (turned line body go)
   turned-keeps line body go k j false w = kept.nothing w
   turned-keeps line body go k j true w =
-      keeps-then h.set May R (by-values kept) (spent line) (λ _ u. then_do (body u) (unless_broken go)) (keeps-spent h.set May R (by-values kept) kept line)
-      (λ _. keeps-then h.set May R (by-values kept) body (unless_broken go) k (unless_broken-keeps go j)) w
+      keeps-then m.set May R kept (spent line) (λ _ u. then_do (body u) (unless_broken go)) (keeps-spent m.set May R kept line)
+      (λ _. keeps-then m.set May R kept body (unless_broken go) k (unless_broken-keeps go j)) w
 
   -- turns
   turns-keep : (line : ℕ) (condition : World → Ran Bool) (body : World → Ran Way) (step : World → Ran (Unit {0})) → Keeps R condition → Keeps R body → Keeps R step →
-      (m : ℕ) → Keeps R (turns m line condition body step)
+      (count : ℕ) → Keeps R (turns count line condition body step)
   turns-keep line condition body step c b s zero w = kept.nothing w
-  turns-keep line condition body step c b s (suc m) w =
-      keeps-then h.set May R (by-values kept) condition (turned line body (λ u. then_do (step u) (λ _ v. turns m line condition body step v))) c
-      (turned-keeps line body _ b (keeps-then h.set May R (by-values kept) step (λ _ v. turns m line condition body step v) s (λ _. turns-keep line condition body step c b s m))) w
+  turns-keep line condition body step c b s (suc count) w =
+      keeps-then m.set May R kept condition (turned line body (λ u. then_do (step u) (λ _ v. turns count line condition body step v))) c
+      (turned-keeps line body _ b (keeps-then m.set May R kept step (λ _ v. turns count line condition body step v) s (λ _. turns-keep line condition body step c b s count))) w
 
   -- a loop
   pub looped-keeps : (line : ℕ) (condition : World → Ran Bool) (body : World → Ran Way) (step : World → Ran (Unit {0})) → Keeps R condition → Keeps R body → Keeps R step →
@@ -66,72 +65,72 @@ module _ (h : Here) (May : Variable → ℤ → Type 0) (R : World → World →
   looped-keeps line condition body step c b s w = turns-keep line condition body step c b s (suc w.ticks) w
 
   -- a variable of a block
-  cleared-keeps : (d : DeclaratorTree) (o : Option Variable) → variable_for h d ≡ o → Keeps R (cleared_maybe h.set o)
+  cleared-keeps : (d : DeclaratorTree) (o : Option Variable) → variable_for m.here d ≡ o → Keeps R (cleared_maybe m.set o)
   cleared-keeps d None is w = kept.nothing w
   cleared-keeps d (Some v) is w = kept.clears v w (may.first d.name.pos.offset v is)
 
   -- what a variable begins with
-  begun-keeps : (d : DeclaratorTree) (o : Option Variable) (line k : ℕ) → variable_for h d ≡ o → KeepsOn R (begun h.set o line k)
+  begun-keeps : (d : DeclaratorTree) (o : Option Variable) (line k : ℕ) → variable_for m.here d ≡ o → KeepsOn R (begun m.set o line k)
   begun-keeps d None line k is z w = kept.nothing w
   begun-keeps d (Some v) line k is z w =
-      after-true (R w) (nat_lt k v.size) (stored h.set v line (pos k) z w) (Gives z w [])
-      (λ within. keeps-stored h.set May R (by-values kept) v line (pos k) (may.element d.name.pos.offset v (pos k) is within) z w) (kept.nothing w)
+      after-true (R w) (nat_lt k v.size) (stored m.set v line (pos k) z w) (Gives z w [])
+      (λ within. keeps-stored m.set May R kept v line (pos k) (may.element d.name.pos.offset v (pos k) is within) z w) (kept.nothing w)
 
   -- all variables of a block are 0
-  all_cleared-keeps : (ds : List DeclaratorTree) → Keeps R (all_cleared h ds)
+  all_cleared-keeps : (ds : List DeclaratorTree) → Keeps R (all_cleared m ds)
   all_cleared-keeps [] w = kept.nothing w
   all_cleared-keeps (d ∷ ds) w =
-      keeps-then h.set May R (by-values kept) (cleared_maybe h.set (variable_for h d)) (λ _ u. all_cleared h ds u) (cleared-keeps d (variable_for h d) refl) (λ _. all_cleared-keeps ds) w
+      keeps-then m.set May R kept (cleared_maybe m.set (variable_for m.here d)) (λ _ u. all_cleared m ds u) (cleared-keeps d (variable_for m.here d) refl) (λ _. all_cleared-keeps ds) w
 
   -- the values of one
-  begun_with-keeps : (d : DeclaratorTree) (k : ℕ) (es : List ExprTree) → Keeps R (begun_with h d k es)
+  begun_with-keeps : (d : DeclaratorTree) (k : ℕ) (es : List ExprTree) → Keeps R (begun_with m d k es)
   begun_with-keeps d k [] w = kept.nothing w
   begun_with-keeps d k (e ∷ es) w =
-      keeps-then h.set May R (by-values kept) (λ u. then_do (value_of h e u) (begun h.set (variable_for h d) d.name.pos.line k)) (λ _ u. begun_with h d (suc k) es u)
-      (keeps-then h.set May R (by-values kept) (value_of h e) (begun h.set (variable_for h d) d.name.pos.line k) (value-keeps h May R may (by-values kept) e)
-      (begun-keeps d (variable_for h d) d.name.pos.line k refl)) (λ _. begun_with-keeps d (suc k) es) w
+      keeps-then m.set May R kept (λ u. then_do (value_of m e u) (begun m.set (variable_for m.here d) d.name.pos.line k)) (λ _ u. begun_with m d (suc k) es u)
+      (keeps-then m.set May R kept (value_of m e) (begun m.set (variable_for m.here d) d.name.pos.line k) (value-keeps m May R may kept e)
+      (begun-keeps d (variable_for m.here d) d.name.pos.line k refl)) (λ _. begun_with-keeps d (suc k) es) w
 
   -- the values of all
-  all_begun-keeps : (ds : List DeclaratorTree) → Keeps R (all_begun h ds)
+  all_begun-keeps : (ds : List DeclaratorTree) → Keeps R (all_begun m ds)
   all_begun-keeps [] w = kept.nothing w
   all_begun-keeps (d ∷ ds) w =
-      keeps-then h.set May R (by-values kept) (begun_with h d 0 (values_of d.initial)) (λ _ u. all_begun h ds u) (begun_with-keeps d 0 (values_of d.initial)) (λ _. all_begun-keeps ds) w
+      keeps-then m.set May R kept (begun_with m d 0 (values_of d.initial)) (λ _ u. all_begun m ds u) (begun_with-keeps d 0 (values_of d.initial)) (λ _. all_begun-keeps ds) w
 
   -- the entry of a block
-  entered-keeps : (ds : List DeclaratorTree) → Keeps R (entered h ds)
-  entered-keeps ds w = keeps-then h.set May R (by-values kept) (all_cleared h ds) (λ _ u. all_begun h ds u) (all_cleared-keeps ds) (λ _. all_begun-keeps ds) w
+  entered-keeps : (ds : List DeclaratorTree) → Keeps R (entered m ds)
+  entered-keeps ds w = keeps-then m.set May R kept (all_cleared m ds) (λ _ u. all_begun m ds u) (all_cleared-keeps ds) (λ _. all_begun-keeps ds) w
 
   mutual
     -- a statement
-    pub effect-keeps : (s : StatementTree) → Keeps R (effect_of h s)
+    pub effect-keeps : (s : StatementTree) → Keeps R (effect_of m s)
     effect-keeps (nested b) w = block-keeps b w
     effect-keeps empty w = kept.nothing w
-    effect-keeps (expression e) w = keeps-then h.set May R (by-values kept) (value_of h e) done (value-keeps h May R may (by-values kept) e) (λ z u. kept.nothing u) w
+    effect-keeps (expression e) w = keeps-then m.set May R kept (value_of m e) done (value-keeps m May R may kept e) (λ z u. kept.nothing u) w
     effect-keeps (break_loop t) w = kept.nothing w
     effect-keeps (continue_loop t) w = kept.nothing w
     effect-keeps (change_state t x) w = kept.nothing w
     effect-keeps (return_with t e) w = kept.nothing w
     effect-keeps (if_then c s) w =
-        keeps-then h.set May R (by-values kept) (value_of h c) (either (effect_of h s) (ends Done)) (value-keeps h May R may (by-values kept) c)
-        (either-keeps (effect_of h s) (ends Done) (effect-keeps s) (keeps-here h.set May R (by-values kept) Done)) w
+        keeps-then m.set May R kept (value_of m c) (either (effect_of m s) (ends Done)) (value-keeps m May R may kept c)
+        (either-keeps (effect_of m s) (ends Done) (effect-keeps s) (keeps-here m.set May R kept Done)) w
     effect-keeps (if_else c s e) w =
-        keeps-then h.set May R (by-values kept) (value_of h c) (either (effect_of h s) (effect_of h e)) (value-keeps h May R may (by-values kept) c)
-        (either-keeps (effect_of h s) (effect_of h e) (effect-keeps s) (effect-keeps e)) w
+        keeps-then m.set May R kept (value_of m c) (either (effect_of m s) (effect_of m e)) (value-keeps m May R may kept c)
+        (either-keeps (effect_of m s) (effect_of m e) (effect-keeps s) (effect-keeps e)) w
     effect-keeps (while_loop t c s) w =
-        looped-keeps t.pos.line (held_by h (Some c)) (effect_of h s) (evaluated h None) (held-keeps (Some c)) (effect-keeps s) (evaluated-keeps None) w
+        looped-keeps t.pos.line (held_by m (Some c)) (effect_of m s) (evaluated m None) (held-keeps (Some c)) (effect-keeps s) (evaluated-keeps None) w
     effect-keeps (for_loop t parts s) w =
-        keeps-then h.set May R (by-values kept) (evaluated h parts.start)
-        (λ _ u. looped t.pos.line (held_by h parts.condition) (effect_of h s) (evaluated h parts.step) u)
+        keeps-then m.set May R kept (evaluated m parts.start)
+        (λ _ u. looped t.pos.line (held_by m parts.condition) (effect_of m s) (evaluated m parts.step) u)
         (evaluated-keeps parts.start)
-        (λ _. looped-keeps t.pos.line (held_by h parts.condition) (effect_of h s) (evaluated h parts.step) (held-keeps parts.condition) (effect-keeps s) (evaluated-keeps parts.step)) w
+        (λ _. looped-keeps t.pos.line (held_by m parts.condition) (effect_of m s) (evaluated m parts.step) (held-keeps parts.condition) (effect-keeps s) (evaluated-keeps parts.step)) w
 
     -- statements in a row
-    pub effects-keep : (all : StatementList) → Keeps R (effects_of h all)
+    pub effects-keep : (all : StatementList) → Keeps R (effects_of m all)
     effects-keep no_statements w = kept.nothing w
     effects-keep (statement s rest) w =
-        keeps-then h.set May R (by-values kept) (effect_of h s) (if_done (effects_of h rest)) (effect-keeps s) (if_done-keeps (effects_of h rest) (effects-keep rest)) w
+        keeps-then m.set May R kept (effect_of m s) (if_done (effects_of m rest)) (effect-keeps s) (if_done-keeps (effects_of m rest) (effects-keep rest)) w
 
     -- a block
-    pub block-keeps : (b : BlockTree) → Keeps R (block_effect h b)
+    pub block-keeps : (b : BlockTree) → Keeps R (block_effect m b)
     block-keeps (block ds all) w =
-        keeps-then h.set May R (by-values kept) (entered h (names_of ds)) (λ _ u. effects_of h all u) (entered-keeps (names_of ds)) (λ _. effects-keep all) w
+        keeps-then m.set May R kept (entered m (names_of ds)) (λ _ u. effects_of m all u) (entered-keeps (names_of ds)) (λ _. effects-keep all) w

@@ -6,7 +6,7 @@ use Rattle.snl_syntax.specs.Declarations.{DeclaratorTree}
 use Rattle.snl_meaning.specs.declared.instrs.Variable.{Variable}
 use Rattle.snl_meaning.specs.Effect.{variable_for, cleared_maybe, all_cleared, all_begun, names_of, effects_of}
 use Rattle.snl_meaning.specs.Laws.{BlocksForget}
-use Rattle.snl_meaning.specs.Names.{Here}
+use Rattle.snl_meaning.specs.Scenes.{Scene}
 use Rattle.snl_meaning.specs.Ran.{Ran, also, then_do}
 use Rattle.snl_meaning.specs.World.{SetMemory, World, no_copy, zeroed, with_element, with_zeros}
 
@@ -87,15 +87,15 @@ zeros-forget set v k z w within =
     same-changes (λ l. slice_set l (v.place + k) z) (λ l. zeroed l v.place v.size) (λ l. zeroed l v.place v.size) set w (λ l. zeroed-within v.size k l v.place z within)
 
 -- the variables of a block are 0: one of them has the element
-module _ (h : Here) (d : DeclaratorTree) (v : Variable) (k : ℕ) (z : ℤ) (is : variable_for h d ≡ Some v) (within : k < v.size) where
+module _ (m : Scene) (d : DeclaratorTree) (v : Variable) (k : ℕ) (z : ℤ) (is : variable_for m.here d ≡ Some v) (within : k < v.size) where
   -- what is done about a variable, and then about others
   abbrev next : List DeclaratorTree → Unit {0} → World → Ran (Unit {0})
-  next es _ u = all_cleared h es u
+  next es _ u = all_cleared m es u
 
   -- after one variable is 0 that may be another, if the others forget the element
   forgets-after : (es : List DeclaratorTree) (w : World) (o : Option Variable) →
-      ((u : World) → all_cleared h es (with_element h.set v k z u) ≡ all_cleared h es u) →
-      then_do (cleared_maybe h.set o (with_element h.set v k z w)) (next es) ≡ then_do (cleared_maybe h.set o w) (next es)
+      ((u : World) → all_cleared m es (with_element m.set v k z u) ≡ all_cleared m es u) →
+      then_do (cleared_maybe m.set o (with_element m.set v k z w)) (next es) ≡ then_do (cleared_maybe m.set o w) (next es)
   forgets-after es w None others = ap (also []) (others w)
   forgets-after es w (Some x) others = ap (also []) (by (zeroed-set x.size c.words (v.place + k) x.place z))
     where
@@ -106,33 +106,33 @@ module _ (h : Here) (d : DeclaratorTree) (v : Variable) (k : ℕ) (z : ℤ) (is 
       g l = zeroed l x.place x.size
 
       c : SetMemory
-      c = slice_index_or w.copies h.set no_copy
+      c = slice_index_or w.copies m.set no_copy
 
       put : List ℤ → World
-      put l = record w { copies = slice_set w.copies h.set (record c { words = l }) }
+      put l = record w { copies = slice_set w.copies m.set (record c { words = l }) }
 
-      first : with_zeros h.set x (with_element h.set v k z w) ≡ put (g (f c.words))
-      first = ap (λ cs. record w { copies = cs }) (changed-twice (worded f) (worded g) w.copies h.set)
+      first : with_zeros m.set x (with_element m.set v k z w) ≡ put (g (f c.words))
+      first = ap (λ cs. record w { copies = cs }) (changed-twice (worded f) (worded g) w.copies m.set)
 
-      last : with_element h.set v k z (with_zeros h.set x w) ≡ put (f (g c.words))
-      last = ap (λ cs. record w { copies = cs }) (changed-twice (worded g) (worded f) w.copies h.set)
+      last : with_element m.set v k z (with_zeros m.set x w) ≡ put (f (g c.words))
+      last = ap (λ cs. record w { copies = cs }) (changed-twice (worded g) (worded f) w.copies m.set)
 
-      by : IsForgotten c.words x.place x.size (v.place + k) z → all_cleared h es (with_zeros h.set x (with_element h.set v k z w)) ≡ all_cleared h es (with_zeros h.set x w)
-      by (inl same) = ap (all_cleared h es) (first ∙ ap put same)
-      by (inr other) = ap (all_cleared h es) (first ∙ ap put other ∙ sym last) ∙ others (with_zeros h.set x w)
+      by : IsForgotten c.words x.place x.size (v.place + k) z → all_cleared m es (with_zeros m.set x (with_element m.set v k z w)) ≡ all_cleared m es (with_zeros m.set x w)
+      by (inl same) = ap (all_cleared m es) (first ∙ ap put same)
+      by (inr other) = ap (all_cleared m es) (first ∙ ap put other ∙ sym last) ∙ others (with_zeros m.set x w)
 
   -- variables are 0, of which one forgets its element
-  forgets : (es : List DeclaratorTree) (i : ℕ) → slice_get es i ≡ Some d → (w : World) → all_cleared h es (with_element h.set v k z w) ≡ all_cleared h es w
+  forgets : (es : List DeclaratorTree) (i : ℕ) → slice_get es i ≡ Some d → (w : World) → all_cleared m es (with_element m.set v k z w) ≡ all_cleared m es w
   forgets [] i at w = absurd (cc)
   forgets (e ∷ es) zero at w =
       let same : e ≡ d = cc in
-      let here : variable_for h e ≡ Some v = ap (variable_for h) same ∙ is in
-      ap (λ o. then_do (cleared_maybe h.set o (with_element h.set v k z w)) (next es)) here
-      ∙ ap (λ u. also [] (all_cleared h es u)) (zeros-forget h.set v k z w within)
-      ∙ sym (ap (λ o. then_do (cleared_maybe h.set o w) (next es)) here)
-  forgets (e ∷ es) (suc i) at w = forgets-after es w (variable_for h e) (forgets es i at)
+      let here : variable_for m.here e ≡ Some v = ap (variable_for m.here) same ∙ is in
+      ap (λ o. then_do (cleared_maybe m.set o (with_element m.set v k z w)) (next es)) here
+      ∙ ap (λ u. also [] (all_cleared m es u)) (zeros-forget m.set v k z w within)
+      ∙ sym (ap (λ o. then_do (cleared_maybe m.set o w) (next es)) here)
+  forgets (e ∷ es) (suc i) at w = forgets-after es w (variable_for m.here e) (forgets es i at)
 
 -- so a block forgets it
 pub blocks_forget : BlocksForget
-blocks_forget h ds all w i k d v z at is within =
-    ap (λ r. then_do (then_do r (λ _ u. all_begun h (names_of ds) u)) (λ _ u. effects_of h all u)) (forgets h d v k z is within (names_of ds) i at w)
+blocks_forget m ds all w i k d v z at is within =
+    ap (λ r. then_do (then_do r (λ _ u. all_begun m (names_of ds) u)) (λ _ u. effects_of m all u)) (forgets m d v k z is within (names_of ds) i at w)

@@ -1,6 +1,5 @@
 pub mod Following
 pub mod Sizes
-pub mod Changes
 pub mod WordKeeps
 pub mod ValueKeeps
 pub mod EffectKeeps

@@ -8,11 +8,11 @@ use Rattle.snl_meaning.specs.declared.instrs.Variable.{Variable}
 use Rattle.snl_meaning.specs.Effect.{held_by, evaluated, effect_of}
 use Rattle.snl_meaning.specs.Keeping.{IsKept, MayStore, world_after}
 use Rattle.snl_meaning.specs.Names.{Here}
+use Rattle.snl_meaning.specs.Scenes.{Scene}
 use Rattle.snl_meaning.specs.Ran.{Ran, Gives, Faults}
 use Rattle.snl_meaning.specs.Words.{operated, operated_prefix, subscript, stored, adjusted, put_to, put_element, waited, spent_of, spent}
 use Rattle.snl_meaning.specs.Asking.{asked, ask_variable, ask_element}
 use Rattle.snl_meaning.specs.World.{World}
-use Rattle.snl_meaning.proofs.Changes.{by-values}
 use Rattle.snl_meaning.proofs.EffectKeeps as effects
 use Rattle.snl_meaning.proofs.WordKeeps as words
 
@@ -69,61 +69,61 @@ few {A = A} word k n w less = by (word w) (k w)
     by (Faults fault line u text) le = tt
 
 -- a condition
-pub held-keeps : (h : Here) (e : Option ExprTree) → Keeps (held_by h e)
-held-keeps h e = few (held_by h e) (effects.held-keeps h Any NoMore (any-may h) (ticks-kept h.set) e)
+pub held-keeps : (m : Scene) (e : Option ExprTree) → Keeps (held_by m e)
+held-keeps m e = few (held_by m e) (effects.held-keeps m Any NoMore (any-may m.here) (ticks-kept m.set) e)
 
 -- an expression for what it does
-pub evaluated-keeps : (h : Here) (e : Option ExprTree) → Keeps (evaluated h e)
-evaluated-keeps h e = few (evaluated h e) (effects.evaluated-keeps h Any NoMore (any-may h) (ticks-kept h.set) e)
+pub evaluated-keeps : (m : Scene) (e : Option ExprTree) → Keeps (evaluated m e)
+evaluated-keeps m e = few (evaluated m e) (effects.evaluated-keeps m Any NoMore (any-may m.here) (ticks-kept m.set) e)
 
 -- a statement
-pub effect-keeps : (h : Here) (s : StatementTree) → Keeps (effect_of h s)
-effect-keeps h s = few (effect_of h s) (effects.effect-keeps h Any NoMore (any-may h) (ticks-kept h.set) s)
+pub effect-keeps : (m : Scene) (s : StatementTree) → Keeps (effect_of m s)
+effect-keeps m s = few (effect_of m s) (effects.effect-keeps m Any NoMore (any-may m.here) (ticks-kept m.set) s)
 
 -- a binary operator
 pub keeps-operated : (op : Kind) (line : ℕ) (left right : ℤ) → Keeps (operated op line left right)
-keeps-operated op line left right = few (operated op line left right) (words.keeps-operated 0 Any NoMore (by-values (ticks-kept 0)) op line left right)
+keeps-operated op line left right = few (operated op line left right) (words.keeps-operated 0 Any NoMore (ticks-kept 0) op line left right)
 
 -- a prefix operator
 pub keeps-prefix : (op : Kind) (line : ℕ) (z : ℤ) → Keeps (operated_prefix op line z)
-keeps-prefix op line z = few (operated_prefix op line z) (words.keeps-prefix 0 Any NoMore (by-values (ticks-kept 0)) op line z)
+keeps-prefix op line z = few (operated_prefix op line z) (words.keeps-prefix 0 Any NoMore (ticks-kept 0) op line z)
 
 -- the check of a subscript
 pub keeps-subscript : (v : Variable) (line : ℕ) (k : ℤ) → Keeps (subscript v line k)
-keeps-subscript v line k = few (subscript v line k) (words.keeps-subscript 0 Any NoMore (by-values (ticks-kept 0)) v line k)
+keeps-subscript v line k = few (subscript v line k) (words.keeps-subscript 0 Any NoMore (ticks-kept 0) v line k)
 
 -- a store
 pub keeps-stored : (set : ℕ) (v : Variable) (line : ℕ) (k z : ℤ) → Keeps (stored set v line k z)
-keeps-stored set v line k z = few (stored set v line k z) (words.keeps-stored set Any NoMore (by-values (ticks-kept set)) v line k tt z)
+keeps-stored set v line k z = few (stored set v line k z) (words.keeps-stored set Any NoMore (ticks-kept set) v line k tt z)
 
 -- `++` and `--`
 pub keeps-adjusted : (set : ℕ) (v : Variable) (op : Kind) (op_line line : ℕ) (is_before : Bool) (k : ℤ) → Keeps (adjusted set v op op_line line is_before k)
 keeps-adjusted set v op op_line line is_before k =
-    few (adjusted set v op op_line line is_before k) (words.keeps-adjusted set Any NoMore (by-values (ticks-kept set)) v op op_line line is_before k tt)
+    few (adjusted set v op op_line line is_before k) (words.keeps-adjusted set Any NoMore (ticks-kept set) v op op_line line is_before k tt)
 
 -- `pvPut`
 pub keeps-put_to : (async : Bool) (set : ℕ) (v : Variable) → Keeps (put_to async set v)
-keeps-put_to async set v = few (put_to async set v) (words.keeps-put_to set Any NoMore (by-values (ticks-kept set)) async v)
+keeps-put_to async set v = few (put_to async set v) (words.keeps-put_to set Any NoMore (ticks-kept set) async v)
 
 -- the same of an element
 pub keeps-put_element : (async : Bool) (set : ℕ) (v : Variable) (k : ℤ) → Keeps (put_element async set v k)
-keeps-put_element async set v k = few (put_element async set v k) (words.keeps-put_element set Any NoMore (by-values (ticks-kept set)) async v k)
+keeps-put_element async set v k = few (put_element async set v k) (words.keeps-put_element set Any NoMore (ticks-kept set) async v k)
 
 -- what is asked or told of a flag
 pub keeps-asked : (query : Query) (flag : ℕ) → Keeps (asked query flag)
-keeps-asked query flag = few (asked query flag) (words.keeps-asked 0 Any NoMore (by-values (ticks-kept 0)) query flag)
+keeps-asked query flag = few (asked query flag) (words.keeps-asked 0 Any NoMore (ticks-kept 0) query flag)
 
 -- of the link of a variable
 pub keeps-ask_variable : (query : Query) (set : ℕ) (v : Variable) → Keeps (ask_variable query set v)
-keeps-ask_variable query set v = few (ask_variable query set v) (words.keeps-ask_variable set Any NoMore (by-values (ticks-kept set)) query v)
+keeps-ask_variable query set v = few (ask_variable query set v) (words.keeps-ask_variable set Any NoMore (ticks-kept set) query v)
 
 -- of that of an element
 pub keeps-ask_element : (query : Query) (set : ℕ) (v : Variable) (k : ℤ) → Keeps (ask_element query set v k)
-keeps-ask_element query set v k = few (ask_element query set v k) (words.keeps-ask_element set Any NoMore (by-values (ticks-kept set)) query v k)
+keeps-ask_element query set v k = few (ask_element query set v k) (words.keeps-ask_element set Any NoMore (ticks-kept set) query v k)
 
 -- `delay`
 pub keeps-waited : (set : ℕ) (in_seconds : Bool) (z : ℤ) → Keeps (waited set in_seconds z)
-keeps-waited set in_seconds z = few (waited set in_seconds z) (words.keeps-waited set Any NoMore (by-values (ticks-kept set)) in_seconds z)
+keeps-waited set in_seconds z = few (waited set in_seconds z) (words.keeps-waited set Any NoMore (ticks-kept set) in_seconds z)
 
 -- a tick leaves fewer than there were
 pub spent-falls : (n line : ℕ) (w : World) → w.ticks ≤ n → Leaves (HasFewer n) (spent line w)

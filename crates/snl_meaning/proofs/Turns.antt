@@ -48,6 +48,6 @@ module _ (line : ℕ) (condition : World → Ran Bool) (body : World → Ran Way
 
 -- those of a loop
 pub turns-enough : TurnsAreEnough
-turns-enough h line condition step s w n more =
-    same-turns line (held_by h condition) (effect_of h s) (evaluated h step) (held-keeps h condition) (effect-keeps h s) (evaluated-keeps h step)
+turns-enough m line condition step s w n more =
+    same-turns line (held_by m condition) (effect_of m s) (evaluated m step) (held-keeps m condition) (effect-keeps m s) (evaluated-keeps m step)
     (suc w.ticks) n (suc w.ticks) (omega (arith, more)) (omega arith) w (omega arith)

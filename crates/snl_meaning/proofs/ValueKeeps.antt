@@ -8,40 +8,40 @@ use Rattle.snl_arithmetic.specs.Arithmetic.{is_zero}
 use Rattle.snl_meaning.specs.declared.instrs.Variable.{Variable}
 use Rattle.snl_resolve.specs.Constants.{predefined}
 use Rattle.snl_resolve.specs.Uses.{declared_in}
-use Rattle.snl_meaning.specs.Names.{Here, Varies, variable_at, variable_by, sense_by, sense_of, format_number, flag_number}
+use Rattle.snl_meaning.specs.Names.{Varies, variable_at, variable_by, sense_by, sense_of, format_number, flag_number}
 use Rattle.snl_meaning.specs.Ran.{Ran}
 use Rattle.snl_resolve.specs.Builtins.{builtin_of}
 use Rattle.snl_resolve.specs.declared.builtins.Query.{Query}
 use Rattle.snl_meaning.specs.Value.{OnVariable, OnElement, joint_of, compound_of, sign_of, is_decimal, joined_by, either, value_of, chained, at_target, print_of, printing_with, wait_of, put_of, ask_flag, ask_of}
 use Rattle.snl_resolve.specs.Calls.{has_async}
+use Rattle.snl_meaning.specs.Scenes.{Scene}
 use Rattle.snl_meaning.specs.Words.{gives, is_subscript, read}
 use Rattle.snl_meaning.specs.World.{World}
-use Rattle.snl_meaning.specs.Keeping.{MayStore}
-use Rattle.snl_meaning.proofs.Changes.{IsKeptByValues}
+use Rattle.snl_meaning.specs.Keeping.{IsKept, MayStore}
 use Rattle.snl_meaning.proofs.WordKeeps.{Keeps, KeepsOn, keeps-then, keeps-here, keeps-read, keeps-adjusted, keeps-joined, keeps-put, keeps-at_subscript, keeps-at_name, keeps-named, keeps-signed, keeps-called, keeps-put_to, keeps-put_element, keeps-asked, keeps-ask_variable, keeps-ask_element, keeps-waited, after-test}
 
 -- what a name means is a variable of the copy
-pub sense-held : (h : Here) (o : Option Pos) (number : Option ℤ) (v : Variable) → sense_by (variable_by h o) number ≡ Varies v → (offset : ℕ) × (variable_at h offset ≡ Some v)
-sense-held h None number v is = absurd (cc)
-sense-held h (Some d) number v is = by (variable_at h d.offset) refl is
+pub sense-held : (m : Scene) (o : Option Pos) (number : Option ℤ) (v : Variable) → sense_by (variable_by m.here o) number ≡ Varies v → (offset : ℕ) × (variable_at m.here offset ≡ Some v)
+sense-held m None number v is = absurd (cc)
+sense-held m (Some d) number v is = by (variable_at m.here d.offset) refl is
   where
-    by : (x : Option Variable) → variable_at h d.offset ≡ x → sense_by x number ≡ Varies v → (offset : ℕ) × (variable_at h offset ≡ Some v)
+    by : (x : Option Variable) → variable_at m.here d.offset ≡ x → sense_by x number ≡ Varies v → (offset : ℕ) × (variable_at m.here offset ≡ Some v)
     by None at means = absurd (cc)
     by (Some u) at means = (d.offset, let same : u ≡ v = cc in at ∙ ap Some same)
 
-module _ (h : Here) (May : Variable → ℤ → Type 0) (R : World → World → Type 0) (may : MayStore h May) (kept : IsKeptByValues h.set May R) where
+module _ (m : Scene) (May : Variable → ℤ → Type 0) (R : World → World → Type 0) (may : MayStore m.here May) (kept : IsKept m.set May R) where
   -- a variable that a name means may be stored to,
-  may-first : (x : Token) (v : Variable) → sense_of h x ≡ Varies v → May v (pos 0)
-  may-first x v is = let at = sense-held h (declared_in x.pos.offset h.sites) (predefined x.text.now) v is in may.first at.0 v at.1
+  may-first : (x : Token) (v : Variable) → sense_of m.here x ≡ Varies v → May v (pos 0)
+  may-first x v is = let at = sense-held m (declared_in x.pos.offset m.here.sites) (predefined x.text.now) v is in may.first at.0 v at.1
 
   -- at each element
-  may-element : (x : Token) (v : Variable) (k : ℤ) → sense_of h x ≡ Varies v → is_subscript v.size k ≡ true → May v k
-  may-element x v k is within = let at = sense-held h (declared_in x.pos.offset h.sites) (predefined x.text.now) v is in may.element at.0 v k at.1 within
+  may-element : (x : Token) (v : Variable) (k : ℤ) → sense_of m.here x ≡ Varies v → is_subscript v.size k ≡ true → May v k
+  may-element x v k is within = let at = sense-held m (declared_in x.pos.offset m.here.sites) (predefined x.text.now) v is in may.element at.0 v k at.1 within
 
   -- what is asked of a flag, by an expression
-  flag-keeps : (e : ExprTree) (query : Query) → Keeps R (ask_flag h e query)
+  flag-keeps : (e : ExprTree) (query : Query) → Keeps R (ask_flag m e query)
   flag-keeps (parenthesized e) query w = flag-keeps e query w
-  flag-keeps (named x) query w = keeps-asked h.set May R kept query (flag_number h x) w
+  flag-keeps (named x) query w = keeps-asked m.set May R kept query (flag_number m.here x) w
   flag-keeps (constant t) query w = kept.nothing w
   flag-keeps (element x b e) query w = kept.nothing w
   flag-keeps (call f all) query w = kept.nothing w
@@ -53,47 +53,47 @@ module _ (h : Here) (May : Variable → ℤ → Type 0) (R : World → World →
 
   mutual
     -- an expression
-    pub value-keeps : (e : ExprTree) → Keeps R (value_of h e)
+    pub value-keeps : (e : ExprTree) → Keeps R (value_of m e)
     value-keeps (constant t) w = kept.nothing w
     value-keeps (parenthesized e) w = value-keeps e w
-    value-keeps (named x) w = keeps-named h.set May R kept (sense_of h x) w
+    value-keeps (named x) w = keeps-named m.set May R kept (sense_of m.here x) w
     value-keeps (element x b e) w =
-        keeps-then h.set May R kept (value_of h e) _ (value-keeps e)
-        (keeps-at_subscript h.set May R kept (sense_of h x) b.pos.line (read h.set) (gives (pos 0)) (λ v k is within. keeps-read h.set May R kept v k) (keeps-here h.set May R kept (pos 0))) w
+        keeps-then m.set May R kept (value_of m e) _ (value-keeps e)
+        (keeps-at_subscript m.set May R kept (sense_of m.here x) b.pos.line (read m.set) (gives (pos 0)) (λ v k is within. keeps-read m.set May R kept v k) (keeps-here m.set May R kept (pos 0))) w
     value-keeps (call f all) w =
-        keeps-called h.set May R kept (builtin_of f.text.now) (print_of h all) (wait_of h all) (put_of h all) (ask_of h all)
+        keeps-called m.set May R kept (builtin_of f.text.now) (print_of m all) (wait_of m all) (put_of m all) (ask_of m all)
         (print-keeps all) (wait-keeps all) (put-keeps all) (ask-keeps all) w
     value-keeps (postfix e op) w =
-        keeps-signed h.set May R kept (sign_of op.kind) _ (value_of h e) op.pos.line
-        (λ by. target-keeps e _ _ (gives (pos 0)) (λ v x ok. keeps-adjusted h.set May R kept v by op.pos.line x.pos.line true (pos 0) ok)
-        (λ v x k ok. keeps-adjusted h.set May R kept v by op.pos.line x.pos.line true k ok) (keeps-here h.set May R kept (pos 0))) (value-keeps e) w
+        keeps-signed m.set May R kept (sign_of op.kind) _ (value_of m e) op.pos.line
+        (λ by. target-keeps e _ _ (gives (pos 0)) (λ v x ok. keeps-adjusted m.set May R kept v by op.pos.line x.pos.line true (pos 0) ok)
+        (λ v x k ok. keeps-adjusted m.set May R kept v by op.pos.line x.pos.line true k ok) (keeps-here m.set May R kept (pos 0))) (value-keeps e) w
     value-keeps (prefix op e) w =
-        keeps-signed h.set May R kept (sign_of op.kind) _ (value_of h e) op.pos.line
-        (λ by. target-keeps e _ _ (gives (pos 0)) (λ v x ok. keeps-adjusted h.set May R kept v by op.pos.line x.pos.line false (pos 0) ok)
-        (λ v x k ok. keeps-adjusted h.set May R kept v by op.pos.line x.pos.line false k ok) (keeps-here h.set May R kept (pos 0))) (value-keeps e) w
-    value-keeps (chain e rest) w = keeps-then h.set May R kept (value_of h e) (chained h rest) (value-keeps e) (chain-keeps rest) w
+        keeps-signed m.set May R kept (sign_of op.kind) _ (value_of m e) op.pos.line
+        (λ by. target-keeps e _ _ (gives (pos 0)) (λ v x ok. keeps-adjusted m.set May R kept v by op.pos.line x.pos.line false (pos 0) ok)
+        (λ v x k ok. keeps-adjusted m.set May R kept v by op.pos.line x.pos.line false k ok) (keeps-here m.set May R kept (pos 0))) (value-keeps e) w
+    value-keeps (chain e rest) w = keeps-then m.set May R kept (value_of m e) (chained m rest) (value-keeps e) (chain-keeps rest) w
     value-keeps (conditional c a b) w =
-        keeps-then h.set May R kept (value_of h c) (either (value_of h a) (value_of h b)) (value-keeps c)
+        keeps-then m.set May R kept (value_of m c) (either (value_of m a) (value_of m b)) (value-keeps c)
         (λ z u. after-test (R u) (is_zero z) _ _ (value-keeps b u) (value-keeps a u)) w
     value-keeps (assignment e op r) w =
-        target-keeps e _ _ (value_of h r) (λ v x ok. keeps-put h.set May R kept (compound_of op.kind) op.pos.line (value_of h r) v x.pos.line (value-keeps r) (pos 0) ok)
-        (λ v x k ok. keeps-put h.set May R kept (compound_of op.kind) op.pos.line (value_of h r) v x.pos.line (value-keeps r) k ok) (value-keeps r) w
+        target-keeps e _ _ (value_of m r) (λ v x ok. keeps-put m.set May R kept (compound_of op.kind) op.pos.line (value_of m r) v x.pos.line (value-keeps r) (pos 0) ok)
+        (λ v x k ok. keeps-put m.set May R kept (compound_of op.kind) op.pos.line (value_of m r) v x.pos.line (value-keeps r) k ok) (value-keeps r) w
 
     -- operators and operands of one level
-    chain-keeps : (ts : TermList) → KeepsOn R (chained h ts)
+    chain-keeps : (ts : TermList) → KeepsOn R (chained m ts)
     chain-keeps no_terms x w = kept.nothing w
     chain-keeps (term op e rest) x w =
-        keeps-then h.set May R kept (joined_by (joint_of op.kind) op.pos.line (value_of h e) x) (chained h rest)
-        (keeps-joined h.set May R kept (joint_of op.kind) op.pos.line (value_of h e) (value-keeps e) x) (chain-keeps rest) w
+        keeps-then m.set May R kept (joined_by (joint_of op.kind) op.pos.line (value_of m e) x) (chained m rest)
+        (keeps-joined m.set May R kept (joint_of op.kind) op.pos.line (value_of m e) (value-keeps e) x) (chain-keeps rest) w
 
     -- what is done at a target
     target-keeps : (e : ExprTree) (alone : OnVariable) (indexed : OnElement) (other : World → Ran ℤ) → ((v : Variable) (x : Token) → May v (pos 0) → Keeps R (alone v x)) →
-        ((v : Variable) (x : Token) (k : ℤ) → May v k → Keeps R (indexed v x k)) → Keeps R other → Keeps R (at_target h e alone indexed other)
+        ((v : Variable) (x : Token) (k : ℤ) → May v k → Keeps R (indexed v x k)) → Keeps R other → Keeps R (at_target m e alone indexed other)
     target-keeps (parenthesized e) alone indexed other a i o = target-keeps e alone indexed other a i o
-    target-keeps (named x) alone indexed other a i o = keeps-at_name h.set May R kept (sense_of h x) x alone other (λ v is. a v x (may-first x v is)) o
+    target-keeps (named x) alone indexed other a i o = keeps-at_name m.set May R kept (sense_of m.here x) x alone other (λ v is. a v x (may-first x v is)) o
     target-keeps (element x b e) alone indexed other a i o =
-        keeps-then h.set May R kept (value_of h e) _ (value-keeps e)
-        (keeps-at_subscript h.set May R kept (sense_of h x) b.pos.line (λ v. indexed v x) other (λ v k is within. i v x k (may-element x v k is within)) o)
+        keeps-then m.set May R kept (value_of m e) _ (value-keeps e)
+        (keeps-at_subscript m.set May R kept (sense_of m.here x) b.pos.line (λ v. indexed v x) other (λ v k is within. i v x k (may-element x v k is within)) o)
     target-keeps (constant t) alone indexed other a i o = o
     target-keeps (call f all) alone indexed other a i o = o
     target-keeps (postfix e op) alone indexed other a i o = o
@@ -103,35 +103,35 @@ module _ (h : Here) (May : Variable → ℤ → Type 0) (R : World → World →
     target-keeps (assignment e op r) alone indexed other a i o = o
 
     -- `printf`
-    print-keeps : (all : ArgumentList) → Keeps R (print_of h all)
+    print-keeps : (all : ArgumentList) → Keeps R (print_of m all)
     print-keeps no_arguments w = kept.nothing w
     print-keeps (value e rest) w = kept.nothing w
-    print-keeps (text t rest) w = printing-keeps (format_number h t) rest [] w
+    print-keeps (text t rest) w = printing-keeps (format_number m.here t) rest [] w
 
     -- the values of `printf`
-    printing-keeps : (f : ℕ) (all : ArgumentList) (taken : List ℤ) → Keeps R (printing_with h f all taken)
+    printing-keeps : (f : ℕ) (all : ArgumentList) (taken : List ℤ) → Keeps R (printing_with m f all taken)
     printing-keeps f no_arguments taken w = kept.nothing w
     printing-keeps f (text t rest) taken w = printing-keeps f rest taken w
-    printing-keeps f (value e rest) taken w = keeps-then h.set May R kept (value_of h e) _ (value-keeps e) (λ z. printing-keeps f rest (z ∷ taken)) w
+    printing-keeps f (value e rest) taken w = keeps-then m.set May R kept (value_of m e) _ (value-keeps e) (λ z. printing-keeps f rest (z ∷ taken)) w
 
     -- `delay`
-    wait-keeps : (all : ArgumentList) → Keeps R (wait_of h all)
+    wait-keeps : (all : ArgumentList) → Keeps R (wait_of m all)
     wait-keeps no_arguments w = kept.nothing w
     wait-keeps (text t rest) w = kept.nothing w
-    wait-keeps (value e rest) w = keeps-then h.set May R kept (value_of h e) _ (value-keeps e) (keeps-waited h.set May R kept (not (is_decimal e))) w
+    wait-keeps (value e rest) w = keeps-then m.set May R kept (value_of m e) _ (value-keeps e) (keeps-waited m.set May R kept (not (is_decimal e))) w
 
     -- `pvPut`
-    put-keeps : (all : ArgumentList) → Keeps R (put_of h all)
+    put-keeps : (all : ArgumentList) → Keeps R (put_of m all)
     put-keeps no_arguments w = kept.nothing w
     put-keeps (text t rest) w = kept.nothing w
     put-keeps (value e rest) w =
-        target-keeps e _ _ (gives (pos 0)) (λ v x ok. keeps-put_to h.set May R kept (has_async rest) v)
-        (λ v x k ok. keeps-put_element h.set May R kept (has_async rest) v k) (keeps-here h.set May R kept (pos 0)) w
+        target-keeps e _ _ (gives (pos 0)) (λ v x ok. keeps-put_to m.set May R kept (has_async rest) v)
+        (λ v x k ok. keeps-put_element m.set May R kept (has_async rest) v k) (keeps-here m.set May R kept (pos 0)) w
 
     -- a call that asks
-    ask-keeps : (all : ArgumentList) (query : Query) → Keeps R (ask_of h all query)
-    ask-keeps no_arguments query w = keeps-asked h.set May R kept query 0 w
+    ask-keeps : (all : ArgumentList) (query : Query) → Keeps R (ask_of m all query)
+    ask-keeps no_arguments query w = keeps-asked m.set May R kept query 0 w
     ask-keeps (text t rest) query w = kept.nothing w
     ask-keeps (value e rest) query w =
-        target-keeps e _ _ (ask_flag h e query) (λ v x ok. keeps-ask_variable h.set May R kept query v)
-        (λ v x k ok. keeps-ask_element h.set May R kept query v k) (flag-keeps e query) w
+        target-keeps e _ _ (ask_flag m e query) (λ v x ok. keeps-ask_variable m.set May R kept query v)
+        (λ v x k ok. keeps-ask_element m.set May R kept query v k) (flag-keeps e query) w

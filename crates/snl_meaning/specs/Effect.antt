@@ -10,6 +10,7 @@ use Rattle.snl_meaning.specs.declared.faults.Fault.TheVariants.{BudgetSpent}
 use Rattle.snl_meaning.specs.declared.instrs.Variable.{Variable}
 use Rattle.snl_meaning.specs.Names.{Here, variable_at, state_number}
 use Rattle.snl_meaning.specs.Ran.{Ran, Gives, Faults, then_do}
+use Rattle.snl_meaning.specs.Scenes.{Scene}
 use Rattle.snl_meaning.specs.Value.{value_of, either}
 use Rattle.snl_meaning.specs.Words.{stored, cleared, spent}
 use Rattle.snl_meaning.specs.World.{World}
@@ -50,18 +51,18 @@ abbrev pub holds : ℤ → World → Ran Bool
 holds z w = Gives (if is_zero z then false else true) w []
 
 -- Whether a condition holds. A missing one does.
-abbrev pub held_by : Here → Option ExprTree → World → Ran Bool
-held_by h None w = Gives true w []
-held_by h (Some e) w = then_do (value_of h e w) holds
+abbrev pub held_by : Scene → Option ExprTree → World → Ran Bool
+held_by m None w = Gives true w []
+held_by m (Some e) w = then_do (value_of m e w) holds
 
 -- A number that is not used.
 abbrev pub dropped : ℤ → World → Ran (Unit {0})
 dropped _ w = Gives tt w []
 
 -- An expression for what it does; it may be missing.
-abbrev pub evaluated : Here → Option ExprTree → World → Ran (Unit {0})
-evaluated h None w = Gives tt w []
-evaluated h (Some e) w = then_do (value_of h e w) dropped
+abbrev pub evaluated : Scene → Option ExprTree → World → Ran (Unit {0})
+evaluated m None w = Gives tt w []
+evaluated m (Some e) w = then_do (value_of m e w) dropped
 
 -- A turn, if the condition held: a tick, the body, and what follows that.
 abbrev pub turned : ℕ → (World → Ran Way) → (World → Ran Way) → Bool → World → Ran Way
@@ -90,9 +91,9 @@ cleared_maybe set None w = Gives tt w []
 cleared_maybe set (Some v) w = cleared set v w
 
 -- Each variable is 0,
-abbrev pub all_cleared : Here → List DeclaratorTree → World → Ran (Unit {0})
-all_cleared h [] w = Gives tt w []
-all_cleared h (d ∷ ds) w = then_do (cleared_maybe h.set (variable_for h d) w) (λ _ u. all_cleared h ds u)
+abbrev pub all_cleared : Scene → List DeclaratorTree → World → Ran (Unit {0})
+all_cleared m [] w = Gives tt w []
+all_cleared m (d ∷ ds) w = then_do (cleared_maybe m.set (variable_for m.here d) w) (λ _ u. all_cleared m ds u)
 
 -- An element begins with a number, where there is such an element. The rules refuse more values than there are elements.
 abbrev pub begun : ℕ → Option Variable → ℕ → ℕ → ℤ → World → Ran ℤ
@@ -100,10 +101,10 @@ begun set None line k z w = Gives z w []
 begun set (Some v) line k z w = if nat_lt k v.size then stored set v line (pos k) z w else Gives z w []
 
 -- and then what it is declared to begin with: each value is stored, from an element on, before the next is computed.
-abbrev pub begun_with : Here → DeclaratorTree → ℕ → List ExprTree → World → Ran (Unit {0})
-begun_with h d k [] w = Gives tt w []
-begun_with h d k (e ∷ es) w =
-    then_do (then_do (value_of h e w) (begun h.set (variable_for h d) d.name.pos.line k)) (λ _ u. begun_with h d (suc k) es u)
+abbrev pub begun_with : Scene → DeclaratorTree → ℕ → List ExprTree → World → Ran (Unit {0})
+begun_with m d k [] w = Gives tt w []
+begun_with m d k (e ∷ es) w =
+    then_do (then_do (value_of m e w) (begun m.set (variable_for m.here d) d.name.pos.line k)) (λ _ u. begun_with m d (suc k) es u)
 
 -- The values that a variable begins with, in their order.
 abbrev pub values_of : Option InitialiserTree → List ExprTree
@@ -112,42 +113,42 @@ values_of (Some (single e)) = e ∷ []
 values_of (Some (listed all)) = listed_values all
 
 -- The same of all variables of a block.
-abbrev pub all_begun : Here → List DeclaratorTree → World → Ran (Unit {0})
-all_begun h [] w = Gives tt w []
-all_begun h (d ∷ ds) w = then_do (begun_with h d 0 (values_of d.initial) w) (λ _ u. all_begun h ds u)
+abbrev pub all_begun : Scene → List DeclaratorTree → World → Ran (Unit {0})
+all_begun m [] w = Gives tt w []
+all_begun m (d ∷ ds) w = then_do (begun_with m d 0 (values_of d.initial) w) (λ _ u. all_begun m ds u)
 
 -- The names that declarations declare.
 abbrev pub names_of : List DeclarationTree → List DeclaratorTree
 names_of ds = flat_map (λ d. d.names) ds
 
 -- What the entry of a block does.
-abbrev pub entered : Here → List DeclaratorTree → World → Ran (Unit {0})
-entered h ds w = then_do (all_cleared h ds w) (λ _ u. all_begun h ds u)
+abbrev pub entered : Scene → List DeclaratorTree → World → Ran (Unit {0})
+entered m ds w = then_do (all_cleared m ds w) (λ _ u. all_begun m ds u)
 
 -- ---- statements
 
 abbrev mutual
   -- a statement
-  pub effect_of : Here → StatementTree → World → Ran Way
-  effect_of h (nested b) w = block_effect h b w
-  effect_of h empty w = Gives Done w []
-  effect_of h (expression e) w = then_do (value_of h e w) done
-  effect_of h (break_loop t) w = Gives Broken w []
-  effect_of h (continue_loop t) w = Gives Continued w []
-  effect_of h (change_state t x) w = Gives (Left (state_number h x)) w []
+  pub effect_of : Scene → StatementTree → World → Ran Way
+  effect_of m (nested b) w = block_effect m b w
+  effect_of m empty w = Gives Done w []
+  effect_of m (expression e) w = then_do (value_of m e w) done
+  effect_of m (break_loop t) w = Gives Broken w []
+  effect_of m (continue_loop t) w = Gives Continued w []
+  effect_of m (change_state t x) w = Gives (Left (state_number m.here x)) w []
   -- no function runs yet, and outside of functions the rules refuse it
-  effect_of h (return_with t e) w = Gives Done w []
-  effect_of h (if_then c s) w = then_do (value_of h c w) (either (effect_of h s) (ends Done))
-  effect_of h (if_else c s e) w = then_do (value_of h c w) (either (effect_of h s) (effect_of h e))
-  effect_of h (while_loop t c s) w = looped t.pos.line (held_by h (Some c)) (effect_of h s) (evaluated h None) w
-  effect_of h (for_loop t parts s) w =
-      then_do (evaluated h parts.start w) (λ _ u. looped t.pos.line (held_by h parts.condition) (effect_of h s) (evaluated h parts.step) u)
+  effect_of m (return_with t e) w = Gives Done w []
+  effect_of m (if_then c s) w = then_do (value_of m c w) (either (effect_of m s) (ends Done))
+  effect_of m (if_else c s e) w = then_do (value_of m c w) (either (effect_of m s) (effect_of m e))
+  effect_of m (while_loop t c s) w = looped t.pos.line (held_by m (Some c)) (effect_of m s) (evaluated m None) w
+  effect_of m (for_loop t parts s) w =
+      then_do (evaluated m parts.start w) (λ _ u. looped t.pos.line (held_by m parts.condition) (effect_of m s) (evaluated m parts.step) u)
 
   -- statements, one after another
-  pub effects_of : Here → StatementList → World → Ran Way
-  effects_of h no_statements w = Gives Done w []
-  effects_of h (statement s rest) w = then_do (effect_of h s w) (if_done (effects_of h rest))
+  pub effects_of : Scene → StatementList → World → Ran Way
+  effects_of m no_statements w = Gives Done w []
+  effects_of m (statement s rest) w = then_do (effect_of m s w) (if_done (effects_of m rest))
 
   -- a block: the entry, then its statements
-  pub block_effect : Here → BlockTree → World → Ran Way
-  block_effect h (block ds all) w = then_do (entered h (names_of ds) w) (λ _ u. effects_of h all u)
+  pub block_effect : Scene → BlockTree → World → Ran Way
+  block_effect m (block ds all) w = then_do (entered m (names_of ds) w) (λ _ u. effects_of m all u)

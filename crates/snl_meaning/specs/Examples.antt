@@ -19,6 +19,7 @@ use Rattle.snl_resolve.specs.Variables.{Held}
 use Rattle.snl_meaning.specs.Names.{Here, variable_in, placed_from}
 use Rattle.snl_meaning.specs.Printing.{print_line, put_line}
 use Rattle.snl_meaning.specs.Ran.{Gives, Faults}
+use Rattle.snl_meaning.specs.Scenes.{Scene}
 use Rattle.snl_meaning.specs.Value.{value_of}
 use Rattle.snl_meaning.specs.World.{World}
 
@@ -57,8 +58,6 @@ format = token kind.Text 20 1 (codes "\"x %d\\n\"")
 -- what is known of them
 abbrev pub here : Here
 here = record {
-  set = 0;
-  set_name = codes "s";
   states = token kind.Name 30 1 (codes "p") ∷ token kind.Name 31 1 (codes "q") ∷ [];
   sites = Use Read x (Variable (record { offset = 0; file = 0; line = 1 }) Scalar) false
       ∷ Use Read a (Variable (record { offset = 1; file = 0; line = 1 }) (Array 2)) true
@@ -67,7 +66,12 @@ here = record {
   variables = record { offset = 0; variable = record { place = 0; size = 1; least = negsuc 2147483647; greatest = pos 2147483647 } }
       ∷ record { offset = 1; variable = record { place = 1; size = 2; least = negsuc 127; greatest = pos 127 } }
       ∷ record { offset = 2; variable = record { place = 3; size = 1; least = negsuc 2147483647; greatest = pos 2147483647 } } ∷ [];
+  functions = [];
 }
+
+-- they run on the first state set
+abbrev pub scene : Scene
+scene = record { set = 0; set_name = codes "s"; here = here }
 
 -- a link that is monitored, by its channel, its event flag, and where its buffer begins, of so many elements
 abbrev pub tied : Option ℕ → Option ℕ → ℕ → ℕ → Tied
@@ -134,22 +138,22 @@ flag_call name = call (token kind.Name 100 1 name) (value (named f) no_arguments
 -- of `a`, and of `y`, which has no link, and then one without a channel; `efSet(f)`, and `efTest(f)` and `efTestAndClear(f)` of a flag that is set
 abbrev pub ExpressionExamples : Type 0
 ExpressionExamples =
-    (value_of here (binary kind.Plus (increased x) (named x)) start ≡ Gives (pos 1) (world (pos 1) (pos 9) 3 None) [])
-    × (value_of here (binary kind.AmpersandAmpersand (whole (codes "0")) (binary kind.Slash (whole (codes "1")) (whole (codes "0")))) start ≡ Gives (pos 0) start [])
-    × (value_of here (binary kind.Slash (whole (codes "1")) (whole (codes "0"))) start ≡ Faults DivisionByZero 7 start [])
-    × (value_of here (element a (sign kind.OpenBracket) (whole (codes "2"))) start ≡ Faults OutOfRange 7 start [])
-    × (value_of here (assignment (element a (sign kind.OpenBracket) (whole (codes "1"))) (sign kind.Equal) (whole (codes "200"))) start ≡ Faults DoesNotFit 9 start [])
-    × (value_of here (call (token kind.Name 100 1 (codes "delay")) (value (whole (codes "1")) no_arguments)) start ≡ Gives (pos 0) (world (pos 0) (pos 9) 3 (Some 2000)) [])
-    × (value_of here (call (token kind.Name 100 1 (codes "delay")) (value (constant (token kind.Decimal 100 1 (codes "0.5"))) no_arguments)) start ≡ Gives (pos 1) start [])
-    × (value_of here (call (token kind.Name 100 1 (codes "printf")) (text format (value (named x) no_arguments))) start
+    (value_of scene (binary kind.Plus (increased x) (named x)) start ≡ Gives (pos 1) (world (pos 1) (pos 9) 3 None) [])
+    × (value_of scene (binary kind.AmpersandAmpersand (whole (codes "0")) (binary kind.Slash (whole (codes "1")) (whole (codes "0")))) start ≡ Gives (pos 0) start [])
+    × (value_of scene (binary kind.Slash (whole (codes "1")) (whole (codes "0"))) start ≡ Faults DivisionByZero 7 start [])
+    × (value_of scene (element a (sign kind.OpenBracket) (whole (codes "2"))) start ≡ Faults OutOfRange 7 start [])
+    × (value_of scene (assignment (element a (sign kind.OpenBracket) (whole (codes "1"))) (sign kind.Equal) (whole (codes "200"))) start ≡ Faults DoesNotFit 9 start [])
+    × (value_of scene (call (token kind.Name 100 1 (codes "delay")) (value (whole (codes "1")) no_arguments)) start ≡ Gives (pos 0) (world (pos 0) (pos 9) 3 (Some 2000)) [])
+    × (value_of scene (call (token kind.Name 100 1 (codes "delay")) (value (constant (token kind.Decimal 100 1 (codes "0.5"))) no_arguments)) start ≡ Gives (pos 1) start [])
+    × (value_of scene (call (token kind.Name 100 1 (codes "printf")) (text format (value (named x) no_arguments))) start
     ≡ Gives (pos 0) start (print_line 1500 (codes "s") (120 ∷ 32 ∷ (signed_decimal (pos 0) ++ codes "\\n"))))
-    × (value_of here (call (token kind.Name 100 1 (codes "pvPut")) (value (named x) no_arguments)) start ≡ Gives (pos 0) start (put_line 1500 (codes "up") (pos 0 ∷ [])))
-    × (value_of here (call (token kind.Name 100 1 (codes "pvPut")) (value (named a) no_arguments)) start ≡ Gives (negsuc 1) start [])
-    × (value_of here (call (token kind.Name 100 1 (codes "pvPut")) (value (named y) no_arguments)) start ≡ Gives (negsuc 0) start [])
-    × (value_of here (call (token kind.Name 100 1 (codes "pvPut")) (value (named y) no_arguments)) (linked false (pos 0) false) ≡ Gives (pos 0) (linked true (pos 9) true) [])
-    × (value_of here (flag_call (codes "efSet")) start ≡ Gives (pos 0) (flagged true (pos 0) (pos 9) 3 None) [])
-    × (value_of here (flag_call (codes "efTest")) (flagged true (pos 0) (pos 9) 3 None) ≡ Gives (pos 1) (flagged true (pos 0) (pos 9) 3 None) [])
-    × (value_of here (flag_call (codes "efTestAndClear")) (flagged true (pos 0) (pos 9) 3 None) ≡ Gives (pos 1) start [])
+    × (value_of scene (call (token kind.Name 100 1 (codes "pvPut")) (value (named x) no_arguments)) start ≡ Gives (pos 0) start (put_line 1500 (codes "up") (pos 0 ∷ [])))
+    × (value_of scene (call (token kind.Name 100 1 (codes "pvPut")) (value (named a) no_arguments)) start ≡ Gives (negsuc 1) start [])
+    × (value_of scene (call (token kind.Name 100 1 (codes "pvPut")) (value (named y) no_arguments)) start ≡ Gives (negsuc 0) start [])
+    × (value_of scene (call (token kind.Name 100 1 (codes "pvPut")) (value (named y) no_arguments)) (linked false (pos 0) false) ≡ Gives (pos 0) (linked true (pos 9) true) [])
+    × (value_of scene (flag_call (codes "efSet")) start ≡ Gives (pos 0) (flagged true (pos 0) (pos 9) 3 None) [])
+    × (value_of scene (flag_call (codes "efTest")) (flagged true (pos 0) (pos 9) 3 None) ≡ Gives (pos 1) (flagged true (pos 0) (pos 9) 3 None) [])
+    × (value_of scene (flag_call (codes "efTestAndClear")) (flagged true (pos 0) (pos 9) 3 None) ≡ Gives (pos 1) start [])
 
 -- ---- statements
 
@@ -170,16 +174,16 @@ counting = nested (block
 -- entered; `while (1) break;`; `for (;; x++) { if (x < 2) continue; break; }`; `state q;`
 abbrev pub StatementExamples : Type 0
 StatementExamples =
-    (effect_of here (while_less (codes "2") (expression (increased x))) start ≡ Gives Done (world (pos 2) (pos 9) 1 None) [])
-    × (effect_of here (while_less (codes "4") (expression (increased x))) start ≡ Faults BudgetSpent 7 (world (pos 3) (pos 9) 0 None) [])
-    × (effect_of here (while_less (codes "2") counting) start ≡ Gives Done (world (pos 2) (pos 1) 1 None) [])
-    × (effect_of here (while_loop (sign kind.While) (whole (codes "1")) (break_loop (sign kind.Break))) start ≡ Gives Done (world (pos 0) (pos 9) 2 None) [])
-    × (effect_of here (for_loop (sign kind.For) (record { start = None; condition = None; step = Some (increased x) })
+    (effect_of scene (while_less (codes "2") (expression (increased x))) start ≡ Gives Done (world (pos 2) (pos 9) 1 None) [])
+    × (effect_of scene (while_less (codes "4") (expression (increased x))) start ≡ Faults BudgetSpent 7 (world (pos 3) (pos 9) 0 None) [])
+    × (effect_of scene (while_less (codes "2") counting) start ≡ Gives Done (world (pos 2) (pos 1) 1 None) [])
+    × (effect_of scene (while_loop (sign kind.While) (whole (codes "1")) (break_loop (sign kind.Break))) start ≡ Gives Done (world (pos 0) (pos 9) 2 None) [])
+    × (effect_of scene (for_loop (sign kind.For) (record { start = None; condition = None; step = Some (increased x) })
     (nested (block [] (in_row (if_then (binary kind.Less (named x) (whole (codes "2"))) (continue_loop (sign kind.Continue)) ∷ break_loop (sign kind.Break) ∷ [])))))
     start ≡ Gives Done (world (pos 2) (pos 9) 0 None) [])
-    × (effect_of here (while_less (codes "1") (nested (block [] (in_row (while_loop (sign kind.While) (whole (codes "1")) (break_loop (sign kind.Break)) ∷ expression (increased x) ∷ []))))) start
+    × (effect_of scene (while_less (codes "1") (nested (block [] (in_row (while_loop (sign kind.While) (whole (codes "1")) (break_loop (sign kind.Break)) ∷ expression (increased x) ∷ []))))) start
     ≡ Gives Done (world (pos 1) (pos 9) 1 None) [])
-    × (effect_of here (change_state (sign kind.State) (token kind.Name 32 1 (codes "q"))) start ≡ Gives (Left 1) start [])
+    × (effect_of scene (change_state (sign kind.State) (token kind.Name 32 1 (codes "q"))) start ≡ Gives (Left 1) start [])
 
 -- ---- places
 

@@ -6,7 +6,7 @@ use Rattle.snl_meaning.specs.declared.instrs.Variable.{Variable}
 use Rattle.snl_meaning.specs.Effect.{held_by, block_effect}
 use Rattle.snl_meaning.specs.Names.{Here, variable_at}
 use Rattle.snl_meaning.specs.Ran.{Ran, Gives, Faults}
-use Rattle.snl_meaning.specs.Value.{value_of}
+use Rattle.snl_meaning.specs.Scenes.{Scene}
 use Rattle.snl_meaning.specs.Words.{natural, is_subscript, noted}
 use Rattle.snl_meaning.specs.World.{World, copy_of, with_element, with_zeros, with_flag, with_waiting}
 use Rattle.snl_meaning.specs.declared.ties.Tied.{Tied}
@@ -48,22 +48,18 @@ pub record MayStore (h : Here) (May : Variable → ℤ → Type 0) : Type 0 wher
   pub element : (offset : ℕ) (v : Variable) (k : ℤ) → variable_at h offset ≡ Some v → is_subscript v.size k ≡ true → May v k
 
 -- It holds between the world before a condition or a block and the world after it, also after a fault.
-pub record PiecesKeep (h : Here) (R : World → World → Type 0) : Type 0 where
-  pub condition : (e : Option ExprTree) (w : World) → R w (world_after (held_by h e w))
-  pub block : (b : BlockTree) (w : World) → R w (world_after (block_effect h b w))
+pub record PiecesKeep (m : Scene) (R : World → World → Type 0) : Type 0 where
+  pub condition : (e : Option ExprTree) (w : World) → R w (world_after (held_by m e w))
+  pub block : (b : BlockTree) (w : World) → R w (world_after (block_effect m b w))
 
 -- Time stands still while a piece is at work,
 abbrev pub PiecesKeepTime : Type 0
-PiecesKeepTime = (h : Here) → PiecesKeep h (λ w u. u.time ≡ w.time)
-
--- a condition leaves the ticks as they are,
-abbrev pub ConditionsKeepTicks : Type 0
-ConditionsKeepTicks = (h : Here) (e : ExprTree) (w : World) → (world_after (value_of h e w)).ticks ≡ w.ticks
+PiecesKeepTime = (m : Scene) → PiecesKeep m (λ w u. u.time ≡ w.time)
 
 -- no piece gives ticks back,
 abbrev pub PiecesGiveNoTicks : Type 0
-PiecesGiveNoTicks = (h : Here) → PiecesKeep h (λ w u. u.ticks ≤ w.ticks)
+PiecesGiveNoTicks = (m : Scene) → PiecesKeep m (λ w u. u.ticks ≤ w.ticks)
 
 -- and none changes how far the program has come.
 abbrev pub PiecesKeepThePhase : Type 0
-PiecesKeepThePhase = (h : Here) → PiecesKeep h (λ w u. u.phase ≡ w.phase)
+PiecesKeepThePhase = (m : Scene) → PiecesKeep m (λ w u. u.phase ≡ w.phase)

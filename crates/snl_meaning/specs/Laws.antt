@@ -8,13 +8,14 @@ use Rattle.snl_resolve.specs.Scopes.{elements}
 use Rattle.snl_resolve.specs.Variables.{Held}
 use Rattle.snl_meaning.specs.declared.instrs.Variable.{Variable}
 use Rattle.snl_meaning.specs.declared.names.Placed.{Placed}
-use Rattle.snl_meaning.specs.Names.{Here, text_number, text_of, placed_from}
+use Rattle.snl_meaning.specs.Names.{text_number, text_of, placed_from}
+use Rattle.snl_meaning.specs.Scenes.{Scene}
 use Rattle.snl_meaning.specs.World.{World, with_element}
 
 -- A loop has turns enough: with any number of turns above the ticks that are left it does the same.
 abbrev pub TurnsAreEnough : Type 0
-TurnsAreEnough = (h : Here) (line : ℕ) (condition step : Option ExprTree) (s : StatementTree) (w : World) (n : ℕ) → w.ticks < n →
-    turns n line (held_by h condition) (effect_of h s) (evaluated h step) w ≡ looped line (held_by h condition) (effect_of h s) (evaluated h step) w
+TurnsAreEnough = (m : Scene) (line : ℕ) (condition step : Option ExprTree) (s : StatementTree) (w : World) (n : ℕ) → w.ticks < n →
+    turns n line (held_by m condition) (effect_of m s) (evaluated m step) w ≡ looped line (held_by m condition) (effect_of m s) (evaluated m step) w
 
 -- A text among some is found by its number.
 abbrev pub TextsAreFound : Type 0
@@ -38,6 +39,6 @@ VariablesAreApart = (vs : List Held) (i j : ℕ) (x y : Placed) → words_of vs 
 
 -- A block forgets what its variables were: with another number in an element of one of them, it does the same.
 abbrev pub BlocksForget : Type 0
-BlocksForget = (h : Here) (ds : List DeclarationTree) (all : StatementList) (w : World) (i k : ℕ) (d : DeclaratorTree) (v : Variable) (z : ℤ) →
-    slice_get (names_of ds) i ≡ Some d → variable_for h d ≡ Some v → k < v.size →
-    block_effect h (block ds all) (with_element h.set v k z w) ≡ block_effect h (block ds all) w
+BlocksForget = (m : Scene) (ds : List DeclarationTree) (all : StatementList) (w : World) (i k : ℕ) (d : DeclaratorTree) (v : Variable) (z : ℤ) →
+    slice_get (names_of ds) i ≡ Some d → variable_for m.here d ≡ Some v → k < v.size →
+    block_effect m (block ds all) (with_element m.set v k z w) ≡ block_effect m (block ds all) w

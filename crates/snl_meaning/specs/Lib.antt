@@ -3,6 +3,7 @@ pub mod Queues
 pub mod Links
 pub mod Ran
 pub mod Names
+pub mod Scenes
 pub mod OffsetTables
 pub mod StringTables
 pub mod Printing

@@ -3,7 +3,7 @@ use Rattle.std.specs.Prelude.{◌≡◌, ℕ, ℤ, pos, negsuc, Bool, true, fals
 use Rattle.snl_text.specs.declared.kinds.Kind.TheVariants as kind
 use Rattle.snl_text.specs.declared.tokens.Token.{Token}
 use Rattle.snl_syntax.specs.Expressions.{ExprTree, named, call, no_arguments, value}
-use Rattle.snl_meaning.specs.Examples.{token, here, x, a, y, start, linked}
+use Rattle.snl_meaning.specs.Examples.{token, scene, x, a, y, start, linked}
 use Rattle.snl_meaning.specs.Links.{no_queue}
 use Rattle.snl_meaning.specs.Printing.{put_line}
 use Rattle.snl_meaning.specs.Ran.{Gives}
@@ -45,26 +45,26 @@ buffered number = record (linked false (pos 4) true) {
 -- `x` is connected, `a` is not; of two links with a channel, one is.
 abbrev pub LinkExamples : Type 0
 LinkExamples =
-    (value_of here (call_of (codes "pvPut") y) (queued false (pos 9) ((pos 1 ∷ []) ∷ [])) ≡ Gives (pos 0) (queued true (pos 9) ((pos 1 ∷ []) ∷ (pos 9 ∷ []) ∷ [])) [])
-    × (value_of here (call_of (codes "pvPut") y) (queued false (pos 9) ((pos 1 ∷ []) ∷ (pos 2 ∷ []) ∷ [])) ≡ Gives (pos 0) (queued true (pos 9) ((pos 1 ∷ []) ∷ (pos 9 ∷ []) ∷ [])) [])
-    × (value_of here (call_of (codes "pvGetQ") y) (queued true (pos 9) ((pos 1 ∷ []) ∷ (pos 2 ∷ []) ∷ [])) ≡ Gives (pos 1) (queued true (pos 1) ((pos 2 ∷ []) ∷ [])) [])
-    × (value_of here (call_of (codes "pvGetQ") y) (queued true (pos 9) ((pos 1 ∷ []) ∷ [])) ≡ Gives (pos 1) (queued false (pos 1) []) [])
-    × (value_of here (call_of (codes "pvGetQ") y) (queued true (pos 9) []) ≡ Gives (pos 0) (queued false (pos 9) []) [])
-    × (value_of here (call_of (codes "pvFlushQ") y) (queued true (pos 9) ((pos 1 ∷ []) ∷ [])) ≡ Gives (pos 0) (queued false (pos 9) []) [])
-    × (value_of here (call_of (codes "pvGet") y) (buffered (pos 9)) ≡ Gives (pos 0) (buffered (pos 4)) [])
-    × (value_of here (call_of (codes "pvGet") x) start ≡ Gives (negsuc 1) start [])
-    × (value_of here (call_of (codes "pvGet") y) start ≡ Gives (negsuc 0) start [])
-    × (value_of here (call_of (codes "pvConnected") x) start ≡ Gives (pos 1) start [])
-    × (value_of here (call_of (codes "pvConnected") a) start ≡ Gives (pos 0) start [])
-    × (value_of here (call_of (codes "pvConnected") y) start ≡ Gives (pos 0) start [])
-    × (value_of here (call_alone (codes "pvChannelCount")) start ≡ Gives (pos 2) start [])
-    × (value_of here (call_alone (codes "pvConnectCount")) start ≡ Gives (pos 1) start [])
-    × (value_of here (async_call x) start ≡ Gives (pos 0) answerless (put_line 1500 (codes "up") (pos 0 ∷ [])))
-    × (value_of here (async_call x) answerless ≡ Gives (negsuc 0) answerless [])
-    × (value_of here (call_of (codes "pvPut") x) answerless ≡ Gives (pos 0) answerless (put_line 1500 (codes "up") (pos 0 ∷ [])))
-    × (value_of here (async_call a) start ≡ Gives (negsuc 1) start [])
-    × (value_of here (async_call y) start ≡ Gives (negsuc 0) start [])
-    × (value_of here (call_of (codes "pvPutComplete") x) start ≡ Gives (pos 1) start [])
-    × (value_of here (call_of (codes "pvPutComplete") x) answerless ≡ Gives (pos 0) answerless [])
-    × (value_of here (call_of (codes "pvPutComplete") y) start ≡ Gives (pos 0) start [])
-    × (value_of here (async_call y) (linked false (pos 0) false) ≡ Gives (pos 0) (linked true (pos 9) true) [])
+    (value_of scene (call_of (codes "pvPut") y) (queued false (pos 9) ((pos 1 ∷ []) ∷ [])) ≡ Gives (pos 0) (queued true (pos 9) ((pos 1 ∷ []) ∷ (pos 9 ∷ []) ∷ [])) [])
+    × (value_of scene (call_of (codes "pvPut") y) (queued false (pos 9) ((pos 1 ∷ []) ∷ (pos 2 ∷ []) ∷ [])) ≡ Gives (pos 0) (queued true (pos 9) ((pos 1 ∷ []) ∷ (pos 9 ∷ []) ∷ [])) [])
+    × (value_of scene (call_of (codes "pvGetQ") y) (queued true (pos 9) ((pos 1 ∷ []) ∷ (pos 2 ∷ []) ∷ [])) ≡ Gives (pos 1) (queued true (pos 1) ((pos 2 ∷ []) ∷ [])) [])
+    × (value_of scene (call_of (codes "pvGetQ") y) (queued true (pos 9) ((pos 1 ∷ []) ∷ [])) ≡ Gives (pos 1) (queued false (pos 1) []) [])
+    × (value_of scene (call_of (codes "pvGetQ") y) (queued true (pos 9) []) ≡ Gives (pos 0) (queued false (pos 9) []) [])
+    × (value_of scene (call_of (codes "pvFlushQ") y) (queued true (pos 9) ((pos 1 ∷ []) ∷ [])) ≡ Gives (pos 0) (queued false (pos 9) []) [])
+    × (value_of scene (call_of (codes "pvGet") y) (buffered (pos 9)) ≡ Gives (pos 0) (buffered (pos 4)) [])
+    × (value_of scene (call_of (codes "pvGet") x) start ≡ Gives (negsuc 1) start [])
+    × (value_of scene (call_of (codes "pvGet") y) start ≡ Gives (negsuc 0) start [])
+    × (value_of scene (call_of (codes "pvConnected") x) start ≡ Gives (pos 1) start [])
+    × (value_of scene (call_of (codes "pvConnected") a) start ≡ Gives (pos 0) start [])
+    × (value_of scene (call_of (codes "pvConnected") y) start ≡ Gives (pos 0) start [])
+    × (value_of scene (call_alone (codes "pvChannelCount")) start ≡ Gives (pos 2) start [])
+    × (value_of scene (call_alone (codes "pvConnectCount")) start ≡ Gives (pos 1) start [])
+    × (value_of scene (async_call x) start ≡ Gives (pos 0) answerless (put_line 1500 (codes "up") (pos 0 ∷ [])))
+    × (value_of scene (async_call x) answerless ≡ Gives (negsuc 0) answerless [])
+    × (value_of scene (call_of (codes "pvPut") x) answerless ≡ Gives (pos 0) answerless (put_line 1500 (codes "up") (pos 0 ∷ [])))
+    × (value_of scene (async_call a) start ≡ Gives (negsuc 1) start [])
+    × (value_of scene (async_call y) start ≡ Gives (negsuc 0) start [])
+    × (value_of scene (call_of (codes "pvPutComplete") x) start ≡ Gives (pos 1) start [])
+    × (value_of scene (call_of (codes "pvPutComplete") x) answerless ≡ Gives (pos 0) answerless [])
+    × (value_of scene (call_of (codes "pvPutComplete") y) start ≡ Gives (pos 0) start [])
+    × (value_of scene (async_call y) (linked false (pos 0) false) ≡ Gives (pos 0) (linked true (pos 9) true) [])

@@ -15,16 +15,21 @@ use Rattle.snl_meaning.specs.declared.names.Placed.{Placed}
 pub use Rattle.snl_meaning.specs.declared.names.Sense.{Sense}
 pub use Rattle.snl_meaning.specs.declared.names.Sense.TheVariants.{Varies, Stands}
 
--- Where a piece of code stands: what is known of its program, and on which state set's copy it runs.
+-- What code knows of a function: its name, and how many operands its body needs at once.
+pub record Outline : Type 0 where
+  pub name : List ℕ
+  pub depth : ℕ
+
+-- What is known where a piece of code stands.
 pub record Here : Type 0 where
-  -- the number of the state set, its name, and the names of its states
-  pub set : ℕ
-  pub set_name : List ℕ
+  -- the names of the states of its state set
   pub states : List Token
   -- what the names of the program mean, each at its place
   pub sites : List Site
   -- the variables of the copy, by their declarations
   pub variables : List Placed
+  -- the functions that may be called there, in the order of the source
+  pub functions : List Outline
 
 -- A variable whose words begin at a place of the copy.
 abbrev pub variable_from : ℕ → Held → Variable
@@ -108,6 +113,13 @@ or_first (Some n) = n
 -- refuse it.
 abbrev pub state_number : Here → Token → ℕ
 state_number h x = or_first (number_of h.states x.text.now)
+
+-- ---- functions
+
+-- The function of a name, the first where there are several.
+abbrev pub outline_named : List Outline → List ℕ → Option Outline
+outline_named [] name = None
+outline_named (o ∷ os) name = if bytes_eq o.name name then Some o else outline_named os name
 
 -- ---- formats
 

@@ -17,8 +17,9 @@ pub use Rattle.snl_meaning.specs.declared.operators.Joint.{Joint}
 pub use Rattle.snl_meaning.specs.declared.operators.Joint.TheVariants.{And, Or, Sequel, Operation}
 pub use Rattle.snl_meaning.specs.declared.operators.Sign.{Sign}
 pub use Rattle.snl_meaning.specs.declared.operators.Sign.TheVariants.{Steps, Alone}
-use Rattle.snl_meaning.specs.Names.{Here, Sense, Varies, Stands, sense_of, flag_number, formats_of, format_number, text_of}
+use Rattle.snl_meaning.specs.Names.{Sense, Varies, Stands, sense_of, flag_number, formats_of, format_number, text_of}
 use Rattle.snl_meaning.specs.Ran.{Ran, Gives, then_do}
+use Rattle.snl_meaning.specs.Scenes.{Scene}
 use Rattle.snl_resolve.specs.Calls.{has_async}
 use Rattle.snl_meaning.specs.Asking.{asked, ask_variable, ask_element}
 use Rattle.snl_meaning.specs.Words.{gives, operated, operated_prefix, settled, subscript, read, stored, adjusted, printed, put_to, put_element, waited}
@@ -139,10 +140,10 @@ called (Some PvPut) print wait put ask w = put w
 called (Some (Ask query)) print wait put ask w = ask query w
 
 -- What is asked of an event flag, by its name, which may stand in parentheses.
-abbrev pub ask_flag : Here → ExprTree → Query → World → Ran ℤ
-ask_flag h (parenthesized e) query w = ask_flag h e query w
-ask_flag h (named x) query w = asked query (flag_number h x) w
-ask_flag h _ query w = Gives (pos 0) w []
+abbrev pub ask_flag : Scene → ExprTree → Query → World → Ran ℤ
+ask_flag m (parenthesized e) query w = ask_flag m e query w
+ask_flag m (named x) query w = asked query (flag_number m.here x) w
+ask_flag m _ query w = Gives (pos 0) w []
 
 -- A decimal constant, also in parentheses.
 abbrev pub is_decimal : ExprTree → Bool
@@ -151,70 +152,70 @@ is_decimal (constant t) = is kind.Decimal t.kind
 is_decimal _ = false
 
 -- `printf` with its numbers.
-abbrev pub printing : Here → ℕ → List ℤ → World → Ran ℤ
-printing h format taken w = printed h.set_name (text_of (formats_of h) format) taken w
+abbrev pub printing : Scene → ℕ → List ℤ → World → Ran ℤ
+printing m format taken w = printed m.set_name (text_of (formats_of m.here) format) taken w
 
 -- ---- expressions
 
 abbrev mutual
   -- an expression
-  pub value_of : Here → ExprTree → World → Ran ℤ
-  value_of h (constant t) w = Gives (constant_of t.kind t.text.now) w []
-  value_of h (parenthesized e) w = value_of h e w
-  value_of h (named x) w = named_value h.set (sense_of h x) w
-  value_of h (element x b e) w = then_do (value_of h e w) (at_subscript (sense_of h x) b.pos.line (read h.set) (gives (pos 0)))
-  value_of h (call f all) w = called (builtin_of f.text.now) (print_of h all) (wait_of h all) (put_of h all) (ask_of h all) w
-  value_of h (postfix e op) w =
-      signed (sign_of op.kind) (λ by. at_target h e (λ v x. adjusted h.set v by op.pos.line x.pos.line true (pos 0))
-      (λ v x. adjusted h.set v by op.pos.line x.pos.line true) (gives (pos 0))) (value_of h e) op.pos.line w
-  value_of h (prefix op e) w =
-      signed (sign_of op.kind) (λ by. at_target h e (λ v x. adjusted h.set v by op.pos.line x.pos.line false (pos 0))
-      (λ v x. adjusted h.set v by op.pos.line x.pos.line false) (gives (pos 0))) (value_of h e) op.pos.line w
-  value_of h (chain e rest) w = then_do (value_of h e w) (chained h rest)
-  value_of h (conditional c a b) w = then_do (value_of h c w) (either (value_of h a) (value_of h b))
-  value_of h (assignment e op r) w =
-      at_target h e (λ v x. put_at (compound_of op.kind) op.pos.line (value_of h r) h.set v x.pos.line (pos 0))
-      (λ v x. put_at (compound_of op.kind) op.pos.line (value_of h r) h.set v x.pos.line) (value_of h r) w
+  pub value_of : Scene → ExprTree → World → Ran ℤ
+  value_of m (constant t) w = Gives (constant_of t.kind t.text.now) w []
+  value_of m (parenthesized e) w = value_of m e w
+  value_of m (named x) w = named_value m.set (sense_of m.here x) w
+  value_of m (element x b e) w = then_do (value_of m e w) (at_subscript (sense_of m.here x) b.pos.line (read m.set) (gives (pos 0)))
+  value_of m (call f all) w = called (builtin_of f.text.now) (print_of m all) (wait_of m all) (put_of m all) (ask_of m all) w
+  value_of m (postfix e op) w =
+      signed (sign_of op.kind) (λ by. at_target m e (λ v x. adjusted m.set v by op.pos.line x.pos.line true (pos 0))
+      (λ v x. adjusted m.set v by op.pos.line x.pos.line true) (gives (pos 0))) (value_of m e) op.pos.line w
+  value_of m (prefix op e) w =
+      signed (sign_of op.kind) (λ by. at_target m e (λ v x. adjusted m.set v by op.pos.line x.pos.line false (pos 0))
+      (λ v x. adjusted m.set v by op.pos.line x.pos.line false) (gives (pos 0))) (value_of m e) op.pos.line w
+  value_of m (chain e rest) w = then_do (value_of m e w) (chained m rest)
+  value_of m (conditional c a b) w = then_do (value_of m c w) (either (value_of m a) (value_of m b))
+  value_of m (assignment e op r) w =
+      at_target m e (λ v x. put_at (compound_of op.kind) op.pos.line (value_of m r) m.set v x.pos.line (pos 0))
+      (λ v x. put_at (compound_of op.kind) op.pos.line (value_of m r) m.set v x.pos.line) (value_of m r) w
 
   -- the operators and operands of one level, after what stands left of them
-  pub chained : Here → TermList → ℤ → World → Ran ℤ
-  chained h no_terms left w = Gives left w []
-  chained h (term op e rest) left w = then_do (joined_by (joint_of op.kind) op.pos.line (value_of h e) left w) (chained h rest)
+  pub chained : Scene → TermList → ℤ → World → Ran ℤ
+  chained m no_terms left w = Gives left w []
+  chained m (term op e rest) left w = then_do (joined_by (joint_of op.kind) op.pos.line (value_of m e) left w) (chained m rest)
 
   -- what is done at a target, which may stand in parentheses and whose subscript comes first; where an expression is
   -- no target, something else
-  pub at_target : Here → ExprTree → OnVariable → OnElement → (World → Ran ℤ) → World → Ran ℤ
-  at_target h (parenthesized e) alone indexed other w = at_target h e alone indexed other w
-  at_target h (named x) alone indexed other w = at_name (sense_of h x) x alone other w
-  at_target h (element x b e) alone indexed other w =
-      then_do (value_of h e w) (at_subscript (sense_of h x) b.pos.line (λ v. indexed v x) other)
-  at_target h _ alone indexed other w = other w
+  pub at_target : Scene → ExprTree → OnVariable → OnElement → (World → Ran ℤ) → World → Ran ℤ
+  at_target m (parenthesized e) alone indexed other w = at_target m e alone indexed other w
+  at_target m (named x) alone indexed other w = at_name (sense_of m.here x) x alone other w
+  at_target m (element x b e) alone indexed other w =
+      then_do (value_of m e w) (at_subscript (sense_of m.here x) b.pos.line (λ v. indexed v x) other)
+  at_target m _ alone indexed other w = other w
 
   -- `printf` with its arguments
-  pub print_of : Here → ArgumentList → World → Ran ℤ
-  print_of h (text t rest) w = printing_with h (format_number h t) rest [] w
-  print_of h _ w = Gives (pos 0) w []
+  pub print_of : Scene → ArgumentList → World → Ran ℤ
+  print_of m (text t rest) w = printing_with m (format_number m.here t) rest [] w
+  print_of m _ w = Gives (pos 0) w []
 
   -- `printf` with a format and the arguments after it, with the numbers so far, the last one first
-  pub printing_with : Here → ℕ → ArgumentList → List ℤ → World → Ran ℤ
-  printing_with h format no_arguments taken w = printing h format taken w
-  printing_with h format (text t rest) taken w = printing_with h format rest taken w
-  printing_with h format (value e rest) taken w = then_do (value_of h e w) (λ z. printing_with h format rest (z ∷ taken))
+  pub printing_with : Scene → ℕ → ArgumentList → List ℤ → World → Ran ℤ
+  printing_with m format no_arguments taken w = printing m format taken w
+  printing_with m format (text t rest) taken w = printing_with m format rest taken w
+  printing_with m format (value e rest) taken w = then_do (value_of m e w) (λ z. printing_with m format rest (z ∷ taken))
 
   -- `delay` with its argument
-  pub wait_of : Here → ArgumentList → World → Ran ℤ
-  wait_of h (value e rest) w = then_do (value_of h e w) (waited h.set (not (is_decimal e)))
-  wait_of h _ w = Gives (pos 0) w []
+  pub wait_of : Scene → ArgumentList → World → Ran ℤ
+  wait_of m (value e rest) w = then_do (value_of m e w) (waited m.set (not (is_decimal e)))
+  wait_of m _ w = Gives (pos 0) w []
 
   -- `pvPut` with its argument, and perhaps `ASYNC`. The subscript of an element comes first, and is checked.
-  pub put_of : Here → ArgumentList → World → Ran ℤ
-  put_of h (value e rest) w = at_target h e (λ v x. put_to (has_async rest) h.set v) (λ v x. put_element (has_async rest) h.set v) (gives (pos 0)) w
-  put_of h _ w = Gives (pos 0) w []
+  pub put_of : Scene → ArgumentList → World → Ran ℤ
+  put_of m (value e rest) w = at_target m e (λ v x. put_to (has_async rest) m.set v) (λ v x. put_element (has_async rest) m.set v) (gives (pos 0)) w
+  put_of m _ w = Gives (pos 0) w []
 
   -- a call that asks: of the link of a variable or of an element, whose subscript comes first, or of an event flag; without an
   -- argument, of all links
-  pub ask_of : Here → ArgumentList → Query → World → Ran ℤ
-  ask_of h no_arguments query w = asked query 0 w
-  ask_of h (value e rest) query w =
-      at_target h e (λ v x. ask_variable query h.set v) (λ v x. ask_element query h.set v) (ask_flag h e query) w
-  ask_of h (text t rest) query w = Gives (pos 0) w []
+  pub ask_of : Scene → ArgumentList → Query → World → Ran ℤ
+  ask_of m no_arguments query w = asked query 0 w
+  ask_of m (value e rest) query w =
+      at_target m e (λ v x. ask_variable query m.set v) (λ v x. ask_element query m.set v) (ask_flag m e query) w
+  ask_of m (text t rest) query w = Gives (pos 0) w []

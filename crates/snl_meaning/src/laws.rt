@@ -7,7 +7,7 @@ ghost use Rattle.snl_meaning.specs.LinkExamples.{LinkExamples};
 ghost use Rattle.snl_meaning.specs.Histories.{QueuesKeepOrder};
 ghost use Rattle.snl_meaning.specs.Frames.{PiecesKeepTheFrame, StepsKeepTheFrame};
 ghost use Rattle.snl_meaning.specs.Puts.{PlainPutsKnowNoMarks, WaitingPutsNothing};
-ghost use Rattle.snl_meaning.specs.Keeping.{ConditionsKeepTicks, PiecesGiveNoTicks, PiecesKeepThePhase, PiecesKeepTime};
+ghost use Rattle.snl_meaning.specs.Keeping.{PiecesGiveNoTicks, PiecesKeepThePhase, PiecesKeepTime};
 ghost use Rattle.snl_meaning.specs.Laws.{BlocksForget, TextsAreFound, TurnsAreEnough, VariablesAreApart, VariablesLieWithin};
 
 /// Only an instruction that spends a tick leads back.
@@ -21,7 +21,8 @@ pub fn steps_are_bounded()
     ensures { StepsAreBounded }
 {}
 
-/// A run that is over within the first instructions, and spent no tick, did no more of them than lie from its start on.
+/// A run that is over within the first instructions did no more of them than lie from its start on, and as many more as the
+/// code has for each tick that it spent.
 #[tactic(auto, using(crate::proofs::Counts::stretches_are_bounded))]
 pub fn stretches_are_bounded()
     ensures { StretchesAreBounded }
@@ -74,12 +75,6 @@ pub fn pieces_keep_time()
 #[tactic(auto, using(crate::proofs::Keeping::pieces_keep_the_phase))]
 pub fn pieces_keep_the_phase()
     ensures { PiecesKeepThePhase }
-{}
-
-/// A condition leaves the ticks as they are, also where it comes to a fault.
-#[tactic(auto, using(crate::proofs::Keeping::conditions_keep_ticks))]
-pub fn conditions_keep_ticks()
-    ensures { ConditionsKeepTicks }
 {}
 
 /// No condition and no block gives ticks back.

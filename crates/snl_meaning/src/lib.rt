@@ -16,7 +16,7 @@ mod ties;
 pub use faults::Fault;
 pub use instrs::{Instr, Variable};
 pub use live::Live;
-pub use names::{Known, Placed, Sense};
+pub use names::{Known, Outline, Placed, Sense};
 pub use offsets::Offsets;
 pub use operators::{Joint, Sign, compound_of, is_decimal, joint_of, sign_of};
 pub use places::Places;

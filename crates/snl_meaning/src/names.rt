@@ -30,14 +30,19 @@ pub struct Placed {
     pub variable: Variable,
 }
 
+/// What code knows of a function.
+#[derive(Clone, Copy)]
+pub struct Outline<'a> {
+    /// Its name.
+    pub name: &'a [u8],
+    /// How many operands its body needs at once.
+    pub depth: usize,
+}
+
 /// What is known where a piece of code stands.
 #[derive(Clone, Copy)]
 pub struct Known<'s, 'a> {
-    /// The number of the state set on whose copy the piece runs.
-    pub set: usize,
-    /// Its name.
-    pub set_name: &'a [u8],
-    /// The names of its states.
+    /// The names of the states of its state set.
     pub states: &'s Numbered<'a>,
     /// The sites of the program.
     pub sites: &'s Sites<'s, 'a>,

@@ -32,7 +32,7 @@ pub struct Entry {
     text: Vec<u8>,
 }
 
-/// Adds what is said of a matter at a place. Its message may quote these bytes.
+/// Adds what is said of a matter at a place. Its message may quote these bytes. Fails only where memory ends.
 pub fn note(
     alloc: Global,
     matter: Matter,

@@ -28,7 +28,7 @@ fn note_broken(alloc: Global, broken: Broken, entries: &mut Vec<Entry>) -> Resul
     )
 }
 
-/// Notes each rule that a site breaks.
+/// Notes each rule that a site breaks. Fails only where memory ends.
 pub fn note_rules(
     alloc: Global,
     broken: &[Broken],
@@ -43,7 +43,7 @@ pub fn note_rules(
     Ok(())
 }
 
-/// Notes each state that cannot be reached, by its name.
+/// Notes each state that cannot be reached, by its name. Fails only where memory ends.
 pub fn note_unreached(
     alloc: Global,
     names: &[Token],
@@ -58,7 +58,7 @@ pub fn note_unreached(
     Ok(())
 }
 
-/// Notes each piece of embedded C, by its place.
+/// Notes each piece of embedded C, by its place. Fails only where memory ends.
 pub fn note_embedded(
     alloc: Global,
     embedded: &[Pos],
@@ -73,7 +73,7 @@ pub fn note_embedded(
     Ok(())
 }
 
-/// Notes each state set that takes too many words, by its word `ss`.
+/// Notes each state set that takes too many words, by its word `ss`. Fails only where memory ends.
 pub fn note_overfull(
     alloc: Global,
     words: &[Token],
@@ -88,7 +88,7 @@ pub fn note_overfull(
     Ok(())
 }
 
-/// Notes the first token past the limit, if there is one.
+/// Notes the first token past the limit, if there is one. Fails only where memory ends.
 pub fn note_beyond(
     alloc: Global,
     beyond: Option<Pos>,
@@ -103,7 +103,7 @@ pub fn note_beyond(
     }
 }
 
-/// Notes at the word `program` that safe mode is not asked for, where it is not.
+/// Notes at the word `program` that safe mode is not asked for, where it is not. Fails only where memory ends.
 pub fn note_mode(
     alloc: Global,
     is_safe: bool,
@@ -120,7 +120,7 @@ pub fn note_mode(
     }
 }
 
-/// Notes at the word `program` that all words pass their limit, where they do.
+/// Notes at the word `program` that all words pass their limit, where they do. Fails only where memory ends.
 pub fn note_words(
     alloc: Global,
     is_overfull: bool,
@@ -137,7 +137,7 @@ pub fn note_words(
     }
 }
 
-/// Notes at the word `program` that functions do not run yet, where one is defined.
+/// Notes at the word `program` that functions do not run yet, where one is defined. Fails only where memory ends.
 pub fn note_functions(
     alloc: Global,
     has_functions: bool,

@@ -259,7 +259,7 @@ impl Matter {
         }
     }
 
-    /// The text of its message, which may quote these bytes.
+    /// The text of its message, which may quote these bytes. Fails only where memory ends.
     pub fn text(self, alloc: Global, quote: &[u8]) -> Result<Vec<u8>, AllocError>
         ensures { IfOk result (λ text. text.items ≡ text_of (wording self) quote.now) }
     {

@@ -59,7 +59,7 @@ fn messages_in(alloc: Global, entries: Vec<Entry>) -> Result<Vec<Message>, Alloc
         .collect(alloc)
 }
 
-/// The messages of what is found, in order, one for each place and number.
+/// The messages of what is found, in order, one for each place and number. Fails only where memory ends.
 pub fn in_order(alloc: Global, mut entries: Vec<Entry>) -> Result<Vec<Message>, AllocError>
     ensures given { IfOk result (λ v. (m : Said) → Contains (map said v.items) m
         ↔ IsGiven (Contains (map finding_in entries.items)) m) }

@@ -77,7 +77,7 @@ fn letter_of(alloc: Global, sign: Token, refused: Option<u8>) -> Result<Vec<u8>,
     Ok(text)
 }
 
-/// What a message at a site quotes.
+/// What a message at a site quotes. Fails only where memory ends.
 pub fn quote_of(alloc: Global, site: Site) -> Result<Vec<u8>, AllocError>
     ensures { IfOk result (λ text. text.items ≡ spec.quote_of site.entry) }
 {

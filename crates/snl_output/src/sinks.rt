@@ -1,4 +1,4 @@
-//! `Sink`: where the lines of a run go.
+//! `Sink`: where the lines of a run go, and what it hears beside them.
 
 use thiserror::Error;
 
@@ -7,7 +7,47 @@ use thiserror::Error;
 #[error("the output can't be written")]
 pub struct SinkFault;
 
-/// Where the lines of a run go.
+/// A clause of a state fired: its condition held, or it has none. Its tick, its block and its line come next, and where one of
+/// them stops the run there is no line of it.
+#[derive(Clone, Copy, Debug, PartialEq, Eq)]
+pub struct Fired {
+    /// When, in milliseconds.
+    pub ms: u64,
+    /// The number of the state set, from 0 on, in the order of the source.
+    pub set: usize,
+    /// The number of the state that it was in, from 0 on, in the order of the source.
+    pub state: usize,
+    /// The number of the clause among those of that state, from 0 on, in the order of the source.
+    pub clause: usize,
+}
+
+/// Why a `pvPut` was refused (SNL Reference, "pvPut").
+#[derive(Clone, Copy, Debug, PartialEq, Eq)]
+pub enum Refusal {
+    /// No channel is assigned to what was put: -1.
+    NoLink,
+    /// The channel is not connected: -2.
+    Down,
+    /// With `ASYNC`, an earlier put was not answered yet: -1.
+    Waiting,
+}
+
+/// A `pvPut` was refused: it wrote no line.
+#[derive(Clone, Copy, Debug, PartialEq, Eq)]
+pub struct Refused {
+    /// When, in milliseconds.
+    pub ms: u64,
+    /// The number of the state set that put, from 0 on, in the order of the source.
+    pub set: usize,
+    /// The number of the channel, from 0 on, in the order in which `assign` definitions first name channels; None where there is
+    /// no link.
+    pub channel: Option<usize>,
+    /// Why.
+    pub why: Refusal,
+}
+
+/// Where the lines of a run go. It may also hear which clauses fired and which puts were refused, beside the lines and in their
+/// order; one that wants lines alone says nothing of that.
 ///
 /// A sink may tell the bytes that it was given so far (one over a real stream tells nothing), and
 /// counts its failures.
@@ -29,4 +69,17 @@ pub trait Sink {
         ensures untaken { OnErr result (told self.new ≡ told self.old) }
         ensures failures { failures self.new ≡ (if write_fails result
             (length piece.now) then failures self.old + 1 else failures self.old) };
+
+    /// Hears that a clause fired, before its tick and its block. The words are those of the state set's copy as the conditions
+    /// left them, one variable after another: who listens can tell what the condition saw.
+    fn fired(&mut self, _clause: Fired, _words: &[i64])
+        ensures told { told self.new ≡ told self.old }
+        ensures failures { failures self.new ≡ failures self.old }
+    {}
+
+    /// Hears that a put was refused, where its line would be.
+    fn refused(&mut self, _put: Refused)
+        ensures told { told self.new ≡ told self.old }
+        ensures failures { failures self.new ≡ failures self.old }
+    {}
 }

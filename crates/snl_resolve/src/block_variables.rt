@@ -75,7 +75,7 @@ fn push_statements<'p, 'a>(
     Ok(())
 }
 
-/// Adds the variables of a block, and of the blocks in it.
+/// Adds the variables of a block, and of the blocks in it. Fails only where memory ends.
 #[cycle(held)]
 pub fn push_block<'p, 'a>(
     alloc: Global,
@@ -93,7 +93,7 @@ pub fn push_block<'p, 'a>(
     push_statements(alloc, block.statements.as_slice(), &scopes, kept)
 }
 
-/// Adds the variables of a block, if it is there.
+/// Adds the variables of a block, if it is there. Fails only where memory ends.
 pub fn push_if_there<'p, 'a>(
     alloc: Global,
     block: &'p Option<Box<Block<'a>>>,

@@ -17,7 +17,7 @@ use crate::sizes::size_of;
 use snl_syntax::{Declaration, Declarator, Expr, Initialiser, TypeName};
 use std::alloc::AllocError;
 
-/// Notes the sites in an expression that stands for its value, outside of a condition.
+/// Notes the sites in an expression that stands for its value, outside of a condition. Fails only where memory ends.
 pub fn note_value<'a>(
     value: &Expr<'a>,
     sight: &Sight<'_, 'a>,
@@ -29,7 +29,7 @@ pub fn note_value<'a>(
     note_expression(value, false, sight, Purpose::Read, sites)
 }
 
-/// Notes the sites in an expression that may be missing.
+/// Notes the sites in an expression that may be missing. Fails only where memory ends.
 pub fn note_if_there<'a>(
     value: &Option<Box<Expr<'a>>>,
     sight: &Sight<'_, 'a>,
@@ -122,7 +122,7 @@ fn note_declarator<'a>(
     note_initialiser(&declarator.initial, sight, sites)
 }
 
-/// Notes a type, of a declaration, a function or a parameter.
+/// Notes a type, of a declaration, a function or a parameter. Fails only where memory ends.
 pub fn note_type<'a>(type_name: TypeName<'a>, sites: &mut Vec<Site<'a>>) -> Result<(), AllocError>
     ensures { OnOk result (sites.new.items ≡ sites.old.items
         ++ spec.at_type (type_view type_name.entry) ∷ []) }
@@ -153,7 +153,7 @@ fn note_declarators<'a>(
     Ok(())
 }
 
-/// Notes the sites in a declaration; its names are noted with their scope.
+/// Notes the sites in a declaration; its names are noted with their scope. Fails only where memory ends.
 pub fn note_declaration<'a>(
     declared: &Declaration<'a>,
     sight: &Sight<'_, 'a>,

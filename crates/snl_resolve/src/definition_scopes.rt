@@ -88,7 +88,7 @@ fn declared_of<'a>(
     Ok(found)
 }
 
-/// What definitions declare within other scopes.
+/// What definitions declare within other scopes. Fails only where memory ends.
 pub fn definition_names<'a>(
     alloc: Global,
     definitions: &[Def<'a>],
@@ -115,7 +115,7 @@ pub fn scope_of<'a>(
     Scope::of(alloc, declared)
 }
 
-/// The scope of definitions within others; notes each declared name.
+/// The scope of definitions within others; notes each declared name. Fails only where memory ends.
 pub fn definition_scope<'a>(
     alloc: Global,
     definitions: &[Def<'a>],

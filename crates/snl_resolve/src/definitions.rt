@@ -191,7 +191,7 @@ fn note_setting<'a>(
 }
 
 /// Notes the sites in a definition or an option, of a state or elsewhere; declared names are noted
-/// with their scope, and a function with those of its program.
+/// with their scope, and a function with those of its program. Fails only where memory ends.
 pub fn note_definition<'a>(
     definition: &Def<'a>,
     in_state: bool,
@@ -231,7 +231,7 @@ fn note_each<'a>(
 }
 
 /// Notes the sites in definitions, their declared names first; gives the scope that they make
-/// within others.
+/// within others. Fails only where memory ends.
 pub fn note_definitions<'a>(
     alloc: Global,
     definitions: &[Def<'a>],

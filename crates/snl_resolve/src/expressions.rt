@@ -18,6 +18,7 @@ use snl_syntax::{Argument, Expr, Term};
 use std::alloc::AllocError;
 
 /// Notes the sites in an expression that stands in a clause's condition or not, for a purpose.
+/// Fails only where memory ends.
 #[cycle(expression)]
 pub fn note_expression<'a>(
     expression: &Expr<'a>,

@@ -26,7 +26,7 @@ use snl_syntax::{Block, Def, Function, Parameter, TypeName};
 use snl_text::Token;
 use std::alloc::{AllocError, Global};
 
-/// What the parameters of a function declare.
+/// What the parameters of a function declare. Fails only where memory ends.
 pub fn parameter_names<'a>(
     alloc: Global,
     parameters: &[Parameter<'a>],
@@ -205,6 +205,7 @@ fn note_next<'a>(
 }
 
 /// Notes the sites in the definitions of a program, within its scope; gives its functions.
+/// Fails only where memory ends.
 pub fn note_program_parts<'a>(
     alloc: Global,
     definitions: &[Def<'a>],

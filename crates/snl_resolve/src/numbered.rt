@@ -59,7 +59,7 @@ impl<'a> Numbered<'a> {
         }
     }
 
-    /// These names, with their numbers.
+    /// These names, with their numbers. Fails only where memory ends.
     pub fn of(alloc: Global, names: Vec<Token<'a>>) -> Result<Numbered<'a>, AllocError>
         ensures { IfOk result (λ numbered. numbered ≡ names.entry.items) }
     {

@@ -97,7 +97,7 @@ fn note_first<'a>(
 }
 
 impl<'a> Scope<'a> {
-    /// The scope that declares these names.
+    /// The scope that declares these names. Fails only where memory ends.
     pub fn of(alloc: Global, declared: Vec<Declared<'a>>) -> Result<Scope<'a>, AllocError>
         ensures { IfOk result (λ scope. scope ≡ declared.entry.items) }
     {
@@ -141,7 +141,7 @@ fn note_declared<'a>(
     pushed(sites, declaration_site(declared, is_later))
 }
 
-/// The scope that declares these names; notes each of them.
+/// The scope that declares these names; notes each of them. Fails only where memory ends.
 pub fn scope_with<'a>(
     alloc: Global,
     declared: Vec<Declared<'a>>,

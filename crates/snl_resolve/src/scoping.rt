@@ -15,7 +15,7 @@ use crate::sizes::size_of;
 use snl_syntax::{Declaration, Declarator};
 use std::alloc::{AllocError, Global};
 
-/// Adds the names of a declaration.
+/// Adds the names of a declaration. Fails only where memory ends.
 pub fn push_names<'a>(
     declared: &Declaration<'a>,
     names: &mut Vec<Declared<'a>>,
@@ -47,7 +47,7 @@ fn declared_for<'a>(declarator: &Declarator<'a>, scopes: &Scopes<'_, 'a>) -> Dec
     }
 }
 
-/// Adds the names of a declaration with their sizes.
+/// Adds the names of a declaration with their sizes. Fails only where memory ends.
 pub fn push_declared<'a>(
     declared: &Declaration<'a>,
     scopes: &Scopes<'_, 'a>,
@@ -95,7 +95,7 @@ fn declared_of<'a>(
     Ok(found)
 }
 
-/// What a block declares within other scopes.
+/// What a block declares within other scopes. Fails only where memory ends.
 pub fn block_names<'a>(
     alloc: Global,
     declarations: &[Declaration<'a>],
@@ -110,7 +110,7 @@ pub fn block_names<'a>(
     declared_of(alloc, declarations, &Scopes::Within(&names, outer))
 }
 
-/// The scope of a block within others; notes each declared name.
+/// The scope of a block within others; notes each declared name. Fails only where memory ends.
 pub fn block_scope<'a>(
     alloc: Global,
     declarations: &[Declaration<'a>],

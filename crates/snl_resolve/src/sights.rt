@@ -65,7 +65,7 @@ impl<'a> Functions<'a> {
         }
     }
 
-    /// One function more, behind the others.
+    /// One function more, behind the others. Fails only where memory ends.
     pub fn with(self, heading: Heading<'a>) -> Result<Functions<'a>, AllocError>
         ensures { IfOk result (λ functions. functions ≡ self.entry ++ heading.entry ∷ []) }
     {
@@ -99,7 +99,7 @@ pub struct Sight<'s, 'a> {
 }
 
 impl<'s, 'a> Sight<'s, 'a> {
-    /// The same within one scope more.
+    /// What is seen from within one scope more.
     pub fn within(&'s self, scope: &'s Scope<'a>) -> Sight<'s, 'a>
         ensures { sight_of result ≡ spec.within scope.now (sight_of self.now) }
     {

@@ -126,7 +126,7 @@ fn note_return<'a>(
     note_if_there(value, sight, sites)
 }
 
-/// Notes the target of a clause or of a state statement.
+/// Notes the target of a clause or of a state statement. Fails only where memory ends.
 pub fn note_target<'a>(
     states: &Numbered<'a>,
     name: Token<'a>,
@@ -216,7 +216,7 @@ fn note_statements<'a>(
     Ok(())
 }
 
-/// Notes the sites in a block.
+/// Notes the sites in a block. Fails only where memory ends.
 #[cycle(statement)]
 pub fn note_block<'a>(
     alloc: Global,

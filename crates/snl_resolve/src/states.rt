@@ -21,7 +21,7 @@ use crate::statements::{Around, note_block, note_target};
 use snl_syntax::{Block, Clause, Expr, State, Target};
 use std::alloc::{AllocError, Global};
 
-/// Notes the sites in a block outside of clauses, if it is there.
+/// Notes the sites in a block outside of clauses, if it is there. Fails only where memory ends.
 pub fn note_plain_block<'a>(
     alloc: Global,
     block: &Option<Box<Block<'a>>>,
@@ -146,7 +146,7 @@ fn note_blocks<'a>(
     note_plain_block(alloc, &state.exit, sight, states, sites)
 }
 
-/// Notes the sites in a state of a state set whose states have these names.
+/// Notes the sites in a state of a state set whose states have these names. Fails only where memory ends.
 pub fn note_state<'a>(
     alloc: Global,
     state: &State<'a>,

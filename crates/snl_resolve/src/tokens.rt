@@ -19,7 +19,7 @@ use snl_syntax::{Argument, Expr};
 use snl_text::{Kind, Token};
 use std::alloc::AllocError;
 
-/// Notes a constant, if it is a decimal one.
+/// Notes a constant, if it is a decimal one. Fails only where memory ends.
 pub fn note_constant<'a>(
     purpose: Purpose,
     token: Token<'a>,
@@ -40,7 +40,7 @@ pub fn note_constant<'a>(
     }
 }
 
-/// Notes the use of a name, with a subscript or not.
+/// Notes the use of a name, with a subscript or not. Fails only where memory ends.
 pub fn note_use<'a>(
     scopes: &Scopes<'_, 'a>,
     purpose: Purpose,
@@ -64,7 +64,7 @@ pub fn note_use<'a>(
     )
 }
 
-/// Notes an operator that changes its target.
+/// Notes an operator that changes its target. Fails only where memory ends.
 pub fn note_change<'a>(
     purpose: Purpose,
     target: &Expr,
@@ -77,7 +77,7 @@ pub fn note_change<'a>(
     pushed(sites, change_site(purpose, target, operator))
 }
 
-/// Notes a prefix operator, if it is `++` or `--`; gives what its operand is for.
+/// Notes a prefix operator, if it is `++` or `--`; gives what its operand is for. Fails only where memory ends.
 pub fn note_prefix<'a>(
     operand: &Expr,
     purpose: Purpose,
@@ -97,7 +97,7 @@ pub fn note_prefix<'a>(
     Ok(purpose.inner())
 }
 
-/// Notes a call; gives what its arguments are for.
+/// Notes a call; gives what its arguments are for. Fails only where memory ends.
 pub fn note_call<'a>(
     arguments: &[Argument<'a>],
     sight: &Sight<'_, 'a>,
@@ -121,7 +121,7 @@ pub fn note_call<'a>(
     Ok(purpose.argument(kind, fitting))
 }
 
-/// Notes a string as an argument, with so many arguments after it.
+/// Notes a string as an argument, with so many arguments after it. Fails only where memory ends.
 pub fn note_format<'a>(
     purpose: Purpose,
     format: Token<'a>,

@@ -63,7 +63,7 @@ fn held_for<'p, 'a>(
     }
 }
 
-/// Adds the variables of a declaration.
+/// Adds the variables of a declaration. Fails only where memory ends.
 pub fn push_held<'p, 'a>(
     declared: &'p Declaration<'a>,
     scopes: &Scopes<'_, 'a>,

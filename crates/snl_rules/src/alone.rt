@@ -7,7 +7,7 @@ use crate::rules::Rule;
 use snl_resolve::{Meaning, Purpose, Site, Size};
 use std::alloc::AllocError;
 
-/// Adds a rule, where a test holds.
+/// Adds a rule, where a test holds. Fails only where memory ends.
 pub fn tell_when(test: bool, rule: Rule, found: &mut Vec<Rule>) -> Result<(), AllocError>
     ensures { OnOk result (found.new.items ≡ found.old.items ++ spec.when test rule) }
 {
@@ -113,7 +113,7 @@ fn tell_state(is_later: bool, has_clauses: bool, found: &mut Vec<Rule>) -> Resul
 }
 
 /// Adds the rules that a site breaks by itself (SNL Reference: each rule in the section of its
-/// construct).
+/// construct). Fails only where memory ends.
 pub fn tell_alone(site: &Site, found: &mut Vec<Rule>) -> Result<(), AllocError>
     ensures { OnOk result (found.new.items ≡ found.old.items ++ spec.alone site.now) }
 {

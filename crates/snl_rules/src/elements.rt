@@ -194,7 +194,7 @@ impl Elements {
         Ok(())
     }
 
-    /// Notes what a site names, where it is a definition of such a sort.
+    /// Notes what a site names, where it is a definition of such a sort. Fails only where memory ends.
     pub fn note_site(&mut self, naming: Naming, site: &Site) -> Result<(), AllocError>
         ensures { OnOk result (spec.named_in self.new
             ≡ tests.with_part (spec.named_in self.old) (part_at (spec.sorts_of naming) site.now)) }
@@ -205,7 +205,7 @@ impl Elements {
         Ok(())
     }
 
-    /// Notes what the definitions of such a sort name, of all in some sites.
+    /// Notes what the definitions of such a sort name, of all in some sites. Fails only where memory ends.
     pub fn note_all(&mut self, naming: Naming, sites: &[Site]) -> Result<(), AllocError>
         requires { spec.IsEmpty self.old }
         ensures { OnOk result (spec.named_in self.new

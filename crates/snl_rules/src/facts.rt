@@ -139,7 +139,7 @@ impl Known {
         }
     }
 
-    /// Notes what is known of some sites.
+    /// Notes what is known of some sites. Fails only where memory ends.
     pub fn note_all(&mut self, sites: &[Site]) -> Result<(), AllocError>
         requires { spec.IsBlank self.old }
         ensures { OnOk result (spec.known_in self.new ≡ tests.all_facts sites.now) }
@@ -245,7 +245,7 @@ impl Seen {
         }
     }
 
-    /// Notes a site.
+    /// Notes a site. Fails only where memory ends.
     pub fn note(&mut self, site: &Site) -> Result<(), AllocError>
         ensures { OnOk result (spec.seen_in self.new
             ≡ tests.seen_after (spec.seen_in self.old) site.now) }

@@ -78,7 +78,7 @@ fn words_by_sizes(sizes: &IndexMap<usize, u64>, sites: &[Site]) -> u64
     words
 }
 
-/// The words of the buffers and queues of all links, at most 2^64 - 1.
+/// The words of the buffers and queues of all links, at most 2^64 - 1. Fails only where memory ends.
 pub fn words_of_all_links(alloc: Global, sites: &[Site]) -> Result<u64, AllocError>
     ensures { IfOk result (λ words. words ≡ capped (spec.links_words sites.now)) }
 {

@@ -60,7 +60,7 @@ fn note_queue(
 }
 
 /// The size of the queue of each variable that has one, by the place of its declaration: that of the
-/// first `syncQ` that names it.
+/// first `syncQ` that names it. Fails only where memory ends.
 pub fn queue_sizes(alloc: Global, sites: &[Site]) -> Result<IndexMap<usize, u64>, AllocError>
     ensures { IfOk result (λ sizes. IsQueueTable sizes sites.now) }
 {

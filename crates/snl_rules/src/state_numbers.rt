@@ -28,6 +28,7 @@ fn note_number<'a>(
 }
 
 /// The number of each state, from 0 on, by its name; of states with one name that of the first.
+/// Fails only where memory ends.
 pub fn state_numbers<'a>(
     alloc: Global,
     states: &[State<'a>],

@@ -108,6 +108,7 @@ fn push_clauses<'a>(clauses: &[Clause<'a>], names: &mut Vec<Token<'a>>) -> Resul
 }
 
 /// Adds the names that stand as targets in a state, in its clauses and in state statements.
+/// Fails only where memory ends.
 pub fn push_targets<'a>(state: &State<'a>, names: &mut Vec<Token<'a>>) -> Result<(), AllocError>
     ensures { OnOk result (names.new.items ≡ names.old.items
         ++ spec.targets_in_state (state_view state.now)) }

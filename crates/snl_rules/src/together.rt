@@ -230,6 +230,7 @@ fn tell_use(
 }
 
 /// Adds the rules that a site breaks beside what is known of the sites before it and of all sites.
+/// Fails only where memory ends.
 pub fn tell_together(
     seen: &Seen,
     known: &Known,

@@ -1,7 +1,6 @@
 pub mod Choices
 pub mod Faulting
 pub mod Telling
-pub mod Rooms
 pub mod OneByOne
 pub mod Opening
 pub mod Facts

@@ -6,8 +6,7 @@ use Rattle.snl_meaning.specs.Ran.{Ran, Gives, then_do}
 use Rattle.snl_meaning.specs.Endings.{IsOver}
 use Rattle.snl_meaning.specs.Run.{PieceContext, run_of}
 use Rattle.snl_meaning.specs.World.{World}
-use Rattle.snl_vm.specs.declared.contexts.PieceContext as declared
-use Rattle.snl_vm.specs.Running.{names_of, LeavesValue, value_at, left_at}
+use Rattle.snl_vm.specs.Running.{context_by, LeavesValue, value_at, left_at}
 use Rattle.snl_schedule.specs.declared.plans.ClausePlan.{ClausePlan}
 use Rattle.snl_schedule.specs.declared.plans.StatePlan.{StatePlan}
 use Rattle.snl_schedule.specs.declared.plans.SetPlan.{SetPlan}
@@ -51,15 +50,19 @@ abbrev pub clause_by : PieceContext → List Instr → Option ClausePlan → Opt
 clause_by g code None = None
 clause_by g code (Some c) = Some (clause_of g code c)
 
--- What code runs with in a context, with room for so many operands.
-abbrev pub context_for : declared.PieceContext → ℕ → PieceContext
-context_for c room = let n = names_of c in record { set = c.set; name = n.name; formats = n.formats; room = room }
-
 -- What the code of a state set runs with.
 abbrev pub context_on : SetContext → PieceContext
-context_on t = context_for t.context t.room
+context_on t = context_by t.context
 
--- The state set of a context.
+-- What stands for a clause of the state set of a context,
+abbrev pub clause_on : SetContext → ClausePlan → Clause
+clause_on t c = clause_of (context_on t) t.code.now c
+
+-- the plan of its state of a number, if there is such a state,
+abbrev pub state_at : SetContext → ℕ → Option StatePlan
+state_at t state = slice_get t.plan.now.states.items state
+
+-- and the state set.
 abbrev pub set_on : SetContext → StateSet
 set_on t = set_of (context_on t) t.code.now t.plan.now
 
@@ -98,3 +101,7 @@ pub record CanRunState (g : PieceContext) (code : List Instr) (s : StatePlan) : 
 -- and those of some states.
 abbrev pub CanRunSet : PieceContext → List Instr → List StatePlan → Type 0
 CanRunSet g code states = (k : ℕ) (s : StatePlan) → slice_get states k ≡ Some s → CanRunState g code s
+
+-- A turn of the state set of a context comes to its end in every world: so do the pieces of its states.
+abbrev pub CanTurn : SetContext → Type 0
+CanTurn t = CanRunSet (context_on t) t.code.now t.plan.now.states.items

@@ -14,6 +14,7 @@ use Rattle.snl_schedule.specs.declared.events.Event.{Event}
 use Rattle.snl_schedule.specs.declared.plans.ClausePlan.{ClausePlan}
 use Rattle.snl_schedule.specs.declared.plans.Destination.{Destination}
 use Rattle.snl_schedule.specs.declared.plans.Destination.TheVariants as to
+use Rattle.snl_schedule.specs.declared.plans.SetContext.{SetContext}
 use Rattle.snl_schedule.specs.declared.plans.SetPlan.{SetPlan}
 use Rattle.snl_schedule.specs.declared.plans.StatePlan.{StatePlan}
 use Rattle.snl_schedule.specs.declared.transitions.Turned.{Turned}
@@ -21,7 +22,7 @@ use Rattle.snl_schedule.specs.declared.transitions.Turned.TheVariants.{Stayed, M
 use Rattle.snl_schedule.specs.Event.{applied, wake_before, all_wakes}
 use Rattle.snl_schedule.specs.Instant.{later, is_exit, is_ready, round_of, refreshed_sets, owned, begun, started, instant_of}
 use Rattle.snl_schedule.specs.Loaded.{Loaded, context_in, own_context, program_of}
-use Rattle.snl_schedule.specs.Plans.{held_at, set_of}
+use Rattle.snl_schedule.specs.Plans.{context_on, held_at, set_of}
 use Rattle.snl_schedule.specs.Refresh.{refreshed}
 use Rattle.snl_schedule.specs.Turn.{is_due, entered_in, left_for, target_by, turn_of}
 
@@ -34,6 +35,10 @@ steps_then (Faults fault line w text) go = 0
 abbrev pub block_steps : PieceContext → List Instr → Option ℕ → World → ℕ
 block_steps g code None w = 0
 block_steps g code (Some start) w = steps_of g code start w
+
+-- Those of a block of the program's own.
+abbrev pub owned_steps : Loaded → Option ℕ → World → ℕ
+owned_steps t start w = block_steps (own_context t) t.code start w
 
 -- Those of a condition.
 abbrev pub held_steps : PieceContext → List Instr → Option ℕ → World → ℕ
@@ -97,6 +102,10 @@ acted_steps g code s from c w =
 -- A transition, which has spent a tick.
 abbrev pub transition_steps : PieceContext → List Instr → SetPlan → ℕ → ClausePlan → World → ℕ
 transition_steps g code s from c w = steps_then (spent c.line w) (λ _. acted_steps g code s from c)
+
+-- That of a clause of the state set of a context.
+abbrev pub transition_steps_on : SetContext → ℕ → ClausePlan → World → ℕ
+transition_steps_on t from c w = transition_steps (context_on t) t.code.now t.plan.now from c w
 
 -- ---- a turn
 

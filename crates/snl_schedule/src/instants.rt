@@ -1,15 +1,12 @@
 //! What happens at one time: rounds of one turn for each state set.
 
 ghost use Rattle.std.specs.Prelude.{◌≡◌, ◌-◌, ◌^◌, ◌<◌};
-ghost use Rattle.snl_meaning.specs.Frames.{frame_of};
-ghost use Rattle.snl_output.specs.Devices.{counted, stopped_by_sink};
-ghost use Rattle.snl_output.specs.Does.{Does};
 ghost use Rattle.snl_vm.specs.Counting.{Adds};
-ghost use Rattle.snl_vm.specs.Stack.{room_of};
+ghost use Rattle.snl_vm.specs.Memory.{CanGoOn, DoesOn, Keeps};
 ghost use Rattle.snl_vm.specs.Views.{world_of};
 ghost use Rattle.snl_schedule.specs.Instant as spec;
-ghost use Rattle.snl_schedule.specs.Loaded.{CanRunLoaded, loaded, own_context, program_of};
-ghost use Rattle.snl_schedule.specs.Steps.{block_steps, round_steps, all_rounds_steps, instant_steps};
+ghost use Rattle.snl_schedule.specs.Loaded.{CanRunLoaded, loaded, program_of};
+ghost use Rattle.snl_schedule.specs.Steps.{owned_steps, round_steps, all_rounds_steps, instant_steps};
 
 use crate::plans::{ProgramContext, SetContext};
 use crate::starting::{are_ready, leave_program, start};
@@ -17,7 +14,7 @@ use crate::transitions::Turned;
 use crate::turns::turn;
 use snl_meaning::Live;
 use snl_output::{Sink, Stop, write_exit};
-use snl_vm::{Operands, PieceContext, Steps, Store};
+use snl_vm::{Memory, PieceContext, Steps};
 use std::sync::ledger::Ledger;
 
 /// What is known of a round after one more turn.
@@ -43,38 +40,33 @@ fn is_exit(turned: Turned) -> bool
 /// A turn of each state set, up to one that leads out of the program; answers whether one had a transition.
 fn round<S: Sink, L: Ledger>(
     program: &ProgramContext,
-    store: &mut Store,
-    operands: &mut Operands,
+    memory: &mut Memory,
     sink: &mut S,
     steps: &mut Steps<L>,
 ) -> Result<Turned, Stop>
-    requires failures { S.failures sink.old < 2 ^ 64 - 1 }
-    requires room { room_of operands.old ≡ program.now.room }
+    requires ready { CanGoOn S.failures program.now.room memory.old sink.old }
     requires runs { CanRunLoaded (loaded program.now) }
-    ensures does { Does (λ t. t) result (world_of store.new) (S.told sink.old) (S.told sink.new)
-        (spec.round_of (program_of (loaded program.now)) (world_of store.old)) }
-    ensures steps { Adds result (round_steps (loaded program.now) (world_of store.old))
+    ensures does { DoesOn S.told (λ t. t) result memory.old memory.new sink.old sink.new
+        (spec.round_of (program_of (loaded program.now))) }
+    ensures steps { Adds result (round_steps (loaded program.now) (world_of memory.old.store))
         steps.old steps.new }
-    ensures frame { frame_of (world_of store.new) ≡ frame_of (world_of store.old) }
-    ensures room { room_of operands.new ≡ room_of operands.old }
-    ensures failures { S.failures sink.new
-        ≡ counted (stopped_by_sink result) (S.failures sink.old) }
+    ensures keeps { Keeps S.failures result memory.old memory.new sink.old sink.new }
 {
-    store.due = None;
+    memory.store.due = None;
     let mut before = Turned::Stayed;
     for (set, plan) in program.plan.sets.iter().enumerate() {
         let context = PieceContext {
             set,
             name: plan.name.as_slice(),
             formats: program.formats,
+            room: program.room,
         };
         let state_set = SetContext {
             plan,
             code: program.code,
             context,
-            room: program.room,
         };
-        match turn(&state_set, store, operands, sink, steps) {
+        match turn(&state_set, memory, sink, steps) {
             Ok(turned) => before = later(before, turned),
             Err(stop) => return Err(stop),
         }
@@ -86,17 +78,15 @@ fn round<S: Sink, L: Ledger>(
 }
 
 /// The last line of a program.
-fn close<S: Sink>(name: &[u8], store: &mut Store, sink: &mut S) -> Result<(), Stop>
+fn close<S: Sink>(name: &[u8], memory: &mut Memory, sink: &mut S) -> Result<(), Stop>
     requires failures { S.failures sink.old < 2 ^ 64 - 1 }
-    ensures does { Does (λ x. x) result (world_of store.new) (S.told sink.old) (S.told sink.new)
-        (spec.closed_by name.now (world_of store.old)) }
-    ensures frame { frame_of (world_of store.new) ≡ frame_of (world_of store.old) }
-    ensures failures { S.failures sink.new
-        ≡ counted (stopped_by_sink result) (S.failures sink.old) }
+    ensures does { DoesOn S.told (λ x. x) result memory.old memory.new sink.old sink.new
+        (spec.closed_by name.now) }
+    ensures keeps { Keeps S.failures result memory.old memory.new sink.old sink.new }
 {
-    match write_exit(sink, store.time, name) {
+    match write_exit(sink, memory.store.time, name) {
         Ok(()) => {
-            store.phase = Live::Ended;
+            memory.store.phase = Live::Ended;
             Ok(())
         }
         Err(_) => Err(Stop::Sink),
@@ -106,26 +96,20 @@ fn close<S: Sink>(name: &[u8], store: &mut Store, sink: &mut S) -> Result<(), St
 /// The end of a program by a transition that leads out of it: its exit block, and its line.
 fn exit<S: Sink, L: Ledger>(
     program: &ProgramContext,
-    store: &mut Store,
-    operands: &mut Operands,
+    memory: &mut Memory,
     sink: &mut S,
     steps: &mut Steps<L>,
 ) -> Result<(), Stop>
-    requires failures { S.failures sink.old < 2 ^ 64 - 1 }
-    requires room { room_of operands.old ≡ program.now.room }
+    requires ready { CanGoOn S.failures program.now.room memory.old sink.old }
     requires runs { CanRunLoaded (loaded program.now) }
-    ensures does { Does (λ x. x) result (world_of store.new) (S.told sink.old) (S.told sink.new)
-        (spec.exited (program_of (loaded program.now)) (world_of store.old)) }
-    ensures steps { Adds result (block_steps (own_context (loaded program.now))
-        program.now.code.now program.now.plan.now.blocks.exit (world_of store.old))
-        steps.old steps.new }
-    ensures frame { frame_of (world_of store.new) ≡ frame_of (world_of store.old) }
-    ensures room { room_of operands.new ≡ room_of operands.old }
-    ensures failures { S.failures sink.new
-        ≡ counted (stopped_by_sink result) (S.failures sink.old) }
+    ensures does { DoesOn S.told (λ x. x) result memory.old memory.new sink.old sink.new
+        (spec.exited (program_of (loaded program.now))) }
+    ensures steps { Adds result (owned_steps (loaded program.now)
+        program.now.plan.now.blocks.exit (world_of memory.old.store)) steps.old steps.new }
+    ensures keeps { Keeps S.failures result memory.old memory.new sink.old sink.new }
 {
-    match leave_program(program, store, operands, sink, steps) {
-        Ok(()) => close(program.plan.name.as_slice(), store, sink),
+    match leave_program(program, memory, sink, steps) {
+        Ok(()) => close(program.plan.name.as_slice(), memory, sink),
         Err(stop) => Err(stop),
     }
 }
@@ -134,69 +118,63 @@ fn exit<S: Sink, L: Ledger>(
 /// rounds than ticks are left, and one.
 pub fn rounds<S: Sink, L: Ledger>(
     program: &ProgramContext,
-    store: &mut Store,
-    operands: &mut Operands,
+    memory: &mut Memory,
     sink: &mut S,
     steps: &mut Steps<L>,
 ) -> Result<(), Stop>
-    requires failures { S.failures sink.old < 2 ^ 64 - 1 }
-    requires room { room_of operands.old ≡ program.now.room }
+    requires ready { CanGoOn S.failures program.now.room memory.old sink.old }
     requires runs { CanRunLoaded (loaded program.now) }
-    ensures does { Does (λ x. x) result (world_of store.new) (S.told sink.old) (S.told sink.new)
-        (spec.all_rounds (program_of (loaded program.now)) (world_of store.old)) }
-    ensures steps { Adds result (all_rounds_steps (loaded program.now) (world_of store.old))
+    ensures does { DoesOn S.told (λ x. x) result memory.old memory.new sink.old sink.new
+        (spec.all_rounds (program_of (loaded program.now))) }
+    ensures steps { Adds result (all_rounds_steps (loaded program.now) (world_of memory.old.store))
         steps.old steps.new }
-    ensures frame { frame_of (world_of store.new) ≡ frame_of (world_of store.old) }
-    ensures room { room_of operands.new ≡ room_of operands.old }
-    ensures failures { S.failures sink.new
-        ≡ counted (stopped_by_sink result) (S.failures sink.old) }
+    ensures keeps { Keeps S.failures result memory.old memory.new sink.old sink.new }
 {
-    for _round in 0..u64::from(store.ticks) + 1 {
-        match round(program, store, operands, sink, steps) {
+    for _round in 0..u64::from(memory.store.ticks) + 1 {
+        match round(program, memory, sink, steps) {
             Ok(Turned::Moved) => {}
             Ok(Turned::Stayed) => {
-                store.wake = store.due;
+                memory.store.wake = memory.store.due;
                 return Ok(());
             }
-            Ok(Turned::Exited) => return exit(program, store, operands, sink, steps),
+            Ok(Turned::Exited) => return exit(program, memory, sink, steps),
             Err(stop) => return Err(stop),
         }
     }
     Ok(())
 }
 
-/// What happens at one time, with so many ticks: the start, if it is due, and rounds until one has no transition.
+/// What happens at one time, with the ticks of the program's budget: the start, if it is due, and rounds until one has no
+/// transition.
 #[inline(always)]
 pub fn instant<S: Sink, L: Ledger>(
     program: &ProgramContext,
-    budget: u32,
-    store: &mut Store,
-    operands: &mut Operands,
+    memory: &mut Memory,
     sink: &mut S,
     steps: &mut Steps<L>,
 ) -> Result<(), Stop>
-    requires failures { S.failures sink.old < 2 ^ 64 - 1 }
-    requires room { room_of operands.old ≡ program.now.room }
+    requires ready { CanGoOn S.failures program.now.room memory.old sink.old }
     requires runs { CanRunLoaded (loaded program.now) }
-    ensures does { Does (λ x. x) result (world_of store.new) (S.told sink.old) (S.told sink.new)
-        (spec.instant_of (program_of (loaded program.now)) budget (world_of store.old)) }
-    ensures steps { Adds result (instant_steps (loaded program.now) budget (world_of store.old))
-        steps.old steps.new }
-    ensures frame { frame_of (world_of store.new) ≡ frame_of (world_of store.old) }
-    ensures room { room_of operands.new ≡ room_of operands.old }
-    ensures failures { S.failures sink.new
-        ≡ counted (stopped_by_sink result) (S.failures sink.old) }
+    ensures does { DoesOn S.told (λ x. x) result memory.old memory.new sink.old sink.new
+        (spec.instant_of (program_of (loaded program.now)) program.now.budget) }
+    ensures steps { Adds result (instant_steps (loaded program.now) program.now.budget
+        (world_of memory.old.store)) steps.old steps.new }
+    ensures keeps { Keeps S.failures result memory.old memory.new sink.old sink.new }
 {
-    store.ticks = budget;
-    match store.phase {
+    memory.store.ticks = program.budget;
+    match memory.store.phase {
         Live::Ended => Ok(()),
-        Live::Running => rounds(program, store, operands, sink, steps),
+        Live::Running => rounds(program, memory, sink, steps),
         Live::Waiting => {
-            if !are_ready(program.plan.waits, program.plan.links.as_slice(), store) {
+            if !are_ready(
+                program.plan.waits,
+                program.plan.links.as_slice(),
+                &mut memory.store,
+            ) {
                 return Ok(());
             }
-            match start(program, store, operands, sink, steps) {
-                Ok(()) => rounds(program, store, operands, sink, steps),
+            match start(program, memory, sink, steps) {
+                Ok(()) => rounds(program, memory, sink, steps),
                 Err(stop) => Err(stop),
             }
         }

@@ -32,7 +32,8 @@ pub struct ClausePlan {
     pub target: Destination,
     /// The line of the word `when`, from 1.
     pub line: usize,
-    /// Its place among the clauses of its state. It says only where to look for the line of its transition.
+    /// Its place among the clauses of its state. It says only where to look for the line of its transition, and what a sink
+    /// hears when it fires.
     pub number: usize,
 }
 
@@ -107,10 +108,8 @@ pub struct SetContext<'t> {
     pub plan: &'t SetPlan,
     /// The code of the program.
     pub code: &'t [Instr],
-    /// The number and the name of the state set, and the strings of the program.
+    /// The number and the name of the state set, the strings of the program, and the room for operands.
     pub context: PieceContext<'t>,
-    /// How many operands there is room for.
-    pub room: usize,
     ghost named: { context.name.now ≡ plan.now.name.items } by { Prim.hlevel props },
 }
 
@@ -185,6 +184,8 @@ pub struct ProgramContext<'t> {
     pub code: &'t [Instr],
     /// The strings of the program, by their numbers.
     pub formats: &'t [Vec<u8>],
-    /// How many operands there is room for.
+    /// How many operands there is room for. It stands in what is promised of a run, and no code reads it.
     pub room: usize,
+    /// How many ticks an instant may take.
+    pub budget: u32,
 }

@@ -1,18 +1,16 @@
 //! The start of a program, once its channels are there.
 
-ghost use Rattle.std.specs.Prelude.{◌≡◌, ◌-◌, ◌^◌, ◌<◌, ◌||◌, false, not, is_none, IfSome, Some, option_map, slice_get};
+ghost use Rattle.std.specs.Prelude.{◌≡◌, ◌||◌, false, not, is_none, IfSome, Some, option_map, slice_get};
 ghost use Rattle.std.specs.Bool.{OnTrue};
 ghost use Rattle.std.specs.List.{list_all};
-ghost use Rattle.snl_meaning.specs.Frames.{frame_of};
-ghost use Rattle.snl_output.specs.Devices.{counted, stopped_by_sink};
-ghost use Rattle.snl_output.specs.Does.{Does};
 ghost use Rattle.snl_vm.specs.Counting.{Adds};
-ghost use Rattle.snl_vm.specs.Stack.{room_of};
+ghost use Rattle.snl_vm.specs.Memory.{CanGoOn, DoesOn, Keeps};
+ghost use Rattle.snl_vm.specs.Running.{context_by};
 ghost use Rattle.snl_vm.specs.Views.{world_of};
 ghost use Rattle.snl_schedule.specs.Instant as spec;
 ghost use Rattle.snl_schedule.specs.Loaded.{CanRunLoaded, loaded, own_context, program_of};
-ghost use Rattle.snl_schedule.specs.Plans.{CanRunSet, context_for, context_on, set_on};
-ghost use Rattle.snl_schedule.specs.Steps.{block_steps, begun_steps, begun_sets_steps, opened_steps, started_steps};
+ghost use Rattle.snl_schedule.specs.Plans.{CanTurn, context_on, set_on, state_at};
+ghost use Rattle.snl_schedule.specs.Steps.{owned_steps, begun_steps, begun_sets_steps, opened_steps, started_steps};
 
 use crate::plans::{ProgramContext, SetContext};
 use crate::refreshing::refresh;
@@ -20,7 +18,7 @@ use crate::transitions::enter;
 use crate::turns::do_told;
 use snl_meaning::{Live, Tied};
 use snl_output::{Sink, Stop, write_start};
-use snl_vm::{Operands, PieceContext, Steps, Store};
+use snl_vm::{Memory, PieceContext, Steps, Store};
 use std::sync::ledger::Ledger;
 
 /// What is known of a channel; a link without one waits for nothing.
@@ -102,37 +100,31 @@ fn refresh_sets(program: &ProgramContext, store: &mut Store)
 /// A state set enters its first state.
 fn begin<S: Sink, L: Ledger>(
     state_set: &SetContext,
-    store: &mut Store,
-    operands: &mut Operands,
+    memory: &mut Memory,
     sink: &mut S,
     steps: &mut Steps<L>,
 ) -> Result<(), Stop>
-    requires failures { S.failures sink.old < 2 ^ 64 - 1 }
-    requires room { room_of operands.old ≡ state_set.now.room }
-    requires runs { CanRunSet (context_on state_set.now) state_set.now.code.now
-        state_set.now.plan.now.states.items }
-    ensures does { Does (λ x. x) result (world_of store.new) (S.told sink.old) (S.told sink.new)
-        (spec.begun (set_on state_set.now) (world_of store.old)) }
+    requires ready { CanGoOn S.failures state_set.now.context.room memory.old sink.old }
+    requires runs { CanTurn state_set.now }
+    ensures does { DoesOn S.told (λ x. x) result memory.old memory.new sink.old sink.new
+        (spec.begun (set_on state_set.now)) }
     ensures steps { Adds result (begun_steps (context_on state_set.now) state_set.now.code.now
-        (slice_get state_set.now.plan.now.states.items 0) (world_of store.old))
-        steps.old steps.new }
-    ensures frame { frame_of (world_of store.new) ≡ frame_of (world_of store.old) }
-    ensures room { room_of operands.new ≡ room_of operands.old }
-    ensures failures { S.failures sink.new
-        ≡ counted (stopped_by_sink result) (S.failures sink.old) }
+        (state_at state_set.now 0) (world_of memory.old.store)) steps.old steps.new }
+    ensures keeps { Keeps S.failures result memory.old memory.new sink.old sink.new }
 {
-    enter(store, state_set.context.set, 0, true);
+    enter(&mut memory.store, state_set.context.set, 0, true);
     match state_set.plan.states.get(0) {
-        Some(state) => do_told(
-            state.blocks.entry,
-            state_set.code,
-            &state_set.context,
-            state_set.room,
-            store,
-            operands,
-            sink,
-            steps,
-        ),
+        Some(state) => {
+            let context = &state_set.context;
+            do_told(
+                state.blocks.entry,
+                state_set.code,
+                context,
+                memory,
+                sink,
+                steps,
+            )
+        }
         None => Ok(()),
     }
 }
@@ -140,36 +132,31 @@ fn begin<S: Sink, L: Ledger>(
 /// Every state set enters its first state, up to one whose entry block stops the run.
 fn begin_sets<S: Sink, L: Ledger>(
     program: &ProgramContext,
-    store: &mut Store,
-    operands: &mut Operands,
+    memory: &mut Memory,
     sink: &mut S,
     steps: &mut Steps<L>,
 ) -> Result<(), Stop>
-    requires failures { S.failures sink.old < 2 ^ 64 - 1 }
-    requires room { room_of operands.old ≡ program.now.room }
+    requires ready { CanGoOn S.failures program.now.room memory.old sink.old }
     requires runs { CanRunLoaded (loaded program.now) }
-    ensures does { Does (λ x. x) result (world_of store.new) (S.told sink.old) (S.told sink.new)
-        (spec.begun_sets (program_of (loaded program.now)).sets (world_of store.old)) }
+    ensures does { DoesOn S.told (λ x. x) result memory.old memory.new sink.old sink.new
+        (spec.begun_sets (program_of (loaded program.now)).sets) }
     ensures steps { Adds result (begun_sets_steps (loaded program.now) 0
-        program.now.plan.now.sets.items (world_of store.old)) steps.old steps.new }
-    ensures frame { frame_of (world_of store.new) ≡ frame_of (world_of store.old) }
-    ensures room { room_of operands.new ≡ room_of operands.old }
-    ensures failures { S.failures sink.new
-        ≡ counted (stopped_by_sink result) (S.failures sink.old) }
+        program.now.plan.now.sets.items (world_of memory.old.store)) steps.old steps.new }
+    ensures keeps { Keeps S.failures result memory.old memory.new sink.old sink.new }
 {
     for (set, plan) in program.plan.sets.iter().enumerate() {
         let context = PieceContext {
             set,
             name: plan.name.as_slice(),
             formats: program.formats,
+            room: program.room,
         };
         let state_set = SetContext {
             plan,
             code: program.code,
             context,
-            room: program.room,
         };
-        match begin(&state_set, store, operands, sink, steps) {
+        match begin(&state_set, memory, sink, steps) {
             Ok(()) => {}
             Err(stop) => return Err(stop),
         }
@@ -189,120 +176,75 @@ fn first_name<'t>(program: &ProgramContext<'t>) -> &'t [u8]
 
 /// What the program's own blocks run with: the copy and the name of the first state set.
 fn own_context<'t>(program: &ProgramContext<'t>) -> PieceContext<'t>
-    ensures { context_for result program.now.room ≡ own_context (loaded program.now) }
+    ensures means { context_by result ≡ own_context (loaded program.now) }
+    ensures room { result.room ≡ program.now.room }
 {
     PieceContext {
         set: 0,
         name: first_name(program),
         formats: program.formats,
+        room: program.room,
     }
 }
 
 /// The program's entry block.
 fn enter_program<S: Sink, L: Ledger>(
     program: &ProgramContext,
-    store: &mut Store,
-    operands: &mut Operands,
+    memory: &mut Memory,
     sink: &mut S,
     steps: &mut Steps<L>,
 ) -> Result<(), Stop>
-    requires failures { S.failures sink.old < 2 ^ 64 - 1 }
-    requires room { room_of operands.old ≡ program.now.room }
+    requires ready { CanGoOn S.failures program.now.room memory.old sink.old }
     requires runs { CanRunLoaded (loaded program.now) }
-    ensures does { Does (λ x. x) result (world_of store.new) (S.told sink.old) (S.told sink.new)
-        (spec.owned (program_of (loaded program.now)) (program_of (loaded program.now)).entry
-        (world_of store.old)) }
-    ensures steps { Adds result (block_steps (own_context (loaded program.now))
-        program.now.code.now program.now.plan.now.blocks.entry (world_of store.old))
-        steps.old steps.new }
-    ensures frame { frame_of (world_of store.new) ≡ frame_of (world_of store.old) }
-    ensures room { room_of operands.new ≡ room_of operands.old }
-    ensures failures { S.failures sink.new
-        ≡ counted (stopped_by_sink result) (S.failures sink.old) }
+    ensures does { DoesOn S.told (λ x. x) result memory.old memory.new sink.old sink.new
+        (spec.owned (program_of (loaded program.now)) (program_of (loaded program.now)).entry) }
+    ensures steps { Adds result (owned_steps (loaded program.now)
+        program.now.plan.now.blocks.entry (world_of memory.old.store)) steps.old steps.new }
+    ensures keeps { Keeps S.failures result memory.old memory.new sink.old sink.new }
 {
-    let ProgramContext {
-        plan,
-        code,
-        room,
-        ..
-    } = *program;
+    let ProgramContext { plan, code, .. } = *program;
     let own = own_context(program);
-    do_told(
-        plan.blocks.entry,
-        code,
-        &own,
-        room,
-        store,
-        operands,
-        sink,
-        steps,
-    )
+    do_told(plan.blocks.entry, code, &own, memory, sink, steps)
 }
 
 /// The program's exit block.
 pub fn leave_program<S: Sink, L: Ledger>(
     program: &ProgramContext,
-    store: &mut Store,
-    operands: &mut Operands,
+    memory: &mut Memory,
     sink: &mut S,
     steps: &mut Steps<L>,
 ) -> Result<(), Stop>
-    requires failures { S.failures sink.old < 2 ^ 64 - 1 }
-    requires room { room_of operands.old ≡ program.now.room }
+    requires ready { CanGoOn S.failures program.now.room memory.old sink.old }
     requires runs { CanRunLoaded (loaded program.now) }
-    ensures does { Does (λ x. x) result (world_of store.new) (S.told sink.old) (S.told sink.new)
-        (spec.owned (program_of (loaded program.now)) (program_of (loaded program.now)).exit
-        (world_of store.old)) }
-    ensures steps { Adds result (block_steps (own_context (loaded program.now))
-        program.now.code.now program.now.plan.now.blocks.exit (world_of store.old))
-        steps.old steps.new }
-    ensures frame { frame_of (world_of store.new) ≡ frame_of (world_of store.old) }
-    ensures room { room_of operands.new ≡ room_of operands.old }
-    ensures failures { S.failures sink.new
-        ≡ counted (stopped_by_sink result) (S.failures sink.old) }
+    ensures does { DoesOn S.told (λ x. x) result memory.old memory.new sink.old sink.new
+        (spec.owned (program_of (loaded program.now)) (program_of (loaded program.now)).exit) }
+    ensures steps { Adds result (owned_steps (loaded program.now)
+        program.now.plan.now.blocks.exit (world_of memory.old.store)) steps.old steps.new }
+    ensures keeps { Keeps S.failures result memory.old memory.new sink.old sink.new }
 {
-    let ProgramContext {
-        plan,
-        code,
-        room,
-        ..
-    } = *program;
+    let ProgramContext { plan, code, .. } = *program;
     let own = own_context(program);
-    do_told(
-        plan.blocks.exit,
-        code,
-        &own,
-        room,
-        store,
-        operands,
-        sink,
-        steps,
-    )
+    do_told(plan.blocks.exit, code, &own, memory, sink, steps)
 }
 
 /// What follows the line of the start: refresh, the program's entry block, first states.
 fn open<S: Sink, L: Ledger>(
     program: &ProgramContext,
-    store: &mut Store,
-    operands: &mut Operands,
+    memory: &mut Memory,
     sink: &mut S,
     steps: &mut Steps<L>,
 ) -> Result<(), Stop>
-    requires failures { S.failures sink.old < 2 ^ 64 - 1 }
-    requires room { room_of operands.old ≡ program.now.room }
+    requires ready { CanGoOn S.failures program.now.room memory.old sink.old }
     requires runs { CanRunLoaded (loaded program.now) }
-    ensures does { Does (λ x. x) result (world_of store.new) (S.told sink.old) (S.told sink.new)
-        (spec.opened (program_of (loaded program.now)) (world_of store.old)) }
-    ensures steps { Adds result (opened_steps (loaded program.now) (world_of store.old))
+    ensures does { DoesOn S.told (λ x. x) result memory.old memory.new sink.old sink.new
+        (spec.opened (program_of (loaded program.now))) }
+    ensures steps { Adds result (opened_steps (loaded program.now) (world_of memory.old.store))
         steps.old steps.new }
-    ensures frame { frame_of (world_of store.new) ≡ frame_of (world_of store.old) }
-    ensures room { room_of operands.new ≡ room_of operands.old }
-    ensures failures { S.failures sink.new
-        ≡ counted (stopped_by_sink result) (S.failures sink.old) }
+    ensures keeps { Keeps S.failures result memory.old memory.new sink.old sink.new }
 {
-    refresh_sets(program, store);
-    match enter_program(program, store, operands, sink, steps) {
-        Ok(()) => begin_sets(program, store, operands, sink, steps),
+    refresh_sets(program, &mut memory.store);
+    match enter_program(program, memory, sink, steps) {
+        Ok(()) => begin_sets(program, memory, sink, steps),
         Err(stop) => Err(stop),
     }
 }
@@ -310,27 +252,22 @@ fn open<S: Sink, L: Ledger>(
 /// The start. A block may stop it.
 pub fn start<S: Sink, L: Ledger>(
     program: &ProgramContext,
-    store: &mut Store,
-    operands: &mut Operands,
+    memory: &mut Memory,
     sink: &mut S,
     steps: &mut Steps<L>,
 ) -> Result<(), Stop>
-    requires failures { S.failures sink.old < 2 ^ 64 - 1 }
-    requires room { room_of operands.old ≡ program.now.room }
+    requires ready { CanGoOn S.failures program.now.room memory.old sink.old }
     requires runs { CanRunLoaded (loaded program.now) }
-    ensures does { Does (λ x. x) result (world_of store.new) (S.told sink.old) (S.told sink.new)
-        (spec.started (program_of (loaded program.now)) (world_of store.old)) }
-    ensures steps { Adds result (started_steps (loaded program.now) (world_of store.old))
+    ensures does { DoesOn S.told (λ x. x) result memory.old memory.new sink.old sink.new
+        (spec.started (program_of (loaded program.now))) }
+    ensures steps { Adds result (started_steps (loaded program.now) (world_of memory.old.store))
         steps.old steps.new }
-    ensures frame { frame_of (world_of store.new) ≡ frame_of (world_of store.old) }
-    ensures room { room_of operands.new ≡ room_of operands.old }
-    ensures failures { S.failures sink.new
-        ≡ counted (stopped_by_sink result) (S.failures sink.old) }
+    ensures keeps { Keeps S.failures result memory.old memory.new sink.old sink.new }
 {
-    match write_start(sink, store.time, program.plan.name.as_slice()) {
+    match write_start(sink, memory.store.time, program.plan.name.as_slice()) {
         Ok(()) => {
-            store.phase = Live::Running;
-            open(program, store, operands, sink, steps)
+            memory.store.phase = Live::Running;
+            open(program, memory, sink, steps)
         }
         Err(_) => Err(Stop::Sink),
     }

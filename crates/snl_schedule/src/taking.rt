@@ -1,12 +1,9 @@
 //! Events, one after another, each with the wakes before it.
 
-ghost use Rattle.std.specs.Prelude.{◌≡◌, ◌-◌, ◌^◌, ◌<◌, OnErr};
+ghost use Rattle.std.specs.Prelude.{◌≡◌, OnErr};
 ghost use Rattle.snl_schedule.specs.Event as spec;
-ghost use Rattle.snl_meaning.specs.Frames.{at_time, frame_of};
-ghost use Rattle.snl_output.specs.Devices.{counted, stopped_by_sink};
-ghost use Rattle.snl_output.specs.Does.{Does};
 ghost use Rattle.snl_vm.specs.Counting.{Adds};
-ghost use Rattle.snl_vm.specs.Stack.{room_of};
+ghost use Rattle.snl_vm.specs.Memory.{CanGoOn, DoesOn, KeepsButTime};
 ghost use Rattle.snl_vm.specs.Views.{world_of};
 ghost use Rattle.snl_schedule.specs.Loaded.{CanRunLoaded, loaded, program_of};
 ghost use Rattle.snl_schedule.specs.Steps.{all_wakes_steps, event_steps, passed_steps, line_steps};
@@ -17,7 +14,7 @@ use crate::instants::instant;
 use crate::plans::{Plan, ProgramContext};
 use snl_meaning::Live;
 use snl_output::{Sink, Stop};
-use snl_vm::{Operands, Steps, Store};
+use snl_vm::{Memory, Steps, Store};
 use std::sync::ledger::Ledger;
 
 /// Lets an event change the channels and the buffers of their links.
@@ -66,33 +63,26 @@ fn next_wake(ms: u64, store: &Store) -> Option<u64>
 fn wake_up<S: Sink, L: Ledger>(
     ms: u64,
     program: &ProgramContext,
-    budget: u32,
-    store: &mut Store,
-    operands: &mut Operands,
+    memory: &mut Memory,
     sink: &mut S,
     steps: &mut Steps<L>,
 ) -> Result<(), Stop>
-    requires failures { S.failures sink.old < 2 ^ 64 - 1 }
-    requires room { room_of operands.old ≡ program.now.room }
+    requires ready { CanGoOn S.failures program.now.room memory.old sink.old }
     requires runs { CanRunLoaded (loaded program.now) }
-    ensures does { Does (λ x. x) result (world_of store.new) (S.told sink.old) (S.told sink.new)
-        (spec.all_wakes (program_of (loaded program.now)) budget ms (world_of store.old)) }
-    ensures steps { Adds result (all_wakes_steps (loaded program.now) budget ms
-        (world_of store.old)) steps.old steps.new }
-    ensures frame { frame_of (world_of store.new)
-        ≡ at_time (world_of store.new).time (frame_of (world_of store.old)) }
-    ensures time { OnErr result (spec.HasInstant (program_of (loaded program.now)) budget ms
-        (world_of store.old) (world_of store.new).time) }
-    ensures room { room_of operands.new ≡ room_of operands.old }
-    ensures failures { S.failures sink.new
-        ≡ counted (stopped_by_sink result) (S.failures sink.old) }
+    ensures does { DoesOn S.told (λ x. x) result memory.old memory.new sink.old sink.new
+        (spec.all_wakes (program_of (loaded program.now)) program.now.budget ms) }
+    ensures steps { Adds result (all_wakes_steps (loaded program.now) program.now.budget ms
+        (world_of memory.old.store)) steps.old steps.new }
+    ensures time { OnErr result (spec.HasInstant (program_of (loaded program.now))
+        program.now.budget ms (world_of memory.old.store) (world_of memory.new.store).time) }
+    ensures keeps { KeepsButTime S.failures result memory.old memory.new sink.old sink.new }
 {
-    for _wake in store.time..ms {
-        match next_wake(ms, store) {
+    for _wake in memory.store.time..ms {
+        match next_wake(ms, &memory.store) {
             None => return Ok(()),
             Some(wake) => {
-                store.time = wake;
-                match instant(program, budget, store, operands, sink, steps) {
+                memory.store.time = wake;
+                match instant(program, memory, sink, steps) {
                     Ok(()) => {}
                     Err(stop) => return Err(stop),
                 }
@@ -107,34 +97,27 @@ fn happen<S: Sink, L: Ledger>(
     ms: u64,
     event: &Event,
     program: &ProgramContext,
-    budget: u32,
-    store: &mut Store,
-    operands: &mut Operands,
+    memory: &mut Memory,
     sink: &mut S,
     steps: &mut Steps<L>,
 ) -> Result<(), Stop>
-    requires failures { S.failures sink.old < 2 ^ 64 - 1 }
-    requires room { room_of operands.old ≡ program.now.room }
+    requires ready { CanGoOn S.failures program.now.room memory.old sink.old }
     requires runs { CanRunLoaded (loaded program.now) }
-    ensures does { Does (λ x. x) result (world_of store.new) (S.told sink.old) (S.told sink.new)
-        (spec.event_by (program_of (loaded program.now)) budget ms event.now
-        (world_of store.old).phase (world_of store.old)) }
-    ensures steps { Adds result (event_steps (loaded program.now) budget ms event.now
-        (world_of store.old).phase (world_of store.old)) steps.old steps.new }
-    ensures frame { frame_of (world_of store.new)
-        ≡ at_time (world_of store.new).time (frame_of (world_of store.old)) }
-    ensures time { OnErr result ((world_of store.new).time ≡ ms) }
-    ensures goes_on { OnErr result ((world_of store.old).phase ≡ Live.Ended → ⊥) }
-    ensures room { room_of operands.new ≡ room_of operands.old }
-    ensures failures { S.failures sink.new
-        ≡ counted (stopped_by_sink result) (S.failures sink.old) }
+    ensures does { DoesOn S.told (λ x. x) result memory.old memory.new sink.old sink.new
+        (λ w. spec.event_by (program_of (loaded program.now)) program.now.budget ms event.now
+        w.phase w) }
+    ensures steps { Adds result (event_steps (loaded program.now) program.now.budget ms event.now
+        (world_of memory.old.store).phase (world_of memory.old.store)) steps.old steps.new }
+    ensures time { OnErr result ((world_of memory.new.store).time ≡ ms) }
+    ensures goes_on { OnErr result ((world_of memory.old.store).phase ≡ Live.Ended → ⊥) }
+    ensures keeps { KeepsButTime S.failures result memory.old memory.new sink.old sink.new }
 {
-    if store.phase == Live::Ended {
+    if memory.store.phase == Live::Ended {
         return Ok(());
     }
-    store.time = ms;
-    apply(event, program, store);
-    instant(program, budget, store, operands, sink, steps)
+    memory.store.time = ms;
+    apply(event, program, &mut memory.store);
+    instant(program, memory, sink, steps)
 }
 
 /// All wakes before the time of an event, and then the event.
@@ -142,36 +125,28 @@ fn pass<S: Sink, L: Ledger>(
     ms: u64,
     event: &Event,
     program: &ProgramContext,
-    budget: u32,
-    store: &mut Store,
-    operands: &mut Operands,
+    memory: &mut Memory,
     sink: &mut S,
     steps: &mut Steps<L>,
 ) -> Result<(), Stop>
-    requires failures { S.failures sink.old < 2 ^ 64 - 1 }
-    requires room { room_of operands.old ≡ program.now.room }
+    requires ready { CanGoOn S.failures program.now.room memory.old sink.old }
     requires runs { CanRunLoaded (loaded program.now) }
-    ensures does { Does (λ x. x) result (world_of store.new) (S.told sink.old) (S.told sink.new)
-        (spec.passed (program_of (loaded program.now)) budget ms event.now
-        (world_of store.old)) }
-    ensures steps { Adds result (passed_steps (loaded program.now) budget ms event.now
-        (world_of store.old)) steps.old steps.new }
-    ensures frame { frame_of (world_of store.new)
-        ≡ at_time (world_of store.new).time (frame_of (world_of store.old)) }
-    ensures time { OnErr result (spec.HasInstant (program_of (loaded program.now)) budget ms
-        (world_of store.old) (world_of store.new).time) }
-    ensures room { room_of operands.new ≡ room_of operands.old }
-    ensures failures { S.failures sink.new
-        ≡ counted (stopped_by_sink result) (S.failures sink.old) }
+    ensures does { DoesOn S.told (λ x. x) result memory.old memory.new sink.old sink.new
+        (spec.passed (program_of (loaded program.now)) program.now.budget ms event.now) }
+    ensures steps { Adds result (passed_steps (loaded program.now) program.now.budget ms event.now
+        (world_of memory.old.store)) steps.old steps.new }
+    ensures time { OnErr result (spec.HasInstant (program_of (loaded program.now))
+        program.now.budget ms (world_of memory.old.store) (world_of memory.new.store).time) }
+    ensures keeps { KeepsButTime S.failures result memory.old memory.new sink.old sink.new }
 {
-    match wake_up(ms, program, budget, store, operands, sink, steps) {
-        Ok(()) => happen(ms, event, program, budget, store, operands, sink, steps),
+    match wake_up(ms, program, memory, sink, steps) {
+        Ok(()) => happen(ms, event, program, memory, sink, steps),
         Err(stop) => Err(stop),
     }
 }
 
-/// Does what a line of a trace asks for at a time in milliseconds, with so many ticks for each instant, and hands the
-/// lines of the run to the sink. Before that it runs the program at each time before the line's at which a `delay` is
+/// Does what a line of a trace asks for at a time in milliseconds, with the ticks of the program's budget for each instant, and
+/// hands the lines of the run to the sink. Before that it runs the program at each time before the line's at which a `delay` is
 /// over (SNL Reference, "delay"). After the end of a run it does nothing.
 ///
 /// After a fault, and where the sink fails, the run has ended, and what was written stands. Each instruction that is executed
@@ -180,36 +155,28 @@ pub fn take<S: Sink, L: Ledger>(
     ms: u64,
     event: &Event,
     program: &ProgramContext,
-    budget: u32,
-    store: &mut Store,
-    operands: &mut Operands,
+    memory: &mut Memory,
     sink: &mut S,
     steps: &mut Steps<L>,
 ) -> Result<Live, Stop>
-    requires failures { S.failures sink.old < 2 ^ 64 - 1 }
-    requires room { room_of operands.old ≡ program.now.room }
+    requires ready { CanGoOn S.failures program.now.room memory.old sink.old }
     requires runs { CanRunLoaded (loaded program.now) }
-    ensures does { Does (λ live. live) result (world_of store.new) (S.told sink.old)
-        (S.told sink.new) (spec.line_of (program_of (loaded program.now)) budget ms event.now
-        (world_of store.old)) }
-    ensures steps { Adds result (line_steps (loaded program.now) budget ms event.now
-        (world_of store.old)) steps.old steps.new }
-    ensures ended { OnErr result ((world_of store.new).phase ≡ Live.Ended) }
-    ensures frame { frame_of (world_of store.new)
-        ≡ at_time (world_of store.new).time (frame_of (world_of store.old)) }
-    ensures time { OnErr result (spec.HasInstant (program_of (loaded program.now)) budget ms
-        (world_of store.old) (world_of store.new).time) }
-    ensures room { room_of operands.new ≡ room_of operands.old }
-    ensures failures { S.failures sink.new
-        ≡ counted (stopped_by_sink result) (S.failures sink.old) }
+    ensures does { DoesOn S.told (λ live. live) result memory.old memory.new sink.old sink.new
+        (spec.line_of (program_of (loaded program.now)) program.now.budget ms event.now) }
+    ensures steps { Adds result (line_steps (loaded program.now) program.now.budget ms event.now
+        (world_of memory.old.store)) steps.old steps.new }
+    ensures ended { OnErr result ((world_of memory.new.store).phase ≡ Live.Ended) }
+    ensures time { OnErr result (spec.HasInstant (program_of (loaded program.now))
+        program.now.budget ms (world_of memory.old.store) (world_of memory.new.store).time) }
+    ensures keeps { KeepsButTime S.failures result memory.old memory.new sink.old sink.new }
 {
-    if store.phase == Live::Ended {
+    if memory.store.phase == Live::Ended {
         return Ok(Live::Ended);
     }
-    match pass(ms, event, program, budget, store, operands, sink, steps) {
-        Ok(()) => Ok(store.phase),
+    match pass(ms, event, program, memory, sink, steps) {
+        Ok(()) => Ok(memory.store.phase),
         Err(stop) => {
-            store.phase = Live::Ended;
+            memory.store.phase = Live::Ended;
             Err(stop)
         }
     }

@@ -1,23 +1,22 @@
 //! A transition of a state set: the line, the states that it leads from and to with their blocks, and the way out.
 
-ghost use Rattle.std.specs.Prelude.{◌≡◌, ◌-◌, ◌^◌, ◌<◌, is_err, slice_get};
-ghost use Rattle.snl_meaning.specs.Frames.{frame_of};
-ghost use Rattle.snl_output.specs.Devices.{counted, stopped_by_sink, Wrote};
-ghost use Rattle.snl_output.specs.Does.{Does};
+ghost use Rattle.std.specs.Prelude.{◌≡◌, ◌-◌, ◌^◌, ◌<◌, is_err};
+ghost use Rattle.snl_output.specs.Devices.{counted, Wrote};
 ghost use Rattle.snl_output.specs.Lines.{go_line};
 ghost use Rattle.snl_vm.specs.Counting.{Adds};
-ghost use Rattle.snl_vm.specs.Stack.{room_of};
+ghost use Rattle.snl_vm.specs.Memory.{CanGoOn, DoesOn, Keeps};
+ghost use Rattle.snl_vm.specs.Running.{context_by};
 ghost use Rattle.snl_vm.specs.Views.{world_of};
 ghost use Rattle.snl_schedule.specs.Goes.{name_at, target_name};
-ghost use Rattle.snl_schedule.specs.Plans.{CanDo, CanRun, CanRunSet, block_at, clause_of, context_for, context_on, set_on};
-ghost use Rattle.snl_schedule.specs.Steps.{block_steps, due_steps, left_steps, come_steps, crossed_steps, arrived_steps, acted_steps, transition_steps};
+ghost use Rattle.snl_schedule.specs.Plans.{CanDo, CanRun, CanTurn, block_at, clause_on, context_on, set_on, state_at};
+ghost use Rattle.snl_schedule.specs.Steps.{block_steps, due_steps, left_steps, come_steps, crossed_steps, arrived_steps, acted_steps, transition_steps_on};
 ghost use Rattle.snl_schedule.specs.Turn as spec;
 
 use crate::goes::{name_at, target_name};
 use crate::plans::{ClausePlan, Destination, SetContext, SetPlan};
 use snl_meaning::Instr;
 use snl_output::{Sink, SinkFault, Stop, write_go, write_timed};
-use snl_vm::{Operands, PieceContext, Steps, Store, perform, spend};
+use snl_vm::{Memory, PieceContext, Steps, Store, perform, spend};
 use std::sync::ledger::Ledger;
 
 /// How a turn, or a round of turns, came to its end.
@@ -36,27 +35,21 @@ pub fn do_block<S: Sink, L: Ledger>(
     start: Option<usize>,
     code: &[Instr],
     context: &PieceContext,
-    room: usize,
-    store: &mut Store,
-    operands: &mut Operands,
+    memory: &mut Memory,
     sink: &mut S,
     steps: &mut Steps<L>,
 ) -> Result<(), Stop>
-    requires failures { S.failures sink.old < 2 ^ 64 - 1 }
-    requires room { room_of operands.old ≡ room }
-    requires runs { CanDo (context_for context.now room) code.now start }
-    ensures does { Does (λ x. x) result (world_of store.new) (S.told sink.old) (S.told sink.new)
-        (block_at (context_for context.now room) code.now start (world_of store.old)) }
-    ensures steps { Adds result (block_steps (context_for context.now room) code.now start
-        (world_of store.old)) steps.old steps.new }
-    ensures frame { frame_of (world_of store.new) ≡ frame_of (world_of store.old) }
-    ensures room { room_of operands.new ≡ room_of operands.old }
-    ensures failures { S.failures sink.new
-        ≡ counted (stopped_by_sink result) (S.failures sink.old) }
+    requires ready { CanGoOn S.failures context.now.room memory.old sink.old }
+    requires runs { CanDo (context_by context.now) code.now start }
+    ensures does { DoesOn S.told (λ x. x) result memory.old memory.new sink.old sink.new
+        (block_at (context_by context.now) code.now start) }
+    ensures steps { Adds result (block_steps (context_by context.now) code.now start
+        (world_of memory.old.store)) steps.old steps.new }
+    ensures keeps { Keeps S.failures result memory.old memory.new sink.old sink.new }
 {
     match start {
         None => Ok(()),
-        Some(start) => match perform(code, start, context, store, operands, sink, steps) {
+        Some(start) => match perform(code, start, context, memory, sink, steps) {
             Ok(_) => Ok(()),
             Err(stop) => Err(stop),
         },
@@ -68,28 +61,21 @@ fn do_if_due<S: Sink, L: Ledger>(
     is_due: bool,
     start: Option<usize>,
     state_set: &SetContext,
-    store: &mut Store,
-    operands: &mut Operands,
+    memory: &mut Memory,
     sink: &mut S,
     steps: &mut Steps<L>,
 ) -> Result<(), Stop>
-    requires failures { S.failures sink.old < 2 ^ 64 - 1 }
-    requires room { room_of operands.old ≡ state_set.now.room }
+    requires ready { CanGoOn S.failures state_set.now.context.room memory.old sink.old }
     requires runs { CanDo (context_on state_set.now) state_set.now.code.now start }
-    ensures does { Does (λ x. x) result (world_of store.new) (S.told sink.old) (S.told sink.new)
-        (spec.if_due is_due (block_at (context_on state_set.now) state_set.now.code.now start)
-        (world_of store.old)) }
+    ensures does { DoesOn S.told (λ x. x) result memory.old memory.new sink.old sink.new
+        (spec.if_due is_due (block_at (context_on state_set.now) state_set.now.code.now start)) }
     ensures steps { Adds result (due_steps (context_on state_set.now) state_set.now.code.now
-        is_due start (world_of store.old)) steps.old steps.new }
-    ensures frame { frame_of (world_of store.new) ≡ frame_of (world_of store.old) }
-    ensures room { room_of operands.new ≡ room_of operands.old }
-    ensures failures { S.failures sink.new
-        ≡ counted (stopped_by_sink result) (S.failures sink.old) }
+        is_due start (world_of memory.old.store)) steps.old steps.new }
+    ensures keeps { Keeps S.failures result memory.old memory.new sink.old sink.new }
 {
     if is_due {
-        let SetContext { code, room, .. } = *state_set;
         let context = &state_set.context;
-        do_block(start, code, context, room, store, operands, sink, steps)
+        do_block(start, state_set.code, context, memory, sink, steps)
     } else {
         Ok(())
     }
@@ -121,37 +107,22 @@ fn leave<S: Sink, L: Ledger>(
     from: usize,
     to: usize,
     state_set: &SetContext,
-    store: &mut Store,
-    operands: &mut Operands,
+    memory: &mut Memory,
     sink: &mut S,
     steps: &mut Steps<L>,
 ) -> Result<(), Stop>
-    requires failures { S.failures sink.old < 2 ^ 64 - 1 }
-    requires room { room_of operands.old ≡ state_set.now.room }
-    requires runs { CanRunSet (context_on state_set.now) state_set.now.code.now
-        state_set.now.plan.now.states.items }
-    ensures does { Does (λ x. x) result (world_of store.new) (S.told sink.old) (S.told sink.new)
-        (spec.left_for (set_on state_set.now) from to (world_of store.old)) }
+    requires ready { CanGoOn S.failures state_set.now.context.room memory.old sink.old }
+    requires runs { CanTurn state_set.now }
+    ensures does { DoesOn S.told (λ x. x) result memory.old memory.new sink.old sink.new
+        (spec.left_for (set_on state_set.now) from to) }
     ensures steps { Adds result (left_steps (context_on state_set.now) state_set.now.code.now
-        from to (slice_get state_set.now.plan.now.states.items from) (world_of store.old))
-        steps.old steps.new }
-    ensures frame { frame_of (world_of store.new) ≡ frame_of (world_of store.old) }
-    ensures room { room_of operands.new ≡ room_of operands.old }
-    ensures failures { S.failures sink.new
-        ≡ counted (stopped_by_sink result) (S.failures sink.old) }
+        from to (state_at state_set.now from) (world_of memory.old.store)) steps.old steps.new }
+    ensures keeps { Keeps S.failures result memory.old memory.new sink.old sink.new }
 {
     match state_set.plan.states.get(from) {
         Some(state) => {
             let due = is_due(state.again.exit, from, to);
-            do_if_due(
-                due,
-                state.blocks.exit,
-                state_set,
-                store,
-                operands,
-                sink,
-                steps,
-            )
+            do_if_due(due, state.blocks.exit, state_set, memory, sink, steps)
         }
         None => Ok(()),
     }
@@ -162,42 +133,28 @@ fn come<S: Sink, L: Ledger>(
     from: usize,
     to: usize,
     state_set: &SetContext,
-    store: &mut Store,
-    operands: &mut Operands,
+    memory: &mut Memory,
     sink: &mut S,
     steps: &mut Steps<L>,
 ) -> Result<(), Stop>
-    requires failures { S.failures sink.old < 2 ^ 64 - 1 }
-    requires room { room_of operands.old ≡ state_set.now.room }
-    requires runs { CanRunSet (context_on state_set.now) state_set.now.code.now
-        state_set.now.plan.now.states.items }
-    ensures does { Does (λ x. x) result (world_of store.new) (S.told sink.old) (S.told sink.new)
-        (spec.come_to (set_on state_set.now) from to (world_of store.old)) }
+    requires ready { CanGoOn S.failures state_set.now.context.room memory.old sink.old }
+    requires runs { CanTurn state_set.now }
+    ensures does { DoesOn S.told (λ x. x) result memory.old memory.new sink.old sink.new
+        (spec.come_to (set_on state_set.now) from to) }
     ensures steps { Adds result (come_steps (context_on state_set.now) state_set.now.code.now
-        from to (slice_get state_set.now.plan.now.states.items to) (world_of store.old))
-        steps.old steps.new }
-    ensures frame { frame_of (world_of store.new) ≡ frame_of (world_of store.old) }
-    ensures room { room_of operands.new ≡ room_of operands.old }
-    ensures failures { S.failures sink.new
-        ≡ counted (stopped_by_sink result) (S.failures sink.old) }
+        from to (state_at state_set.now to) (world_of memory.old.store)) steps.old steps.new }
+    ensures keeps { Keeps S.failures result memory.old memory.new sink.old sink.new }
 {
     let set = state_set.context.set;
     match state_set.plan.states.get(to) {
         Some(state) => {
-            enter(store, set, to, is_due(state.again.time, from, to));
+            let is_timed = is_due(state.again.time, from, to);
+            enter(&mut memory.store, set, to, is_timed);
             let due = is_due(state.again.entry, from, to);
-            do_if_due(
-                due,
-                state.blocks.entry,
-                state_set,
-                store,
-                operands,
-                sink,
-                steps,
-            )
+            do_if_due(due, state.blocks.entry, state_set, memory, sink, steps)
         }
         None => {
-            enter(store, set, to, true);
+            enter(&mut memory.store, set, to, true);
             Ok(())
         }
     }
@@ -208,26 +165,20 @@ fn cross<S: Sink, L: Ledger>(
     from: usize,
     to: usize,
     state_set: &SetContext,
-    store: &mut Store,
-    operands: &mut Operands,
+    memory: &mut Memory,
     sink: &mut S,
     steps: &mut Steps<L>,
 ) -> Result<Turned, Stop>
-    requires failures { S.failures sink.old < 2 ^ 64 - 1 }
-    requires room { room_of operands.old ≡ state_set.now.room }
-    requires runs { CanRunSet (context_on state_set.now) state_set.now.code.now
-        state_set.now.plan.now.states.items }
-    ensures does { Does (λ t. t) result (world_of store.new) (S.told sink.old) (S.told sink.new)
-        (spec.crossed (set_on state_set.now) from to (world_of store.old)) }
+    requires ready { CanGoOn S.failures state_set.now.context.room memory.old sink.old }
+    requires runs { CanTurn state_set.now }
+    ensures does { DoesOn S.told (λ t. t) result memory.old memory.new sink.old sink.new
+        (spec.crossed (set_on state_set.now) from to) }
     ensures steps { Adds result (crossed_steps (context_on state_set.now) state_set.now.code.now
-        state_set.now.plan.now from to (world_of store.old)) steps.old steps.new }
-    ensures frame { frame_of (world_of store.new) ≡ frame_of (world_of store.old) }
-    ensures room { room_of operands.new ≡ room_of operands.old }
-    ensures failures { S.failures sink.new
-        ≡ counted (stopped_by_sink result) (S.failures sink.old) }
+        state_set.now.plan.now from to (world_of memory.old.store)) steps.old steps.new }
+    ensures keeps { Keeps S.failures result memory.old memory.new sink.old sink.new }
 {
-    match leave(from, to, state_set, store, operands, sink, steps) {
-        Ok(()) => match come(from, to, state_set, store, operands, sink, steps) {
+    match leave(from, to, state_set, memory, sink, steps) {
+        Ok(()) => match come(from, to, state_set, memory, sink, steps) {
             Ok(()) => Ok(Turned::Moved),
             Err(stop) => Err(stop),
         },
@@ -235,22 +186,36 @@ fn cross<S: Sink, L: Ledger>(
     }
 }
 
-/// Writes the line of a transition from a state. Where the clause of the number leads there, that line is ready but for its
-/// time.
+/// A transition of a state set.
+#[derive(Clone, Copy)]
+struct Transition {
+    /// The number of the state that it leads from.
+    from: usize,
+    /// The number of its clause among those of that state. It says only where its line is looked for.
+    clause: usize,
+    /// Where it leads.
+    target: Destination,
+}
+
+/// Writes the line of a transition. Where the clause of the number leads there, that line is ready but for its time.
 fn tell<S: Sink>(
     plan: &SetPlan,
-    target: Destination,
-    clause: usize,
-    from: usize,
+    transition: Transition,
     ms: u64,
     sink: &mut S,
 ) -> Result<(), SinkFault>
     requires { S.failures sink.old < 2 ^ 64 - 1 }
     ensures told { Wrote result (go_line ms plan.now.name.items
-        (name_at plan.now.states.items from) (target_name plan.now.states.items target))
+        (name_at plan.now.states.items transition.from)
+        (target_name plan.now.states.items transition.target))
         (S.told sink.old) (S.told sink.new) }
     ensures failures { S.failures sink.new ≡ counted (is_err result) (S.failures sink.old) }
 {
+    let Transition {
+        from,
+        clause,
+        target,
+    } = transition;
     match plan.go(from, clause, target) {
         Some(text) => write_timed(sink, ms, text),
         None => {
@@ -261,36 +226,28 @@ fn tell<S: Sink>(
     }
 }
 
-/// Writes the line of a transition, and goes on to the new state. One that leads out of the program enters none. The number of
-/// its clause says where the line is looked for.
+/// Writes the line of a transition, and goes on to the new state. One that leads out of the program enters none.
 fn arrive<S: Sink, L: Ledger>(
-    target: Destination,
-    clause: usize,
-    from: usize,
+    transition: Transition,
     state_set: &SetContext,
-    store: &mut Store,
-    operands: &mut Operands,
+    memory: &mut Memory,
     sink: &mut S,
     steps: &mut Steps<L>,
 ) -> Result<Turned, Stop>
-    requires failures { S.failures sink.old < 2 ^ 64 - 1 }
-    requires room { room_of operands.old ≡ state_set.now.room }
-    requires runs { CanRunSet (context_on state_set.now) state_set.now.code.now
-        state_set.now.plan.now.states.items }
-    ensures does { Does (λ t. t) result (world_of store.new) (S.told sink.old) (S.told sink.new)
-        (spec.arrived (set_on state_set.now) from target (world_of store.old)) }
+    requires ready { CanGoOn S.failures state_set.now.context.room memory.old sink.old }
+    requires runs { CanTurn state_set.now }
+    ensures does { DoesOn S.told (λ t. t) result memory.old memory.new sink.old sink.new
+        (spec.arrived (set_on state_set.now) transition.from transition.target) }
     ensures steps { Adds result (arrived_steps (context_on state_set.now) state_set.now.code.now
-        state_set.now.plan.now from target (world_of store.old)) steps.old steps.new }
-    ensures frame { frame_of (world_of store.new) ≡ frame_of (world_of store.old) }
-    ensures room { room_of operands.new ≡ room_of operands.old }
-    ensures failures { S.failures sink.new
-        ≡ counted (stopped_by_sink result) (S.failures sink.old) }
+        state_set.now.plan.now transition.from transition.target (world_of memory.old.store))
+        steps.old steps.new }
+    ensures keeps { Keeps S.failures result memory.old memory.new sink.old sink.new }
 {
-    match tell(state_set.plan, target, clause, from, store.time, sink) {
-        Ok(()) => match target {
-            Destination::State(state) => cross(
-                from, state, state_set, store, operands, sink, steps,
-            ),
+    match tell(state_set.plan, transition, memory.store.time, sink) {
+        Ok(()) => match transition.target {
+            Destination::State(state) => {
+                cross(transition.from, state, state_set, memory, sink, steps)
+            }
             Destination::Exit => Ok(Turned::Exited),
         },
         Err(_) => Err(Stop::Sink),
@@ -312,48 +269,34 @@ fn act<S: Sink, L: Ledger>(
     clause: ClausePlan,
     from: usize,
     state_set: &SetContext,
-    store: &mut Store,
-    operands: &mut Operands,
+    memory: &mut Memory,
     sink: &mut S,
     steps: &mut Steps<L>,
 ) -> Result<Turned, Stop>
-    requires failures { S.failures sink.old < 2 ^ 64 - 1 }
-    requires room { room_of operands.old ≡ state_set.now.room }
+    requires ready { CanGoOn S.failures state_set.now.context.room memory.old sink.old }
     requires clause { CanRun (context_on state_set.now) state_set.now.code.now clause }
-    requires runs { CanRunSet (context_on state_set.now) state_set.now.code.now
-        state_set.now.plan.now.states.items }
-    ensures does { Does (λ t. t) result (world_of store.new) (S.told sink.old) (S.told sink.new)
-        (spec.acted (set_on state_set.now) from
-        (clause_of (context_on state_set.now) state_set.now.code.now clause)
-        (world_of store.old)) }
+    requires runs { CanTurn state_set.now }
+    ensures does { DoesOn S.told (λ t. t) result memory.old memory.new sink.old sink.new
+        (spec.acted (set_on state_set.now) from (clause_on state_set.now clause)) }
     ensures steps { Adds result (acted_steps (context_on state_set.now) state_set.now.code.now
-        state_set.now.plan.now from clause (world_of store.old)) steps.old steps.new }
-    ensures frame { frame_of (world_of store.new) ≡ frame_of (world_of store.old) }
-    ensures room { room_of operands.new ≡ room_of operands.old }
-    ensures failures { S.failures sink.new
-        ≡ counted (stopped_by_sink result) (S.failures sink.old) }
+        state_set.now.plan.now from clause (world_of memory.old.store)) steps.old steps.new }
+    ensures keeps { Keeps S.failures result memory.old memory.new sink.old sink.new }
 {
     match perform(
         state_set.code,
         clause.block,
         &state_set.context,
-        store,
-        operands,
+        memory,
         sink,
         steps,
     ) {
         Ok(left) => {
-            let target = target_by(left, clause.target);
-            arrive(
-                target,
-                clause.number,
+            let transition = Transition {
                 from,
-                state_set,
-                store,
-                operands,
-                sink,
-                steps,
-            )
+                clause: clause.number,
+                target: target_by(left, clause.target),
+            };
+            arrive(transition, state_set, memory, sink, steps)
         }
         Err(stop) => Err(stop),
     }
@@ -364,29 +307,21 @@ pub fn transit<S: Sink, L: Ledger>(
     clause: ClausePlan,
     from: usize,
     state_set: &SetContext,
-    store: &mut Store,
-    operands: &mut Operands,
+    memory: &mut Memory,
     sink: &mut S,
     steps: &mut Steps<L>,
 ) -> Result<Turned, Stop>
-    requires failures { S.failures sink.old < 2 ^ 64 - 1 }
-    requires room { room_of operands.old ≡ state_set.now.room }
+    requires ready { CanGoOn S.failures state_set.now.context.room memory.old sink.old }
     requires clause { CanRun (context_on state_set.now) state_set.now.code.now clause }
-    requires runs { CanRunSet (context_on state_set.now) state_set.now.code.now
-        state_set.now.plan.now.states.items }
-    ensures does { Does (λ t. t) result (world_of store.new) (S.told sink.old) (S.told sink.new)
-        (spec.transition (set_on state_set.now) from
-        (clause_of (context_on state_set.now) state_set.now.code.now clause)
-        (world_of store.old)) }
-    ensures steps { Adds result (transition_steps (context_on state_set.now) state_set.now.code.now
-        state_set.now.plan.now from clause (world_of store.old)) steps.old steps.new }
-    ensures frame { frame_of (world_of store.new) ≡ frame_of (world_of store.old) }
-    ensures room { room_of operands.new ≡ room_of operands.old }
-    ensures failures { S.failures sink.new
-        ≡ counted (stopped_by_sink result) (S.failures sink.old) }
+    requires runs { CanTurn state_set.now }
+    ensures does { DoesOn S.told (λ t. t) result memory.old memory.new sink.old sink.new
+        (spec.transition (set_on state_set.now) from (clause_on state_set.now clause)) }
+    ensures steps { Adds result (transition_steps_on state_set.now from clause
+        (world_of memory.old.store)) steps.old steps.new }
+    ensures keeps { Keeps S.failures result memory.old memory.new sink.old sink.new }
 {
-    match spend(store, clause.line) {
-        Ok(()) => act(clause, from, state_set, store, operands, sink, steps),
+    match spend(&mut memory.store, clause.line) {
+        Ok(()) => act(clause, from, state_set, memory, sink, steps),
         Err(charge) => Err(Stop::Fault(charge.fault, charge.line)),
     }
 }

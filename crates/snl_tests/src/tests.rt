@@ -1,7 +1,9 @@
 //! What only calls can show: places in bytes, small tables, each call that a user of the crates makes.
 
+mod beginnings;
 mod calls;
 mod footprints;
+mod hearing;
 mod programs;
 mod tables;
 mod tokens;

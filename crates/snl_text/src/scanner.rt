@@ -93,7 +93,7 @@ impl<'a> Scanner<'a> {
         }
     }
 
-    /// Takes a piece, of this sort and text.
+    /// Takes a piece, of this sort and text. Fails only where memory ends.
     pub fn take(&mut self, sort: Sort, text: &'a [u8]) -> Result<(), AllocError>
         requires offset { self.old.pos.offset + length text.now < 2 ^ 32 }
         requires line { self.old.pos.line < 2 ^ 63 + self.old.pos.offset }

@@ -145,7 +145,8 @@ impl Sheet {
         self.text.as_slice()
     }
 
-    /// Keeps bytes from the front of a piece, as many as a call takes, where there is room for them.
+    /// Keeps bytes from the front of a piece, as many as a call takes and as there is room for. It fails where that are none of a
+    /// piece that has some.
     fn keep(&mut self, piece: &[u8]) -> Result<usize, SinkFault>
         ensures answer { result ≡ kept_by self.old (length piece.now) }
         ensures text { IfOk result (λ n. self.new.text.items
@@ -157,8 +158,8 @@ impl Sheet {
         ensures takes_none { self.new.takes_none ≡ self.old.takes_none }
         ensures failures { self.new.failures ≡ self.old.failures }
     {
-        let count = piece.len().min(self.most);
-        if self.room - self.text.len() < count {
+        let count = piece.len().min(self.most).min(self.room - self.text.len());
+        if count == 0 && !piece.is_empty() {
             return Err(SinkFault);
         }
         match self.text.extend_from_slice(&piece[..count]) {
@@ -167,8 +168,8 @@ impl Sheet {
         }
     }
 
-    /// Takes bytes from the front of a piece, as many as a call takes. It fails where there is no room for them, and at the call
-    /// that is refused.
+    /// Takes bytes from the front of a piece, as many as a call takes and as there is room for. It fails where there is no room
+    /// left for any, and at the call that is refused.
     pub fn take(&mut self, piece: &[u8]) -> Result<usize, SinkFault>
         requires { self.old.failures < 2 ^ 64 - 1 }
         ensures answer { result ≡ taken_by self.old (length piece.now) }

@@ -63,8 +63,8 @@ fn event_of(heard: Heard, room: Event) -> Event
     }
 }
 
-/// The same, with the values of a `val` put in the place of those that stood in `room`. So no line makes room for
-/// values anew.
+/// Reads a line as `read_line` does, and puts the values of a `val` in the place of those that stood in `room`. So no line
+/// makes room for values anew.
 pub fn read_event(
     line: &[u8],
     machine: &Machine,

@@ -9,3 +9,4 @@ pub mod Homes
 pub mod Asking
 pub mod Footprint
 pub mod Counting
+pub mod Memory

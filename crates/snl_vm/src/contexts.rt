@@ -1,4 +1,4 @@
-//! What code runs with: its state set, and the texts that its lines say.
+//! What code runs with: its state set, the texts that its lines say, and the room for its operands.
 
 ghost use Rattle.std.specs.Prelude.{◌≡◌};
 
@@ -11,6 +11,8 @@ pub struct PieceContext<'t> {
     pub name: &'t [u8],
     /// The strings of the program, as spelled with their quotes, by the numbers that instructions give them.
     pub formats: &'t [Vec<u8>],
+    /// How many operands there is room for. It stands in what is promised of a run, and no code reads it.
+    pub room: usize,
 }
 
 impl<'t> PieceContext<'t> {

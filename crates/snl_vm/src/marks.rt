@@ -10,6 +10,7 @@ pub struct Marks {
     words: Vec<u64>,
     count: usize,
     ghost held: { count ≤ 64 * length words.items },
+    ghost few: { length words.items ≤ count },
 }
 
 impl Marks {

@@ -113,6 +113,16 @@ impl Store {
         }
     }
 
+    /// All words of a state set's copy, one variable after another; none where there is no such copy.
+    pub fn words(&self, set: usize) -> &[i64]
+        ensures { result.now ≡ (copy_of set (world_of self.now)).words }
+    {
+        match self.copies.get(set) {
+            Some(copy) => copy.words.as_slice(),
+            None => &[],
+        }
+    }
+
     /// An element of a variable; 0 where there is none.
     pub fn element(&self, set: usize, variable: Variable, element: usize) -> i64
         ensures { element_of set variable element (world_of self.now) ≡ result }

@@ -122,7 +122,7 @@ const WELL: Row = Row {
     status: Status::Well,
 };
 
-const ROWS: [Row; 14] = [
+const ROWS: [Row; 16] = [
     // The worked examples: a run, an empty trace, a time that goes back.
     WELL,
     Row {
@@ -226,6 +226,9 @@ const ROWS: [Row; 14] = [
         status: Status::InputOutput,
         ..WELL
     },
+    // An output that is full.
+    FULL,
+    FULL_IN_A_LONG_LINE,
 ];
 
 /// The output has room for the first line and one more byte.
@@ -254,8 +257,6 @@ fn runs_in_any_pieces(rt: HostRuntime) -> Result<(), Fail> {
             row.runs(&rt, rt.alloc(), most)?;
         }
     }
-    FULL.runs(&rt, rt.alloc(), 1)?;
-    FULL_IN_A_LONG_LINE.runs(&rt, rt.alloc(), 1)?;
     Ok(())
 }
 

@@ -6,12 +6,10 @@ use crate::PROGRAM;
 use arrayvec::ArrayVec;
 use snl_check::{Checked, Options, check};
 use snl_links::Macros;
-use snl_machine::{Event, Live, Machine, Steps, laws as machine};
+use snl_machine::{Event, Live, Machine, Steps};
 use snl_text::{Kind, Lexed, lex};
-use snl_trace::{
-    End, Feed, LINE_LIMIT, Sheet, TIME_LIMIT, TraceFault, laws as trace, read_line, run,
-};
-use snl_tree::{ParseFault, laws as tree, parse};
+use snl_trace::{End, Feed, LINE_LIMIT, Sheet, TIME_LIMIT, TraceFault, read_line, run};
+use snl_tree::{ParseFault, parse};
 use std::alloc::Global;
 use std::marker::Brand;
 use std::process::Abort;
@@ -54,7 +52,6 @@ fn events_of_a_machine(rt: HostRuntime) -> Result<(), Fail> {
     let mut machine = loaded(rt.alloc(), PROGRAM)?;
     takes_events::<Brand, _>(&rt, rt.alloc(), &mut machine, Blank::new(1))?;
     takes_a_trace(&rt, rt.alloc(), &mut machine)?;
-    laws();
     Ok(())
 }
 
@@ -105,45 +102,6 @@ fn takes_a_trace(rt: &impl Abort, alloc: Global, machine: &mut Machine) -> Resul
     assert_eq!(rt; end, End::TraceFault(2, TraceFault::BackInTime));
     assert_eq!(rt; machine.time(), 6);
     Ok(())
-}
-
-/// Each law has no code.
-fn laws() {
-    tree::programs_differ_in_spelling();
-    tree::tokens_have_a_program_or_a_fault();
-    tree::tokens_have_one_answer();
-    machine::runs_its_program();
-    machine::machines_hold_the_footprint();
-    machine::instants_are_bounded();
-    machine::rounds_end();
-    machine::time_is_the_events();
-    machine::time_never_falls();
-    machine::pieces_fit();
-    machine::first_holds();
-    machine::events_fit();
-    machine::reached_hold();
-    machine::frame_stays();
-    machine::worlds_stay();
-    machine::worlds_are_the_program();
-    machine::stores_write();
-    machine::variables_are_cells();
-    machine::buffers_are_cells();
-    machine::feeds_fill_buffers();
-    machine::refreshes_fill_variables();
-    machine::worlds_are_laid_out();
-    machine::reached_are_closed();
-    machine::first_are_reached();
-    machine::reached_stay();
-    machine::unreached_do_nothing();
-    machine::instants_are_the_same();
-    machine::parsed_are_read();
-    machine::accepted_trees();
-    machine::accepted_is_sized();
-    machine::accepted_is_tied();
-    machine::accepted_is_held();
-    machine::accepted_hold();
-    machine::accepted_declares_its_flags();
-    trace::text_begins();
 }
 
 /// A line for each fault, after an event at 5.

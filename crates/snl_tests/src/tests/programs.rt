@@ -1,17 +1,11 @@
 //! What a checked program tells: its options in force, whether it waits for its channels, where a name is declared, its
 //! links, its tables, its code.
 
-ghost use Rattle.snl_syntax.specs.view.Programs.{program_view};
-ghost use Rattle.snl_resolve.specs.UseTables.{IsTableOf};
-
 use crate::tests::calls::checked;
 use snl_check::{Checked, Options};
 use snl_code::{Code, Piece, compile};
-use snl_links::{Link, Macros, links_of, tables_of};
-use snl_load::copies_of;
+use snl_links::{Link, Macros, links, tables};
 use snl_meaning::Instr;
-use snl_resolve::{UseTable, sites_of};
-use snl_syntax::Program;
 use snl_text::{Pos, lex};
 use std::alloc::{AllocError, Global};
 use std::process::Abort;
@@ -26,9 +20,9 @@ const LEAVES_OUT: &[u8] =
     b"program p option +s; ss s { state a { when () {} state b } state b { when () {} exit }
 state c { entry { printf(\"c\"); } when () {} state d } state d { when () {} state c } }";
 
-/// A program but for the rest of a sum: a condition that compares with the sum, one of which a part is not evaluated, one
+/// A program but for the terms of a sum: a condition that compares with the sum, one of which a part is not evaluated, one
 /// that faults, and a state that is never reached.
-const SUM_BEGINS: &[u8] = b"program s option +s; int x; ss s { state w { when (x == 1";
+const SUM_BEGINS: &[u8] = b"program s option +s; int x; ss s { state w { when (x == 0";
 
 const SUM_ENDS: &[u8] = b") {} state w when (0 && 1 / 0) {} state w when (1 / 0) {} state w }
 state u { when () {} state u } }";
@@ -64,29 +58,19 @@ impl<'a> Tells for Checked<'a> {
     }
 }
 
-/// The code of a program, by the table of what its names mean.
-fn code_of<'a>(alloc: Global, program: &Program<'a>, uses: &UseTable) -> Result<Code, AllocError>
-    requires uses { IsTableOf uses.now (program_view program.now) }
-{
-    let sites = sites_of(alloc, program)?;
-    let sites = sites.as_slice();
-    let copies = copies_of(alloc, program)?;
-    compile(alloc, program, sites, uses, copies.places.as_slice())
-}
-
 fn told_of(alloc: Global, checked: &Checked) -> Result<Told, AllocError> {
     let macros = Macros {
         text: b"".as_slice(),
     };
-    let mut tables = Vec::new(alloc);
-    tables_of(alloc, checked.program(), &mut tables)?;
+    let mut text = Vec::new(alloc);
+    tables(alloc, checked, &mut text)?;
     Ok(Told {
         options: checked.options(),
         waits: checked.waits(),
         declared: checked.declared(USED),
-        links: links_of(alloc, checked.program(), &macros)?,
-        tables,
-        code: code_of(alloc, checked.program(), checked.uses())?,
+        links: links(alloc, checked, &macros)?,
+        tables: text,
+        code: compile(alloc, checked)?,
     })
 }
 
@@ -142,23 +126,30 @@ fn which_states_code_holds(rt: HostRuntime) -> Result<(), Fail> {
     Ok(())
 }
 
-/// The program with a sum of 1,000 ones.
-fn long_sum(alloc: Global) -> Result<Vec<u8>, AllocError> {
+/// The program with a sum of 1,000 such terms, each with its `+`.
+fn long_sum(alloc: Global, term: &[u8]) -> Result<Vec<u8>, AllocError> {
     let mut source = Vec::from_slice(alloc, SUM_BEGINS)?;
-    for _one in 1..1000 {
-        source.extend_from_slice(b" + 1".as_slice())?;
+    for _term in 0..1000 {
+        source.extend_from_slice(term)?;
     }
     source.extend_from_slice(SUM_ENDS)?;
     Ok(source)
 }
 
-/// The sum is one instruction.
+/// How many instructions the code of that program has.
+fn length_of_sum(alloc: Global, term: &[u8]) -> Result<usize, Fail> {
+    let source = long_sum(alloc, term)?;
+    let told = told_in(alloc, source.as_slice())?;
+    Ok(told.code.len())
+}
+
+/// A sum of numbers is one instruction. In one of variables each name and each `+` is one: none does a whole expression.
 #[test]
-fn code_of_a_long_sum(rt: HostRuntime) -> Result<(), Fail> {
-    let source = long_sum(rt.alloc())?;
-    let told = told_in(rt.alloc(), source.as_slice())?;
-    let length = told.code.len();
-    assert!(rt; length < 200, "a long sum");
+fn code_of_long_sums(rt: HostRuntime) -> Result<(), Fail> {
+    let of_numbers = length_of_sum(rt.alloc(), b" + 1".as_slice())?;
+    assert!(rt; of_numbers < 200, "a sum of numbers");
+    let of_variables = length_of_sum(rt.alloc(), b" + x".as_slice())?;
+    assert!(rt; 2_000 <= of_variables, "a sum of variables");
     Ok(())
 }
 

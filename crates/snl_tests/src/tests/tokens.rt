@@ -1,6 +1,6 @@
 //! Tokens by `lex`: their places in bytes, their files, and what numbers and characters are worth.
 
-use snl_text::{LexFault, Pos, character_value, decimal_value, laws, lex, whole_value};
+use snl_text::{LexFault, Pos, character_value, decimal_value, lex, whole_value};
 use std::alloc::Global;
 use std::test::Fail;
 
@@ -106,19 +106,4 @@ fn values(rt: HostRuntime) {
         let found = decimal_value(text).map(|value| (value.thousandths, value.is_exact));
         assert_eq!(rt; found, wanted);
     }
-    laws::cut_or_fault();
-    laws::not_both();
-    laws::at_most_one_cut();
-    laws::no_cut_passes();
-    laws::at_most_one_fault();
-    laws::tokens_ascend();
-    laws::front_has_the_cut();
-    laws::read_before_fault();
-    laws::standing_is_text();
-    laws::standing_can_stand();
-    laws::texts_stand();
-    laws::no_longer_piece();
-    laws::markers_are_lines();
-    laws::lines_are_markers();
-    laws::examples_of_texts();
 }

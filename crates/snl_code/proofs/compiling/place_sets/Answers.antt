@@ -3,7 +3,7 @@ use Rattle.std.proofs.lemmas.List.{length-map}
 use Rattle.std.proofs.lemmas.Option.{slice_get-get_or}
 use Rattle.snl_syntax.specs.view.Programs.{program_view, state_set_view}
 use Rattle.snl_code.specs.Heres.{placed_in}
-use Rattle.snl_code.proofs.Copies.{row-length, row-at}
+use Rattle.snl_code.proofs.Rows.{row-length, row-at}
 use Rattle.snl_code.proofs.compiling.place_sets.Goals as goal
 
 pub bounds-copies-number : goal.bounds-copies-number

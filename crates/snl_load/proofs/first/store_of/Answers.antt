@@ -2,7 +2,8 @@ use Rattle.std.proofs.Common.{◌≡◌, ◌∙◌, ap, sym, rules, ℕ, None, f
 use Rattle.std.proofs.lemmas.List.{length-map}
 use Rattle.snl_links.specs.LinkViews.{link_view}
 use Rattle.snl_meaning.specs.declared.live.Live.TheVariants.{Waiting}
-use Rattle.snl_load.specs.Sets.{names_in, sets_of}
+use Rattle.snl_code.specs.Copies.{sets_of}
+use Rattle.snl_load.specs.Sets.{names_in}
 use Rattle.snl_load.proofs.first.store_of.Goals as goal
 
 pub returns : goal.returns

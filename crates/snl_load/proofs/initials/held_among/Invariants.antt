@@ -1,6 +1,6 @@
 use Rattle.std.proofs.Common.{◌≡◌, drop}
+use Rattle.snl_code.specs.Copies.{sets_of}
 use Rattle.snl_load.specs.Initials as spec
-use Rattle.snl_load.specs.Sets.{sets_of}
 use Rattle.snl_load.proofs.initials.held_among.Given as goal
 
 -- no copy so far has it, so the rest decides

@@ -1,9 +1,10 @@
 use Rattle.std.proofs.Common.{◌∙◌, ◌+◌, ◌<◌, ℕ, ◌-◌, ◌^◌, ap, arith, length, map, refl, subst, sym}
 use Rattle.snl_syntax.specs.view.Programs.{program_view}
 use Rattle.snl_links.specs.LinkViews.{link_view}
+use Rattle.snl_code.specs.Copies.{sets_of}
 use Rattle.snl_load.specs.First.{first_world}
 use Rattle.snl_load.specs.Places.{homes_in}
-use Rattle.snl_load.specs.Sets.{names_in, sets_of}
+use Rattle.snl_load.specs.Sets.{names_in}
 use Rattle.snl_load.proofs.Meant.{plans_are_right}
 use Rattle.snl_machine.specs.Holding.{loaded_by}
 use Rattle.snl_machine.proofs.AsLoaded.{loaded-is, first-is}
@@ -24,7 +25,7 @@ invariant_of-result c =
     let plan = c.in_ok-plan.plan in
     let room = c.in_ok-operands.ensures.room ∙ c.depth.ensures in
     let counted : code.depth < 2 ^ 64 - 1 = omega (arith, room, c.in_ok-operands.operands.items.small) in
-    let is = loaded-is p ls ls c.args.waits code plan refl c.in_ok-plan.ensures c.requires.code counted in
+    let is = loaded-is p ls ls c.args.waits code plan refl c.in_ok-plan.ensures c.requires.code c.requires.inside c.requires.short counted in
     let words = c.in_ok-footprint.ensures ∙ ap (λ (n : ℕ). store_words c.in_ok-store.store + n) (c.depth-2.ensures ∙ sym room) in
     record { words = words; room = room; runs = (plans_are_right p ls c.args.waits code (loaded_by plan code) is).1 }
 
@@ -45,7 +46,7 @@ returns-clause-made c =
     let first = first-is p ls ls c.args.waits code plan refl c.in_ok-plan.ensures _ _ _ _ c.in_ok-names.ensures c.as_slice-ties.ensures.value places store in
     record {
       links_are = c.requires.links;
-      loaded = loaded-is p ls ls c.args.waits code plan refl c.in_ok-plan.ensures c.requires.code counted;
+      loaded = loaded-is p ls ls c.args.waits code plan refl c.in_ok-plan.ensures c.requires.code c.requires.inside c.requires.short counted;
       channels_are = c.in_ok-names.ensures;
       world_is = subst (λ (w : World). IsWorldOf p ls w) (sym first) (worlds.first_world p ls);
       reached = subst (λ (w : World). AreReached p (holds_in (table_of code)) w) (sym first)

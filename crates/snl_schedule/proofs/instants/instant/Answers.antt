@@ -18,38 +18,39 @@ use Rattle.snl_schedule.proofs.instants.instant.Goals as goal
 pub returns-in-Ok-clause-does : goal.returns-in-Ok-clause-does
 returns-in-Ok-clause-does g c =
     let p = program_of (loaded c.args.program.now) in
-    let w = world_of c.args.store.now in
-    let u = record w { ticks = c.args.budget } in
+    let w = world_of c.args.memory.now.store in
+    let u = record w { ticks = c.args.program.now.budget } in
     let ready : true ≡ is_ready p u = c.if-not-are_ready.ensures.value ∙ ap (λ (ts : List Tied). not p.waits || list_all (is_link_ready u) ts) c.as_slice.ensures.value in
-    let starts = instant-starts p c.args.budget w c.in-Waiting.is ready in
-    let after = world_of c.start.new.store in
+    let starts = instant-starts p c.args.program.now.budget w c.in-Waiting.is ready in
+    let after = world_of c.start.new.memory.store in
     let began = subst (λ (v : World). Gave {A = Unit {0}} c.in-Ok.field-0 after (g.S.Sink.told c.args.sink.now) (g.S.Sink.told c.start.new.sink) (started p v))
     c.if-not-are_ready.ensures.same c.in-Ok.ensures.does in
-    subst (λ (r : Ran (Unit {0})). Does (λ x. x) c.rounds-in-Ok.result (world_of c.rounds-in-Ok.new.store) (g.S.Sink.told c.args.sink.now) (g.S.Sink.told c.rounds-in-Ok.new.sink) r) (sym starts)
+    subst (λ (r : Ran (Unit {0})). Does (λ x. x) c.rounds-in-Ok.result (world_of c.rounds-in-Ok.new.memory.store) (g.S.Sink.told c.args.sink.now) (g.S.Sink.told c.rounds-in-Ok.new.sink) r)
+    (sym starts)
     (does-then (λ x. x) _ (started p u) (λ _ v. all_rounds p v) _ _ _ _ _ _ began c.rounds-in-Ok.ensures.does)
 
 pub returns-in-Err-clause-does : goal.returns-in-Err-clause-does
 returns-in-Err-clause-does g c =
     let p = program_of (loaded c.args.program.now) in
-    let w = world_of c.args.store.now in
-    let u = record w { ticks = c.args.budget } in
+    let w = world_of c.args.memory.now.store in
+    let u = record w { ticks = c.args.program.now.budget } in
     let ready : true ≡ is_ready p u = c.if-not-are_ready.ensures.value ∙ ap (λ (ts : List Tied). not p.waits || list_all (is_link_ready u) ts) c.as_slice.ensures.value in
-    let starts = instant-starts p c.args.budget w c.in-Waiting.is ready in
-    let after = world_of c.start.new.store in
+    let starts = instant-starts p c.args.program.now.budget w c.in-Waiting.is ready in
+    let after = world_of c.start.new.memory.store in
     let stopped = λ (v : World). Does {V = Unit {0}} {A = Unit {0}} (λ x. x) (Err c.in-Err.stop) after (g.S.Sink.told c.args.sink.now) (g.S.Sink.told c.start.new.sink) (started p v) in
     let began = subst stopped c.if-not-are_ready.ensures.same c.in-Err.ensures.does in
-    subst (λ (r : Ran (Unit {0})). Does {V = Unit {0}} (λ x. x) (Err c.in-Err.stop) (world_of c.start.new.store) (g.S.Sink.told c.args.sink.now) (g.S.Sink.told c.start.new.sink) r) (sym starts)
+    subst (λ (r : Ran (Unit {0})). Does {V = Unit {0}} (λ x. x) (Err c.in-Err.stop) (world_of c.start.new.memory.store) (g.S.Sink.told c.args.sink.now) (g.S.Sink.told c.start.new.sink) r) (sym starts)
     (stopped-then {V = Unit {0}} (λ x. x) {U = Unit {0}} (λ x. x) c.in-Err.stop (started p u) (λ _ v. all_rounds p v) _ _ _ began)
 
 pub returns-in-Ok-clause-steps : goal.returns-in-Ok-clause-steps
 returns-in-Ok-clause-steps g c =
     let t = loaded c.args.program.now in
     let p = program_of t in
-    let w = world_of c.args.store.now in
-    let u = record w { ticks = c.args.budget } in
+    let w = world_of c.args.memory.now.store in
+    let u = record w { ticks = c.args.program.now.budget } in
     let ready : true ≡ is_ready p u = c.if-not-are_ready.ensures.value ∙ ap (λ (ts : List Tied). not p.waits || list_all (is_link_ready u) ts) c.as_slice.ensures.value in
-    let starts = steps-start t c.args.budget w c.in-Waiting.is ready in
-    let began = subst (λ (v : World). Gave {A = Unit {0}} c.in-Ok.field-0 (world_of c.start.new.store) (g.S.Sink.told c.args.sink.now) (g.S.Sink.told c.start.new.sink) (started p v))
+    let starts = steps-start t c.args.program.now.budget w c.in-Waiting.is ready in
+    let began = subst (λ (v : World). Gave {A = Unit {0}} c.in-Ok.field-0 (world_of c.start.new.memory.store) (g.S.Sink.told c.args.sink.now) (g.S.Sink.told c.start.new.sink) (started p v))
     c.if-not-are_ready.ensures.same c.in-Ok.ensures.does in
     let done = subst (λ (v : World). Adds {A = Unit {0}} (Ok tt) (started_steps t v) c.args.steps.now c.start.new.steps) c.if-not-are_ready.ensures.same c.in-Ok.ensures.steps in
     subst (λ (n : ℕ). Adds c.rounds-in-Ok.result n c.args.steps.now c.rounds-in-Ok.new.steps) (sym starts)
@@ -59,11 +60,11 @@ pub returns-in-Err-clause-steps : goal.returns-in-Err-clause-steps
 returns-in-Err-clause-steps g c =
     let t = loaded c.args.program.now in
     let p = program_of t in
-    let w = world_of c.args.store.now in
-    let u = record w { ticks = c.args.budget } in
+    let w = world_of c.args.memory.now.store in
+    let u = record w { ticks = c.args.program.now.budget } in
     let ready : true ≡ is_ready p u = c.if-not-are_ready.ensures.value ∙ ap (λ (ts : List Tied). not p.waits || list_all (is_link_ready u) ts) c.as_slice.ensures.value in
-    let starts = steps-start t c.args.budget w c.in-Waiting.is ready in
-    let stopped = λ (v : World). Does {V = Unit {0}} {A = Unit {0}} (λ x. x) (Err c.in-Err.stop) (world_of c.start.new.store)
+    let starts = steps-start t c.args.program.now.budget w c.in-Waiting.is ready in
+    let stopped = λ (v : World). Does {V = Unit {0}} {A = Unit {0}} (λ x. x) (Err c.in-Err.stop) (world_of c.start.new.memory.store)
     (g.S.Sink.told c.args.sink.now) (g.S.Sink.told c.start.new.sink) (started p v) in
     let began = subst stopped c.if-not-are_ready.ensures.same c.in-Err.ensures.does in
     let done = subst (λ (v : World). Adds {A = Unit {0}} (Err c.in-Err.stop) (started_steps t v) c.args.steps.now c.start.new.steps) c.if-not-are_ready.ensures.same c.in-Err.ensures.steps in

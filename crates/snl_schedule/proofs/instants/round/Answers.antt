@@ -56,8 +56,8 @@ loop-set-preserved g c =
           (ap (λ (name : List ℕ). record { set = c.loop-set.set; name = name; formats = t.formats; room = t.room }) c.as_slice.ensures.value)
           _ _ _ c.loop-set.invariant.count c.in-Ok.turned c.later-before.result _ _ _ _ c.later-before.ensures
           (sym c.is_exit.ensures ∙ c.if-is_exit.false) c.in-Ok.ensures.does c.in-Ok.ensures.steps;
-      frame = c.turn.ensures.frame ∙ c.loop-set.invariant.frame;
-      room = c.turn.ensures.room ∙ c.loop-set.invariant.room;
+      frame = c.turn.ensures.keeps.frame ∙ c.loop-set.invariant.frame;
+      room = c.turn.ensures.keeps.room ∙ c.loop-set.invariant.room;
       none_failed = search rules;
     }
 

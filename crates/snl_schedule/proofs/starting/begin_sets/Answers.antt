@@ -42,8 +42,8 @@ loop-set-preserved g c =
       count = begins-go_on t sets c.loop-set.set s within is _
           (ap (λ (name : List ℕ). record { set = c.loop-set.set; name = name; formats = t.formats; room = t.room }) c.as_slice.ensures.value)
           _ _ _ c.loop-set.invariant.count _ _ _ _ c.in-Ok.ensures.does c.in-Ok.ensures.steps;
-      frame = c.begin.ensures.frame ∙ c.loop-set.invariant.frame;
-      room = c.begin.ensures.room ∙ c.loop-set.invariant.room;
+      frame = c.begin.ensures.keeps.frame ∙ c.loop-set.invariant.frame;
+      room = c.begin.ensures.keeps.room ∙ c.loop-set.invariant.room;
       none_failed = search rules;
     }
 

@@ -12,10 +12,12 @@ use Rattle.snl_schedule.proofs.taking.wake_up.Given as goal
 -- what was told, the steps that were counted, the wakes that are over, and those that are left
 abbrev pub invariant-loop-wake : goal.invariant-loop-wake
 invariant-loop-wake g l = let p = program_of (loaded l.program) in record {
-  on_way : IsOnWay (g.S.Sink.told l.fn.sink) (g.S.Sink.told l.sink) (all_wakes p l.budget l.ms (world_of l.fn.store)) (wakes_of p l.budget l.ms (l.ms - l._wake) (world_of l.store));
-  count : l.steps + wakes_steps (loaded l.program) l.budget l.ms (l.ms - l._wake) (world_of l.store) ≡ l.fn.steps + all_wakes_steps (loaded l.program) l.budget l.ms (world_of l.fn.store);
-  past : IsPast p l.budget l.ms (world_of l.fn.store) (world_of l.store);
-  frame : SameButTime (world_of l.fn.store) (world_of l.store);
-  room : room_of l.operands ≡ room_of l.fn.operands;
+  on_way : IsOnWay (g.S.Sink.told l.fn.sink) (g.S.Sink.told l.sink) (all_wakes p l.program.budget l.ms (world_of l.fn.memory.store))
+      (wakes_of p l.program.budget l.ms (l.ms - l._wake) (world_of l.memory.store));
+  count : l.steps + wakes_steps (loaded l.program) l.program.budget l.ms (l.ms - l._wake) (world_of l.memory.store) ≡
+      l.fn.steps + all_wakes_steps (loaded l.program) l.program.budget l.ms (world_of l.fn.memory.store);
+  past : IsPast p l.program.budget l.ms (world_of l.fn.memory.store) (world_of l.memory.store);
+  frame : SameButTime (world_of l.fn.memory.store) (world_of l.memory.store);
+  room : room_of l.memory.operands ≡ room_of l.fn.memory.operands;
   none_failed : g.S.Sink.failures l.sink ≡ g.S.Sink.failures l.fn.sink;
 }

@@ -13,27 +13,27 @@ use Rattle.snl_schedule.proofs.transitions.cross.Goals as goal
 pub returns-in-Err-come-clause-does : goal.returns-in-Err-come-clause-does
 returns-in-Err-come-clause-does g c =
     let s = set_on c.args.state_set.now in
-    let u = world_of c.leave.new.store in
-    does-then (λ t. t) (Err c.in-Err-come.stop) (left_for s c.args.from c.args.to (world_of c.args.store.now)) (λ _ v. then_do (come_to s c.args.from c.args.to v) moved) _ u _ _ _ _
+    let u = world_of c.leave.new.memory.store in
+    does-then (λ t. t) (Err c.in-Err-come.stop) (left_for s c.args.from c.args.to (world_of c.args.memory.now.store)) (λ _ v. then_do (come_to s c.args.from c.args.to v) moved) _ u _ _ _ _
     c.in-Ok.ensures.does
     (stopped-then (λ t. t) (λ x. x) c.in-Err-come.stop (come_to s c.args.from c.args.to u) moved _ _ _ c.in-Err-come.ensures.does)
 
 pub returns-in-Err-clause-does : goal.returns-in-Err-clause-does
 returns-in-Err-clause-does g c =
     let s = set_on c.args.state_set.now in
-    stopped-then (λ t. t) (λ x. x) c.in-Err.stop (left_for s c.args.from c.args.to (world_of c.args.store.now)) (λ _ v. then_do (come_to s c.args.from c.args.to v) moved) _ _ _
+    stopped-then (λ t. t) (λ x. x) c.in-Err.stop (left_for s c.args.from c.args.to (world_of c.args.memory.now.store)) (λ _ v. then_do (come_to s c.args.from c.args.to v) moved) _ _ _
     c.in-Err.ensures.does
 
 pub returns-in-Err-come-clause-steps : goal.returns-in-Err-come-clause-steps
 returns-in-Err-come-clause-steps g c =
     let t = c.args.state_set.now in
-    adds-then {V = Turned} (Err c.in-Err-come.stop) (left_for (set_on t) c.args.from c.args.to (world_of c.args.store.now))
-    (λ _. come_steps (context_on t) t.code.now c.args.from c.args.to (slice_get t.plan.now.states.items c.args.to)) _ (world_of c.leave.new.store) _ _ _ _ _ _
+    adds-then {V = Turned} (Err c.in-Err-come.stop) (left_for (set_on t) c.args.from c.args.to (world_of c.args.memory.now.store))
+    (λ _. come_steps (context_on t) t.code.now c.args.from c.args.to (slice_get t.plan.now.states.items c.args.to)) _ (world_of c.leave.new.memory.store) _ _ _ _ _ _
     c.in-Ok.ensures.does c.in-Ok.ensures.steps (adds-stopped (Unit {0}) Turned c.in-Err-come.stop _ _ _ c.in-Err-come.ensures.steps)
 
 pub returns-in-Err-clause-steps : goal.returns-in-Err-clause-steps
 returns-in-Err-clause-steps g c =
     let t = c.args.state_set.now in
-    adds-stops Turned (λ x. x) c.in-Err.stop (left_for (set_on t) c.args.from c.args.to (world_of c.args.store.now))
+    adds-stops Turned (λ x. x) c.in-Err.stop (left_for (set_on t) c.args.from c.args.to (world_of c.args.memory.now.store))
     (λ _. come_steps (context_on t) t.code.now c.args.from c.args.to (slice_get t.plan.now.states.items c.args.to)) _ _ _ _ _ _
     c.in-Err.ensures.does c.in-Err.ensures.steps

@@ -1,5 +1,6 @@
 use Rattle.snl_vm.specs.Views.{world_of}
-use Rattle.snl_schedule.specs.Plans.{block_at, context_for}
+use Rattle.snl_vm.specs.Running.{context_by}
+use Rattle.snl_schedule.specs.Plans.{block_at}
 use Rattle.snl_schedule.proofs.Faulting.{told_fault-cut, told_fault-cut_before}
 use Rattle.snl_schedule.proofs.turns.do_told.Goals as goal
 
@@ -12,4 +13,4 @@ returns-in-Err-clause-does g c =
 pub returns-in-Err-Sink-clause-does : goal.returns-in-Err-Sink-clause-does
 returns-in-Err-Sink-clause-does g c =
     let did = (rw c.in-Err-Sink.field-0-is at c.in-Err-Sink.ensures.does) in
-    told_fault-cut_before c.args.context.now.name.now (block_at (context_for c.args.context.now c.args.room) c.args.code.now c.args.start (world_of c.args.store.now)) _ _ did
+    told_fault-cut_before c.args.context.now.name.now (block_at (context_by c.args.context.now) c.args.code.now c.args.start (world_of c.args.memory.now.store)) _ _ did

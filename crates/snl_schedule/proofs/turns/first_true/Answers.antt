@@ -25,8 +25,8 @@ loop-clause-preserved g c =
           let t = c.args.state_set.now in
           count-goes_on (context_on t) t.code.now fire c.args.clauses.now c.loop-clause.clause-index _ c.loop-clause-test.true _ _ _ (c.loop-clause.invariant.count fire) _ _ _ _
           (rw c.in-Ok-false.field-0-test at c.in-Ok-false.ensures.does) c.in-Ok-false.ensures.steps;
-      frame = c.holds.ensures.frame ∙ c.loop-clause.invariant.frame;
-      room = c.holds.ensures.room ∙ c.loop-clause.invariant.room;
+      frame = c.holds.ensures.keeps.frame ∙ c.loop-clause.invariant.frame;
+      room = c.holds.ensures.keeps.room ∙ c.loop-clause.invariant.room;
       none_failed = search rules;
     }
 

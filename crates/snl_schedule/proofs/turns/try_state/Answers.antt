@@ -12,14 +12,14 @@ pub returns-in-Ok-clause-does : goal.returns-in-Ok-clause-does
 returns-in-Ok-clause-does g c =
     let t = c.args.state_set.now in
     let s = set_on t in
-    does-then (λ b. b) c.fire.result (chosen (state_in s c.args.from).clauses (world_of c.args.store.now)) (fired s c.args.from) (clause_by (context_on t) t.code.now c.in-Ok.clause) _ _ _ _ _
+    does-then (λ b. b) c.fire.result (chosen (state_in s c.args.from).clauses (world_of c.args.memory.now.store)) (fired s c.args.from) (clause_by (context_on t) t.code.now c.in-Ok.clause) _ _ _ _ _
     (rw c.clauses_of-clauses.ensures.means at c.in-Ok.ensures.does) c.fire.ensures.does
 
 pub returns-in-Err-clause-does : goal.returns-in-Err-clause-does
 returns-in-Err-clause-does g c =
     let t = c.args.state_set.now in
     let s = set_on t in
-    stopped-then (λ b. b) (clause_by (context_on t) t.code.now) c.in-Err.stop (chosen (state_in s c.args.from).clauses (world_of c.args.store.now)) (fired s c.args.from) _ _ _
+    stopped-then (λ b. b) (clause_by (context_on t) t.code.now) c.in-Err.stop (chosen (state_in s c.args.from).clauses (world_of c.args.memory.now.store)) (fired s c.args.from) _ _ _
     (rw c.clauses_of-clauses.ensures.means at c.in-Err.ensures.does)
 
 pub returns-in-Ok-clause-steps : goal.returns-in-Ok-clause-steps

@@ -1,4 +1,4 @@
-use Rattle.std.proofs.Common.{◌≡◌, ap, subst, ◌∙◌}
+use Rattle.std.proofs.Common.{◌≡◌, ap, subst, ◌∙◌, rules}
 use Rattle.snl_output.specs.Devices.{IsCutShort}
 use Rattle.snl_output.specs.Does.{Faulted, text_of}
 use Rattle.snl_meaning.specs.World.{World, copy_of}
@@ -15,22 +15,22 @@ use Rattle.snl_schedule.proofs.turns.turn.Goals as goal
 pub returns-in-Ok-write_fault-clause-does : goal.returns-in-Ok-write_fault-clause-does
 returns-in-Ok-write_fault-clause-does g c =
     let s = set_on c.args.state_set.now in
-    let w = world_of c.args.store.now in
+    let w = world_of c.args.memory.now.store in
     let fresh : world_of c.refresh.new.store ≡ refreshed s.set w = c.refresh.ensures in
     let line = rw c.fault_text.ensures at c.in-Ok-write_fault.ensures.told in
-    let did = (rw (c.in-Err-Fault.field-0-is, c.state_now.ensures) at c.in-Err-Fault.ensures.does) in
+    let did = (rw (c.in-Err-Fault.field-0-is, c.state_now-state.ensures) at c.in-Err-Fault.ensures.does) in
     let old = g.S.Sink.told c.args.sink.now in
     let new = g.S.Sink.told c.write_fault.new.sink in
-    subst (λ (u : World). Faulted {A = Turned} c.in-Err-Fault.fault c.in-Err-Fault.line (world_of c.try_state.new.store) old new (turn_after s u)) fresh
+    subst (λ (u : World). Faulted {A = Turned} c.in-Err-Fault.fault c.in-Err-Fault.line (world_of c.try_state.new.memory.store) old new (turn_after s u)) fresh
     (told_fault-told s.name _ _ _ _ _ _ _ did line)
 
 pub returns-in-Err-clause-does : goal.returns-in-Err-clause-does
 returns-in-Err-clause-does g c =
     let s = set_on c.args.state_set.now in
-    let w = world_of c.args.store.now in
+    let w = world_of c.args.memory.now.store in
     let fresh : world_of c.refresh.new.store ≡ refreshed s.set w = c.refresh.ensures in
     let line = rw c.fault_text.ensures at c.in-Err.ensures.told in
-    let did = (rw (c.in-Err-Fault.field-0-is, c.state_now.ensures) at c.in-Err-Fault.ensures.does) in
+    let did = (rw (c.in-Err-Fault.field-0-is, c.state_now-state.ensures) at c.in-Err-Fault.ensures.does) in
     let old = g.S.Sink.told c.args.sink.now in
     let new = g.S.Sink.told c.write_fault.new.sink in
     subst (λ (u : World). IsCutShort (text_of (turn_after s u)) old new) fresh
@@ -39,27 +39,39 @@ returns-in-Err-clause-does g c =
 pub returns-in-Err-Sink-clause-does : goal.returns-in-Err-Sink-clause-does
 returns-in-Err-Sink-clause-does g c =
     let s = set_on c.args.state_set.now in
-    let w = world_of c.args.store.now in
+    let w = world_of c.args.memory.now.store in
     let fresh : world_of c.refresh.new.store ≡ refreshed s.set w = c.refresh.ensures in
     let v = world_of c.refresh.new.store in
-    let did = (rw (c.in-Err-Sink.field-0-is, c.state_now.ensures) at c.in-Err-Sink.ensures.does) in
+    let did = (rw (c.in-Err-Sink.field-0-is, c.state_now-state.ensures) at c.in-Err-Sink.ensures.does) in
     let old = g.S.Sink.told c.args.sink.now in
     let new = g.S.Sink.told c.try_state.new.sink in
     subst (λ (u : World). IsCutShort (text_of (turn_after s u)) old new) fresh
     (told_fault-cut_before s.name (tried s (copy_of s.set v).state v) _ _ did)
 
-pub returns-in-Ok-clause-frame : goal.returns-in-Ok-clause-frame
-returns-in-Ok-clause-frame g c =
-    c.try_state.ensures.frame ∙ (ap frame_of c.refresh.ensures ∙ refreshed-same c.args.state_set.now.context.set (world_of c.args.store.now))
+pub returns-in-Ok-clause-keeps : goal.returns-in-Ok-clause-keeps
+returns-in-Ok-clause-keeps g c = record {
+  frame = c.try_state.ensures.keeps.frame ∙ (ap frame_of c.refresh.ensures ∙ refreshed-same c.args.state_set.now.context.set (world_of c.args.memory.now.store));
+  room = c.try_state.ensures.keeps.room;
+  failures = search rules;
+}
 
-pub returns-in-Err-Sink-clause-frame : goal.returns-in-Err-Sink-clause-frame
-returns-in-Err-Sink-clause-frame g c =
-    c.try_state.ensures.frame ∙ (ap frame_of c.refresh.ensures ∙ refreshed-same c.args.state_set.now.context.set (world_of c.args.store.now))
+pub returns-in-Err-Sink-clause-keeps : goal.returns-in-Err-Sink-clause-keeps
+returns-in-Err-Sink-clause-keeps g c = record {
+  frame = c.try_state.ensures.keeps.frame ∙ (ap frame_of c.refresh.ensures ∙ refreshed-same c.args.state_set.now.context.set (world_of c.args.memory.now.store));
+  room = c.try_state.ensures.keeps.room;
+  failures = search rules;
+}
 
-pub returns-in-Ok-write_fault-clause-frame : goal.returns-in-Ok-write_fault-clause-frame
-returns-in-Ok-write_fault-clause-frame g c =
-    c.try_state.ensures.frame ∙ (ap frame_of c.refresh.ensures ∙ refreshed-same c.args.state_set.now.context.set (world_of c.args.store.now))
+pub returns-in-Ok-write_fault-clause-keeps : goal.returns-in-Ok-write_fault-clause-keeps
+returns-in-Ok-write_fault-clause-keeps g c = record {
+  frame = c.try_state.ensures.keeps.frame ∙ (ap frame_of c.refresh.ensures ∙ refreshed-same c.args.state_set.now.context.set (world_of c.args.memory.now.store));
+  room = c.try_state.ensures.keeps.room;
+  failures = search rules;
+}
 
-pub returns-in-Err-clause-frame : goal.returns-in-Err-clause-frame
-returns-in-Err-clause-frame g c =
-    c.try_state.ensures.frame ∙ (ap frame_of c.refresh.ensures ∙ refreshed-same c.args.state_set.now.context.set (world_of c.args.store.now))
+pub returns-in-Err-clause-keeps : goal.returns-in-Err-clause-keeps
+returns-in-Err-clause-keeps g c = record {
+  frame = c.try_state.ensures.keeps.frame ∙ (ap frame_of c.refresh.ensures ∙ refreshed-same c.args.state_set.now.context.set (world_of c.args.memory.now.store));
+  room = c.try_state.ensures.keeps.room;
+  failures = search rules;
+}

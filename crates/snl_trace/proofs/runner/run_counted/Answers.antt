@@ -9,10 +9,10 @@ use Rattle.snl_trace.proofs.runner.run_counted.Goals as goal
 
 pub loop-reads-init : goal.loop-reads-init
 loop-reads-init g c = record {
-  way = rw c.new-line.ensures (under_way-start _ _ _);
+  way = rw c.new.ensures (under_way-start _ _ _);
   fixed = refl;
   stays = λ p ls waits budget is. is;
-  begun = rw c.new-line.ensures (omega arith);
+  begun = rw c.new.ensures (omega arith);
   room = refl;
   lines = omega arith;
   source_works = refl;
@@ -53,7 +53,7 @@ returns-in-Some-clause-does g c =
     let same : rules_of c.loop-reads.machine ≡ rules_of c.args.machine.now = rules-same c.args.machine.now c.loop-reads.machine c.loop-reads.invariant.fixed in
     let n = c.in-Ok.count in
     let room = c.read.new.room in
-    let to = standing c.take_in.new.line.items c.take_in.new.number c.take_in.new.machine (g.S.Sink.told c.take_in.new.sink) in
+    let to = standing c.take_in.new.reading.line.items c.take_in.new.reading.number c.take_in.new.machine (g.S.Sink.told c.take_in.new.sink) in
     under_way-ends (rules_of c.args.machine.now) _ _ _ _ n room c.in-Some.end _ _ to refl c.loop-reads.invariant.way c.in-Ok.ensures.given
     (rw same at c.in-Some.ensures.does)
 

@@ -10,12 +10,12 @@ abbrev pub invariant-loop-reads : goal.invariant-loop-reads
 invariant-loop-reads g l = record {
   way : IsUnderWay (rules_of l.initial.machine) (g.R.Source.rest l.initial.source) (g.R.Source.rest l.source) l._reads
       (standing [] 1 l.initial.machine (g.S.Sink.told l.initial.sink))
-      (standing l.line.items l.number l.machine (g.S.Sink.told l.sink));
+      (standing l.reading.line.items l.reading.number l.machine (g.S.Sink.told l.sink));
   fixed : fixed_of l.machine ≡ fixed_of l.initial.machine;
   stays : StaysMachineOf l.initial.machine l.machine;
-  begun : length l.line.items ≤ 32768;
+  begun : length l.reading.line.items ≤ 32768;
   room : length l.room ≡ 65536;
-  lines : l.number ≤ 1 + l._reads * 65536;
+  lines : l.reading.number ≤ 1 + l._reads * 65536;
   source_works : g.R.Source.failures l.source ≡ g.R.Source.failures l.initial.source;
   sink_works : g.S.Sink.failures l.sink ≡ g.S.Sink.failures l.initial.sink;
 }

@@ -43,7 +43,7 @@ returns-in-Some-take_next-clause-does g c =
     let same : rules_of c.loop-next.machine ≡ rules_of c.args.machine.now = rules-same c.args.machine.now c.loop-next.machine c.loop-next.invariant.fixed in
     let cut : c.loop-next.left.now ≡ (c.in-Some.next.line.now ++ 10 ∷ []) ++ c.in-Some.next.rest.now =
     c.in-Some.ensures.cut ∙ sym (append_assoc c.in-Some.next.line.now (10 ∷ []) c.in-Some.next.rest.now) in
-    let to = standing c.take_next.new.line.items c.take_next.new.number c.take_next.new.machine (g.S.Sink.told c.take_next.new.sink) in
+    let to = standing c.take_next.new.reading.line.items c.take_next.new.reading.number c.take_next.new.machine (g.S.Sink.told c.take_next.new.sink) in
     way-ends _ _ _ _ _ c.in-Some-take_next.end _ _ to c.loop-next.invariant.way cut (rw same at c.in-Some-take_next.ensures.does)
 
 pub returns-in-Some-take_next-clause-fixed : goal.returns-in-Some-take_next-clause-fixed
@@ -54,13 +54,13 @@ returns-in-Some-take_next-clause-stays g c = stays-both c.args.machine.now c.loo
 
 pub returns-in-Ok-clause-does : goal.returns-in-Ok-clause-does
 returns-in-Ok-clause-does g c =
-    let b = standing c.loop-next.line.items c.loop-next.number c.loop-next.machine (g.S.Sink.told c.loop-next.sink) in
+    let b = standing c.loop-next.reading.line.items c.loop-next.reading.number c.loop-next.machine (g.S.Sink.told c.loop-next.sink) in
     rw c.in-Ok.ensures.ok
     (way-all _ _ _ _ b _ c.loop-next.invariant.way (takes-more (rules_of c.args.machine.now) c.loop-next.left.now b c.in_default.ensures.none))
 
 pub returns-in-Err-clause-does : goal.returns-in-Err-clause-does
 returns-in-Err-clause-does g c =
-    let b = standing c.loop-next.line.items c.loop-next.number c.loop-next.machine (g.S.Sink.told c.loop-next.sink) in
+    let b = standing c.loop-next.reading.line.items c.loop-next.reading.number c.loop-next.machine (g.S.Sink.told c.loop-next.sink) in
     let left = c.loop-next.left.now in
-    way-ends (rules_of c.args.machine.now) c.args.bytes.now left left [] (end.TraceFault c.loop-next.number c.in-Err.fault) _ b b c.loop-next.invariant.way (sym (append-nil left))
+    way-ends (rules_of c.args.machine.now) c.args.bytes.now left left [] (end.TraceFault c.loop-next.reading.number c.in-Err.fault) _ b b c.loop-next.invariant.way (sym (append-nil left))
     (takes-long (rules_of c.args.machine.now) (rules-long c.args.machine.now) c.in-Err.fault left b c.in-Err.ensures.fault c.in_default.ensures.none c.in-Err.ensures.long)

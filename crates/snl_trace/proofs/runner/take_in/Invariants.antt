@@ -9,11 +9,11 @@ use Rattle.snl_trace.proofs.runner.take_in.Given as goal
 abbrev pub invariant-loop-next : goal.invariant-loop-next
 invariant-loop-next g l = record {
   way : IsPartWay (rules_of l.initial.machine) l.bytes l.left
-      (standing l.initial.line.items l.initial.number l.initial.machine (g.S.Sink.told l.initial.sink))
-      (standing l.line.items l.number l.machine (g.S.Sink.told l.sink));
+      (standing l.initial.reading.line.items l.initial.reading.number l.initial.machine (g.S.Sink.told l.initial.sink))
+      (standing l.reading.line.items l.reading.number l.machine (g.S.Sink.told l.sink));
   fixed : fixed_of l.machine ≡ fixed_of l.initial.machine;
   stays : StaysMachineOf l.initial.machine l.machine;
-  lines : l.number + length l.left ≤ l.initial.number + length l.bytes;
+  lines : l.reading.number + length l.left ≤ l.initial.reading.number + length l.bytes;
   none_failed : g.S.Sink.failures l.sink ≡ g.S.Sink.failures l.initial.sink;
 }
 

@@ -25,7 +25,7 @@ pub returns-clause-does : goal.returns-clause-does
 returns-clause-does g c =
     let m = c.args.self.now in
     let same = handed-is m c.instrs.result.now (map (λ text. text.items) c.texts.result.now) c.depth.result c.instrs.ensures (ap (map (λ text. text.items)) c.texts.ensures) c.depth.ensures in
-    subst (λ (t : Loaded). Does {V = Live} {A = Live} (λ live. live) c.take.result (world_of c.take.new.store) (g.S.Sink.told c.args.sink.now) (g.S.Sink.told c.take.new.sink)
+    subst (λ (t : Loaded). Does {V = Live} {A = Live} (λ live. live) c.take.result (world_of c.take.new.memory.store) (g.S.Sink.told c.args.sink.now) (g.S.Sink.told c.take.new.sink)
     (line_of (program_of t) m.budget c.args.ms c.args.event.now (world_held m))) same c.take.ensures.does
 
 pub returns-clause-steps : goal.returns-clause-steps
@@ -38,31 +38,31 @@ pub returns-clause-time : goal.returns-clause-time
 returns-clause-time g c =
     let m = c.args.self.now in
     let same = handed-is m c.instrs.result.now (map (λ text. text.items) c.texts.result.now) c.depth.result c.instrs.ensures (ap (map (λ text. text.items)) c.texts.ensures) c.depth.ensures in
-    subst (λ (t : Loaded). OnErr c.take.result (HasInstant (program_of t) m.budget c.args.ms (world_held m) (world_of c.take.new.store).time)) same c.take.ensures.time
+    subst (λ (t : Loaded). OnErr c.take.result (HasInstant (program_of t) m.budget c.args.ms (world_held m) (world_of c.take.new.memory.store).time)) same c.take.ensures.time
 
 -- the words that it holds stay
 pub invariant_of-self : goal.invariant_of-self
 invariant_of-self g c =
     let m = c.args.self.now in
-    let new = c.take.new.store in
-    let words = words-stay m.store new (world_of new).time c.take.ensures.frame in
-    let room = c.take.ensures.room in
+    let new = c.take.new.memory.store in
+    let words = words-stay m.memory.store new (world_of new).time c.take.ensures.keeps.frame in
+    let room = c.take.ensures.keeps.room in
     record { words = m.words ∙ sym (λ j. words j + room j); room = room ∙ m.room; runs = m.runs }
 
 -- so all that no event changes does
 pub returns-clause-fixed : goal.returns-clause-fixed
 returns-clause-fixed g c =
     let m = c.args.self.now in
-    let new = c.take.new.store in
-    let words = words-stay m.store new (world_of new).time c.take.ensures.frame in
-    let room = c.take.ensures.room in
+    let new = c.take.new.memory.store in
+    let words = words-stay m.memory.store new (world_of new).time c.take.ensures.keeps.frame in
+    let room = c.take.ensures.keeps.room in
     λ j. record { plan = m.plan; code = m.code; channels = names_in m.names; budget = m.budget; words = words j + room j }
 
 pub returns-clause-means : goal.returns-clause-means
-returns-clause-means g c = means-its-program c.args.ms c.args.event.now c.args.self.now c.take.result (world_of c.take.new.store) _ _ (returns-clause-does g c)
+returns-clause-means g c = means-its-program c.args.ms c.args.event.now c.args.self.now c.take.result (world_of c.take.new.memory.store) _ _ (returns-clause-does g c)
 
 pub returns-clause-stays : goal.returns-clause-stays
 returns-clause-stays g c =
     let m = c.args.self.now in
-    stays_its_machine c.args.ms c.args.event.now m _ c.take.result _ _ (returns-clause-fixed g c) c.take.ensures.frame
+    stays_its_machine c.args.ms c.args.event.now m _ c.take.result _ _ (returns-clause-fixed g c) c.take.ensures.keeps.frame
     (returns-clause-does g c) c.take.ensures.ended

@@ -1,0 +1,9 @@
+"""Stands in the place of pyepics where a case has no control system: it plays what the file of EPICS_PLAY says.
+
+    up NAME TYPE [COUNT]    the channel connects; val NAME [1, 2] gives values, once somebody asked for them
+    down NAME               it is gone
+    refuse NAME             its puts fail from now on; hold NAME keeps their answers back, until a line `answer`
+    put NAME                waits until one more put of it came
+
+Each put goes as a line to the file of EPICS_PUTS: its name, `asks` or `plain`, the type, the values.
+"""

@@ -1,0 +1,172 @@
+"""The names of `epics.ca` that the scripts use, over the play."""
+import json
+import os
+import threading
+from collections import Counter
+
+from . import dbr
+
+TYPES = ["string", "short", "float", "enum", "char", "long", "double"]
+NORMAL, PUT_FAIL, PUT = 1, 160, 1
+MESSAGES = {PUT_FAIL: "Channel write request failed"}
+
+
+class ChannelAccessException(Exception):
+    """No channel, or no library."""
+
+
+class ChannelAccessGetFailure(Exception):
+    """A channel could not be read."""
+
+
+class CASeverityException(Exception):
+    """The library refused a call."""
+
+
+class Channel:
+    """A channel, its number, and who wants to hear of it."""
+
+    def __init__(self, name, chid, callback):
+        """A channel that is not connected yet."""
+        self.name, self.chid, self.callback, self.on_value = name, chid, callback, None
+        self.kind, self.count, self.is_up, self.refuses, self.holds = 0, 1, False, False, False
+
+
+class Library:
+    """The functions of libca itself. All share one condition, which tells the play of each put and subscription."""
+
+    def __init__(self):
+        """A library without channels."""
+        self.channels, self.condition, self.puts, self.held, self.trouble = {}, threading.Condition(), Counter(), [], None
+
+    def ca_add_exception_event(self, handler, _):
+        """Who wants to hear of trouble."""
+        self.trouble = handler
+
+    def ca_field_type(self, chid):
+        """The type of a channel."""
+        return self.channels[chid.value].kind
+
+    def ca_state(self, chid):
+        """Whether it is connected; 3 is a closed one."""
+        return dbr.CS_CONN if self.channels[chid.value].is_up else 3
+
+    def ca_element_count(self, chid):
+        """The most values that it can have."""
+        return self.channels[chid.value].count
+
+    def ca_array_put(self, kind, _count, chid, data):
+        """A plain put: a refusal comes as trouble."""
+        channel = self.channels[chid.value]
+        note("plain", channel, kind, data)
+        if channel.refuses:
+            self.trouble(self.trouble.argtypes[0](None, chid.value, kind, len(data), None, PUT_FAIL, PUT, b"", b"", 0))
+        self.count(channel)
+        return NORMAL
+
+    def ca_array_put_callback(self, kind, _count, chid, data, handler, user):
+        """A put that asks for an answer, which comes at once or at a line `answer`."""
+        channel = self.channels[chid.value]
+        note("asks", channel, kind, data)
+        status = PUT_FAIL if channel.refuses else NORMAL
+
+        def answer():
+            """Answers the put."""
+            handler(dbr.event_handler_args(user, chid.value, kind, len(data), None, status))
+
+        if channel.holds:
+            self.held.append(answer)
+        else:
+            answer()
+        self.count(channel)
+        return NORMAL
+
+    def count(self, channel):
+        """Lets the play see that a put came."""
+        with self.condition:
+            self.puts[channel.name] += 1
+            self.condition.notify_all()
+
+    def play(self):
+        """Does what the lines of the play say."""
+        taken = Counter()
+        names = {it.name: it for it in self.channels.values()}
+        with open(os.environ["EPICS_PLAY"]) as file:
+            lines = file.read().splitlines()
+        for line in lines:
+            word, name, rest = (line.split(" ", 2) + ["", ""])[:3]
+            if word == "put":
+                taken[name] += 1
+                with self.condition:
+                    self.condition.wait_for(lambda name=name: self.puts[name] >= taken[name])
+            elif word == "answer":
+                while self.held:
+                    self.held.pop(0)()
+            else:
+                self.act(names[name], word, rest)
+
+    def act(self, channel, word, rest):
+        """Does what a line says of one channel."""
+        if word == "val":
+            with self.condition:
+                self.condition.wait_for(lambda: channel.on_value)
+            channel.on_value(value=json.loads(rest), pvname=channel.name)
+        elif word in ("up", "down"):
+            channel.is_up = word == "up"
+            if channel.is_up:
+                kind, *count = rest.split()
+                channel.kind, channel.count = TYPES.index(kind), int(count[0]) if count else 1
+            channel.callback(pvname=channel.name, chid=channel.chid, conn=channel.is_up)
+        elif word == "refuse":
+            channel.refuses = True
+        elif word == "hold":
+            channel.holds = True
+        else:
+            raise ValueError(word)
+
+
+def note(how, channel, kind, data):
+    """Writes a put down."""
+    with open(os.environ["EPICS_PUTS"], "a") as file:
+        print(channel.name, how, TYPES[kind], *data, file=file)
+
+
+libca = Library()
+playing = threading.Thread(target=libca.play, daemon=True)
+
+
+def initialize_libca():
+    """There is nothing to load."""
+
+
+def use_initial_context():
+    """There is one context."""
+
+
+def message(status):
+    """The text of a status."""
+    return MESSAGES[status]
+
+
+def get(chid, timeout):
+    """Nobody looks at the value: all puts have been read by then."""
+
+
+def create_channel(name, callback):
+    """A channel by its name."""
+    chid = len(libca.channels) + 1
+    libca.channels[chid] = Channel(name, chid, callback)
+    return dbr.chid_t(chid)
+
+
+def create_subscription(chid, ftype, callback):
+    """Somebody wants the values of a channel."""
+    with libca.condition:
+        libca.channels[chid.value].on_value = callback
+        libca.condition.notify_all()
+
+
+def flush_io():
+    """The first call, behind the last channel, begins the play."""
+    if not playing.ident:
+        playing.start()

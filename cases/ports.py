@@ -1,0 +1,251 @@
+"""Cases of scripts/port, beside those of `ports.cases`: whole programs, files that are included, and what has to hold of each port.
+
+A port that has nothing left by hand is accepted by `snc`, one with BY_HAND in it is refused for that word alone, a sketch is always
+accepted, and each program that `snc` accepts without W1 comes out as it was, but for newlines at the end of formats.
+"""
+import os
+import re
+import subprocess
+import sys
+import tempfile
+from concurrent.futures import ThreadPoolExecutor
+from dataclasses import dataclass
+from pathlib import Path
+
+import files
+from case import SECONDS, Case, differences
+
+HERE = Path(__file__).resolve().parent
+WHOLE = HERE / "port"
+# What snc says of a function, which it checks and does not run.
+NOT_RUN = re.compile(rb"[^:\n]+:\d+: error: E05 not run yet\n?")
+REFUSED = re.compile(rb"[^:\n]+:\d+: error: E13 'BY_HAND_?' is not declared\n?")
+WARNING = re.compile(rb"[^:\n]+:\d+: warning: W[2-9] [^\n]+\n?")
+NEWLINES_AT_END = re.compile(rb'(?:\\n)+"')
+# Fewer than these would be cases that pass with nothing measured.
+LEAST_PAIRS, LEAST_WHOLE, LEAST_COMPLETE, LEAST_RUNS, LEAST_SAME = 65, 17, 11, 10, 150
+# A longer source takes the port too long for a case.
+LONGEST = 20_000
+
+
+def cases(root):
+    """All cases but those of `ports.cases`."""
+    for file in sorted(WHOLE.glob("*.st")):
+        yield whole(file)
+        if file.with_suffix(".trace").exists():
+            yield Run(f"{file.relative_to(root)}: its run", file, root)
+    yield Included("ports: a file that stands beside the program is read, with its macros", root)
+    yield Table("ports: a table has units and texts as words of a shell", root)
+    yield Asked("ports: what snc says stands behind the notes", root)
+
+
+def whole(file):
+    """The case of a whole program: what is made of it, and the notes."""
+    notes = file.with_suffix(".notes").read_bytes()
+    statuses = (int(b": by hand: " in notes),)
+    made = file.with_suffix(".new").read_bytes()
+    name = f"{file.relative_to(HERE.parent)}: what is made of it"
+    return Case(name, file.read_bytes(), b"", [b"--snc=", b"p.st"], made, notes, statuses, "port")
+
+
+def without_functions(text):
+    """Messages without those of functions, which are checked and do not run."""
+    return b"".join(it for it in text.splitlines(keepends=True) if not NOT_RUN.fullmatch(it))
+
+
+def wrong_of(made, is_complete, snc):
+    """What snc says wrongly of a port: nothing where it is complete, and else that BY_HAND is not declared."""
+    _, _, said = Case("", made, tool="snc").run(snc)
+    lines = [it for it in without_functions(said).splitlines() if not WARNING.fullmatch(it)]
+    if is_complete:
+        return [f"snc says {lines[0].decode()}"] if lines else []
+    if not lines:
+        return ["snc accepts what has something left by hand"]
+    return [f"snc says {it.decode()}" for it in lines if not REFUSED.fullmatch(it)][:1]
+
+
+def call(root, folder, *words, stdin=b""):
+    """The status, output and messages of a port in a folder."""
+    how = {"input": stdin, "capture_output": True, "cwd": folder, "timeout": SECONDS}
+    ran = subprocess.run([sys.executable, root / "scripts/port", *words], **how)
+    return ran.returncode, ran.stdout, ran.stderr
+
+
+@dataclass
+class Run:
+    """The run of a whole program over its trace. Where something is left by hand its sketch runs."""
+
+    name: str
+    file: Path
+    root: Path
+    tool: str = "snlrun"
+
+    def failure(self, programs):
+        made = self.file.with_suffix(".new").read_bytes()
+        if b"BY_HAND" in made:
+            made = call(self.root, WHOLE, "--snc=", "--sketch", self.file.name)[1]
+        trace, out = (self.file.with_suffix(it).read_bytes() for it in (".trace", ".out"))
+        status, stdout, stderr = Case("", made, trace).run(programs["snlrun"])
+        if status == 1 and stderr and not without_functions(stderr) and b"return" in made:
+            return None
+        said = [f"status {status}"] if status else []
+        said += differences("stdout", out, stdout) + differences("stderr", b"", stderr)
+        said += ["nothing comes out"] if out.count(b"\n") < 10 else []
+        return "\n  ".join([f"FAILED {self.name}", *said]) if said else None
+
+
+@dataclass
+class Files:
+    """Calls of the port in a folder, and what they have to give."""
+
+    name: str
+    root: Path
+    tool: str = "port"
+
+    def failure(self, programs):
+        with tempfile.TemporaryDirectory(prefix="port-") as folder:
+            wrong = self.wrong(folder, programs)
+        return f"FAILED {self.name}\n  {wrong}" if wrong else None
+
+    def wrong(self, folder, programs):
+        """What is wrong, or nothing."""
+        raise NotImplementedError
+
+
+PROGRAM = """program p ("P=LAB:")
+option +s;
+double x; assign x to "{P}X"; string t; assign t to "{P}T"; int n; assign n to "{P}N"; double z; assign z to "Z";
+ss s { state w { when (x > 1.5 && z > 1e-8) { strcpy(t, "is high"); strcpy(t, "a,b"); } exit } }
+"""
+WORDS = """--scale LAB:X=3
+--enum 'LAB:T=is high:1'
+--scale Z=10
+"""
+
+
+class Table(Files):
+    """The words of a table."""
+
+    def wrong(self, folder, programs):
+        Path(folder, "p.st").write_text(PROGRAM)
+        found = call(self.root, folder, "--snc=", "--table", "words", "p.st")
+        words = Path(folder, "words").read_text()
+        is_told = b'p.st:1: know: text "a,b" has a comma or a colon: it is left out of the table\n' in found[2]
+        return "" if found[0] == 0 and words == WORDS and is_told else repr((found, words))
+
+
+INCLUDED = {
+    "p.st": 'program p\noption +s;\n#include "limits.h"  /* all of them */\nint x; assign x to "a";\n'
+    "ss s { state w { when (x > HIGH) { x = low; } exit } }\n",
+    "limits.h": '/* limits */\n#include "more.h"\n\nint low = 2;\nint gone = LOW;\n',
+    "more.h": "#define HIGH 7\n#define LOW 1\n",
+}
+OF_INCLUDED = b"""program p
+option +s;
+/* #include "limits.h"  / * all of them * / */ int low = 2; int gone = 1 /*LOW*/;
+int x; assign x to "a";
+ss s { state w { when (x > 7 /*HIGH*/) { x = low; } exit } }
+"""
+
+
+class Included(Files):
+    """Files that are included."""
+
+    def wrong(self, folder, programs):
+        for name, text in INCLUDED.items():
+            Path(folder, name).write_text(text)
+        found = call(self.root, folder, "--snc=", "p.st")
+        notes = b"p.st:3: know: file limits.h is read here\np.st:3: know: file more.h is read here\n"
+        return "" if found == (0, OF_INCLUDED, notes) else repr(found)
+
+
+class Asked(Files):
+    """What `snc` is asked."""
+
+    def wrong(self, folder, programs):
+        Path(folder, "p.st").write_text("program p\noption +s;\nint x;\nss s { state w { when (time(x)) {} exit } }\n")
+        asked = call(self.root, folder, "--snc", programs["snc"], "p.st")
+        notes = b"p.st:4: by hand: function 'time': time(x)\nNEW:4: error: E13 'BY_HAND' is not declared\n"
+        if asked[0] != 1 or asked[2] != notes:
+            return repr(asked)
+        sketch = call(self.root, folder, "--sketch", "--snc", programs["snc"], "p.st")
+        if sketch[0] != 1 or sketch[2] != notes[: notes.index(b"NEW")]:
+            return repr(sketch)
+        nowhere = call(self.root, folder, "--snc", "gone/snc", "p.st")
+        return "" if nowhere[0] == 3 and nowhere[2].endswith(b"port: cannot run gone/snc\n") else repr(nowhere)
+
+
+def missing(root, programs):
+    """Ports of `ports.cases` and of whole programs of which snc says something else than it has to; too few of them."""
+    pairs = [it for it in files.cases(HERE / "ports.cases") if it.stdout]
+    with ThreadPoolExecutor(os.cpu_count()) as pool:
+        wrong = [it for some in pool.map(lambda it: wrong_of_pair(root, it, programs["snc"]), pairs) for it in some]
+    whole_ones = [it for it in cases(root) if isinstance(it, Case)]
+    for it in whole_ones:
+        wrong += [f"{it.name}: {said}" for said in wrong_of_pair(root, it, programs["snc"])]
+    complete = sum(b": by hand: " not in it.stderr for it in whole_ones)
+    counts = (
+        (len(pairs), LEAST_PAIRS, "ports in ports.cases"),
+        (len(whole_ones), LEAST_WHOLE, "whole programs"),
+        (complete, LEAST_COMPLETE, "whole programs with nothing left by hand"),
+        (sum(isinstance(it, Run) for it in cases(root)), LEAST_RUNS, "runs of whole programs"),
+    )
+    wrong += [f"only {found} {what}" for found, least, what in counts if found < least]
+    return [f"FAILED ports: {it}" for it in wrong]
+
+
+def wrong_of_pair(root, case, snc):
+    """What snc says wrongly of a port, and of its sketch."""
+    is_sketch = b"--sketch" in case.words
+    is_byte = b": by hand: byte 0x" in case.stderr
+    is_complete = b": by hand: " not in case.stderr or is_sketch
+    wrong = [] if is_byte else wrong_of(case.stdout, is_complete, snc)
+    if not is_complete and not is_byte:
+        with tempfile.TemporaryDirectory(prefix="port-") as folder:
+            Path(folder, "p.st").write_bytes(case.source)
+            sketch = call(root, folder, "--sketch", *case.words)[1]
+        wrong += [f"of the sketch {it}" for it in wrong_of(sketch, True, snc)]
+    return [f"{case.name}: {it}" for it in wrong]
+
+
+@dataclass
+class Same:
+    """Each source of a case that `snc` accepts without W1 comes out as it was, but for newlines at the end of formats."""
+
+    sources: list
+    root: Path
+    name: str = "ports: what snc accepts comes out as it was"
+    tool: str = "snc"
+
+    def failure(self, programs):
+        sys.path.insert(0, str(self.root / "scripts"))
+        from porting.port import ported
+        from porting.work import Settings
+
+        limit = sys.getrecursionlimit()
+        sys.setrecursionlimit(400_000)
+        accepted = self.accepted(programs["snc"])
+        wrong = []
+        for source in accepted:
+            made = ported(source.decode("latin-1"), "p.st", Settings()).text.encode("latin-1")
+            if made != source and NEWLINES_AT_END.sub(b'"', made) != NEWLINES_AT_END.sub(b'"', source):
+                wrong.append(source.decode("latin-1")[:200])
+        sys.setrecursionlimit(limit)
+        if len(accepted) < LEAST_SAME:
+            wrong.append(f"only {len(accepted)} sources are accepted")
+        return "\n  ".join([f"FAILED {self.name}", *wrong[:5]]) if wrong else None
+
+    def accepted(self, snc):
+        """The sources that snc accepts without W1."""
+        sources = sorted({it for it in self.sources if len(it) < LONGEST})
+        with ThreadPoolExecutor(os.cpu_count()) as pool:
+            found = list(pool.map(lambda it: is_accepted(it, snc), sources))
+        return [it for it, is_one in zip(sources, found) if is_one]
+
+
+def is_accepted(source, snc):
+    """Whether snc accepts a source without W1. Functions are checked, and that is enough here."""
+    status, _, said = Case("", source, tool="snc").run(snc)
+    rest = without_functions(said)
+    is_right = all(WARNING.fullmatch(it) for it in rest.splitlines())
+    return is_right and (status == 0 or rest != said)

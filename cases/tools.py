@@ -1,0 +1,121 @@
+"""Cases of `snl` that no file of cases can have: a trace that comes slowly, a terminal, much memory, a version, a pipe as FILE."""
+import os
+import pty
+import subprocess
+import tempfile
+from dataclasses import dataclass
+from pathlib import Path
+from typing import Callable
+
+from case import SECONDS
+
+SOURCE = """program p option +s; int x; assign x to "X"; monitor x;
+ss s { state a { when (x > 1) {} state a } }
+"""
+WAITS = "waits for X to be up (x, line 1)\nwaits for X to have a value (x, line 1)\n"
+# How many lines the long trace has, and how much more memory in kilobytes a call may take over it than over a short one.
+LINES, SLACK = 200_000, 1_000
+
+
+@dataclass
+class Tool:
+    name: str
+    # Gets the program and a folder with p.st, and gives what is wrong, or nothing.
+    check: Callable
+    tool: str = "snl"
+
+    def failure(self, programs):
+        with tempfile.TemporaryDirectory(prefix="snlrun-") as folder:
+            Path(folder, "p.st").write_text(SOURCE)
+            wrong = self.check(programs["snl"], Path(folder))
+        return f"FAILED {self.name}\n  {wrong}" if wrong else None
+
+
+def cases(root):
+    yield Tool("snl --version: the version of the file VERSION", lambda *it: version(root, *it))
+    yield Tool("snl waits --progress: once a second", progress)
+    yield Tool("snl waits: a trace that comes byte by byte", slowly)
+    yield Tool("snl waits: a trace from a terminal", terminal)
+    yield Tool("snl waits: FILE is a pipe", piped)
+    yield Tool("snl waits: more names than are kept", many_names)
+    yield Tool("snl waits: memory over many lines as over a few", memory)
+
+
+def called(program, folder, *words, **how):
+    ran = subprocess.run([program, *words], cwd=folder, capture_output=True, text=True, timeout=SECONDS, **how)
+    return ran.returncode, ran.stdout, ran.stderr
+
+
+def differs(found, wanted):
+    return "" if found == wanted else f"{found!r}, not {wanted!r}"
+
+
+def version(root, program, folder):
+    wanted = f"snl {(root / 'VERSION').read_text().strip()}\n"
+    return differs(called(program, folder, "--version"), (0, wanted, ""))
+
+
+def progress(program, folder):
+    call = f"(printf '0 up Y\\n5 up Y\\n'; sleep 1.3; printf '70 up Y\\n') | '{program}' waits --progress p.st"
+    ran = subprocess.run(["bash", "-c", call], cwd=folder, capture_output=True, text=True, timeout=SECONDS)
+    answer = f"never began: 3 events, the last at 70 (line 3)\n{WAITS}Y is no channel of the program (3 lines, the first is 1)\n"
+    wrong = differs((ran.returncode, ran.stdout), (1, answer))
+    # A slow machine may tell more than once.
+    told = ran.stderr.splitlines()
+    return wrong or ("" if "snl: 3 lines read, the last at 70" in told else f"standard error has {told}")
+
+
+def slowly(program, folder):
+    call = f"(for it in '0 ' 'up ' X '\\n' '1' ' val X' ' 4\\n'; do printf \"$it\"; sleep 0.05; done) | '{program}' waits p.st"
+    ran = subprocess.run(["bash", "-c", call], cwd=folder, capture_output=True, text=True, timeout=SECONDS)
+    return differs((ran.returncode, ran.stdout, ran.stderr), (0, "began at 1 (line 2)\n", ""))
+
+
+def terminal(program, folder):
+    ours, theirs = pty.openpty()
+    with open(theirs, "rb") as stdin:
+        ran = subprocess.Popen([program, "waits", "p.st"], cwd=folder, stdin=stdin, stdout=subprocess.PIPE, stderr=subprocess.PIPE)
+        os.write(ours, b"0 up X\n\x04")
+        stdout, stderr = ran.communicate(timeout=SECONDS)
+    os.close(ours)
+    wanted = b"never began: 1 event at 0 (line 1)\nwaits for X to have a value (x, line 1)\n"
+    said = b"snl: reading the trace from the terminal; end it by Ctrl-D\n"
+    return differs((ran.returncode, stdout, stderr), (1, wanted, said))
+
+
+def piped(program, folder):
+    call = f"printf '0 up X\\n3 val X 1\\n' | '{program}' waits <(cat p.st)"
+    ran = subprocess.run(["bash", "-c", call], cwd=folder, capture_output=True, text=True, timeout=SECONDS)
+    return differs((ran.returncode, ran.stdout, ran.stderr), (0, "began at 3 (line 2)\n", ""))
+
+
+def many_names(program, folder):
+    trace = "".join(f"0 up NAME{n:04}\n" for n in range(1_002)) + f"0 up NAME0003\n0 up {'L' * 257}\n0 up {'M' * 256}\n"
+    status, stdout, stderr = called(program, folder, "waits", "p.st", input=trace)
+    lines = stdout.splitlines()
+    wanted = "never began: 1005 events, the last at 0 (line 1005)", "and 4 lines more with names that are no channels of the program"
+    if (status, stderr, lines[0], lines[-1]) != (1, "", *wanted) or len(lines) != 1_004:
+        return f"status {status}, {len(lines)} lines, {lines[:1]} to {lines[-1:]}, {stderr!r}"
+    named = "NAME0003 is no channel of the program (2 lines, the first is 4)"
+    return "" if lines[6] == named else lines[6]
+
+
+def memory(program, folder):
+    """A build of `bin/try` has its own memory, and is not asked."""
+    if "try" in program.parts:
+        return ""
+    few, many = (peak(program, folder, count) for count in (10, LINES))
+    return "" if many < few + SLACK else f"{few} kilobytes over ten lines, {many} over {LINES}"
+
+
+def peak(program, folder, count):
+    """The memory of a call over a trace of so many lines, over which the program does not begin."""
+    trace = folder / f"{count}.trace"
+    with open(trace, "w") as out:
+        out.writelines(f"{n} val OTHER{n % 50} {n}\n" for n in range(count))
+    with open(trace) as stdin:
+        ran = subprocess.Popen([program, "waits", "p.st"], cwd=folder, stdin=stdin, stdout=subprocess.DEVNULL)
+        _, status, used = os.wait4(ran.pid, 0)
+    ran.returncode = os.waitstatus_to_exitcode(status)
+    assert ran.returncode == 1, ran.returncode
+    return used.ru_maxrss

@@ -1,0 +1,108 @@
+//! The trace on standard input.
+
+ghost use Rattle.std.specs.Prelude.{◌≡◌, ◌≤◌, length, IfSome};
+
+use snl_trace::{Source, SourceFault};
+use snl_watch::Tally;
+use std::io::{IsTerminal, Read, Stdin};
+use std::time::{Duration, Instant};
+
+/// How far the trace was read, and when that was told last.
+#[derive(Drop)]
+struct Progress {
+    tally: Tally,
+    told: Instant,
+}
+
+/// The trace on standard input. Where that is a terminal, the user is told so before the first read. If it is asked for,
+/// standard error tells once a second how many lines were read.
+#[derive(Drop)]
+pub struct Input<'c> {
+    rt: &'c HostRuntime,
+    input: Stdin,
+    failures: u64,
+    is_begun: bool,
+    progress: Option<Progress>,
+}
+
+impl<'c> Input<'c> {
+    /// Nothing was read yet.
+    pub fn new(rt: &'c HostRuntime, tells: bool) -> Self
+        ensures { result.failures ≡ 0 }
+    {
+        Input {
+            rt,
+            input: rt.stdin(),
+            failures: 0,
+            is_begun: false,
+            progress: if tells { begun(rt) } else { None },
+        }
+    }
+}
+
+/// Nothing was read yet; None where there is no clock.
+fn begun(rt: &HostRuntime) -> Option<Progress> {
+    match Instant::now(rt) {
+        Ok(told) => Some(Progress {
+            tally: Tally::new(),
+            told,
+        }),
+        Err(_) => None,
+    }
+}
+
+/// Tells that the trace is read from a terminal, where it is.
+fn tell_terminal(rt: &HostRuntime, input: &Stdin) {
+    if input.is_terminal() {
+        let _ = eprintln!(rt; "snl: reading the trace from the terminal; end it by Ctrl-D");
+    }
+}
+
+/// Counts what was read, and tells of it where a second has passed.
+fn count(rt: &HostRuntime, progress: &mut Progress, piece: &[u8]) {
+    progress.tally.take(piece);
+    let Ok(now) = Instant::now(rt) else {
+        return;
+    };
+    if now.duration_since(progress.told) < Duration::from_secs(1) {
+        return;
+    }
+    progress.told = now;
+    let lines = progress.tally.lines();
+    let last = progress.tally.last();
+    let _ = eprintln!(rt; "snl: {lines} lines read, the last at {last}");
+}
+
+/// Reads on.
+fn next_piece(input: &mut Stdin, room: &mut [u8]) -> Option<usize>
+    ensures { IfSome result (λ count. count ≤ length room.old) }
+{
+    input.read(room).ok()
+}
+
+impl Source for Input<'_> {
+    ghost use Rattle.std.specs.Prelude.{None};
+
+    ghost rest = { λ _. None };
+
+    ghost failures = { λ input. input.failures };
+
+    fn read(&mut self, room: &mut [u8]) -> Result<usize, SourceFault> {
+        if !self.is_begun {
+            self.is_begun = true;
+            tell_terminal(self.rt, &self.input);
+        }
+        match next_piece(&mut self.input, room) {
+            Some(size) => {
+                if let Some(progress) = &mut self.progress {
+                    count(self.rt, progress, &room[..size]);
+                }
+                Ok(size)
+            }
+            None => {
+                self.failures += 1;
+                Err(SourceFault)
+            }
+        }
+    }
+}

@@ -1,0 +1,166 @@
+//! What the words of a call ask for, and what may be wrong with them.
+
+use crate::commands::over_trace;
+use crate::texts::{HELP, WAITS_ABOUT, WAITS_MORE, WAITS_USAGE, WORDS};
+use clap::error::ErrorKind;
+use clap::{ArgMatches, Command, Error};
+use snc_args::{Job, first_refused, options_in_force, rest_of};
+use snl_resolve::Options;
+use std::alloc::{AllocError, Global};
+use strsim::levenshtein;
+use thiserror::Error;
+
+/// What a call of `snl` may ask for.
+#[derive(Clone, Copy, Debug, PartialEq, Eq)]
+pub enum Word {
+    /// When a program begins over a trace, or what it waits for: `snl waits FILE [MACROS]`.
+    Waits,
+}
+
+/// What a call asks for.
+#[derive(Drop)]
+pub struct Call {
+    /// The word behind `snl`.
+    pub word: Word,
+    /// The file, the options, the macros and the budget.
+    pub job: Job,
+    /// Whether to tell how far the trace was read.
+    pub progress: bool,
+}
+
+/// Why words ask for nothing that is to be done. `Display` gives the text for the user.
+#[derive(Debug, Drop, Error)]
+pub enum CallFault {
+    /// The sign and the first refused character of the first option that has one.
+    #[error("snl: option '{0}{1}' is not supported")]
+    BadOption(char, char),
+    /// The words are no call; with a text that ends with a newline.
+    #[error("{0}")]
+    Usage(String),
+    /// A text was asked for, that of `--help` or of `--version`; it ends with a newline.
+    #[error("{0}")]
+    Told(String),
+    /// Memory ran out.
+    #[error("out of memory")]
+    Memory,
+}
+
+impl From<AllocError> for CallFault {
+    fn from(_error: AllocError) -> CallFault {
+        CallFault::Memory
+    }
+}
+
+/// The word of a name.
+fn word_of(name: &str) -> Option<Word> {
+    match name {
+        "waits" => Some(Word::Waits),
+        _ => None,
+    }
+}
+
+/// What an error of `clap` says.
+fn fault_in(alloc: Global, error: Error) -> CallFault {
+    let kind = error.kind();
+    match format!(in alloc; "{error}") {
+        Ok(text) => match kind {
+            ErrorKind::OutOfMemory => CallFault::Memory,
+            ErrorKind::DisplayHelp => CallFault::Told(text),
+            _ => CallFault::Usage(text),
+        },
+        Err(_) => CallFault::Memory,
+    }
+}
+
+/// What a command finds in the words, or what is wrong with them.
+fn matches_in<'w>(
+    alloc: Global,
+    command: Command<'w>,
+    words: &'w [&'w str],
+) -> Result<ArgMatches<'w>, CallFault> {
+    match command.try_get_matches_from(words) {
+        Ok(matches) => Ok(matches),
+        Err(error) => Err(fault_in(alloc, error)),
+    }
+}
+
+/// A text of the caller's own, where there is one.
+fn owned(alloc: Global, text: Option<&str>) -> Result<Option<String>, AllocError> {
+    match text {
+        Some(text) => Ok(Some(String::from_str(alloc, text)?)),
+        None => Ok(None),
+    }
+}
+
+/// What a program is to be run with, as a command found it.
+fn job_in(alloc: Global, matches: &ArgMatches, options: Options) -> Result<Job, AllocError> {
+    Ok(Job {
+        file: String::from_str(alloc, matches.get_str("FILE").unwrap_or(""))?,
+        options,
+        tables: false,
+        budget: matches.get_one::<u32>("budget").unwrap_or(100_000),
+        macros: owned(alloc, matches.get_str("MACROS"))?,
+    })
+}
+
+/// What follows `waits`.
+fn read_waits(alloc: Global, words: &[&str], options: Options) -> Result<Call, CallFault> {
+    let command = over_trace(alloc, WAITS_USAGE, WAITS_ABOUT, WAITS_MORE)?;
+    let matches = matches_in(alloc, command, words)?;
+    let job = job_in(alloc, &matches, options)?;
+    Ok(Call {
+        word: Word::Waits,
+        job,
+        progress: matches.get_flag("progress"),
+    })
+}
+
+/// What follows a word.
+fn read_word(
+    alloc: Global,
+    word: Word,
+    words: &[&str],
+    options: Options,
+) -> Result<Call, CallFault> {
+    match word {
+        Word::Waits => read_waits(alloc, words, options),
+    }
+}
+
+/// The text about a first word that is none, with the one that may have been meant.
+fn no_word(alloc: Global, name: &str) -> Result<String, AllocError> {
+    if levenshtein(alloc, name, "waits")? <= 2 {
+        return format!(in alloc;
+            "error: there is no word '{name}'; did you mean 'waits'?\n{WORDS}"
+        );
+    }
+    format!(in alloc; "error: there is no word '{name}'\n{WORDS}")
+}
+
+/// What a first word tells, where it is none that asks for something.
+fn fault_of(alloc: Global, name: &str, version: &str) -> Result<CallFault, AllocError> {
+    match name {
+        "--help" => Ok(CallFault::Told(String::from_str(alloc, HELP)?)),
+        "--version" => Ok(CallFault::Told(format!(in alloc; "snl {version}\n")?)),
+        _ => Ok(CallFault::Usage(no_word(alloc, name)?)),
+    }
+}
+
+/// What the words of a call ask for; `words` are those after the program's own name, `version` is what `--version` tells.
+///
+/// Options of the language are taken out first, as `snc_args` says. `BadOption` comes before all else. `Usage` comes of other
+/// words that are no call, `Told` of `--help` and `--version`; `Memory` where a growth was refused.
+pub fn read_call(alloc: Global, words: &[String], version: &str) -> Result<Call, CallFault> {
+    if let Some((sign, character)) = first_refused(words) {
+        return Err(CallFault::BadOption(sign, character));
+    }
+    let options = options_in_force(words);
+    let rest = rest_of(alloc, words)?;
+    match rest.as_slice() {
+        [first, more @ ..] => match word_of(first) {
+            Some(word) => read_word(alloc, word, more, options),
+            None => Err(fault_of(alloc, first, version)?),
+        },
+        [] => Err(CallFault::Usage(format!(in alloc; "error: no word was given\n{WORDS}")?)),
+    }
+}

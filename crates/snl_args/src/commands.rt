@@ -1,0 +1,67 @@
+//! The commands that `clap` reads what follows a word by.
+
+use clap::{Arg, ArgAction, Command};
+use std::alloc::{AllocError, Global};
+
+/// FILE.
+fn file_argument<'a>(alloc: Global) -> Arg<'a> {
+    Arg::new(alloc, "FILE")
+        .required(true)
+        .action(ArgAction::Set)
+        .help("The file of the program; - for standard input")
+}
+
+/// MACROS.
+fn macros_argument<'a>(alloc: Global) -> Arg<'a> {
+    Arg::new(alloc, "MACROS")
+        .action(ArgAction::Set)
+        .help("The macros in the names of channels")
+}
+
+/// `--budget`.
+fn budget_argument<'a>(alloc: Global) -> Arg<'a> {
+    Arg::new(alloc, "budget")
+        .long("budget")
+        .value_name("N")
+        .action(ArgAction::Set)
+        .value_parser(clap::value_parser!(u32).range(1..=1_000_000_000))
+        .default_value("100000")
+        .help("The ticks that an instant may take")
+}
+
+/// `--progress`.
+fn progress_argument<'a>(alloc: Global) -> Arg<'a> {
+    Arg::new(alloc, "progress")
+        .long("progress")
+        .action(ArgAction::SetTrue)
+        .value_parser(clap::value_parser!(bool))
+        .help("Tell once a second how far the trace was read")
+}
+
+/// `--help`. `clap` would add `-h` beside it, but that is an option of the language.
+fn help_argument<'a>(alloc: Global) -> Arg<'a> {
+    Arg::new(alloc, "help")
+        .long("help")
+        .action(ArgAction::Help)
+        .help("Print this help")
+}
+
+/// The command of a word that runs a program over a trace: FILE, MACROS, `--budget` and `--progress`.
+pub(crate) fn over_trace<'a>(
+    alloc: Global,
+    usage: &'a str,
+    about: &'a str,
+    more: &'a str,
+) -> Result<Command<'a>, AllocError> {
+    Command::new(alloc, "snl")
+        .no_binary_name(true)
+        .disable_help_flag(true)
+        .override_usage(usage)
+        .about(about)
+        .after_help(more)
+        .arg(file_argument(alloc))?
+        .arg(macros_argument(alloc))?
+        .arg(budget_argument(alloc))?
+        .arg(progress_argument(alloc))?
+        .arg(help_argument(alloc))
+}

@@ -1,0 +1,11 @@
+//! The words of a call of `snl`: what they ask for, or what is wrong with them.
+//!
+//! Words such as `+s` and `-w` are options of the language (SNL Reference, "Option"). They are taken out first, wherever they
+//! stand. The first word of the rest says what is asked for; `clap` reads what follows it.
+#![tactic(auto)]
+
+mod calls;
+mod commands;
+mod texts;
+
+pub use calls::{Call, CallFault, Word, read_call};

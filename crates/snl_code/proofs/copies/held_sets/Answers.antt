@@ -1,0 +1,11 @@
+use Rattle.std.proofs.Common.{◌∙◌, ◌++◌, [], ap, map}
+use Rattle.snl_syntax.specs.view.Definitions.{definition_view}
+use Rattle.snl_resolve.specs.Held.{held_view}
+use Rattle.snl_resolve.specs.Variables.{by_definitions}
+use Rattle.snl_code.proofs.copies.held_sets.Goals as goal
+
+-- the variables of the program's definitions are those that all copies hold
+pub held_by-requires-clause-shared : goal.held_by-requires-clause-shared
+held_by-requires-clause-shared c =
+    ap (map held_view) c.as_slice.ensures.value ∙ c.in_ok-scope.ensures.kept
+    ∙ (λ j. map held_view (c.new-shared.ensures.items j) ++ by_definitions [] (map definition_view (c.as_slice-definitions.ensures.value j)))

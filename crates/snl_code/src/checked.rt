@@ -1,0 +1,38 @@
+//! The code of a checked program.
+
+ghost use Rattle.std.specs.Prelude.{◌≤◌, length, IfOk};
+ghost use Rattle.snl_syntax.specs.view.Programs.{program_view};
+ghost use Rattle.snl_code.specs.Inside.{IsInside};
+ghost use Rattle.snl_code.specs.Pieces.{IsCodeOf};
+ghost use Rattle.snl_code.specs.Size.{program_size};
+ghost use Rattle.snl_code.specs.Starts.{holds_in, table_of};
+
+use crate::code::Code;
+use crate::compiling::compile_by;
+use crate::copies::copies_of;
+use snl_check::Checked;
+use snl_resolve::sites_of;
+use std::alloc::{AllocError, Global};
+
+/// The code of a checked program. A state that cannot be reached has no code. There are at most as many instructions as the
+/// size of the program says: 2 for each constant expression that does not fault, 8 for each other part, and nothing for such
+/// a state.
+///
+/// Fails only where memory ends.
+pub fn compile(alloc: Global, checked: &Checked) -> Result<Code, AllocError>
+    ensures is { IfOk result (IsCodeOf (program_view checked.now.program)) }
+    ensures inside { IfOk result (IsInside (program_view checked.now.program)) }
+    ensures short { IfOk result (λ code. length code.instrs.items
+        ≤ program_size (holds_in (table_of code)) (program_view checked.now.program)) }
+{
+    let program = checked.program();
+    let sites = sites_of(alloc, program)?;
+    let copies = copies_of(alloc, program)?;
+    compile_by(
+        alloc,
+        program,
+        sites.as_slice(),
+        checked.uses(),
+        copies.places.as_slice(),
+    )
+}

@@ -1,0 +1,115 @@
+//! The variables of the copies of state sets, with the places of their words.
+
+ghost use Rattle.std.specs.Prelude.{◌≡◌, [], map, IfOk};
+ghost use Rattle.snl_syntax.specs.view.Programs.{program_view};
+ghost use Rattle.snl_resolve.specs.Chains.{scopes_of};
+ghost use Rattle.snl_resolve.specs.Held.{held_view};
+ghost use Rattle.snl_resolve.specs.Programs.{program_scopes};
+ghost use Rattle.snl_resolve.specs.Variables.{by_definitions, variables_of};
+ghost use Rattle.snl_meaning.specs.Names.{placed_from};
+ghost use Rattle.snl_code.specs.Copies.{held_sets, sets_of};
+ghost use Rattle.snl_code.specs.Heres as heres;
+
+use snl_meaning::Places;
+use snl_resolve::{Held, Scopes, push_definitions, push_parts};
+use snl_syntax::Program;
+use std::alloc::{AllocError, Global};
+
+/// The variables of the copies of all state sets, by the numbers of the state sets.
+#[derive(Drop)]
+pub struct Copies<'p, 'a> {
+    /// What is declared of them.
+    pub held: Vec<Vec<Held<'p, 'a>>>,
+    /// Where their words stand.
+    pub places: Vec<Places>,
+}
+
+/// The variables of the copy of a state set: those that all copies hold, and then its own.
+fn held_set<'p, 'a>(
+    alloc: Global,
+    program: &'p Program<'a>,
+    shared: &[Held<'p, 'a>],
+    scopes: &Scopes<'_, 'a>,
+    set: usize,
+) -> Result<Vec<Held<'p, 'a>>, AllocError>
+    requires shared { map held_view shared.now
+        ≡ by_definitions [] (program_view program.now).definitions }
+    requires scopes { scopes_of scopes.now ≡ program_scopes (program_view program.now) }
+    ensures { IfOk result (λ held. map held_view held.items
+        ≡ variables_of (program_view program.now) set) }
+{
+    let mut held = Vec::from_slice(alloc, shared)?;
+    push_parts(
+        alloc,
+        &program.entry,
+        program.state_sets.as_slice(),
+        &program.exit,
+        scopes,
+        set,
+        &mut held,
+    )?;
+    Ok(held)
+}
+
+/// The variables of the copies of all state sets, by those that all hold.
+fn held_by<'p, 'a>(
+    alloc: Global,
+    program: &'p Program<'a>,
+    shared: &[Held<'p, 'a>],
+    scopes: &Scopes<'_, 'a>,
+) -> Result<Vec<Vec<Held<'p, 'a>>>, AllocError>
+    requires shared { map held_view shared.now
+        ≡ by_definitions [] (program_view program.now).definitions }
+    requires scopes { scopes_of scopes.now ≡ program_scopes (program_view program.now) }
+    ensures { IfOk result (λ sets. sets_of sets.items
+        ≡ held_sets (program_view program.now) 0 (program_view program.now).state_sets) }
+{
+    let mut sets = Vec::new(alloc);
+    for (set, _) in program.state_sets.iter().enumerate() {
+        let variables = held_set(alloc, program, shared, scopes, set)?;
+        sets.push(variables)?;
+    }
+    Ok(sets)
+}
+
+/// The variables of the copies of all state sets.
+fn held_sets<'p, 'a>(
+    alloc: Global,
+    program: &'p Program<'a>,
+) -> Result<Vec<Vec<Held<'p, 'a>>>, AllocError>
+    ensures { IfOk result (λ sets. sets_of sets.items
+        ≡ held_sets (program_view program.now) 0 (program_view program.now).state_sets) }
+{
+    let mut shared = Vec::new(alloc);
+    let definitions = program.definitions.as_slice();
+    let scope = push_definitions(alloc, definitions, &Scopes::Outside, &mut shared)?;
+    let scopes = Scopes::Within(&scope, &Scopes::Outside);
+    held_by(alloc, program, shared.as_slice(), &scopes)
+}
+
+/// The places of the variables of copies.
+fn placed_sets(alloc: Global, sets: &[Vec<Held>]) -> Result<Vec<Places>, AllocError>
+    ensures { IfOk result (λ copies. copies.items ≡ map (placed_from 0) (sets_of sets.now)) }
+{
+    let mut copies = Vec::new(alloc);
+    for variables in sets {
+        let places = Places::of(alloc, variables.as_slice())?;
+        copies.push(places)?;
+    }
+    Ok(copies)
+}
+
+/// The variables of the copies of all state sets of a program. The only error is that memory ends.
+pub fn copies_of<'p, 'a>(
+    alloc: Global,
+    program: &'p Program<'a>,
+) -> Result<Copies<'p, 'a>, AllocError>
+    ensures held { IfOk result (λ copies. sets_of copies.held.items
+        ≡ held_sets (program_view program.now) 0 (program_view program.now).state_sets) }
+    ensures places { IfOk result (λ copies. copies.places.items
+        ≡ heres.placed_sets (program_view program.now) 0 (program_view program.now).state_sets) }
+{
+    let held = held_sets(alloc, program)?;
+    let places = placed_sets(alloc, held.as_slice())?;
+    Ok(Copies { held, places })
+}

@@ -1,0 +1,5 @@
+pub mod Awaiting
+pub mod Still
+pub mod Silent
+pub mod Ending
+pub mod Answering

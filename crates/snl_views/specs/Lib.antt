@@ -1,0 +1,4 @@
+pub mod Answers
+pub mod Awaits
+pub mod Laws
+pub mod Prepared

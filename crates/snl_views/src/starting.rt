@@ -1,0 +1,93 @@
+//! A run up to the start of a program.
+
+ghost use Rattle.std.specs.Prelude.{◌≡◌, ◌-◌, ◌^◌, ◌<◌, ℕ, List, [], Some, IfOk};
+ghost use Rattle.snl_syntax.specs.Programs.{ProgramTree};
+ghost use Rattle.snl_links.specs.Links.{Link};
+ghost use Rattle.snl_load.specs.Meaning.{program_meaning};
+ghost use Rattle.snl_meaning.specs.declared.live.Live.TheVariants.{Waiting};
+ghost use Rattle.snl_machine.specs.MachineOf.{IsMachineOf, task_held, task_of, world_held};
+ghost use Rattle.snl_trace.specs.Lines.{lines_from};
+ghost use Rattle.snl_trace.specs.Run.{rules_by};
+ghost use Rattle.snl_views.specs.Awaits.{Awaits, awaited_in, left_in};
+
+use crate::awaited::{Awaited, awaited_of};
+use indexmap::IndexSet;
+use snl_machine::Machine;
+use snl_trace::{End, Source, run};
+use snl_watch::{ByLine, Heard, Listener, Refuser};
+use std::alloc::{AllocError, Global};
+
+/// What came of a run up to the start of its program.
+#[derive(Drop)]
+pub(crate) struct Start {
+    /// How it ended: `SinkFailed` where the program began, since the sink refuses its first byte.
+    pub end: End,
+    /// What the program waits for; nothing where it began.
+    pub awaited: Vec<Awaited>,
+    /// What was heard of the trace.
+    pub heard: Heard,
+}
+
+/// The names of a machine's channels, by their numbers.
+fn names_of(alloc: Global, machine: &Machine) -> Result<IndexSet<Vec<u8>>, AllocError> {
+    let mut names = IndexSet::new(alloc);
+    for number in 0..usize::MAX {
+        let Some(name) = machine.channel_name(number) else {
+            return Ok(names);
+        };
+        names.insert(Vec::from_slice(alloc, name)?)?;
+    }
+    Ok(names)
+}
+
+/// What a machine's program waits for, unless it began.
+fn left_of(
+    alloc: Global,
+    machine: &Machine,
+    waits: bool,
+    end: End,
+) -> Result<Vec<Awaited>, AllocError>
+    ensures { IfOk result (λ list. list.items ≡ left_in end
+        (awaited_in waits (task_held machine.now).program.links (world_held machine.now))) }
+{
+    match end {
+        End::SinkFailed => Ok(Vec::new(alloc)),
+        _ => awaited_of(alloc, machine, waits),
+    }
+}
+
+/// Runs a machine that has not started over a trace, up to the line at which its program begins, or to the end of the trace.
+///
+/// The trace is read line by line, and no more of it is asked for than is needed: where the program began, the last line that
+/// was heard is the one at which it did. Fails only where memory ran out.
+pub(crate) fn start_of<R: Source + Drop>(
+    alloc: Global,
+    machine: &mut Machine,
+    waits: bool,
+    trace: R,
+) -> Result<Start, AllocError>
+    requires waiting { (world_held machine.old).phase ≡ Waiting }
+    requires trace { R.failures trace < 2 ^ 64 - 1 }
+    ensures { IfOk result (λ s. (p : ProgramTree) (ls : List Link) (budget : ℕ) →
+        IsMachineOf p ls waits budget machine.old → (bytes : List ℕ) →
+        R.rest trace ≡ Some bytes → Awaits (rules_by (task_of p ls waits) budget)
+        (program_meaning p ls waits) s.end (world_held machine.old) (lines_from [] bytes)
+        s.awaited.items) }
+{
+    let names = names_of(alloc, machine)?;
+    let heard = Heard::new(alloc, names)?;
+    let source = ByLine::new(alloc, trace)?;
+    let mut lines = Listener::new(source, heard);
+    let mut refuser = Refuser::new();
+    let end = run(machine, &mut lines, &mut refuser);
+    let heard = lines.into_heard();
+    if heard.ran_out() {
+        return Err(AllocError);
+    }
+    let awaited = left_of(alloc, machine, waits, end)?;
+    Ok(Start {
+        end,
+        awaited,
+        heard,
+    })
+}

@@ -1,0 +1,13 @@
+//! The memory of a run.
+
+use crate::operands::Operands;
+use crate::stores::Store;
+
+/// All that a run changes.
+#[derive(Drop)]
+pub struct Memory {
+    /// What the state sets, the links and the channels hold, and the clock.
+    pub store: Store,
+    /// Room for the operands of the piece of code that runs.
+    pub operands: Operands,
+}

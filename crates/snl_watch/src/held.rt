@@ -1,0 +1,110 @@
+//! Bytes that came from a source and were not given on yet.
+
+ghost use Rattle.std.specs.Prelude.{◌≡◌, ◌+◌, ◌-◌, ◌^◌, ◌<◌, ◌≤◌, ◌++◌, ◌⊎◌, [], false, length, take, slice_range, IfOk, IfSome, IsTrue, IsFalse, is_err, OnErr, ℕ, List, Some};
+
+use memchr::memchr;
+use snl_trace::{Source, SourceFault};
+use std::alloc::{AllocError, Global};
+
+/// How many bytes are held at most.
+const ROOM: usize = 65_536;
+
+/// Bytes that came and were not given on, in room of a fixed size.
+#[derive(Drop)]
+pub(crate) struct Held {
+    bytes: Vec<u8>,
+    /// Where those begin and end that were not given on.
+    from: usize,
+    to: usize,
+    ghost room: { length bytes.items ≡ 65536 },
+    ghost within: { from ≤ to },
+    ghost ends: { to ≤ 65536 },
+}
+
+impl Held {
+    ghost use Rattle.snl_watch.specs.Window.{behind, window};
+    ghost use Rattle.snl_output.specs.Devices.{counted};
+    ghost use Rattle.snl_trace.specs.Sources.{IsShort};
+
+    /// Holds nothing. Fails only where memory ran out.
+    pub(crate) fn new(alloc: Global) -> Result<Self, AllocError>
+        ensures { IfOk result (λ held. window held ≡ []) }
+    {
+        Ok(Held {
+            bytes: vec![in alloc; 0u8; ROOM]?,
+            from: 0,
+            to: 0,
+        })
+    }
+
+    /// How many bytes are held.
+    pub(crate) fn len(&self) -> usize
+        ensures { result ≡ length (window self.now) }
+    {
+        self.to - self.from
+    }
+
+    /// Whether a line is held whole, with its newline, or there is no room for more of it.
+    pub(crate) fn has_line(&self) -> bool
+        ensures some { IsTrue result → 0 < length (window self.now) }
+        ensures none { IsFalse result → length (window self.now) < 65536 }
+    {
+        self.len() == ROOM || memchr(b'\n', &self.bytes[self.from..self.to]).is_some()
+    }
+
+    /// How long the first line is, with its newline; where that did not come yet, how many bytes are held.
+    fn first_line(&self) -> usize
+        ensures within { result ≤ length (window self.now) }
+        ensures some { result ≡ 0 → window self.now ≡ [] }
+    {
+        match memchr(b'\n', &self.bytes[self.from..self.to]) {
+            Some(at) => at + 1,
+            None => self.to - self.from,
+        }
+    }
+
+    /// Gives the first line, or as much of it as a room takes; answers how many bytes.
+    pub(crate) fn give(&mut self, room: &mut [u8]) -> usize
+        ensures count { result ≤ length room.old }
+        ensures given { window self.old ≡ take result room.new ++ window self.new }
+        ensures none { result ≡ 0 → 0 < length room.old → window self.old ≡ [] }
+    {
+        let count = self.first_line().min(room.len());
+        let end = self.from + count;
+        room[..count].copy_from_slice(&self.bytes[self.from..end]);
+        self.from = end;
+        count
+    }
+
+    /// Moves what is held to the front.
+    fn compact(&mut self)
+        ensures same { window self.new ≡ window self.old }
+        ensures front { self.new.from ≡ 0 }
+    {
+        let count = self.to - self.from;
+        self.bytes.copy_within(self.from..self.to, 0);
+        self.from = 0;
+        self.to = count;
+    }
+
+    /// Asks a source once for more, and holds that behind what is held; answers how many bytes came.
+    pub(crate) fn take_from<R: Source>(&mut self, source: &mut R) -> Result<usize, SourceFault>
+        requires failures { R.failures source.old < 2 ^ 64 - 1 }
+        requires room { length (window self.old) < 65536 }
+        ensures same { behind (window self.new) (R.rest source.new)
+            ≡ behind (window self.old) (R.rest source.old) }
+        ensures size { IfOk result (λ n. length (window self.new)
+            ≡ length (window self.old) + n) }
+        ensures kept { OnErr result (window self.new ≡ window self.old) }
+        ensures over { IfOk result (λ n. n ≡ 0 → (text : List ℕ) →
+            R.rest source.new ≡ Some text → text ≡ []) }
+        ensures short { IsShort (R.rest source.old) }
+        ensures failures { R.failures source.new
+            ≡ counted (is_err result) (R.failures source.old) }
+    {
+        self.compact();
+        let count = source.read(&mut self.bytes[self.to..])?;
+        self.to += count;
+        Ok(count)
+    }
+}

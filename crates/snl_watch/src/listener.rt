@@ -1,0 +1,46 @@
+//! A source that listens to the lines that pass through it.
+
+ghost use Rattle.std.specs.Prelude.{◌≡◌};
+
+use crate::heard::Heard;
+use snl_trace::{Source, SourceFault};
+
+/// Hands on what another source gives, one line a call, and hears each line.
+#[derive(Drop)]
+pub struct Listener<R: Source> {
+    inner: R,
+    heard: Heard,
+}
+
+impl<R: Source> Listener<R> {
+    /// Listens to a source that gives at most one line a call, as `ByLine` does.
+    pub fn new(inner: R, heard: Heard) -> Self
+        ensures inner { result.inner ≡ inner }
+        ensures heard { result.heard ≡ heard }
+    {
+        Listener { inner, heard }
+    }
+
+    /// What was heard.
+    pub fn into_heard(self) -> Heard
+    where
+        R: Drop,
+        ensures { result ≡ self.heard }
+    {
+        self.heard
+    }
+}
+
+impl<R: Source> Source for Listener<R> {
+    ghost rest = { λ listener. R.rest listener.inner };
+
+    ghost failures = { λ listener. R.failures listener.inner };
+
+    fn read(&mut self, room: &mut [u8]) -> Result<usize, SourceFault> {
+        let count = self.inner.read(room)?;
+        if count > 0 {
+            self.heard.note(&room[..count]);
+        }
+        Ok(count)
+    }
+}

@@ -1,0 +1,119 @@
+"""Lines of a trace, without their times, of what happens on channels; and what there is to tell of the channels in the end."""
+from collections import Counter
+from dataclasses import dataclass
+
+from values import FRACTIONS, whole
+
+# The bytes of a line behind the longest time.
+ROOM = 32768 - 17
+# The ms after which it is told once which channels are not there.
+LATE = 5000
+
+
+@dataclass
+class Event:
+    """Something that happened: `up`, `down`, `val` or `done` of a channel, or `#`, a comment that stands in the place of a name."""
+
+    word: str
+    name: str
+    # The values of a `val`, and the type of the channel behind `up` and `val`, in the words of Channel Access.
+    values: list = ()
+    kind: str = ""
+
+
+class Refused(Exception):
+    """A channel that no trace can hold."""
+
+
+class Lines:
+    """Makes lines of events. A line that begins with `#` is a comment."""
+
+    def __init__(self, wanted):
+        """Lines of the channels that a call asked for."""
+        self.wanted = wanted
+        # Channels that are connected, that ever were, that ever gave a value, and whose last value was left out.
+        self.up, self.seen, self.valued, self.lost = set(), set(), set(), set()
+        # How often values were left out or cut off, and how many lines of values there are.
+        self.left_out, self.cut, self.count = Counter(), set(), 0
+        self.is_late = False
+
+    def of(self, event):
+        """The lines of an event, none or several. `Refused` where it is a channel of texts and nothing gives their numbers."""
+        if event.word == "up":
+            yield from self.connected(event.name, event.kind)
+        elif event.word == "down" and event.name in self.up:
+            self.up.discard(event.name)
+            yield f"down {event.name}"
+        elif event.word == "val":
+            yield from self.value(event)
+        elif event.word == "done":
+            yield f"done {event.name}"
+        elif event.word == "#":
+            yield "# " + " ".join(event.name.encode("ascii", "replace").decode().split())
+
+    def connected(self, name, kind):
+        """The lines of a channel that is up; a second `up` says nothing."""
+        has_texts = name in self.wanted.texts
+        if kind == "string" and not has_texts:
+            raise Refused(f"{name} has texts: give their numbers by --enum {name}=TEXT:N,.. or leave it out")
+        if name in self.up:
+            return
+        if name not in self.seen and kind in FRACTIONS and name not in self.wanted.powers:
+            yield f"# {name} has a fraction and is rounded to whole numbers: --scale {name}=K keeps K decimals"
+        if name not in self.seen and kind != "string" and has_texts:
+            yield f"# {name} has numbers and no texts: its --enum is not used"
+        self.up.add(name)
+        self.seen.add(name)
+        yield f"up {name}"
+
+    def value(self, event):
+        """The lines of values that came. Values that have no number are left out, and told when the last ones had."""
+        name, values = event.name, event.values[: self.wanted.channels[event.name]]
+        self.valued.add(name)
+        numbers = [self.number(name, it, event.kind) for it in values]
+        if None in numbers or not numbers:
+            self.left_out[name] += 1
+            if name not in self.lost:
+                yield f"# {name}: left out, no number of 64 bits: {ascii(values)[:200]}"
+            self.lost.add(name)
+            return
+        self.lost.discard(name)
+        self.count += 1
+        yield self.fitting(f"val {name}", numbers)
+
+    def number(self, name, value, kind):
+        """The number of one value, or None."""
+        if kind == "string":
+            return self.wanted.texts[name].get(value)
+        return whole(value, kind, 0 if kind == "enum" else self.wanted.powers.get(name, 0))
+
+    def fitting(self, front, numbers):
+        """A line with as many numbers as there is room for."""
+        line = f"{front} {' '.join(map(str, numbers))}"
+        if len(line) <= ROOM:
+            return line
+        self.cut.add(front.split()[1])
+        return line[: line.rindex(" ", 0, ROOM + 1)]
+
+    def late(self, now):
+        """What to say once, some seconds after the start, of channels that are not there; `now` is in ms."""
+        if now >= LATE and not self.is_late:
+            self.is_late = True
+            yield from self.absent()
+
+    def absent(self):
+        """What to say of each channel that was never connected, or never gave a value."""
+        for name in self.wanted.channels:
+            if name not in self.seen:
+                yield f"{name}: no connection since the start"
+            elif name not in self.valued:
+                yield f"{name}: connected, and no value since the start"
+
+    def report(self):
+        """What to say in the end."""
+        yield from self.absent()
+        for name, count in self.left_out.items():
+            yield f"{name}: left out, no number of 64 bits: {count}"
+        for name in sorted(self.cut):
+            yield f"{name}: of its values only those were taken that fit into a line"
+        yield f"{len(self.up)} of {len(self.wanted.channels)} channels connected at the end, values that were written: {self.count}"

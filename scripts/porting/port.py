@@ -1,0 +1,150 @@
+"""The whole port of a program: its parts in their order, and the text of the new one."""
+from dataclasses import dataclass
+
+from porting.binding import Binding
+from porting.functions import HELPERS
+from porting.notes import BY_HAND, DECIDE, KNOW, NotUnderstood, Notes
+from porting.parse_program import ProgramParser
+from porting.preprocessor import Preprocessor
+from porting.sharing import Sharing
+from porting.tokens import harmless
+from porting.tree import Option, Program
+from porting.units import find_units, quantities_by_digits
+from porting.variables import Kind
+from porting.work import Settings, unit_of
+
+FROM_CHANNEL = "is a text that comes from a channel: the trace has to bring its number, as the list of texts at the top has it"
+
+
+@dataclass
+class Ported:
+    """What was made of a source."""
+
+    text: str
+    notes: Notes
+    # The program, with its units and texts; None where nothing could be made.
+    port: "Port"
+
+
+class Port(Sharing):
+    """A port of a program."""
+
+    def run(self) -> str:
+        """Ports all parts of the program, and gives the new text."""
+        for it in self.binding.variables():
+            if it.kind is Kind.TEXT and it.is_monitored:
+                self.notes.add(it.line, DECIDE, f"'{it.name}' {FROM_CHANNEL}")
+        find_units(self.binding, self.settings.units, self.settings.finer, self.notes.add)
+        self.find_shared()
+        for it in self.program.definitions:
+            if isinstance(it, Option):
+                self.option(it)
+            else:
+                self.definition(it)
+        for it in self.program.blocks:
+            self.statement(it, None)
+        for it in self.program.sets:
+            self.state_set(it)
+        self.embedded_outside()
+        self.frame(self.program)
+        return self.rendered()
+
+    def quantities(self) -> set[str]:
+        """The names of all quantities."""
+        return {it.new_name for it in self.binding.variables() if it.kind is Kind.QUANTITY}
+
+    def state_set(self, node) -> None:
+        """A state set with its states."""
+        for it in node.definitions:
+            self.definition(it)
+        for state in node.states:
+            for it in state.definitions:
+                self.definition(it)
+            for it in [*state.entries, *state.exits]:
+                self.statement(it, None)
+            for clause in state.clauses:
+                if clause.condition is not None:
+                    self.condition(clause.condition)
+                self.statement(clause.block, None)
+
+    def frame(self, program: Program) -> None:
+        """What stands behind the head of the program: an option, and lines that are added."""
+        if program.macros and program.macros.end - program.macros.first > 1:
+            self.change(program.macros.first, program.macros.end, f'"{program.macros.text}"')
+        if program.semicolon is not None:
+            self.changes[program.semicolon] = (program.semicolon + 1, "")
+        option = ""
+        if not self.is_safe:
+            option = " option +s;"
+            text = "option +s is added: each state set has its own copy of the variables"
+            self.notes.add(self.tokens[program.word].line, KNOW, text)
+        lines = [*self.legend_lines(), *self.refused, *self.alarm_definitions(), *self.shared_lines(), *self.helper_lines()]
+        # Lines end as they do in the source.
+        end = "\r\n" if any("\r\n" in it.before for it in self.tokens) else "\n"
+        self.behind[program.head_end] = option + "".join(f"{end}{it}" for it in lines)
+
+    def legend_lines(self) -> list[str]:
+        """The units of quantities and the numbers of texts, as a comment."""
+        units = quantities_by_digits(list(self.binding.variables()))
+        lines = [f"unit {unit_of(digits)}: {', '.join(names)}" for digits, names in units.items()]
+        if len(self.legend) > 1:
+            texts = (f'{number} "{harmless(text)}"' for text, number in self.legend.items())
+            lines.append("texts: " + ", ".join(texts))
+        return ["/* By port:", *(f"   {it}" for it in lines[:-1]), f"   {lines[-1]} */"] if lines else []
+
+    def shared_lines(self) -> list[str]:
+        """The links without a channel of what is shared."""
+        names = [it.new_name for it in self.binding.variables() if it.is_shared]
+        return [f"assign {it}; monitor {it};" for it in names]
+
+    def helper_lines(self) -> list[str]:
+        """The functions that the port calls."""
+        names = {it: self.free(it) for it in HELPERS}
+        return [line.format(**names) for it, lines in HELPERS.items() if it in self.helpers for line in lines]
+
+    def rendered(self) -> str:
+        """The text with all changes."""
+        parts, at = [], 0
+        while at < len(self.tokens):
+            token = self.tokens[at]
+            parts += [token.before, self.in_front.get(at, "")]
+            if at in self.changes:
+                at, text = self.changes[at]
+                parts.append(text)
+            else:
+                parts += [token.spelled, token.behind]
+                at += 1
+            parts.append(self.behind.get(at - 1, ""))
+        return "".join(parts)
+
+
+def not_understood(notes: Notes, line: int, text: str) -> Ported:
+    """What comes of a source that can't be understood: of other notes the first alone, since all may come of one cause."""
+    told = Notes()
+    for it in notes.by_hand()[:1]:
+        told.add(*it)
+    told.add(line, BY_HAND, text)
+    return Ported("", told, None)
+
+
+def ported(source: str, path: str, settings: Settings) -> Ported:
+    """Ports a source. One that can't be understood gives no text, and a note that says where."""
+    notes = Notes()
+    preprocessor = Preprocessor(notes, path)
+    try:
+        tokens = preprocessor.tokens(source)
+        parser = ProgramParser(tokens)
+        program = parser.program()
+    except NotUnderstood as cause:
+        return not_understood(notes, cause.line, f"not understood from here on: {cause}")
+    except RecursionError:
+        return not_understood(notes, 1, "not understood: nested too deeply")
+
+    def line_of(node) -> int:
+        """The line in which a node begins."""
+        return tokens[node.first].line
+
+    port = Port(tokens, program, notes, settings, Binding(program, parser.structures, line_of))
+    for _ in preprocessor.lines_by_hand if not settings.is_sketch else ():
+        port.refused.append(f"monitor {port.by_hand_word}; /* by hand: a file is left out */")
+    return Ported(port.run(), notes, port)

@@ -1,0 +1,33 @@
+"""Units and texts of a port as words for what makes its trace: `--scale NAME=K`, `--enum NAME=TEXT:N,..`."""
+import shlex
+
+from porting.notes import KNOW
+from porting.port import Port
+from porting.variables import Kind
+
+NO_WORD = frozenset(",:")
+
+
+def words(port: Port) -> list[str]:
+    """The words, one for each channel, as a shell reads them."""
+    found: dict[str, str] = {}
+    texts = texts_as_words(port)
+    for it in port.binding.variables():
+        for name in it.channels.all_names() if it.channels else []:
+            channel = port.filled(name)
+            if it.kind is Kind.QUANTITY and it.digits():
+                found[channel] = f"--scale {shlex.quote(f'{channel}={it.digits()}')}"
+            if it.kind is Kind.TEXT and texts:
+                found[channel] = f"--enum {shlex.quote(f'{channel}={texts}')}"
+    return list(found.values())
+
+
+def texts_as_words(port: Port) -> str:
+    """The texts with their numbers, but those that have a sign of the list in them."""
+    kept = []
+    for text, number in port.legend.items():
+        if NO_WORD & set(text):
+            port.notes.add(1, KNOW, f'text "{text}" has a comma or a colon: it is left out of the table')
+        elif text:
+            kept.append(f"{text}:{number}")
+    return ",".join(kept)

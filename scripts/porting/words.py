@@ -1,0 +1,48 @@
+"""Words of SNL and of C that the port knows: types, their sizes, constants, and functions that print."""
+
+WHOLE_TYPES = frozenset(
+    "char short int long unsigned int8_t uint8_t int16_t uint16_t int32_t uint32_t int64_t uint64_t".split()
+)
+QUANTITY_TYPES = frozenset({"float", "double"})
+TYPES = WHOLE_TYPES | QUANTITY_TYPES | {"string", "void", "struct", "enum"}
+# Types of C that SNL has as names: they count as types only where a name stands behind them.
+SOFT_TYPES = frozenset({"const", "static", "signed", "bool", "volatile", "register"})
+# What `snc` calls by another name, since its largest type is `long`.
+LONG_TYPES = frozenset(
+    {"int64_t", "uint64_t", "unsigned long", "long long", "unsigned long long", "long int", "unsigned long int"}
+)
+BYTES = {"char": 1, "short": 2, "int": 4, "long": 8, "float": 4, "double": 8, "unsigned": 4, "string": 40}
+
+STATUSES = (
+    "READ WRITE HIHI HIGH LOLO LOW STATE COS COMM TIMEOUT HW_LIMIT CALC SCAN LINK SOFT BAD_SUB UDF DISABLE SIMM "
+    "READ_ACCESS WRITE_ACCESS"
+).split()
+SEVERITIES = {"OK": 0, "NONE": 0, "MINOR": 1, "MAJOR": 2, "INVALID": 3, "ERROR": -1}
+# Constants of the sequencer and of C that are no names of the language here.
+CONSTANTS = {f"pvStat{name}": number for number, name in enumerate(STATUSES, 1)}
+CONSTANTS.update({f"pvSevr{name}": number for name, number in SEVERITIES.items()})
+CONSTANTS.update({"true": 1, "false": 0, "NULL": 0})
+# Constants that the language has.
+PREDEFINED = {"TRUE": 1, "FALSE": 0, "pvStatOK": 0, "pvStatERROR": -1, "pvStatDISCONN": -2}
+
+# Functions that print, with the place of the format among their arguments.
+PRINTERS = {
+    "printf": 0,
+    "seqLog": 0,
+    "errlogPrintf": 0,
+    "epicsPrintf": 0,
+    "epicsStdoutPrintf": 0,
+    "puts": 0,
+    "errlogMessage": 0,
+    "errlogSevPrintf": 1,
+    "fprintf": 1,
+    "errPrintf": 3,
+}
+TEXT_COPIES = frozenset({"strcpy", "strncpy", "epicsStrnCpy"})
+# Functions that write a text by a format, with the place of the format.
+TEXT_FORMATS = {"sprintf": 1, "snprintf": 2, "epicsSnprintf": 2}
+TEXT_COMPARISONS = frozenset({"strcmp", "strncmp", "strcasecmp", "epicsStrCaseCmp"})
+MACRO_VALUES = frozenset({"macValueGet", "seqMacGet", "seqMacValGet"})
+ABSOLUTES = frozenset({"fabs", "abs", "labs", "fabsf"})
+# Functions of C whose result has no unit that anything tells.
+TRANSCENDENTAL = frozenset("sqrt sin cos tan asin acos atan atan2 exp log log10 pow hypot".split())
