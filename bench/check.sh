@@ -74,12 +74,10 @@ source_of 64 1000 1000 "$work/whole.st"
 source_of 32 500 500 "$work/half.st"
 functions_of 250 49 "$work/chain.st"
 : > "$work/empty.st"
-for source in whole half; do
+for source in whole half chain; do
     said=$("$program" "$work/$source.st" 2>&1 < /dev/null) || { echo "$source.st has an error: $said" >&2; exit 1; }
     [ -z "$said" ] || { echo "$source.st has a warning: $said" >&2; exit 1; }
 done
-said=$("$program" "$work/chain.st" 2>&1 < /dev/null || true)
-[ "$said" = "$work/chain.st:1: error: E05 not run yet" ] || { echo "chain.st: $said" >&2; exit 1; }
 whole=999999999 half=$((whole)) chain=$((whole)) empty=$((whole))
 for ((turn = 0; turn < runs; turn++)); do
     time_run whole "$work/whole.st"

@@ -17,10 +17,11 @@ measure() {
     awk -v from="$from" -v to="$EPOCHREALTIME" 'BEGIN { printf "%.4f\n", to - from }'
 }
 
-# the best of three
+# the best of so many, of three where nothing else is said
+times=3
 best() {
     local turn
-    for turn in 1 2 3; do measure "$@"; done | sort -n | head -n 1
+    for ((turn = 0; turn < times; turn++)); do measure "$@"; done | sort -n | head -n 1
 }
 
 # Compares a program over one tick with a script of python3, and says what was done so often. The time of a start over an

@@ -26,11 +26,14 @@ class Case:
     statuses: tuple = (0,)
     # The program that is called: `snlrun`, `snc` or `snl`.
     tool: str = "snlrun"
+    # Programs that are named to it in front of the words, as `--snc PATH`.
+    named: tuple = ()
 
     def failure(self, programs):
         """Runs the case; None where all is as it has to be, else what is not."""
         try:
-            status, stdout, stderr = self.run(programs[self.tool])
+            front = [it for name in self.named for it in (f"--{name}", programs[name])]
+            status, stdout, stderr = self.run(programs[self.tool], front)
         except subprocess.TimeoutExpired:
             return f"FAILED {self.name}\n  no end within {SECONDS} seconds"
         said = [] if status in self.statuses else [f"status {status}, not {' or '.join(map(str, self.statuses))}"]
@@ -39,7 +42,7 @@ class Case:
         said += differences("stdout", self.stdout, stdout) + differences("stderr", self.stderr, stderr)
         return "\n  ".join([f"FAILED {self.name}", *said]) if said else None
 
-    def run(self, program):
+    def run(self, program, front=()):
         with tempfile.TemporaryDirectory(prefix="snlrun-") as folder, contextlib.ExitStack() as opened:
             Path(folder, "p.st").write_bytes(self.source)
             how = {"stdout": subprocess.PIPE, "stderr": subprocess.PIPE, "cwd": folder, "timeout": SECONDS}
@@ -50,7 +53,7 @@ class Case:
                 how["input"] = self.trace
             if isinstance(self.stdout, Path):
                 how["stdout"] = opened.enter_context(open(self.stdout, "wb"))
-            ran = subprocess.run([os.fsencode(program), *self.words], **how)
+            ran = subprocess.run([*map(os.fsencode, (program, *front)), *self.words], **how)
         return ran.returncode, ran.stdout, ran.stderr
 
 

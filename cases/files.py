@@ -57,6 +57,8 @@ def cases_of_sections(name, source, sections):
     if made.get("tool") == "port":
         # Which snc there is has not to matter.
         made["words"] = [b"--snc=", b"p.st"]
+    if made.get("tool") == "plot":
+        made["named"] = ("snc", "snl")
     if "args" in sections:
         made["words"] = plain(sections["args"][1]).splitlines()
     if "rows" not in sections:

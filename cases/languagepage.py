@@ -1,4 +1,4 @@
-"""Cases from docs/LANGUAGE.md: each program, run over the trace in the table behind it; each expression of a table."""
+"""Cases from docs/LANGUAGE.md: each program, run over the trace in the table behind it; each expression and each call of a table."""
 import re
 
 from case import Case
@@ -9,13 +9,16 @@ PROGRAM = re.compile(
     re.MULTILINE | re.DOTALL,
 )
 EXPRESSIONS = re.compile(r"^\| Expression \|[^\n]*\n\|[-|]+\n((?:\|[^\n]*\n)+)", re.MULTILINE)
+# Functions, with the rows of the table right behind them, which calls them.
+CALLS = re.compile(r"^```\n((?:(?!```|program )[^\n]*\n)+)```\n\n\| Call \|[^\n]*\n\|[-|]+\n((?:\|[^\n]*\n)+)", re.MULTILINE)
 NUMBER = re.compile(r"^ *\d+  ", re.MULTILINE)
 VALUED = b"""program t
 option +s;
 int x = 5;
 int a[3] = {1, 2};
-ss s { state w { when () { printf("%%ld", %s); } exit } }
+%sss s { state w { when () { printf("%%ld", %s); } exit } }
 """
+SPENT = re.compile(rb"0 start t\n|0 fault s \d+ step budget spent\n")
 
 
 def examples(root):
@@ -25,6 +28,9 @@ def examples(root):
     for table in EXPRESSIONS.findall(page):
         for expression, value, *_ in rows(table):
             yield of_expression(expression, value)
+    for functions, table in CALLS.findall(page):
+        for call, value, ticks, *_ in rows(table):
+            yield from of_call(functions, call, value, int(ticks))
 
 
 def of_program(program, table):
@@ -38,10 +44,25 @@ def of_program(program, table):
 
 def of_expression(expression, value):
     """The case of an expression, with `int x = 5` and `int a[3] = {1, 2}`: its value is written, or its fault."""
-    source = VALUED % expression.encode()
+    source = VALUED % (b"", expression.encode())
     if re.fullmatch(r"-?\d+", value):
-        return case(expression, source, "0 tick", f"0 start t\n0 print s {value}\n0 go s w exit\n0 exit t\n", 0)
+        return case(expression, source, "0 tick", valued(value), 0)
     return case(expression, source, "0 tick", f"0 start t\n0 fault s 5 {value}\n", 5)
+
+
+def of_call(functions, call, value, ticks):
+    """The cases of a call: with one tick more, for the transition, its value is written, and with none more it has the fault."""
+    source = VALUED % (functions.encode(), call.encode())
+    name = f"docs/LANGUAGE.md: {call}"
+    enough, spent = ([b"--budget", b"%d" % budget, b"p.st"] for budget in (ticks + 1, ticks))
+    yield Case(name, source, b"0 tick", enough, valued(value).encode())
+    if ticks > 0:
+        yield Case(f"{name}, with {ticks} ticks", source, b"0 tick", spent, SPENT, statuses=(5,))
+
+
+def valued(value):
+    """What a run writes that prints a value and ends."""
+    return f"0 start t\n0 print s {value}\n0 go s w exit\n0 exit t\n"
 
 
 def case(name, source, trace, lines, status):
@@ -59,12 +80,13 @@ def named(program):
 
 
 def missing(root):
-    """Programs of the page that have no run behind them."""
-    return [
-        f"FAILED docs/LANGUAGE.md: {named(program)} has no table of a trace behind it"
-        for program, table in PROGRAM.findall(text_of(root))
-        if not table
-    ]
+    """Programs of the page that have no run behind them, and tables of calls that have no functions in front."""
+    page = text_of(root)
+    silent = [named(program) for program, table in PROGRAM.findall(page) if not table]
+    found = [f"FAILED docs/LANGUAGE.md: {it} has no table of a trace behind it" for it in silent]
+    if len(CALLS.findall(page)) != page.count("\n| Call |"):
+        found.append("FAILED docs/LANGUAGE.md: a table of calls has no functions right in front of it")
+    return found
 
 
 def text_of(root):

@@ -8,7 +8,7 @@ TOKENS, STATE_SETS, STATES = "65536 tokens", "64 state sets", "1024 states"
 CHANNELS, ELEMENTS = "1024 channels", "1024 elements"
 WORDS_OF_A_SET, WORDS = "65536 words in a state set", "1048576 words"
 FUNCTIONS = "256 functions"
-NOT_RUN = "E05 not run yet"
+MOST = 256
 # With these alone each state set keeps 65,536 words, and sixteen of them keep 1,048,576.
 FULL = [f"int a{k}[1024];" for k in range(64)]
 SIXTEEN = 16
@@ -21,6 +21,7 @@ def cases():
     yield from words_of_a_state_set()
     yield from words_of_a_program()
     yield from functions()
+    yield from chains()
     yield from two_limits()
     yield limited("a sum of 10,000 terms", ["int x;", *sums(10_000)], {})
 
@@ -81,15 +82,50 @@ def functions():
     program and for no state set."""
     for count in (256, 257):
         lines = [*[f"void f{k}() {{ }}" for k in range(count)], *sets(1)]
-        yield limited(f"{count} functions", lines, {259: FUNCTIONS}) if count > 256 else not_run(f"{count} functions", lines)
+        yield limited(f"{count} functions", lines, {259: FUNCTIONS} if count > 256 else {})
     # Sixteen state sets with 65,535 words each leave sixteen words: those of two parameters, of an array of 12 and of the function.
     for size in (13, 14):
         lines = [*FULL[1:], "int x[1023];", f"int f(int n, int m) {{ {{ int v[{size}]; }} return n; }}", *sets(SIXTEEN)]
-        yield limited(f"a function of {size + 3} words", lines, {1: WORDS}) if size > 13 else not_run(f"a function of {size + 3} words", lines)
+        yield limited(f"a function of {size + 3} words", lines, {1: WORDS} if size > 13 else {})
     # So do sixteen functions without a value and without a variable: one word each, for the place to return to.
     for count in (16, 17):
         lines = [*FULL[1:], "int x[1023];", *[f"void f{k}() {{ }}" for k in range(count)], *sets(SIXTEEN)]
-        yield limited(f"{count} functions of a word", lines, {1: WORDS}) if count > 16 else not_run(f"{count} functions of a word", lines)
+        yield limited(f"{count} functions of a word", lines, {1: WORDS} if count > 16 else {})
+
+
+def chains():
+    """As many functions as there may be, each of which calls the one above it. A call costs a tick, and so does the transition."""
+    # Function k stands in line 3 + k, and the clause in line 4 + MOST.
+    called = [f"int f{k}(int n) {{ return f{k - 1}(n) + 1; }}" for k in range(1, MOST)]
+    lines = ["int f0(int n) { return n + 1; }", *called, "ss s { state w {", f'when (f{MOST - 1}(7) == {MOST + 7}) {{ printf("{MOST} deep"); }} exit }} }}']
+    ends = {
+        MOST + 1: f"0 print s {MOST} deep\n0 go s w exit\n0 exit p\n",
+        # The transition.
+        MOST: f"0 fault s {4 + MOST} step budget spent\n",
+        # The call of `f0` in `f1`.
+        MOST - 1: "0 fault s 4 step budget spent\n",
+        # The first call, and then the second one.
+        1: f"0 fault s {2 + MOST} step budget spent\n",
+    }
+    for budget, end in ends.items():
+        words = [b"--budget", b"%d" % budget, b"p.st"]
+        name = f"limits: a chain of {MOST} functions with {budget} ticks"
+        status = 5 if " fault " in end else 0
+        yield Case(name, text_of(lines), b"0 tick\n", words, f"0 start p\n{end}".encode(), b"", (status,))
+    called = [f"int f{k}(int n) {{ return f{k - 1}(n) + f{k - 1}(n); }}" for k in range(1, MOST)]
+    lines = ["int f0(int n) { return n; }", *called, f"ss s {{ state w {{ when (f{MOST - 1}(1)) {{ }} exit }} }}"]
+    spent = f"0 start p\n0 fault s {3 + caller_of(100_001)} step budget spent\n"
+    yield Case(f"limits: {MOST} functions, each of which calls the one above it twice", text_of(lines), b"0 tick\n", stdout=spent.encode(), statuses=(5,))
+
+
+def caller_of(number):
+    """The number of the function that makes a call, where each but the first calls the one above it twice. The first call is that of
+    the last function; those that function k makes, with all that come of one of them, are 2 to the power of k, less one."""
+    caller, skipped = MOST - 1, number - 2
+    while skipped % (2**caller - 1) > 0:
+        skipped = skipped % (2**caller - 1) - 1
+        caller -= 1
+    return caller
 
 
 def two_limits():
@@ -139,10 +175,9 @@ def limited(name, lines, passed):
 
 
 def told(name, lines, said):
-    source = "".join(f"{it}\n" for it in ["program p", "option +s;", *lines])
-    return Case(f"limits: {name}", source.encode(), stderr=said.encode(), statuses=(1 if said else 0,), tool="snc")
+    return Case(f"limits: {name}", text_of(lines), stderr=said.encode(), statuses=(1 if said else 0,), tool="snc")
 
 
-def not_run(name, lines):
-    """A case for a program at a limit that defines functions."""
-    return told(name, lines, f"p.st:1: error: {NOT_RUN}\n")
+def text_of(lines):
+    """The source of a program of these lines behind the first two."""
+    return "".join(f"{it}\n" for it in ["program p", "option +s;", *lines]).encode()

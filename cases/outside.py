@@ -82,7 +82,11 @@ def not_whole(root, prefix, manual=".1"):
     ported = subprocess.run([pages / "scripts/port", "-"], input=UNPORTED, capture_output=True, timeout=SECONDS)
     if (ported.returncode, ported.stderr) != (1, NOTED):
         return f"scripts/port says {ported}"
-    wanted = [pages / it.relative_to(root) for it in [root / "README.md", root / "VERSION", *root.glob("docs/*.md")]]
+    trace = (root / "examples/light.trace").read_bytes()
+    drawn = subprocess.run([pages / "scripts/plot", pages / "examples/light.st"], input=trace, capture_output=True, timeout=SECONDS)
+    if drawn.returncode or b"<h1>Run of light</h1>" not in drawn.stdout:
+        return f"scripts/plot says {drawn.stderr}"
+    wanted = [pages / it.relative_to(root) for it in [root / "README.md", root / "VERSION", *root.glob("docs/*.*")]]
     wanted += [prefix / f"share/man/man1/{it}{manual}" for it in ("snc", "snlrun", "snl")]
     return ", ".join(f"{it} is not there" for it in wanted if not it.exists())
 

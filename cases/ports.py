@@ -17,13 +17,11 @@ from case import SECONDS, Case, differences
 
 HERE = Path(__file__).resolve().parent
 WHOLE = HERE / "port"
-# What snc says of a function, which it checks and does not run.
-NOT_RUN = re.compile(rb"[^:\n]+:\d+: error: E05 not run yet\n?")
 REFUSED = re.compile(rb"[^:\n]+:\d+: error: E13 'BY_HAND_?' is not declared\n?")
 WARNING = re.compile(rb"[^:\n]+:\d+: warning: W[2-9] [^\n]+\n?")
 NEWLINES_AT_END = re.compile(rb'(?:\\n)+"')
 # Fewer than these would be cases that pass with nothing measured.
-LEAST_PAIRS, LEAST_WHOLE, LEAST_COMPLETE, LEAST_RUNS, LEAST_SAME = 65, 17, 11, 10, 150
+LEAST_PAIRS, LEAST_WHOLE, LEAST_COMPLETE, LEAST_RUNS, LEAST_SAME = 67, 17, 11, 10, 150
 # A longer source takes the port too long for a case.
 LONGEST = 20_000
 
@@ -48,15 +46,10 @@ def whole(file):
     return Case(name, file.read_bytes(), b"", [b"--snc=", b"p.st"], made, notes, statuses, "port")
 
 
-def without_functions(text):
-    """Messages without those of functions, which are checked and do not run."""
-    return b"".join(it for it in text.splitlines(keepends=True) if not NOT_RUN.fullmatch(it))
-
-
 def wrong_of(made, is_complete, snc):
     """What snc says wrongly of a port: nothing where it is complete, and else that BY_HAND is not declared."""
     _, _, said = Case("", made, tool="snc").run(snc)
-    lines = [it for it in without_functions(said).splitlines() if not WARNING.fullmatch(it)]
+    lines = [it for it in said.splitlines() if not WARNING.fullmatch(it)]
     if is_complete:
         return [f"snc says {lines[0].decode()}"] if lines else []
     if not lines:
@@ -86,8 +79,6 @@ class Run:
             made = call(self.root, WHOLE, "--snc=", "--sketch", self.file.name)[1]
         trace, out = (self.file.with_suffix(it).read_bytes() for it in (".trace", ".out"))
         status, stdout, stderr = Case("", made, trace).run(programs["snlrun"])
-        if status == 1 and stderr and not without_functions(stderr) and b"return" in made:
-            return None
         said = [f"status {status}"] if status else []
         said += differences("stdout", out, stdout) + differences("stderr", b"", stderr)
         said += ["nothing comes out"] if out.count(b"\n") < 10 else []
@@ -244,8 +235,6 @@ class Same:
 
 
 def is_accepted(source, snc):
-    """Whether snc accepts a source without W1. Functions are checked, and that is enough here."""
+    """Whether snc accepts a source without W1."""
     status, _, said = Case("", source, tool="snc").run(snc)
-    rest = without_functions(said)
-    is_right = all(WARNING.fullmatch(it) for it in rest.splitlines())
-    return is_right and (status == 0 or rest != said)
+    return status == 0 and all(WARNING.fullmatch(it) for it in said.splitlines())

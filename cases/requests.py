@@ -62,8 +62,8 @@ CALLS = (
     Call("snlrun", ["byte.st"], 1, 20, 1),
     Call("snc", ["--tables", "ten.st"], 1, 100, 2),
     Call("snlrun", ["warned.st"], 0, 100, 2),
-    Call("snc", ["functions.st"], 1, 100, 2),
-    Call("snlrun", ["functions.st"], 1, 100, 2),
+    Call("snc", ["functions.st"], 0, 100, 1),
+    Call("snlrun", ["functions.st"], 0, 100, 1),
     Call("snc", ["missing.st"], 3, 10, 1),
     Call("snc", ["--help"], 0, 10, 1),
     Call("snlrun", ["--help"], 0, 10, 1),
@@ -109,9 +109,12 @@ def build(folder):
 
 
 def more_over_a_long_trace(programs, folder):
-    short, long = (counted(programs["snlrun"], folder, ["r.st"], it) for it in ("0 up a\n", READY + LINES))
-    if short != long or short[0] != 0 or short[1] < 100:
-        yield f"FAILED requests.py: over one line status {short[0]} and {short[1]} requests, over ten thousand {long[0]} and {long[1]}"
+    """Two programs, one of which calls a function in each round."""
+    for name in ("r.st", "functions.st"):
+        short, long = (counted(programs["snlrun"], folder, [name], it) for it in ("0 up a\n", READY + LINES))
+        if short != long or short[0] != 0 or short[1] < 100:
+            told = f"over one line status {short[0]} and {short[1]} requests, over ten thousand {long[0]} and {long[1]}"
+            yield f"FAILED requests.py: {name}: {told}"
 
 
 def answered_otherwise(programs, folder):

@@ -156,7 +156,10 @@ class Definitions(Statements):
             if node.first_value is not None:
                 raise ByHand("first value of a structure")
             return [(self.new_type(it), self.written(it, "")) for it in variable.members.values()]
-        first_value = "" if node.first_value is None else self.first_value(node.first_value, variable)
+        first_value = ""
+        if node.first_value is not None:
+            self.kept_apart(node.first_value, "a first value: put it in a statement of its own")
+            first_value = self.first_value(node.first_value, variable)
         sizes = [it for it in variable.dimensions if isinstance(it, Node)]
         has_all_sizes = len(sizes) == len(variable.dimensions)
         is_like = variable.kind is Kind.WHOLE or (variable.kind is Kind.QUANTITY and not self.unit_comment(variable))

@@ -32,6 +32,12 @@ class Functions(Calls):
     def own(self, node: Call) -> Value:
         """A function of the program: each argument in the unit of its parameter."""
         function = self.binding.functions[node.function]
+        if function.first <= node.first < function.end:
+            raise ByHand(f"'{node.function}' calls itself: write a loop")
+        if function.first > node.first:
+            raise ByHand(f"function '{node.function}' stands below: put it above")
+        if function.result.kind is Kind.NOTHING and not node.alone:
+            raise ByHand(f"'{node.function}' has no value: call it in a statement of its own")
         if len(function.parameters) != len(node.arguments):
             raise ByHand(f"arguments of '{node.function}'")
         parts = []

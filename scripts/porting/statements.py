@@ -96,14 +96,17 @@ class Statements(Expressions):
         except ByHand as cause:
             self.leave(node, str(cause), self.by_hand_word, sketch)
 
+    def kept_apart(self, node: Expression, where: str) -> Expression:
+        """An expression that stores to nothing that is shared, since no put can stand behind it."""
+        for it in stores_in(node):
+            if it.is_shared:
+                raise ByHand(f"'{it.name}' is shared and set in {where}")
+        return node
+
     def condition(self, node: Expression) -> None:
         """A condition, in which nothing that is shared may be stored."""
-        shared = [it for it in stores_in(node) if it.is_shared]
-        if shared:
-            why = f"'{shared[0].name}' is shared and set in a condition: put it in a block"
-            self.leave(node, why, self.by_hand_word, "FALSE")
-        else:
-            self.expression(node)
+        place = "a condition: put it in a block"
+        self.expression(node, write=lambda: self.truth(self.value(self.kept_apart(node, place))))
 
     def statement(self, node: Optional[Node], function: Optional[Function], is_in_block: bool = True) -> None:
         """A statement, of a function or of none."""
@@ -151,7 +154,7 @@ class Statements(Expressions):
     def action(self, node: Action, is_in_block: bool) -> None:
         """An expression as a statement, and puts of what is shared behind it."""
         expression = node.expression
-        if isinstance(expression, Postfix):
+        if isinstance(expression, (Postfix, Call)):
             expression.alone = True
         try:
             found = self.value(expression)
@@ -173,27 +176,26 @@ class Statements(Expressions):
                 continue
             if isinstance(it, Postfix):
                 it.alone = True
-            shared = [one for one in stores_in(it) if one.is_shared]
-            if shared:
-                why = f"'{shared[0].name}' is shared and set in the head of a loop: put it in a block"
-                self.leave(it, why, self.by_hand_word, "FALSE" if at == 1 else "0")
-            elif at == 1:
-                self.expression(it)
-            else:
-                self.expression(it, "0", lambda it=it: self.value(it))
+            read = self.truth if at == 1 else lambda found: found
+            place = "the head of a loop: put it in a block"
+            self.expression(it, "FALSE" if at == 1 else "0", lambda it=it, read=read: read(self.value(self.kept_apart(it, place))))
         self.statement(node.body, function, False)
 
     def returned(self, node: Return, function: Optional[Function]) -> None:
         """`return`, in the unit of the function."""
-        if node.value is None:
-            return
         if function is None:
             self.leave_statement(node, "'return' outside of a function")
             return
         result = function.result
+        if (node.value is None) != (result.kind is Kind.NOTHING):
+            self.leave_statement(node, f"'return' with{'out' if node.value is None else ''} a value")
+            return
+        if node.value is None:
+            return
 
         def write():
             """The value in the unit of the function."""
+            self.kept_apart(node.value, "a 'return': put it in a statement of its own")
             if result.kind is Kind.QUANTITY:
                 return self.at(self.value(node.value, result.digits()), result.digits(), node.value)
             return self.whole(self.value(node.value))

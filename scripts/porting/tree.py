@@ -131,6 +131,8 @@ class Values(Expression):
 class Call(Expression):
     function: str
     arguments: list[Expression]
+    # Whether it is a whole statement.
+    alone: bool = False
 
 
 @dataclass(eq=False)

@@ -2,8 +2,10 @@
 
 ghost use Rattle.std.specs.Prelude.{◌≡◌, ◌≤◌, length, IfSome};
 
+use crate::output::{Output, flush};
 use snl_trace::{Source, SourceFault};
 use snl_watch::Tally;
+use std::cell::RefCell;
 use std::io::{IsTerminal, Read, Stdin};
 use std::time::{Duration, Instant};
 
@@ -15,7 +17,8 @@ struct Progress {
 }
 
 /// The trace on standard input. Where that is a terminal, the user is told so before the first read. If it is asked for,
-/// standard error tells once a second how many lines were read.
+/// standard error tells once a second how many lines were read. Where an answer goes out meanwhile, that is written out before the
+/// trace is waited for: who feeds the trace line by line sees the lines of the answer as they come.
 #[derive(Drop)]
 pub struct Input<'c> {
     rt: &'c HostRuntime,
@@ -23,6 +26,7 @@ pub struct Input<'c> {
     failures: u64,
     is_begun: bool,
     progress: Option<Progress>,
+    output: Option<&'c RefCell<Output>>,
 }
 
 impl<'c> Input<'c> {
@@ -36,7 +40,17 @@ impl<'c> Input<'c> {
             failures: 0,
             is_begun: false,
             progress: if tells { begun(rt) } else { None },
+            output: None,
         }
+    }
+
+    /// The same, beside an answer that goes out meanwhile.
+    pub fn beside(rt: &'c HostRuntime, tells: bool, output: &'c RefCell<Output>) -> Self
+        ensures { result.failures ≡ 0 }
+    {
+        let mut input = Input::new(rt, tells);
+        input.output = Some(output);
+        input
     }
 }
 
@@ -73,10 +87,13 @@ fn count(rt: &HostRuntime, progress: &mut Progress, piece: &[u8]) {
     let _ = eprintln!(rt; "snl: {lines} lines read, the last at {last}");
 }
 
-/// Reads on.
-fn next_piece(input: &mut Stdin, room: &mut [u8]) -> Option<usize>
+/// Reads on, unless there is nobody left to read for.
+fn next_piece(input: &mut Stdin, output: Option<&RefCell<Output>>, room: &mut [u8]) -> Option<usize>
     ensures { IfSome result (λ count. count ≤ length room.old) }
 {
+    if let Some(output) = output {
+        flush(output).ok()?;
+    }
     input.read(room).ok()
 }
 
@@ -92,7 +109,7 @@ impl Source for Input<'_> {
             self.is_begun = true;
             tell_terminal(self.rt, &self.input);
         }
-        match next_piece(&mut self.input, room) {
+        match next_piece(&mut self.input, self.output, room) {
             Some(size) => {
                 if let Some(progress) = &mut self.progress {
                     count(self.rt, progress, &room[..size]);

@@ -4,8 +4,11 @@
 #![tactic(auto)]
 
 mod input;
+mod output;
+mod run;
 
 use input::Input;
+use run::answered_run;
 use snc::Status;
 use snc_cli::{source_in, tell, words_of, write};
 use snl_args::{Call, CallFault, Word, read_call};
@@ -58,6 +61,7 @@ fn answered(rt: &HostRuntime, call: &Call) -> Status {
     match source_in(rt, "snl", call.job.file.as_str()) {
         Ok(source) => match call.word {
             Word::Waits => answered_waits(rt, source.as_slice(), call),
+            Word::Run => answered_run(rt, source.as_slice(), call),
         },
         Err(status) => status,
     }

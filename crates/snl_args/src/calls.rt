@@ -1,7 +1,9 @@
 //! What the words of a call ask for, and what may be wrong with them.
 
-use crate::commands::over_trace;
-use crate::texts::{HELP, WAITS_ABOUT, WAITS_MORE, WAITS_USAGE, WORDS};
+use crate::commands::{over_trace, whole_argument};
+use crate::texts::{
+    HELP, RUN_ABOUT, RUN_MORE, RUN_USAGE, WAITS_ABOUT, WAITS_MORE, WAITS_USAGE, WORDS,
+};
 use clap::error::ErrorKind;
 use clap::{ArgMatches, Command, Error};
 use snc_args::{Job, first_refused, options_in_force, rest_of};
@@ -15,7 +17,12 @@ use thiserror::Error;
 pub enum Word {
     /// When a program begins over a trace, or what it waits for: `snl waits FILE [MACROS]`.
     Waits,
+    /// A run with notes and a summary: `snl run [--whole] FILE [MACROS]`.
+    Run,
 }
+
+/// The names of the words.
+const NAMES: [&str; 2] = ["waits", "run"];
 
 /// What a call asks for.
 #[derive(Drop)]
@@ -26,6 +33,8 @@ pub struct Call {
     pub job: Job,
     /// Whether to tell how far the trace was read.
     pub progress: bool,
+    /// Whether no block of lines is folded, where a run is asked for.
+    pub is_whole: bool,
 }
 
 /// Why words ask for nothing that is to be done. `Display` gives the text for the user.
@@ -55,6 +64,7 @@ impl From<AllocError> for CallFault {
 fn word_of(name: &str) -> Option<Word> {
     match name {
         "waits" => Some(Word::Waits),
+        "run" => Some(Word::Run),
         _ => None,
     }
 }
@@ -112,6 +122,21 @@ fn read_waits(alloc: Global, words: &[&str], options: Options) -> Result<Call, C
         word: Word::Waits,
         job,
         progress: matches.get_flag("progress"),
+        is_whole: false,
+    })
+}
+
+/// What follows `run`.
+fn read_run(alloc: Global, words: &[&str], options: Options) -> Result<Call, CallFault> {
+    let command = over_trace(alloc, RUN_USAGE, RUN_ABOUT, RUN_MORE)?;
+    let command = command.arg(whole_argument(alloc))?;
+    let matches = matches_in(alloc, command, words)?;
+    let job = job_in(alloc, &matches, options)?;
+    Ok(Call {
+        word: Word::Run,
+        job,
+        progress: matches.get_flag("progress"),
+        is_whole: matches.get_flag("whole"),
     })
 }
 
@@ -124,17 +149,28 @@ fn read_word(
 ) -> Result<Call, CallFault> {
     match word {
         Word::Waits => read_waits(alloc, words, options),
+        Word::Run => read_run(alloc, words, options),
     }
+}
+
+/// The word that may have been meant: one of which less than half the letters have to be changed.
+fn meant(alloc: Global, name: &str) -> Result<Option<&'static str>, AllocError> {
+    for word in NAMES {
+        if levenshtein(alloc, name, word)? <= word.len() / 2 {
+            return Ok(Some(word));
+        }
+    }
+    Ok(None)
 }
 
 /// The text about a first word that is none, with the one that may have been meant.
 fn no_word(alloc: Global, name: &str) -> Result<String, AllocError> {
-    if levenshtein(alloc, name, "waits")? <= 2 {
-        return format!(in alloc;
-            "error: there is no word '{name}'; did you mean 'waits'?\n{WORDS}"
-        );
+    match meant(alloc, name)? {
+        Some(word) => format!(in alloc;
+            "error: there is no word '{name}'; did you mean '{word}'?\n{WORDS}"
+        ),
+        None => format!(in alloc; "error: there is no word '{name}'\n{WORDS}"),
     }
-    format!(in alloc; "error: there is no word '{name}'\n{WORDS}")
 }
 
 /// What a first word tells, where it is none that asks for something.

@@ -38,6 +38,15 @@ fn progress_argument<'a>(alloc: Global) -> Arg<'a> {
         .help("Tell once a second how far the trace was read")
 }
 
+/// `--whole`.
+pub(crate) fn whole_argument<'a>(alloc: Global) -> Arg<'a> {
+    Arg::new(alloc, "whole")
+        .long("whole")
+        .action(ArgAction::SetTrue)
+        .value_parser(clap::value_parser!(bool))
+        .help("Fold no blocks of lines that repeat")
+}
+
 /// `--help`. `clap` would add `-h` beside it, but that is an option of the language.
 fn help_argument<'a>(alloc: Global) -> Arg<'a> {
     Arg::new(alloc, "help")

@@ -8,6 +8,7 @@ Usage: snl [+X|-X].. WORD [OPTIONS] ..
 
 Words:
   waits  When a program begins over a trace, or what it still waits for
+  run    A run with notes on what fired and why, blocks that repeat folded, and a summary
 
 snl WORD --help tells what a word takes, with an example, and snl --version the version.
 
@@ -24,6 +25,7 @@ Usage: snl [+X|-X].. WORD [OPTIONS] ..
 
 Words:
   waits  When a program begins over a trace, or what it still waits for
+  run    A run with notes on what fired and why, blocks that repeat folded, and a summary
 
 For more information, try 'snl --help'.
 ";
@@ -43,3 +45,21 @@ Example: snl waits light.st < light.trace
 
 Status: 0 the program began, 1 it did not, or it has errors, 2 the words of the call are wrong,
 3 the file, the input or the output failed, 4 memory ran out, 6 a line of the trace is bad.";
+
+/// What `snl run --help` tells.
+pub(crate) const RUN_USAGE: &str =
+    "snl run [±X..] [--whole] [--budget N] [--progress] FILE [MACROS] < TRACE";
+
+pub(crate) const RUN_ABOUT: &str = "\
+The lines that snlrun writes, with notes between them: which clause fired and what its condition saw,
+which put was refused and why. A block of lines that repeats is written once. A summary ends it.";
+
+pub(crate) const RUN_MORE: &str = "\
+The trace is read from standard input. A line that begins with # is a note; with --whole, all others are the
+lines of snlrun, byte for byte.
+
+Example: snl run light.st < light.trace
+
+Status: 0 the trace or the program ended, 1 the program has errors, 2 the words of the call are wrong,
+3 the file, the input or the output failed, 4 memory ran out, 5 the program faulted,
+6 a line of the trace is bad.";

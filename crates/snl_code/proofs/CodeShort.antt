@@ -1,19 +1,25 @@
 -- The code of a program is no longer than its size.
-use Rattle.std.proofs.Common.{◌≡◌, ◌≤◌, ◌<◌, ◌+◌, ℕ, suc, Bool, true, false, List, [], ◌∷◌, ◌++◌, Option, None, Some, refl, sym, subst, arith, ap, length, length-append, slice_get}
+use Rattle.std.proofs.Common.{◌≡◌, ◌≤◌, ◌<◌, ◌+◌, ℕ, suc, Bool, true, false, List, [], ◌∷◌, ◌++◌, Option, None, Some, refl, sym, subst, arith, ap, length, length-append, map, slice_get}
 use Rattle.std.proofs.lemmas.List.Sums.{sum_by-cons}
 use Rattle.std.proofs.lemmas.Option.{slice_get_within}
 use Rattle.std.specs.Prelude.{sum_by}
+use Rattle.std.specs.List.{flat_map}
+use Rattle.snl_text.specs.declared.tokens.Token.{Token}
+use Rattle.snl_syntax.specs.Definitions.{DefinitionTree, declaration, assign, monitor, sync, sync_queue, event_flags, setting, function}
 use Rattle.snl_syntax.specs.Programs.{ClauseTree, StateTree, StateSetTree, ProgramTree}
 use Rattle.snl_resolve.specs.Programs.{sites}
+use Rattle.snl_resolve.specs.Variables.{function_by}
+use Rattle.snl_meaning.specs.Functions.{here_below}
 use Rattle.snl_meaning.specs.declared.instrs.Instr.{Instr}
 use Rattle.snl_meaning.specs.Names.{Here}
 use Rattle.snl_emit.specs.BlockCode.{condition_piece, block_piece}
+use Rattle.snl_emit.specs.FunctionCode.{function_code, functions_code}
 use Rattle.snl_emit.specs.Size.{maybe_size, expression_size, block_size}
-use Rattle.snl_emit.proofs.BlockSizes.{condition-piece-short, block-piece-short}
-use Rattle.snl_code.specs.Heres.{here_in}
-use Rattle.snl_code.specs.Layout.{row_code, maybe_code, clause_code, state_code, code_if, kept_code, set_code, program_code}
+use Rattle.snl_emit.proofs.BlockSizes.{condition-piece-short, block-piece-short, function-short}
+use Rattle.snl_code.specs.Heres.{here_in, routine_of}
+use Rattle.snl_code.specs.Layout.{row_code, maybe_code, clause_code, state_code, code_if, kept_code, set_code, routines_code, program_code}
 use Rattle.snl_code.specs.Reached.{Table}
-use Rattle.snl_code.specs.Size.{clause_size, kept_size, row_size, state_size, set_size, program_size}
+use Rattle.snl_code.specs.Size.{definition_size, clause_size, kept_size, row_size, state_size, set_size, program_size}
 
 -- a row whose members have sizes that do not depend on their numbers
 all-short : {A : Type 0} (code : ℕ → A → List Instr) (size : A → ℕ) → ((k : ℕ) (a : A) → length (code k a) ≤ size a) → (k : ℕ) (all : List A) →
@@ -75,6 +81,23 @@ module _ (h : Here) where
   if-short true k s = state-short k s
   if-short false k s = omega arith
 
+-- the functions among definitions
+functions-short : (p : ProgramTree) (ds : List DefinitionTree) (above : List Token) →
+    length (functions_code above (map (routine_of p) (flat_map function_by ds))) ≤ sum_by (definition_size (sites p)) ds
+functions-short p [] above = omega arith
+functions-short p (function f ∷ ds) above =
+    let rest = functions_code (above ++ f.name ∷ []) (map (routine_of p) (flat_map function_by ds)) in
+    let own = function-short (here_below above (routine_of p f)) f.body in
+    let more = functions-short p ds (above ++ f.name ∷ []) in
+    omega (arith, length-append (function_code above (routine_of p f)) rest, own, more, sum_by-cons (definition_size (sites p)) (function f) ds)
+functions-short p (declaration d ∷ ds) above = let more = functions-short p ds above in omega (arith, more, sum_by-cons (definition_size (sites p)) (declaration d) ds)
+functions-short p (assign a ∷ ds) above = let more = functions-short p ds above in omega (arith, more, sum_by-cons (definition_size (sites p)) (assign a) ds)
+functions-short p (monitor q ∷ ds) above = let more = functions-short p ds above in omega (arith, more, sum_by-cons (definition_size (sites p)) (monitor q) ds)
+functions-short p (sync y ∷ ds) above = let more = functions-short p ds above in omega (arith, more, sum_by-cons (definition_size (sites p)) (sync y) ds)
+functions-short p (sync_queue q ∷ ds) above = let more = functions-short p ds above in omega (arith, more, sum_by-cons (definition_size (sites p)) (sync_queue q) ds)
+functions-short p (event_flags names ∷ ds) above = let more = functions-short p ds above in omega (arith, more, sum_by-cons (definition_size (sites p)) (event_flags names) ds)
+functions-short p (setting o ∷ ds) above = let more = functions-short p ds above in omega (arith, more, sum_by-cons (definition_size (sites p)) (setting o) ds)
+
 module _ (p : ProgramTree) (reached : Table) where
   -- a state set
   set-short : (n : ℕ) (g : StateSetTree) → length (set_code reached p n g) ≤ set_size (sites p) (reached n) g
@@ -91,8 +114,10 @@ module _ (p : ProgramTree) (reached : Table) where
       omega (
         arith,
         ap length is,
+        length-append (routines_code p) (entry ++ (sets ++ exit)),
         length-append entry (sets ++ exit),
         length-append sets exit,
+        functions-short p p.definitions [],
         maybe-short (block_piece h) (block_size (sites p)) (block-piece-short h) p.entry,
         row-short (set_code reached p) (λ k g. set_size (sites p) (reached k) g) set-short 0 p.state_sets,
         maybe-short (block_piece h) (block_size (sites p)) (block-piece-short h) p.exit,

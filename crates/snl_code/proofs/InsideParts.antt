@@ -1,29 +1,33 @@
 -- Lists of instructions that lie inside, and what the names in them mean.
-use Rattle.std.proofs.Common.{◌≡◌, ◌∙◌, ◌+◌, ◌<◌, ◌≤◌, refl, sym, ap, subst, arith, ℕ, zero, suc, Bool, true, false, List, [], ◌∷◌, ◌++◌, Option, None, Some, length, length-append, append_assoc, slice_get, if◌then◌else◌, true≢false, eq-eqb}
-use Rattle.std.specs.Prelude.{◌==◌, bytes_eq}
+use Rattle.std.proofs.Common.{◌≡◌, ◌∙◌, ◌+◌, ◌<◌, ◌≤◌, ◌⊎◌, inl, inr, refl, sym, ap, subst, arith, ℕ, zero, suc, ℤ, Bool, true, false, List, [], ◌∷◌, ◌++◌, Option, None, Some, length, length-append, append_assoc, slice_get, if◌then◌else◌, true≢false, eq-eqb}
+use Rattle.std.specs.Prelude.{◌-◌, ◌^◌, ◌==◌, bytes_eq}
+use Rattle.std.proofs.lemmas.List.{length-map}
 use Rattle.std.specs.List.{flat_map}
 use Rattle.std.proofs.lemmas.Slice.Eq.{bytes_eq-Decides}
 use Rattle.snl_text.specs.declared.tokens.Pos.{Pos}
 use Rattle.snl_text.specs.declared.tokens.Token.{Token}
+use Rattle.snl_syntax.specs.Functions.{FunctionTree}
 use Rattle.snl_syntax.specs.Programs.{ProgramTree}
 use Rattle.snl_resolve.specs.declared.sites.Site.{Site}
 use Rattle.snl_resolve.specs.declared.sites.Site.TheVariants.{Format}
 use Rattle.snl_resolve.specs.Constants.{predefined}
 use Rattle.snl_resolve.specs.Numbered.{number_from, number_of}
-use Rattle.snl_resolve.specs.Programs.{sites}
+use Rattle.snl_resolve.specs.Programs.{program_scopes, sites}
 use Rattle.snl_resolve.specs.Scopes.{is_spelled}
 use Rattle.snl_resolve.specs.Uses.{declared_in}
-use Rattle.snl_resolve.specs.Variables.{variables_of}
+use Rattle.snl_resolve.specs.Variables.{Held, by_definitions, by_numbered, for_first, functions_of, shared_variables, variables_of}
 use Rattle.snl_meaning.specs.declared.instrs.Instr.{Instr}
-use Rattle.snl_meaning.specs.declared.instrs.Instr.TheVariants.{Jump, JumpIfZero, Tick, Leave, End}
+use Rattle.snl_meaning.specs.declared.instrs.Instr.TheVariants.{Jump, JumpIfZero, Tick, Return, Leave, End}
 use Rattle.snl_meaning.specs.declared.instrs.Variable.{Variable}
 use Rattle.snl_meaning.specs.declared.names.Placed.{Placed}
 use Rattle.snl_meaning.specs.declared.names.Sense.{Sense}
 use Rattle.snl_meaning.specs.declared.names.Sense.TheVariants.{Varies, Stands}
-use Rattle.snl_meaning.specs.Names.{Here, variable_in, variable_at, variable_by, sense_by, sense_of, number_at, or_first, format_at, text_number}
-use Rattle.snl_meaning.proofs.Apart.{variables_lie_within}
-use Rattle.snl_code.specs.Heres.{here_in}
-use Rattle.snl_code.specs.Inside.{LeadsInside, IsVariableOf}
+use Rattle.snl_meaning.specs.Functions.{Routine}
+use Rattle.snl_meaning.specs.Laws.{words_of}
+use Rattle.snl_meaning.specs.Names.{Here, Within, Piece, Body, placed_from, placed_shared, behind, variable_from, shared_from, function_number, state_number, variable_in, variable_at, variable_by, sense_by, sense_of, number_at, or_first, format_at, text_number}
+use Rattle.snl_meaning.proofs.Apart.{shared_lie_within, variables_lie_within}
+use Rattle.snl_code.specs.Heres.{body_of, function_names, function_places, here_in, placed_in, routine_of, routines_in, shared_in, states_by}
+use Rattle.snl_code.specs.Inside.{LeadsInside, IsVariableOf, held_by, placed_by}
 
 -- ---- lists of instructions
 
@@ -32,6 +36,7 @@ abbrev pub Leads : (before after : ℕ) → Instr → Type 0
 Leads before after (Jump n) = n < after
 Leads before after (JumpIfZero n) = n < after
 Leads before after (Tick line back) = back ≤ before
+Leads before after Return = Unit {0}
 Leads before after (Leave state) = Unit {0}
 Leads before after End = Unit {0}
 Leads before after _ = 0 < after
@@ -53,6 +58,11 @@ fits-append N b a (i ∷ x) y f g =
 pub fits-map : (N M : Instr → Type 0) (b a : ℕ) (x : List Instr) → ((i : Instr) → N i → M i) → Fits N b a x → Fits M b a x
 fits-map N M b a [] go f = tt
 fits-map N M b a (i ∷ x) go f = (f.0, go i f.1, fits-map N M (suc b) a x go f.2)
+
+-- what is known of each on every copy is known on all
+pub fits-all : (N : ℕ → Instr → Type 0) (b a : ℕ) (x : List Instr) → ((set : ℕ) → Fits (N set) b a x) → Fits (λ i. (set : ℕ) → N set i) b a x
+fits-all N b a [] f = tt
+fits-all N b a (i ∷ x) f = ((f 0).0, (λ set. (f set).1), fits-all N (suc b) a x (λ set. (f set).2))
 
 -- what is known of one of them
 pub record IsFitting (N : Instr → Type 0) (before after at : ℕ) (code : List Instr) (i : Instr) : Type 0 where
@@ -88,6 +98,7 @@ pub leads-inside : (size at before after : ℕ) (i : Instr) → before ≡ at �
 leads-inside size at before after (Jump n) front long leads = omega (arith, long, leads)
 leads-inside size at before after (JumpIfZero n) front long leads = omega (arith, long, leads)
 leads-inside size at before after (Tick line back) front long leads = omega (arith, front, leads)
+leads-inside size at before after Return front long leads = tt
 leads-inside size at before after (Leave state) front long leads = tt
 leads-inside size at before after End front long leads = tt
 leads-inside size at before after _ front long leads = omega (arith, long, leads)
@@ -95,7 +106,7 @@ leads-inside size at before after _ front long leads = omega (arith, long, leads
 -- ---- names
 
 -- a variable that is found by its offset is one of those
-found : (vs : List Placed) (offset : ℕ) (v : Variable) → variable_in vs offset ≡ Some v → (i : ℕ) × (x : Placed) × (slice_get vs i ≡ Some x) × (x.variable ≡ v)
+pub found : (vs : List Placed) (offset : ℕ) (v : Variable) → variable_in vs offset ≡ Some v → (i : ℕ) × (x : Placed) × (slice_get vs i ≡ Some x) × (x.variable ≡ v)
 found [] offset v is = absurd (cc)
 found (y ∷ ys) offset v is = by (y.offset == offset) is (found ys offset v)
   where
@@ -104,6 +115,38 @@ found (y ∷ ys) offset v is = by (y.offset == offset) is (found ys offset v)
         (i : ℕ) × (x : Placed) × (slice_get (y ∷ ys) i ≡ Some x) × (x.variable ≡ v)
     by true this others = (0, y, refl, let same : y.variable ≡ v = cc in same)
     by false this others = let there = others this in (suc there.0, there.1, there.2, there.3)
+
+-- a body is not a piece
+pub no-piece : (least greatest : ℤ) → Body least greatest ≡ Piece → ⊥
+no-piece least greatest is = cc
+
+-- no variable of a copy is one of functions
+own-variable : (at : ℕ) (vs : List Held) (i : ℕ) (x : Placed) → slice_get (placed_from at vs) i ≡ Some x → x.variable.is_shared ≡ false
+own-variable at [] i x is = absurd (cc)
+own-variable at (v ∷ vs) zero x is =
+    let one : record { offset = v.name.pos.offset; variable = variable_from at v } ≡ x = cc in
+    sym (ap (λ (y : Placed). y.variable.is_shared) one)
+own-variable at (v ∷ vs) (suc i) x is = own-variable (behind at v) vs i x is
+
+-- each of those is
+shared-variable : (at : ℕ) (vs : List Held) (i : ℕ) (x : Placed) → slice_get (placed_shared at vs) i ≡ Some x → x.variable.is_shared ≡ true
+shared-variable at [] i x is = absurd (cc)
+shared-variable at (v ∷ vs) zero x is =
+    let one : record { offset = v.name.pos.offset; variable = shared_from at v } ≡ x = cc in
+    sym (ap (λ (y : Placed). y.variable.is_shared) one)
+shared-variable at (v ∷ vs) (suc i) x is = shared-variable (behind at v) vs i x is
+
+-- where more variables follow, the first ones stand where they stood
+placed-front : (at : ℕ) (vs ws : List Held) (i : ℕ) (x : Placed) → slice_get (placed_from at vs) i ≡ Some x → slice_get (placed_from at (vs ++ ws)) i ≡ Some x
+placed-front at [] ws i x is = absurd (cc)
+placed-front at (v ∷ vs) ws zero x is = is
+placed-front at (v ∷ vs) ws (suc i) x is = placed-front (behind at v) vs ws i x is
+
+-- a member of two lists, one after the other, is one of the first or one of the second
+one-of : {A : Type 0} (x y : List A) (i : ℕ) (a : A) → slice_get (x ++ y) i ≡ Some a → (slice_get x i ≡ Some a) ⊎ ((k : ℕ) × (slice_get y k ≡ Some a))
+one-of [] y i a is = inr (i, is)
+one-of (b ∷ x) y zero a is = inl is
+one-of (b ∷ x) y (suc i) a is = one-of x y i a is
 
 -- the number of an event flag that is one of some
 pub flag-below : (ds : List ℕ) (k offset : ℕ) → slice_get ds k ≡ Some offset → number_at ds offset < length ds
@@ -120,7 +163,7 @@ flag-below (d ∷ ds) (suc k) offset is = by (d == offset) (flag-below ds k offs
     by false below = omega (arith, below)
 
 -- the number of a name among some
-named-below : (k : ℕ) (ts : List Token) (name : List ℕ) (n : ℕ) → number_from k ts name ≡ Some n → n < k + length ts
+pub named-below : (k : ℕ) (ts : List Token) (name : List ℕ) (n : ℕ) → number_from k ts name ≡ Some n → n < k + length ts
 named-below k [] name n is = absurd (cc)
 named-below k (t ∷ ts) name n is = by (is_spelled name t) is (named-below (suc k) ts name n)
   where
@@ -201,40 +244,124 @@ module _ (p : ProgramTree) where
   in-all = in-rest [] (sites p) refl
 
   module _ (set : ℕ) where
-    -- what is known on the copy
-    abbrev pub h : Here
-    h = here_in p set
-
-    -- a variable that is found by its offset
-    pub known : (offset : ℕ) (v : Variable) → variable_at h offset ≡ Some v → IsVariableOf p set v
-    known offset v is =
-        let there = found h.variables offset v is in
-        let one : there.1.variable ≡ v = there.3 in
+    -- a variable of the copy
+    pub in-copy : (i : ℕ) (x : Placed) (v : Variable) → slice_get (placed_in p set) i ≡ Some x → x.variable ≡ v → IsVariableOf p set v
+    in-copy i x v is one =
+        let own : false ≡ v.is_shared = sym (own-variable 0 (variables_of p set) i x is) ∙ ap (λ (u : Variable). u.is_shared) one in
         record {
-          number = there.0;
-          placed = there.1;
-          is = there.2;
+          number = i;
+          placed = x;
+          is = subst (λ (b : Bool). slice_get (placed_by p set b) i ≡ Some x) own is;
           variable = one;
-          within = λ few.
-              let lies = variables_lie_within (variables_of p set) there.0 there.1 few there.2 in
-              let place : there.1.variable.place ≡ v.place = ap (λ (u : Variable). u.place) one in
-              let size : there.1.variable.size ≡ v.size = ap (λ (u : Variable). u.size) one in
-              omega (arith, lies, place, size);
+          within = subst (λ (b : Bool). words_of (held_by p set b) ≤ 2 ^ 64 - 1 → v.place + v.size ≤ words_of (held_by p set b)) own (λ few.
+              let lies = variables_lie_within (variables_of p set) i x few is in
+              let place : x.variable.place ≡ v.place = ap (λ (u : Variable). u.place) one in
+              let size : x.variable.size ≡ v.size = ap (λ (u : Variable). u.size) one in
+              omega (arith, lies, place, size));
         }
 
-    -- where a name means a variable, that is one of the copy
+    -- a variable of functions
+    pub in-functions : (i : ℕ) (x : Placed) (v : Variable) → slice_get (shared_in p) i ≡ Some x → x.variable ≡ v → IsVariableOf p set v
+    in-functions i x v is one =
+        let theirs : true ≡ v.is_shared = sym (shared-variable 0 (shared_variables p) i x is) ∙ ap (λ (u : Variable). u.is_shared) one in
+        record {
+          number = i;
+          placed = x;
+          is = subst (λ (b : Bool). slice_get (placed_by p set b) i ≡ Some x) theirs is;
+          variable = one;
+          within = subst (λ (b : Bool). words_of (held_by p set b) ≤ 2 ^ 64 - 1 → v.place + v.size ≤ words_of (held_by p set b)) theirs (λ few.
+              let lies = (shared_lie_within (shared_variables p) i x few is).1 in
+              let place : x.variable.place ≡ v.place = ap (λ (u : Variable). u.place) one in
+              let size : x.variable.size ≡ v.size = ap (λ (u : Variable). u.size) one in
+              omega (arith, lies, place, size));
+        }
+
+    -- a variable that a piece names
+    pub known-in-piece : (offset : ℕ) (v : Variable) → variable_in (placed_in p set) offset ≡ Some v → IsVariableOf p set v
+    known-in-piece offset v is = let there = found (placed_in p set) offset v is in in-copy there.0 there.1 v there.2 there.3
+
+    -- a variable that a function names
+    pub known-in-function : (offset : ℕ) (v : Variable) → variable_in (function_places p) offset ≡ Some v → IsVariableOf p set v
+    known-in-function offset v is = by (one-of (placed_from 0 own) (shared_in p) there.0 there.1 there.2)
+      where
+        own : List Held
+        own = by_definitions [] p.definitions
+
+        there : (i : ℕ) × (x : Placed) × (slice_get (function_places p) i ≡ Some x) × (x.variable ≡ v)
+        there = found (function_places p) offset v is
+
+        by : (slice_get (placed_from 0 own) there.0 ≡ Some there.1) ⊎ ((k : ℕ) × (slice_get (shared_in p) k ≡ Some there.1)) → IsVariableOf p set v
+        by (inl front) =
+            let first = for_first set (program_scopes p) p.entry in
+            let numbered = by_numbered (program_scopes p) (slice_get p.state_sets set) in
+            let last = for_first set (program_scopes p) p.exit in
+            in-copy there.0 there.1 v
+            (placed-front 0 (own ++ first ++ numbered) last there.0 there.1
+            (placed-front 0 (own ++ first) numbered there.0 there.1 (placed-front 0 own first there.0 there.1 front))) there.3
+        by (inr back) = in-functions back.0 there.1 v back.1 there.3
+
+    -- What is known where code stands that runs on the copy: what it names is there.
+    pub record Standing : Type 0 where
+      pub states : List Token
+      pub variables : List Placed
+      pub within : Within
+      pub functions : List Token
+      pub known : (offset : ℕ) (v : Variable) → variable_in variables offset ≡ Some v → IsVariableOf p set v
+      pub led : within ≡ Piece → states ≡ states_by (slice_get p.state_sets set)
+      pub fewer : length functions ≤ length (functions_of p)
+
+    -- as the definitions have it
+    abbrev pub h : Standing → Here
+    h stand = record { states = stand.states; sites = sites p; variables = stand.variables; within = stand.within; functions = stand.functions }
+
+    -- where a piece stands
+    abbrev pub at-piece : Standing
+    at-piece = record {
+      states = states_by (slice_get p.state_sets set);
+      variables = placed_in p set;
+      within = Piece;
+      functions = function_names p;
+      known = known-in-piece;
+      led = λ is. refl;
+      fewer = let names = length-map (routines_in p) (λ (r : Routine). r.name) in let all = length-map (functions_of p) (routine_of p) in omega (arith, names, all);
+    }
+
+    -- where a function stands, below functions of these names
+    abbrev pub at-function : (above : List Token) → length above ≤ length (functions_of p) → FunctionTree → Standing
+    at-function above few f = record {
+      states = [];
+      variables = function_places p;
+      within = body_of f.type_name;
+      functions = above;
+      known = known-in-function;
+      led = λ is. absurd (no-piece _ _ is);
+      fewer = few;
+    }
+
+    -- where a name means a variable, that is one that may be named
     abbrev pub Knows : Sense → Type 0
     Knows (Varies v) = IsVariableOf p set v
     Knows (Stands z) = Unit {0}
 
     -- the meaning of a name
-    pub sense-knows : (x : Token) → Knows (sense_of h x)
-    sense-knows x = by (declared_in x.pos.offset h.sites)
+    pub sense-knows : (stand : Standing) (x : Token) → Knows (sense_of (h stand) x)
+    sense-knows stand x = by (declared_in x.pos.offset (sites p))
       where
-        found-by : (q : Pos) (o : Option Variable) → variable_at h q.offset ≡ o → Knows (sense_by o (predefined x.text.now))
+        found-by : (q : Pos) (o : Option Variable) → variable_at (h stand) q.offset ≡ o → Knows (sense_by o (predefined x.text.now))
         found-by q None is = tt
-        found-by q (Some v) is = known q.offset v is
+        found-by q (Some v) is = stand.known q.offset v is
 
-        by : (d : Option Pos) → Knows (sense_by (variable_by h d) (predefined x.text.now))
+        by : (d : Option Pos) → Knows (sense_by (variable_by (h stand) d) (predefined x.text.now))
         by None = tt
-        by (Some q) = found-by q (variable_at h q.offset) refl
+        by (Some q) = found-by q (variable_at (h stand) q.offset) refl
+
+    -- the number of a function that is called
+    pub function-below : (stand : Standing) (f : Token) (n : ℕ) → function_number (h stand) f ≡ Some n → n < length (functions_of p)
+    function-below stand f n is = let below = named-below 0 stand.functions f.text.now n is in let few = stand.fewer in omega (arith, below, few)
+
+    -- the number of a state that a piece leads to
+    pub led-below : (stand : Standing) (x : Token) → stand.within ≡ Piece → 0 < length (here_in p set).states → state_number (h stand) x < length (here_in p set).states
+    led-below stand x is some =
+        let same = stand.led is in
+        subst (λ (ts : List Token). or_first (number_of stand.states x.text.now) < length ts) same
+        (state-below stand.states x.text.now (subst (λ (ts : List Token). 0 < length ts) (sym same) some))

@@ -26,23 +26,10 @@ use Rattle.snl_code.specs.Pieces.{PieceTree, Test, Action, state_at, clause_at, 
 use Rattle.snl_code.specs.Reached.{Table}
 use Rattle.snl_code.specs.Starts.{holds_in, start_in}
 use Rattle.snl_code.proofs.Inside.{Whole, whole-condition, whole-block}
+use Rattle.snl_code.proofs.InsideLists.{get-after, get-before}
 use Rattle.snl_code.proofs.InsideParts.{fits-at, AllIn, in-front, in-back, in-all}
 use Rattle.snl_code.proofs.InsideWords.{Named}
 use Rattle.snl_code.proofs.Placed.{get-behind, piece_code, Stands, all-stand}
-
--- ---- lists
-
--- what stands behind others
-get-after : (before x : List Instr) (k : ℕ) → slice_get (before ++ x) (length before + k) ≡ slice_get x k
-get-after [] x k = ap (slice_get x) (let e : 0 + k ≡ k = omega arith in e)
-get-after (b ∷ before) x k =
-    ap (slice_get (b ∷ (before ++ x))) (let e : suc (length before) + k ≡ suc (length before + k) = omega arith in e) ∙ get-after before x k
-
--- what stands before others
-get-before : (x after : List Instr) (k : ℕ) → k < length x → slice_get (x ++ after) k ≡ slice_get x k
-get-before [] after k less = absurd (omega (arith, less))
-get-before (i ∷ x) after zero less = refl
-get-before (i ∷ x) after (suc k) less = get-before x after k (omega (arith, less))
 
 module _ (p : ProgramTree) where
   -- ---- the sites of a piece

@@ -24,6 +24,8 @@ use Rattle.snl_resolve.specs.Calls.{is_name, fits, is_fitting, is_known}
 use Rattle.snl_resolve.specs.Purposes.{inner, in_parentheses, target, argument_of, argument, is_ignored, at_call, at_change}
 use Rattle.snl_resolve.specs.Programs.{sites}
 use Rattle.snl_resolve.specs.Scopes.{meaning}
+use Rattle.snl_resolve.specs.Uses.{declared_in}
+use Rattle.snl_resolve.specs.Variables.{functions_of}
 use Rattle.snl_resolve.specs.Sights.{Sight}
 use Rattle.snl_resolve.specs.Sites.{in_expression}
 use Rattle.snl_meaning.specs.declared.instrs.Instr.{Instr}
@@ -35,11 +37,11 @@ use Rattle.snl_meaning.specs.declared.operators.Joint.{Joint}
 use Rattle.snl_meaning.specs.declared.operators.Joint.TheVariants.{And, Or, Sequel, Operation}
 use Rattle.snl_meaning.specs.declared.operators.Sign.{Sign}
 use Rattle.snl_meaning.specs.declared.operators.Sign.TheVariants.{Steps, Alone}
-use Rattle.snl_meaning.specs.Names.{number_by, flags_of, flag_number}
+use Rattle.snl_meaning.specs.Names.{number_by, flags_of}
 use Rattle.snl_emit.specs.Worth.{worth_or}
-use Rattle.snl_emit.specs.ExpressionCode.{folded, joint_code, if_code, name_code, at_code, put_at_code, renewed_code, put_code, CodeOn, at_name_code, signed_code, called_code, ask_flag_code}
+use Rattle.snl_emit.specs.ExpressionCode.{folded, joint_code, if_code, name_code, at_code, put_at_code, renewed_code, put_code, CodeOn, at_name_code, signed_code, called_code, routine_code, ask_flag_code}
 use Rattle.snl_code.specs.Inside.{IsVariableOf, FlagsAreDeclared, NamesInside}
-use Rattle.snl_code.proofs.InsideParts.{Leads, Fits, fits-append, flag-below, IsSite, AllIn, h, Knows}
+use Rattle.snl_code.proofs.InsideParts.{Leads, Fits, fits-append, flag-below, IsSite, AllIn, Standing, h, Knows}
 
 module _ (p : ProgramTree) (set : ℕ) where
   -- what is known of the names of an instruction
@@ -173,14 +175,20 @@ module _ (p : ProgramTree) (set : ℕ) where
   any-signed (Steps op) stepping operand line f g = f op
   any-signed (Alone op) stepping operand line f g = any-append operand (instr.ApplyPrefix op line ∷ []) g (any-one (instr.ApplyPrefix op line) (λ b a some. some) tt)
 
+  -- a call of a function
+  pub any-routine : (o : Option ℕ) (values : List Instr) (count line : ℕ) → ((n : ℕ) → o ≡ Some n → n < length (functions_of p)) → Anywhere values →
+      Anywhere (routine_code o values count line)
+  any-routine None values count line below f = any-push (pos 0)
+  any-routine (Some n) values count line below f = any-append values (instr.Call n count line ∷ []) f (any-one (instr.Call n count line) (λ b a some. some) (below n refl))
+
   -- a call
-  pub any-called : (o : Option Builtin) (print wait put : List Instr) (ask : Query → List Instr) → Anywhere print → Anywhere wait → Anywhere put →
-      ((q : Query) → o ≡ Some (Ask q) → Anywhere (ask q)) → Anywhere (called_code o print wait put ask)
-  any-called None print wait put ask f g k l = any-push (pos 0)
-  any-called (Some Delay) print wait put ask f g k l = g
-  any-called (Some Printf) print wait put ask f g k l = f
-  any-called (Some PvPut) print wait put ask f g k l = k
-  any-called (Some (Ask query)) print wait put ask f g k l = l query refl
+  pub any-called : (o : Option Builtin) (print wait put : List Instr) (ask : Query → List Instr) (routine : List Instr) → Anywhere print → Anywhere wait → Anywhere put →
+      ((q : Query) → o ≡ Some (Ask q) → Anywhere (ask q)) → Anywhere routine → Anywhere (called_code o print wait put ask routine)
+  any-called None print wait put ask routine f g k l r = r
+  any-called (Some Delay) print wait put ask routine f g k l r = g
+  any-called (Some Printf) print wait put ask routine f g k l r = f
+  any-called (Some PvPut) print wait put ask routine f g k l r = k
+  any-called (Some (Ask query)) print wait put ask routine f g k l r = l query refl
 
   -- ---- event flags
 
@@ -261,7 +269,7 @@ module _ (p : ProgramTree) (set : ℕ) where
 
   -- an expression is the name of an event flag, alone
   abbrev IsFlag : ExprTree → Type 0
-  IsFlag (named x) = flag_number (h p set) x < length (flags_of (sites p))
+  IsFlag (named x) = number_by (flags_of (sites p)) (declared_in x.pos.offset (sites p)) < length (flags_of (sites p))
   IsFlag _ = ⊥
 
   -- the number of a name that is used as an event flag
@@ -290,17 +298,17 @@ module _ (p : ProgramTree) (set : ℕ) where
   flag-argument (assignment e op r) w s u all good is name = absurd (true≢false (sym name))
 
   -- what is asked by it
-  pub any-ask_flag : (e : ExprTree) (query : Query) → (FlagsAreDeclared p → form_of (Ask query) ≡ FlagName → IsFlag e) → Anywhere (ask_flag_code (h p set) e query ∷ [])
-  any-ask_flag (parenthesized e) query flag = any-ask_flag e query (λ good form. absurd (flag good form))
-  any-ask_flag (named x) query flag = any-flag query _ flag
-  any-ask_flag (constant t) query flag = any-push (pos 0)
-  any-ask_flag (element x b e) query flag = any-push (pos 0)
-  any-ask_flag (call f all) query flag = any-push (pos 0)
-  any-ask_flag (postfix e op) query flag = any-push (pos 0)
-  any-ask_flag (prefix op e) query flag = any-push (pos 0)
-  any-ask_flag (chain e rest) query flag = any-push (pos 0)
-  any-ask_flag (conditional c a b) query flag = any-push (pos 0)
-  any-ask_flag (assignment e op r) query flag = any-push (pos 0)
+  pub any-ask_flag : (stand : Standing p set) (e : ExprTree) (query : Query) → (FlagsAreDeclared p → form_of (Ask query) ≡ FlagName → IsFlag e) → Anywhere (ask_flag_code (h p set stand) e query ∷ [])
+  any-ask_flag stand (parenthesized e) query flag = any-ask_flag stand e query (λ good form. absurd (flag good form))
+  any-ask_flag stand (named x) query flag = any-flag query _ flag
+  any-ask_flag stand (constant t) query flag = any-push (pos 0)
+  any-ask_flag stand (element x b e) query flag = any-push (pos 0)
+  any-ask_flag stand (call f all) query flag = any-push (pos 0)
+  any-ask_flag stand (postfix e op) query flag = any-push (pos 0)
+  any-ask_flag stand (prefix op e) query flag = any-push (pos 0)
+  any-ask_flag stand (chain e rest) query flag = any-push (pos 0)
+  any-ask_flag stand (conditional c a b) query flag = any-push (pos 0)
+  any-ask_flag stand (assignment e op r) query flag = any-push (pos 0)
 
   -- the sites of what stands behind a sign
   pub prefix-sites : (b : Bool) (w : Bool) (s : Sight) (u : Purpose) (e : ExprTree) (op : Token) →

@@ -2,7 +2,10 @@ pub mod Marked
 pub mod Placed
 pub mod Apart
 pub mod DepthLaws
+pub mod DepthAlike
+pub mod FunctionRows
 pub mod Deepest
+pub mod InsideLists
 pub mod InsideParts
 pub mod InsideWords
 pub mod InsideValues

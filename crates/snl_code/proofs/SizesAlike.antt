@@ -1,8 +1,8 @@
 -- Tables that tell which states of a program are reached give it the same size.
-use Rattle.std.proofs.Common.{◌≡◌, ◌+◌, ◌<◌, ◌↔◌, ℕ, zero, suc, Bool, true, false, List, [], ◌∷◌, Some, refl, ap, subst, arith, length, slice_get}
+use Rattle.std.proofs.Common.{◌≡◌, ◌+◌, ◌<◌, ◌↔◌, ℕ, suc, Bool, true, false, List, [], ◌∷◌, Some, refl, ap, subst, arith, length, slice_get}
 use Rattle.std.proofs.lemmas.Bool.{false≢true}
 use Rattle.std.proofs.lemmas.Option.{slice_get_within}
-use Rattle.snl_syntax.specs.Programs.{StateTree, StateSetTree, ProgramTree}
+use Rattle.snl_syntax.specs.Programs.{StateSetTree, ProgramTree}
 use Rattle.snl_resolve.specs.Programs.{sites}
 use Rattle.snl_rules.specs.Reach.{IsReached}
 use Rattle.snl_code.specs.Reached.{Table, TellsReached}

@@ -47,9 +47,12 @@ state_depth fs s = max (max (greatest (definition_depth fs) s.definitions) (grea
 abbrev pub set_depth : List Outline → StateSetTree → ℕ
 set_depth fs g = max (greatest (definition_depth fs) g.definitions) (greatest (state_depth fs) g.states)
 
--- Of a program.
-abbrev pub program_depth : ProgramTree → ℕ
-program_depth p =
-    let fs = outlines_in p in
+-- Of a program, where these functions may be called.
+abbrev pub depth_with : List Outline → ProgramTree → ℕ
+depth_with fs p =
     max (max (greatest (definition_depth fs) p.definitions) (greatest (set_depth fs) p.state_sets))
     (max (depth_if_there (block_depth fs) p.entry) (depth_if_there (block_depth fs) p.exit))
+
+-- Of a program: its own functions.
+abbrev pub program_depth : ProgramTree → ℕ
+program_depth p = depth_with (outlines_in p) p

@@ -1,10 +1,11 @@
--- The code of a program: that of its pieces in the order of the source, and where each of them begins.
+-- The code of a program: that of its functions, and then that of its pieces in the order of the source, and where each piece begins.
 use Rattle.std.specs.Prelude.{ℕ, suc, Bool, true, false, List, [], ◌∷◌, ◌++◌, Option, None, Some, length}
 use Rattle.snl_syntax.specs.Programs.{ClauseTree, StateTree, StateSetTree, ProgramTree}
 use Rattle.snl_meaning.specs.declared.instrs.Instr.{Instr}
 use Rattle.snl_emit.specs.BlockCode.{condition_piece, block_piece}
+use Rattle.snl_emit.specs.FunctionCode.{functions_code}
 use Rattle.snl_meaning.specs.Names.{Here}
-use Rattle.snl_code.specs.Heres.{here_in}
+use Rattle.snl_code.specs.Heres.{here_in, routines_in}
 use Rattle.snl_code.specs.declared.starts.ClauseStarts.{ClauseStarts}
 use Rattle.snl_code.specs.Reached.{Table}
 use Rattle.snl_code.specs.Starts.{StateTable, ProgramTable, no_pieces}
@@ -84,15 +85,21 @@ set_starts reached p n before g = row_starts (kept_code (here_in p n) (reached n
 
 -- ---- the program
 
--- The program, by a table of the states that are reached: its entry block, its state sets, its exit block. The two blocks run on the copy of the first state set.
+-- All functions.
+abbrev pub routines_code : ProgramTree → List Instr
+routines_code p = functions_code [] (routines_in p)
+
+-- The program, by a table of the states that are reached: its functions, its entry block, its state sets, its exit block. The two
+-- blocks run on the copy of the first state set.
 abbrev pub program_code : Table → ProgramTree → List Instr
 program_code reached p =
-    maybe_code (block_piece (here_in p 0)) p.entry ++ (row_code (set_code reached p) 0 p.state_sets ++ maybe_code (block_piece (here_in p 0)) p.exit)
+    routines_code p ++ (maybe_code (block_piece (here_in p 0)) p.entry
+    ++ (row_code (set_code reached p) 0 p.state_sets ++ maybe_code (block_piece (here_in p 0)) p.exit))
 
--- Where they begin.
+-- Where the pieces begin.
 abbrev pub program_starts : Table → ProgramTree → ProgramTable
 program_starts reached p = record {
-  entry = start_after [] p.entry;
-  sets = row_starts (set_code reached p) (set_starts reached p) 0 (maybe_code (block_piece (here_in p 0)) p.entry) p.state_sets;
-  exit = start_after (maybe_code (block_piece (here_in p 0)) p.entry ++ row_code (set_code reached p) 0 p.state_sets) p.exit;
+  entry = start_after (routines_code p) p.entry;
+  sets = row_starts (set_code reached p) (set_starts reached p) 0 (routines_code p ++ maybe_code (block_piece (here_in p 0)) p.entry) p.state_sets;
+  exit = start_after ((routines_code p ++ maybe_code (block_piece (here_in p 0)) p.entry) ++ row_code (set_code reached p) 0 p.state_sets) p.exit;
 }

@@ -2,6 +2,7 @@ pub mod Heres
 pub mod Copies
 pub mod Reached
 pub mod Depths
+pub mod Outlines
 pub mod DepthParts
 pub mod Starts
 pub mod Layout

@@ -7,6 +7,7 @@ use Rattle.snl_syntax.specs.Statements.{BlockTree}
 use Rattle.snl_resolve.specs.Programs.{sites}
 use Rattle.snl_meaning.specs.declared.instrs.Instr.{Instr}
 use Rattle.snl_meaning.specs.Names.{format_at}
+use Rattle.snl_meaning.specs.Run as run
 use Rattle.snl_emit.specs.Depths.{block_depth, expression_depth}
 use Rattle.snl_emit.specs.Right.{IsConditionAt, IsBlockAt}
 use Rattle.snl_code.specs.declared.code.Code.{Code}
@@ -14,9 +15,9 @@ use Rattle.snl_code.specs.declared.starts.Piece.{Piece}
 use Rattle.snl_code.specs.declared.starts.Piece.TheVariants.{ProgramEntry, ProgramExit, Entry, Exit, Condition, Block}
 use Rattle.snl_code.specs.Apart.{AreApart}
 use Rattle.snl_code.specs.Depths.{capped, program_depth}
-use Rattle.snl_code.specs.Heres.{outlines_in, scene_in}
+use Rattle.snl_code.specs.Heres.{entries_in, outlines_in, scene_in}
 use Rattle.snl_code.specs.Reached.{Table, HasState, TellsReached}
-use Rattle.snl_code.specs.Starts.{StateTable, table_of, state_in, holds_in, start_in}
+use Rattle.snl_code.specs.Starts.{StateTable, entries_of, table_of, state_in, holds_in, start_in}
 
 -- ---- the pieces of a program
 
@@ -66,30 +67,32 @@ DepthIsEnough = (p : ProgramTree) (name : Piece) (piece : PieceTree) → piece_o
 
 -- ---- the code of a program
 
--- The code at an address is right for a piece, with room for as many operands as the piece needs at once.
-abbrev pub IsPieceAt : ProgramTree → List Instr → ℕ → PieceTree → Type 0
-IsPieceAt p code start (Test set e) = (room : ℕ) → expression_depth (outlines_in p) e ≤ room → IsConditionAt (scene_in p set) code room start e
-IsPieceAt p code start (Action set b) = (room : ℕ) → block_depth (outlines_in p) b ≤ room → IsBlockAt (scene_in p set) code room start b
+-- The code at an address is right for a piece, with functions that begin where their entries say, and with room for as many operands
+-- as the piece needs at once.
+abbrev pub IsPieceAt : ProgramTree → List Instr → List run.Entry → ℕ → PieceTree → Type 0
+IsPieceAt p code functions start (Test set e) = (room : ℕ) → expression_depth (outlines_in p) e ≤ room → IsConditionAt (scene_in p set) code functions room start e
+IsPieceAt p code functions start (Action set b) = (room : ℕ) → block_depth (outlines_in p) b ≤ room → IsBlockAt (scene_in p set) code functions room start b
 
 -- There is an address for a piece where there is a piece, and the code there is right for it.
-abbrev pub IsPlaced : ProgramTree → List Instr → Option PieceTree → Option ℕ → Type 0
-IsPlaced p code (Some piece) (Some start) = IsPieceAt p code start piece
-IsPlaced p code None None = Unit {0}
-IsPlaced p code _ _ = ⊥
+abbrev pub IsPlaced : ProgramTree → List Instr → List run.Entry → Option PieceTree → Option ℕ → Type 0
+IsPlaced p code functions (Some piece) (Some start) = IsPieceAt p code functions start piece
+IsPlaced p code functions None None = Unit {0}
+IsPlaced p code functions _ _ = ⊥
 
 -- The texts that code keeps, by their numbers.
 abbrev pub texts_of : Code → List (List ℕ)
 texts_of c = map (λ t. t.items) c.texts.items
 
--- Code is that of a program: it tells exactly which states are reached; each piece of the program, but for those of other
--- states, has its address, where the code is right for it; no other piece has one; the conditions of each state that is
--- reached have stretches of code of their own, one after another; its texts are the strings of the program; and its depth is
+-- Code is that of a program: it tells exactly which states are reached; each function has its entry; each piece of the program, but
+-- for those of other states, has its address, where the code is right for it; no other piece has one; the conditions of each state
+-- that is reached have stretches of code of their own, one after another; its texts are the strings of the program; and its depth is
 -- that of the program, or 2^64 - 1 where that is more.
 pub record IsCodeOf (p : ProgramTree) (c : Code) : Type 0 where
   pub reached : TellsReached p (holds_in (table_of c))
   pub within : (set state : ℕ) → holds_in (table_of c) set state ≡ true → HasState p set state
-  pub placed : (piece : Piece) → IsPlaced p c.instrs.items (kept_piece (holds_in (table_of c)) p piece) (start_in (table_of c) piece)
+  pub functions : entries_of c ≡ entries_in p
+  pub placed : (piece : Piece) → IsPlaced p c.instrs.items (entries_of c) (kept_piece (holds_in (table_of c)) p piece) (start_in (table_of c) piece)
   pub apart : (set state : ℕ) (s : StateTree) (t : StateTable) → state_at p set state ≡ Some s → state_in (table_of c) set state ≡ Some t → t.is_reached ≡ true →
-      AreApart p set c.instrs.items 0 s.clauses t.clauses
+      AreApart p set c.instrs.items (entries_of c) 0 s.clauses t.clauses
   pub texts : texts_of c ≡ flat_map format_at (sites p)
   pub depth : c.depth ≡ capped (program_depth p)

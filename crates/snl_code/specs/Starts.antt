@@ -1,6 +1,8 @@
--- Where the pieces of a program begin in its code.
+-- Where the pieces and the functions of a program begin in its code.
 use Rattle.std.specs.Prelude.{ℕ, Bool, false, List, [], map, Option, None, Some, Vec, slice_get, option_map, option_and_then}
 use Rattle.std.proofs.Common.{Global}
+use Rattle.snl_meaning.specs.Known.{entries}
+use Rattle.snl_meaning.specs.Run as run
 use Rattle.snl_code.specs.declared.code.Code.{Code}
 use Rattle.snl_code.specs.declared.starts.ClauseStarts.{ClauseStarts}
 use Rattle.snl_code.specs.declared.starts.Piece.{Piece}
@@ -35,6 +37,10 @@ state_tables v = map state_table v.items
 -- What stands for those of a program.
 abbrev pub table_of : Code → ProgramTable
 table_of c = record { entry = c.entry; sets = map state_tables c.sets.items; exit = c.exit }
+
+-- What stands for the functions: where each begins, with its parameters.
+abbrev pub entries_of : Code → List run.Entry
+entries_of c = entries c.functions.items
 
 -- The part of a table for a state, and for a clause.
 abbrev pub state_in : ProgramTable → ℕ → ℕ → Option StateTable

@@ -34,5 +34,6 @@ pub fn compile(alloc: Global, checked: &Checked) -> Result<Code, AllocError>
         sites.as_slice(),
         checked.uses(),
         copies.places.as_slice(),
+        &copies.bodies,
     )
 }

@@ -7,7 +7,7 @@ ghost use Rattle.snl_code.specs.Starts.{table_of, start_in, holds_in, state_tabl
 ghost use Rattle.snl_code.specs.Starts as spec;
 
 use crate::starts::{ClauseStarts, Piece, StateStarts};
-use snl_meaning::Instr;
+use snl_meaning::{FunctionEntry, Instr};
 
 /// The flat code of a program. It owns all that it holds.
 #[derive(Drop)]
@@ -15,6 +15,8 @@ pub struct Code {
     pub(crate) instrs: Vec<Instr>,
     /// The strings of the program, in the order of the source.
     pub(crate) texts: Vec<Vec<u8>>,
+    /// Where the functions begin, by their numbers; their code stands first.
+    pub(crate) functions: Vec<FunctionEntry>,
     /// How many operands the code holds at once.
     pub(crate) depth: usize,
     /// Where the program's own two blocks begin.
@@ -62,6 +64,13 @@ impl Code {
         ensures { result.now ≡ self.now.texts.items }
     {
         self.texts.as_slice()
+    }
+
+    /// Where the functions of the program begin, with their parameters. They have the numbers from 0 on, in the order of the source.
+    pub fn functions(&self) -> &[FunctionEntry]
+        ensures { result.now ≡ self.now.functions.items }
+    {
+        self.functions.as_slice()
     }
 
     /// How many operands the code holds at once: with room for so many no piece runs out of room.

@@ -1,6 +1,6 @@
 //! The code of a whole program.
 
-ghost use Rattle.std.specs.Prelude.{◌≡◌, ◌≤◌, ◌++◌, length, map, slice_get, IfOk, OnOk};
+ghost use Rattle.std.specs.Prelude.{◌≡◌, ◌≤◌, ◌++◌, length, map, slice_get, take, IfOk, OnOk};
 ghost use Rattle.std.specs.List.{flat_map};
 ghost use Rattle.snl_syntax.specs.view.Shown.{shown, held};
 ghost use Rattle.snl_syntax.specs.view.Statements.{block_view};
@@ -9,6 +9,8 @@ ghost use Rattle.snl_resolve.specs.Programs as programs;
 ghost use Rattle.snl_resolve.specs.UseTables.{IsTableOf};
 ghost use Rattle.snl_emit.specs.BlockCode.{block_piece};
 ghost use Rattle.snl_meaning.specs.Names as names;
+ghost use Rattle.snl_code.specs.Depths.{capped};
+ghost use Rattle.snl_code.specs.Depths as depths;
 ghost use Rattle.snl_code.specs.Heres as heres;
 ghost use Rattle.snl_code.specs.Inside.{IsInside};
 ghost use Rattle.snl_code.specs.Layout as spec;
@@ -18,10 +20,12 @@ ghost use Rattle.snl_code.specs.Size.{program_size};
 ghost use Rattle.snl_code.specs.Starts.{state_tables, table_of, holds_in};
 
 use crate::code::Code;
+use crate::functions::{Common, names_among, place_functions};
+use crate::outlines::outlines_among;
 use crate::placing::{place_block, place_states};
 use crate::program_depths::program_depth;
 use crate::starts::StateStarts;
-use snl_meaning::{Instr, Known, Places, Sites};
+use snl_meaning::{Instr, Known, Places, Sites, Within};
 use snl_resolve::{Numbered, Site, UseTable, variables_of};
 use snl_rules::reached_states;
 use snl_syntax::{Block, Program, State, StateSet};
@@ -111,14 +115,16 @@ fn marks_of(marks: &[Vec<bool>], set: usize) -> &[bool]
 fn place_set<'a>(
     alloc: Global,
     program: &Program<'a>,
-    sites: &Sites<'_, 'a>,
+    common: &Common<'_, 'a>,
     places: &Places,
     marks: &[Vec<bool>],
     number: usize,
     set: &StateSet<'a>,
     code: &mut Vec<Instr>,
 ) -> Result<Vec<StateStarts>, AllocError>
-    requires sites { sites.now ≡ programs.sites (program_view program.now) }
+    requires sites { common.now.sites.now ≡ programs.sites (program_view program.now) }
+    requires functions { take common.now.count common.now.names.now
+        ≡ heres.function_names (program_view program.now) }
     requires places { places.now ≡ heres.placed_in (program_view program.now) number }
     ensures starts { IfOk result (λ starts. state_tables starts
         ≡ spec.set_starts (table_by marks.now) (program_view program.now) number code.old.items
@@ -130,8 +136,11 @@ fn place_set<'a>(
     let states = state_names(alloc, program.state_sets.as_slice(), number)?;
     let known = Known {
         states: &states,
-        sites,
+        sites: common.sites,
         variables: places,
+        within: Within::Piece,
+        functions: common.names,
+        above: common.count,
     };
     let marks = marks_of(marks, number);
     place_states(alloc, set.states.as_slice(), marks, &known, code)
@@ -141,13 +150,15 @@ fn place_set<'a>(
 fn place_sets<'a>(
     alloc: Global,
     program: &Program<'a>,
-    sites: &Sites<'_, 'a>,
+    common: &Common<'_, 'a>,
     copies: &[Places],
     marks: &[Vec<bool>],
     sets: &[StateSet<'a>],
     code: &mut Vec<Instr>,
 ) -> Result<Vec<Vec<StateStarts>>, AllocError>
-    requires sites { sites.now ≡ programs.sites (program_view program.now) }
+    requires sites { common.now.sites.now ≡ programs.sites (program_view program.now) }
+    requires functions { take common.now.count common.now.names.now
+        ≡ heres.function_names (program_view program.now) }
     requires copies { copies.now
         ≡ heres.placed_sets (program_view program.now) 0 (program_view program.now).state_sets }
     requires sets { sets.now ≡ program.now.state_sets.items }
@@ -164,7 +175,7 @@ fn place_sets<'a>(
         let one = place_set(
             alloc,
             program,
-            sites,
+            common,
             &copies[number],
             marks,
             number,
@@ -180,11 +191,13 @@ fn place_sets<'a>(
 fn place_own<'a>(
     alloc: Global,
     program: &Program<'a>,
-    sites: &Sites<'_, 'a>,
+    common: &Common<'_, 'a>,
     block: &Option<Box<Block<'a>>>,
     code: &mut Vec<Instr>,
 ) -> Result<Option<usize>, AllocError>
-    requires sites { sites.now ≡ programs.sites (program_view program.now) }
+    requires sites { common.now.sites.now ≡ programs.sites (program_view program.now) }
+    requires functions { take common.now.count common.now.names.now
+        ≡ heres.function_names (program_view program.now) }
     ensures start { IfOk result (λ start. start
         ≡ spec.start_after code.old.items (shown (held block_view) block.now)) }
     ensures code { OnOk result (code.new.items ≡ code.old.items
@@ -198,21 +211,36 @@ fn place_own<'a>(
     let places = first_places(alloc, program)?;
     let known = Known {
         states: &states,
-        sites,
+        sites: common.sites,
         variables: &places,
+        within: Within::Piece,
+        functions: common.names,
+        above: common.count,
     };
     place_block(alloc, block, &known, code)
 }
 
-/// The code of a program whose sites are given, the variables of its copies, and which of its states are reached.
+/// How many operands a program holds at once, at most 2^64 - 1.
+fn depth_of(alloc: Global, program: &Program) -> Result<usize, AllocError>
+    ensures { IfOk result (λ depth. depth
+        ≡ capped (depths.program_depth (program_view program.now))) }
+{
+    let outlines = outlines_among(alloc, program.definitions.as_slice())?;
+    Ok(program_depth(program, outlines.as_slice()))
+}
+
+/// The code of a program, by what its pieces and functions know, the variables of its copies, and which of its states are reached.
 fn code_of<'a>(
     alloc: Global,
     program: &Program<'a>,
-    sites: &Sites<'_, 'a>,
+    common: &Common<'_, 'a>,
     copies: &[Places],
     marks: &[Vec<bool>],
 ) -> Result<Code, AllocError>
-    requires sites { sites.now ≡ programs.sites (program_view program.now) }
+    requires sites { common.now.sites.now ≡ programs.sites (program_view program.now) }
+    requires names { common.now.names.now ≡ heres.function_names (program_view program.now) }
+    requires count { common.now.count ≡ length common.now.names.now }
+    requires bodies { common.now.bodies.now ≡ heres.function_places (program_view program.now) }
     requires copies { copies.now
         ≡ heres.placed_sets (program_view program.now) 0 (program_view program.now).state_sets }
     requires marks { AreMarked (program_view program.now).state_sets marks.now }
@@ -221,43 +249,42 @@ fn code_of<'a>(
     ensures short { IfOk result (λ code. length code.instrs.items
         ≤ program_size (holds_in (table_of code)) (program_view program.now)) }
 {
+    let definitions = program.definitions.as_slice();
+    let sets = program.state_sets.as_slice();
     let mut instrs = Vec::new(alloc);
-    let entry = place_own(alloc, program, sites, &program.entry, &mut instrs)?;
-    let sets = place_sets(
-        alloc,
-        program,
-        sites,
-        copies,
-        marks,
-        program.state_sets.as_slice(),
-        &mut instrs,
-    )?;
-    let exit = place_own(alloc, program, sites, &program.exit, &mut instrs)?;
-    let texts = texts_of(alloc, sites.as_slice())?;
+    let functions = place_functions(alloc, definitions, common, &mut instrs)?;
+    let entry = place_own(alloc, program, common, &program.entry, &mut instrs)?;
+    let sets = place_sets(alloc, program, common, copies, marks, sets, &mut instrs)?;
+    let exit = place_own(alloc, program, common, &program.exit, &mut instrs)?;
+    let texts = texts_of(alloc, common.sites.as_slice())?;
+    let depth = depth_of(alloc, program)?;
     Ok(Code {
         instrs,
         texts,
-        depth: program_depth(program),
+        functions,
+        depth,
         entry,
         exit,
         sets,
     })
 }
 
-/// The code of a program, by its sites, the table of what the names in them mean, and the variables of its copies. States
-/// that cannot be reached have no code. It has at most as many instructions as the size of the program says, in which such a
-/// state counts 0. The only error is that memory ends.
-pub fn compile_by<'a>(
+/// The code of a program, by its sites, the table of what the names in them mean, the variables of its copies, and what its
+/// functions may name. States that cannot be reached have no code. It has at most as many instructions as the size of the program
+/// says, in which such a state counts 0. The only error is that memory ends.
+pub fn compile_by<'s, 'a>(
     alloc: Global,
     program: &Program<'a>,
-    sites: &[Site<'a>],
-    uses: &UseTable,
+    sites: &'s [Site<'a>],
+    uses: &'s UseTable,
     copies: &[Places],
+    bodies: &'s Places,
 ) -> Result<Code, AllocError>
     requires sites { sites.now ≡ programs.sites (program_view program.now) }
     requires uses { IsTableOf uses.now (program_view program.now) }
     requires copies { copies.now
         ≡ heres.placed_sets (program_view program.now) 0 (program_view program.now).state_sets }
+    requires bodies { bodies.now ≡ heres.function_places (program_view program.now) }
     ensures is { IfOk result (IsCodeOf (program_view program.now)) }
     ensures inside { IfOk result (IsInside (program_view program.now)) }
     ensures short { IfOk result (λ code. length code.instrs.items
@@ -265,5 +292,14 @@ pub fn compile_by<'a>(
 {
     let sites = Sites::of(alloc, sites, uses)?;
     let marks = reached_sets(alloc, program.state_sets.as_slice())?;
-    code_of(alloc, program, &sites, copies, marks.as_slice())
+    let names = names_among(alloc, program.definitions.as_slice())?;
+    let count = names.len();
+    let names = Numbered::of(alloc, names)?;
+    let common = Common {
+        sites: &sites,
+        names: &names,
+        count,
+        bodies,
+    };
+    code_of(alloc, program, &common, copies, marks.as_slice())
 }

@@ -1,44 +1,48 @@
-//! The variables of the copies of state sets, with the places of their words.
+//! The variables of the copies of state sets, and those of functions, with the places of their words.
 
 ghost use Rattle.std.specs.Prelude.{◌≡◌, [], map, IfOk};
 ghost use Rattle.snl_syntax.specs.view.Programs.{program_view};
 ghost use Rattle.snl_resolve.specs.Chains.{scopes_of};
 ghost use Rattle.snl_resolve.specs.Held.{held_view};
 ghost use Rattle.snl_resolve.specs.Programs.{program_scopes};
-ghost use Rattle.snl_resolve.specs.Variables.{by_definitions, variables_of};
+ghost use Rattle.snl_resolve.specs.Variables.{by_definitions, shared_variables, variables_of};
 ghost use Rattle.snl_meaning.specs.Names.{placed_from};
-ghost use Rattle.snl_code.specs.Copies.{held_sets, sets_of};
+ghost use Rattle.snl_code.specs.Copies.{held_sets, sets_of, variables_in};
 ghost use Rattle.snl_code.specs.Heres as heres;
 
 use snl_meaning::Places;
-use snl_resolve::{Held, Scopes, push_definitions, push_parts};
+use snl_resolve::{Held, Scopes, push_definitions, push_functions, push_parts};
 use snl_syntax::Program;
 use std::alloc::{AllocError, Global};
 
-/// The variables of the copies of all state sets, by the numbers of the state sets.
+/// The variables of a program.
 #[derive(Drop)]
 pub struct Copies<'p, 'a> {
-    /// What is declared of them.
+    /// What is declared of those that copies hold, by the numbers of the state sets.
     pub held: Vec<Vec<Held<'p, 'a>>>,
     /// Where their words stand.
     pub places: Vec<Places>,
+    /// What is declared of those of functions, whose words all state sets share.
+    pub shared: Vec<Held<'p, 'a>>,
+    /// What functions may name: the variables of the program's definitions, and those of functions.
+    pub bodies: Places,
 }
 
 /// The variables of the copy of a state set: those that all copies hold, and then its own.
 fn held_set<'p, 'a>(
     alloc: Global,
     program: &'p Program<'a>,
-    shared: &[Held<'p, 'a>],
+    own: &[Held<'p, 'a>],
     scopes: &Scopes<'_, 'a>,
     set: usize,
 ) -> Result<Vec<Held<'p, 'a>>, AllocError>
-    requires shared { map held_view shared.now
+    requires own { map held_view own.now
         ≡ by_definitions [] (program_view program.now).definitions }
     requires scopes { scopes_of scopes.now ≡ program_scopes (program_view program.now) }
     ensures { IfOk result (λ held. map held_view held.items
         ≡ variables_of (program_view program.now) set) }
 {
-    let mut held = Vec::from_slice(alloc, shared)?;
+    let mut held = Vec::from_slice(alloc, own)?;
     push_parts(
         alloc,
         &program.entry,
@@ -55,10 +59,10 @@ fn held_set<'p, 'a>(
 fn held_by<'p, 'a>(
     alloc: Global,
     program: &'p Program<'a>,
-    shared: &[Held<'p, 'a>],
+    own: &[Held<'p, 'a>],
     scopes: &Scopes<'_, 'a>,
 ) -> Result<Vec<Vec<Held<'p, 'a>>>, AllocError>
-    requires shared { map held_view shared.now
+    requires own { map held_view own.now
         ≡ by_definitions [] (program_view program.now).definitions }
     requires scopes { scopes_of scopes.now ≡ program_scopes (program_view program.now) }
     ensures { IfOk result (λ sets. sets_of sets.items
@@ -66,25 +70,25 @@ fn held_by<'p, 'a>(
 {
     let mut sets = Vec::new(alloc);
     for (set, _) in program.state_sets.iter().enumerate() {
-        let variables = held_set(alloc, program, shared, scopes, set)?;
+        let variables = held_set(alloc, program, own, scopes, set)?;
         sets.push(variables)?;
     }
     Ok(sets)
 }
 
-/// The variables of the copies of all state sets.
-fn held_sets<'p, 'a>(
+/// The variables of functions.
+fn shared_by<'p, 'a>(
     alloc: Global,
     program: &'p Program<'a>,
-) -> Result<Vec<Vec<Held<'p, 'a>>>, AllocError>
-    ensures { IfOk result (λ sets. sets_of sets.items
-        ≡ held_sets (program_view program.now) 0 (program_view program.now).state_sets) }
+    scopes: &Scopes<'_, 'a>,
+) -> Result<Vec<Held<'p, 'a>>, AllocError>
+    requires scopes { scopes_of scopes.now ≡ program_scopes (program_view program.now) }
+    ensures { IfOk result (λ held. map held_view held.items
+        ≡ shared_variables (program_view program.now)) }
 {
-    let mut shared = Vec::new(alloc);
-    let definitions = program.definitions.as_slice();
-    let scope = push_definitions(alloc, definitions, &Scopes::Outside, &mut shared)?;
-    let scopes = Scopes::Within(&scope, &Scopes::Outside);
-    held_by(alloc, program, shared.as_slice(), &scopes)
+    let mut held = Vec::new(alloc);
+    push_functions(alloc, program.definitions.as_slice(), scopes, &mut held)?;
+    Ok(held)
 }
 
 /// The places of the variables of copies.
@@ -99,7 +103,39 @@ fn placed_sets(alloc: Global, sets: &[Vec<Held>]) -> Result<Vec<Places>, AllocEr
     Ok(copies)
 }
 
-/// The variables of the copies of all state sets of a program. The only error is that memory ends.
+/// The variables of a program, by those of its definitions.
+fn copies_by<'p, 'a>(
+    alloc: Global,
+    program: &'p Program<'a>,
+    own: &[Held<'p, 'a>],
+    scopes: &Scopes<'_, 'a>,
+) -> Result<Copies<'p, 'a>, AllocError>
+    requires own { map held_view own.now
+        ≡ by_definitions [] (program_view program.now).definitions }
+    requires scopes { scopes_of scopes.now ≡ program_scopes (program_view program.now) }
+    ensures held { IfOk result (λ copies. sets_of copies.held.items
+        ≡ held_sets (program_view program.now) 0 (program_view program.now).state_sets) }
+    ensures places { IfOk result (λ copies. copies.places.items
+        ≡ heres.placed_sets (program_view program.now) 0 (program_view program.now).state_sets) }
+    ensures shared { IfOk result (λ copies. variables_in copies.shared
+        ≡ shared_variables (program_view program.now)) }
+    ensures bodies { IfOk result (λ copies. copies.bodies
+        ≡ heres.function_places (program_view program.now)) }
+{
+    let held = held_by(alloc, program, own, scopes)?;
+    let places = placed_sets(alloc, held.as_slice())?;
+    let shared = shared_by(alloc, program, scopes)?;
+    let bodies = Places::of_functions(alloc, own, shared.as_slice())?;
+    Ok(Copies {
+        held,
+        places,
+        shared,
+        bodies,
+    })
+}
+
+/// The variables of a program: those of the copies of all state sets, and those of functions. The only error is that memory
+/// ends.
 pub fn copies_of<'p, 'a>(
     alloc: Global,
     program: &'p Program<'a>,
@@ -108,8 +144,14 @@ pub fn copies_of<'p, 'a>(
         ≡ held_sets (program_view program.now) 0 (program_view program.now).state_sets) }
     ensures places { IfOk result (λ copies. copies.places.items
         ≡ heres.placed_sets (program_view program.now) 0 (program_view program.now).state_sets) }
+    ensures shared { IfOk result (λ copies. variables_in copies.shared
+        ≡ shared_variables (program_view program.now)) }
+    ensures bodies { IfOk result (λ copies. copies.bodies
+        ≡ heres.function_places (program_view program.now)) }
 {
-    let held = held_sets(alloc, program)?;
-    let places = placed_sets(alloc, held.as_slice())?;
-    Ok(Copies { held, places })
+    let mut own = Vec::new(alloc);
+    let definitions = program.definitions.as_slice();
+    let scope = push_definitions(alloc, definitions, &Scopes::Outside, &mut own)?;
+    let scopes = Scopes::Within(&scope, &Scopes::Outside);
+    copies_by(alloc, program, own.as_slice(), &scopes)
 }

@@ -17,8 +17,8 @@ use snl_meaning::{Instr, Known};
 use snl_syntax::{Block, Clause, Expr, State};
 use std::alloc::{AllocError, Global};
 
-/// Adds code that was made from its end.
-fn add_reversed(code: &mut Vec<Instr>, made: &[Instr]) -> Result<(), AllocError>
+/// Adds code that was made from its end. Fails only where memory ends.
+pub fn add_reversed(code: &mut Vec<Instr>, made: &[Instr]) -> Result<(), AllocError>
     ensures { OnOk result (code.new.items ≡ code.old.items ++ reverse made.now) }
 {
     for number in (0..made.len()).rev() {

@@ -137,12 +137,12 @@ fn sets_depth(sets: &[StateSet], functions: &[Outline]) -> usize
     depth
 }
 
-/// The greatest number of operands that an expression of the program holds at once. It stays at 2^64 - 1 where it
-/// would be more. No function runs yet, so none is known.
-pub fn program_depth(program: &Program) -> usize
-    ensures { result ≡ spec.capped (spec.program_depth (program_view program.now)) }
+/// The greatest number of operands that an expression of the program holds at once, where these functions may be called. It
+/// stays at 2^64 - 1 where it would be more.
+pub fn program_depth(program: &Program, functions: &[Outline]) -> usize
+    ensures { result
+        ≡ spec.capped (spec.depth_with (outlines functions.now) (program_view program.now)) }
 {
-    let functions: &[Outline] = &[];
     let definitions = definitions_depth(program.definitions.as_slice(), functions);
     let sets = sets_depth(program.state_sets.as_slice(), functions);
     let own = larger(

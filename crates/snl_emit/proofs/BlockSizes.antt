@@ -1,5 +1,5 @@
 -- The code of statements and blocks is no longer than their size.
-use Rattle.std.proofs.Common.{◌+◌, ◌≤◌, ℕ, suc, List, [], ◌∷◌, ◌++◌, Option, None, Some, arith, length, length-append}
+use Rattle.std.proofs.Common.{◌+◌, ◌≤◌, ℕ, suc, pos, List, [], ◌∷◌, ◌++◌, Option, None, Some, arith, length, length-append}
 use Rattle.std.proofs.lemmas.List.Sums.{sum_by-cons, sum_by-append}
 use Rattle.std.specs.Prelude.{sum_by}
 use Rattle.snl_text.specs.declared.kinds.Kind.{Kind}
@@ -12,9 +12,10 @@ use Rattle.snl_meaning.specs.declared.instrs.Variable.{Variable}
 use Rattle.snl_meaning.specs.declared.operators.Sign.{Sign}
 use Rattle.snl_meaning.specs.declared.operators.Sign.TheVariants.{Steps, Alone}
 use Rattle.snl_meaning.specs.Effect.{variable_for, values_of, names_of}
-use Rattle.snl_meaning.specs.Names.{Here}
+use Rattle.snl_meaning.specs.Names.{Here, Within, Piece, Body, state_number}
 use Rattle.snl_meaning.specs.Value.{compound_of, sign_of}
-use Rattle.snl_emit.specs.BlockCode.{named_variable, assigned_code, stepped_code, dropping_code, effect_code, dropped_code, test_code, loop_code, cleared_code, all_cleared_code, begun_code, begun_with_code, all_begun_code, entered_code, statement_code, statements_code, block_code, condition_piece, block_piece}
+use Rattle.snl_emit.specs.BlockCode.{named_variable, assigned_code, stepped_code, dropping_code, effect_code, dropped_code, test_code, loop_code, cleared_code, all_cleared_code, begun_code, begun_with_code, all_begun_code, entered_code, return_code, plain_return_code, left_code, statement_code, statements_code, block_code, condition_piece, block_piece}
+use Rattle.snl_emit.specs.FunctionCode.{body_code}
 use Rattle.snl_emit.specs.ExpressionCode.{expression_code, renewed_code}
 use Rattle.snl_emit.specs.Size.{maybe_size, expression_size, declarator_size, declaration_size, statement_size, statements_size, block_size}
 use Rattle.snl_emit.proofs.ValueSizes.{renewed-short, value-short}
@@ -42,6 +43,21 @@ loop-short line body step test =
 cleared-short : (o : Option Variable) → length (cleared_code o) ≤ 1
 cleared-short None = omega arith
 cleared-short (Some v) = omega arith
+
+-- a `return`
+return-short : (x : Within) (line : ℕ) (value : List Instr) (n : ℕ) → length value + 1 ≤ n → length (return_code x line value) ≤ 8 + n
+return-short Piece line value n le = omega arith
+return-short (Body least greatest) line value n le = omega (arith, length-append value (instr.Fit least greatest line ∷ instr.Return ∷ []), le)
+
+-- one without a value
+plain-short : (x : Within) → length (plain_return_code x) ≤ 8
+plain-short Piece = omega arith
+plain-short (Body least greatest) = omega arith
+
+-- a `state`
+left-short : (x : Within) (state : ℕ) → length (left_code x state) ≤ 8 + 8
+left-short Piece state = omega arith
+left-short (Body least greatest) state = omega arith
 
 module _ (h : Here) where
   -- ---- expressions
@@ -126,8 +142,9 @@ module _ (h : Here) where
     statement-short (expression e) out again = omega (arith, effect-short e)
     statement-short (break_loop t) out again = omega arith
     statement-short (continue_loop t) out again = omega arith
-    statement-short (change_state t x) out again = omega arith
-    statement-short (return_with t e) out again = omega arith
+    statement-short (change_state t x) out again = left-short h.within (state_number h x)
+    statement-short (return_with t None) out again = plain-short h.within
+    statement-short (return_with t (Some e)) out again = return-short h.within t.pos.line (expression_code h e) (expression_size h.sites e) (value-short h e)
     statement-short (if_then c s) out again =
         let held = statement_code h out again s in
         omega (arith, length-append (expression_code h c) (instr.JumpIfZero (length held) ∷ held), value-short h c, statement-short s out again)
@@ -186,3 +203,7 @@ module _ (h : Here) where
   -- the piece of a block
   pub block-piece-short : (b : BlockTree) → length (block_piece h b) ≤ block_size h.sites b
   block-piece-short b = omega (arith, length-append (block_code h 0 0 b) (instr.End ∷ []), block-short b 0 0)
+
+  -- the body of a function
+  pub function-short : (b : BlockTree) → length (body_code h b) ≤ block_size h.sites b + 1
+  function-short b = omega (arith, length-append (block_code h 0 0 b) (instr.Push (pos 0) ∷ instr.Return ∷ []), block-short b 0 0)

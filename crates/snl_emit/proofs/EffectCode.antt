@@ -16,12 +16,13 @@ use Rattle.snl_emit.specs.ExpressionCode.{expression_code, renewed_code}
 use Rattle.snl_meaning.specs.Endings.{HasAt}
 use Rattle.snl_meaning.specs.Names.{Here, sense_of, Outline}
 use Rattle.snl_meaning.specs.Ran.{Ran, Gives, Faults, also, then_do}
-use Rattle.snl_meaning.specs.Run.{PieceContext, GoesTo, context_of}
+use Rattle.snl_meaning.specs.Run.{PieceContext, GoesTo}
 use Rattle.snl_meaning.specs.Value.{OnElement, at_name, at_target, compound_of, sign_of, signed, renewed, put_at, value_of}
 use Rattle.snl_meaning.specs.Words.{natural, gives, adjusted, adjusted_to, operated, stored}
 use Rattle.snl_meaning.specs.Scenes.{Scene}
 use Rattle.snl_meaning.specs.World.{World, element_of}
 use Rattle.snl_meaning.proofs.Following.{then_do-also, has_front, has_back, Quiet, Follows, quiet-step, follows-step, follows-then}
+use Rattle.snl_emit.proofs.Settings.{Setting, running, IsSet}
 use Rattle.snl_emit.proofs.ValueCode.{value-follows}
 use Rattle.snl_emit.proofs.WordCode.{codes-renewed}
 
@@ -50,17 +51,17 @@ at-named m F indexed other (conditional c a b) x is w = absurd (cc)
 at-named m F indexed other (assignment e op r) x is w = absurd (cc)
 
 -- it needs room for what is done there alone
-named-depth : (h : Here) (a i : ℕ) (e : ExprTree) (x : Variable × ℕ) → named_variable h e ≡ Some x → target_depth h.functions e a i ≡ a
-named-depth h a i (parenthesized e) x is = named-depth h a i e x is
-named-depth h a i (named y) x is = refl
-named-depth h a i (constant t) x is = refl
-named-depth h a i (element y b e) x is = absurd (cc)
-named-depth h a i (call f all) x is = refl
-named-depth h a i (postfix e op) x is = refl
-named-depth h a i (prefix op e) x is = refl
-named-depth h a i (chain e rest) x is = refl
-named-depth h a i (conditional c b d) x is = refl
-named-depth h a i (assignment e op r) x is = refl
+named-depth : (h : Here) (fs : List Outline) (a i : ℕ) (e : ExprTree) (x : Variable × ℕ) → named_variable h e ≡ Some x → target_depth fs e a i ≡ a
+named-depth h fs a i (parenthesized e) x is = named-depth h fs a i e x is
+named-depth h fs a i (named y) x is = refl
+named-depth h fs a i (constant t) x is = refl
+named-depth h fs a i (element y b e) x is = absurd (cc)
+named-depth h fs a i (call f all) x is = refl
+named-depth h fs a i (postfix e op) x is = refl
+named-depth h fs a i (prefix op e) x is = refl
+named-depth h fs a i (chain e rest) x is = refl
+named-depth h fs a i (conditional c b d) x is = refl
+named-depth h fs a i (assignment e op r) x is = refl
 
 -- ---- `++` and `--`
 
@@ -78,14 +79,18 @@ adjusted-alike set v by op_line line k w go =
     alike (operated by op_line old (pos 1) w) (adjusted_to set v line true k old) (adjusted_to set v line false k old) go
     (λ z u. alike (stored set v line k z u) (λ _ y. Gives old y []) (λ _ y. Gives z y []) go (λ y x. refl))
 
-module _ (m : Scene) (room : ℕ) (code : List Instr) (below : List ℤ) where
+module _ (m : Scene) (setting : Setting) (code : List Instr) (ready : IsSet m setting code) (below : List ℤ) where
   -- what the code runs with
   abbrev g : PieceContext
-  g = context_of m room
+  g = running m setting
+
+  -- the room for operands
+  abbrev room : ℕ
+  room = setting.room
 
   -- the functions that it may call
   abbrev fs : List Outline
-  fs = m.here.functions
+  fs = setting.outlines
 
   -- such code does what a word does, and leaves no operand
   abbrev Acts : (World → Ran ℤ) → List Instr → ℕ → Type 0
@@ -104,7 +109,7 @@ module _ (m : Scene) (room : ℕ) (code : List Instr) (below : List ℤ) where
       let k = has_back code at ec (Drop ∷ []) has in
       let n : at + length ec + 1 ≡ at + length (ec ++ Drop ∷ []) = omega (arith, length-append ec (Drop ∷ [])) in
       follows-over at below w (value_of m e w) (at + length ec) (at + length (ec ++ Drop ∷ [])) (λ z. z ∷ below)
-      (value-follows m room code e at below w (has_front code at ec _ has) (omega (arith, free)))
+      (value-follows m setting code ready e at below w (has_front code at ec _ has) (omega (arith, free)))
       (λ z u. subst (λ (to : ℕ). Quiet g code (at + length ec) (z ∷ below) u to below) n (quiet-step g code Drop (at + length ec) (z ∷ below) u (at + length ec + 1) below k.0 refl))
 
   -- a store that takes its number away, after what computes the number
@@ -117,7 +122,8 @@ module _ (m : Scene) (room : ℕ) (code : List Instr) (below : List ℤ) where
       subst (λ (to : ℕ). Follows g code at below w (put_at o op_line (value_of m r) m.set x.0 x.1 (pos 0) w) (λ _. to) (idle below)) n
       (follows-then g code at below w (renewed o op_line (value_of m r) m.set x.0 (pos 0) w) (stored m.set x.0 x.1 (pos 0))
       (λ _. at + length rc) (λ z. z ∷ below) (λ _. at + length rc + 1) (idle below)
-      (codes-renewed g code o op_line (value_of m r) (expression_code m.here r) (expression_depth fs r) (value-follows m room code r) x.0 at below w (has_front code at rc _ has) (omega (arith, free)))
+      (codes-renewed g code o op_line (value_of m r) (expression_code m.here r) (expression_depth fs r) (value-follows m setting code ready r) x.0 at below w
+      (has_front code at rc _ has) (omega (arith, free)))
       (λ z u. follows-step g code (Assign x.0 0 x.1) (at + length rc) (z ∷ below) u (stored m.set x.0 x.1 (pos 0) z u) (λ _. at + length rc + 1) (idle below) k.0 refl))
 
   -- one more or one less, whatever is made of it
@@ -140,7 +146,7 @@ module _ (m : Scene) (room : ℕ) (code : List Instr) (below : List ℤ) where
   assignment-acts e op r (Some x) is =
       let o = compound_of op.kind in
       let n = expression_depth fs r + held_depth o in
-      let enough = named-depth m.here n (n + 1) e x is in
+      let enough = named-depth m.here fs n (n + 1) e x is in
       acts-as (put_at o op.pos.line (value_of m r) m.set x.0 x.1 (pos 0)) (value_of m (assignment e op r)) _ n (expression_depth fs (assignment e op r))
       (λ w. sym (at-named m (λ v line. put_at o op.pos.line (value_of m r) m.set v line (pos 0)) (λ v y. put_at o op.pos.line (value_of m r) m.set v y.pos.line) (value_of m r) e x is w))
       (omega (arith, enough)) (assigns o op.pos.line r x)

@@ -11,7 +11,7 @@ use Rattle.snl_meaning.specs.Effect.{variable_for, cleared_maybe, all_cleared, b
 use Rattle.snl_emit.specs.ExpressionCode.{expression_code}
 use Rattle.snl_meaning.specs.Ran.{Ran, Gives, then_do}
 use Rattle.snl_meaning.specs.Endings.{HasAt}
-use Rattle.snl_meaning.specs.Run.{PieceContext, context_of, GoesTo, done_by}
+use Rattle.snl_meaning.specs.Run.{PieceContext, GoesTo, done_by}
 use Rattle.snl_meaning.specs.Value.{value_of}
 use Rattle.snl_meaning.specs.Words.{stored, cleared}
 use Rattle.snl_meaning.specs.Names.{Outline}
@@ -19,16 +19,21 @@ use Rattle.snl_meaning.specs.Scenes.{Scene}
 use Rattle.snl_meaning.specs.World.{World}
 use Rattle.snl_meaning.proofs.Following.{has_front, has_back, Follows, follows-step, follows-here, follows-then, follows-to, quiet-none}
 use Rattle.snl_emit.proofs.EffectCode.{idle}
+use Rattle.snl_emit.proofs.Settings.{Setting, running, IsSet}
 use Rattle.snl_emit.proofs.ValueCode.{value-follows}
 
-module _ (m : Scene) (room : ℕ) (code : List Instr) (below : List ℤ) where
+module _ (m : Scene) (setting : Setting) (code : List Instr) (ready : IsSet m setting code) (below : List ℤ) where
   -- what the code runs with
   abbrev g : PieceContext
-  g = context_of m room
+  g = running m setting
+
+  -- the room for operands
+  abbrev room : ℕ
+  room = setting.room
 
   -- the functions that it may call
   abbrev fs : List Outline
-  fs = m.here.functions
+  fs = setting.outlines
 
   -- code does what a word does, and no operand is left
   abbrev Does : (World → Ran (Unit {0})) → List Instr → Type 0
@@ -83,7 +88,7 @@ module _ (m : Scene) (room : ℕ) (code : List Instr) (below : List ℤ) where
       let n : at + length ec + 1 ≡ at + length (ec ++ i ∷ []) = omega (arith, length-append ec (i ∷ [])) in
       follows-to g code at below w (then_do (value_of m e w) (begun m.set (variable_for m.here d) d.name.pos.line k)) (at + length ec + 1) (at + length (ec ++ i ∷ [])) (idle below) n
       (follows-then g code at below w (value_of m e w) (begun m.set (variable_for m.here d) d.name.pos.line k) (λ _. at + length ec) (λ z. z ∷ below) (λ _. at + length ec + 1) (idle below)
-      (value-follows m room code e at below w (has_front code at ec (i ∷ []) has) (omega (arith, free)))
+      (value-follows m setting code ready e at below w (has_front code at ec (i ∷ []) has) (omega (arith, free)))
       (λ z u. follows-step g code i (at + length ec) (z ∷ below) u (begun m.set (variable_for m.here d) d.name.pos.line k z u) (λ _. at + length ec + 1) (idle below) there.0
       (begins-step (variable_for m.here d) d.name.pos.line k (at + length ec) z u)))
 

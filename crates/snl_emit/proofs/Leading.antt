@@ -6,63 +6,70 @@ use Rattle.snl_meaning.specs.declared.instrs.Instr.{Instr}
 use Rattle.snl_meaning.specs.declared.instrs.Instr.TheVariants.{JumpIfZero}
 use Rattle.snl_emit.specs.Depths.{maybe_depth}
 use Rattle.snl_emit.specs.BlockCode.{effect_code, dropped_code, test_code}
-use Rattle.snl_meaning.specs.Effect.{Way, Done, Broken, Continued, Left, if_done, holds, held_by, dropped, evaluated}
+use Rattle.snl_meaning.specs.Effect.{Way, Done, Broken, Continued, Left, Returned, if_done, holds, held_by, dropped, evaluated}
 use Rattle.snl_emit.specs.ExpressionCode.{expression_code}
 use Rattle.snl_meaning.specs.Ran.{Ran, Gives, Faults, also}
 use Rattle.snl_meaning.specs.Endings.{HasAt}
-use Rattle.snl_meaning.specs.Run.{PieceContext, context_of, Exit, LeftFor}
+use Rattle.snl_meaning.specs.Run.{PieceContext, Exit}
 use Rattle.snl_meaning.specs.Value.{value_of, either}
 use Rattle.snl_meaning.specs.Names.{Outline}
 use Rattle.snl_meaning.specs.Scenes.{Scene}
 use Rattle.snl_meaning.specs.World.{World}
-use Rattle.snl_meaning.proofs.Following.{has_front, has_back, Quiet, Continues, run_at, Follows, follows-then, follows-here, continues-here, continues-quiet, quiet-none, quiet-if_zero}
+use Rattle.snl_meaning.proofs.Following.{also-nil, has_front, has_back, Quiet, Continues, run_at, Follows, follows-then, follows-here, continues-here, continues-quiet, quiet-none, quiet-if_zero}
+use Rattle.snl_emit.proofs.Settings.{Setting, running, IsSet}
 use Rattle.snl_emit.proofs.ValueCode.{value-follows}
 use Rattle.snl_emit.proofs.EffectCode.{idle, effect-follows}
 
--- where a statement leads: on after it, out of the loop, to where the loop goes on, or to another state
-abbrev pub led : PieceContext → List Instr → List ℤ → ℕ → ℕ → ℕ → Way → World → ℕ → Ran Exit
-led g code below after out again Done u = run_at g code after below u
-led g code below after out again Broken u = run_at g code out below u
-led g code below after out again Continued u = run_at g code again below u
-led g code below after out again (Left state) u = λ k. Gives (LeftFor state) u []
+-- what a way out gives that leads out of the piece, or of the function
+abbrev pub Away : Type 0
+Away = Way → World → ℕ → Ran Exit
 
-module _ (g : PieceContext) (code : List Instr) (below : List ℤ) where
+-- where a statement leads: on after it, out of the loop, to where the loop goes on, or away
+abbrev pub led : PieceContext → List Instr → List ℤ → Away → ℕ → ℕ → ℕ → Way → World → ℕ → Ran Exit
+led g code below off after out again Done u = run_at g code after below u
+led g code below off after out again Broken u = run_at g code out below u
+led g code below off after out again Continued u = run_at g code again below u
+led g code below off after out again (Left state) u = off (Left state) u
+led g code below off after out again (Returned z) u = off (Returned z) u
+
+module _ (g : PieceContext) (code : List Instr) (below : List ℤ) (off : Away) where
   -- the addresses under other names
   pub renamed : (at : ℕ) (w : World) (r : Ran Way) (n n' o o' a a' : ℕ) → n ≡ n' → o ≡ o' → a ≡ a' →
-      Continues (run_at g code at below w) r (led g code below n o a) → Continues (run_at g code at below w) r (led g code below n' o' a')
+      Continues (run_at g code at below w) r (led g code below off n o a) → Continues (run_at g code at below w) r (led g code below off n' o' a')
   renamed at w r n n' o o' a a' e f d h =
-      subst (λ (x : ℕ). Continues (run_at g code at below w) r (led g code below n' o' x)) d
-      (subst (λ (x : ℕ). Continues (run_at g code at below w) r (led g code below n' x a)) f (subst (λ (x : ℕ). Continues (run_at g code at below w) r (led g code below x o a)) e h))
+      subst (λ (x : ℕ). Continues (run_at g code at below w) r (led g code below off n' o' x)) d
+      (subst (λ (x : ℕ). Continues (run_at g code at below w) r (led g code below off n' x a)) f (subst (λ (x : ℕ). Continues (run_at g code at below w) r (led g code below off x o a)) e h))
 
   -- nothing is left to do
-  pub continues-done : (at : ℕ) (u : World) (to out again : ℕ) → at ≡ to → Continues (run_at g code at below u) (Gives Done u []) (led g code below to out again)
+  pub continues-done : (at : ℕ) (u : World) (to out again : ℕ) → at ≡ to → Continues (run_at g code at below u) (Gives Done u []) (led g code below off to out again)
   continues-done at u to out again is =
-      continues-here g code Done at below u at below (led g code below to out again) (quiet-none g code at below u) (ap (λ n. run_at g code n below u) (sym is))
+      continues-here g code Done at below u at below (led g code below off to out again) (quiet-none g code at below u) (ap (λ n. run_at g code n below u) (sym is))
 
   -- what is done goes on to another address
   pub goes_on_to : (at : ℕ) (w : World) (r : Ran Way) (n n' o a : ℕ) → ((u : World) → Quiet g code n below u n' below) →
-      Continues (run_at g code at below w) r (led g code below n o a) → Continues (run_at g code at below w) r (led g code below n' o a)
+      Continues (run_at g code at below w) r (led g code below off n o a) → Continues (run_at g code at below w) r (led g code below off n' o a)
   goes_on_to at w (Gives Done u text) n n' o a on f = record { by = λ k. let b = (on u).by k in let j = f.by b.0 in (j.0, j.1 ∙ ap (also text) b.1) }
   goes_on_to at w (Gives Broken u text) n n' o a on f = record { by = λ k. f.by k }
   goes_on_to at w (Gives Continued u text) n n' o a on f = record { by = λ k. f.by k }
   goes_on_to at w (Gives (Left state) u text) n n' o a on f = record { by = λ k. f.by k }
+  goes_on_to at w (Gives (Returned z) u text) n n' o a on f = record { by = λ k. f.by k }
   goes_on_to at w (Faults fault line u text) n n' o a on f = record { by = λ k. f.by k }
 
-  -- to another state
-  pub left-for : (state : ℕ) (u : World) (onward : Way → World → ℕ → Ran Exit) → onward (Left state) u ≡ (λ k. Gives (LeftFor state) u []) →
-      Continues (λ k. Gives (LeftFor state) u []) (Gives (Left state) u []) onward
-  left-for state u onward is = record { by = λ k. (0, sym (ap (λ (f : ℕ → Ran Exit). also [] (f k)) is)) }
+  -- away
+  pub led-away : (way : Way) (u : World) (onward : Way → World → ℕ → Ran Exit) → onward way u ≡ off way u → Continues (off way u) (Gives way u []) onward
+  led-away way u onward is = record { by = λ k. (k, sym (ap (λ (f : ℕ → Ran Exit). f k) is) ∙ sym (also-nil (onward way u k))) }
 
   -- what follows a statement
   pub goes_on : (go : World → Ran Way) (behind away elsewhere after out again : ℕ) → away ≡ out → elsewhere ≡ again →
-      ((u : World) → Continues (run_at g code behind below u) (go u) (led g code below after out again)) →
-      (way : Way) (u : World) → Continues (led g code below behind away elsewhere way u) (if_done go way u) (led g code below after out again)
+      ((u : World) → Continues (run_at g code behind below u) (go u) (led g code below off after out again)) →
+      (way : Way) (u : World) → Continues (led g code below off behind away elsewhere way u) (if_done go way u) (led g code below off after out again)
   goes_on go behind away elsewhere after out again is so f Done u = f u
   goes_on go behind away elsewhere after out again is so f Broken u =
-      continues-here g code Broken away below u away below (led g code below after out again) (quiet-none g code away below u) (ap (λ n. run_at g code n below u) (sym is))
+      continues-here g code Broken away below u away below (led g code below off after out again) (quiet-none g code away below u) (ap (λ n. run_at g code n below u) (sym is))
   goes_on go behind away elsewhere after out again is so f Continued u =
-      continues-here g code Continued elsewhere below u elsewhere below (led g code below after out again) (quiet-none g code elsewhere below u) (ap (λ n. run_at g code n below u) (sym so))
-  goes_on go behind away elsewhere after out again is so f (Left state) u = left-for state u (led g code below after out again) refl
+      continues-here g code Continued elsewhere below u elsewhere below (led g code below off after out again) (quiet-none g code elsewhere below u) (ap (λ n. run_at g code n below u) (sym so))
+  goes_on go behind away elsewhere after out again is so f (Left state) u = led-away (Left state) u (led g code below off after out again) refl
+  goes_on go behind away elsewhere after out again is so f (Returned z) u = led-away (Returned z) u (led g code below off after out again) refl
 
 -- one of two, after the jump that chooses
 module _ (g : PieceContext) (code : List Instr) (below : List ℤ) {A : Type 0} (test second : ℕ) (held failed : World → Ran A) (onward : A → World → ℕ → Ran Exit)
@@ -76,14 +83,18 @@ module _ (g : PieceContext) (code : List Instr) (below : List ℤ) {A : Type 0} 
       by true q = continues-quiet g code test (z ∷ below) u second below (failed u) onward q (f u)
       by false q = continues-quiet g code test (z ∷ below) u (test + 1) below (held u) onward q (h u)
 
-module _ (m : Scene) (room : ℕ) (code : List Instr) (below : List ℤ) where
+module _ (m : Scene) (setting : Setting) (code : List Instr) (ready : IsSet m setting code) (below : List ℤ) where
   -- what the code runs with
   abbrev g : PieceContext
-  g = context_of m room
+  g = running m setting
+
+  -- the room for operands
+  abbrev room : ℕ
+  room = setting.room
 
   -- the functions that it may call
   abbrev fs : List Outline
-  fs = m.here.functions
+  fs = setting.outlines
 
   -- a condition that may be missing
   pub tests : (o : Option ExprTree) (at : ℕ) (w : World) → HasAt code at (test_code m.here o) → length below + maybe_depth fs o ≤ room →
@@ -96,7 +107,7 @@ module _ (m : Scene) (room : ℕ) (code : List Instr) (below : List ℤ) where
       let behind : at + length cc' + 1 ≡ at + length (cc' ++ JumpIfZero 1 ∷ []) = omega (arith, length-append cc' (JumpIfZero 1 ∷ [])) in
       let beyond : at + length cc' + 1 + 1 ≡ at + length (cc' ++ JumpIfZero 1 ∷ []) + 1 = omega (arith, behind) in
       follows-then g code at below w (value_of m c w) holds (λ _. at + length cc') (λ z. z ∷ below) _ (idle below)
-      (value-follows m room code c at below w (has_front code at cc' _ has) (omega (arith, free)))
+      (value-follows m setting code ready c at below w (has_front code at cc' _ has) (omega (arith, free)))
       (λ z u. by z u _ _ (is_zero z) (quiet-if_zero g code 1 (at + length cc') _ _ z below u k.0 beyond behind))
     where
       by : (z : ℤ) (u : World) (on beyond : ℕ) (b : Bool) → Quiet g code (at + length (expression_code m.here c)) (z ∷ below) u (if b then beyond else on) below →
@@ -110,5 +121,5 @@ module _ (m : Scene) (room : ℕ) (code : List Instr) (below : List ℤ) where
   acts-maybe None at w has free = let e : at ≡ at + 0 = omega arith in follows-here g code tt at below w _ (idle below) (subst (λ n. Quiet g code at below w n below) e (quiet-none g code at below w))
   acts-maybe (Some e) at w has free =
       let after = at + length (effect_code m.here e) in
-      follows-then g code at below w (value_of m e w) dropped (λ _. after) (idle below) (λ _. after) (idle below) (effect-follows m room code below e at w has free)
+      follows-then g code at below w (value_of m e w) dropped (λ _. after) (idle below) (λ _. after) (idle below) (effect-follows m setting code ready below e at w has free)
       (λ z u. follows-here g code tt after below u (λ _. after) (idle below) (quiet-none g code after below u))

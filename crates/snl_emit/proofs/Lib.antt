@@ -5,12 +5,17 @@ pub mod Joins
 pub mod WordCode
 pub mod FoldedCode
 pub mod DepthPositive
+pub mod Callees
+pub mod Settings
 pub mod ValueCode
 pub mod EffectCode
 pub mod Leading
 pub mod Loops
 pub mod Entering
 pub mod StatementCode
+pub mod Program
+pub mod All
+pub mod Ready
 pub mod Pieces
 pub mod DepthWithin
 pub mod TargetCode

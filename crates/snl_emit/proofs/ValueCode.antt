@@ -1,45 +1,52 @@
 -- The code of an expression gives its value.
-use Rattle.std.proofs.Common.{◌≡◌, ◌+◌, ◌<◌, ◌≤◌, ℕ, ℤ, pos, Bool, true, false, List, [], ◌∷◌, ◌++◌, Some, refl, sym, subst, arith, length, length-append, slice_get}
+use Rattle.std.proofs.Common.{◌≡◌, ◌+◌, ◌<◌, ◌≤◌, ℕ, suc, ℤ, pos, Bool, true, false, List, [], ◌∷◌, ◌++◌, Option, None, Some, reverse, refl, sym, subst, arith, length, length-append, slice_get}
 use Rattle.std.specs.Prelude.{max, not}
 use Rattle.snl_text.specs.declared.kinds.Kind.{Kind}
 use Rattle.snl_text.specs.declared.tokens.Token.{Token}
 use Rattle.snl_syntax.specs.Expressions.{ExprTree, TermList, ArgumentList, constant, parenthesized, named, element, call, postfix, prefix, chain, conditional, assignment, no_terms, term, no_arguments, value, text}
 use Rattle.snl_meaning.specs.declared.instrs.Instr.{Instr}
-use Rattle.snl_meaning.specs.declared.instrs.Instr.TheVariants.{Push, Get, Adjust, AdjustAt, Print, Wait, Put, PutAt, Ask, AskLink, AskElement}
+use Rattle.snl_meaning.specs.declared.instrs.Instr.TheVariants.{Push, Get, Adjust, AdjustAt, Print, Wait, Put, PutAt, Ask, AskLink, AskElement, Call}
 use Rattle.snl_meaning.specs.declared.instrs.Variable.{Variable}
 use Rattle.snl_resolve.specs.Calls.{has_async}
 use Rattle.snl_emit.specs.Depths.{expression_depth, terms_depth, target_depth, arguments_depth, print_depth, wait_depth, put_depth, routine_depth, joint_depth, held_depth}
-use Rattle.snl_emit.specs.ExpressionCode.{CodeOn, expression_code, lead_code, terms_code, target_code, values_code, print_code, wait_code, put_call_code, ask_flag_code, ask_code, joint_code, at_code, get_code, put_code, put_at_code, count_values}
-use Rattle.snl_meaning.specs.Names.{sense_of, format_number, flag_number, Outline, outline_named}
+use Rattle.snl_emit.specs.ExpressionCode.{CodeOn, expression_code, lead_code, terms_code, target_code, values_code, print_code, wait_code, put_call_code, routine_code, ask_flag_code, ask_code, joint_code, at_code, get_code, put_code, put_at_code, count_values}
+use Rattle.snl_meaning.specs.Names.{sense_of, format_number, flag_number, function_number, Outline, outline_named}
 use Rattle.snl_meaning.specs.Ran.{Ran, Gives, then_do}
 use Rattle.snl_meaning.specs.Endings.{HasAt}
-use Rattle.snl_meaning.specs.Run.{PieceContext, context_of}
+use Rattle.snl_meaning.specs.Run.{PieceContext}
 use Rattle.snl_resolve.specs.Builtins.{builtin_of}
+use Rattle.snl_resolve.specs.Numbered.{number_from}
 use Rattle.snl_resolve.specs.declared.builtins.Query.{Query}
-use Rattle.snl_meaning.specs.Value.{OnVariable, OnElement, constant_of, joint_of, compound_of, sign_of, is_decimal, joined_by, put_at, at_subscript, value_of, chained, at_target, print_of, printing_with, wait_of, put_of, ask_flag, ask_of}
+use Rattle.snl_meaning.specs.Value.{OnVariable, OnElement, constant_of, joint_of, compound_of, sign_of, is_decimal, joined_by, put_at, at_subscript, value_of, chained, at_target, if_callable, performed, print_of, printing_with, calling, wait_of, put_of, ask_flag, ask_of}
 use Rattle.snl_meaning.specs.Words.{gives, read, adjusted, put_to, put_element, waited}
 use Rattle.snl_meaning.specs.Asking.{asked, ask_variable, ask_element}
-use Rattle.snl_meaning.specs.Scenes.{Scene}
+use Rattle.snl_meaning.specs.Scenes.{Callable, Scene, callee_named}
 use Rattle.snl_meaning.specs.World.{World}
 use Rattle.snl_resolve.specs.declared.constants.Constant.{Constant}
 use Rattle.snl_resolve.specs.declared.constants.Constant.TheVariants.{Worth}
 use Rattle.snl_resolve.specs.Constants.{joined}
 use Rattle.snl_emit.specs.Worth.{worth_of, number_of}
-use Rattle.snl_emit.proofs.DepthPositive.{depth-positive, routine-positive}
+use Rattle.snl_emit.proofs.DepthPositive.{depth-positive}
 use Rattle.snl_emit.proofs.Folding.{then_do-gives, same-number, folding, front-right, number-right}
 use Rattle.snl_emit.proofs.FoldedCode.{codes-same, codes-number, codes-folded, codes-or}
 use Rattle.snl_meaning.proofs.Following.{has_front, has_back, follows-then, follows-to}
+use Rattle.snl_emit.proofs.Callees.{IsCallee, IsFound, found, runs-call}
+use Rattle.snl_emit.proofs.Settings.{Setting, running, IsSet}
 use Rattle.snl_emit.proofs.Joins.{Runs, Codes, CodesOn, codes-pushes, on-one, codes-more, on-more, codes-then, on-then, on-none, on-joint}
 use Rattle.snl_emit.proofs.WordCode.{codes-name, codes-at_name, codes-called, on-subscript, on-put, codes-put, codes-signed, codes-either, runs-print}
 
-module _ (m : Scene) (room : ℕ) (code : List Instr) where
+module _ (m : Scene) (setting : Setting) (code : List Instr) (ready : IsSet m setting code) where
   -- what the code runs with
   abbrev g : PieceContext
-  g = context_of m room
+  g = running m setting
+
+  -- the room for operands
+  abbrev room : ℕ
+  room = setting.room
 
   -- the functions that it may call
   abbrev fs : List Outline
-  fs = m.here.functions
+  fs = setting.outlines
 
   -- 0 is pushed
   pushes-zero : (d : ℕ) → 1 ≤ d → Codes g code (gives (pos 0)) (Push (pos 0) ∷ []) d
@@ -71,6 +78,31 @@ module _ (m : Scene) (room : ℕ) (code : List Instr) where
       let e : at + length ac + 1 ≡ at + length (ac ++ Print f (count_values all) ∷ []) = omega (arith, length-append ac (Print f (count_values all) ∷ [])) in
       follows-to g code at s w _ _ _ (λ z. z ∷ s) e
       (follow [] (count_values all) (at + length ac) at s w (omega arith) refl (has_back code at ac _ has).0 (has_front code at ac _ has) (omega arith) (omega arith))
+
+  -- a call of a function after arguments that were taken
+  abbrev CallsFrom : (n line : ℕ) → Callable → Outline → ArgumentList → Type 0
+  CallsFrom n line c o all = (taken : List ℤ) (many last at : ℕ) (s : List ℤ) (w : World) → length taken + count_values all ≡ many → last ≡ at + length (values_code m.here all) →
+      slice_get code last ≡ Some (Call n many line) → HasAt code at (values_code m.here all) → length s + 1 ≤ room → length s + o.depth ≤ room →
+      length s + arguments_depth fs (length taken) all ≤ room → Runs g code at (taken ++ s) w (calling m c line all taken w) (last + 1) s
+
+  -- a call, by what is found under its name
+  codes-routine : (line : ℕ) (all : ArgumentList) (c : Option Callable) (n : Option ℕ) (o : Option Outline) → IsFound g code (0 + length m.callees) c n o →
+      ((n : ℕ) (c : Callable) (o : Outline) → IsCallee g code n c o → n < length m.callees → CallsFrom n line c o all) →
+      Codes g code (if_callable c (λ c. calling m c line all [])) (routine_code n (values_code m.here all) (count_values all) line) (routine_depth o (arguments_depth fs 0 all))
+  codes-routine line all None None None right follow = pushes-zero 1 (omega arith)
+  codes-routine line all (Some c) (Some n) (Some o) right follow = λ at s w has free.
+      let ac = values_code m.here all in
+      let among : n < length m.callees = omega (arith, right.1) in
+      let e : at + length ac + 1 ≡ at + length (ac ++ Call n (count_values all) line ∷ []) = omega (arith, length-append ac (Call n (count_values all) line ∷ [])) in
+      follows-to g code at s w _ _ _ (λ z. z ∷ s) e
+      (follow n c o right.0 among [] (count_values all) (at + length ac) at s w (omega arith) refl (has_back code at ac _ has).0 (has_front code at ac _ has)
+      (omega (arith, free)) (omega (arith, free)) (omega (arith, free)))
+  codes-routine line all None None (Some o) right follow = absurd right
+  codes-routine line all None (Some n) None right follow = absurd right
+  codes-routine line all None (Some n) (Some o) right follow = absurd right
+  codes-routine line all (Some c) None None right follow = absurd right
+  codes-routine line all (Some c) None (Some o) right follow = absurd right
+  codes-routine line all (Some c) (Some n) None right follow = absurd right
 
   -- what is asked of a flag, by an expression
   flag-follows : (e : ExprTree) (query : Query) → Codes g code (ask_flag m e query) (ask_flag_code m.here e query ∷ []) 1
@@ -112,9 +144,14 @@ module _ (m : Scene) (room : ℕ) (code : List Instr) where
         (λ v. on-one g code (Get v) (read m.set v) (λ at x s w. refl) (expression_depth fs e)) (pushes-zero (expression_depth fs e) (depth-positive fs e)))
     value-follows (call f all) =
         codes-called g code (builtin_of f.text.now) (print_of m all) (wait_of m all) (put_of m all) (ask_of m all)
-        (print_code m.here all) (wait_code m.here all) (put_call_code m.here all) (ask_code m.here all) (print_depth fs all) (wait_depth fs all) (put_depth fs all)
+        (if_callable (callee_named m.callees f.text.now) (λ c. calling m c f.pos.line all []))
+        (print_code m.here all) (wait_code m.here all) (put_call_code m.here all) (ask_code m.here all)
+        (routine_code (function_number m.here f) (values_code m.here all) (count_values all) f.pos.line) (print_depth fs all) (wait_depth fs all) (put_depth fs all)
         (routine_depth (outline_named fs f.text.now) (arguments_depth fs 0 all)) (print-follows all) (wait-follows all) (put-follows all) (ask-follows all)
-        (routine-positive (outline_named fs f.text.now) (arguments_depth fs 0 all))
+        (codes-routine f.pos.line all (callee_named m.callees f.text.now) (function_number m.here f) (outline_named fs f.text.now)
+        (subst (λ (names : List Token). IsFound g code (0 + length m.callees) (callee_named m.callees f.text.now) (number_from 0 names f.text.now) (outline_named fs f.text.now)) (sym ready.names)
+        (found g code 0 m.callees fs f.text.now ready.callees))
+        (λ n c o right among. calling-follows n f.pos.line c o right among all))
     value-follows (postfix e op) =
         codes-signed g code (sign_of op.kind) _ (value_of m e) _ (expression_code m.here e) op.pos.line (target_depth fs e 2 3) (expression_depth fs e)
         (λ by. target-follows e _ _ (gives (pos 0)) (λ v x. Adjust v by op.pos.line x.pos.line true ∷ []) (λ v x. AdjustAt v by op.pos.line x.pos.line true ∷ [])
@@ -215,6 +252,24 @@ module _ (m : Scene) (room : ℕ) (code : List Instr) where
         follows-then g code at (taken ++ s) w (value_of m e w) (λ z. printing_with m f rest (z ∷ taken)) (λ _. at + length ec) (λ z. z ∷ (taken ++ s)) (λ _. last + 1) (λ z. z ∷ s)
         (value-follows e at (taken ++ s) w (has_front code at ec rc has) (omega (arith, length-append taken s)))
         (λ z u. printing-follows f rest (z ∷ taken) n last (at + length ec) s u (omega arith) next there (has_back code at ec rc has) free (omega arith))
+
+    -- the values of a call of a function, and the call
+    calling-follows : (n line : ℕ) (c : Callable) (o : Outline) → IsCallee g code n c o → n < length m.callees → (all : ArgumentList) → CallsFrom n line c o all
+    calling-follows n line c o right among no_arguments taken many last at s w is is_last there has some deep free =
+        let e : last ≡ at = omega (arith, is_last) in
+        let all : length taken ≡ many = omega (arith, is) in
+        let places : suc (length g.returns) + n ≤ length g.functions = omega (arith, ready.places, among) in
+        let start : Runs g code last (taken ++ s) w (performed m.set c line (reverse taken) w) (last + 1) s = runs-call g code n many line last c o taken s w right there all some deep places in
+        subst (λ p. Runs g code p (taken ++ s) w (performed m.set c line (reverse taken) w) (last + 1) s) e start
+    calling-follows n line c o right among (text t rest) taken many last at s w is is_last there has some deep free =
+        calling-follows n line c o right among rest taken many last at s w is is_last there has some deep free
+    calling-follows n line c o right among (value e rest) taken many last at s w is is_last there has some deep free =
+        let ec = expression_code m.here e in
+        let rc = values_code m.here rest in
+        let next : last ≡ at + length ec + length rc = omega (arith, is_last, length-append ec rc) in
+        follows-then g code at (taken ++ s) w (value_of m e w) (λ z. calling m c line rest (z ∷ taken)) (λ _. at + length ec) (λ z. z ∷ (taken ++ s)) (λ _. last + 1) (λ z. z ∷ s)
+        (value-follows e at (taken ++ s) w (has_front code at ec rc has) (omega (arith, free, length-append taken s)))
+        (λ z u. calling-follows n line c o right among rest (z ∷ taken) many last (at + length ec) s u (omega (arith, is)) next there (has_back code at ec rc has) some deep (omega (arith, free)))
 
     -- `delay`
     wait-follows : (all : ArgumentList) → Codes g code (wait_of m all) (wait_code m.here all) (wait_depth fs all)

@@ -20,11 +20,11 @@ use Rattle.snl_meaning.specs.declared.operators.Joint.{Joint}
 use Rattle.snl_meaning.specs.declared.operators.Joint.TheVariants.{And, Or, Sequel, Operation}
 use Rattle.snl_meaning.specs.declared.operators.Sign.{Sign}
 use Rattle.snl_meaning.specs.declared.operators.Sign.TheVariants.{Steps, Alone}
-use Rattle.snl_meaning.specs.Names.{Here, sense_of, format_number}
+use Rattle.snl_meaning.specs.Names.{Here, sense_of, format_number, function_number}
 use Rattle.snl_meaning.specs.Value.{joint_of, compound_of, sign_of, is_decimal}
 use Rattle.snl_resolve.specs.Calls.{has_async}
 use Rattle.snl_emit.specs.Worth.{of_use, worth_of, worth_or, number_of}
-use Rattle.snl_emit.specs.ExpressionCode.{folded, joint_code, if_code, at_code, get_code, renewed_code, put_code, put_at_code, CodeOn, at_name_code, signed_code, called_code, ask_flag_code, count_values, expression_code, lead_code, terms_code, target_code, print_code, values_code, wait_code, put_call_code, ask_code}
+use Rattle.snl_emit.specs.ExpressionCode.{folded, joint_code, if_code, at_code, get_code, renewed_code, put_code, put_at_code, CodeOn, at_name_code, signed_code, called_code, routine_code, ask_flag_code, count_values, expression_code, lead_code, terms_code, target_code, print_code, values_code, wait_code, put_call_code, ask_code}
 use Rattle.snl_emit.specs.Size.{sized, expression_size, lead_size, terms_size, arguments_size}
 
 -- ---- parts
@@ -63,13 +63,18 @@ signed-short (Steps by) stepping operand line n f le = f by
 signed-short (Alone op) stepping operand line n f le = omega (arith, length-append operand (instr.ApplyPrefix op line ∷ []), le)
 
 -- a call
-called-short : (o : Option Builtin) (print wait put : List Instr) (ask : Query → List Instr) (n : ℕ) → 1 ≤ n → length print ≤ n → length wait ≤ n → length put ≤ n →
-    ((query : Query) → length (ask query) ≤ n) → length (called_code o print wait put ask) ≤ n
-called-short None print wait put ask n some a b c d = omega (arith, some)
-called-short (Some Delay) print wait put ask n some a b c d = b
-called-short (Some Printf) print wait put ask n some a b c d = a
-called-short (Some PvPut) print wait put ask n some a b c d = c
-called-short (Some (Ask query)) print wait put ask n some a b c d = d query
+called-short : (o : Option Builtin) (print wait put : List Instr) (ask : Query → List Instr) (routine : List Instr) (n : ℕ) → length print ≤ n → length wait ≤ n → length put ≤ n →
+    ((query : Query) → length (ask query) ≤ n) → length routine ≤ n → length (called_code o print wait put ask routine) ≤ n
+called-short None print wait put ask routine n a b c d e = e
+called-short (Some Delay) print wait put ask routine n a b c d e = b
+called-short (Some Printf) print wait put ask routine n a b c d e = a
+called-short (Some PvPut) print wait put ask routine n a b c d e = c
+called-short (Some (Ask query)) print wait put ask routine n a b c d e = d query
+
+-- that of a function of the program
+routine-short : (function : Option ℕ) (values : List Instr) (count line n : ℕ) → length values ≤ n → length (routine_code function values count line) ≤ n + 1
+routine-short None values count line n le = omega arith
+routine-short (Some f) values count line n le = omega (arith, length-append values (instr.Call f count line ∷ []), le)
 
 -- what is done after a subscript
 at-short : (s : Sense) (line : ℕ) (go : Variable → List Instr) (other : List Instr) (n : ℕ) → ((v : Variable) → length (go v) ≤ n) → length other ≤ n →
@@ -114,8 +119,9 @@ module _ (h : Here) where
         let n = arguments_size h.sites all + 1 in
         omega (
           arith,
-          called-short (builtin_of f.text.now) (print_code h all) (wait_code h all) (put_call_code h all) (ask_code h all) n (omega arith)
-              (print-short all) (wait-short all) (put-call-short all) (ask-short all),
+          called-short (builtin_of f.text.now) (print_code h all) (wait_code h all) (put_call_code h all) (ask_code h all)
+              (routine_code (function_number h f) (values_code h all) (count_values all) f.pos.line) n (print-short all) (wait-short all) (put-call-short all) (ask-short all)
+              (routine-short (function_number h f) (values_code h all) (count_values all) f.pos.line (arguments_size h.sites all) (values-short all)),
         )
     value-short (postfix e op) =
         let n = expression_size h.sites e + 1 in

@@ -22,7 +22,7 @@ use Rattle.snl_resolve.specs.declared.builtins.Query.{Query}
 use Rattle.snl_meaning.specs.Value.{OnVariable, at_name, called, either, renewed, put_at, at_subscript, named_value, signed}
 use Rattle.snl_meaning.specs.declared.operators.Sign.{Sign}
 use Rattle.snl_meaning.specs.declared.operators.Sign.TheVariants.{Steps, Alone}
-use Rattle.snl_meaning.specs.Words.{gives, operated, operated_prefix, subscript, read, stored, printed}
+use Rattle.snl_meaning.specs.Words.{operated, operated_prefix, subscript, read, stored, printed}
 use Rattle.snl_meaning.specs.World.{World}
 use Rattle.snl_meaning.proofs.Following.{has_front, has_back, Quiet, follows-on, follows-step, follows-quiet, follows-then, follows-to, quiet-jump, quiet-if_zero}
 use Rattle.snl_emit.proofs.Joins.{Runs, Codes, CodesOn, codes-pushes, on-one, codes-more, codes-then, on-then, on-held, on-two, on-drop}
@@ -82,14 +82,15 @@ module _ (g : PieceContext) (code : List Instr) where
   codes-at_name (Stands z) x alone other ac oc d f h = h
 
   -- a call
-  pub codes-called : (function : Option Builtin) (print wait put : World → Ran ℤ) (ask : Query → World → Ran ℤ) (pc wc uc : List Instr) (ac : Query → List Instr) (d e i r : ℕ) →
-      Codes g code print pc d → Codes g code wait wc e → Codes g code put uc i → ((query : Query) → Codes g code (ask query) (ac query) i) → 1 ≤ r →
-      Codes g code (called function print wait put ask) (called_code function pc wc uc ac) (called_depth function d e i r)
-  codes-called None print wait put ask pc wc uc ac d e i r f h k a some = codes-pushes g code (Push (pos 0)) (gives (pos 0)) (λ at s w. refl) r some
-  codes-called (Some Delay) print wait put ask pc wc uc ac d e i r f h k a some = h
-  codes-called (Some Printf) print wait put ask pc wc uc ac d e i r f h k a some = f
-  codes-called (Some PvPut) print wait put ask pc wc uc ac d e i r f h k a some = k
-  codes-called (Some (Ask query)) print wait put ask pc wc uc ac d e i r f h k a some = a query
+  pub codes-called : (function : Option Builtin) (print wait put : World → Ran ℤ) (ask : Query → World → Ran ℤ) (routine : World → Ran ℤ)
+      (pc wc uc : List Instr) (ac : Query → List Instr) (rc : List Instr) (d e i r : ℕ) →
+      Codes g code print pc d → Codes g code wait wc e → Codes g code put uc i → ((query : Query) → Codes g code (ask query) (ac query) i) → Codes g code routine rc r →
+      Codes g code (called function print wait put ask routine) (called_code function pc wc uc ac rc) (called_depth function d e i r)
+  codes-called None print wait put ask routine pc wc uc ac rc d e i r f h k a l = l
+  codes-called (Some Delay) print wait put ask routine pc wc uc ac rc d e i r f h k a l = h
+  codes-called (Some Printf) print wait put ask routine pc wc uc ac rc d e i r f h k a l = f
+  codes-called (Some PvPut) print wait put ask routine pc wc uc ac rc d e i r f h k a l = k
+  codes-called (Some (Ask query)) print wait put ask routine pc wc uc ac rc d e i r f h k a l = a query
 
   -- a sign
   pub codes-signed : (sg : Sign) (stepping : Kind → World → Ran ℤ) (operand : World → Ran ℤ) (sc : Kind → List Instr) (oc : List Instr) (line d e : ℕ) →

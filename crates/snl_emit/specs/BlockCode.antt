@@ -1,11 +1,11 @@
 -- The code of statements and blocks.
-use Rattle.std.specs.Prelude.{ℕ, suc, ◌+◌, List, [], ◌∷◌, ◌++◌, Option, None, Some, length, nat_lt, if◌then◌else◌}
+use Rattle.std.specs.Prelude.{ℕ, suc, ◌+◌, pos, List, [], ◌∷◌, ◌++◌, Option, None, Some, length, nat_lt, if◌then◌else◌}
 use Rattle.snl_text.specs.declared.kinds.Kind.{Kind}
 use Rattle.snl_syntax.specs.Expressions.{ExprTree, parenthesized, named, assignment, postfix, prefix}
 use Rattle.snl_syntax.specs.Declarations.{DeclaratorTree}
 use Rattle.snl_syntax.specs.Statements.{StatementTree, StatementList, BlockTree, nested, empty, expression, break_loop, continue_loop, change_state, return_with, if_then, if_else, while_loop, for_loop, no_statements, statement, block}
 use Rattle.snl_meaning.specs.declared.instrs.Instr.{Instr}
-use Rattle.snl_meaning.specs.declared.instrs.Instr.TheVariants.{Increment, Drop, Jump, JumpIfZero, Tick, Clear, Assign, Leave, End}
+use Rattle.snl_meaning.specs.declared.instrs.Instr.TheVariants.{Push, Increment, Drop, Jump, JumpIfZero, Tick, Clear, Assign, Fit, Return, Leave, End}
 use Rattle.snl_meaning.specs.declared.instrs.Variable.{Variable}
 use Rattle.snl_meaning.specs.Effect.{variable_for, values_of, names_of}
 use Rattle.snl_emit.specs.ExpressionCode.{expression_code, renewed_code, if_code}
@@ -13,7 +13,7 @@ use Rattle.snl_meaning.specs.declared.names.Sense.{Sense}
 use Rattle.snl_meaning.specs.declared.names.Sense.TheVariants.{Varies, Stands}
 use Rattle.snl_meaning.specs.declared.operators.Sign.{Sign}
 use Rattle.snl_meaning.specs.declared.operators.Sign.TheVariants.{Steps, Alone}
-use Rattle.snl_meaning.specs.Names.{Here, sense_of, state_number}
+use Rattle.snl_meaning.specs.Names.{Here, Within, Piece, Body, sense_of, state_number}
 use Rattle.snl_meaning.specs.Value.{compound_of, sign_of}
 
 -- ---- the parts
@@ -119,6 +119,28 @@ all_begun_code h (d ∷ ds) = begun_with_code h (variable_for h d) d.name.pos.li
 abbrev pub entered_code : Here → List DeclaratorTree → List Instr
 entered_code h ds = all_cleared_code h ds ++ all_begun_code h ds
 
+-- ---- `return` and `state`
+
+-- A `return` with its value, which has to fit the type of the function. Outside of functions it has no code.
+abbrev pub return_code : Within → ℕ → List Instr → List Instr
+return_code Piece line value = []
+return_code (Body least greatest) line value = value ++ Fit least greatest line ∷ Return ∷ []
+
+-- The same without a value: the function gives 0.
+abbrev pub plain_return_code : Within → List Instr
+plain_return_code Piece = []
+plain_return_code (Body least greatest) = Push (pos 0) ∷ Return ∷ []
+
+-- A `return`, with a value or without.
+abbrev pub returned_code : Here → ℕ → Option ExprTree → List Instr
+returned_code h line None = plain_return_code h.within
+returned_code h line (Some e) = return_code h.within line (expression_code h e)
+
+-- A `state`. In a function it has no code.
+abbrev pub left_code : Within → ℕ → List Instr
+left_code Piece state = Leave state ∷ []
+left_code (Body least greatest) state = []
+
 -- ---- statements
 
 -- Of a statement it is known how many instructions stand between its end and the end of the innermost loop, and
@@ -131,8 +153,8 @@ abbrev mutual
   statement_code h out again (expression e) = effect_code h e
   statement_code h out again (break_loop t) = Jump out ∷ []
   statement_code h out again (continue_loop t) = Jump again ∷ []
-  statement_code h out again (change_state t x) = Leave (state_number h x) ∷ []
-  statement_code h out again (return_with t e) = []
+  statement_code h out again (change_state t x) = left_code h.within (state_number h x)
+  statement_code h out again (return_with t e) = returned_code h t.pos.line e
   statement_code h out again (if_then c s) = when_code (expression_code h c) (statement_code h out again s)
   statement_code h out again (if_else c s e) =
       let second = statement_code h out again e in

@@ -1,5 +1,5 @@
 -- How many operands code needs at once.
-use Rattle.std.specs.Prelude.{ℕ, suc, ◌+◌, List, [], ◌∷◌, Option, None, Some, max}
+use Rattle.std.specs.Prelude.{ℕ, suc, ◌+◌, List, [], ◌∷◌, ◌++◌, Option, None, Some, max}
 use Rattle.snl_text.specs.declared.kinds.Kind.{Kind}
 use Rattle.snl_syntax.specs.Expressions.{ExprTree, TermList, ArgumentList, constant, parenthesized, named, element, call, postfix, prefix, chain, conditional, assignment, no_terms, term, no_arguments, value, text}
 use Rattle.snl_syntax.specs.Declarations.{DeclaratorTree}
@@ -12,6 +12,7 @@ use Rattle.snl_meaning.specs.declared.operators.Joint.TheVariants.{Operation}
 use Rattle.snl_meaning.specs.declared.operators.Sign.{Sign}
 use Rattle.snl_meaning.specs.declared.operators.Sign.TheVariants.{Steps, Alone}
 use Rattle.snl_meaning.specs.Effect.{values_of, names_of}
+use Rattle.snl_meaning.specs.Functions.{Routine}
 use Rattle.snl_meaning.specs.Names.{Outline, outline_named}
 use Rattle.snl_meaning.specs.Value.{joint_of, compound_of, sign_of}
 
@@ -146,3 +147,12 @@ abbrev mutual
 abbrev pub deepest : List Outline → ℕ
 deepest [] = 0
 deepest (o ∷ os) = max o.depth (deepest os)
+
+-- What code knows of a function below others: a call of it needs room for its body.
+abbrev pub outline_of : List Outline → Routine → Outline
+outline_of above r = record { name = r.name.text.now; depth = block_depth above r.body }
+
+-- The same of functions, each below those before it.
+abbrev pub outlines_after : List Outline → List Routine → List Outline
+outlines_after above [] = above
+outlines_after above (r ∷ rs) = outlines_after (above ++ outline_of above r ∷ []) rs

@@ -10,8 +10,8 @@ use Rattle.snl_meaning.specs.declared.instrs.Instr.TheVariants.{Push, Jump, Tick
 use Rattle.snl_syntax.specs.Statements.{StatementTree}
 use Rattle.snl_emit.specs.BlockCode.{statement_code}
 use Rattle.snl_emit.specs.Worth.{number_of}
-use Rattle.snl_emit.specs.ExpressionCode.{expression_code, target_code, operator_code, joint_code, signed_code, at_code, get_code, called_code, print_code, wait_code, put_call_code, ask_code, ask_flag_code}
-use Rattle.snl_meaning.specs.Names.{Here}
+use Rattle.snl_emit.specs.ExpressionCode.{expression_code, target_code, operator_code, joint_code, signed_code, at_code, get_code, called_code, routine_code, count_values, values_code, print_code, wait_code, put_call_code, ask_code, ask_flag_code}
+use Rattle.snl_meaning.specs.Names.{Here, function_number}
 use Rattle.snl_meaning.specs.declared.names.Sense.{Sense}
 use Rattle.snl_emit.specs.Targets.{place_code, adjust_code}
 use Rattle.snl_meaning.specs.Value.{joint_of, sign_of}
@@ -40,9 +40,14 @@ abbrev pub sign_code : Here → Token → Bool → ExprTree → List Instr
 sign_code h op is_before e =
     signed_code (sign_of op.kind) (λ by. place_code h None e ++ adjust_code h by op.pos.line is_before e ∷ []) (expression_code h e) op.pos.line
 
+-- A call of a function of the program, with its arguments.
+abbrev pub function_call : Here → Token → ArgumentList → List Instr
+function_call h f all = routine_code (function_number h f) (values_code h all) (count_values all) f.pos.line
+
 -- A call with its arguments.
 abbrev pub call_code : Here → Token → ArgumentList → List Instr
-call_code h f all = called_code (builtin_of f.text.now) (print_code h all) (wait_code h all) (put_call_code h all) (ask_code h all)
+call_code h f all =
+    called_code (builtin_of f.text.now) (print_code h all) (wait_code h all) (put_call_code h all) (ask_code h all) (function_call h f all)
 
 -- `pvPut` of a target, with `ASYNC` or without.
 abbrev pub put_target_code : Here → Bool → ExprTree → List Instr

@@ -5,9 +5,9 @@ use Rattle.snl_text.specs.declared.kinds.Kind.{Kind}
 use Rattle.snl_text.specs.declared.tokens.Token.{Token}
 use Rattle.snl_syntax.specs.Expressions.{ExprTree, TermList, ArgumentList, constant, parenthesized, named, element, call, postfix, prefix, chain, conditional, assignment, no_terms, term, no_arguments, value, text}
 use Rattle.snl_meaning.specs.declared.instrs.Instr.{Instr}
-use Rattle.snl_meaning.specs.declared.instrs.Instr.TheVariants.{Push, Load, Check, Get, Peek, Store, StoreAt, Adjust, AdjustAt, Apply, ApplyNumber, ApplyPrefix, Settle, Drop, Jump, JumpIfZero, Print, Wait, Put, PutAt, Ask, AskLink, AskElement}
+use Rattle.snl_meaning.specs.declared.instrs.Instr.TheVariants.{Push, Load, Check, Get, Peek, Store, StoreAt, Adjust, AdjustAt, Apply, ApplyNumber, ApplyPrefix, Settle, Drop, Jump, JumpIfZero, Print, Wait, Put, PutAt, Ask, AskLink, AskElement, Call}
 use Rattle.snl_meaning.specs.declared.instrs.Variable.{Variable}
-use Rattle.snl_meaning.specs.Names.{Here, sense_of, format_number, flag_number}
+use Rattle.snl_meaning.specs.Names.{Here, sense_of, format_number, flag_number, function_number}
 use Rattle.snl_meaning.specs.declared.names.Sense.{Sense}
 use Rattle.snl_meaning.specs.declared.names.Sense.TheVariants.{Varies, Stands}
 use Rattle.snl_resolve.specs.declared.constants.Constant.{Constant}
@@ -90,13 +90,19 @@ abbrev pub signed_code : Sign → (Kind → List Instr) → List Instr → ℕ �
 signed_code (Steps op) stepping operand line = stepping op
 signed_code (Alone op) stepping operand line = operand ++ ApplyPrefix op line ∷ []
 
--- The code of a call.
-abbrev pub called_code : Option Builtin → (print wait put : List Instr) → (Query → List Instr) → List Instr
-called_code None print wait put ask = Push (pos 0) ∷ []
-called_code (Some Delay) print wait put ask = wait
-called_code (Some Printf) print wait put ask = print
-called_code (Some PvPut) print wait put ask = put
-called_code (Some (builtin.Ask query)) print wait put ask = ask query
+-- The code of a call, by its built-in function; of any other name it is that of a function of the program.
+abbrev pub called_code : Option Builtin → (print wait put : List Instr) → (Query → List Instr) → (routine : List Instr) → List Instr
+called_code None print wait put ask routine = routine
+called_code (Some Delay) print wait put ask routine = wait
+called_code (Some Printf) print wait put ask routine = print
+called_code (Some PvPut) print wait put ask routine = put
+called_code (Some (builtin.Ask query)) print wait put ask routine = ask query
+
+-- The call of the function of this number: its values, then the call, with how many they are and its line. Where there is no such
+-- function, no value is computed.
+abbrev pub routine_code : Option ℕ → List Instr → (count line : ℕ) → List Instr
+routine_code None values count line = Push (pos 0) ∷ []
+routine_code (Some function) values count line = values ++ Call function count line ∷ []
 
 -- What is asked of an event flag, by its name; 0 where no name stands.
 abbrev pub ask_flag_code : Here → ExprTree → Query → Instr
@@ -119,7 +125,9 @@ abbrev mutual
   expression_code h (parenthesized e) = expression_code h e
   expression_code h (named x) = name_code (sense_of h x) ∷ []
   expression_code h (element x b e) = expression_code h e ++ at_code (sense_of h x) b.pos.line get_code (Push (pos 0) ∷ [])
-  expression_code h (call f all) = called_code (builtin_of f.text.now) (print_code h all) (wait_code h all) (put_call_code h all) (ask_code h all)
+  expression_code h (call f all) =
+      called_code (builtin_of f.text.now) (print_code h all) (wait_code h all) (put_call_code h all) (ask_code h all)
+      (routine_code (function_number h f) (values_code h all) (count_values all) f.pos.line)
   expression_code h (postfix e op) =
       signed_code (sign_of op.kind) (λ by. target_code h e (λ v x. Adjust v by op.pos.line x.pos.line true ∷ [])
       (λ v x. AdjustAt v by op.pos.line x.pos.line true ∷ []) (Push (pos 0) ∷ [])) (expression_code h e) op.pos.line

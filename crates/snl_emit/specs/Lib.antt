@@ -3,6 +3,8 @@ pub mod ExpressionCode
 pub mod Targets
 pub mod BlockCode
 pub mod Depths
+pub mod FunctionCode
 pub mod Emission
 pub mod Size
 pub mod Right
+pub mod Examples

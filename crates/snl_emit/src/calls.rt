@@ -34,6 +34,36 @@ pub fn emit_call<'a>(
         Some(Builtin::Printf) => emit_print(arguments, known, code),
         Some(Builtin::PvPut) => emit_put(arguments, known, code),
         Some(Builtin::Ask(query)) => emit_ask(arguments, known, query, code),
+        None => emit_routine(arguments, known, name, code),
+    }
+}
+
+/// A call of a function of the program: its values, and the call. Where there is no such function, no value is computed.
+#[cycle(emission)]
+fn emit_routine<'a>(
+    arguments: &[Argument<'a>],
+    known: &Known<'_, 'a>,
+    name: Token<'a>,
+    code: &mut Vec<Instr>,
+) -> Result<(), AllocError>
+    ensures { OnOk result (reverse code.new.items
+        ≡ form.function_call (here_of known.now) name.entry
+        (list_before arguments.now no_arguments) ++ reverse code.old.items) }
+{
+    match known.function(name) {
+        Some(function) => {
+            let count = count_values(arguments);
+            let line = name.pos.line;
+            put(
+                code,
+                Instr::Call {
+                    function,
+                    count,
+                    line,
+                },
+            )?;
+            emit_values(arguments, known, code)
+        }
         None => put(code, Instr::Push(0)),
     }
 }

@@ -1,4 +1,4 @@
-//! Makes the flat code of one condition or one block, with the law that it does what the piece means.
+//! Makes the flat code of one condition, one block or the body of a function, with the law that it does what the piece means.
 #![tactic(auto)]
 
 mod calls;
@@ -7,6 +7,7 @@ mod effects;
 mod emission;
 mod entries;
 pub mod laws;
+mod leaving;
 mod parts;
 mod rows;
 mod statements;
@@ -14,4 +15,4 @@ mod targets;
 mod worth;
 
 pub use emission::emit_expression;
-pub use statements::emit_block;
+pub use statements::{emit_block, emit_function};

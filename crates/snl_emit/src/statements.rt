@@ -10,12 +10,14 @@ ghost use Rattle.snl_emit.specs.BlockCode as spec;
 ghost use Rattle.snl_meaning.specs.Effect.{names_of};
 ghost use Rattle.snl_emit.specs.Emission.{turn_code};
 ghost use Rattle.snl_emit.specs.ExpressionCode.{expression_code};
+ghost use Rattle.snl_emit.specs.FunctionCode.{body_code};
 ghost use Rattle.snl_meaning.specs.Known.{here_of};
 ghost use Rattle.snl_meaning.specs.declared.instrs.Instr.TheVariants as instr;
 
 use crate::effects::emit_effect;
 use crate::emission::emit_expression;
 use crate::entries::emit_entry;
+use crate::leaving::{emit_return, put_leave};
 use crate::rows::put;
 use snl_meaning::{Instr, Known};
 use snl_syntax::{Block, Expr, Stmt};
@@ -140,11 +142,12 @@ fn emit_statement<'a>(
 {
     match statement {
         Stmt::Block(block) => emit_nested(block, known, around, code),
-        Stmt::Empty | Stmt::Return { .. } => Ok(()),
+        Stmt::Empty => Ok(()),
         Stmt::Expression(value) => emit_effect(value, known, code),
         Stmt::Break(_) => put_jump(code, around.end),
         Stmt::Continue(_) => put_jump(code, around.again),
-        Stmt::State { name, .. } => put(code, Instr::Leave(known.state(*name))),
+        Stmt::State { name, .. } => put_leave(known.within, known.state(*name), code),
+        Stmt::Return { word, value } => emit_return(value, known, word.pos.line, code),
         Stmt::If { condition, first } => {
             emit_when(first, known, around, code)?;
             emit_expression(condition, known, code)
@@ -166,8 +169,7 @@ fn emit_statement<'a>(
             let end = code.len();
             open(code)?;
             emit_test(condition, known, code)?;
-            let test = code.len();
-            emit_turn(body, known, word.pos.line, end, test, code)
+            emit_turn(body, known, word.pos.line, end, code.len(), code)
         }
         Stmt::For { word, header, body } => {
             let end = code.len();
@@ -342,4 +344,19 @@ pub fn emit_block<'a>(
 {
     let end = code.len();
     emit_nested(block, known, Loop { end, again: end }, code)
+}
+
+/// Puts the code of the body of a function before the code that was made. It goes back to where the call goes on; at its end it
+/// gives 0. The only error is that memory ends.
+pub fn emit_function<'a>(
+    body: &Block<'a>,
+    known: &Known<'_, 'a>,
+    code: &mut Vec<Instr>,
+) -> Result<(), AllocError>
+    ensures { OnOk result (reverse code.new.items
+        ≡ body_code (here_of known.now) (block_view body.now) ++ reverse code.old.items) }
+{
+    put(code, Instr::Return)?;
+    put(code, Instr::Push(0))?;
+    emit_block(body, known, code)
 }

@@ -12,7 +12,7 @@ use Rattle.snl_meaning.specs.declared.instrs.Instr.{Instr}
 use Rattle.snl_meaning.specs.Effect.{held_by, block_effect}
 use Rattle.snl_meaning.specs.Ran.{then_do}
 use Rattle.snl_meaning.specs.Endings.{IsOver}
-use Rattle.snl_meaning.specs.Run.{PieceContext, context_of, run_of}
+use Rattle.snl_meaning.specs.Run.{Entry, PieceContext, context_of, run_of}
 use Rattle.snl_meaning.specs.World.{World}
 use Rattle.snl_vm.specs.Running.{left_at}
 use Rattle.snl_schedule.specs.declared.plans.ClausePlan.{ClausePlan}
@@ -21,10 +21,10 @@ use Rattle.snl_load.specs.Meaning.{clause_meaning, left_for}
 use Rattle.snl_load.specs.Plans.{clause_plan, clause_plans}
 use Rattle.snl_load.proofs.Pieces.{condition-means, block-means}
 
-module _ (p : ProgramTree) (code : List Instr) (t : ProgramTable) (room set : ℕ) (placed : (name : Piece) → IsPlaced p code (kept_piece (holds_in t) p name) (start_in t name))
-    (enough : program_depth p ≤ room) (state : ℕ) (held : holds_in t set state ≡ true) where
+module _ (p : ProgramTree) (code : List Instr) (functions : List Entry) (t : ProgramTable) (room set : ℕ)
+    (placed : (name : Piece) → IsPlaced p code functions (kept_piece (holds_in t) p name) (start_in t name)) (enough : program_depth p ≤ room) (state : ℕ) (held : holds_in t set state ≡ true) where
   abbrev pub context : PieceContext
-  context = context_of (scene_in p set) room
+  context = context_of (scene_in p set) functions room
 
   -- the code has the piece of a name that stands in the state
   kept : (o : Option PieceTree) → (if holds_in t set state then o else None) ≡ o
@@ -36,23 +36,24 @@ module _ (p : ProgramTree) (code : List Instr) (t : ProgramTable) (room set : �
   condition k c at =
       let name = Condition set state k in
       let is : piece_of p name ≡ option_map (Test set) c.condition = ap (option_and_then (λ d. option_map (Test set) d.condition)) at in
-      condition-means p code room set c.condition (start_in t name) (subst (λ (o : Option PieceTree). IsPlaced p code o (start_in t name)) (kept (piece_of p name) ∙ is) (placed name))
+      let there = subst (λ (o : Option PieceTree). IsPlaced p code functions o (start_in t name)) (kept (piece_of p name) ∙ is) (placed name) in
+      condition-means p code functions room set c.condition (start_in t name) there
       (λ x there. omega (arith, enough, depth_is_enough p name (Test set x) (is ∙ ap (option_map (Test set)) there)))
 
   -- the block of a clause
   block : (k : ℕ) (c : ClauseTree) → clause_at p set state k ≡ Some c → let start = unwrap_or (start_in t (Block set state k)) 0 in
       ((w : World) → left_at context code start w ≡ then_do (block_effect (scene_in p set) c.block w) left_for) × ((w : World) → IsOver (run_of context code start w))
   block k c at =
-      let name = Block set state k in by (start_in t name) (subst (λ (o : Option PieceTree). IsPlaced p code o (start_in t name)) (kept (piece_of p name) ∙ is) (placed name))
+      let name = Block set state k in by (start_in t name) (subst (λ (o : Option PieceTree). IsPlaced p code functions o (start_in t name)) (kept (piece_of p name) ∙ is) (placed name))
     where
       is : piece_of p (Block set state k) ≡ Some (Action set c.block)
       is = ap (option_map (λ d. Action set d.block)) at
 
-      by : (start : Option ℕ) → IsPlaced p code (Some (Action set c.block)) start →
+      by : (start : Option ℕ) → IsPlaced p code functions (Some (Action set c.block)) start →
           ((w : World) → left_at context code (unwrap_or start 0) w ≡ then_do (block_effect (scene_in p set) c.block w) left_for)
           × ((w : World) → IsOver (run_of context code (unwrap_or start 0) w))
       by None there = absurd there
-      by (Some start) there = block-means p code room set c.block start there (omega (arith, enough, depth_is_enough p (Block set state k) (Action set c.block) is))
+      by (Some start) there = block-means p code functions room set c.block start there (omega (arith, enough, depth_is_enough p (Block set state k) (Action set c.block) is))
 
   -- a clause means what its plan runs
   clause-means : (k : ℕ) (c : ClauseTree) → clause_at p set state k ≡ Some c → clause_of context code (clause_plan (here_in p set).states t set state k c) ≡ clause_meaning (scene_in p set) c

@@ -1,6 +1,6 @@
 -- What runs of pieces leave at their ends.
 use Rattle.std.proofs.Common.{◌≡◌, ◌∙◌, ℕ, ℤ, List, [], ◌++◌, None, Some, refl, ap, append-nil}
-use Rattle.snl_meaning.specs.Effect.{Way, Done, Broken, Continued, Left}
+use Rattle.snl_meaning.specs.Effect.{Way, Done, Broken, Continued, Left, Returned}
 use Rattle.snl_meaning.specs.Ran.{Ran, Gives, Faults, then_do}
 use Rattle.snl_meaning.specs.Endings.{IsOver}
 use Rattle.snl_emit.specs.Right.{ends_with, leads_to}
@@ -28,6 +28,7 @@ state-left (Gives Done w text) = ap (λ t. Gives None w t) (append-nil (text ++ 
 state-left (Gives Broken w text) = ap (λ t. Gives None w t) (append-nil (text ++ []))
 state-left (Gives Continued w text) = ap (λ t. Gives None w t) (append-nil (text ++ []))
 state-left (Gives (Left state) w text) = ap (λ t. Gives (Some state) w t) (append-nil (text ++ []))
+state-left (Gives (Returned z) w text) = ap (λ t. Gives None w t) (append-nil (text ++ []))
 state-left (Faults f line w text) = refl
 
 -- text with nothing behind it, three times
@@ -40,6 +41,7 @@ block-ended (Gives Done w text) = ap (λ t. Gives tt w t) (nothing_more text)
 block-ended (Gives Broken w text) = ap (λ t. Gives tt w t) (nothing_more text)
 block-ended (Gives Continued w text) = ap (λ t. Gives tt w t) (nothing_more text)
 block-ended (Gives (Left state) w text) = ap (λ t. Gives tt w t) (nothing_more text)
+block-ended (Gives (Returned z) w text) = ap (λ t. Gives tt w t) (nothing_more text)
 block-ended (Faults f line w text) = refl
 
 -- a block's run comes to its end
@@ -48,4 +50,5 @@ is-over (Gives Done w text) = tt
 is-over (Gives Broken w text) = tt
 is-over (Gives Continued w text) = tt
 is-over (Gives (Left state) w text) = tt
+is-over (Gives (Returned z) w text) = tt
 is-over (Faults f line w text) = tt

@@ -1,16 +1,19 @@
 -- The values of a list in braces, and what elements begin with.
-use Rattle.std.proofs.Common.{◌≡◌, ◌∙◌, ◌+◌, ◌-◌, ◌<◌, sym, ap, arith, ℕ, suc, ℤ, pos, Bool, List, [], ◌∷◌, ◌++◌, append_assoc}
+use Rattle.std.proofs.Common.{◌≡◌, ◌∙◌, ◌+◌, ◌-◌, ◌<◌, sym, ap, arith, ℕ, zero, suc, ℤ, pos, Bool, List, [], ◌∷◌, ◌++◌, append_assoc}
 use Rattle.std.specs.Prelude.{replicate}
 use Rattle.snl_syntax.specs.Expressions.{ExprTree}
 use Rattle.snl_syntax.specs.view.Declarations.{value_list}
 use Rattle.snl_resolve.specs.Types.{listed_values}
+use Rattle.snl_meaning.specs.Laws.{words_of}
 use Rattle.snl_resolve.specs.Variables.{Held}
-use Rattle.snl_emit.proofs.EntryCode as code
+use Rattle.snl_resolve.proofs.ListLaws.{listed_of}
+use Rattle.snl_resolve.specs.Scopes.{elements}
+use Rattle.snl_load.specs.First.{first_shared}
 use Rattle.snl_load.specs.Initials.{first_element, first_elements}
 
 -- they are those that are written
 pub values_listed : (es : List ExprTree) (comma : Bool) → listed_values (value_list es comma) ≡ es
-values_listed = code.values_listed
+values_listed = listed_of
 
 -- one zero more was added
 pub zeros-more : (n : ℕ) (words : List ℤ) (i : ℕ) → i < n → (words ++ pos 0 ∷ []) ++ replicate (n - (i + 1)) (pos 0) ≡ words ++ replicate (n - i) (pos 0)
@@ -27,3 +30,13 @@ elements-more v from n words i less =
     append_assoc words (first_element v (from + i) ∷ []) (first_elements v (from + (i + 1)) (n - (i + 1)))
     ∙ ap (λ k. words ++ first_element v (from + i) ∷ first_elements v k (n - (i + 1))) later
     ∙ sym (ap (λ m. words ++ first_elements v (from + i) m) left)
+
+-- zeros behind zeros
+zeros-both : (m n : ℕ) → replicate (m + n) (pos 0) ≡ replicate m (pos 0) ++ replicate n (pos 0)
+zeros-both zero n = ap (λ (k : ℕ). replicate k (pos 0)) (let e : 0 + n ≡ n = omega arith in e)
+zeros-both (suc m) n =
+    ap (λ (k : ℕ). replicate k (pos 0)) (let e : suc m + n ≡ suc (m + n) = omega arith in e) ∙ ap (λ (l : List ℤ). pos 0 ∷ l) (zeros-both m n)
+
+-- the words of one more variable of functions
+pub shared_more : (v : Held) (vs : List Held) → first_shared (v ∷ vs) ≡ replicate (elements v.size) (pos 0) ++ first_shared vs
+shared_more v vs = zeros-both (elements v.size) (words_of vs)

@@ -8,13 +8,13 @@ use Rattle.snl_code.specs.declared.starts.Piece.TheVariants.{ProgramEntry, Progr
 use Rattle.snl_code.specs.Depths.{program_depth}
 use Rattle.snl_code.specs.Heres.{outlines_in, here_in, scene_in, name_by, states_by}
 use Rattle.snl_code.specs.Pieces.{IsPlaced, PieceTree, Action, piece_of, kept_piece, state_at}
-use Rattle.snl_code.specs.Starts.{table_of, holds_in, start_in}
+use Rattle.snl_code.specs.Starts.{entries_of, table_of, holds_in, start_in}
 use Rattle.snl_code.proofs.Deepest.{depth_is_enough}
 use Rattle.snl_links.specs.Links.{Link}
 use Rattle.snl_meaning.specs.declared.instrs.Instr.{Instr}
 use Rattle.snl_emit.specs.Depths.{block_depth}
 use Rattle.snl_meaning.specs.Names.{formats_of}
-use Rattle.snl_meaning.specs.Run.{PieceContext, context_of}
+use Rattle.snl_meaning.specs.Run.{Entry, PieceContext, context_of}
 use Rattle.snl_meaning.specs.World.{World}
 use Rattle.snl_schedule.specs.declared.plans.SetPlan.{SetPlan}
 use Rattle.snl_schedule.specs.Plans.{set_of, state_of, block_at, CanDo, CanRunSet}
@@ -30,8 +30,12 @@ use Rattle.snl_load.proofs.Sets.{states-mean, states-run}
 
 module _ (p : ProgramTree) (ls : List Link) (waits : Bool) (c : Code) (t : Loaded) (is : IsLoadedOf p ls waits c t) where
   -- the code that runs has the pieces
-  pieces : (name : Piece) → IsPlaced p t.code (kept_piece (holds_in (table_of c)) p name) (start_in (table_of c) name)
-  pieces name = subst (λ (code : List Instr). IsPlaced p code (kept_piece (holds_in (table_of c)) p name) (start_in (table_of c) name)) (sym is.code) (is.code_is.placed name)
+  pieces : (name : Piece) → IsPlaced p t.code t.functions (kept_piece (holds_in (table_of c)) p name) (start_in (table_of c) name)
+  pieces name =
+      let piece = kept_piece (holds_in (table_of c)) p name in
+      let start = start_in (table_of c) name in
+      subst (λ (functions : List Entry). IsPlaced p t.code functions piece start) (sym is.functions)
+      (subst (λ (code : List Instr). IsPlaced p code (entries_of c) piece start) (sym is.code) (is.code_is.placed name))
 
   -- there is room for all of them
   enough : program_depth p ≤ t.room
@@ -39,11 +43,11 @@ module _ (p : ProgramTree) (ls : List Link) (waits : Bool) (c : Code) (t : Loade
 
   -- the code of a state set runs with what is known of it
   contexts : (k : ℕ) (g : StateSetTree) (plan : SetPlan) → slice_get p.state_sets k ≡ Some g → set_view plan ≡ set_plan (table_of c) k g →
-      context_in t k plan ≡ context_of (scene_in p k) t.room
+      context_in t k plan ≡ context_of (scene_in p k) t.functions t.room
   contexts k g plan at one =
       let names : plan.name.items ≡ name_by (slice_get p.state_sets k) = ap (λ (v : PlainSet). v.name) one ∙ sym (ap name_by at) in
       let texts : t.formats ≡ formats_of (here_in p k) = is.formats ∙ is.code_is.texts in
-      λ j. record { set = k; name = names j; formats = texts j; room = t.room }
+      λ j. record { set = k; name = names j; formats = texts j; functions = t.functions; room = t.room; returns = [] }
 
   -- the states of a state set stand in it
   stands : (k : ℕ) (g : StateSetTree) → slice_get p.state_sets k ≡ Some g → (j n : ℕ) (s : StateTree) → n ≡ 0 + j → slice_get g.states j ≡ Some s → state_at p k n ≡ Some s
@@ -64,7 +68,7 @@ module _ (p : ProgramTree) (ls : List Link) (waits : Bool) (c : Code) (t : Loade
       let names = ap (λ (v : PlainSet). v.name) one in
       let states : map (state_of (context_in t k plan) t.code) plan.states.items ≡ states_reached (holds_in (table_of c) k) 0 (map (state_meaning (scene_in p k)) g.states) =
       ap (λ (s : PieceContext). map (state_of s t.code) plan.states.items) (contexts k g plan at one)
-      ∙ states-mean p t.code (table_of c) t.room k pieces enough 0 g.states plan.states.items (stands k g at) (states-planned k g plan at one)
+      ∙ states-mean p t.code t.functions (table_of c) t.room k pieces enough 0 g.states plan.states.items (stands k g at) (states-planned k g plan at one)
       in λ j. record { set = k; name = names j; states = states j }
 
   -- and it can run
@@ -72,25 +76,25 @@ module _ (p : ProgramTree) (ls : List Link) (waits : Bool) (c : Code) (t : Loade
       CanRunSet (context_in t k plan) t.code plan.states.items
   set-runs k g plan at one =
       subst (λ (s : PieceContext). CanRunSet s t.code plan.states.items) (sym (contexts k g plan at one))
-      (states-run p t.code (table_of c) t.room k pieces enough 0 g.states plan.states.items (stands k g at) (states-planned k g plan at one))
+      (states-run p t.code t.functions (table_of c) t.room k pieces enough 0 g.states plan.states.items (stands k g at) (states-planned k g plan at one))
 
   -- the program's own blocks run with the copy and the name of the first state set
-  own-contexts : first_name (sets_from t 0 t.plan.sets.items) ≡ name_by (slice_get p.state_sets 0) → own_context t ≡ context_of (scene_in p 0) t.room
+  own-contexts : first_name (sets_from t 0 t.plan.sets.items) ≡ name_by (slice_get p.state_sets 0) → own_context t ≡ context_of (scene_in p 0) t.functions t.room
   own-contexts names =
       let texts : t.formats ≡ formats_of (here_in p 0) = is.formats ∙ is.code_is.texts in
-      λ j. record { set = 0; name = names j; formats = texts j; room = t.room }
+      λ j. record { set = 0; name = names j; formats = texts j; functions = t.functions; room = t.room; returns = [] }
 
   -- one of them does what its code does, and comes to its end
-  own : own_context t ≡ context_of (scene_in p 0) t.room → (name : Piece) (start : Option ℕ) (b : Option BlockTree) → piece_of p name ≡ option_map (Action 0) b →
+  own : own_context t ≡ context_of (scene_in p 0) t.functions t.room → (name : Piece) (start : Option ℕ) (b : Option BlockTree) → piece_of p name ≡ option_map (Action 0) b →
       kept_piece (holds_in (table_of c)) p name ≡ piece_of p name → start ≡ start_in (table_of c) name →
       ((w : World) → block_at (own_context t) t.code start w ≡ block_meaning (scene_in p 0) b w) × CanDo (own_context t) t.code start
   own same name start b piece kept at =
-      let there = subst (λ (o : Option PieceTree). IsPlaced p t.code o (start_in (table_of c) name)) (kept ∙ piece) (pieces name) in
+      let there = subst (λ (o : Option PieceTree). IsPlaced p t.code t.functions o (start_in (table_of c) name)) (kept ∙ piece) (pieces name) in
       let fits : (x : BlockTree) → b ≡ Some x → block_depth (outlines_in p) x ≤ t.room =
       λ x some. omega (arith, enough, depth_is_enough p name (Action 0 x) (piece ∙ ap (option_map (Action 0)) some)) in
-      let means = outer-means p t.code t.room 0 b (start_in (table_of c) name) there fits in (
-        λ w. ap (λ (s : PieceContext). block_at s t.code start w) same ∙ ap (λ (o : Option ℕ). block_at (context_of (scene_in p 0) t.room) t.code o w) at ∙ means.0 w,
-        subst (λ (s : PieceContext). CanDo s t.code start) (sym same) (subst (λ (o : Option ℕ). CanDo (context_of (scene_in p 0) t.room) t.code o) (sym at) means.1),
+      let means = outer-means p t.code t.functions t.room 0 b (start_in (table_of c) name) there fits in (
+        λ w. ap (λ (s : PieceContext). block_at s t.code start w) same ∙ ap (λ (o : Option ℕ). block_at (context_of (scene_in p 0) t.functions t.room) t.code o w) at ∙ means.0 w,
+        subst (λ (s : PieceContext). CanDo s t.code start) (sym same) (subst (λ (o : Option ℕ). CanDo (context_of (scene_in p 0) t.functions t.room) t.code o) (sym at) means.1),
       )
 
   -- state sets that stand in the program from a number on
@@ -149,7 +153,7 @@ plans_are_right p ls waits c t is =
     let all = t.plan.sets.items in
     let sets = sets-mean p ls waits c t is 0 p.state_sets all (all-stand p) plans in
     let first : first_name (sets_from t 0 all) ≡ name_by (slice_get p.state_sets 0) = ap first_name sets ∙ first-name p (holds_in (table_of c)) in
-    let context : own_context t ≡ context_of (scene_in p 0) t.room = own-contexts p ls waits c t is first in
+    let context : own_context t ≡ context_of (scene_in p 0) t.functions t.room = own-contexts p ls waits c t is first in
     let entry = own p ls waits c t is context ProgramEntry t.plan.blocks.entry p.entry refl refl (ap (λ (v : PlainPlan). v.blocks.entry) is.plan) in
     let exit = own p ls waits c t is context ProgramExit t.plan.blocks.exit p.exit refl refl (ap (λ (v : PlainPlan). v.blocks.exit) is.plan) in (
       λ j. record { name = names j; links = links j; waits = waiting j; entry = λ w. entry.0 w j; sets = sets j; exit = λ w. exit.0 w j },

@@ -11,7 +11,7 @@ use Rattle.snl_meaning.specs.Ran.{Ran, then_do}
 use Rattle.snl_meaning.specs.Endings.{IsOver}
 use Rattle.snl_emit.specs.Depths.{block_depth, expression_depth}
 use Rattle.snl_emit.specs.Right.{ends_with, leads_to}
-use Rattle.snl_meaning.specs.Run.{PieceContext, Exit, context_of, run_of}
+use Rattle.snl_meaning.specs.Run.{Entry, PieceContext, Exit, context_of, run_of}
 use Rattle.snl_meaning.specs.Value.{value_of}
 use Rattle.snl_meaning.specs.World.{World}
 use Rattle.snl_vm.specs.Running.{LeavesValue, value_left, left_at, state_left}
@@ -19,12 +19,12 @@ use Rattle.snl_schedule.specs.Plans.{held_at, CanTest, block_at, CanDo, ended}
 use Rattle.snl_load.specs.Meaning.{left_for, block_meaning}
 use Rattle.snl_load.proofs.Ends.{value-left, leaves-value, state-left, block-ended, is-over}
 
-module _ (p : ProgramTree) (code : List Instr) (room set : ℕ) where
+module _ (p : ProgramTree) (code : List Instr) (functions : List Entry) (room set : ℕ) where
   abbrev pub context : PieceContext
-  context = context_of (scene_in p set) room
+  context = context_of (scene_in p set) functions room
 
   -- a condition holds where its code says so, and its code leaves a value
-  pub condition-means : (e : Option ExprTree) (start : Option ℕ) → IsPlaced p code (option_map (Test set) e) start →
+  pub condition-means : (e : Option ExprTree) (start : Option ℕ) → IsPlaced p code functions (option_map (Test set) e) start →
       ((x : ExprTree) → e ≡ Some x → expression_depth (outlines_in p) x ≤ room) →
       ((w : World) → held_at context code start w ≡ held_by (scene_in p set) e w) × CanTest context code start
   condition-means None None placed enough = (λ w. refl, tt)
@@ -38,7 +38,7 @@ module _ (p : ProgramTree) (code : List Instr) (room set : ℕ) where
       )
 
   -- a block does what its code does, and that comes to its end
-  pub block-means : (b : BlockTree) (start : ℕ) → IsPlaced p code (Some (Action set b)) (Some start) → block_depth (outlines_in p) b ≤ room →
+  pub block-means : (b : BlockTree) (start : ℕ) → IsPlaced p code functions (Some (Action set b)) (Some start) → block_depth (outlines_in p) b ≤ room →
       ((w : World) → left_at context code start w ≡ then_do (block_effect (scene_in p set) b w) left_for) × ((w : World) → IsOver (run_of context code start w))
   block-means b start placed enough =
       let right = placed room enough in
@@ -48,7 +48,7 @@ module _ (p : ProgramTree) (code : List Instr) (room set : ℕ) where
       )
 
   -- an entry or an exit block does what its code does, and that comes to its end
-  pub outer-means : (b : Option BlockTree) (start : Option ℕ) → IsPlaced p code (option_map (Action set) b) start →
+  pub outer-means : (b : Option BlockTree) (start : Option ℕ) → IsPlaced p code functions (option_map (Action set) b) start →
       ((x : BlockTree) → b ≡ Some x → block_depth (outlines_in p) x ≤ room) →
       ((w : World) → block_at context code start w ≡ block_meaning (scene_in p set) b w) × CanDo context code start
   outer-means None None placed enough = (λ w. refl, tt)

@@ -11,6 +11,7 @@ use Rattle.snl_code.specs.Starts.{ProgramTable, holds_in, start_in}
 use Rattle.snl_code.proofs.Deepest.{depth_is_enough}
 use Rattle.snl_meaning.specs.declared.instrs.Instr.{Instr}
 use Rattle.snl_meaning.specs.Run.{PieceContext, context_of}
+use Rattle.snl_meaning.specs.Run as run
 use Rattle.snl_meaning.specs.World.{World}
 use Rattle.snl_schedule.specs.declared.plans.ClausePlan.{ClausePlan}
 use Rattle.snl_schedule.specs.declared.plans.StatePlan.{StatePlan}
@@ -21,10 +22,10 @@ use Rattle.snl_load.specs.Reached.{if_reached, states_reached}
 use Rattle.snl_load.proofs.Clauses.{clauses-mean, clauses-run}
 use Rattle.snl_load.proofs.Pieces.{outer-means}
 
-module _ (p : ProgramTree) (code : List Instr) (t : ProgramTable) (room set : ℕ) (placed : (name : Piece) → IsPlaced p code (kept_piece (holds_in t) p name) (start_in t name))
-    (enough : program_depth p ≤ room) where
+module _ (p : ProgramTree) (code : List Instr) (functions : List run.Entry) (t : ProgramTable) (room set : ℕ)
+    (placed : (name : Piece) → IsPlaced p code functions (kept_piece (holds_in t) p name) (start_in t name)) (enough : program_depth p ≤ room) where
   abbrev pub context : PieceContext
-  context = context_of (scene_in p set) room
+  context = context_of (scene_in p set) functions room
 
   -- the clauses of a state stand in it
   stands : (k : ℕ) (s : StateTree) → state_at p set k ≡ Some s → (j n : ℕ) (c : ClauseTree) → n ≡ 0 + j → slice_get s.clauses j ≡ Some c → clause_at p set k n ≡ Some c
@@ -36,14 +37,14 @@ module _ (p : ProgramTree) (code : List Instr) (t : ProgramTable) (room set : �
   outer : (name : Piece) (b : Option BlockTree) → piece_of p name ≡ option_map (Action set) b → kept_piece (holds_in t) p name ≡ piece_of p name →
       ((w : World) → block_at context code (start_in t name) w ≡ block_meaning (scene_in p set) b w) × CanDo context code (start_in t name)
   outer name b is kept =
-      outer-means p code room set b (start_in t name) (subst (λ (o : Option PieceTree). IsPlaced p code o (start_in t name)) (kept ∙ is) (placed name))
+      outer-means p code functions room set b (start_in t name) (subst (λ (o : Option PieceTree). IsPlaced p code functions o (start_in t name)) (kept ∙ is) (placed name))
       (λ x there. omega (arith, enough, depth_is_enough p name (Action set x) (is ∙ ap (option_map (Action set)) there)))
 
   -- one of a state that it does not have
   unplaced : (name : Piece) → kept_piece (holds_in t) p name ≡ None → start_in t name ≡ None
-  unplaced name none = by (start_in t name) (subst (λ (o : Option PieceTree). IsPlaced p code o (start_in t name)) none (placed name))
+  unplaced name none = by (start_in t name) (subst (λ (o : Option PieceTree). IsPlaced p code functions o (start_in t name)) none (placed name))
     where
-      by : (start : Option ℕ) → IsPlaced p code None start → start ≡ None
+      by : (start : Option ℕ) → IsPlaced p code functions None start → start ≡ None
       by None there = refl
       by (Some start) there = absurd there
 
@@ -63,14 +64,14 @@ module _ (p : ProgramTree) (code : List Instr) (t : ProgramTable) (room set : �
       λ w. ap (λ (v : PlainState). block_at context code v.blocks.entry w) is ∙ entry.0 w in
       let planned : plan.clauses.items ≡ clause_plans (here_in p set).states t set k 0 s.clauses =
       ap (λ (v : PlainState). v.clauses) is ∙ ap (λ (b : Bool). clauses_if b (here_in p set).states t set k s.clauses) held in
-      let clauses = ap (map (clause_of context code)) planned ∙ clauses-mean p code t room set placed enough k held 0 s.clauses (stands k s at) in
+      let clauses = ap (map (clause_of context code)) planned ∙ clauses-mean p code functions t room set placed enough k held 0 s.clauses (stands k s at) in
       let leaves : (w : World) → block_at context code plan.blocks.exit w ≡ block_meaning (scene_in p set) s.exit w =
       λ w. ap (λ (v : PlainState). block_at context code v.blocks.exit w) is ∙ exit.0 w in
       let again = ap (λ (v : PlainState). v.again) is in (
         λ j. record { name = names j; entry = λ w. enters w j; clauses = clauses j; exit = λ w. leaves w j; again = again j },
         record {
           entry = subst (λ (start : Option ℕ). CanDo context code start) (sym (ap (λ (v : PlainState). v.blocks.entry) is)) entry.1;
-          clauses = subst (λ (cs : List ClausePlan). CanRunAll context code cs) (sym planned) (clauses-run p code t room set placed enough k held 0 s.clauses (stands k s at));
+          clauses = subst (λ (cs : List ClausePlan). CanRunAll context code cs) (sym planned) (clauses-run p code functions t room set placed enough k held 0 s.clauses (stands k s at));
           exit = subst (λ (start : Option ℕ). CanDo context code start) (sym (ap (λ (v : PlainState). v.blocks.exit) is)) exit.1;
         },
       )

@@ -45,13 +45,13 @@ assigned x channel =
 abbrev pub with_number : Kind → ExprTree → List ℕ → ExprTree
 with_number op e digits = chain e (term (sign op) (constant (token kind.Whole 0 digits)) no_terms)
 
--- `when (x > 3) { y = x * 2; pvPut(y); } state hi`
-abbrev pub clause : ClauseTree
-clause = record {
+-- `when (x > 3) { y = VALUE; pvPut(y); } state hi`
+abbrev pub clause_with : ExprTree → ClauseTree
+clause_with e = record {
   word = sign kind.When;
   condition = Some (with_number kind.Greater (named (name 20 (codes "x"))) (codes "3"));
   block = block []
-      (statement (expression (assignment (named (name 21 (codes "y"))) (sign kind.Equal) (with_number kind.Star (named (name 22 (codes "x"))) (codes "2"))))
+      (statement (expression (assignment (named (name 21 (codes "y"))) (sign kind.Equal) e))
       (statement (expression (call (name 23 (codes "pvPut")) (value (named (name 24 (codes "y"))) no_arguments))) no_statements));
   target = to_state (name 25 (codes "hi"));
 }
@@ -60,32 +60,36 @@ clause = record {
 abbrev pub state : Token → List ClauseTree → StateTree
 state x clauses = record { word = sign kind.State; name = x; definitions = []; entry = None; clauses = clauses; exit = None }
 
--- `program p int x; assign x to "a"; monitor x; int y; assign y to "b"; ss s { state lo { .. } state hi { } }`
-abbrev pub doubling : ProgramTree
-doubling = record {
+-- `program p int x; assign x to "a"; monitor x; int y; assign y to "b"; MORE ss s { state lo { CLAUSE } state hi { } }`
+abbrev pub program_with : List DefinitionTree → ClauseTree → ProgramTree
+program_with more c = record {
   word = sign kind.Program;
   name = name 1 (codes "p");
   macros = None;
   definitions =
       int (name 2 (codes "x")) ∷ assigned (name 3 (codes "x")) (codes "a") ∷ monitor (record { name = name 4 (codes "x"); subscript = None })
-      ∷ int (name 5 (codes "y")) ∷ assigned (name 6 (codes "y")) (codes "b") ∷ [];
+      ∷ int (name 5 (codes "y")) ∷ assigned (name 6 (codes "y")) (codes "b") ∷ more;
   entry = None;
   state_sets = record {
     word = sign kind.StateSet;
     name = name 7 (codes "s");
     definitions = [];
-    states = state (name 8 (codes "lo")) (clause ∷ []) ∷ state (name 9 (codes "hi")) [] ∷ [];
+    states = state (name 8 (codes "lo")) (c ∷ []) ∷ state (name 9 (codes "hi")) [] ∷ [];
   } ∷ [];
   exit = None;
 }
 
--- What it means.
-abbrev pub meant : Program
-meant = program_meaning doubling (links doubling []) true
+-- The value is `x * 2`.
+abbrev pub doubling : ProgramTree
+doubling = program_with [] (clause_with (with_number kind.Star (named (name 22 (codes "x"))) (codes "2")))
+
+-- What such a program means.
+abbrev pub meant : ProgramTree → Program
+meant p = program_meaning p (links p []) true
 
 -- Its world once both channels are connected.
-abbrev pub ready : World
-ready = connected 1 true (connected 0 true (first_world_of doubling (links doubling [])))
+abbrev pub ready : ProgramTree → World
+ready p = connected 1 true (connected 0 true (first_world_of p (links p [])))
 
 -- The world that is left.
 abbrev pub world_left : {A : Type 0} → Ran A → World
@@ -98,16 +102,20 @@ lines_of (Gives v w text) = text
 lines_of (Faults f line w text) = text
 
 -- Channel `a` has a value at a time, in a world.
-abbrev pub valued : ℕ → ℤ → World → Ran (Unit {0})
-valued ms z w = instant_of meant 100 (received meant 0 (z ∷ []) (record w { time = ms }))
+abbrev pub valued : ProgramTree → ℕ → ℤ → World → Ran (Unit {0})
+valued p ms z w = instant_of (meant p) 100 (received (meant p) 0 (z ∷ []) (record w { time = ms }))
+
+-- It has 1 at 0 ms, and then a value at 5 ms.
+abbrev pub valued_then : ProgramTree → ℤ → Ran (Unit {0})
+valued_then p z = valued p 5 z (world_left (valued p 0 (pos 1) (ready p)))
 
 -- With 1 it starts, and waits for more than 3; with 7 the clause fires. Where it does not wait for its channels it starts at
 -- once.
 abbrev pub RunExample : Type 0
 RunExample =
     (lines_of (instant_of (program_meaning doubling (links doubling []) false) 100 (first_world_of doubling (links doubling []))) ≡ codes "0 start p\n")
-    × (lines_of (valued 0 (pos 1) ready) ≡ codes "0 start p\n")
-    × (lines_of (valued 5 (pos 7) (world_left (valued 0 (pos 1) ready))) ≡ codes "5 put b 14\n5 go s lo hi\n")
+    × (lines_of (valued doubling 0 (pos 1) (ready doubling)) ≡ codes "0 start p\n")
+    × (lines_of (valued_then doubling (pos 7)) ≡ codes "5 put b 14\n5 go s lo hi\n")
 
 -- Its size, where both states count, and where the second one is not reached.
 abbrev pub SizeExample : Type 0

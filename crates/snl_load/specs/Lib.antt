@@ -8,3 +8,4 @@ pub mod Initials
 pub mod First
 pub mod Right
 pub mod Examples
+pub mod FunctionExamples

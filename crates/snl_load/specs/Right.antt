@@ -5,21 +5,22 @@ use Rattle.snl_code.specs.declared.code.Code.{Code}
 use Rattle.snl_code.specs.Inside.{IsInside}
 use Rattle.snl_code.specs.Pieces.{IsCodeOf, texts_of}
 use Rattle.snl_code.specs.Size.{program_size}
-use Rattle.snl_code.specs.Starts.{table_of, holds_in}
+use Rattle.snl_code.specs.Starts.{entries_of, table_of, holds_in}
 use Rattle.snl_links.specs.Links.{Link}
 use Rattle.snl_schedule.specs.Loaded.{Loaded, program_of, CanRunLoaded}
 use Rattle.snl_load.specs.Meaning.{program_meaning}
 use Rattle.snl_load.specs.Plans.{plan_view, program_plan}
 use Rattle.snl_load.specs.Reached.{only_reached}
 
--- The code of a program is loaded with the program's plan, and with room for as many operands as the code says. All of the code
--- lies inside, and it is no longer than the size of the program.
+-- The code of a program is loaded with the program's plan, with where its functions begin, and with room for as many operands as
+-- the code says. All of the code lies inside, and it is no longer than the size of the program.
 pub record IsLoadedOf (p : ProgramTree) (ls : List Link) (waits : Bool) (c : Code) (t : Loaded) : Type 0 where
   pub code_is : IsCodeOf p c
   pub inside : IsInside p c
   pub short : length c.instrs.items ≤ program_size (holds_in (table_of c)) p
   pub code : t.code ≡ c.instrs.items
   pub formats : t.formats ≡ texts_of c
+  pub functions : t.functions ≡ entries_of c
   pub room : t.room ≡ c.depth
   pub counted : c.depth < 2 ^ 64 - 1
   pub plan : plan_view t.plan ≡ program_plan p ls waits (table_of c)

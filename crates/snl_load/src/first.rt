@@ -3,18 +3,20 @@
 ghost use Rattle.std.specs.Prelude.{◌≡◌, map, false, replicate, IfOk};
 ghost use Rattle.snl_links.specs.LinkViews.{link_view};
 ghost use Rattle.snl_vm.specs.Views.{copy_view, world_of};
-ghost use Rattle.snl_code.specs.Copies.{sets_of};
+ghost use Rattle.snl_code.specs.Copies.{sets_of, variables_in};
+ghost use Rattle.snl_resolve.specs.Held.{held_view};
 ghost use Rattle.snl_load.specs.First as spec;
 ghost use Rattle.snl_vm.specs.Marks as tables;
 ghost use Rattle.snl_vm.specs.Queues.{queue_view};
 ghost use Rattle.snl_load.specs.Places as places;
 ghost use Rattle.snl_load.specs.Sets.{names_in};
 
-use crate::initials::{first_buffers, first_words};
+use crate::initials::{first_buffers, first_words, push_zeros};
 use crate::links::homes_in;
 use indexmap::IndexSet;
+use snl_code::Copies;
 use snl_links::Link;
-use snl_meaning::{Live, Places, Tied};
+use snl_meaning::{Live, Tied};
 use snl_resolve::Held;
 use snl_vm::{Marks, Queue, SetMemory, Store};
 use std::alloc::{AllocError, Global};
@@ -34,6 +36,17 @@ fn first_copies(alloc: Global, sets: &[Vec<Held>]) -> Result<Vec<SetMemory>, All
         })?;
     }
     Ok(made)
+}
+
+/// The words of the variables of functions.
+fn first_shared(alloc: Global, shared: &[Held]) -> Result<Vec<i64>, AllocError>
+    ensures { IfOk result (λ words. words.items ≡ spec.first_shared (map held_view shared.now)) }
+{
+    let mut words = Vec::new(alloc);
+    for number in 0..shared.len() {
+        push_zeros(shared[number].size.elements(), &mut words)?;
+    }
+    Ok(words)
 }
 
 /// The names of channels, by their numbers.
@@ -74,21 +87,25 @@ fn queues_of(alloc: Global, links: &[Link]) -> Result<Vec<Queue>, AllocError>
     Ok(queues)
 }
 
-/// The store of a program that waits for its start, by the variables of its copies, how many event flags it has, its
-/// links with their ties, where the variables stand, and the names of its channels. The only error is that memory ends.
+/// The store of a program that waits for its start, by the variables of its copies and of its functions, how many event flags
+/// it has, its links with their ties, and the names of its channels. The only error is that memory ends.
 pub fn store_of(
     alloc: Global,
-    sets: &[Vec<Held>],
+    copies: &Copies,
     flags: usize,
     links: &[Link],
     ties: &[Tied],
-    copies: &[Places],
     names: &IndexSet<Vec<u8>>,
 ) -> Result<Store, AllocError>
-    ensures { IfOk result (λ store. world_of store ≡ spec.first_world (sets_of sets.now) flags
-        (names_in names.now) ties.now (places.homes_in copies.now (map link_view links.now))
+    ensures { IfOk result (λ store. world_of store ≡ spec.first_world
+        (sets_of copies.now.held.items) (variables_in copies.now.shared) flags
+        (names_in names.now) ties.now
+        (places.homes_in copies.now.places.items (map link_view links.now))
         (map link_view links.now)) }
 {
+    let sets = copies.held.as_slice();
+    let shared = copies.shared.as_slice();
+    let places = copies.places.as_slice();
     Ok(Store {
         time: 0,
         phase: Live::Waiting,
@@ -96,12 +113,13 @@ pub fn store_of(
         wake: None,
         due: None,
         copies: first_copies(alloc, sets)?,
+        shared: first_shared(alloc, shared)?,
         flags: vec![in alloc; false; flags]?,
         channels: names_of(alloc, names)?,
         ups: vec![in alloc; false; names.len()]?,
         valued: vec![in alloc; false; names.len()]?,
         ties: Vec::from_slice(alloc, ties)?,
-        homes: homes_in(alloc, copies, links)?,
+        homes: homes_in(alloc, places, links)?,
         buffers: first_buffers(alloc, sets, links)?,
         marks: marks_of(alloc, sets, links.len())?,
         queues: queues_of(alloc, links)?,

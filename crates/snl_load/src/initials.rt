@@ -123,8 +123,8 @@ fn held_among<'p, 'a>(sets: &[Vec<Held<'p, 'a>>], offset: usize) -> Option<Held<
     None
 }
 
-/// Adds so many zeros.
-fn push_zeros(count: usize, words: &mut Vec<i64>) -> Result<(), AllocError>
+/// Adds so many zeros. The only error is that memory ends.
+pub fn push_zeros(count: usize, words: &mut Vec<i64>) -> Result<(), AllocError>
     ensures { OnOk result (words.new.items ≡ words.old.items ++ replicate count (pos 0)) }
 {
     for _more in 0..count {

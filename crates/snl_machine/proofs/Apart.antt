@@ -1,16 +1,15 @@
 -- A turn of a state set changes nothing of another one's copy; what changes event flags.
-use Rattle.std.proofs.Common.{◌≡◌, ◌∙◌, ◌+◌, refl, sym, ℕ, Bool, true, false, List, [], ◌∷◌, Option, None, Some, if◌then◌else◌}
+use Rattle.std.proofs.Common.{◌≡◌, ◌∙◌, ◌+◌, refl, sym, ℕ, ℤ, Bool, true, false, List, [], ◌∷◌, Option, None, Some, if◌then◌else◌}
 use Rattle.std.specs.Prelude.{slice_set}
 use Rattle.std.proofs.lemmas.List.{get_or-set_other}
 use Rattle.snl_syntax.specs.Programs.{StateSetTree, ProgramTree}
-use Rattle.snl_code.specs.Heres.{here_in, scene_in}
+use Rattle.snl_code.specs.Heres.{scene_in}
 use Rattle.snl_meaning.specs.declared.ties.Tied.{Tied}
 use Rattle.snl_meaning.specs.Keeping.{IsKept, PiecesKeep, world_after}
 use Rattle.snl_meaning.specs.Links.{home_of}
 use Rattle.snl_meaning.specs.Ran.{Ran, Gives, Faults}
-use Rattle.snl_meaning.specs.World.{SetMemory, World, no_copy, copy_of}
-use Rattle.snl_meaning.proofs.Keeping.{pieces-keep}
-use Rattle.snl_meaning.proofs.Ticks.{Any, any-may}
+use Rattle.snl_meaning.specs.World.{SetMemory, World, no_copy, copy_of, with_words_for}
+use Rattle.snl_meaning.proofs.Ticks.{Any}
 use Rattle.snl_load.specs.Meaning.{set_meaning}
 use Rattle.snl_schedule.specs.declared.transitions.Turned.{Turned}
 use Rattle.snl_schedule.specs.declared.transitions.Turned.TheVariants.{Stayed, Moved, Exited}
@@ -19,6 +18,7 @@ use Rattle.snl_schedule.specs.Turn.{turn_of}
 use Rattle.snl_machine.specs.Laws.{TurnsStayApart}
 use Rattle.snl_machine.specs.Worlds.{last_state}
 use Rattle.snl_machine.proofs.Parts.{states-keep}
+use Rattle.snl_machine.proofs.Pieces.{keeps-any}
 use Rattle.snl_machine.proofs.Turning.{Turns, IsSteadyOn, turn-keeps}
 
 module _ (p : ProgramTree) (set other : ℕ) (apart : set ≡ other → ⊥) where
@@ -30,13 +30,18 @@ module _ (p : ProgramTree) (set other : ℕ) (apart : set ≡ other → ⊥) whe
   own-changes : (c : SetMemory) (w : World) → Same w (record w { copies = slice_set w.copies set c })
   own-changes c w = get_or-set_other w.copies set other c no_copy (λ is. apart (sym is))
 
+  -- whatever the words of the own copy or of functions are
+  words-change : (is_shared : Bool) (words : List ℤ) (w : World) → Same w (with_words_for set is_shared words w)
+  words-change true words w = refl
+  words-change false words w = own-changes _ w
+
   -- each change of a piece
   same-kept : IsKept set Any Same
   same-kept = record {
     nothing = λ w. refl;
     both = λ u v w a b. b ∙ a;
-    stores = λ v k z w ok fits. own-changes _ w;
-    clears = λ v w ok. own-changes _ w;
+    stores = λ v k z w ok fits. words-change v.is_shared _ w;
+    clears = λ v w ok. words-change v.is_shared _ w;
     signals = λ flag now w. refl;
     fills = λ place link t w home is. refl;
     enqueues = λ place link t w home is queued. refl;
@@ -51,7 +56,7 @@ module _ (p : ProgramTree) (set other : ℕ) (apart : set ≡ other → ⊥) whe
 
   -- conditions and blocks
   pieces : PiecesKeep (scene_in p set) Same
-  pieces = pieces-keep (scene_in p set) Any Same (any-may (here_in p set)) same-kept
+  pieces = keeps-any p set Same same-kept
 
   -- the refresh of a link
   link-same : (number : ℕ) (t : Tied) (w : World) → Same w (refreshed_link set number t w)

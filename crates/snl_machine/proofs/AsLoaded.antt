@@ -11,6 +11,7 @@ use Rattle.snl_meaning.specs.World.{World}
 use Rattle.snl_meaning.specs.declared.ties.Tied.{Tied}
 use Rattle.snl_schedule.specs.declared.plans.Plan.{Plan}
 use Rattle.snl_code.specs.Copies.{held_sets}
+use Rattle.snl_resolve.specs.Variables.{shared_variables}
 use Rattle.snl_load.specs.First.{first_world, first_world_of}
 use Rattle.snl_meaning.specs.declared.names.Placed.{Placed}
 use Rattle.snl_load.specs.Places.{channels, flags_in, placed_sets, homes_in}
@@ -31,14 +32,15 @@ module _ (p : ProgramTree) (ls given : List Link) (waits : Bool) (code : Code) (
   -- code and plan of a program, where there was room for the operands
   pub loaded-is : IsCodeOf p code → IsInside p code → length code.instrs.items ≤ program_size (holds_in (table_of code)) p → code.depth < 2 ^ 64 - 1 →
       IsLoadedOf p ls waits code (loaded_by plan code)
-  loaded-is right inside short counted = record { code_is = right; inside = inside; short = short; code = refl; formats = refl; room = refl; counted = counted; plan = plan-is }
+  loaded-is right inside short counted =
+      record { code_is = right; inside = inside; short = short; code = refl; formats = refl; functions = refl; room = refl; counted = counted; plan = plan-is }
 
   -- the store is the first one
   pub first-is : (w : World) (names : List (List ℕ)) (ties : List Tied) (copies : List (List Placed)) → names ≡ channels ls → ties ≡ plan.links.items →
-      copies ≡ placed_sets p 0 p.state_sets → w ≡ first_world (held_sets p 0 p.state_sets) (length (flags_in p)) names ties (homes_in copies given) given → w ≡ first_world_of p ls
+      copies ≡ placed_sets p 0 p.state_sets → w ≡ first_world (held_sets p 0 p.state_sets) (shared_variables p) (length (flags_in p)) names ties (homes_in copies given) given → w ≡ first_world_of p ls
   first-is w names ties copies names-are plans copies-are is =
       let ties-are = plans ∙ ap (λ (v : PlainPlan). v.links) plan-is in
-      is ∙ (λ j. first_world (held_sets p 0 p.state_sets) (length (flags_in p)) (names-are j) (ties-are j) (homes_in (copies-are j) (links-are j)) (links-are j))
+      is ∙ (λ j. first_world (held_sets p 0 p.state_sets) (shared_variables p) (length (flags_in p)) (names-are j) (ties-are j) (homes_in (copies-are j) (links-are j)) (links-are j))
 
 -- a machine that is one of a program, in its first world, is loaded
 pub both-loaded : {E : Type 0} (r : Result Machine E) (p : ProgramTree) (macros : List ℕ) (waiting : Bool) (budget : ℕ) → IfOk r (IsMachineOf p (links p macros) waiting budget) →

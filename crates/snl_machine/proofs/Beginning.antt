@@ -1,12 +1,12 @@
 -- Before the first event all variables hold what their types have.
 use Rattle.std.proofs.Common.{◌≡◌, ◌∙◌, ◌+◌, ◌<◌, ◌≤◌, ◌⊎◌, inl, inr, refl, sym, ap, subst, arith, ℕ, zero, suc, ℤ, pos, Bool, true, false, List, [], ◌∷◌, ◌++◌, Option, None, Some, slice_get, length, length-append, map, append_assoc, if◌then◌else◌}
-use Rattle.std.specs.Prelude.{◌&&◌, ◌-◌, ◌^◌, int_le, slice_index_or}
+use Rattle.std.specs.Prelude.{◌&&◌, ◌-◌, ◌^◌, int_le, replicate, slice_index_or}
 use Rattle.std.specs.List.{flat_map}
 use Rattle.snl_syntax.specs.Expressions.{ExprTree}
 use Rattle.snl_syntax.specs.Programs.{StateSetTree, ProgramTree}
 use Rattle.snl_links.specs.Links.{Link}
 use Rattle.std.proofs.lemmas.List.Elements.{All-nil}
-use Rattle.snl_machine.specs.Ranges.{Has, AllFit, IsSized, ItemFits, QueueFits, QueuesFit, counts, FirstHolds}
+use Rattle.snl_machine.specs.Ranges.{Has, Fit, AllFit, IsSized, ItemFits, QueueFits, QueuesFit, counts, FirstHolds}
 use Rattle.snl_meaning.specs.declared.instrs.Variable.{Variable}
 use Rattle.snl_meaning.specs.declared.names.Placed.{Placed}
 use Rattle.snl_meaning.specs.Effect.{values_of}
@@ -14,14 +14,15 @@ use Rattle.snl_meaning.specs.Laws.{words_of}
 use Rattle.snl_meaning.specs.Names.{behind, variable_from, placed_from}
 use Rattle.snl_meaning.specs.World.{SetMemory, no_copy, copy_of}
 use Rattle.snl_code.specs.Copies.{held_sets}
-use Rattle.snl_load.specs.First.{first_copy, first_queue, first_world_of}
+use Rattle.snl_code.specs.Heres.{shared_in}
+use Rattle.snl_load.specs.First.{first_copy, first_queue, first_shared, first_world_of}
 use Rattle.snl_load.specs.Initials.{worth_in, first_by, first_element, first_elements, all_elements, held_among, buffer_by, first_buffer}
 use Rattle.snl_load.specs.Places.{place_after, channels, flags_in, placed_sets, for_each_set, tie_of, ties_from}
 use Rattle.snl_resolve.specs.declared.constants.Constant.{Constant}
 use Rattle.snl_resolve.specs.declared.constants.Constant.TheVariants.{Varies, Faults, Worth}
 use Rattle.snl_resolve.specs.Constants.{constant_of}
 use Rattle.snl_resolve.specs.Scopes.{elements, is_hidden}
-use Rattle.snl_resolve.specs.Variables.{Held, variables_of}
+use Rattle.snl_resolve.specs.Variables.{Held, variables_of, shared_variables}
 use Rattle.snl_meaning.specs.declared.ties.Tied.{Tied}
 use Rattle.snl_schedule.specs.Arrivals.{is_in}
 
@@ -112,7 +113,7 @@ first-fits p ls sized set i k x is less = by (copy-at (variables_of p) 0 p.state
     there = copy_of set (first_world_of p ls)
 
     nought : Has x.variable (pos 0)
-    nought = sized.zero set i x is
+    nought = (sized.copies set).zero i x is
 
     by : (there ≡ first_copy (variables_of p (0 + set))) ⊎ (there ≡ no_copy) → Has x.variable (slice_index_or there.words (x.variable.place + k) (pos 0))
     by (inr none) = subst (λ (c : SetMemory). Has x.variable (slice_index_or c.words (x.variable.place + k) (pos 0))) (sym none) nought
@@ -120,7 +121,20 @@ first-fits p ls sized set i k x is less = by (copy-at (variables_of p) 0 p.state
         let e : 0 + set ≡ set = omega arith in
         subst (λ (c : SetMemory). Has x.variable (slice_index_or c.words (x.variable.place + k) (pos 0)))
         (sym (here ∙ ap (λ (n : ℕ). first_copy (variables_of p n)) e))
-        (words-fit (variables_of p set) [] 0 i k x refl (let few = sized.few set in omega (arith, few)) is less nought)
+        (words-fit (variables_of p set) [] 0 i k x refl (let few = (sized.copies set).few in omega (arith, few)) is less nought)
+
+-- ---- the words of functions
+
+-- each word of some zeros is 0, and so is each that is not there
+zeros-at : (n i : ℕ) → slice_index_or (replicate n (pos 0)) i (pos 0) ≡ pos 0
+zeros-at zero i = refl
+zeros-at (suc n) zero = refl
+zeros-at (suc n) (suc i) = zeros-at n i
+
+-- so they fit
+shared-fits : (p : ProgramTree) → IsSized p → Fit (shared_in p) (first_shared (shared_variables p))
+shared-fits p sized i k x is less =
+    subst (Has x.variable) (sym (zeros-at (words_of (shared_variables p)) (x.variable.place + k))) (sized.shared.zero i x is)
 
 -- ---- buffers
 
@@ -172,7 +186,7 @@ first-queues names flags copies (l ∷ ks) at zero t q is there =
     subst (QueueFits t) own (record { width = ap (λ (x : Tied). x.count) tie; few = omega arith; items = All-nil (ItemFits t) })
 first-queues names flags copies (l ∷ ks) at (suc i) t q is there = first-queues names flags copies ks (place_after at l.count) i t q is there
 
--- copies, buffers and queues
+-- copies, buffers, queues and the words of functions
 pub first_holds : FirstHolds
 first_holds p ls sized tied held =
     let few = tied.few in (
@@ -181,4 +195,5 @@ first_holds p ls sized tied held =
       refl,
       refl,
       first-queues (channels ls) (flags_in p) (placed_sets p 0 p.state_sets) ls 0,
+      shared-fits p sized,
     )

@@ -1,5 +1,5 @@
 -- The bound of an instant of a machine.
-use Rattle.std.proofs.Common.{◌≡◌, ◌≤◌, ◌*◌, ℕ, subst, arith, length}
+use Rattle.std.proofs.Common.{◌≤◌, ◌*◌, ℕ, subst, arith, length}
 use Rattle.std.proofs.Math.Nat.{mul-le-mul_left}
 use Rattle.snl_code.proofs.SizesAlike.{sizes-alike}
 use Rattle.snl_code.specs.Size.{program_size}

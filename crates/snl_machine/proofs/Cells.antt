@@ -1,23 +1,24 @@
 -- What was stored in a copy is read where it was stored, and everything else is as before.
-use Rattle.std.proofs.Common.{◌≡◌, ◌∙◌, ◌+◌, ◌<◌, ◌≤◌, ◌⊎◌, inl, inr, refl, sym, ap, subst, arith, ℕ, zero, suc, ℤ, pos, List, [], ◌∷◌, ◌++◌, Some, slice_get, length, drop, get_or-set_same, get_or-set_other}
+use Rattle.std.proofs.Common.{◌≡◌, ◌∙◌, ◌+◌, ◌<◌, ◌≤◌, ◌⊎◌, inl, inr, refl, sym, ap, subst, arith, ℕ, zero, suc, ℤ, pos, Bool, false, List, [], ◌∷◌, ◌++◌, Some, slice_get, length, drop, get_or-set_same, get_or-set_other}
 use Rattle.std.specs.Prelude.{◌-◌, ◌^◌, replicate, slice_set, slice_index_or}
 use Rattle.std.proofs.lemmas.Bool.{cases_lt, cases_order}
 use Rattle.std.proofs.lemmas.List.{length-replicate}
 use Rattle.snl_syntax.specs.Programs.{ProgramTree}
 use Rattle.snl_links.specs.Links.{Link}
 use Rattle.snl_load.specs.Places.{placed_in, ties_in}
-use Rattle.snl_machine.specs.Layout.{HasWords, CopiesStay, IsWritten, StoresWrite, IsLaidOut, ElementsStay, IsTiedTo, VariablesAreCells}
+use Rattle.snl_machine.specs.Layout.{HasWords, CopiesStay, IsWritten, IsLaidOut, ElementsStay, IsTiedTo, VariablesAreCells}
 use Rattle.snl_machine.specs.Ranges.{IsSized, IsTied}
 use Rattle.snl_machine.proofs.Filling.{IsOneOf, overwritten-index}
 use Rattle.snl_machine.proofs.Fitting.{found}
 use Rattle.snl_machine.proofs.Linked.{IsAtHome, at_home}
+use Rattle.snl_machine.proofs.Shared.{placed-own, element-own, zeros-own}
 use Rattle.snl_meaning.specs.declared.instrs.Variable.{Variable}
 use Rattle.snl_meaning.specs.declared.names.Placed.{Placed}
 use Rattle.snl_meaning.specs.declared.ties.Tied.{Tied}
 use Rattle.snl_meaning.specs.Laws.{words_of}
 use Rattle.snl_meaning.specs.Links.{home_of, elements_at, with_elements}
 use Rattle.snl_meaning.specs.Names.{placed_from}
-use Rattle.snl_meaning.specs.World.{SetMemory, World, no_copy, copy_of, element_of, words_at, overwritten, zeroed, with_element, with_zeros}
+use Rattle.snl_meaning.specs.World.{SetMemory, World, no_copy, copy_of, words_for, with_words, element_of, words_at, overwritten, zeroed, with_element, with_zeros}
 use Rattle.snl_meaning.proofs.Apart.{variables_lie_within, variables_are_apart}
 use Rattle.snl_meaning.proofs.Sizes.{set-many}
 use Rattle.snl_resolve.specs.Variables.{Held, variables_of}
@@ -73,7 +74,7 @@ overwritten-there (z ∷ zs) l p within =
     λ k. first k ∷ rest k
 
 -- words that are 0 are words that were replaced by 0
-zeroed-is : (n : ℕ) (l : List ℤ) (p : ℕ) → zeroed l p n ≡ overwritten l p (replicate n (pos 0))
+pub zeroed-is : (n : ℕ) (l : List ℤ) (p : ℕ) → zeroed l p n ≡ overwritten l p (replicate n (pos 0))
 zeroed-is zero l p = refl
 zeroed-is (suc n) l p = zeroed-is n (slice_set l p (pos 0)) (suc p)
 
@@ -88,7 +89,7 @@ word-of l p n j zs is less = sym (there n p j less) ∙ ap (λ (m : List ℤ). s
         there n (suc p) j (omega (arith, less)) ∙ ap (λ (q : ℕ). slice_index_or l q (pos 0)) (let e : suc p + j ≡ p + suc j = omega arith in e)
 
 -- one of some zeros
-zero-of : (n k : ℕ) → k < n → slice_index_or (replicate n (pos 0)) k (pos 0) ≡ pos 0
+pub zero-of : (n k : ℕ) → k < n → slice_index_or (replicate n (pos 0)) k (pos 0) ≡ pos 0
 zero-of zero k less = absurd (omega (arith, less))
 zero-of (suc n) zero less = refl
 zero-of (suc n) (suc k) less = zero-of n k (omega (arith, less))
@@ -114,23 +115,20 @@ elements-written set place zs w has = record {
     now : copy_of set (with_elements set place zs w) ≡ new
     now = get_or-set_same w.copies set new no_copy has.0
 
+-- an element that is stored to
+pub element-written : (set k : ℕ) (v : Variable) (z : ℤ) (w : World) → v.is_shared ≡ false → HasWords set (v.place + k) 1 w → IsWritten set (v.place + k) (z ∷ []) w (with_element set v k z w)
+element-written set k v z w own has =
+    subst (IsWritten set (v.place + k) (z ∷ []) w) (sym (element-own set v k z w own)) (elements-written set (v.place + k) (z ∷ []) w (has.0, has.1))
+
 -- a variable that is cleared
-zeros-written : (set : ℕ) (v : Variable) (w : World) → HasWords set v.place v.size w → IsWritten set v.place (replicate v.size (pos 0)) w (with_zeros set v w)
-zeros-written set v w has =
+pub zeros-written : (set : ℕ) (v : Variable) (w : World) → v.is_shared ≡ false → HasWords set v.place v.size w → IsWritten set v.place (replicate v.size (pos 0)) w (with_zeros set v w)
+zeros-written set v w own has =
     let zs = replicate v.size (pos 0) in
     let many = length-replicate v.size (pos 0) in
     let words = (copy_of set w).words in
     let is : with_elements set v.place zs w ≡ with_zeros set v w =
-    ap (λ (l : List ℤ). record w { copies = slice_set w.copies set (record (copy_of set w) { words = l }) }) (sym (zeroed-is v.size words v.place)) in
+    ap (λ (l : List ℤ). with_words set l w) (sym (zeroed-is v.size words v.place)) ∙ sym (zeros-own set v w own) in
     subst (IsWritten set v.place zs w) is (elements-written set v.place zs w (has.0, omega (arith, has.1, many)))
-
--- all ways to write
-pub stores_write : StoresWrite
-stores_write = record {
-  element = λ set k v z w has. elements-written set (v.place + k) (z ∷ []) w (has.0, has.1);
-  zeros = zeros-written;
-  elements = elements-written;
-}
 
 -- ---- variables
 
@@ -148,12 +146,18 @@ element-apart vs i j k m x y few is_x is_y less_x less_y same = by (cases_order 
     by (inr (inl less)) = let apart = variables_are_apart vs i j x y few less is_x is_y in absurd (omega (arith, apart, less_x, less_y, same))
     by (inr (inr more)) = let apart = variables_are_apart vs j i y x few more is_y is_x in absurd (omega (arith, apart, less_x, less_y, same))
 
+-- an element of a variable of a copy is a word of the copy
+pub element-in-copy : (p : ProgramTree) (set i k : ℕ) (x : Placed) (w : World) → slice_get (placed_in p set) i ≡ Some x →
+    element_of set x.variable k w ≡ slice_index_or (copy_of set w).words (x.variable.place + k) (pos 0)
+element-in-copy p set i k x w is =
+    ap (λ (b : Bool). slice_index_or (words_for set b w) (x.variable.place + k) (pos 0)) (placed-own (variables_of p set) 0 i x is)
+
 module _ (p : ProgramTree) (ls : List Link) (set i : ℕ) (x : Placed) (w : World) (sized : IsSized p) (laid : IsLaidOut p ls w) (there : set < length p.state_sets)
     (is : slice_get (placed_in p set) i ≡ Some x) where
   -- the copy has its words
   has-words : (k n : ℕ) → k + n ≤ x.variable.size → HasWords set (x.variable.place + k) n w
   has-words k n within =
-      let few = sized.few set in
+      let few = (sized.copies set).few in
       let lies = variables_lie_within (variables_of p set) i x few is in
       let words = laid.words set there in
       let sets = laid.sets in
@@ -167,27 +171,30 @@ module _ (p : ProgramTree) (ls : List Link) (set i : ℕ) (x : Placed) (w : Worl
       q : ℕ
       q = y.variable.place + m
 
+      stays : slice_index_or (copy_of set u).words q (pos 0) ≡ slice_index_or (copy_of set w).words q (pos 0) → element_of set y.variable m u ≡ element_of set y.variable m w
+      stays same = element-in-copy p set j m y u is_y ∙ same ∙ sym (element-in-copy p set j m y w is_y)
+
       by : (q < x.variable.place + k) ⊎ (x.variable.place + k ≤ q) → (q < x.variable.place + k + length zs) ⊎ (x.variable.place + k + length zs ≤ q) →
           element_of set y.variable m u ≡ element_of set y.variable m w
-      by (inl before) o = written.elsewhere q (inl before)
-      by (inr more) (inr behind) = written.elsewhere q (inr behind)
+      by (inl before) o = stays (written.elsewhere q (inl before))
+      by (inr more) (inr behind) = stays (written.elsewhere q (inr behind))
       by (inr more) (inl inside) =
           let n = q - (x.variable.place + k) in
           let at : x.variable.place + (k + n) ≡ q = omega (arith, more) in
           let few : n < length zs = omega (arith, more, inside) in
           let own : k + n < x.variable.size = omega (arith, few, within) in
-          let one = element-apart (variables_of p set) i j (k + n) m x y (sized.few set) is is_y own less at in
+          let one = element-apart (variables_of p set) i j (k + n) m x y (sized.copies set).few is is_y own less at in
           absurd (not (subst (λ (a : ℕ). Touched a m) one.0 (subst (λ (b : ℕ). Touched i b) one.1 (touch n few own))))
 
   -- a store
   stored : (k : ℕ) (z : ℤ) → k < x.variable.size → let u = with_element set x.variable k z w in
       (element_of set x.variable k u ≡ z) × ElementsStay p set (λ j m. (i ≡ j) × (k ≡ m)) w u × CopiesStay set w u × (record u { copies = w.copies } ≡ w)
   stored k z less =
-      let written = elements-written set (x.variable.place + k) (z ∷ []) w (has-words k 1 (omega (arith, less))) in
+      let written = element-written set k x.variable z w (placed-own (variables_of p set) 0 i x is) (has-words k 1 (omega (arith, less))) in
       let u = with_element set x.variable k z w in
       let word = word-of (copy_of set u).words (x.variable.place + k) 1 0 (z ∷ []) written.there (omega arith) in
       let at : x.variable.place + k + 0 ≡ x.variable.place + k = omega arith in (
-        ap (λ (q : ℕ). slice_index_or (copy_of set u).words q (pos 0)) (sym at) ∙ word,
+        element-in-copy p set i k x u is ∙ ap (λ (q : ℕ). slice_index_or (copy_of set u).words q (pos 0)) (sym at) ∙ word,
         others-stay k (z ∷ []) u (λ j m. (i ≡ j) × (k ≡ m)) (λ n few own. (refl, let e : k ≡ k + n = omega (arith, few) in e)) (omega (arith, less)) written,
         written.copies,
         written.rest,
@@ -204,10 +211,10 @@ module _ (p : ProgramTree) (ls : List Link) (set i : ℕ) (x : Placed) (w : Worl
       let start : x.variable.place + 0 ≡ x.variable.place = omega arith in
       let u = with_zeros set x.variable w in
       let has : HasWords set x.variable.place size w = subst (λ (q : ℕ). HasWords set q size w) start (has-words 0 size (omega arith)) in
-      let written = zeros-written set x.variable w has in
+      let written = zeros-written set x.variable w (placed-own (variables_of p set) 0 i x is) has in
       let from : IsWritten set (x.variable.place + 0) zs w u = subst (λ (q : ℕ). IsWritten set q zs w u) (sym start) written in
       let all : words_at (copy_of set u).words x.variable.place size ≡ zs = ap (words_at (copy_of set u).words x.variable.place) (sym many) ∙ written.there in (
-        λ k less. word-of (copy_of set u).words x.variable.place size k zs all less ∙ zero-of size k less,
+        λ k less. element-in-copy p set i k x u is ∙ word-of (copy_of set u).words x.variable.place size k zs all less ∙ zero-of size k less,
         others-stay 0 zs u (λ j m. i ≡ j) (λ n few own. refl) (omega (arith, many)) from,
         written.copies,
         written.rest,
@@ -231,7 +238,7 @@ module _ (p : ProgramTree) (ls : List Link) (set : ℕ) (w : World) (sized : IsS
       let k = at_home p ls tied set i place t w laid.homes home is in
       let f = found (placed_in p set) k.l.variable.offset k.v k.variable in
       let x = f.1 in
-      let few = sized.few set in
+      let few = (sized.copies set).few in
       let lies = variables_lie_within (variables_of p set) f.0 x few f.2 in
       let size : x.variable.size ≡ k.v.size = ap (λ (v : Variable). v.size) f.3 in
       let begin : x.variable.place ≡ k.v.place = ap (λ (v : Variable). v.place) f.3 in
@@ -260,7 +267,7 @@ module _ (p : ProgramTree) (ls : List Link) (set : ℕ) (w : World) (sized : IsS
           let l = h.home.l in
           let word : h.x.variable.place + (l.first + n) ≡ y.variable.place + m = omega (arith, h.from, more) in
           let own : l.first + n < h.x.variable.size = omega (arith, h.size, more, inside) in
-          let one = element-apart (variables_of p set) h.j j (l.first + n) m h.x y (sized.few set) h.placed is_y own less word in
+          let one = element-apart (variables_of p set) h.j j (l.first + n) m h.x y (sized.copies set).few h.placed is_y own less word in
           let both : Some h.x ≡ Some y = sym h.placed ∙ ap (slice_get (placed_in p set)) one.0 ∙ is_y in
           let same : h.x ≡ y = cc in
           let variable : h.home.v ≡ y.variable = sym h.variable ∙ ap (λ (z : Placed). z.variable) same in
@@ -302,8 +309,10 @@ module _ (p : ProgramTree) (ls : List Link) (set : ℕ) (w : World) (sized : IsS
       let written = elements-written set place zs w (subst (λ (n : ℕ). HasWords set place n w) (sym long) has) in
       let u = with_elements set place zs w in (
         ap (λ (n : ℕ). words_at (copy_of set u).words place n) (sym long) ∙ written.there,
-        λ j m y is_y less not. written.elsewhere (y.variable.place + m)
-            (subst (λ (n : ℕ). (y.variable.place + m < place) ⊎ (place + n ≤ y.variable.place + m)) (sym long) (home-away i place t h j m y is_y less not)),
+        λ j m y is_y less not.
+            let same = written.elsewhere (y.variable.place + m)
+            (subst (λ (n : ℕ). (y.variable.place + m < place) ⊎ (place + n ≤ y.variable.place + m)) (sym long) (home-away i place t h j m y is_y less not)) in
+            element-in-copy p set j m y u is_y ∙ same ∙ sym (element-in-copy p set j m y w is_y),
         written.copies,
         written.rest,
       )

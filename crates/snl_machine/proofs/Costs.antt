@@ -1,5 +1,6 @@
--- What steps cost: each tick that is spent pays for three times the length of the code.
-use Rattle.std.proofs.Common.{◌≡◌, ◌+◌, ◌*◌, ◌≤◌, ℕ, zero, suc, ℤ, Bool, true, false, List, [], ◌∷◌, Option, None, Some, refl, ap, sym, ◌∙◌, arith, length, slice_get, if◌then◌else◌}
+-- What steps cost: each tick that is spent pays for three times the length of the code. A transition's tick pays for its three
+-- pieces; one of a loop or of a call, which may lead back twice, for two.
+use Rattle.std.proofs.Common.{◌≡◌, ◌+◌, ◌*◌, ◌≤◌, ℕ, suc, Bool, true, false, List, [], ◌∷◌, Option, None, Some, refl, ap, sym, ◌∙◌, arith, length, if◌then◌else◌}
 use Rattle.std.proofs.Math.Nat.{mul-le-mul_right, suc-mul, mul_assoc, mul_comm}
 use Rattle.snl_meaning.specs.declared.instrs.Instr.{Instr}
 use Rattle.snl_meaning.specs.declared.ties.Tied.{Tied}
@@ -8,7 +9,7 @@ use Rattle.snl_meaning.specs.Endings.{IsOver}
 use Rattle.snl_meaning.specs.Keeping.{world_after}
 use Rattle.snl_meaning.specs.Links.{home_of}
 use Rattle.snl_meaning.specs.Ran.{Ran, Gives, Faults, also, then_do}
-use Rattle.snl_meaning.specs.Run.{PieceContext, Step, GoesTo, EndsWith, LeavesFor, Sticks, Exit, Over, LeftFor, Unfinished, Stuck, done_by, step_of, from_there, exec, run_of, steps_of}
+use Rattle.snl_meaning.specs.Run.{PieceContext, Exit, Over, LeftFor, Unfinished, Stuck, credit, run_of, steps_of}
 use Rattle.snl_meaning.specs.World.{World}
 use Rattle.snl_meaning.proofs.Counts.{after-also, run-keeps}
 use Rattle.snl_vm.specs.Running.{value_left, left_at, state_left}
@@ -82,10 +83,12 @@ pub three : (n len : ℕ) → n * (3 * len) ≡ 3 * (n * len)
 three n len = sym (mul_assoc n 3 len) ∙ ap (λ k. k * len) (mul_comm n 3) ∙ mul_assoc 3 n len
 
 -- a bound by ticks is one by what they pay for
-pub bound-costs : {A : Type 0} (len : ℕ) (w : World) (steps : ℕ) (r : Ran A) → (world_after r).ticks ≤ w.ticks → steps + (world_after r).ticks * len ≤ suc w.ticks * len → Costs len len w steps r
+pub bound-costs : {A : Type 0} (len : ℕ) (w : World) (steps : ℕ) (r : Ran A) → (world_after r).ticks ≤ w.ticks →
+    steps + 2 * (world_after r).ticks * len ≤ suc (2 * w.ticks) * len → Costs len len w steps r
 bound-costs len w steps r still h =
-    let k : (world_after r).ticks * len ≤ w.ticks * len = mul-le-mul_right len still in
-    record { still = still; fits = omega (arith, h, k, three (world_after r).ticks len, three w.ticks len, suc-mul w.ticks len) }
+    let left = (world_after r).ticks in
+    let k : left * len ≤ w.ticks * len = mul-le-mul_right len still in
+    record { still = still; fits = omega (arith, h, k, three left len, three w.ticks len, mul_assoc 2 left len, mul_assoc 2 w.ticks len, suc-mul (2 * w.ticks) len) }
 
 -- the state that a run leaves for changes nothing
 left-still : (e : Exit) (u : World) → (world_after (state_left e u)).ticks ≡ u.ticks
@@ -115,15 +118,15 @@ held-ticks g code start w = then-same (then_do (run_of g code start w) value_lef
 pub held-still : (g : PieceContext) (code : List Instr) (condition : Option ℕ) (w : World) → (world_after (held_at g code condition w)).ticks ≤ w.ticks
 held-still g code None w = omega arith
 held-still g code (Some start) w =
-    let same = held-ticks g code start w in let kept = run-keeps g code (suc w.ticks * length code) start [] w in omega (arith, same, kept)
+    let same = held-ticks g code start w in let kept = run-keeps g code (suc (credit g w) * length code) start [] w in omega (arith, same, kept)
 
-module _ (bounded : StepsAreBounded) (g : PieceContext) (code : List Instr) where
+module _ (bounded : StepsAreBounded) (g : PieceContext) (code : List Instr) (idle : g.returns ≡ []) where
   -- a run that comes to its end
   pub left-costs : (start : ℕ) → ((w : World) → IsOver (run_of g code start w)) → (w : World) → Costs (length code) (length code) w (steps_of g code start w) (left_at g code start w)
   left-costs start over w =
       let r = run_of g code start w in
       costs-last (length code) (length code) w (steps_of g code start w) r state_left left-still
-      (bound-costs (length code) w (steps_of g code start w) r (run-keeps g code (suc w.ticks * length code) start [] w) (bounded g code start w (over w)))
+      (bound-costs (length code) w (steps_of g code start w) r (run-keeps g code (suc (credit g w) * length code) start [] w) (bounded g code start w idle (over w)))
 
   -- an entry or an exit block
   pub block-costs : (start : Option ℕ) → CanDo g code start → (w : World) → Costs (length code) (length code) w (block_steps g code start w) (block_at g code start w)

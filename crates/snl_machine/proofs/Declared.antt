@@ -101,7 +101,7 @@ module _ (R : List Slot → List Held → Type 0) (any : (ss : List Slot) → R 
     rows s no_statements = any []
     rows s (statement a rest) = both (statement_slots a) (statement_list_slots rest) (by_statement s a) (by_statements s rest) (statements s a) (rows s rest)
 
-    blocks : (s : List Scope) (b : BlockTree) → R (block_slots b) (by_block s b)
+    pub blocks : (s : List Scope) (b : BlockTree) → R (block_slots b) (by_block s b)
     blocks s (block ds all) =
         lead (Sign OpenBrace) (row_slots declaration_slots ds ++ (statement_list_slots all ++ Sign CloseBrace ∷ [])) (by_block s (block ds all))
         (both (row_slots declaration_slots ds) (statement_list_slots all ++ Sign CloseBrace ∷ [])

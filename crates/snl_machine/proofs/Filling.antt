@@ -8,7 +8,7 @@ use Rattle.snl_links.specs.Links.{Link}
 use Rattle.snl_machine.specs.Ranges.{Has, Fit, IsSized, IsTied, BuffersFit, ItemFits, QueuesFit, Holds, counts}
 use Rattle.snl_machine.proofs.Linked.{at_home}
 use Rattle.snl_machine.proofs.Queued.{length-words, word-at, words-fit, put-fits, oldest-fits, rest-fits}
-use Rattle.snl_machine.proofs.Fitting.{set-index, found, one-word, changed-fits}
+use Rattle.snl_machine.proofs.Fitting.{set-index, found, one-word, copy-apart, copy-holds}
 use Rattle.snl_meaning.specs.declared.instrs.Variable.{Variable}
 use Rattle.snl_meaning.specs.declared.names.Placed.{Placed}
 use Rattle.snl_meaning.specs.Names.{variable_in}
@@ -62,14 +62,14 @@ module _ (p : ProgramTree) (sized : IsSized p) (set : ℕ) where
           let f = found (placed_in p set) l.variable.offset v is in
           let x = f.1 in
           let less : new.0 < t.count = omega (arith, new.1, item.0) in
-          let lies = variables_lie_within (variables_of p set) f.0 x (sized.few set) f.2 in
+          let lies = variables_lie_within (variables_of p set) f.0 x (sized.copies set).few f.2 in
           let size : x.variable.size ≡ v.size = ap (λ (u : Variable). u.size) f.3 in
           let place : x.variable.place ≡ v.place = ap (λ (u : Variable). u.place) f.3 in
-          let total = sized.few set in
+          let total = (sized.copies set).few in
           let to_is : to ≡ v.place + l.first = omega (arith, lies, size, place, total, within) in
           let word : x.variable.place + (l.first + new.0) ≡ y.variable.place + k = omega (arith, new.2, to_is, place) in
           let in_x : l.first + new.0 < x.variable.size = omega (arith, within, less, size) in
-          let one : x ≡ y = one-word p sized set f.0 i (l.first + new.0) k x y f.2 is_y in_x few word in
+          let one : x ≡ y = one-word (placed_in p set) (copy-apart p sized set) f.0 i (l.first + new.0) k x y f.2 is_y in_x few word in
           let variable : v ≡ y.variable = sym f.3 ∙ ap (λ (u : Placed). u.variable) one in
           let has : (int_le t.least there && int_le there t.greatest) ≡ true = subst (λ (z : ℤ). is_in t z ≡ true) (sym new.3) (item.1 new.0 (pos 0) new.1) in
           let typed : Has v there =
@@ -83,10 +83,10 @@ module _ (p : ProgramTree) (sized : IsSized p) (set : ℕ) where
   held-fits l t v words is within least greatest fits j less =
       let f = found (placed_in p set) l.variable.offset v is in
       let x = f.1 in
-      let lies = variables_lie_within (variables_of p set) f.0 x (sized.few set) f.2 in
+      let lies = variables_lie_within (variables_of p set) f.0 x (sized.copies set).few f.2 in
       let size : x.variable.size ≡ v.size = ap (λ (u : Variable). u.size) f.3 in
       let place : x.variable.place ≡ v.place = ap (λ (u : Variable). u.place) f.3 in
-      let total = sized.few set in
+      let total = (sized.copies set).few in
       let to_is : place_after v.place l.first ≡ v.place + l.first = omega (arith, lies, size, place, total, within) in
       let word : x.variable.place + (l.first + j) ≡ place_after v.place l.first + j = omega (arith, to_is, place) in
       let in_x : l.first + j < x.variable.size = omega (arith, within, less, size) in
@@ -228,17 +228,17 @@ module _ (p : ProgramTree) (ls : List Link) (few : counts ls ≤ 2 ^ 64 - 1) whe
       received-fits channel values (number + 1) ts (received_link channel values number t w) (λ i n u is at. there (suc i) n u (omega (arith, is)) at) halves.1
       (link-received channel values number t w (there 0 number t (omega arith) refl) halves.0 holds)
 
--- values leave copies, and what never changes of links, as they are
+-- values leave copies, the words of functions, and what never changes of links, as they are
 abbrev pub Same : World → World → Type 0
-Same w u = (u.copies ≡ w.copies) × (u.ties ≡ w.ties) × (u.homes ≡ w.homes)
+Same w u = (u.copies ≡ w.copies) × (u.ties ≡ w.ties) × (u.homes ≡ w.homes) × (u.shared ≡ w.shared)
 
 -- what is announced
 announced-same : (link : ℕ) (t : Tied) (w : World) → Same w (announced link t w)
 announced-same link t w = by (is_queued link w)
   where
     by : (b : Bool) → Same w (if b then enqueued link w.buffers t.from w else all_marked None link w)
-    by true = (refl, refl, refl)
-    by false = (refl, refl, refl)
+    by true = (refl, refl, refl, refl)
+    by false = (refl, refl, refl, refl)
 
 -- at a link
 link-same : (channel : ℕ) (values : List ℤ) (number : ℕ) (t : Tied) (w : World) → Same w (received_link channel values number t w)
@@ -250,16 +250,16 @@ link-same channel values number t w = by (is_of channel t) t.is_monitored t.flag
     by : (b monitored : Bool) (flag : Option ℕ) → Same w (if b then (if monitored then flagged flag (announced number t there) else there) else w)
     by true true None = announced-same number t there
     by true true (Some flag) = announced-same number t there
-    by true false flag = (refl, refl, refl)
-    by false monitored flag = (refl, refl, refl)
+    by true false flag = (refl, refl, refl, refl)
+    by false monitored flag = (refl, refl, refl, refl)
 
 -- at all links
 pub received-same : (channel : ℕ) (values : List ℤ) (number : ℕ) (ts : List Tied) (w : World) → Same w (received_from channel values number ts w)
-received-same channel values number [] w = (refl, refl, refl)
+received-same channel values number [] w = (refl, refl, refl, refl)
 received-same channel values number (t ∷ ts) w =
     let here = link-same channel values number t w in
     let others = received-same channel values (number + 1) ts (received_link channel values number t w) in
-    (others.0 ∙ here.0, others.1 ∙ here.1, others.2 ∙ here.2)
+    (others.0 ∙ here.0, others.1 ∙ here.1, others.2 ∙ here.2, others.3 ∙ here.3)
 
 -- ---- what holds
 
@@ -277,7 +277,7 @@ module _ (p : ProgramTree) (ls : List Link) (sized : IsSized p) (tied : IsTied p
       let stays : Fit (placed_in p set) old → Fit (placed_in p set) (overwritten old place item) =
       subst (λ (n : ℕ). Fit (placed_in p set) old → Fit (placed_in p set) (overwritten old n item)) k.there
       (item-fits p sized set k.l t k.v old item k.variable k.within k.least k.greatest fits) in
-      (changed-fits p sized set (record (copy_of set w) { words = overwritten old place item }) w stays holds.0, holds.1, holds.2, holds.3, holds.4)
+      copy-holds p sized ls set (record (copy_of set w) { words = overwritten old place item }) w stays holds
 
   -- the buffer of a link does
   buffer_holds : (set place link : ℕ) (t : Tied) (w : World) → home_of set link w ≡ Some place → slice_get (ties_in p ls) link ≡ Some t →
@@ -296,7 +296,7 @@ module _ (p : ProgramTree) (ls : List Link) (sized : IsSized p) (tied : IsTied p
   taken_holds set place link t item more w home is has holds =
       let at = tied_so link t w holds is in
       let h = item_holds set place link t item w home at (oldest-fits (ties_in p ls) w.queues link t item more at has holds.4) holds in
-      (h.0, h.1, h.2, h.3, rest-fits (ties_in p ls) w.queues link item more has holds.4)
+      (h.0, h.1, h.2, h.3, rest-fits (ties_in p ls) w.queues link item more has holds.4, h.5)
 
   -- a link is refreshed
   link-holds : (set number : ℕ) (t : Tied) (w : World) → slice_get (ties_in p ls) number ≡ Some t → Holds p ls w → Holds p ls (refreshed_link set number t w)
@@ -335,7 +335,7 @@ module _ (p : ProgramTree) (ls : List Link) (sized : IsSized p) (tied : IsTied p
       Holds p ls (enqueued link (copy_of set w).words place w)
   queued_holds set place link t w home is queued holds =
       let at = tied_so link t w holds is in
-      (holds.0, holds.1, holds.2, holds.3, put-fits (ties_in p ls) w.queues link t (copy_of set w).words place queued at (own_fits set place link t w home at holds) holds.4)
+      (holds.0, holds.1, holds.2, holds.3, put-fits (ties_in p ls) w.queues link t (copy_of set w).words place queued at (own_fits set place link t w home at holds) holds.4, holds.5)
 
   -- or to its buffer
   pub filled_holds : (set place link : ℕ) (t : Tied) (w : World) → home_of set link w ≡ Some place → slice_get w.ties link ≡ Some t → Holds p ls w →
@@ -353,4 +353,5 @@ module _ (p : ProgramTree) (ls : List Link) (sized : IsSized p) (tied : IsTied p
         holds.2,
         holds.3,
         holds.4,
+        holds.5,
       )

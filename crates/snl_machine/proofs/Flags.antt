@@ -29,7 +29,7 @@ use Rattle.snl_resolve.specs.declared.sites.Size.{Size}
 use Rattle.snl_resolve.specs.declared.sites.Sort.{Sort}
 use Rattle.snl_resolve.specs.declared.sites.Sort.TheVariants as sorts
 use Rattle.snl_resolve.specs.Parts.{listed_names}
-use Rattle.snl_resolve.specs.Programs.{at_defined, defined, in_flag, in_size, queue_size, in_definition, in_definitions, in_type, in_function, in_program_part, in_program_parts, program_sight, in_target, is_always_true, in_clause, in_clauses, in_plain_block, in_state, in_numbered, in_states, in_all_states, in_state_set, in_numbered_set, in_state_sets, in_all_sets, program_scopes, sites}
+use Rattle.snl_resolve.specs.Programs.{at_defined, defined, in_flag, in_size, queue_size, in_definition, in_definitions, in_type, in_function, in_program_part, in_program_parts, program_sight, in_target, is_always_true, in_clause, in_clauses, in_plain_block, in_state, in_numbered, in_states, in_all_states, in_state_set, in_numbered_set, in_state_sets, in_all_sets, sites}
 use Rattle.snl_resolve.specs.Scopes.{Scope, first_of, scope_of, meaning, declared_as}
 use Rattle.snl_resolve.specs.Sights.{Sight, within, headings_by, parameters_of, parameter_scope}
 use Rattle.snl_resolve.specs.Sites.{in_expression, in_value, at_type, maybe, declares, words_of, in_block}

@@ -3,15 +3,19 @@ use Rattle.snl_code.specs.Copies.{held_sets}
 use Rattle.std.proofs.Common.{◌≡◌, ◌∙◌, ◌+◌, ◌*◌, ◌-◌, ◌^◌, ◌<◌, refl, sym, ap, arith, ℕ, List, [], ◌∷◌, map, length}
 use Rattle.std.specs.List.{sum_by}
 use Rattle.std.proofs.Math.Nat.{zero-mul, suc-mul}
+use Rattle.std.proofs.lemmas.List.{length-map}
 use Rattle.std.proofs.lemmas.List.Sums.{sum_by-cons}
 use Rattle.snl_code.specs.Depths.{capped, program_depth}
+use Rattle.snl_meaning.specs.Known.{entry_view}
 use Rattle.snl_links.specs.Links.{Link}
 use Rattle.snl_machine.specs.Footprint.{MachinesHoldTheFootprint}
 use Rattle.snl_machine.proofs.LaidOut.{sets-many}
 use Rattle.snl_meaning.specs.Laws.{words_of}
-use Rattle.snl_resolve.specs.Variables.{Held, variables_of}
+use Rattle.snl_resolve.specs.Variables.{Held, variables_of, shared_variables}
+use Rattle.snl_machine.proofs.Sized.{same-words}
 use Rattle.snl_vm.specs.Footprint.{frame_words}
 use Rattle.snl_vm.proofs.Footprint.{words_are_of_the_frame}
+use Rattle.snl_vm.specs.Stack.{Room}
 
 -- two words beside those of each copy
 with-two : (sets : List (List Held)) → sum_by (λ (words : ℕ). words + 2) (map words_of sets) ≡ sum_by words_of sets + 2 * length sets
@@ -44,8 +48,10 @@ machines_hold_the_footprint p ls waits budget m is =
     let sets = held_sets p 0 p.state_sets in
     let many : length sets ≡ length p.state_sets = sets-many (variables_of p) 0 p.state_sets in
     let store = words_are_of_the_frame m.memory.store ∙ ap frame_words is.world_is.frame_is in
-    let room = m.room ∙ not-capped m.code.depth (program_depth p) is.loaded.code_is.depth is.loaded.counted in
+    let operands = ap (λ (r : Room). r.operands) m.room ∙ not-capped m.code.depth (program_depth p) is.loaded.code_is.depth is.loaded.counted in
+    let calls = ap (λ (r : Room). r.places) m.room ∙ sym (length-map m.code.functions.items entry_view) ∙ is.loaded.inside.count in
+    let shared = same-words (shared_variables p) in
     let copies = with-two sets in
     let queues = queues-room ls in
     let marks = so-many (length ls) sets ∙ ap (λ (n : ℕ). n * length ls) many in
-    omega (arith, store, room, copies, queues, marks, many)
+    omega (arith, store, operands, calls, shared, copies, queues, marks, many)

@@ -6,7 +6,7 @@ use Rattle.std.proofs.lemmas.List.{length-replicate}
 use Rattle.snl_syntax.specs.Programs.{ProgramTree}
 use Rattle.snl_links.specs.Links.{Link}
 use Rattle.snl_code.specs.Copies.{held_sets}
-use Rattle.snl_code.specs.Heres.{scene_in}
+use Rattle.snl_code.specs.Heres.{routines_in, scene_in}
 use Rattle.snl_load.specs.First.{first_copy, first_queue, first_world_of}
 use Rattle.snl_load.specs.Initials.{all_elements, held_among, buffer_by, first_buffer}
 use Rattle.snl_load.specs.Meaning.{program_meaning}
@@ -23,7 +23,7 @@ use Rattle.snl_meaning.specs.Laws.{words_of}
 use Rattle.snl_meaning.specs.World.{SetMemory}
 use Rattle.snl_meaning.proofs.Frames.{pieces_keep_the_frame}
 use Rattle.snl_resolve.specs.Scopes.{elements}
-use Rattle.snl_resolve.specs.Variables.{Held}
+use Rattle.snl_resolve.specs.Variables.{Held, shared_variables}
 use Rattle.snl_schedule.specs.Event.{applied}
 use Rattle.snl_schedule.specs.Refresh.{refreshed}
 use Rattle.snl_schedule.specs.Turn.{entered_in}
@@ -34,7 +34,7 @@ frame-steady : (p : ProgramTree) → IsSteady p SameButTime SameButTime
 frame-steady p = record {
   nothing = λ w. refl;
   both = but-both;
-  pieces = λ set. let m = scene_in p set in let k = pieces_keep_the_frame m in record {
+  pieces = λ set. let m = scene_in p set in let k = pieces_keep_the_frame (routines_in p) m refl in record {
     condition = λ e w. but-same w (world_after (held_by m e w)) (k.condition e w);
     block = λ b w. but-same w (world_after (block_effect m b w)) (k.block b w);
   };
@@ -102,9 +102,10 @@ first_frame p ls =
     let f = frame_in p ls 0 in
     let first = frame_of (first_world_of p ls) in
     ap (λ (x : List ℕ). record first { words = x }) (copies-many sets)
-    ∙ ap (λ (x : ℕ). let g = first in record g { words = f.words; flags = x }) (length-replicate (length (flags_in p)) false)
-    ∙ ap (λ (x : ℕ). let g = first in record g { words = f.words; flags = f.flags; ups = x; valued = x }) (length-replicate names false)
-    ∙ ap (λ (x : List (ℕ × ℕ)). let g = first in record g { words = f.words; flags = f.flags; ups = names; valued = names; queues = x }) (queues-room ls)
+    ∙ ap (λ (x : ℕ). let g = first in record g { words = f.words; shared = x }) (length-replicate (words_of (shared_variables p)) (pos 0))
+    ∙ ap (λ (x : ℕ). let g = first in record g { words = f.words; shared = f.shared; flags = x }) (length-replicate (length (flags_in p)) false)
+    ∙ ap (λ (x : ℕ). let g = first in record g { words = f.words; shared = f.shared; flags = f.flags; ups = x; valued = x }) (length-replicate names false)
+    ∙ ap (λ (x : List (ℕ × ℕ)). let g = first in record g { words = f.words; shared = f.shared; flags = f.flags; ups = names; valued = names; queues = x }) (queues-room ls)
     ∙ ap (λ (x : ℕ). record f { waiting = x; buffers = first.buffers; marks = first.marks }) (length-replicate (length ls) false)
     ∙ ap (λ (x : ℕ). record f { buffers = x; marks = first.marks }) (buffers-many sets ls)
     ∙ ap (λ (x : List ℕ). record f { marks = x }) (marks-many (length ls) sets)

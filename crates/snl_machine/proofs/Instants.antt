@@ -59,7 +59,7 @@ module _ (bounded : StepsAreBounded) (t : Loaded) (can : CanRunLoaded t) (tested
   all-sound k [] at = tt
   all-sound k (s ∷ ss) at =
       let here = at 0 k s (omega arith) refl in (
-        record { runs = can.sets k s here; tests = tested k s here },
+        record { idle = refl; runs = can.sets k s here; tests = tested k s here },
         all-sound (k + 1) ss (λ i n r is there. at (suc i) n r (omega (arith, is)) there),
       )
 
@@ -101,7 +101,7 @@ module _ (bounded : StepsAreBounded) (t : Loaded) (can : CanRunLoaded t) (tested
           round_steps t w + steps_then r (unless_still_steps t (rounds_steps t n)) ≤ suc n * for_each sets + paid len w.ticks + len
       by (Gives Stayed u text) h rest = omega (arith, h.fits, suc-mul n (for_each sets))
       by (Gives Moved u text) h rest = omega (arith, h.fits, rest u, suc-mul n (for_each sets))
-      by (Gives Exited u text) h rest = let e = block-costs bounded (own_context t) t.code t.plan.blocks.exit can.exit u in omega (arith, h.fits, e.fits, suc-mul n (for_each sets))
+      by (Gives Exited u text) h rest = let e = block-costs bounded (own_context t) t.code refl t.plan.blocks.exit can.exit u in omega (arith, h.fits, e.fits, suc-mul n (for_each sets))
       by (Faults f line u text) h rest = omega (arith, h.fits, suc-mul n (for_each sets))
 
   -- ---- the start
@@ -128,7 +128,7 @@ module _ (bounded : StepsAreBounded) (t : Loaded) (can : CanRunLoaded t) (tested
       costs-from len (len + for_each sets) w u (opened_steps t w) (opened p w) (all-still p.sets w)
       (costs-then len len (for_each sets) u (block_steps (own_context t) t.code t.plan.blocks.entry u) (owned p p.entry u) (λ _ v. begun_sets p.sets v) (λ _. begun_sets_steps t 0 sets)
       (costs-told len len u (block_steps (own_context t) t.code t.plan.blocks.entry u) (first_name p.sets) (p.entry u)
-      (block-costs bounded (own_context t) t.code t.plan.blocks.entry can.entry u))
+      (block-costs bounded (own_context t) t.code refl t.plan.blocks.entry can.entry u))
       (λ _ v. begins-cost 0 sets sound v))
 
   -- the start

@@ -42,6 +42,7 @@ worlds_are_laid_out p ls w world =
       words = λ set less.
           sym (map-at look w.copies set no_copy) ∙ ap (λ (ns : List ℕ). slice_index_or ns set 0) all ∙ map-at words_of sets set []
           ∙ ap words_of (set-at (variables_of p) 0 p.state_sets set [] less ∙ ap (variables_of p) (let e : 0 + set ≡ set = omega arith in e));
+      shared = ap (λ (f : Frame). f.shared) frame;
       buffers = ap (λ (f : Frame). f.buffers) frame;
       ties = ap (λ (f : Frame). f.ties) frame;
       homes = ap (λ (f : Frame). f.homes) frame;

@@ -1,4 +1,6 @@
 pub mod Turning
+pub mod Shared
+pub mod Pieces
 pub mod Parts
 pub mod Steady
 pub mod Whole
@@ -20,6 +22,7 @@ pub mod Unreached
 pub mod Reached
 pub mod Tasks
 pub mod Cells
+pub mod SharedCells
 pub mod Marked
 pub mod Buffers
 pub mod Feeds

@@ -1,22 +1,22 @@
 -- A line of a trace keeps what copies, buffers and queues hold within their types.
 use Rattle.std.proofs.Common.{◌≡◌, ◌∙◌, ◌+◌, ap, sym, subst, arith, ℕ, Bool, true, slice_get, List, Some, length, nat_lt, if◌then◌else◌}
 use Rattle.snl_syntax.specs.Programs.{ProgramTree}
-use Rattle.snl_code.specs.Heres.{scene_in}
+use Rattle.snl_code.specs.Heres.{scene_in, shared_in}
 use Rattle.snl_schedule.specs.declared.events.Event.{Event}
 use Rattle.snl_schedule.specs.declared.events.Event.TheVariants.{Up, Down, Val, Done, Tick, Other}
 use Rattle.snl_schedule.specs.Event.{applied, is_event_fit}
 use Rattle.snl_links.specs.Links.{Link}
-use Rattle.snl_machine.specs.Ranges.{AllFit, Holds, IsSized, IsTied, PiecesFit, EventsFit, Begins, GoesOn, ReachedHold}
+use Rattle.snl_machine.specs.Ranges.{AllFit, Fit, Holds, IsSized, IsTied, PiecesFit, EventsFit, Begins, GoesOn, ReachedHold}
 use Rattle.snl_machine.proofs.Beginning.{first_holds}
 use Rattle.snl_machine.proofs.Filling.{received-fits, received-same, refresh_holds, fetched_holds, taken_holds, queued_holds, filled_holds, both-true}
 use Rattle.snl_machine.proofs.Queued.{none-fits}
-use Rattle.snl_machine.proofs.Fitting.{May, may, stored-fits, cleared-fits, changed-fits}
+use Rattle.snl_machine.proofs.Fitting.{May, may, within-may, copy-holds, stored-holds, cleared-holds}
+use Rattle.snl_machine.proofs.Pieces.{keeps-in}
 use Rattle.snl_machine.proofs.Steady.{IsSteady}
 use Rattle.snl_machine.proofs.Whole.{line-keeps}
 use Rattle.snl_meaning.specs.Keeping.{IsKept, PiecesKeep}
 use Rattle.snl_meaning.specs.declared.ties.Tied.{Tied}
 use Rattle.snl_meaning.specs.World.{SetMemory, World, copy_of}
-use Rattle.snl_meaning.proofs.Keeping.{pieces-keep}
 use Rattle.snl_load.specs.Meaning.{program_meaning}
 use Rattle.snl_load.specs.Places.{channels, ties_in}
 use Rattle.snl_schedule.specs.Arrivals.{are_fit, answered}
@@ -32,14 +32,14 @@ module _ (p : ProgramTree) (ls : List Link) (sized : IsSized p) (tied : IsTied p
   holds-kept set = record {
     nothing = λ w holds. holds;
     both = λ u v w a b holds. b (a holds);
-    stores = λ v k z w ok has holds. (stored-fits p sized set v k z w ok has holds.0, holds.1, holds.2, holds.3, holds.4);
-    clears = λ v w ok holds. (cleared-fits p sized set v w holds.0, holds.1, holds.2, holds.3, holds.4);
+    stores = stored-holds p sized ls set;
+    clears = λ v w ok. cleared-holds p sized ls set v w;
     signals = λ flag now w holds. holds;
     fills = filled_holds p ls sized tied set;
     enqueues = queued_holds p ls sized tied set;
     fetches = fetched_holds p ls sized tied set;
     takes = taken_holds p ls sized tied set;
-    flushes = λ link w holds. (holds.0, holds.1, holds.2, holds.3, none-fits (ties_in p ls) w.queues link holds.4);
+    flushes = λ link w holds. (holds.0, holds.1, holds.2, holds.3, none-fits (ties_in p ls) w.queues link holds.4, holds.5);
     waits = λ link w holds. holds;
     marks = λ marks w same holds. holds;
     notes = λ t w late holds. holds;
@@ -48,7 +48,7 @@ module _ (p : ProgramTree) (ls : List Link) (sized : IsSized p) (tied : IsTied p
 
   -- all of them
   pieces-hold : (set : ℕ) → PiecesKeep (scene_in p set) Stays
-  pieces-hold set = pieces-keep (scene_in p set) (May p sized set) Stays (may p sized set) (holds-kept set)
+  pieces-hold set = keeps-in p (May p sized set) (within-may p sized set) set Stays (may p sized set) (holds-kept set)
 
   -- each change of a run
   holds-steady : IsSteady p Stays Stays
@@ -57,13 +57,8 @@ module _ (p : ProgramTree) (ls : List Link) (sized : IsSized p) (tied : IsTied p
     both = λ u v w a b holds. b (a holds);
     pieces = pieces-hold;
     refreshes = refresh_holds p ls sized tied;
-    enters = λ set state within is_timed w holds. (
-      changed-fits p sized set (record (copy_of set w) { state = state; entered = if is_timed then w.time else (copy_of set w).entered }) w (λ fit. fit) holds.0,
-      holds.1,
-      holds.2,
-      holds.3,
-      holds.4,
-    );
+    enters = λ set state within is_timed w.
+        copy-holds p sized ls set (record (copy_of set w) { state = state; entered = if is_timed then w.time else (copy_of set w).entered }) w (λ fit. fit);
     opens = λ w holds. holds;
     wakes = λ w holds. holds;
     phase = λ x w holds. holds;
@@ -93,6 +88,7 @@ module _ (p : ProgramTree) (ls : List Link) (sized : IsSized p) (tied : IsTied p
         same.1 ∙ holds.2,
         same.2 ∙ holds.3,
         links.1,
+        subst (Fit (shared_in p)) (sym same.3) holds.5,
       )
   event-holds Tick w fit waits holds = holds
   event-holds Other w fit waits holds = holds

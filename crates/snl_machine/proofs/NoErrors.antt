@@ -18,14 +18,14 @@ use Rattle.snl_rules.specs.Tests.{all_broken}
 use Rattle.snl_rules.specs.Words.{IsOverfullSet, set_words, all_words}
 use Rattle.snl_rules.proofs.BrokenLaws.{broken_law}
 use Rattle.snl_rules.proofs.OverfullLaws.{overfull_is}
-use Rattle.snl_messages.specs.declared.matters.Matter.TheVariants.{TooManyWords, NotRun, NotSafe}
+use Rattle.snl_messages.specs.declared.matters.Matter.TheVariants.{TooManyWords, NotSafe}
 use Rattle.snl_messages.specs.declared.messages.Severity.{Severity}
 use Rattle.snl_messages.specs.declared.messages.Severity.TheVariants.{Error, Warning}
 use Rattle.snl_messages.specs.Findings.{Finding, finding, of_broken, of_unreached, of_embedded, of_overfull}
 use Rattle.snl_messages.specs.Given.{IsAlike, choice_cmp}
 use Rattle.snl_messages.specs.Lists.{of_beyond}
 use Rattle.snl_messages.specs.Messages.{Said}
-use Rattle.snl_messages.specs.Says.{IsFound, IsFoundAtAll, IsOfWords, IsOfFunctions}
+use Rattle.snl_messages.specs.Says.{IsFound, IsFoundAtAll, IsOfWords}
 use Rattle.snl_messages.specs.Silence.{is_let_through, lets_through}
 use Rattle.snl_messages.specs.Wordings.{wording_of}
 use Rattle.snl_messages.proofs.FirstLaws.{weaker}
@@ -87,35 +87,27 @@ module _ (o : Options) (p : ProgramTree) (embedded : List Pos) (beyond : Option 
   abbrev of-all : List Finding
   of-all = finding TooManyWords p.word.pos [] ∷ []
 
-  -- that functions do not run yet
-  abbrev of-run : List Finding
-  of-run = finding NotRun p.word.pos [] ∷ []
-
-  -- those of the whole program
-  abbrev of-whole : List Finding
-  of-whole = of-all ++ of-run
-
   -- all of them
   abbrev errors : List Finding
-  errors = at-sites ++ (at-pieces ++ (of_beyond beyond ++ (of-sets ++ of-whole)))
+  errors = at-sites ++ (at-pieces ++ (of_beyond beyond ++ (of-sets ++ of-all)))
 
   -- one at a site
   first-part : (f : Finding) → Contains at-sites f → Contains errors f
-  first-part f h = Contains-append_left at-sites (at-pieces ++ (of_beyond beyond ++ (of-sets ++ of-whole))) f h
+  first-part f h = Contains-append_left at-sites (at-pieces ++ (of_beyond beyond ++ (of-sets ++ of-all))) f h
 
   -- one at a piece of embedded C
   second-part : (f : Finding) → Contains at-pieces f → Contains errors f
   second-part f h =
-      Contains-append_right at-sites (at-pieces ++ (of_beyond beyond ++ (of-sets ++ of-whole))) f (Contains-append_left at-pieces (of_beyond beyond ++ (of-sets ++ of-whole)) f h)
+      Contains-append_right at-sites (at-pieces ++ (of_beyond beyond ++ (of-sets ++ of-all))) f (Contains-append_left at-pieces (of_beyond beyond ++ (of-sets ++ of-all)) f h)
 
   -- one behind those
-  behind : (f : Finding) → Contains (of_beyond beyond ++ (of-sets ++ of-whole)) f → Contains errors f
+  behind : (f : Finding) → Contains (of_beyond beyond ++ (of-sets ++ of-all)) f → Contains errors f
   behind f h =
-      Contains-append_right at-sites (at-pieces ++ (of_beyond beyond ++ (of-sets ++ of-whole))) f (Contains-append_right at-pieces (of_beyond beyond ++ (of-sets ++ of-whole)) f h)
+      Contains-append_right at-sites (at-pieces ++ (of_beyond beyond ++ (of-sets ++ of-all))) f (Contains-append_right at-pieces (of_beyond beyond ++ (of-sets ++ of-all)) f h)
 
   -- one of words
-  of-words : (f : Finding) → Contains (of-sets ++ of-whole) f → Contains errors f
-  of-words f h = behind f (Contains-append_right (of_beyond beyond) (of-sets ++ of-whole) f h)
+  of-words : (f : Finding) → Contains (of-sets ++ of-all) f → Contains errors f
+  of-words f h = behind f (Contains-append_right (of_beyond beyond) (of-sets ++ of-all) f h)
 
   -- a warning is none
   no-warning : (f g : Finding) → f ≡ g → g.said.severity ≡ Warning → f.said.severity ≡ Error → ⊥
@@ -126,25 +118,19 @@ module _ (o : Options) (p : ProgramTree) (embedded : List Pos) (beyond : Option 
   found-among f (inl site) error = first-part f ((members of_broken (all_broken (sites p)) (IsBroken (sites p)) (broken_law (sites p)) f).1 site)
   found-among f (inr (inl state)) error = absurd (no-warning f (of_unreached state.0) state.2 refl error)
   found-among f (inr (inr (inl piece))) error = second-part f ((members of_embedded embedded (Contains embedded) (λ x. ((λ h. h), (λ h. h))) f).1 piece)
-  found-among f (inr (inr (inr (inl tokens)))) error = behind f (Contains-append_left (of_beyond beyond) (of-sets ++ of-whole) f ((beyond_is beyond f).1 tokens))
+  found-among f (inr (inr (inr (inl tokens)))) error = behind f (Contains-append_left (of_beyond beyond) (of-sets ++ of-all) f ((beyond_is beyond f).1 tokens))
   found-among f (inr (inr (inr (inr mode)))) error = absurd (no-warning f (finding NotSafe p.word.pos []) mode.1 refl error)
 
   -- those of words
   words-among : (f : Finding) → IsOfWords p f → Contains errors f
-  words-among f (inl set) = of-words f (Contains-append_left of-sets of-whole f ((members of_overfull (overfull_from p 0 p.state_sets) (IsOverfullSet p) (overfull_is p) f).1 set))
+  words-among f (inl set) = of-words f (Contains-append_left of-sets of-all f ((members of_overfull (overfull_from p 0 p.state_sets) (IsOverfullSet p) (overfull_is p) f).1 set))
   words-among f (inr all) =
-      of-words f (Contains-append_right of-sets of-whole f (Contains-append_left of-all of-run f ((only (finding TooManyWords p.word.pos []) f).1 all.1)))
-
-  -- that functions do not run yet
-  run-among : (f : Finding) → IsOfFunctions p f → Contains errors f
-  run-among f is =
-      of-words f (Contains-append_right of-sets of-whole f (Contains-append_right of-all of-run f ((only (finding NotRun p.word.pos []) f).1 is.1)))
+      of-words f (Contains-append_right of-sets of-all f ((only (finding TooManyWords p.word.pos []) f).1 all.1))
 
   -- all of them
   among : (f : Finding) → IsFoundAtAll o p embedded beyond f → f.said.severity ≡ Error → Contains errors f
-  among f (inl (inl found)) error = found-among f found error
-  among f (inl (inr words)) error = words-among f words.1
-  among f (inr run) error = run-among f run.1
+  among f (inl found) error = found-among f found error
+  among f (inr words) error = words-among f words.1
 
   -- what may be given
   abbrev May : Finding → Type 0
@@ -167,11 +153,11 @@ module _ (o : Options) (p : ProgramTree) (embedded : List Pos) (beyond : Option 
 
     -- no site breaks a rule that is told as an error
     pub breaks-none : (b : Broken) → IsBroken (sites p) b → (wording_of b.rule).severity ≡ Error → ⊥
-    breaks-none b is error = found-none (of_broken b) (inl (inl (inl (b, is, refl)))) error
+    breaks-none b is error = found-none (of_broken b) (inl (inl (b, is, refl))) error
 
     -- no limit of words is passed
     passes-none : (f : Finding) → IsOfWords p f → f.said.severity ≡ Error → ⊥
-    passes-none f words error = found-none f (inl (inr ((λ g found wrong. found-none g (inl (inl found)) wrong), words))) error
+    passes-none f words error = found-none f (inr ((λ g found wrong. found-none g (inl found) wrong), words)) error
 
     -- all words are few
     pub words-few : all_words p ≤ 1048576

@@ -3,7 +3,7 @@ use Rattle.std.proofs.Common.{◌≤◌, ℕ, List, [], ◌∷◌, Option, None,
 use Rattle.snl_syntax.specs.Programs.{TargetTree, to_state, to_exit, ClauseTree, StateTree, ProgramTree}
 use Rattle.snl_syntax.specs.Statements.{BlockTree}
 use Rattle.snl_code.specs.Heres.{here_in, scene_in}
-use Rattle.snl_meaning.specs.Effect.{Way, Done, Broken, Continued, Left, block_effect}
+use Rattle.snl_meaning.specs.Effect.{Way, Done, Broken, Continued, Left, Returned, block_effect}
 use Rattle.snl_meaning.specs.Keeping.{PiecesKeep}
 use Rattle.snl_meaning.specs.World.{World}
 use Rattle.snl_load.specs.Meaning.{left_for, finished, block_meaning, target_of, clause_meaning, state_meaning}
@@ -25,6 +25,7 @@ module _ (p : ProgramTree) (set : ℕ) where
   left-leads (Gives Broken w text) h = tt
   left-leads (Gives Continued w text) h = tt
   left-leads (Gives (Left state) w text) h = h
+  left-leads (Gives (Returned z) w text) h = tt
   left-leads (Faults f line w text) h = tt
 
 module _ (p : ProgramTree) (set : ℕ) (R : World → World → Type 0) (nothing : (w : World) → R w w) (both : (u v w : World) → R u v → R v w → R u w)
@@ -35,6 +36,7 @@ module _ (p : ProgramTree) (set : ℕ) (R : World → World → Type 0) (nothing
   left-keeps Broken w = nothing w
   left-keeps Continued w = nothing w
   left-keeps (Left state) w = nothing w
+  left-keeps (Returned z) w = nothing w
 
   -- an entry or an exit block
   pub block-keeps : (b : Option BlockTree) → Keeps R (block_meaning (scene_in p set) b)

@@ -20,7 +20,7 @@ use Rattle.snl_machine.proofs.States.{pieces-stay}
 use Rattle.snl_machine.proofs.Targets.{Leads, NameOnly, front, behind, block-leads}
 use Rattle.snl_machine.proofs.Unreached.{AreSoundSets, IsSoundProgram, line-same, line-stays, instants-same}
 use Rattle.snl_machine.proofs.Worlds.{copies-first}
-use Rattle.snl_meaning.specs.Effect.{Way, Done, Broken, Continued, Left, held_by, block_effect}
+use Rattle.snl_meaning.specs.Effect.{Way, Done, Broken, Continued, Left, Returned, held_by, block_effect}
 use Rattle.snl_meaning.specs.Keeping.{PiecesKeep, world_after}
 use Rattle.snl_meaning.specs.Names.{or_first}
 use Rattle.snl_meaning.specs.Scenes.{Scene}
@@ -43,7 +43,7 @@ module _ (p : ProgramTree) (reached : Table) (set : ℕ) where
 
   -- conditions and blocks leave good worlds
   pieces : PiecesKeep m (λ w u. Good p reached w → Good p reached u)
-  pieces = pieces-stay (IsIn p reached) m
+  pieces = pieces-stay (IsIn p reached) p set
 
   -- an entry or an exit block
   block-stays : (o : Option BlockTree) → Stays p reached (block_meaning m o)
@@ -63,6 +63,7 @@ module _ (p : ProgramTree) (reached : Table) (set : ℕ) where
   leaves-in (Gives Broken w text) leads good = (tt, good)
   leaves-in (Gives Continued w text) leads good = (tt, good)
   leaves-in (Gives (Left state) w text) leads good = (leads, good)
+  leaves-in (Gives (Returned z) w text) leads good = (tt, good)
   leaves-in (Faults f line w text) leads good = good
 
   -- a clause whose targets are in the table

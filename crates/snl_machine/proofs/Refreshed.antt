@@ -6,7 +6,7 @@ use Rattle.snl_links.specs.Links.{Link}
 use Rattle.snl_load.specs.Places.{ties_in}
 use Rattle.snl_machine.specs.Layout.{HasWords, CopiesStay, IsLaidOut, IsTiedTo, RefreshesFillVariables}
 use Rattle.snl_machine.specs.Ranges.{IsSized, IsTied}
-use Rattle.snl_machine.proofs.Cells.{words-same, overwritten-away, elements-written, IsThere, home-there, home-words, home-away, home-element}
+use Rattle.snl_machine.proofs.Cells.{words-same, overwritten-away, elements-written, element-in-copy, IsThere, home-there, home-words, home-away, home-element}
 use Rattle.snl_machine.proofs.Fitting.{set-index}
 use Rattle.snl_machine.proofs.Marked.{mark-away, mark-cleared}
 use Rattle.snl_machine.proofs.Queued.{length-words}
@@ -236,9 +236,11 @@ refreshes_fill_variables p ls set w sized tied laid here = record {
       links-fresh set 0 w.ties w i i place t (let e : i ≡ 0 + i = omega arith in e) (own i t is) marked home (home-words p ls set w sized tied laid i place t here h)
       (λ j n to r at not is_r marked_r home_r k less.
       alone-away p ls set w sized tied laid i place t n to r k h (there n to r (theirs j n r at is_r) home_r) less (λ a b mine others. alone n a b not marked_r mine others));
-  elements = λ j m y is_y less not. links-away set 0 w.ties w (y.variable.place + m)
+  elements = λ j m y is_y less not.
+      let same = links-away set 0 w.ties w (y.variable.place + m)
       (λ i n place t at is marked home.
-      home-away p ls set w sized tied laid n place t (there n place t (theirs i n t at is) home) j m y is_y less (λ ties. not (n, marked, ties)));
+      home-away p ls set w sized tied laid n place t (there n place t (theirs i n t at is) home) j m y is_y less (λ ties. not (n, marked, ties))) in
+      element-in-copy p set j m y (refreshed_from set 0 w.ties w) is_y ∙ same ∙ sym (element-in-copy p set j m y w is_y);
   copies = links-copies set 0 w.ties w;
   cleared = λ i less. links-cleared set 0 w.ties w i i (let e : i ≡ 0 + i = omega arith in e) (let many = ap (length {A = Tied}) laid.ties in omega (arith, less, many));
   marks = links-others set 0 w.ties w;

@@ -28,6 +28,7 @@ ticks-steady = record {
   nothing = λ w. omega arith;
   both = λ u v w a b. omega (arith, a, b);
   copies = λ x w. omega arith;
+  shared = λ x w. omega arith;
   marks = λ x w. omega arith;
   flags = λ x w. omega arith;
   waits = λ x w. omega arith;

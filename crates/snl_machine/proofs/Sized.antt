@@ -1,7 +1,7 @@
 -- An accepted program has variables with elements, whose types have 0, and copies with few words.
-use Rattle.std.proofs.Common.{◌≡◌, ◌+◌, ◌<◌, ◌≤◌, inl, inr, refl, ap, subst, arith, ℕ, zero, suc, ℤ, pos, Bool, true, false, List, [], ◌∷◌, ◌++◌, Option, None, Some, slice_get, if◌then◌else◌}
+use Rattle.std.proofs.Common.{◌≡◌, ◌+◌, ◌<◌, ◌≤◌, inl, inr, refl, ap, subst, arith, ℕ, zero, suc, ℤ, pos, Bool, true, false, List, [], ◌∷◌, ◌++◌, map, Option, None, Some, slice_get, if◌then◌else◌}
 use Rattle.std.specs.Prelude.{◌&&◌, ◌==◌, int_le, nat_le}
-use Rattle.std.specs.List.{AllByRecursion, sum_by}
+use Rattle.std.specs.List.{AllByRecursion, flat_map, sum_by}
 use Rattle.std.proofs.Math.Dec.{eqb-suc-zero}
 use Rattle.std.proofs.lemmas.Bool.{eqb-false}
 use Rattle.std.proofs.lemmas.List.Sums.{sum_by-append}
@@ -11,6 +11,7 @@ use Rattle.snl_text.specs.declared.tokens.Pos.{Pos}
 use Rattle.snl_text.specs.declared.tokens.Token.{Token}
 use Rattle.snl_syntax.specs.Declarations.{TypeTree, DeclaratorTree}
 use Rattle.snl_syntax.specs.Expressions.{ExprTree}
+use Rattle.snl_syntax.specs.Functions.{ParameterTree, FunctionTree}
 use Rattle.snl_syntax.specs.Sequences.{EachOfSome}
 use Rattle.snl_syntax.specs.Programs.{StateSetTree, ProgramTree, IsStateSet}
 use Rattle.snl_resolve.specs.declared.constants.Constant.{Constant}
@@ -21,15 +22,18 @@ use Rattle.snl_resolve.specs.Constants.{constant_of}
 use Rattle.snl_resolve.specs.Programs.{program_scopes}
 use Rattle.snl_resolve.specs.Scopes.{Scope, elements, size_by, size_of, is_hidden}
 use Rattle.snl_resolve.specs.Types.{unsigned_range, range_by, range_or_long}
-use Rattle.snl_resolve.specs.Variables.{Held, held_for, by_definitions, by_maybe, by_numbered, variables_of}
+use Rattle.snl_resolve.specs.Sights.{parameter_scope}
+use Rattle.snl_resolve.specs.Variables.{Held, held_for, held_parameter, by_block, by_definitions, by_function, by_maybe, by_numbered, functions_of, shared_variables, variables_of}
 use Rattle.snl_rules.specs.Words.{variable_words}
 use Rattle.snl_meaning.specs.declared.names.Placed.{Placed}
 use Rattle.snl_meaning.specs.Laws.{words_of}
-use Rattle.snl_meaning.specs.Names.{behind, placed_from}
-use Rattle.snl_machine.specs.Ranges.{IsSized}
+use Rattle.snl_meaning.specs.Names.{behind, placed_from, variable_from}
+use Rattle.snl_machine.specs.Ranges.{Has, IsSized}
+use Rattle.snl_code.specs.Heres.{shared_in}
 use Rattle.snl_machine.specs.Accepted.{IsRead, IsAcceptedTree, AcceptedIsSized}
-use Rattle.snl_machine.proofs.Declared.{declared, programs, In, of-in, in-declared}
-use Rattle.snl_machine.proofs.NoErrors.{set-few}
+use Rattle.snl_machine.proofs.Declared.{declared, programs, blocks, In, of-in, in-declared}
+use Rattle.snl_machine.proofs.NoErrors.{set-few, words-few}
+use Rattle.snl_machine.proofs.Shared.{placed-shared}
 
 -- ---- each variable
 
@@ -95,15 +99,44 @@ all-both P (x ∷ xs) ys f g = (f.0, all-both P xs ys f.1 g)
 pub all-decent : (p : ProgramTree) → AllByRecursion IsDecent (declared p)
 all-decent p = programs (λ ss vs. AllByRecursion IsDecent vs) (λ ss. tt) (λ a b m k f g. all-both IsDecent m k f g) (λ s type d. (decent-for s type d, tt)) p
 
+-- a parameter
+parameters-decent : (ps : List ParameterTree) → AllByRecursion IsDecent (map held_parameter ps)
+parameters-decent [] = tt
+parameters-decent (q ∷ qs) = ((omega arith, range-nought q.type_name.word.kind q.type_name.second), parameters-decent qs)
+
+-- each of a function
+function-decent : (s : List Scope) (f : FunctionTree) → AllByRecursion IsDecent (by_function s f)
+function-decent s f =
+    all-both IsDecent (map held_parameter f.parameters.each) (by_block (parameter_scope f ∷ s) f.body) (parameters-decent f.parameters.each)
+    (blocks (λ ss vs. AllByRecursion IsDecent vs) (λ ss. tt) (λ a b m k g h. all-both IsDecent m k g h) (λ r type d. (decent-for r type d, tt)) (parameter_scope f ∷ s) f.body)
+
+-- each of all functions
+pub shared-decent : (p : ProgramTree) → AllByRecursion IsDecent (shared_variables p)
+shared-decent p = by (functions_of p)
+  where
+    by : (fs : List FunctionTree) → AllByRecursion IsDecent (flat_map (by_function (program_scopes p)) fs)
+    by [] = tt
+    by (f ∷ fs) =
+        all-both IsDecent (by_function (program_scopes p) f) (flat_map (by_function (program_scopes p)) fs) (function-decent (program_scopes p) f) (by fs)
+
 -- a placed one is one of the copy
 pub placed-held : (vs : List Held) (at i : ℕ) (x : Placed) → slice_get (placed_from at vs) i ≡ Some x →
     (v : Held) × In v vs × (v.name.pos.offset ≡ x.offset) × (elements v.size ≡ x.variable.size) × (v.range.0 ≡ x.variable.least) × (v.range.1 ≡ x.variable.greatest)
 placed-held [] at i x is = absurd (cc)
 placed-held (v ∷ vs) at zero x is =
-    let same : record { offset = v.name.pos.offset; variable = record { place = at; size = elements v.size; least = v.range.0; greatest = v.range.1 } } ≡ x = cc in
+    let same : record { offset = v.name.pos.offset; variable = variable_from at v } ≡ x = cc in
     (v, inl refl, ap (λ (y : Placed). y.offset) same, ap (λ (y : Placed). y.variable.size) same, ap (λ (y : Placed). y.variable.least) same, ap (λ (y : Placed). y.variable.greatest) same)
 placed-held (v ∷ vs) at (suc i) x is =
     let w = placed-held vs (behind at v) i x is in (w.0, inr w.1, w.2, w.3, w.4, w.5)
+
+-- it is as decent as the variable that it stands for
+placed-decent : (v : Held) (x : Placed) → elements v.size ≡ x.variable.size → v.range.0 ≡ x.variable.least → v.range.1 ≡ x.variable.greatest → IsDecent v →
+    (0 < x.variable.size) × Has x.variable (pos 0)
+placed-decent v x size least greatest decent = (
+  subst (λ (n : ℕ). 0 < n) size decent.0,
+  subst (λ (n : ℤ). (int_le x.variable.least (pos 0) && int_le (pos 0) n) ≡ true) greatest
+      (subst (λ (n : ℤ). (int_le n (pos 0) && int_le (pos 0) v.range.1) ≡ true) least decent.1),
+)
 
 -- ---- words
 
@@ -163,18 +196,35 @@ module _ (o : Options) (p : ProgramTree) (embedded : List Pos) (beyond : Option 
             words-both defs first,
           )
 
+  -- those of functions
+  shared-few : words_of (shared_variables p) ≤ 1048576
+  shared-few =
+      let all = words-few o p embedded beyond accepted in
+      let same = same-words (shared_variables p) in
+      omega (arith, all, same)
+
   -- the law
   sized : IsSized p
   sized = record {
-    few = λ set. let few = all-few set in omega (arith, few);
-    some = λ set i x is.
-        let w = placed-held (variables_of p set) 0 i x is in
-        subst (λ (n : ℕ). 0 < n) w.3 (of-in IsDecent w.0 (declared p) (all-decent p) (in-declared p set w.0 w.1)).0;
-    zero = λ set i x is.
-        let w = placed-held (variables_of p set) 0 i x is in
-        subst (λ (n : ℤ). (int_le x.variable.least (pos 0) && int_le (pos 0) n) ≡ true) w.5
-        (subst (λ (n : ℤ). (int_le n (pos 0) && int_le (pos 0) w.0.range.1) ≡ true) w.4 (of-in IsDecent w.0 (declared p) (all-decent p) (in-declared p set w.0 w.1)).1);
+    copies = λ set. record {
+      few = let few = all-few set in omega (arith, few);
+      some = λ i x is. let w = placed-held (variables_of p set) 0 i x is in (placed-decent w.0 x w.3 w.4 w.5 (of-in IsDecent w.0 (declared p) (all-decent p) (in-declared p set w.0 w.1))).0;
+      zero = λ i x is. let w = placed-held (variables_of p set) 0 i x is in (placed-decent w.0 x w.3 w.4 w.5 (of-in IsDecent w.0 (declared p) (all-decent p) (in-declared p set w.0 w.1))).1;
+    };
+    shared = record {
+      few = let few = shared-few in omega (arith, few);
+      some = λ i x is. (shared-one i x is).0;
+      zero = λ i x is. (shared-one i x is).1;
+    };
   }
+    where
+      -- one of a function
+      shared-one : (i : ℕ) (x : Placed) → slice_get (shared_in p) i ≡ Some x → (0 < x.variable.size) × Has x.variable (pos 0)
+      shared-one i x is =
+          let h = placed-shared (shared_variables p) 0 i x is in
+          let w = placed-held (shared_variables p) 0 i h.y h.placed in
+          let decent = placed-decent w.0 h.y w.3 w.4 w.5 (of-in IsDecent w.0 (shared_variables p) (shared-decent p) w.1) in
+          subst (λ (z : Placed). (0 < z.variable.size) × Has z.variable (pos 0)) h.is decent
 
 -- so it is of each program
 pub accepted_is_sized : AcceptedIsSized

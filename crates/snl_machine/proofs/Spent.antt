@@ -45,9 +45,10 @@ state-is g code [] n = refl
 state-is g code (q ∷ qs) zero = refl
 state-is g code (q ∷ qs) (suc n) = state-is g code qs n
 
--- What is known of the states of a state set: all their pieces come to their ends, and the conditions of each lie beside each
--- other.
+-- What is known of the states of a state set: no call is under way when one of their pieces begins; all these come to their ends;
+-- and the conditions of each lie beside each other.
 pub record IsSound (g : PieceContext) (code : List Instr) (s : SetPlan) : Type 0 where
+  pub idle : g.returns ≡ []
   pub runs : CanRunSet g code s.states.items
   pub tests : (n : ℕ) (q : StatePlan) → slice_get s.states.items n ≡ Some q → AreTested g code 0 q.clauses.items
 
@@ -65,7 +66,7 @@ module _ (bounded : StepsAreBounded) (g : PieceContext) (code : List Instr) (s :
   -- a block where it is due
   due-costs : (due : Bool) (start : Option ℕ) → CanDo g code start → (w : World) →
       Costs len len w (if due then block_steps g code start w else 0) (if due then block_at g code start w else nothing w)
-  due-costs true start can w = block-costs bounded g code start can w
+  due-costs true start can w = block-costs bounded g code sound.idle start can w
   due-costs false start can w = costs-nothing len len w tt []
 
   -- the old state
@@ -112,7 +113,7 @@ module _ (bounded : StepsAreBounded) (g : PieceContext) (code : List Instr) (s :
       Costs len (len + (len + len)) w (acted_steps g code s from c w) (acted of from (clause_of g code c) w)
   acts from c over w =
       costs-then len len (len + len) w (steps_of g code c.block w) (left_at g code c.block w) (arrived_by of from c.target) (λ left. arrived_steps g code s from (target_by left c.target))
-      (left-costs bounded g code c.block over w) (λ left u. arrives from (target_by left c.target) u)
+      (left-costs bounded g code sound.idle c.block over w) (λ left u. arrives from (target_by left c.target) u)
 
   -- a transition: its tick pays for its blocks
   fires : (from : ℕ) (c : ClausePlan) → ((w : World) → IsOver (run_of g code c.block w)) → (w : World) →
@@ -186,4 +187,4 @@ module _ (bounded : StepsAreBounded) (g : PieceContext) (code : List Instr) (s :
       by : (o : Option StatePlan) → slice_get s.states.items 0 ≡ o → Costs len len w (begun_steps g code o w) ((state_or g code o).entry (entered_in g.set 0 true w))
       by None is = record { still = omega arith; fits = omega arith }
       by (Some q) is =
-          let h = block-costs bounded g code q.blocks.entry (sound.runs 0 q is).entry (entered_in g.set 0 true w) in record { still = h.still; fits = h.fits }
+          let h = block-costs bounded g code sound.idle q.blocks.entry (sound.runs 0 q is).entry (entered_in g.set 0 true w) in record { still = h.still; fits = h.fits }

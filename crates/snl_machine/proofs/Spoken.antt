@@ -26,7 +26,7 @@ use Rattle.snl_resolve.specs.declared.sites.Sort.TheVariants.{Assign}
 use Rattle.snl_resolve.specs.Constants.{constant_of}
 use Rattle.snl_resolve.specs.Numbered.{is_later}
 use Rattle.snl_resolve.specs.Parts.{listed_names, element_by, element_at, one_element, part_of, is_wrong_subscript, is_wrong_part}
-use Rattle.snl_resolve.specs.Programs.{queue_size, in_definition, in_definitions, in_function, in_program_part, in_program_parts, program_sight, at_state, in_state, in_numbered, in_states, in_all_states, in_state_set, in_numbered_set, in_state_sets, in_all_sets, in_plain_block, in_clauses, program_scopes, sites}
+use Rattle.snl_resolve.specs.Programs.{queue_size, in_definition, in_definitions, in_function, in_program_part, in_program_parts, program_sight, at_state, in_state, in_numbered, in_states, in_all_states, in_state_set, in_numbered_set, in_state_sets, in_all_sets, in_plain_block, in_clauses, sites}
 use Rattle.snl_resolve.specs.Scopes.{Scope, elements, is_array, is_hidden, meaning, declared_as, scope_of}
 use Rattle.snl_resolve.specs.Sights.{Sight, within, headings_by}
 use Rattle.snl_resolve.specs.Sites.{declares, in_value, maybe}

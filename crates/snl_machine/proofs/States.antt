@@ -1,5 +1,5 @@
 -- Each state set stays in one of its states.
-use Rattle.std.proofs.Common.{◌≡◌, ◌≤◌, ◌+◌, arith, ℕ, zero, suc, Bool, true, false, List, [], ◌∷◌, Option, None, Some, sym, subst, if◌then◌else◌}
+use Rattle.std.proofs.Common.{◌≡◌, ◌≤◌, ◌+◌, arith, ℕ, zero, suc, ℤ, Bool, true, false, List, [], ◌∷◌, Option, None, Some, sym, subst, if◌then◌else◌}
 use Rattle.std.specs.Prelude.{slice_set, slice_index_or}
 use Rattle.snl_syntax.specs.Programs.{ProgramTree}
 use Rattle.snl_links.specs.Links.{Link}
@@ -8,15 +8,14 @@ use Rattle.snl_load.specs.Meaning.{program_meaning}
 use Rattle.snl_schedule.proofs.Answering.{answers_change_no_more}
 use Rattle.snl_machine.specs.Worlds.{last_state}
 use Rattle.snl_machine.proofs.Filling.{received-same}
+use Rattle.snl_machine.proofs.Pieces.{keeps-any}
 use Rattle.snl_machine.proofs.Steady.{IsSteady}
 use Rattle.snl_machine.proofs.Whole.{line-keeps}
 use Rattle.snl_meaning.specs.declared.ties.Tied.{Tied}
 use Rattle.snl_meaning.specs.Keeping.{IsKept, PiecesKeep, world_after}
 use Rattle.snl_meaning.specs.Links.{home_of}
-use Rattle.snl_meaning.specs.Scenes.{Scene}
-use Rattle.snl_meaning.specs.World.{SetMemory, World, no_copy, copy_of}
-use Rattle.snl_meaning.proofs.Keeping.{pieces-keep}
-use Rattle.snl_meaning.proofs.Ticks.{Any, any-may}
+use Rattle.snl_meaning.specs.World.{SetMemory, World, no_copy, copy_of, with_words_for}
+use Rattle.snl_meaning.proofs.Ticks.{Any}
 use Rattle.snl_schedule.specs.declared.events.Event.{Event}
 use Rattle.snl_schedule.specs.declared.events.Event.TheVariants.{Up, Down, Val, Done, Tick, Other}
 use Rattle.snl_schedule.specs.Arrivals.{answered}
@@ -46,13 +45,18 @@ module _ (Is : (set state : ℕ) → Type 0) where
   pub copy-stays : (set : ℕ) (c : SetMemory) (w : World) → (Is set (copy_of set w).state → Is set c.state) → Stays w (record w { copies = slice_set w.copies set c })
   copy-stays set c w new h = set-each (λ n d. Is n d.state) w.copies set c no_copy (new (h set)) h
 
+  -- other words of a copy, or of functions
+  words-stay : (set : ℕ) (is_shared : Bool) (words : List ℤ) (w : World) → Stays w (with_words_for set is_shared words w)
+  words-stay set true words w h = h
+  words-stay set false words w h = copy-stays set _ w (λ e. e) h
+
   -- each change of a piece
   states-kept : (set : ℕ) → IsKept set Any Stays
   states-kept set = record {
     nothing = λ w h. h;
     both = λ u v w a b h. b (a h);
-    stores = λ v k z w ok fits. copy-stays set _ w (λ h. h);
-    clears = λ v w ok. copy-stays set _ w (λ h. h);
+    stores = λ v k z w ok fits. words-stay set v.is_shared _ w;
+    clears = λ v w ok. words-stay set v.is_shared _ w;
     signals = λ flag now w h. h;
     fills = λ place link t w home is h. h;
     enqueues = λ place link t w home is queued h. h;
@@ -66,8 +70,8 @@ module _ (Is : (set state : ℕ) → Type 0) where
   }
 
   -- conditions and blocks
-  pub pieces-stay : (m : Scene) → PiecesKeep m Stays
-  pieces-stay m = pieces-keep m Any Stays (any-may m.here) (states-kept m.set)
+  pub pieces-stay : (p : ProgramTree) (set : ℕ) → PiecesKeep (scene_in p set) Stays
+  pieces-stay p set = keeps-any p set Stays (states-kept set)
 
   -- the refresh of a link
   link-stays : (set number : ℕ) (t : Tied) (w : World) → Stays w (refreshed_link set number t w)
@@ -108,7 +112,7 @@ module _ (p : ProgramTree) where
   states-steady = record {
     nothing = λ w h. h;
     both = λ u v w a b h. b (a h);
-    pieces = λ set. pieces-stay Exists (scene_in p set);
+    pieces = λ set. pieces-stay Exists p set;
     refreshes = λ set w. links-stay Exists set 0 w.ties w;
     enters = λ set state within is_timed w. copy-stays Exists set _ w (λ h. within);
     opens = λ w h. h;

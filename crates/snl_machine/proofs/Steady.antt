@@ -9,10 +9,9 @@ use Rattle.snl_meaning.specs.Ran.{Ran, Gives, Faults, then_do}
 use Rattle.std.specs.Prelude.{int_le}
 use Rattle.snl_meaning.specs.Links.{home_of, with_elements, with_items}
 use Rattle.snl_meaning.specs.Words.{noted}
-use Rattle.snl_meaning.specs.World.{Queue, SetMemory, World}
-use Rattle.snl_meaning.proofs.Keeping.{pieces-keep}
-use Rattle.snl_meaning.proofs.Ticks.{Any, any-may}
-use Rattle.snl_code.specs.Heres.{here_in, scene_in}
+use Rattle.snl_meaning.specs.World.{Queue, SetMemory, World, with_words_for}
+use Rattle.snl_meaning.proofs.Ticks.{Any}
+use Rattle.snl_code.specs.Heres.{scene_in}
 use Rattle.snl_load.specs.Meaning.{set_meaning, set_meanings, program_meaning}
 use Rattle.snl_meaning.specs.declared.ties.Tied.{Tied}
 use Rattle.snl_schedule.specs.declared.transitions.Turned.{Turned}
@@ -22,6 +21,7 @@ use Rattle.snl_schedule.specs.Refresh.{is_marked, with_mark, copied_to, refreshe
 use Rattle.snl_schedule.specs.Turn.{entered_in, StateSet, turn_of}
 use Rattle.snl_machine.specs.Worlds.{last_state}
 use Rattle.snl_machine.proofs.Parts.{block-keeps, states-keep}
+use Rattle.snl_machine.proofs.Pieces.{keeps-any}
 use Rattle.snl_machine.proofs.Turning.{Keeps, Stands, Turns, IsSteadyOn, after-text, told-after, then-keeps, turns-also, begun-keeps, turn-keeps}
 
 -- A relation between a world and a later one that each change of a run of a program keeps, and one that a tick makes
@@ -42,12 +42,13 @@ pub record IsSteady (p : ProgramTree) (R S : World → World → Type 0) : Type 
   pub before : (u v w : World) → R u v → S v w → S u w
   pub after : (u v w : World) → S u v → R v w → S u w
 
--- A relation that any change of the copies, marks, event flags, buffers, queues and links that wait keeps, and of due times those that pieces and
+-- A relation that any change of the copies, of the words of functions, marks, event flags, buffers, queues and links that wait keeps, and of due times those that pieces and
 -- rounds make.
 pub record IsLoose (R S : World → World → Type 0) : Type 0 where
   pub nothing : (w : World) → R w w
   pub both : (u v w : World) → R u v → R v w → R u w
   pub copies : (x : List SetMemory) (w : World) → R w (record w { copies = x })
+  pub shared : (x : List ℤ) (w : World) → R w (record w { shared = x })
   pub marks : (x : List (List Bool)) (w : World) → R w (record w { marks = x })
   pub flags : (x : List Bool) (w : World) → R w (record w { flags = x })
   pub waits : (x : List Bool) (w : World) → R w (record w { waiting = x })
@@ -63,13 +64,18 @@ pub record IsLoose (R S : World → World → Type 0) : Type 0 where
   pub after : (u v w : World) → S u v → R v w → S u w
 
 module _ (R S : World → World → Type 0) (s : IsLoose R S) where
+  -- other words of a copy, or of functions
+  words-keep : (set : ℕ) (is_shared : Bool) (words : List ℤ) (w : World) → R w (with_words_for set is_shared words w)
+  words-keep set true words w = s.shared words w
+  words-keep set false words w = s.copies _ w
+
   -- each change of a piece
   kept : (set : ℕ) → IsKept set Any R
   kept set = record {
     nothing = s.nothing;
     both = s.both;
-    stores = λ v k z w ok fits. s.copies _ w;
-    clears = λ v w ok. s.copies _ w;
+    stores = λ v k z w ok fits. words-keep set v.is_shared _ w;
+    clears = λ v w ok. words-keep set v.is_shared _ w;
     signals = λ flag now w. s.flags _ w;
     fills = λ place link t w home is. s.buffers _ w;
     enqueues = λ place link t w home is queued. s.queues _ w;
@@ -108,7 +114,7 @@ module _ (R S : World → World → Type 0) (s : IsLoose R S) where
   loosely p = record {
     nothing = s.nothing;
     both = s.both;
-    pieces = λ set. pieces-keep (scene_in p set) Any R (any-may (here_in p set)) (kept set);
+    pieces = λ set. keeps-any p set R (kept set);
     refreshes = λ set w. links-keep set 0 w.ties w;
     enters = λ set state within is_timed w. s.copies _ w;
     opens = s.opens;

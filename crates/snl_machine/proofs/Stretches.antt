@@ -1,6 +1,6 @@
 -- The conditions of each state of a program lie beside each other in its code.
 use Rattle.std.proofs.Common.{◌≡◌, ◌∙◌, ◌≤◌, ◌+◌, ◌*◌, ℕ, zero, suc, ℤ, Bool, true, false, if◌then◌else◌, List, [], ◌∷◌, Option, None, Some, refl, ap, sym, subst, arith, length, map, take, slice_get, option_map, option_and_then, unwrap_or}
-use Rattle.std.proofs.Math.Nat.{mul-le-mul_right}
+use Rattle.std.proofs.Math.Nat.{mul-le-mul_right, mul_assoc}
 use Rattle.snl_text.specs.declared.tokens.Token.{Token}
 use Rattle.snl_syntax.specs.Expressions.{ExprTree}
 use Rattle.snl_syntax.specs.Programs.{ClauseTree, StateTree, StateSetTree, ProgramTree}
@@ -11,7 +11,7 @@ use Rattle.snl_code.specs.Apart.{IsStretch, IsAlone, AreApart}
 use Rattle.snl_code.specs.Depths.{program_depth}
 use Rattle.snl_code.specs.Heres.{here_in, scene_in, name_by, states_by}
 use Rattle.snl_code.specs.Pieces.{IsPlaced, PieceTree, Test, piece_of, kept_piece, piece_depth, state_at}
-use Rattle.snl_code.specs.Starts.{StateTable, ProgramTable, table_of, state_in, is_held, holds_in, start_in}
+use Rattle.snl_code.specs.Starts.{StateTable, ProgramTable, entries_of, table_of, state_in, is_held, holds_in, start_in}
 use Rattle.snl_code.proofs.Deepest.{depth_is_enough}
 use Rattle.snl_links.specs.Links.{Link}
 use Rattle.snl_meaning.specs.declared.instrs.Instr.{Instr}
@@ -19,7 +19,7 @@ use Rattle.snl_meaning.specs.Endings.{IsOver}
 use Rattle.snl_meaning.specs.Keeping.{world_after}
 use Rattle.snl_meaning.specs.Names.{formats_of}
 use Rattle.snl_meaning.specs.Ran.{Ran, Gives, Faults, then_do}
-use Rattle.snl_meaning.specs.Run.{PieceContext, Exit, Over, context_of, run_of, steps_of}
+use Rattle.snl_meaning.specs.Run.{Entry, PieceContext, Exit, Over, context_of, credit, run_of, steps_of}
 use Rattle.snl_meaning.specs.Value.{value_of}
 use Rattle.snl_meaning.specs.World.{World}
 use Rattle.snl_schedule.specs.declared.plans.ClausePlan.{ClausePlan}
@@ -84,10 +84,14 @@ as-many p ls waits c t is = sets-planned (table_of c) 0 p.state_sets t.plan.sets
 
 module _ (stretches : StretchesAreBounded) (p : ProgramTree) (ls : List Link) (waits : Bool) (c : Code) (t : Loaded) (is : IsLoadedOf p ls waits c t)
     (apart : (set state : ℕ) (s : StateTree) (x : StateTable) → state_at p set state ≡ Some s → state_in (table_of c) set state ≡ Some x → x.is_reached ≡ true →
-    AreApart p set c.instrs.items 0 s.clauses x.clauses) where
+    AreApart p set c.instrs.items (entries_of c) 0 s.clauses x.clauses) where
   -- the code
   abbrev code : List Instr
   code = c.instrs.items
+
+  -- where its functions begin
+  abbrev functions : List Entry
+  functions = entries_of c
 
   -- its table
   abbrev tb : ProgramTable
@@ -95,24 +99,25 @@ module _ (stretches : StretchesAreBounded) (p : ProgramTree) (ls : List Link) (w
 
   -- what the code of a state set runs with
   abbrev context : ℕ → PieceContext
-  context set = context_of (scene_in p set) t.room
+  context set = context_of (scene_in p set) functions t.room
 
   -- there is room for all pieces
   enough : program_depth p ≤ t.room
   enough = omega (arith, is.room, is.counted, is.code_is.depth)
 
   -- a condition stays in its stretch, but for what its ticks pay for
-  stays : (set from : ℕ) (e : ExprTree) (s : ClauseStarts) (h : IsStretch p set code from e s) → piece_depth p (Test set e) ≤ t.room → (w : World) →
+  stays : (set from : ℕ) (e : ExprTree) (s : ClauseStarts) (h : IsStretch p set code functions from e s) → piece_depth p (Test set e) ≤ t.room → (w : World) →
       steps_of (context set) code h.start w + from + paid (length code) (world_after (run_of (context set) code h.start w)).ticks ≤ s.block + paid (length code) w.ticks
   stays set from e s h deep w =
       let g = context set in
       let run : run_of g (take s.block code) h.start w ≡ then_do (value_of (scene_in p set) e w) ends_with = (h.is t.room deep).is w in
       let over = subst (λ (r : Ran Exit). IsOver r) (sym run) (over-ends (value_of (scene_in p set) e w)) in
-      let k = stretches g code s.block h.start w over h.within in
+      let k = stretches g code s.block h.start w refl over h.within in
       let after = (world_after (run_of g code h.start w)).ticks in
-      let kept : after * length code ≤ w.ticks * length code = mul-le-mul_right (length code) (run-keeps g code (suc w.ticks * length code) h.start [] w) in
+      let kept : after * length code ≤ w.ticks * length code = mul-le-mul_right (length code) (run-keeps g code (suc (credit g w) * length code) h.start [] w) in
       let b = h.begins in
-      omega (arith, k, b, kept, three after (length code), three w.ticks (length code))
+      let len = length code in
+      omega (arith, k, b, kept, three after len, three w.ticks len, mul_assoc 2 after len, mul_assoc 2 w.ticks len)
 
   module _ (set state : ℕ) (st : StateTree) (x : StateTable) (at : state_at p set state ≡ Some st) (there : state_in tb set state ≡ Some x) (held : x.is_reached ≡ true) where
     -- the plan of a clause
@@ -141,17 +146,17 @@ module _ (stretches : StretchesAreBounded) (p : ProgramTree) (ls : List Link) (w
     none-is : (j : ℕ) → piece_of p (Condition set state j) ≡ None → start_in tb (Condition set state j) ≡ None
     none-is j none =
         let name = Condition set state j in
-        by (start_in tb name) (subst (λ (o : Option PieceTree). IsPlaced p code o (start_in tb name)) kept (is.code_is.placed name))
+        by (start_in tb name) (subst (λ (o : Option PieceTree). IsPlaced p code functions o (start_in tb name)) kept (is.code_is.placed name))
       where
         kept : kept_piece (holds_in tb) p (Condition set state j) ≡ None
         kept = ap (λ (b : Bool). if b then piece_of p (Condition set state j) else None) (ap is_held there ∙ held) ∙ none
 
-        by : (start : Option ℕ) → IsPlaced p code None start → start ≡ None
+        by : (start : Option ℕ) → IsPlaced p code functions None start → start ≡ None
         by None h = refl
         by (Some start) h = absurd h
 
     -- a clause
-    tested : (j from : ℕ) (d : ClauseTree) (s : ClauseStarts) → slice_get st.clauses j ≡ Some d → slice_get x.clauses j ≡ Some s → IsAlone p set code from d.condition s →
+    tested : (j from : ℕ) (d : ClauseTree) (s : ClauseStarts) → slice_get st.clauses j ≡ Some d → slice_get x.clauses j ≡ Some s → IsAlone p set code functions from d.condition s →
         IsTested (context set) code from (plan_of j d)
     tested j from d s found starts = by d.condition refl
       where
@@ -170,7 +175,7 @@ module _ (stretches : StretchesAreBounded) (p : ProgramTree) (ls : List Link) (w
                   omega (arith, b, e, t, h);
             }
 
-        by : (o : Option ExprTree) → d.condition ≡ o → IsAlone p set code from o s → IsTested (context set) code from (plan_of j d)
+        by : (o : Option ExprTree) → d.condition ≡ o → IsAlone p set code functions from o s → IsTested (context set) code from (plan_of j d)
         by None none alone = let le = alone.0 in to-block None (none-is j (piece-is j d found ∙ ap (option_map (Test set)) none)) alone.1 (λ w. omega (arith, le))
         by (Some e) some alone =
             let deep = depth_is_enough p (Condition set state j) (Test set e) (piece-is j d found ∙ ap (option_map (Test set)) some) in
@@ -179,7 +184,7 @@ module _ (stretches : StretchesAreBounded) (p : ProgramTree) (ls : List Link) (w
 
     -- clauses with numbers from j on
     rows-tested : (j from : ℕ) (ds : List ClauseTree) (ss : List ClauseStarts) → ((i n : ℕ) (d : ClauseTree) → n ≡ j + i → slice_get ds i ≡ Some d → slice_get st.clauses n ≡ Some d) →
-        ((i n : ℕ) (s : ClauseStarts) → n ≡ j + i → slice_get ss i ≡ Some s → slice_get x.clauses n ≡ Some s) → AreApart p set code from ds ss →
+        ((i n : ℕ) (s : ClauseStarts) → n ≡ j + i → slice_get ss i ≡ Some s → slice_get x.clauses n ≡ Some s) → AreApart p set code functions from ds ss →
         AreTested (context set) code from (clause_plans (here_in p set).states tb set state j ds)
     rows-tested j from [] ss trees starts all = tt
     rows-tested j from (d ∷ ds) [] trees starts all = absurd all
@@ -226,7 +231,7 @@ module _ (stretches : StretchesAreBounded) (p : ProgramTree) (ls : List Link) (w
   contexts k g s at one =
       let names : s.name.items ≡ name_by (slice_get p.state_sets k) = ap (λ (v : PlainSet). v.name) one ∙ sym (ap name_by at) in
       let texts : t.formats ≡ formats_of (here_in p k) = is.formats ∙ is.code_is.texts in
-      λ j. record { set = k; name = names j; formats = texts j; room = t.room }
+      λ j. record { set = k; name = names j; formats = texts j; functions = is.functions j; room = t.room; returns = [] }
 
   -- the conditions of each state lie beside each other
   pub all-tested : AllTested t

@@ -4,12 +4,12 @@ use Rattle.std.proofs.lemmas.List.Elements.{Contains-append_left, Contains-appen
 use Rattle.snl_text.specs.declared.tokens.Token.{Token}
 use Rattle.snl_syntax.specs.Statements.{StatementTree, StatementList, BlockTree, nested, empty, expression, break_loop, continue_loop, change_state, return_with, if_then, if_else, while_loop, for_loop, no_statements, statement, block}
 use Rattle.snl_rules.specs.Reach.{targets_in_statement, targets_in_statements, targets_in_block}
-use Rattle.snl_meaning.specs.Effect.{Way, Done, Broken, Continued, Left, ends, done, if_done, unless_broken, held_by, evaluated, turned, turns, looped, names_of, entered, effect_of, effects_of, block_effect}
-use Rattle.snl_meaning.specs.Names.{Here, state_number}
+use Rattle.snl_meaning.specs.Effect.{Way, Done, Broken, Continued, Left, Returned, ends, done, if_done, unless_broken, held_by, evaluated, turned, turns, looped, names_of, entered, returns, return_by, plain_return, left_by, effect_of, effects_of, block_effect}
+use Rattle.snl_meaning.specs.Names.{Here, Within, Piece, Body, state_number}
 use Rattle.snl_meaning.specs.Scenes.{Scene}
 use Rattle.snl_meaning.specs.Ran.{Ran, Gives, Faults, also, then_do}
 use Rattle.snl_meaning.specs.Value.{value_of, either}
-use Rattle.snl_meaning.specs.Words.{spent}
+use Rattle.snl_meaning.specs.Words.{fitted, spent}
 use Rattle.snl_meaning.specs.World.{World}
 
 module _ (Is : ℕ → Type 0) where
@@ -19,6 +19,7 @@ module _ (Is : ℕ → Type 0) where
   LeavesFor Broken = Unit {0}
   LeavesFor Continued = Unit {0}
   LeavesFor (Left state) = Is state
+  LeavesFor (Returned z) = Unit {0}
 
   -- and all that it gives
   abbrev pub Leads : Ran Way → Type 0
@@ -46,6 +47,7 @@ module _ (Is : ℕ → Type 0) where
   done-leads go k Broken u h = tt
   done-leads go k Continued u h = tt
   done-leads go k (Left state) u h = h
+  done-leads go k (Returned z) u h = tt
 
   -- what follows the body of a loop
   broken-leads : (go : World → Ran Way) → ((u : World) → Leads (go u)) → (way : Way) (u : World) → LeavesFor way → Leads (unless_broken go way u)
@@ -53,6 +55,23 @@ module _ (Is : ℕ → Type 0) where
   broken-leads go k Broken u h = tt
   broken-leads go k Continued u h = k u
   broken-leads go k (Left state) u h = h
+  broken-leads go k (Returned z) u h = tt
+
+  -- a `state`, which does nothing in a function
+  left-leads : (within : Within) (state : ℕ) → Is state → (u : World) → Leads (left_by within state u)
+  left-leads Piece state is u = is
+  left-leads (Body least greatest) state is u = tt
+
+  -- a `return`
+  return-leads : (within : Within) (line : ℕ) (value : World → Ran ℤ) (u : World) → Leads (return_by within line value u)
+  return-leads Piece line value u = tt
+  return-leads (Body least greatest) line value u =
+      leads-then (value u) (λ z v. then_do (fitted least greatest line z v) returns) (λ z v. leads-then (fitted least greatest line z v) returns (λ y x. tt))
+
+  -- one without a value
+  plain-leads : (within : Within) (u : World) → Leads (plain_return within u)
+  plain-leads Piece u = tt
+  plain-leads (Body least greatest) u = tt
 
   -- one of two
   either-leads : (held failed : World → Ran Way) → ((u : World) → Leads (held u)) → ((u : World) → Leads (failed u)) → (z : ℤ) (u : World) → Leads (either held failed z u)
@@ -99,8 +118,9 @@ module _ (m : Scene) (Is : ℕ → Type 0) where
     effect-leads (expression e) all w = leads-then Is (value_of m e w) done (λ z u. tt)
     effect-leads (break_loop t) all w = tt
     effect-leads (continue_loop t) all w = tt
-    effect-leads (change_state t x) all w = all x (Contains-push [] x)
-    effect-leads (return_with t e) all w = tt
+    effect-leads (change_state t x) all w = left-leads Is m.here.within (state_number m.here x) (all x (Contains-push [] x)) w
+    effect-leads (return_with t None) all w = plain-leads Is m.here.within w
+    effect-leads (return_with t (Some e)) all w = return-leads Is m.here.within t.pos.line (value_of m e) w
     effect-leads (if_then c s) all w =
         leads-then Is (value_of m c w) (either (effect_of m s) (ends Done)) (either-leads Is (effect_of m s) (ends Done) (λ u. effect-leads s all u) (λ u. tt))
     effect-leads (if_else c s e) all w =

@@ -48,6 +48,7 @@ due-loose = record {
   nothing = λ w. (refl, λ h. h);
   both = λ u v w a b. (b.0 ∙ a.0, λ h. b.1 (a.1 h));
   copies = λ x w. (refl, λ h. h);
+  shared = λ x w. (refl, λ h. h);
   marks = λ x w. (refl, λ h. h);
   flags = λ x w. (refl, λ h. h);
   waits = λ x w. (refl, λ h. h);

@@ -44,7 +44,7 @@ AcceptedTrees = (o : Options) (p : Program) → IsAccepted o p ↔ IsAcceptedTre
 abbrev pub EachAccepted : (ProgramTree → Type 0) → Type 0
 EachAccepted IsSo = (o : Options) (p : ProgramTree) (embedded : List Pos) (beyond : Option Pos) → IsRead p → IsAcceptedTree o p embedded beyond → IsSo p
 
--- Variables have elements, their types have 0, and copies have few words.
+-- Variables, also of functions, have elements, their types have 0, and copies and functions have few words.
 abbrev pub AcceptedIsSized : Type 0
 AcceptedIsSized = EachAccepted IsSized
 
@@ -60,6 +60,7 @@ AcceptedIsHeld = EachAccepted (λ p. (macros : List ℕ) → AreHeld p (links p 
 abbrev pub AcceptedDeclaresItsFlags : Type 0
 AcceptedDeclaresItsFlags = EachAccepted FlagsAreDeclared
 
--- In every world that a run of the program comes to, each variable, each buffer and each queue holds what its type has.
+-- In every world that a run of the program comes to, each variable, also of functions, each buffer and each queue holds what its
+-- type has.
 abbrev pub AcceptedHold : Type 0
 AcceptedHold = EachAccepted (λ p. (macros : List ℕ) (waits : Bool) (budget : ℕ) (w : World) → Reached p (links p macros) waits budget w → Holds p (links p macros) w)

@@ -10,15 +10,17 @@ use Rattle.snl_machine.specs.declared.machine.Machine.{Machine}
 use Rattle.snl_machine.specs.MachineOf.{IsMachineOf, words_held}
 use Rattle.snl_machine.specs.Ranges.{counts}
 use Rattle.snl_meaning.specs.Laws.{words_of}
+use Rattle.snl_rules.specs.Words.{function_words}
 
--- The words that a program with some links needs: the elements of the variables in the copy of each state set; the elements of
--- the buffer of each link, and those of all items that its queue can hold; a mark for each state set and link; of each link whether
+-- The words that a program with some links needs: the elements of the variables in the copy of each state set; those of the
+-- variables of functions, and for each function a place where a call of it goes on; the elements of the buffer of each link, and those of all items that its queue can hold; a mark for each state set and link; of each link whether
 -- it waits for the answer to a put; the state of each state set, and when it entered that; each event flag; of each channel whether
 -- it is connected and whether it was valued; the
 -- time, the phase, the ticks, the wake and the least due time; and as many operands as its deepest expression holds at once.
 abbrev pub footprint : ProgramTree → List Link → ℕ
 footprint p ls =
     sum_by words_of (held_sets p 0 p.state_sets)
+    + function_words p
     + counts ls
     + sum_by (λ (l : Link). l.queue * l.count) ls
     + length p.state_sets * length ls

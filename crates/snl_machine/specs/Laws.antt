@@ -33,7 +33,7 @@ abbrev pub RunsItsProgram : Type 0
 RunsItsProgram = (p : ProgramTree) (ls : List Link) (waits : Bool) (budget : ℕ) (m : Machine) → IsMachineOf p ls waits budget m → RunsAs p ls waits m
 
 -- A turn of a state set changes nothing of the copy of another one: all that passes between them is event flags, buffers and
--- marks.
+-- marks. The words of functions, which all share, pass nothing on: whatever stood there a call overwrites or sets to 0.
 abbrev pub TurnsStayApart : Type 0
 TurnsStayApart = (p : ProgramTree) (set other : ℕ) (g : StateSetTree) (w : World) → (set ≡ other → ⊥) →
     copy_of other (world_after (turn_of (set_meaning p set g) w)) ≡ copy_of other w

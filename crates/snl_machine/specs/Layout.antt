@@ -1,10 +1,11 @@
--- Laws of layout: a world keeps the variables of a copy, and the buffers of all links, as flat lists of words. What was stored is
--- read where it was stored, and everything else is as before.
+-- Laws of layout: a world keeps the variables of a copy, those of functions, and the buffers of all links, as flat lists of words.
+-- What was stored is read where it was stored, and everything else is as before.
 use Rattle.std.specs.Prelude.{◌≡◌, ◌<◌, ◌≤◌, ◌+◌, ◌-◌, ◌^◌, ◌⊎◌, Bool, true, false, ℕ, ℤ, pos, List, [], ◌∷◌, ◌++◌, length, take, drop, replicate, None, Some, slice_get, slice_set, slice_index_or}
 use Rattle.snl_syntax.specs.Programs.{ProgramTree}
 use Rattle.snl_links.specs.Links.{Link}
 use Rattle.snl_load.specs.Meaning.{program_meaning}
 use Rattle.snl_load.specs.Places.{placed_in, placed_sets, ties_in, homes_in}
+use Rattle.snl_code.specs.Heres.{shared_in}
 use Rattle.snl_machine.specs.Ranges.{IsSized, IsTied, counts}
 use Rattle.snl_machine.specs.Worlds.{IsWorldOf}
 use Rattle.snl_meaning.specs.declared.instrs.Variable.{Variable}
@@ -12,10 +13,10 @@ use Rattle.snl_meaning.specs.declared.names.Placed.{Placed}
 use Rattle.snl_meaning.specs.declared.ties.Tied.{Tied}
 use Rattle.snl_meaning.specs.Laws.{words_of}
 use Rattle.snl_meaning.specs.Links.{home_of, elements_at, with_elements, buffer_of, with_buffer, queue_of, is_queued}
-use Rattle.snl_meaning.specs.Names.{placed_from, variable_in}
+use Rattle.snl_meaning.specs.Names.{placed_from, placed_shared, variable_in}
 use Rattle.snl_meaning.specs.Queues.{put_in}
 use Rattle.snl_meaning.specs.World.{World, copy_of, is_set, element_of, words_at, with_element, with_zeros}
-use Rattle.snl_resolve.specs.Variables.{Held, variables_of}
+use Rattle.snl_resolve.specs.Variables.{Held, variables_of, shared_variables}
 use Rattle.snl_schedule.specs.Arrivals.{is_of, received}
 use Rattle.snl_schedule.specs.Refresh.{is_marked, refreshed}
 
@@ -38,19 +39,34 @@ pub record IsWritten (set place : ℕ) (zs : List ℤ) (w u : World) : Type 0 wh
   pub copies : CopiesStay set w u
   pub rest : record u { copies = w.copies } ≡ w
 
--- A store to an element, the clearing of a variable, and numbers that come to a copy write just this.
+-- Numbers were written into the words of functions from a word on: they stand there; each other one of these words and all the
+-- rest of the world are as before.
+pub record IsWrittenShared (place : ℕ) (zs : List ℤ) (w u : World) : Type 0 where
+  pub there : words_at u.shared place (length zs) ≡ zs
+  pub elsewhere : (q : ℕ) → (q < place) ⊎ (place + length zs ≤ q) → slice_index_or u.shared q (pos 0) ≡ slice_index_or w.shared q (pos 0)
+  pub rest : record u { shared = w.shared } ≡ w
+
+-- A store to an element, the clearing of a variable, and numbers that come to a copy write just this: into the copy, or where the
+-- variable is a function's into the words of functions.
 pub record StoresWrite : Type 0 where
-  pub element : (set k : ℕ) (v : Variable) (z : ℤ) (w : World) → HasWords set (v.place + k) 1 w → IsWritten set (v.place + k) (z ∷ []) w (with_element set v k z w)
-  pub zeros : (set : ℕ) (v : Variable) (w : World) → HasWords set v.place v.size w → IsWritten set v.place (replicate v.size (pos 0)) w (with_zeros set v w)
+  pub element : (set k : ℕ) (v : Variable) (z : ℤ) (w : World) → v.is_shared ≡ false → HasWords set (v.place + k) 1 w →
+      IsWritten set (v.place + k) (z ∷ []) w (with_element set v k z w)
+  pub zeros : (set : ℕ) (v : Variable) (w : World) → v.is_shared ≡ false → HasWords set v.place v.size w → IsWritten set v.place (replicate v.size (pos 0)) w (with_zeros set v w)
   pub elements : (set place : ℕ) (zs : List ℤ) (w : World) → HasWords set place (length zs) w → IsWritten set place zs w (with_elements set place zs w)
+  pub shared_element : (set k : ℕ) (v : Variable) (z : ℤ) (w : World) → v.is_shared ≡ true → v.place + k < length w.shared →
+      IsWrittenShared (v.place + k) (z ∷ []) w (with_element set v k z w)
+  pub shared_zeros : (set : ℕ) (v : Variable) (w : World) → v.is_shared ≡ true → v.place + v.size ≤ length w.shared →
+      IsWrittenShared v.place (replicate v.size (pos 0)) w (with_zeros set v w)
 
 -- ---- the world of a program
 
--- A world is laid out as a program with some links says: it has a copy for each state set, with the words of its variables, and
--- buffers with a word for each element of each link; what links are tied to, and where their elements stand, is the program's.
+-- A world is laid out as a program with some links says: it has a copy for each state set, with the words of its variables, those
+-- of the variables of functions, and buffers with a word for each element of each link; what links are tied to, and where their
+-- elements stand, is the program's.
 pub record IsLaidOut (p : ProgramTree) (ls : List Link) (w : World) : Type 0 where
   pub sets : length w.copies ≡ length p.state_sets
   pub words : (set : ℕ) → set < length p.state_sets → length (copy_of set w).words ≡ words_of (variables_of p set)
+  pub shared : length w.shared ≡ words_of (shared_variables p)
   pub buffers : length w.buffers ≡ counts ls
   pub ties : w.ties ≡ ties_in p ls
   pub homes : w.homes ≡ homes_in (placed_sets p 0 p.state_sets) ls
@@ -98,6 +114,26 @@ pub record VariablesAreCells : Type 0 where
   pub takes : (p : ProgramTree) (ls : List Link) (set i place : ℕ) (t : Tied) (zs : List ℤ) (w : World) → IsSized p → IsTied p ls → IsLaidOut p ls w → set < length p.state_sets →
       slice_get (ties_in p ls) i ≡ Some t → home_of set i w ≡ Some place → length zs ≡ t.count → let u = with_elements set place zs w in
       (elements_at set place t u ≡ zs) × ElementsStay p set (IsTiedTo p ls set i) w u × CopiesStay set w u × (record u { copies = w.copies } ≡ w)
+
+-- ---- variables of functions
+
+-- The elements of the variables of functions are as before, but for some; each goes by the number of its variable and its own.
+-- They are the same whatever state set looks at them.
+abbrev pub SharedElementsStay : ProgramTree → (ℕ → ℕ → Type 0) → World → World → Type 0
+SharedElementsStay p Touched w u =
+    (set j m : ℕ) (y : Placed) → slice_get (shared_in p) j ≡ Some y → m < y.variable.size → (Touched j m → ⊥) → element_of set y.variable m u ≡ element_of set y.variable m w
+
+-- They are rows of cells, too, and lie apart from all copies: a store to one, and the clearing of one, leave every copy as it is.
+pub record FunctionVariablesAreCells : Type 0 where
+  pub apart : (vs : List Held) (i j k m : ℕ) (x y : Placed) → words_of vs ≤ 2 ^ 64 - 1 → slice_get (placed_shared 0 vs) i ≡ Some x → slice_get (placed_shared 0 vs) j ≡ Some y →
+      k < x.variable.size → m < y.variable.size → x.variable.place + k ≡ y.variable.place + m → (i ≡ j) × (k ≡ m)
+  pub within : (vs : List Held) (i : ℕ) (x : Placed) → words_of vs ≤ 2 ^ 64 - 1 → slice_get (placed_shared 0 vs) i ≡ Some x → x.variable.place + x.variable.size ≤ words_of vs
+  pub stores : (p : ProgramTree) (ls : List Link) (set i k : ℕ) (x : Placed) (z : ℤ) (w : World) → IsSized p → IsLaidOut p ls w →
+      slice_get (shared_in p) i ≡ Some x → k < x.variable.size → let u = with_element set x.variable k z w in
+      ((other : ℕ) → element_of other x.variable k u ≡ z) × SharedElementsStay p (λ j m. (i ≡ j) × (k ≡ m)) w u × (record u { shared = w.shared } ≡ w)
+  pub clears : (p : ProgramTree) (ls : List Link) (set i : ℕ) (x : Placed) (w : World) → IsSized p → IsLaidOut p ls w →
+      slice_get (shared_in p) i ≡ Some x → let u = with_zeros set x.variable w in
+      ((other k : ℕ) → k < x.variable.size → element_of other x.variable k u ≡ pos 0) × SharedElementsStay p (λ j m. i ≡ j) w u × (record u { shared = w.shared } ≡ w)
 
 -- ---- buffers
 

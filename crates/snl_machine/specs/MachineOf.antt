@@ -5,8 +5,7 @@ use Rattle.snl_links.specs.Links.{Link, links}
 use Rattle.snl_machine.specs.Reached.{AreReached}
 use Rattle.snl_machine.specs.Worlds.{IsWorldOf}
 use Rattle.snl_meaning.specs.World.{World}
-use Rattle.snl_vm.specs.Footprint.{store_words}
-use Rattle.snl_vm.specs.Stack.{room_of}
+use Rattle.snl_vm.specs.Footprint.{operand_words, store_words}
 use Rattle.snl_vm.specs.Views.{world_of}
 use Rattle.snl_code.specs.declared.code.Code.{Code}
 use Rattle.snl_code.specs.Starts.{table_of, holds_in}
@@ -37,9 +36,9 @@ task_of p ls waits = record { program = program_meaning p ls waits; channels = c
 abbrev pub world_held : Machine → World
 world_held m = world_of m.memory.store
 
--- How many words it holds: those of its store, and the room of its operands.
+-- How many words it holds: those of its store, the room of its operands, and the places where calls go on.
 abbrev pub words_held : Machine → ℕ
-words_held m = store_words m.memory.store + room_of m.memory.operands
+words_held m = store_words m.memory.store + operand_words m.memory.operands
 
 -- What no event changes of a machine: its plan, its code, the names of its channels, its budget, and how many words it holds.
 pub record Fixed : Type 0 where

@@ -3,7 +3,7 @@
 use Rattle.std.specs.Prelude.{◌≡◌, ◌<◌, ◌≤◌, ◌+◌, ◌-◌, ◌^◌, ◌&&◌, int_le, Bool, true, ℕ, ℤ, pos, All, List, [], ◌∷◌, length, Some, slice_get, slice_index_or}
 use Rattle.snl_syntax.specs.Programs.{ProgramTree}
 use Rattle.snl_code.specs.Copies.{held_sets}
-use Rattle.snl_code.specs.Heres.{scene_in}
+use Rattle.snl_code.specs.Heres.{scene_in, shared_in}
 use Rattle.snl_schedule.specs.declared.events.Event.{Event}
 use Rattle.snl_schedule.specs.Event.{line_of, is_event_fit}
 use Rattle.snl_links.specs.Links.{Link}
@@ -17,7 +17,7 @@ use Rattle.snl_load.specs.First.{first_world_of}
 use Rattle.snl_load.specs.Initials.{held_among}
 use Rattle.snl_load.specs.Meaning.{program_meaning}
 use Rattle.snl_load.specs.Places.{placed_in, placed_sets, channels, ties_in, homes_in}
-use Rattle.snl_resolve.specs.Variables.{Held, variables_of}
+use Rattle.snl_resolve.specs.Variables.{Held, variables_of, shared_variables}
 use Rattle.snl_meaning.specs.declared.ties.Tied.{Tied}
 use Rattle.snl_schedule.specs.Arrivals.{is_in}
 
@@ -33,12 +33,16 @@ Fit vs words = (i k : ℕ) (x : Placed) → slice_get vs i ≡ Some x → k < x.
 abbrev pub AllFit : ProgramTree → World → Type 0
 AllFit p w = (set : ℕ) → Fit (placed_in p set) (copy_of set w).words
 
--- What the rules of types and sizes make sure of: a variable has an element, its type has 0, and no copy has more words than
--- an index can count.
+-- Variables with their places: each has an element, its type has 0, and all have no more words than an index can count.
+pub record AreSized (held : List Held) (vs : List Placed) : Type 0 where
+  pub few : words_of held ≤ 2 ^ 64 - 1
+  pub some : (i : ℕ) (x : Placed) → slice_get vs i ≡ Some x → 0 < x.variable.size
+  pub zero : (i : ℕ) (x : Placed) → slice_get vs i ≡ Some x → Has x.variable (pos 0)
+
+-- What the rules of types and sizes make sure of: that of the variables of each copy, and of those of functions.
 pub record IsSized (p : ProgramTree) : Type 0 where
-  pub few : (set : ℕ) → words_of (variables_of p set) ≤ 2 ^ 64 - 1
-  pub some : (set i : ℕ) (x : Placed) → slice_get (placed_in p set) i ≡ Some x → 0 < x.variable.size
-  pub zero : (set i : ℕ) (x : Placed) → slice_get (placed_in p set) i ≡ Some x → Has x.variable (pos 0)
+  pub copies : (set : ℕ) → AreSized (variables_of p set) (placed_in p set)
+  pub shared : AreSized (shared_variables p) (shared_in p)
 
 -- ---- links
 
@@ -60,12 +64,12 @@ pub record QueueFits (t : Tied) (q : Queue) : Type 0 where
 abbrev pub QueuesFit : List Tied → List Queue → Type 0
 QueuesFit ties queues = (i : ℕ) (t : Tied) (q : Queue) → slice_get ties i ≡ Some t → slice_get queues i ≡ Some q → QueueFits t q
 
--- Copies, buffers and queues hold what their types have; what links are tied to, and where their elements stand, is as the
--- program says.
+-- Copies, buffers, queues and the variables of functions hold what their types have; what links are tied to, and where their
+-- elements stand, is as the program says.
 abbrev pub Holds : ProgramTree → List Link → World → Type 0
 Holds p ls w =
     AllFit p w × BuffersFit (ties_in p ls) w.buffers × (w.ties ≡ ties_in p ls) × (w.homes ≡ homes_in (placed_sets p 0 p.state_sets) ls)
-    × QueuesFit (ties_in p ls) w.queues
+    × QueuesFit (ties_in p ls) w.queues × Fit (shared_in p) w.shared
 
 -- How many words the buffers of some links have.
 abbrev pub counts : List Link → ℕ
@@ -85,7 +89,7 @@ abbrev pub AreHeld : ProgramTree → List Link → Type 0
 AreHeld p ls = (i : ℕ) (l : Link) (t : Tied) → slice_get ls i ≡ Some l → slice_get (ties_in p ls) i ≡ Some t →
     (v : Held) × (held_among (held_sets p 0 p.state_sets) l.variable.offset ≡ Some v) × (t.least ≡ v.range.0) × (t.greatest ≡ v.range.1) × (is_in t (pos 0) ≡ true)
 
--- Before the first event copies, buffers and queues hold what their types have.
+-- Before the first event all of them hold what their types have.
 abbrev pub FirstHolds : Type 0
 FirstHolds = (p : ProgramTree) (ls : List Link) → IsSized p → IsTied p ls → AreHeld p ls → Holds p ls (first_world_of p ls)
 
@@ -104,6 +108,6 @@ pub data Reached (p : ProgramTree) (ls : List Link) (waits : Bool) (budget : ℕ
   GoesOn : (w : World) (ms : ℕ) (event : Event) → Reached p ls waits budget w → is_event_fit (length (channels ls)) (ties_in p ls) event ≡ true →
       Reached p ls waits budget (world_after (line_of (program_meaning p ls waits) budget ms event w))
 
--- In all of them each variable, each buffer and each queue holds what its type has.
+-- In all of them each variable, also of functions, each buffer and each queue holds what its type has.
 abbrev pub ReachedHold : Type 0
 ReachedHold = (p : ProgramTree) (ls : List Link) (waits : Bool) (budget : ℕ) (w : World) → IsSized p → IsTied p ls → AreHeld p ls → Reached p ls waits budget w → Holds p ls w

@@ -58,9 +58,10 @@ impl Machine {
         self.memory.store.time
     }
 
-    /// How many words the machine holds: the elements of variables, buffers and queues, and what it knows of state sets, links,
-    /// event flags and channels, with the room of the operands. They were made by `load`, no event changes their number, and
-    /// no call after `load` takes more. Code, names and the tables of links are not among them.
+    /// How many words the machine holds: the elements of variables, also of functions, of buffers and queues, and what it knows of
+    /// state sets, links, event flags and channels, with the room of the operands and a place for each function where a call goes
+    /// on. They were made by `load`, no event changes their number, and no call after `load` takes more. Code, names and the tables
+    /// of links are not among them.
     pub fn footprint(&self) -> u64
         ensures { result ≡ words_held self.now }
     {
@@ -113,6 +114,7 @@ impl Machine {
             plan: &self.plan,
             code: self.code.instrs(),
             formats: self.code.texts(),
+            functions: self.code.functions(),
             room: self.code.depth(),
             budget: self.budget,
         };

@@ -5,7 +5,7 @@ ghost use Rattle.snl_machine.specs.Accepted.{AcceptedDeclaresItsFlags, AcceptedH
 ghost use Rattle.snl_machine.specs.Bounds.{InstantsAreBounded};
 ghost use Rattle.snl_machine.specs.Footprint.{MachinesHoldTheFootprint};
 ghost use Rattle.snl_machine.specs.Frames.{FrameStays};
-ghost use Rattle.snl_machine.specs.Layout.{BuffersAreCells, FeedsFillBuffers, RefreshesFillVariables, StoresWrite, VariablesAreCells, WorldsAreLaidOut};
+ghost use Rattle.snl_machine.specs.Layout.{BuffersAreCells, FeedsFillBuffers, FunctionVariablesAreCells, RefreshesFillVariables, StoresWrite, VariablesAreCells, WorldsAreLaidOut};
 ghost use Rattle.snl_machine.specs.Ranges.{EventsFit, FirstHolds, PiecesFit, ReachedHold};
 ghost use Rattle.snl_machine.specs.Reached.{FirstAreReached, InstantsAreTheSame, ReachedAreClosed, ReachedStay, UnreachedDoNothing};
 ghost use Rattle.snl_machine.specs.Rounds.{RoundsEnd, TicksWithinBudget};
@@ -129,6 +129,12 @@ pub fn variables_are_cells()
     ensures { VariablesAreCells }
 {}
 
+/// Each variable of a function has words of its own, which all state sets share. What was stored in an element is read there, and
+/// every other element of them and every copy is as before.
+pub fn function_variables_are_cells()
+    ensures { FunctionVariablesAreCells }
+{}
+
 /// Each link has words of its own among those of all buffers. Numbers that came to the buffer of one are read there, and
 /// the buffers of all others are as before.
 pub fn buffers_are_cells()
@@ -187,7 +193,8 @@ pub fn accepted_trees()
     ensures { AcceptedTrees }
 {}
 
-/// Of each accepted program variables have elements, their types have 0, and copies have few words.
+/// Of each accepted program variables, also of functions, have elements, their types have 0, and copies and functions have few
+/// words.
 pub fn accepted_is_sized()
     ensures { AcceptedIsSized }
 {}

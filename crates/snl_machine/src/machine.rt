@@ -1,8 +1,8 @@
 //! `Machine`: a program with its code and the memory of its run.
 
-ghost use Rattle.std.specs.Prelude.{◌≡◌, ◌+◌};
-ghost use Rattle.snl_vm.specs.Footprint.{store_words};
-ghost use Rattle.snl_vm.specs.Stack.{room_of};
+ghost use Rattle.std.specs.Prelude.{◌≡◌, ◌+◌, length};
+ghost use Rattle.snl_vm.specs.Footprint.{operand_words, store_words};
+ghost use Rattle.snl_vm.specs.Stack.{room_for, room_of};
 ghost use Rattle.snl_schedule.specs.Loaded.{CanRunLoaded};
 ghost use Rattle.snl_machine.specs.Holding.{loaded_by};
 ghost use Rattle.snl_schedule.proofs.Facts.{loaded-fact};
@@ -24,9 +24,9 @@ pub struct Machine {
     pub(crate) budget: u32,
     /// All that a run changes.
     pub(crate) memory: Memory,
-    /// How many words the store and the operands take.
+    /// How many words the store, the operands and the places where calls go on take.
     pub(crate) footprint: u64,
-    ghost words: { footprint ≡ store_words memory.store + room_of memory.operands },
-    ghost room: { room_of memory.operands ≡ code.depth },
+    ghost words: { footprint ≡ store_words memory.store + operand_words memory.operands },
+    ghost room: { room_of memory.operands ≡ room_for code.depth (length code.functions.items) },
     ghost runs: { CanRunLoaded (loaded_by plan code) } by { loaded-fact (loaded_by plan code) },
 }

@@ -1,11 +1,11 @@
 -- The variables of a copy have words of their own.
-use Rattle.std.proofs.Common.{◌≡◌, ◌+◌, ◌<◌, ◌≤◌, ℕ, zero, suc, List, [], ◌∷◌, Option, None, Some, refl, subst, arith, slice_get}
+use Rattle.std.proofs.Common.{◌≡◌, ◌+◌, ◌<◌, ◌≤◌, true, ℕ, zero, suc, List, [], ◌∷◌, Option, None, Some, refl, sym, ap, subst, arith, slice_get}
 use Rattle.std.specs.Prelude.{◌-◌, ◌^◌}
 use Rattle.snl_resolve.specs.Scopes.{elements}
 use Rattle.snl_resolve.specs.Variables.{Held}
 use Rattle.snl_meaning.specs.declared.names.Placed.{Placed}
-use Rattle.snl_meaning.specs.Laws.{words_of, VariablesLieWithin, VariablesAreApart}
-use Rattle.snl_meaning.specs.Names.{placed_from, behind, variable_from}
+use Rattle.snl_meaning.specs.Laws.{words_of, VariablesLieWithin, VariablesAreApart, SharedLieWithin, SharedAreApart}
+use Rattle.snl_meaning.specs.Names.{placed_from, placed_shared, behind, variable_from, shared_from}
 
 -- the words of a variable, if there is one, stand from low on and end by high
 abbrev Within : ℕ → ℕ → Option Placed → Type 0
@@ -53,6 +53,21 @@ apart at (v ∷ vs) zero (suc j) few less =
 apart at (v ∷ vs) (suc i) (suc j) few less =
     let next : at + elements v.size ≡ behind at v = omega (arith, few) in apart (behind at v) vs i j (omega (arith, next, few)) (omega (arith, less))
 
+-- a variable of functions stands where one of a copy would stand among as many words before
+shared-alike : (at : ℕ) (vs : List Held) (i : ℕ) (x : Placed) → slice_get (placed_shared at vs) i ≡ Some x →
+    (y : Placed) × (slice_get (placed_from at vs) i ≡ Some y) × (x.variable.place ≡ y.variable.place) × (x.variable.size ≡ y.variable.size)
+    × (x.variable.is_shared ≡ true)
+shared-alike at [] i x is = absurd (cc)
+shared-alike at (v ∷ vs) zero x is =
+    let this : record { offset = v.name.pos.offset; variable = shared_from at v } ≡ x = cc in (
+      record { offset = v.name.pos.offset; variable = variable_from at v },
+      refl,
+      ap (λ (y : Placed). y.variable.place) (sym this),
+      ap (λ (y : Placed). y.variable.size) (sym this),
+      ap (λ (y : Placed). y.variable.is_shared) (sym this),
+    )
+shared-alike at (v ∷ vs) (suc i) x is = shared-alike (behind at v) vs i x is
+
 -- no variable has a word outside its copy
 pub variables_lie_within : VariablesLieWithin
 variables_lie_within vs i x few is =
@@ -64,3 +79,18 @@ pub variables_are_apart : VariablesAreApart
 variables_are_apart vs i j x y few less is_x is_y =
     subst (λ (o : Option Placed). Before (Some x) o) is_y
     (subst (λ (o : Option Placed). Before o (slice_get (placed_from 0 vs) j)) is_x (apart 0 vs i j (omega (arith, few)) less))
+
+-- the same of those of functions
+pub shared_lie_within : SharedLieWithin
+shared_lie_within vs i x few is =
+    let y = shared-alike 0 vs i x is in
+    let w : y.0.variable.place + y.0.variable.size ≤ words_of vs = variables_lie_within vs i y.0 few y.1 in
+    (y.4, omega (arith, w, y.2, y.3))
+
+-- no two of them share one, either
+pub shared_are_apart : SharedAreApart
+shared_are_apart vs i j x y few less is_x is_y =
+    let a = shared-alike 0 vs i x is_x in
+    let b = shared-alike 0 vs j y is_y in
+    let w : a.0.variable.place + a.0.variable.size ≤ b.0.variable.place = variables_are_apart vs i j a.0 b.0 few less a.1 b.1 in
+    omega (arith, w, a.2, a.3, b.2)

@@ -8,18 +8,18 @@ use Rattle.snl_meaning.specs.Effect.{variable_for, cleared_maybe, all_cleared, a
 use Rattle.snl_meaning.specs.Laws.{BlocksForget}
 use Rattle.snl_meaning.specs.Scenes.{Scene}
 use Rattle.snl_meaning.specs.Ran.{Ran, also, then_do}
-use Rattle.snl_meaning.specs.World.{SetMemory, World, no_copy, zeroed, with_element, with_zeros}
+use Rattle.snl_meaning.specs.World.{SetMemory, World, no_copy, zeroed, words_for, with_words_for, with_element, with_zeros}
 
 -- ---- words
 
 -- what is set twice
-set-same : {A : Type 0} (l : List A) (p : ℕ) (x y : A) → slice_set (slice_set l p x) p y ≡ slice_set l p y
+pub set-same : {A : Type 0} (l : List A) (p : ℕ) (x y : A) → slice_set (slice_set l p x) p y ≡ slice_set l p y
 set-same [] p x y = refl
 set-same (a ∷ l) zero x y = refl
 set-same (a ∷ l) (suc p) x y = ap (λ k. a ∷ k) (set-same l p x y)
 
 -- what is set at two places
-set-other : {A : Type 0} (l : List A) (p q : ℕ) (x y : A) → (p ≡ q → ⊥) → slice_set (slice_set l p x) q y ≡ slice_set (slice_set l q y) p x
+pub set-other : {A : Type 0} (l : List A) (p q : ℕ) (x y : A) → (p ≡ q → ⊥) → slice_set (slice_set l p x) q y ≡ slice_set (slice_set l q y) p x
 set-other [] p q x y apart = refl
 set-other (a ∷ l) zero zero x y apart = absurd (apart refl)
 set-other (a ∷ l) zero (suc q) x y apart = refl
@@ -71,20 +71,48 @@ changed-twice f g (c ∷ cs) (suc set) = ap (λ k. c ∷ k) (changed-twice f g c
 abbrev worded : (List ℤ → List ℤ) → SetMemory → SetMemory
 worded f c = record c { words = f c.words }
 
--- in a world
-abbrev with_change : (List ℤ → List ℤ) → ℕ → World → World
-with_change f set w = record w { copies = changed (worded f) w.copies set }
+-- other words of a variable, where they stand
+abbrev pub altered : (List ℤ → List ℤ) → Bool → ℕ → World → World
+altered f is_shared set w = with_words_for set is_shared (f (words_for set is_shared w)) w
 
--- two changes that come to the same
-same-changes : (f g k : List ℤ → List ℤ) (set : ℕ) (w : World) → ((l : List ℤ) → g (f l) ≡ k l) → with_change g set (with_change f set w) ≡ with_change k set w
-same-changes f g k set w is =
-    let c = slice_index_or w.copies set no_copy in
-    ap (λ cs. record w { copies = cs }) (changed-twice (worded f) (worded g) w.copies set ∙ ap (λ l. slice_set w.copies set (record c { words = l })) (is c.words))
+-- two changes that come to one
+altered-twice : (f g : List ℤ → List ℤ) (is_shared : Bool) (set : ℕ) (w : World) → altered g is_shared set (altered f is_shared set w) ≡ altered (λ l. g (f l)) is_shared set w
+altered-twice f g true set w = refl
+altered-twice f g false set w = ap (λ (cs : List SetMemory). record w { copies = cs }) (changed-twice (worded f) (worded g) w.copies set)
+
+-- two changes that come to the same as another one
+pub same-changes : (f g k : List ℤ → List ℤ) (is_shared : Bool) (set : ℕ) (w : World) → ((l : List ℤ) → g (f l) ≡ k l) →
+    altered g is_shared set (altered f is_shared set w) ≡ altered k is_shared set w
+same-changes f g k is_shared set w is =
+    altered-twice f g is_shared set w ∙ ap (λ (l : List ℤ). with_words_for set is_shared l w) (is (words_for set is_shared w))
+
+-- a change that another one forgets, or that may come after it
+abbrev pub IsLost : (f g : List ℤ → List ℤ) → Type 0
+IsLost f g = (l : List ℤ) → (g (f l) ≡ g l) ⊎ (g (f l) ≡ f (g l))
+
+-- the same where both are of the same words
+alike : {A : Type 0} (P : World → A) (f g : List ℤ → List ℤ) (is_shared : Bool) (set : ℕ) (w : World) →
+    (g (f (words_for set is_shared w)) ≡ g (words_for set is_shared w)) ⊎ (g (f (words_for set is_shared w)) ≡ f (g (words_for set is_shared w))) →
+    ((u : World) → P (altered f is_shared set u) ≡ P u) → P (altered g is_shared set (altered f is_shared set w)) ≡ P (altered g is_shared set w)
+alike P f g is_shared set w (inl same) others =
+    ap P (altered-twice f g is_shared set w ∙ ap (λ (l : List ℤ). with_words_for set is_shared l w) same)
+alike P f g is_shared set w (inr other) others =
+    ap P (altered-twice f g is_shared set w ∙ ap (λ (l : List ℤ). with_words_for set is_shared l w) other ∙ sym (altered-twice g f is_shared set w))
+    ∙ others (altered g is_shared set w)
+
+-- what comes after both does not know of it, if it does not know of it alone
+pub lost : {A : Type 0} (P : World → A) (f g : List ℤ → List ℤ) (first second : Bool) (set : ℕ) (w : World) → IsLost f g → ((u : World) → P (altered f first set u) ≡ P u) →
+    P (altered g second set (altered f first set w)) ≡ P (altered g second set w)
+lost P f g true false set w is others = others (altered g false set w)
+lost P f g false true set w is others = others (altered g true set w)
+lost P f g true true set w is others = alike P f g true set w (is (words_for set true w)) others
+lost P f g false false set w is others = alike P f g false set w (is (words_for set false w)) others
 
 -- a variable is 0 whatever one of its elements was
 zeros-forget : (set : ℕ) (v : Variable) (k : ℕ) (z : ℤ) (w : World) → k < v.size → with_zeros set v (with_element set v k z w) ≡ with_zeros set v w
 zeros-forget set v k z w within =
-    same-changes (λ l. slice_set l (v.place + k) z) (λ l. zeroed l v.place v.size) (λ l. zeroed l v.place v.size) set w (λ l. zeroed-within v.size k l v.place z within)
+    same-changes (λ l. slice_set l (v.place + k) z) (λ l. zeroed l v.place v.size) (λ l. zeroed l v.place v.size) v.is_shared set w
+    (λ l. zeroed-within v.size k l v.place z within)
 
 -- the variables of a block are 0: one of them has the element
 module _ (m : Scene) (d : DeclaratorTree) (v : Variable) (k : ℕ) (z : ℤ) (is : variable_for m.here d ≡ Some v) (within : k < v.size) where
@@ -97,29 +125,10 @@ module _ (m : Scene) (d : DeclaratorTree) (v : Variable) (k : ℕ) (z : ℤ) (is
       ((u : World) → all_cleared m es (with_element m.set v k z u) ≡ all_cleared m es u) →
       then_do (cleared_maybe m.set o (with_element m.set v k z w)) (next es) ≡ then_do (cleared_maybe m.set o w) (next es)
   forgets-after es w None others = ap (also []) (others w)
-  forgets-after es w (Some x) others = ap (also []) (by (zeroed-set x.size c.words (v.place + k) x.place z))
-    where
-      f : List ℤ → List ℤ
-      f l = slice_set l (v.place + k) z
-
-      g : List ℤ → List ℤ
-      g l = zeroed l x.place x.size
-
-      c : SetMemory
-      c = slice_index_or w.copies m.set no_copy
-
-      put : List ℤ → World
-      put l = record w { copies = slice_set w.copies m.set (record c { words = l }) }
-
-      first : with_zeros m.set x (with_element m.set v k z w) ≡ put (g (f c.words))
-      first = ap (λ cs. record w { copies = cs }) (changed-twice (worded f) (worded g) w.copies m.set)
-
-      last : with_element m.set v k z (with_zeros m.set x w) ≡ put (f (g c.words))
-      last = ap (λ cs. record w { copies = cs }) (changed-twice (worded g) (worded f) w.copies m.set)
-
-      by : IsForgotten c.words x.place x.size (v.place + k) z → all_cleared m es (with_zeros m.set x (with_element m.set v k z w)) ≡ all_cleared m es (with_zeros m.set x w)
-      by (inl same) = ap (all_cleared m es) (first ∙ ap put same)
-      by (inr other) = ap (all_cleared m es) (first ∙ ap put other ∙ sym last) ∙ others (with_zeros m.set x w)
+  forgets-after es w (Some x) others =
+      ap (also [])
+      (lost (all_cleared m es) (λ l. slice_set l (v.place + k) z) (λ l. zeroed l x.place x.size) v.is_shared x.is_shared m.set w
+      (λ l. zeroed-set x.size l (v.place + k) x.place z) others)
 
   -- variables are 0, of which one forgets its element
   forgets : (es : List DeclaratorTree) (i : ℕ) → slice_get es i ≡ Some d → (w : World) → all_cleared m es (with_element m.set v k z w) ≡ all_cleared m es w

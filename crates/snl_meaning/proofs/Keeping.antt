@@ -1,19 +1,27 @@
 -- What the pieces of a program keep of the world.
-use Rattle.std.proofs.Common.{◌≡◌, ◌∙◌, refl, ℤ}
+use Rattle.std.proofs.Common.{◌≡◌, ◌∙◌, refl, ℤ, List}
 use Rattle.snl_meaning.specs.declared.instrs.Variable.{Variable}
-use Rattle.snl_meaning.specs.Keeping.{IsKept, MayStore, PiecesKeep, PiecesKeepTime, PiecesKeepThePhase, PiecesGiveNoTicks}
+use Rattle.snl_meaning.specs.Functions.{Routine, IsBelow}
+use Rattle.snl_meaning.specs.Keeping.{IsKept, MayStore, AllStore, PiecesKeep, PiecesKeepTime, PiecesKeepThePhase, PiecesGiveNoTicks}
 use Rattle.snl_meaning.specs.Scenes.{Scene}
 use Rattle.snl_meaning.specs.World.{World}
-use Rattle.snl_meaning.proofs.EffectKeeps.{held-keeps, block-keeps}
-use Rattle.snl_meaning.proofs.Ticks.{Any, any-may, NoMore, ticks-kept}
+use Rattle.snl_meaning.proofs.EffectKeeps.{held-keeps, block-keeps, callees-keep}
+use Rattle.snl_meaning.proofs.Ticks.{Any, any-may, any-all, NoMore, ticks-kept}
 
--- what each single change keeps is kept by all pieces
-pub pieces-keep : (m : Scene) (May : Variable → ℤ → Type 0) (R : World → World → Type 0) → MayStore m.here May → IsKept m.set May R → PiecesKeep m R
-pieces-keep m May R may kept = record { condition = held-keeps m May R may kept; block = block-keeps m May R may kept }
+-- what each single change keeps is kept by all pieces, with all functions that they call
+pub pieces-keep : (rs : List Routine) (m : Scene) (May : Variable → ℤ → Type 0) (R : World → World → Type 0) → IsBelow rs m → MayStore m.here May → AllStore rs May →
+    IsKept m.set May R → PiecesKeep m R
+pieces-keep rs m May R below may all kept =
+    let calls = callees-keep rs m May R below kept all in
+    record { condition = held-keeps m May R may kept calls; block = block-keeps m May R may kept calls }
+
+-- where any element may be stored to
+pub pieces-keep-any : (rs : List Routine) (m : Scene) (R : World → World → Type 0) → IsBelow rs m → IsKept m.set Any R → PiecesKeep m R
+pieces-keep-any rs m R below kept = pieces-keep rs m Any R below (any-may m.here) (any-all rs) kept
 
 -- the time
 pub pieces_keep_time : PiecesKeepTime
-pieces_keep_time m = pieces-keep m Any (λ w u. u.time ≡ w.time) (any-may m.here) (record {
+pieces_keep_time rs m below = pieces-keep-any rs m (λ w u. u.time ≡ w.time) below (record {
   nothing = λ w. refl;
   both = λ u v w a b. b ∙ a;
   stores = λ v k z w ok fits. refl;
@@ -32,7 +40,7 @@ pieces_keep_time m = pieces-keep m Any (λ w u. u.time ≡ w.time) (any-may m.he
 
 -- how far the program has come
 pub pieces_keep_the_phase : PiecesKeepThePhase
-pieces_keep_the_phase m = pieces-keep m Any (λ w u. u.phase ≡ w.phase) (any-may m.here) (record {
+pieces_keep_the_phase rs m below = pieces-keep-any rs m (λ w u. u.phase ≡ w.phase) below (record {
   nothing = λ w. refl;
   both = λ u v w a b. b ∙ a;
   stores = λ v k z w ok fits. refl;
@@ -51,4 +59,4 @@ pieces_keep_the_phase m = pieces-keep m Any (λ w u. u.phase ≡ w.phase) (any-m
 
 -- the ticks
 pub pieces_give_no_ticks : PiecesGiveNoTicks
-pieces_give_no_ticks m = pieces-keep m Any NoMore (any-may m.here) (ticks-kept m.set)
+pieces_give_no_ticks rs m below = pieces-keep-any rs m NoMore below (ticks-kept m.set)

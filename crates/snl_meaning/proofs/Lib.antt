@@ -1,5 +1,6 @@
 pub mod Following
 pub mod Sizes
+pub mod Named
 pub mod WordKeeps
 pub mod ValueKeeps
 pub mod EffectKeeps
@@ -17,4 +18,5 @@ pub mod Frames
 pub mod Puts
 pub mod Leaving
 pub mod Forgetting
+pub mod Calls
 pub mod Histories

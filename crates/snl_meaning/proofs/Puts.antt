@@ -4,8 +4,8 @@ use Rattle.std.specs.Prelude.{slice_get, slice_index_or}
 use Rattle.snl_meaning.specs.declared.ties.Tied.{Tied}
 use Rattle.snl_meaning.specs.Links.{link_at, elements_at, with_buffer, is_queued, enqueued, flagged, all_marked, marked, kept_for, handed_over}
 use Rattle.snl_meaning.specs.Printing.{put_line}
-use Rattle.snl_meaning.specs.Ran.{Ran, Gives}
-use Rattle.snl_meaning.specs.Words.{natural, put_out, put_async, put_by, put_by_tie, put_by_number, put_word, put_to, place_of, put_element}
+use Rattle.snl_meaning.specs.Ran.{Gives}
+use Rattle.snl_meaning.specs.Words.{natural, put_out, put_by, put_by_tie, put_by_number, put_word, place_of}
 use Rattle.snl_meaning.specs.World.{World, copy_of, words_at, is_waiting, with_waiting}
 use Rattle.snl_meaning.specs.Puts.{remarked, PlainPutsKnowNoMarks, WaitingPutsNothing}
 

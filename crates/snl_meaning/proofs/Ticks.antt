@@ -1,16 +1,17 @@
 -- No piece gives ticks back: what is kept of them.
-use Rattle.std.proofs.Common.{◌<◌, ◌≤◌, ℕ, zero, suc, ℤ, Bool, Option, arith}
+use Rattle.std.proofs.Common.{◌<◌, ◌≤◌, ℕ, zero, suc, ℤ, Bool, List, [], ◌∷◌, Option, arith}
 use Rattle.snl_text.specs.declared.kinds.Kind.{Kind}
 use Rattle.snl_syntax.specs.Expressions.{ExprTree}
 use Rattle.snl_syntax.specs.Statements.{StatementTree}
 use Rattle.snl_resolve.specs.declared.builtins.Query.{Query}
 use Rattle.snl_meaning.specs.declared.instrs.Variable.{Variable}
 use Rattle.snl_meaning.specs.Effect.{held_by, evaluated, effect_of}
-use Rattle.snl_meaning.specs.Keeping.{IsKept, MayStore, world_after}
+use Rattle.snl_meaning.specs.Functions.{Routine, IsBelow, callables_after}
+use Rattle.snl_meaning.specs.Keeping.{IsKept, MayStore, AllMay, AllStore, world_after}
 use Rattle.snl_meaning.specs.Names.{Here}
-use Rattle.snl_meaning.specs.Scenes.{Scene}
-use Rattle.snl_meaning.specs.Ran.{Ran, Gives, Faults}
-use Rattle.snl_meaning.specs.Words.{operated, operated_prefix, subscript, stored, adjusted, put_to, put_element, waited, spent_of, spent}
+use Rattle.snl_meaning.specs.Scenes.{Callable, Scene}
+use Rattle.snl_meaning.specs.Ran.{Ran, Gives, Faults, also, then_do}
+use Rattle.snl_meaning.specs.Words.{operated, operated_prefix, subscript, stored, adjusted, fitted, put_to, put_element, waited, spent_of, spent, bound, called_with}
 use Rattle.snl_meaning.specs.Asking.{asked, ask_variable, ask_element}
 use Rattle.snl_meaning.specs.World.{World}
 use Rattle.snl_meaning.proofs.EffectKeeps as effects
@@ -36,6 +37,16 @@ Any v k = Unit {0}
 -- those of a copy, too
 pub any-may : (h : Here) → MayStore h Any
 any-may h = record { first = λ offset v is. tt; element = λ offset v k is within. tt }
+
+-- to each parameter, too,
+pub all-any : (ps : List Variable) → AllMay Any ps
+all-any [] = tt
+all-any (p ∷ ps) = (tt, all-any ps)
+
+-- and in all functions
+pub any-all : (rs : List Routine) → AllStore rs Any
+any-all [] = tt
+any-all (r ∷ rs) = ((any-may r.here, all-any r.parameters), any-all rs)
 
 -- no more than before
 abbrev pub NoMore : World → World → Type 0
@@ -68,17 +79,30 @@ few {A = A} word k n w less = by (word w) (k w)
     by (Gives v u text) le = record { is = omega (arith, le, less) }
     by (Faults fault line u text) le = tt
 
--- a condition
-pub held-keeps : (m : Scene) (e : Option ExprTree) → Keeps (held_by m e)
-held-keeps m e = few (held_by m e) (effects.held-keeps m Any NoMore (any-may m.here) (ticks-kept m.set) e)
+-- functions that give none back
+abbrev pub AllKeep : List Callable → Type 0
+AllKeep = words.CallsKeep Any NoMore
 
--- an expression for what it does
-pub evaluated-keeps : (m : Scene) (e : Option ExprTree) → Keeps (evaluated m e)
-evaluated-keeps m e = few (evaluated m e) (effects.evaluated-keeps m Any NoMore (any-may m.here) (ticks-kept m.set) e)
+-- all functions of a program, below others
+pub calls-keep : (set : ℕ) (name : List ℕ) (above : List Callable) (rs : List Routine) → AllKeep above → AllKeep (callables_after set name above rs)
+calls-keep set name above rs all = effects.calls-keep set name Any NoMore above rs (ticks-kept set) (any-all rs) all
 
--- a statement
-pub effect-keeps : (m : Scene) (s : StatementTree) → Keeps (effect_of m s)
-effect-keeps m s = few (effect_of m s) (effects.effect-keeps m Any NoMore (any-may m.here) (ticks-kept m.set) s)
+-- those that a piece may call
+pub callees-keep : (rs : List Routine) (m : Scene) → IsBelow rs m → AllKeep m.callees
+callees-keep rs m below = effects.callees-keep rs m Any NoMore below (ticks-kept m.set) (any-all rs)
+
+module _ (m : Scene) (calls : AllKeep m.callees) where
+  -- a condition
+  pub held-keeps : (e : Option ExprTree) → Keeps (held_by m e)
+  held-keeps e = few (held_by m e) (effects.held-keeps m Any NoMore (any-may m.here) (ticks-kept m.set) calls e)
+
+  -- an expression for what it does
+  pub evaluated-keeps : (e : Option ExprTree) → Keeps (evaluated m e)
+  evaluated-keeps e = few (evaluated m e) (effects.evaluated-keeps m Any NoMore (any-may m.here) (ticks-kept m.set) calls e)
+
+  -- a statement
+  pub effect-keeps : (s : StatementTree) → Keeps (effect_of m s)
+  effect-keeps s = few (effect_of m s) (effects.effect-keeps m Any NoMore (any-may m.here) (ticks-kept m.set) calls s)
 
 -- a binary operator
 pub keeps-operated : (op : Kind) (line : ℕ) (left right : ℤ) → Keeps (operated op line left right)
@@ -132,3 +156,21 @@ spent-falls n line w le = by w.ticks le
     by : (left : ℕ) → left ≤ n → Leaves (HasFewer n) (spent_of line left w)
     by zero k = tt
     by (suc left) k = record { is = omega arith }
+
+-- the check of a value
+pub keeps-fitted : (least greatest : ℤ) (line : ℕ) (z : ℤ) → Keeps (fitted least greatest line z)
+keeps-fitted least greatest line z = few (fitted least greatest line z) (words.keeps-fitted 0 Any NoMore (ticks-kept 0) least greatest line z)
+
+-- a step that leaves fewer ticks, and then one that gives none back
+falls-then : {A B : Type 0} (n : ℕ) (r : Ran A) (go : A → World → Ran B) → Leaves (HasFewer n) r → ((v : A) → Keeps (go v)) → Leaves (HasFewer n) (then_do r go)
+falls-then {B = B} n (Gives v w text) go h k = by (go v w) (k v n w h.is)
+  where
+    by : (r : Ran B) → Leaves (HasFewer n) r → Leaves (HasFewer n) (also text r)
+    by (Gives z u t) few = few
+    by (Faults f line u t) few = tt
+falls-then n (Faults f line w text) go h k = tt
+
+-- a call spends a tick
+pub called-falls : (set : ℕ) (ps : List Variable) (line : ℕ) (zs : List ℤ) (n : ℕ) (w : World) → w.ticks ≤ n → Leaves (HasFewer n) (called_with set ps line zs w)
+called-falls set ps line zs n w le =
+    falls-then n (spent line w) (λ _ u. bound set ps line zs u) (spent-falls n line w le) (λ _. few (bound set ps line zs) (words.keeps-bound set Any NoMore (ticks-kept set) ps line zs (all-any ps)))

@@ -1,11 +1,11 @@
 -- A loop has turns enough, whatever number above its ticks they are.
 use Rattle.std.proofs.Common.{◌≡◌, ◌<◌, ◌≤◌, ℕ, zero, suc, Bool, true, false, refl, ap, arith}
-use Rattle.snl_meaning.specs.Effect.{Way, Done, Broken, Continued, Left, unless_broken, turned, turns, held_by, evaluated, effect_of}
+use Rattle.snl_meaning.specs.Effect.{Way, Done, Broken, Continued, Left, Returned, unless_broken, turned, turns, held_by, evaluated, effect_of}
 use Rattle.snl_meaning.specs.Laws.{TurnsAreEnough}
 use Rattle.snl_meaning.specs.Ran.{Ran, Gives, Faults, also, then_do}
 use Rattle.snl_meaning.specs.Words.{spent}
 use Rattle.snl_meaning.specs.World.{World}
-use Rattle.snl_meaning.proofs.Ticks.{Leaves, HasFewer, Keeps, spent-falls, held-keeps, evaluated-keeps, effect-keeps}
+use Rattle.snl_meaning.proofs.Ticks.{Leaves, HasFewer, Keeps, spent-falls, callees-keep, held-keeps, evaluated-keeps, effect-keeps}
 
 -- what follows a step may differ where the step does not lead
 same-then : {A B : Type 0} (P : World → Type 0) (r : Ran A) (go go' : A → World → Ran B) → Leaves P r → ((v : A) (u : World) → P u → go v u ≡ go' v u) →
@@ -36,6 +36,7 @@ module _ (line : ℕ) (condition : World → Ran Bool) (body : World → Ran Way
       way Broken v few = refl
       way Continued v few = onward v few
       way (Left state) v few = refl
+      way (Returned z) v few = refl
 
   -- two numbers of turns, both above the ticks
   pub same-turns : (k n m : ℕ) → k ≤ n → k ≤ m → (w : World) → w.ticks < k → turns n line condition body step w ≡ turns m line condition body step w
@@ -48,6 +49,7 @@ module _ (line : ℕ) (condition : World → Ran Bool) (body : World → Ran Way
 
 -- those of a loop
 pub turns-enough : TurnsAreEnough
-turns-enough m line condition step s w n more =
-    same-turns line (held_by m condition) (effect_of m s) (evaluated m step) (held-keeps m condition) (effect-keeps m s) (evaluated-keeps m step)
+turns-enough rs m line condition step s w n below more =
+    let calls = callees-keep rs m below in
+    same-turns line (held_by m condition) (effect_of m s) (evaluated m step) (held-keeps m calls condition) (effect-keeps m calls s) (evaluated-keeps m calls step)
     (suc w.ticks) n (suc w.ticks) (omega (arith, more)) (omega arith) w (omega arith)

@@ -1,6 +1,6 @@
 -- What an expression keeps of the world.
 use Rattle.std.proofs.Common.{◌≡◌, ◌∙◌, refl, ap, ℕ, ℤ, pos, true, false, List, [], ◌∷◌, Option, None, Some}
-use Rattle.std.specs.Prelude.{not}
+use Rattle.std.specs.Prelude.{not, reverse}
 use Rattle.snl_text.specs.declared.tokens.Pos.{Pos}
 use Rattle.snl_text.specs.declared.tokens.Token.{Token}
 use Rattle.snl_syntax.specs.Expressions.{ExprTree, TermList, ArgumentList, constant, parenthesized, named, element, call, postfix, prefix, chain, conditional, assignment, no_terms, term, no_arguments, value, text}
@@ -12,13 +12,13 @@ use Rattle.snl_meaning.specs.Names.{Varies, variable_at, variable_by, sense_by, 
 use Rattle.snl_meaning.specs.Ran.{Ran}
 use Rattle.snl_resolve.specs.Builtins.{builtin_of}
 use Rattle.snl_resolve.specs.declared.builtins.Query.{Query}
-use Rattle.snl_meaning.specs.Value.{OnVariable, OnElement, joint_of, compound_of, sign_of, is_decimal, joined_by, either, value_of, chained, at_target, print_of, printing_with, wait_of, put_of, ask_flag, ask_of}
+use Rattle.snl_meaning.specs.Value.{OnVariable, OnElement, joint_of, compound_of, sign_of, is_decimal, joined_by, either, value_of, chained, at_target, print_of, printing_with, calling, if_callable, wait_of, put_of, ask_flag, ask_of}
 use Rattle.snl_resolve.specs.Calls.{has_async}
-use Rattle.snl_meaning.specs.Scenes.{Scene}
+use Rattle.snl_meaning.specs.Scenes.{Callable, Scene, callee_named}
 use Rattle.snl_meaning.specs.Words.{gives, is_subscript, read}
 use Rattle.snl_meaning.specs.World.{World}
 use Rattle.snl_meaning.specs.Keeping.{IsKept, MayStore}
-use Rattle.snl_meaning.proofs.WordKeeps.{Keeps, KeepsOn, keeps-then, keeps-here, keeps-read, keeps-adjusted, keeps-joined, keeps-put, keeps-at_subscript, keeps-at_name, keeps-named, keeps-signed, keeps-called, keeps-put_to, keeps-put_element, keeps-asked, keeps-ask_variable, keeps-ask_element, keeps-waited, after-test}
+use Rattle.snl_meaning.proofs.WordKeeps.{Keeps, KeepsOn, CallKeeps, CallsKeep, keeps-then, keeps-here, keeps-read, keeps-adjusted, keeps-joined, keeps-put, keeps-at_subscript, keeps-at_name, keeps-named, keeps-signed, keeps-called, keeps-named_call, keeps-performed, keeps-put_to, keeps-put_element, keeps-asked, keeps-ask_variable, keeps-ask_element, keeps-waited, after-test}
 
 -- what a name means is a variable of the copy
 pub sense-held : (m : Scene) (o : Option Pos) (number : Option ℤ) (v : Variable) → sense_by (variable_by m.here o) number ≡ Varies v → (offset : ℕ) × (variable_at m.here offset ≡ Some v)
@@ -29,7 +29,8 @@ sense-held m (Some d) number v is = by (variable_at m.here d.offset) refl is
     by None at means = absurd (cc)
     by (Some u) at means = (d.offset, let same : u ≡ v = cc in at ∙ ap Some same)
 
-module _ (m : Scene) (May : Variable → ℤ → Type 0) (R : World → World → Type 0) (may : MayStore m.here May) (kept : IsKept m.set May R) where
+module _ (m : Scene) (May : Variable → ℤ → Type 0) (R : World → World → Type 0) (may : MayStore m.here May) (kept : IsKept m.set May R)
+    (calls : CallsKeep May R m.callees) where
   -- a variable that a name means may be stored to,
   may-first : (x : Token) (v : Variable) → sense_of m.here x ≡ Varies v → May v (pos 0)
   may-first x v is = let at = sense-held m (declared_in x.pos.offset m.here.sites) (predefined x.text.now) v is in may.first at.0 v at.1
@@ -62,7 +63,9 @@ module _ (m : Scene) (May : Variable → ℤ → Type 0) (R : World → World �
         (keeps-at_subscript m.set May R kept (sense_of m.here x) b.pos.line (read m.set) (gives (pos 0)) (λ v k is within. keeps-read m.set May R kept v k) (keeps-here m.set May R kept (pos 0))) w
     value-keeps (call f all) w =
         keeps-called m.set May R kept (builtin_of f.text.now) (print_of m all) (wait_of m all) (put_of m all) (ask_of m all)
-        (print-keeps all) (wait-keeps all) (put-keeps all) (ask-keeps all) w
+        (if_callable (callee_named m.callees f.text.now) (λ c. calling m c f.pos.line all []))
+        (print-keeps all) (wait-keeps all) (put-keeps all) (ask-keeps all)
+        (keeps-named_call m.set May R kept m.callees f.text.now (λ c. calling m c f.pos.line all []) calls (λ c keeps. calling-keeps c f.pos.line all [] keeps)) w
     value-keeps (postfix e op) w =
         keeps-signed m.set May R kept (sign_of op.kind) _ (value_of m e) op.pos.line
         (λ by. target-keeps e _ _ (gives (pos 0)) (λ v x ok. keeps-adjusted m.set May R kept v by op.pos.line x.pos.line true (pos 0) ok)
@@ -113,6 +116,13 @@ module _ (m : Scene) (May : Variable → ℤ → Type 0) (R : World → World �
     printing-keeps f no_arguments taken w = kept.nothing w
     printing-keeps f (text t rest) taken w = printing-keeps f rest taken w
     printing-keeps f (value e rest) taken w = keeps-then m.set May R kept (value_of m e) _ (value-keeps e) (λ z. printing-keeps f rest (z ∷ taken)) w
+
+    -- a function of the program
+    calling-keeps : (c : Callable) (line : ℕ) (all : ArgumentList) (taken : List ℤ) → CallKeeps May R c → Keeps R (calling m c line all taken)
+    calling-keeps c line no_arguments taken keeps w = keeps-performed m.set May R kept c line (reverse taken) keeps w
+    calling-keeps c line (text t rest) taken keeps w = calling-keeps c line rest taken keeps w
+    calling-keeps c line (value e rest) taken keeps w =
+        keeps-then m.set May R kept (value_of m e) _ (value-keeps e) (λ z. calling-keeps c line rest (z ∷ taken) keeps) w
 
     -- `delay`
     wait-keeps : (all : ArgumentList) → Keeps R (wait_of m all)

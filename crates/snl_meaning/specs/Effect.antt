@@ -8,19 +8,21 @@ use Rattle.snl_arithmetic.specs.Arithmetic.{is_zero}
 use Rattle.snl_resolve.specs.Types.{listed_values}
 use Rattle.snl_meaning.specs.declared.faults.Fault.TheVariants.{BudgetSpent}
 use Rattle.snl_meaning.specs.declared.instrs.Variable.{Variable}
-use Rattle.snl_meaning.specs.Names.{Here, variable_at, state_number}
+use Rattle.snl_meaning.specs.Names.{Here, Within, Piece, Body, variable_at, state_number}
 use Rattle.snl_meaning.specs.Ran.{Ran, Gives, Faults, then_do}
 use Rattle.snl_meaning.specs.Scenes.{Scene}
 use Rattle.snl_meaning.specs.Value.{value_of, either}
-use Rattle.snl_meaning.specs.Words.{stored, cleared, spent}
+use Rattle.snl_meaning.specs.Words.{stored, cleared, fitted, spent}
 use Rattle.snl_meaning.specs.World.{World}
 
--- How a statement came to its end: at its end, at a `break` or a `continue`, or at a `state` with the state's number.
+-- How a statement came to its end: at its end, at a `break` or a `continue`, at a `state` with the state's number, or at a
+-- `return` with the value that the function gives.
 pub data Way : Type 0 where
   Done : Way
   Broken : Way
   Continued : Way
   Left : (state : ℕ) → Way
+  Returned : (value : ℤ) → Way
 
 -- ---- one statement and then another
 
@@ -45,6 +47,7 @@ unless_broken go Done w = go w
 unless_broken go Broken w = Gives Done w []
 unless_broken go Continued w = go w
 unless_broken go (Left state) w = Gives (Left state) w []
+unless_broken go (Returned z) w = Gives (Returned z) w []
 
 -- A number other than 0 holds.
 abbrev pub holds : ℤ → World → Ran Bool
@@ -125,6 +128,27 @@ names_of ds = flat_map (λ d. d.names) ds
 abbrev pub entered : Scene → List DeclaratorTree → World → Ran (Unit {0})
 entered m ds w = then_do (all_cleared m ds w) (λ _ u. all_begun m ds u)
 
+-- ---- `return` and `state`
+
+-- The value of a `return`, which fits the function's type.
+abbrev pub returns : ℤ → World → Ran Way
+returns z w = Gives (Returned z) w []
+
+-- A `return` with a value, which has to fit the type of the function. Outside of functions it would do nothing; the rules refuse it.
+abbrev pub return_by : Within → ℕ → (World → Ran ℤ) → World → Ran Way
+return_by Piece line value w = Gives Done w []
+return_by (Body least greatest) line value w = then_do (value w) (λ z u. then_do (fitted least greatest line z u) returns)
+
+-- The same without a value: the function gives 0.
+abbrev pub plain_return : Within → World → Ran Way
+plain_return Piece w = Gives Done w []
+plain_return (Body least greatest) w = Gives (Returned (pos 0)) w []
+
+-- A `state` leads to another state. In a function it would do nothing; the rules refuse it.
+abbrev pub left_by : Within → ℕ → World → Ran Way
+left_by Piece state w = Gives (Left state) w []
+left_by (Body least greatest) state w = Gives Done w []
+
 -- ---- statements
 
 abbrev mutual
@@ -135,9 +159,9 @@ abbrev mutual
   effect_of m (expression e) w = then_do (value_of m e w) done
   effect_of m (break_loop t) w = Gives Broken w []
   effect_of m (continue_loop t) w = Gives Continued w []
-  effect_of m (change_state t x) w = Gives (Left (state_number m.here x)) w []
-  -- no function runs yet, and outside of functions the rules refuse it
-  effect_of m (return_with t e) w = Gives Done w []
+  effect_of m (change_state t x) w = left_by m.here.within (state_number m.here x) w
+  effect_of m (return_with t None) w = plain_return m.here.within w
+  effect_of m (return_with t (Some e)) w = return_by m.here.within t.pos.line (value_of m e) w
   effect_of m (if_then c s) w = then_do (value_of m c w) (either (effect_of m s) (ends Done))
   effect_of m (if_else c s e) w = then_do (value_of m c w) (either (effect_of m s) (effect_of m e))
   effect_of m (while_loop t c s) w = looped t.pos.line (held_by m (Some c)) (effect_of m s) (evaluated m None) w

@@ -16,7 +16,7 @@ use Rattle.snl_meaning.specs.declared.live.Live.TheVariants.{Running}
 use Rattle.snl_meaning.specs.declared.ties.Tied.{Tied}
 use Rattle.snl_meaning.specs.Effect.{Done, Left, effect_of}
 use Rattle.snl_resolve.specs.Variables.{Held}
-use Rattle.snl_meaning.specs.Names.{Here, variable_in, placed_from}
+use Rattle.snl_meaning.specs.Names.{Here, Piece, variable_in, placed_from}
 use Rattle.snl_meaning.specs.Printing.{print_line, put_line}
 use Rattle.snl_meaning.specs.Ran.{Gives, Faults}
 use Rattle.snl_meaning.specs.Scenes.{Scene}
@@ -63,15 +63,16 @@ here = record {
       ∷ Use Read a (Variable (record { offset = 1; file = 0; line = 1 }) (Array 2)) true
       ∷ Use Read y (Variable (record { offset = 2; file = 0; line = 1 }) Scalar) false
       ∷ Declaration (token kind.Name 3 1 (codes "f")) true false 0 ∷ Use Flagged f (Flag (record { offset = 3; file = 0; line = 1 })) false ∷ Format format true ∷ [];
-  variables = record { offset = 0; variable = record { place = 0; size = 1; least = negsuc 2147483647; greatest = pos 2147483647 } }
-      ∷ record { offset = 1; variable = record { place = 1; size = 2; least = negsuc 127; greatest = pos 127 } }
-      ∷ record { offset = 2; variable = record { place = 3; size = 1; least = negsuc 2147483647; greatest = pos 2147483647 } } ∷ [];
+  variables = record { offset = 0; variable = record { place = 0; size = 1; least = negsuc 2147483647; greatest = pos 2147483647; is_shared = false } }
+      ∷ record { offset = 1; variable = record { place = 1; size = 2; least = negsuc 127; greatest = pos 127; is_shared = false } }
+      ∷ record { offset = 2; variable = record { place = 3; size = 1; least = negsuc 2147483647; greatest = pos 2147483647; is_shared = false } } ∷ [];
+  within = Piece;
   functions = [];
 }
 
 -- they run on the first state set
 abbrev pub scene : Scene
-scene = record { set = 0; set_name = codes "s"; here = here }
+scene = record { set = 0; set_name = codes "s"; here = here; callees = [] }
 
 -- a link that is monitored, by its channel, its event flag, and where its buffer begins, of so many elements
 abbrev pub tied : Option ℕ → Option ℕ → ℕ → ℕ → Tied
@@ -87,6 +88,7 @@ flagged now first last ticks due = record {
   phase = Running;
   wake = None;
   copies = record { words = first ∷ pos 5 ∷ pos 6 ∷ last ∷ []; state = 0; entered = 1000 } ∷ [];
+  shared = [];
   flags = now ∷ [];
   channels = codes "up" ∷ codes "down" ∷ [];
   ups = true ∷ false ∷ [];
@@ -193,4 +195,4 @@ held_of t size = record { name = t; range = (pos 0, pos 9); size = size; initial
 
 -- The words of two variables stand one after another.
 abbrev pub PlaceExamples : Type 0
-PlaceExamples = (variable_in (placed_from 0 (held_of x (Array 3) ∷ held_of y Scalar ∷ [])) 12 ≡ Some (record { place = 3; size = 1; least = pos 0; greatest = pos 9 }))
+PlaceExamples = (variable_in (placed_from 0 (held_of x (Array 3) ∷ held_of y Scalar ∷ [])) 12 ≡ Some (record { place = 3; size = 1; least = pos 0; greatest = pos 9; is_shared = false }))

@@ -4,6 +4,7 @@ use Rattle.snl_syntax.specs.Expressions.{ExprTree}
 use Rattle.snl_syntax.specs.Statements.{BlockTree}
 use Rattle.snl_meaning.specs.declared.instrs.Variable.{Variable}
 use Rattle.snl_meaning.specs.Effect.{held_by, block_effect}
+use Rattle.snl_meaning.specs.Functions.{Routine, IsBelow}
 use Rattle.snl_meaning.specs.Names.{Here, variable_at}
 use Rattle.snl_meaning.specs.Ran.{Ran, Gives, Faults}
 use Rattle.snl_meaning.specs.Scenes.{Scene}
@@ -47,19 +48,29 @@ pub record MayStore (h : Here) (May : Variable → ℤ → Type 0) : Type 0 wher
   pub first : (offset : ℕ) (v : Variable) → variable_at h offset ≡ Some v → May v (pos 0)
   pub element : (offset : ℕ) (v : Variable) (k : ℤ) → variable_at h offset ≡ Some v → is_subscript v.size k ≡ true → May v k
 
+-- To each of these parameters, as a call does.
+abbrev pub AllMay : (Variable → ℤ → Type 0) → List Variable → Type 0
+AllMay May [] = Unit {0}
+AllMay May (p ∷ ps) = May p (pos 0) × AllMay May ps
+
+-- To the variables that these functions name, and to their parameters.
+abbrev pub AllStore : List Routine → (Variable → ℤ → Type 0) → Type 0
+AllStore [] May = Unit {0}
+AllStore (r ∷ rs) May = (MayStore r.here May × AllMay May r.parameters) × AllStore rs May
+
 -- It holds between the world before a condition or a block and the world after it, also after a fault.
 pub record PiecesKeep (m : Scene) (R : World → World → Type 0) : Type 0 where
   pub condition : (e : Option ExprTree) (w : World) → R w (world_after (held_by m e w))
   pub block : (b : BlockTree) (w : World) → R w (world_after (block_effect m b w))
 
--- Time stands still while a piece is at work,
+-- Time stands still while a piece is at work, with all functions that it calls,
 abbrev pub PiecesKeepTime : Type 0
-PiecesKeepTime = (m : Scene) → PiecesKeep m (λ w u. u.time ≡ w.time)
+PiecesKeepTime = (rs : List Routine) (m : Scene) → IsBelow rs m → PiecesKeep m (λ w u. u.time ≡ w.time)
 
 -- no piece gives ticks back,
 abbrev pub PiecesGiveNoTicks : Type 0
-PiecesGiveNoTicks = (m : Scene) → PiecesKeep m (λ w u. u.ticks ≤ w.ticks)
+PiecesGiveNoTicks = (rs : List Routine) (m : Scene) → IsBelow rs m → PiecesKeep m (λ w u. u.ticks ≤ w.ticks)
 
 -- and none changes how far the program has come.
 abbrev pub PiecesKeepThePhase : Type 0
-PiecesKeepThePhase = (m : Scene) → PiecesKeep m (λ w u. u.phase ≡ w.phase)
+PiecesKeepThePhase = (rs : List Routine) (m : Scene) → IsBelow rs m → PiecesKeep m (λ w u. u.phase ≡ w.phase)

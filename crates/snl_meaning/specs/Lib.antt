@@ -11,10 +11,12 @@ pub mod Words
 pub mod Asking
 pub mod Value
 pub mod Effect
+pub mod Functions
 pub mod Run
 pub mod Endings
 pub mod Examples
 pub mod LinkExamples
+pub mod FunctionExamples
 pub mod Known
 pub mod Laws
 pub mod Puts

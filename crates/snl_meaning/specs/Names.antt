@@ -1,5 +1,5 @@
 -- What the names in a piece of code mean, by their declarations.
-use Rattle.std.specs.Prelude.{ℕ, true, suc, ◌+◌, ◌-◌, ◌^◌, min, ℤ, pos, ◌==◌, bytes_eq, length, List, [], ◌∷◌, Option, None, Some, slice_index_or, if◌then◌else◌}
+use Rattle.std.specs.Prelude.{ℕ, true, false, suc, ◌+◌, ◌-◌, ◌^◌, min, ℤ, pos, ◌==◌, bytes_eq, length, List, [], ◌∷◌, Option, None, Some, slice_index_or, if◌then◌else◌}
 use Rattle.std.specs.List.{flat_map}
 use Rattle.snl_text.specs.declared.tokens.Pos.{Pos}
 use Rattle.snl_text.specs.declared.tokens.Token.{Token}
@@ -15,6 +15,11 @@ use Rattle.snl_meaning.specs.declared.names.Placed.{Placed}
 pub use Rattle.snl_meaning.specs.declared.names.Sense.{Sense}
 pub use Rattle.snl_meaning.specs.declared.names.Sense.TheVariants.{Varies, Stands}
 
+-- Where code stands: in a piece of a state set, or in the body of a function, whose values fit a type. A function without a value gives 0.
+pub data Within : Type 0 where
+  Piece : Within
+  Body : (least greatest : ℤ) → Within
+
 -- What code knows of a function: its name, and how many operands its body needs at once.
 pub record Outline : Type 0 where
   pub name : List ℕ
@@ -26,23 +31,34 @@ pub record Here : Type 0 where
   pub states : List Token
   -- what the names of the program mean, each at its place
   pub sites : List Site
-  -- the variables of the copy, by their declarations
+  -- the variables that may be named there, by their declarations: those of the copy, and in a function its own
   pub variables : List Placed
-  -- the functions that may be called there, in the order of the source
-  pub functions : List Outline
+  -- whether it is the body of a function
+  pub within : Within
+  -- the names of the functions that may be called there, in the order of the source
+  pub functions : List Token
 
 -- A variable whose words begin at a place of the copy.
 abbrev pub variable_from : ℕ → Held → Variable
-variable_from at v = record { place = at; size = elements v.size; least = v.range.0; greatest = v.range.1 }
+variable_from at v = record { place = at; size = elements v.size; least = v.range.0; greatest = v.range.1; is_shared = false }
 
 -- Where the words of the next variable begin. No program that the rules accept has as many words as 2^64 - 1.
 abbrev pub behind : ℕ → Held → ℕ
 behind at v = min (at + elements v.size) (2 ^ 64 - 1)
 
+-- The same of a variable of a function, which all state sets share.
+abbrev pub shared_from : ℕ → Held → Variable
+shared_from at v = record (variable_from at v) { is_shared = true }
+
 -- Variables whose words stand one after another from a place on, each with the offset of its declaration.
 abbrev pub placed_from : ℕ → List Held → List Placed
 placed_from at [] = []
 placed_from at (v ∷ vs) = record { offset = v.name.pos.offset; variable = variable_from at v } ∷ placed_from (behind at v) vs
+
+-- The same of variables of functions, among the words that all state sets share.
+abbrev pub placed_shared : ℕ → List Held → List Placed
+placed_shared at [] = []
+placed_shared at (v ∷ vs) = record { offset = v.name.pos.offset; variable = shared_from at v } ∷ placed_shared (behind at v) vs
 
 -- ---- variables
 
@@ -120,6 +136,10 @@ state_number h x = or_first (number_of h.states x.text.now)
 abbrev pub outline_named : List Outline → List ℕ → Option Outline
 outline_named [] name = None
 outline_named (o ∷ os) name = if bytes_eq o.name name then Some o else outline_named os name
+
+-- The number of the function that is called, among those of the program, if it is one that may be called there.
+abbrev pub function_number : Here → Token → Option ℕ
+function_number h x = number_of h.functions x.text.now
 
 -- ---- formats
 

@@ -1,5 +1,5 @@
 -- Laws of puts with `ASYNC` and without.
-use Rattle.std.specs.Prelude.{◌≡◌, ℕ, ℤ, Bool, true, false, List, [], Option, None, Some}
+use Rattle.std.specs.Prelude.{◌≡◌, ℕ, ℤ, Bool, true, false, List, [], Some}
 use Rattle.snl_meaning.specs.declared.instrs.Variable.{Variable}
 use Rattle.snl_meaning.specs.declared.ties.Tied.{Tied}
 use Rattle.snl_meaning.specs.Ran.{Ran, Gives, Faults}

@@ -1,5 +1,5 @@
 -- The value of an expression, for a state set in a world. Operands go from left to right.
-use Rattle.std.specs.Prelude.{ℕ, ℤ, pos, Bool, true, false, not, List, [], ◌∷◌, Option, None, Some, option_map, if◌then◌else◌}
+use Rattle.std.specs.Prelude.{ℕ, ℤ, pos, Bool, true, false, not, List, [], ◌∷◌, reverse, Option, None, Some, option_map, if◌then◌else◌}
 use Rattle.snl_text.specs.declared.kinds.Kind.{Kind}
 use Rattle.snl_text.specs.declared.kinds.Kind.TheVariants as kind
 use Rattle.snl_text.specs.declared.tokens.Token.{Token}
@@ -19,10 +19,10 @@ pub use Rattle.snl_meaning.specs.declared.operators.Sign.{Sign}
 pub use Rattle.snl_meaning.specs.declared.operators.Sign.TheVariants.{Steps, Alone}
 use Rattle.snl_meaning.specs.Names.{Sense, Varies, Stands, sense_of, flag_number, formats_of, format_number, text_of}
 use Rattle.snl_meaning.specs.Ran.{Ran, Gives, then_do}
-use Rattle.snl_meaning.specs.Scenes.{Scene}
+use Rattle.snl_meaning.specs.Scenes.{Callable, Scene, callee_named}
 use Rattle.snl_resolve.specs.Calls.{has_async}
 use Rattle.snl_meaning.specs.Asking.{asked, ask_variable, ask_element}
-use Rattle.snl_meaning.specs.Words.{gives, operated, operated_prefix, settled, subscript, read, stored, adjusted, printed, put_to, put_element, waited}
+use Rattle.snl_meaning.specs.Words.{called_with, gives, operated, operated_prefix, settled, subscript, read, stored, adjusted, printed, put_to, put_element, waited}
 use Rattle.snl_meaning.specs.World.{World}
 
 -- ---- constants
@@ -131,13 +131,22 @@ put_at op op_line right set v line k w = then_do (renewed op op_line right set v
 
 -- ---- calls
 
--- A call, by its function. An unknown one would give 0; the rules refuse it.
-abbrev pub called : Option Builtin → (print wait put : World → Ran ℤ) → (ask : Query → World → Ran ℤ) → World → Ran ℤ
-called None print wait put ask w = Gives (pos 0) w []
-called (Some Delay) print wait put ask w = wait w
-called (Some Printf) print wait put ask w = print w
-called (Some PvPut) print wait put ask w = put w
-called (Some (Ask query)) print wait put ask w = ask query w
+-- A call, by its built-in function; of any other name it is that of a function of the program.
+abbrev pub called : Option Builtin → (print wait put : World → Ran ℤ) → (ask : Query → World → Ran ℤ) → (routine : World → Ran ℤ) → World → Ran ℤ
+called None print wait put ask routine w = routine w
+called (Some Delay) print wait put ask routine w = wait w
+called (Some Printf) print wait put ask routine w = print w
+called (Some PvPut) print wait put ask routine w = put w
+called (Some (Ask query)) print wait put ask routine w = ask query w
+
+-- What a function of the program does. An unknown one would give 0, and its arguments would not be computed; the rules refuse it.
+abbrev pub if_callable : Option Callable → (Callable → World → Ran ℤ) → World → Ran ℤ
+if_callable None go w = Gives (pos 0) w []
+if_callable (Some c) go w = go c w
+
+-- The call of a function whose arguments have their values: a tick and the parameters, and then the body.
+abbrev pub performed : ℕ → Callable → ℕ → List ℤ → World → Ran ℤ
+performed set c line values w = then_do (called_with set c.parameters line values w) (λ _. c.body)
 
 -- What is asked of an event flag, by its name, which may stand in parentheses.
 abbrev pub ask_flag : Scene → ExprTree → Query → World → Ran ℤ
@@ -164,7 +173,9 @@ abbrev mutual
   value_of m (parenthesized e) w = value_of m e w
   value_of m (named x) w = named_value m.set (sense_of m.here x) w
   value_of m (element x b e) w = then_do (value_of m e w) (at_subscript (sense_of m.here x) b.pos.line (read m.set) (gives (pos 0)))
-  value_of m (call f all) w = called (builtin_of f.text.now) (print_of m all) (wait_of m all) (put_of m all) (ask_of m all) w
+  value_of m (call f all) w =
+      called (builtin_of f.text.now) (print_of m all) (wait_of m all) (put_of m all) (ask_of m all)
+      (if_callable (callee_named m.callees f.text.now) (λ c. calling m c f.pos.line all [])) w
   value_of m (postfix e op) w =
       signed (sign_of op.kind) (λ by. at_target m e (λ v x. adjusted m.set v by op.pos.line x.pos.line true (pos 0))
       (λ v x. adjusted m.set v by op.pos.line x.pos.line true) (gives (pos 0))) (value_of m e) op.pos.line w
@@ -201,6 +212,12 @@ abbrev mutual
   printing_with m format no_arguments taken w = printing m format taken w
   printing_with m format (text t rest) taken w = printing_with m format rest taken w
   printing_with m format (value e rest) taken w = then_do (value_of m e w) (λ z. printing_with m format rest (z ∷ taken))
+
+  -- a function of the program with its arguments, with the values so far, the last one first; its line is that of the call
+  pub calling : Scene → Callable → ℕ → ArgumentList → List ℤ → World → Ran ℤ
+  calling m c line no_arguments taken w = performed m.set c line (reverse taken) w
+  calling m c line (text t rest) taken w = calling m c line rest taken w
+  calling m c line (value e rest) taken w = then_do (value_of m e w) (λ z. calling m c line rest (z ∷ taken))
 
   -- `delay` with its argument
   pub wait_of : Scene → ArgumentList → World → Ran ℤ

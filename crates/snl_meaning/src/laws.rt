@@ -4,11 +4,13 @@ ghost use Rattle.snl_meaning.specs.Counts.{StepsAreBounded, StretchesAreBounded}
 ghost use Rattle.snl_meaning.specs.Endings.{OnlyTicksLeadBack};
 ghost use Rattle.snl_meaning.specs.Examples.{ExpressionExamples, PlaceExamples, StatementExamples};
 ghost use Rattle.snl_meaning.specs.LinkExamples.{LinkExamples};
+ghost use Rattle.snl_meaning.specs.FunctionExamples.{FunctionExamples};
 ghost use Rattle.snl_meaning.specs.Histories.{QueuesKeepOrder};
 ghost use Rattle.snl_meaning.specs.Frames.{PiecesKeepTheFrame, StepsKeepTheFrame};
 ghost use Rattle.snl_meaning.specs.Puts.{PlainPutsKnowNoMarks, WaitingPutsNothing};
 ghost use Rattle.snl_meaning.specs.Keeping.{PiecesGiveNoTicks, PiecesKeepThePhase, PiecesKeepTime};
-ghost use Rattle.snl_meaning.specs.Laws.{BlocksForget, TextsAreFound, TurnsAreEnough, VariablesAreApart, VariablesLieWithin};
+ghost use Rattle.snl_meaning.specs.Laws.{BlocksForget, CallsForgetParameters, CallsForgetVariables, SharedAreApart, SharedLieWithin};
+ghost use Rattle.snl_meaning.specs.Laws.{TextsAreFound, TurnsAreEnough, VariablesAreApart, VariablesLieWithin};
 
 /// Only an instruction that spends a tick leads back.
 pub fn only_ticks_lead_back()
@@ -38,6 +40,11 @@ pub fn examples_of_links()
     ensures { LinkExamples }
 {}
 
+/// What some calls of functions do: variables that begin at 0, arguments in order, faults and their lines, ticks, `return`.
+pub fn examples_of_functions()
+    ensures { FunctionExamples }
+{}
+
 /// What some statements do: loops, ticks, `break`, `continue`, the variables of a block, `state`.
 pub fn examples_of_statements()
     ensures { StatementExamples }
@@ -63,6 +70,18 @@ pub fn variables_lie_within()
 #[tactic(auto, using(crate::proofs::Apart::variables_are_apart))]
 pub fn variables_are_apart()
     ensures { VariablesAreApart }
+{}
+
+/// A variable of a function stands among the words that all state sets share, and has none outside of them.
+#[tactic(auto, using(crate::proofs::Apart::shared_lie_within))]
+pub fn shared_lie_within()
+    ensures { SharedLieWithin }
+{}
+
+/// No two variables of functions share a word.
+#[tactic(auto, using(crate::proofs::Apart::shared_are_apart))]
+pub fn shared_are_apart()
+    ensures { SharedAreApart }
 {}
 
 /// Time stands still while a condition or a block is at work, also where it comes to a fault.
@@ -113,6 +132,17 @@ pub fn waiting_puts_nothing()
 #[tactic(auto, using(crate::proofs::Forgetting::blocks_forget))]
 pub fn blocks_forget()
     ensures { BlocksForget }
+{}
+
+/// A call for which a tick is left and whose values fit forgets what its parameters were: with another number in one of them,
+/// it does the same.
+pub fn calls_forget_parameters()
+    ensures { CallsForgetParameters }
+{}
+
+/// It forgets what the variables of the body's block were, too.
+pub fn calls_forget_variables()
+    ensures { CallsForgetVariables }
 {}
 
 /// What is taken out of a queue are items that came to it, in their order; as many are missing as came while it was full.

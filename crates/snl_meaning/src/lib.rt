@@ -2,6 +2,7 @@
 #![tactic(auto)]
 
 mod faults;
+mod functions;
 mod instrs;
 pub mod laws;
 mod live;
@@ -14,9 +15,10 @@ mod strings;
 mod ties;
 
 pub use faults::Fault;
+pub use functions::FunctionEntry;
 pub use instrs::{Instr, Variable};
 pub use live::Live;
-pub use names::{Known, Outline, Placed, Sense};
+pub use names::{Known, Outline, Placed, Sense, Within};
 pub use offsets::Offsets;
 pub use operators::{Joint, Sign, compound_of, is_decimal, joint_of, sign_of};
 pub use places::Places;

@@ -1,6 +1,6 @@
 //! What the names in a piece of code mean.
 
-ghost use Rattle.std.specs.Prelude.{◌≡◌, map, IfOk};
+ghost use Rattle.std.specs.Prelude.{◌≡◌, ◌++◌, map, IfOk, OnOk};
 ghost use Rattle.snl_resolve.specs.Held.{held_view};
 ghost use Rattle.snl_meaning.specs.Names as spec;
 ghost use Rattle.snl_meaning.specs.Known.{here_of};
@@ -30,6 +30,15 @@ pub struct Placed {
     pub variable: Variable,
 }
 
+/// Where a piece of code stands.
+#[derive(Clone, Copy)]
+pub enum Within {
+    /// In a piece of a state set: a condition, an entry, an exit or a block of a clause.
+    Piece,
+    /// In the body of a function, whose values lie between these numbers; one without a value gives 0.
+    Body { least: i64, greatest: i64 },
+}
+
 /// What code knows of a function.
 #[derive(Clone, Copy)]
 pub struct Outline<'a> {
@@ -46,8 +55,14 @@ pub struct Known<'s, 'a> {
     pub states: &'s Numbered<'a>,
     /// The sites of the program.
     pub sites: &'s Sites<'s, 'a>,
-    /// The variables of the copy.
+    /// The variables that may be named there: those of the copy, and in a function its own.
     pub variables: &'s Places,
+    /// Whether it is the body of a function.
+    pub within: Within,
+    /// The names of the functions of the program.
+    pub functions: &'s Numbered<'a>,
+    /// How many of them may be called there: those above it.
+    pub above: usize,
 }
 
 fn variable_from(place: usize, held: &Held) -> Variable
@@ -59,6 +74,7 @@ fn variable_from(place: usize, held: &Held) -> Variable
         size: held.size.elements(),
         least,
         greatest,
+        is_shared: false,
     }
 }
 
@@ -80,6 +96,38 @@ pub fn places_of(alloc: Global, variables: &[Held]) -> Result<Vec<Placed>, Alloc
         place = place.saturating_add(variable.size);
     }
     Ok(places)
+}
+
+fn shared_from(place: usize, held: &Held) -> Variable
+    ensures { result ≡ spec.shared_from place (held_view held.now) }
+{
+    let (least, greatest) = held.range;
+    Variable {
+        place,
+        size: held.size.elements(),
+        least,
+        greatest,
+        is_shared: true,
+    }
+}
+
+/// Adds the variables of functions, each by its declaration; their words stand one after another among those that all state
+/// sets share. The only error is that memory ends.
+pub fn push_shared(variables: &[Held], places: &mut Vec<Placed>) -> Result<(), AllocError>
+    ensures { OnOk result (places.new.items ≡ places.old.items
+        ++ spec.placed_shared 0 (map held_view variables.now)) }
+{
+    let mut place = 0usize;
+    for number in 0..variables.len() {
+        let held = &variables[number];
+        let variable = shared_from(place, held);
+        places.push(Placed {
+            offset: held.name.pos.offset,
+            variable,
+        })?;
+        place = place.saturating_add(variable.size);
+    }
+    Ok(())
 }
 
 impl<'s, 'a> Known<'s, 'a> {
@@ -114,6 +162,18 @@ impl<'s, 'a> Known<'s, 'a> {
         ensures { result ≡ spec.format_number (here_of self.now) text.entry }
     {
         self.sites.format(text.text)
+    }
+    /// The number of the function that is called, among those of the program; none where no function of this name may be called
+    /// there.
+    pub fn function(&self, name: Token<'a>) -> Option<usize>
+        ensures { result ≡ spec.function_number (here_of self.now) name.entry }
+    {
+        let number = self.functions.find(name)?;
+        if number < self.above {
+            Some(number)
+        } else {
+            None
+        }
     }
     /// The number of the state that is named, in the state set; 0 for an unknown name.
     pub fn state(&self, name: Token<'a>) -> usize

@@ -2,12 +2,7 @@
 use Rattle.std.proofs.Common.{◌≡◌, ◌↔◌, ◌⊎◌, inl, inr, true, false, [], Bool, List, ◌∷◌, ◌++◌, Option, map, refl, subst, sym, ◌∙◌, Contains, append_assoc}
 use Rattle.snl_text.specs.declared.tokens.Pos.{Pos}
 use Rattle.snl_text.specs.declared.tokens.Token.{Token}
-use Rattle.std.specs.List.{flat_map, list_any}
-use Rattle.std.proofs.lemmas.Bool.{false≢true}
-use Rattle.snl_syntax.specs.Definitions.{DefinitionTree, declaration, assign, monitor, sync, sync_queue, event_flags, setting, function}
-use Rattle.snl_syntax.specs.Functions.{FunctionTree}
 use Rattle.snl_syntax.specs.Programs.{ProgramTree}
-use Rattle.snl_resolve.specs.Variables.{function_by}
 use Rattle.snl_resolve.specs.declared.options.Options.{Options}
 use Rattle.snl_resolve.specs.Programs.{sites}
 use Rattle.snl_rules.specs.declared.rules.Broken.{Broken}
@@ -16,10 +11,10 @@ use Rattle.snl_rules.specs.Reach.{IsUnreached}
 use Rattle.snl_rules.specs.Words.{IsOverfullSet, IsOverfull}
 use Rattle.snl_messages.specs.declared.matters.Matter.TheVariants.{TooManyWords}
 use Rattle.snl_messages.specs.Findings.{Finding, of_broken, of_unreached, of_embedded, of_overfull, finding}
-use Rattle.snl_messages.specs.Lists.{of_beyond, of_mode, of_words, of_functions, is_function, found, has_error}
-use Rattle.snl_messages.specs.Says.{IsOfSite, IsOfState, IsOfEmbedded, IsOfTokens, IsOfMode, IsFound, HasNoError, IsOfWords, IsOfFunctions}
+use Rattle.snl_messages.specs.Lists.{of_beyond, of_mode, of_words, found, has_error}
+use Rattle.snl_messages.specs.Says.{IsOfSite, IsOfState, IsOfEmbedded, IsOfTokens, IsOfMode, IsFound, HasNoError, IsOfWords}
 use Rattle.snl_messages.specs.Silence.{is_safe}
-use Rattle.snl_messages.proofs.ListLaws.{beyond_is, mode_is, words_are, functions_are, some_error, no_error}
+use Rattle.snl_messages.proofs.ListLaws.{beyond_is, mode_is, words_are, some_error, no_error}
 use Rattle.snl_messages.proofs.MemberLaws.{members, joined}
 
 -- What is found by the lists is what is found by the rules.
@@ -81,32 +76,3 @@ words_grown p old new sets full same all is f =
     (IsOverfull p × (f ≡ finding TooManyWords p.word.pos [])) set total in
     subst (λ l. Contains l f ↔ (Contains old f ⊎ IsOfWords p f)) (sym (is ∙ append_assoc old (map of_overfull sets) (of_words full p.word)))
     (joined old (map of_overfull sets ++ of_words full p.word) f (Contains old f) (IsOfWords p f) ((λ h. h), (λ h. h)) added)
-
--- A row with a first function is not empty.
-not_empty : (f : FunctionTree) (fs : List FunctionTree) → f ∷ fs ≡ [] → ⊥
-not_empty f fs e = cc
-
--- Some definition is a function where there are functions.
-some_function : (ds : List DefinitionTree) → (list_any is_function ds ≡ true) ↔ (flat_map function_by ds ≡ [] → ⊥)
-some_function [] = ((λ e. absurd (false≢true e)), (λ h. absurd (h refl)))
-some_function (function f ∷ ds) = ((λ e. not_empty f (flat_map function_by ds)), (λ h. refl))
-some_function (declaration d ∷ ds) = some_function ds
-some_function (assign a ∷ ds) = some_function ds
-some_function (monitor a ∷ ds) = some_function ds
-some_function (sync s ∷ ds) = some_function ds
-some_function (sync_queue q ∷ ds) = some_function ds
-some_function (event_flags names ∷ ds) = some_function ds
-some_function (setting s ∷ ds) = some_function ds
-
--- That functions do not run is found where there are some.
-pub functions_grown : (p : ProgramTree) (old new : List Finding) (some : Bool) → some ≡ list_any is_function p.definitions →
-    new ≡ old ++ of_functions some p.word → (f : Finding) → Contains new f ↔ (Contains old f ⊎ IsOfFunctions p f)
-functions_grown p old new some is en f =
-    let law = some_function p.definitions in
-    let listed = functions_are some p.word f in
-    let total : Contains (of_functions some p.word) f ↔ IsOfFunctions p f = (
-      (λ h. let v = listed.0 h in (law.0 (sym is ∙ v.0), v.1)),
-      (λ v. listed.1 (is ∙ law.1 v.0, v.1)),
-    ) in
-    subst (λ l. Contains l f ↔ (Contains old f ⊎ IsOfFunctions p f)) (sym en)
-    (joined old (of_functions some p.word) f (Contains old f) (IsOfFunctions p f) ((λ h. h), (λ h. h)) total)

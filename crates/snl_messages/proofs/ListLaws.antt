@@ -3,11 +3,11 @@ use Rattle.std.proofs.Common.{◌≡◌, ◌↔◌, inl, inr, Bool, true, false,
 use Rattle.std.proofs.lemmas.Bool.{false≢true}
 use Rattle.snl_text.specs.declared.tokens.Pos.{Pos}
 use Rattle.snl_text.specs.declared.tokens.Token.{Token}
-use Rattle.snl_messages.specs.declared.matters.Matter.TheVariants.{TooManyTokens, TooManyWords, NotRun, NotSafe}
+use Rattle.snl_messages.specs.declared.matters.Matter.TheVariants.{TooManyTokens, TooManyWords, NotSafe}
 use Rattle.snl_messages.specs.declared.messages.Severity.{Severity}
 use Rattle.snl_messages.specs.declared.messages.Severity.TheVariants.{Error, Warning}
 use Rattle.snl_messages.specs.Findings.{Finding, finding}
-use Rattle.snl_messages.specs.Lists.{of_beyond, of_mode, of_words, of_functions, has_error}
+use Rattle.snl_messages.specs.Lists.{of_beyond, of_mode, of_words, has_error}
 use Rattle.snl_messages.specs.Wordings.{is_warning}
 use Rattle.snl_messages.proofs.MemberLaws.{only, nothing_in, first_or_further, at_first, further}
 
@@ -36,11 +36,6 @@ mode_is false word f = ((λ h. (refl, (only (finding NotSafe word.pos []) f).0 h
 pub words_are : (full : Bool) (word : Token) (f : Finding) → Contains (of_words full word) f ↔ ((full ≡ true) × (f ≡ finding TooManyWords word.pos []))
 words_are false word f = ((λ h. absurd (nothing_in f h)), (λ w. absurd (false≢true w.0)))
 words_are true word f = ((λ h. (refl, (only (finding TooManyWords word.pos []) f).0 h)), (λ w. (only (finding TooManyWords word.pos []) f).1 w.1))
-
--- The list for functions holds its message, where there are some.
-pub functions_are : (some : Bool) (word : Token) (f : Finding) → Contains (of_functions some word) f ↔ ((some ≡ true) × (f ≡ finding NotRun word.pos []))
-functions_are false word f = ((λ h. absurd (nothing_in f h)), (λ w. absurd (false≢true w.0)))
-functions_are true word f = ((λ h. (refl, (only (finding NotRun word.pos []) f).0 h)), (λ w. (only (finding NotRun word.pos []) f).1 w.1))
 
 -- What is no warning is an error.
 error_is : (s : Severity) → not (is_warning s) ≡ true → s ≡ Error

@@ -18,7 +18,7 @@ use Rattle.snl_resolve.specs.declared.sites.Sort.TheVariants.{Assign, Sync}
 use Rattle.snl_rules.specs.declared.rules.Rule.{Rule}
 use Rattle.snl_rules.specs.declared.rules.Rule.TheVariants.{TooManySets, TooManyStates, TooManyFunctions, TooManyChannels, TooManyElements, WrongType, WrongDecimal, Undeclared, DeclaredTwice, NoVariable, UnknownFunction, WrongArguments, DelayElsewhere, AssignedTwice, Unassigned, NoFlag, SyncedTwice, NoQueue, StateTwice, StateSetTwice, NoState, StateElsewhere, OutsideLoop, BadInitialiser, WrongArray, NotAssignable, UnknownOption, BadFormat, QueueSize, NoValue, ReturnElsewhere, NeverReached, NotMonitored, UnusedVariable, UnusedFlag, NoClauses, UnusedFunction}
 use Rattle.snl_messages.specs.declared.matters.Matter.{Matter}
-use Rattle.snl_messages.specs.declared.matters.Matter.TheVariants.{TooManyTokens, TooManyWordsOfSet, TooManyWords, NotRun, EmbeddedC, NotSafe, Unreached}
+use Rattle.snl_messages.specs.declared.matters.Matter.TheVariants.{TooManyTokens, TooManyWordsOfSet, TooManyWords, EmbeddedC, NotSafe, Unreached}
 use Rattle.snl_messages.specs.declared.messages.Severity.{Severity}
 use Rattle.snl_messages.specs.declared.messages.Severity.TheVariants.{Error, Warning}
 use Rattle.snl_messages.specs.Findings.{finding, said_at}
@@ -111,7 +111,7 @@ Warnings =
     × Says NoClauses (State (at 3 (codes "state")) (at 9 (codes "x")) false false) Warning 7 (codes "state 'x' has no clauses") 9
     × Says UnusedFunction (Function (at 7 (codes "f")) false) Warning 8 (codes "function 'f' is not used") 7
 
--- W1, W2, E05, E10, and the limits of tokens and words.
+-- W1, W2, E10, and the limits of tokens and words.
 abbrev pub OtherExamples : Type 0
 OtherExamples =
     Tells NotSafe [] Warning 1 (codes "not in safe mode, safe mode is used")
@@ -119,7 +119,6 @@ OtherExamples =
     × Tells TooManyTokens [] Error 4 (codes "limit passed: 65536 tokens")
     × Tells TooManyWordsOfSet [] Error 4 (codes "limit passed: 65536 words in a state set")
     × Tells TooManyWords [] Error 4 (codes "limit passed: 1048576 words")
-    × Tells NotRun [] Error 5 (codes "not run yet")
     × Tells EmbeddedC [] Error 10 (codes "embedded C is not supported")
 
 -- Every message.

@@ -3,9 +3,8 @@ use Rattle.std.specs.Prelude.{Bool, true, false, not, List, [], ◌∷◌, ◌++
 use Rattle.std.specs.List.{list_any}
 use Rattle.snl_text.specs.declared.tokens.Pos.{Pos}
 use Rattle.snl_text.specs.declared.tokens.Token.{Token}
-use Rattle.snl_syntax.specs.Definitions.{DefinitionTree, function}
 use Rattle.snl_rules.specs.declared.rules.Broken.{Broken}
-use Rattle.snl_messages.specs.declared.matters.Matter.TheVariants.{TooManyTokens, TooManyWords, NotRun, NotSafe}
+use Rattle.snl_messages.specs.declared.matters.Matter.TheVariants.{TooManyTokens, TooManyWords, NotSafe}
 use Rattle.snl_messages.specs.Wordings.{is_warning}
 use Rattle.snl_messages.specs.Findings.{Finding, finding, of_broken, of_unreached, of_embedded}
 
@@ -23,16 +22,6 @@ of_mode false word = finding NotSafe word.pos [] ∷ []
 abbrev pub of_words : Bool → Token → List Finding
 of_words true word = finding TooManyWords word.pos [] ∷ []
 of_words false word = []
-
--- A function is defined, at the word `program`.
-abbrev pub of_functions : Bool → Token → List Finding
-of_functions true word = finding NotRun word.pos [] ∷ []
-of_functions false word = []
-
--- The definition is a function.
-abbrev pub is_function : DefinitionTree → Bool
-is_function (function f) = true
-is_function _ = false
 
 -- Whether an error is among them.
 abbrev pub has_error : List Finding → Bool

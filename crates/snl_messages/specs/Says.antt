@@ -5,12 +5,11 @@ use Rattle.snl_text.specs.declared.tokens.Token.{Token}
 use Rattle.snl_syntax.specs.Programs.{ProgramTree}
 use Rattle.snl_resolve.specs.declared.options.Options.{Options}
 use Rattle.snl_resolve.specs.Programs.{sites}
-use Rattle.snl_resolve.specs.Variables.{functions_of}
 use Rattle.snl_rules.specs.declared.rules.Broken.{Broken}
 use Rattle.snl_rules.specs.Rules.{IsBroken}
 use Rattle.snl_rules.specs.Reach.{IsUnreached}
 use Rattle.snl_rules.specs.Words.{IsOverfullSet, IsOverfull}
-use Rattle.snl_messages.specs.declared.matters.Matter.TheVariants.{TooManyTokens, TooManyWords, NotRun, NotSafe}
+use Rattle.snl_messages.specs.declared.matters.Matter.TheVariants.{TooManyTokens, TooManyWords, NotSafe}
 use Rattle.snl_messages.specs.declared.messages.Severity.TheVariants.{Error}
 use Rattle.snl_messages.specs.Findings.{Finding, finding, of_broken, of_unreached, of_embedded, of_overfull}
 use Rattle.snl_messages.specs.Given.{IsGiven}
@@ -55,21 +54,9 @@ HasNoError Is = (f : Finding) → Is f → f.said.severity ≡ Error → ⊥
 abbrev pub IsOverWords : Options → ProgramTree → List Pos → Option Pos → Finding → Type 0
 IsOverWords o p embedded beyond f = HasNoError (IsFound o p embedded beyond) × IsOfWords p f
 
--- What is found, with the limits of words.
-abbrev pub IsFoundBefore : Options → ProgramTree → List Pos → Option Pos → Finding → Type 0
-IsFoundBefore o p embedded beyond f = IsFound o p embedded beyond f ⊎ IsOverWords o p embedded beyond f
-
--- E05: a function is defined, and functions do not run yet; at the word `program`.
-abbrev pub IsOfFunctions : ProgramTree → Finding → Type 0
-IsOfFunctions p f = (functions_of p ≡ [] → ⊥) × (f ≡ finding NotRun p.word.pos [])
-
--- It is found only where no error is found otherwise.
-abbrev pub IsNotRun : Options → ProgramTree → List Pos → Option Pos → Finding → Type 0
-IsNotRun o p embedded beyond f = HasNoError (IsFoundBefore o p embedded beyond) × IsOfFunctions p f
-
 -- All that is found.
 abbrev pub IsFoundAtAll : Options → ProgramTree → List Pos → Option Pos → Finding → Type 0
-IsFoundAtAll o p embedded beyond f = IsFoundBefore o p embedded beyond f ⊎ IsNotRun o p embedded beyond f
+IsFoundAtAll o p embedded beyond f = IsFound o p embedded beyond f ⊎ IsOverWords o p embedded beyond f
 
 -- A message is said of a program: under the options in force it is let through, and it is the first for its place and number.
 abbrev pub IsSaidUnder : Options → ProgramTree → List Pos → Option Pos → Said → Type 0

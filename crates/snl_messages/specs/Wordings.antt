@@ -3,7 +3,7 @@ use Rattle.std.specs.Prelude.{ℕ, Bool, true, false, List, [], ◌++◌, codes,
 use Rattle.snl_rules.specs.declared.rules.Rule.{Rule}
 use Rattle.snl_rules.specs.declared.rules.Rule.TheVariants.{TooManySets, TooManyStates, TooManyFunctions, TooManyChannels, TooManyElements, WrongType, WrongDecimal, Undeclared, DeclaredTwice, NoVariable, UnknownFunction, WrongArguments, DelayElsewhere, AssignedTwice, Unassigned, NoFlag, SyncedTwice, NoQueue, StateTwice, StateSetTwice, NoState, StateElsewhere, OutsideLoop, BadInitialiser, WrongArray, NotAssignable, UnknownOption, BadFormat, QueueSize, NoValue, ReturnElsewhere, NeverReached, NotMonitored, UnusedVariable, UnusedFlag, NoClauses, UnusedFunction}
 use Rattle.snl_messages.specs.declared.matters.Matter.{Matter}
-use Rattle.snl_messages.specs.declared.matters.Matter.TheVariants.{AtSite, TooManyTokens, TooManyWordsOfSet, TooManyWords, NotRun, EmbeddedC, NotSafe, Unreached}
+use Rattle.snl_messages.specs.declared.matters.Matter.TheVariants.{AtSite, TooManyTokens, TooManyWordsOfSet, TooManyWords, EmbeddedC, NotSafe, Unreached}
 use Rattle.snl_messages.specs.declared.messages.Severity.{Severity}
 use Rattle.snl_messages.specs.declared.messages.Severity.TheVariants.{Error, Warning}
 
@@ -83,7 +83,6 @@ wording (AtSite rule) = wording_of rule
 wording TooManyTokens = limit 0 (codes "limit passed: 65536 tokens")
 wording TooManyWordsOfSet = limit 5 (codes "limit passed: 65536 words in a state set")
 wording TooManyWords = limit 6 (codes "limit passed: 1048576 words")
-wording NotRun = plain_error 5 (codes "not run yet")
 wording EmbeddedC = plain_error 10 (codes "embedded C is not supported")
 wording NotSafe = plain_warning 1 (codes "not in safe mode, safe mode is used")
 wording Unreached = warning 2 (codes "state '") (codes "' cannot be reached")

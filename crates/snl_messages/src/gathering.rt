@@ -136,20 +136,3 @@ pub fn note_words(
         Ok(())
     }
 }
-
-/// Notes at the word `program` that functions do not run yet, where one is defined. Fails only where memory ends.
-pub fn note_functions(
-    alloc: Global,
-    has_functions: bool,
-    word: Token,
-    entries: &mut Vec<Entry>,
-) -> Result<(), AllocError>
-    ensures { OnOk result (map finding_in entries.new.items
-        ≡ map finding_in entries.old.items ++ spec.of_functions has_functions word.entry) }
-{
-    if has_functions {
-        note(alloc, Matter::NotRun, word.pos, b"", entries)
-    } else {
-        Ok(())
-    }
-}

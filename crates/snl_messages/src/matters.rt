@@ -17,8 +17,6 @@ pub enum Matter {
     TooManyWordsOfSet,
     /// E04: more than 1,048,576 words over all.
     TooManyWords,
-    /// E05: a function is defined, and functions do not run yet.
-    NotRun,
     /// E10: a piece of embedded C.
     EmbeddedC,
     /// W1: safe mode is not asked for.
@@ -191,7 +189,6 @@ impl Matter {
         match self {
             Matter::AtSite(rule) => number_of(rule),
             Matter::TooManyTokens | Matter::TooManyWordsOfSet | Matter::TooManyWords => 4,
-            Matter::NotRun => 5,
             Matter::EmbeddedC => 10,
             Matter::NotSafe => 1,
             Matter::Unreached => 2,
@@ -230,7 +227,6 @@ impl Matter {
             Matter::TooManyTokens => b"limit passed: 65536 tokens",
             Matter::TooManyWordsOfSet => b"limit passed: 65536 words in a state set",
             Matter::TooManyWords => b"limit passed: 1048576 words",
-            Matter::NotRun => b"not run yet",
             Matter::EmbeddedC => b"embedded C is not supported",
             Matter::NotSafe => b"not in safe mode, safe mode is used",
             Matter::Unreached => b"state '",

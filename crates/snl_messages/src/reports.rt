@@ -6,24 +6,21 @@ ghost use Rattle.snl_resolve.specs.Programs as spec;
 ghost use Rattle.snl_messages.specs.Findings.{Finding};
 ghost use Rattle.snl_messages.specs.Entries.{finding_in};
 ghost use Rattle.snl_messages.specs.Given.{IsGiven};
-ghost use Rattle.std.specs.List.{list_any};
-ghost use Rattle.snl_syntax.specs.view.Definitions.{definition_view};
-ghost use Rattle.snl_messages.specs.Lists.{found, is_function};
+ghost use Rattle.snl_messages.specs.Lists.{found};
 ghost use Rattle.snl_messages.specs.Messages.{Said, IsInOrder, said};
-ghost use Rattle.snl_messages.specs.Says.{IsFound, IsOfWords, IsFoundBefore, IsFoundAtAll, IsSaid};
+ghost use Rattle.snl_messages.specs.Says.{IsFound, IsOfWords, IsFoundAtAll, IsSaid};
 ghost use Rattle.snl_messages.specs.Silence.{is_safe, lets_through};
 
 use crate::entries::{Entry, has_error};
 use crate::gathering::{
-    note_beyond, note_embedded, note_functions, note_mode, note_overfull, note_rules,
-    note_unreached, note_words,
+    note_beyond, note_embedded, note_mode, note_overfull, note_rules, note_unreached, note_words,
 };
 use crate::messages::Message;
 use crate::ordering::in_order;
 use crate::silence::{options_in_force, silence};
 use snl_resolve::{Options, Site, sites_of};
 use snl_rules::{Broken, broken_rules, is_overfull, overfull_sets, unreached};
-use snl_syntax::{Def, Program};
+use snl_syntax::Program;
 use snl_text::Token;
 use std::alloc::{AllocError, Global};
 
@@ -87,36 +84,6 @@ fn note_limits(
     Ok(())
 }
 
-/// All that is found of a program but for functions, which do not run yet.
-fn findings_before(
-    alloc: Global,
-    program: &Program,
-    options: Options,
-) -> Result<Vec<Entry>, AllocError>
-    ensures { IfOk result (λ entries. (f : Finding) → Contains (map finding_in entries.items) f
-        ↔ IsFoundBefore options (program_view program.now) program.now.embedded.items
-        program.now.beyond f) }
-{
-    let sites = sites_of(alloc, program)?;
-    let mut entries = findings(alloc, program, sites.as_slice(), options)?;
-    if !has_error(entries.as_slice()) {
-        note_limits(alloc, program, sites.as_slice(), &mut entries)?;
-    }
-    Ok(entries)
-}
-
-/// Whether some definition is a function.
-fn has_functions(definitions: &[Def]) -> bool
-    ensures { result ≡ list_any is_function (map definition_view definitions.now) }
-{
-    for definition in definitions {
-        if let Def::Function(_) = definition {
-            return true;
-        }
-    }
-    false
-}
-
 /// All that is found of a program.
 fn all_findings(
     alloc: Global,
@@ -127,11 +94,10 @@ fn all_findings(
         ↔ IsFoundAtAll options (program_view program.now) program.now.embedded.items
         program.now.beyond f) }
 {
-    let mut entries = findings_before(alloc, program, options)?;
+    let sites = sites_of(alloc, program)?;
+    let mut entries = findings(alloc, program, sites.as_slice(), options)?;
     if !has_error(entries.as_slice()) {
-        let definitions = program.definitions.as_slice();
-        let is_defined = has_functions(definitions);
-        note_functions(alloc, is_defined, program.word, &mut entries)?;
+        note_limits(alloc, program, sites.as_slice(), &mut entries)?;
     }
     Ok(entries)
 }

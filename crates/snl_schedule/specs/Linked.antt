@@ -4,7 +4,7 @@ use Rattle.snl_vm.specs.declared.rows.Rows.{Rows}
 use Rattle.snl_vm.specs.Rows.{row_in, rows_of, numbers_of}
 use Rattle.snl_meaning.specs.World.{World}
 use Rattle.snl_meaning.specs.declared.ties.Tied.{Tied}
-use Rattle.snl_schedule.specs.Arrivals.{AtLink, received_link, is_link_fit}
+use Rattle.snl_schedule.specs.Arrivals.{AtLink, is_link_fit}
 use Rattle.snl_schedule.specs.Instant.{Program}
 
 -- The row of each channel has the numbers of its links.

@@ -5,7 +5,7 @@ ghost use Rattle.snl_vm.specs.Counting.{Adds};
 ghost use Rattle.snl_vm.specs.Memory.{CanGoOn, DoesOn, Keeps};
 ghost use Rattle.snl_vm.specs.Views.{world_of};
 ghost use Rattle.snl_schedule.specs.Instant as spec;
-ghost use Rattle.snl_schedule.specs.Loaded.{CanRunLoaded, loaded, program_of};
+ghost use Rattle.snl_schedule.specs.Loaded.{CanRunLoaded, loaded, program_of, wanted_in};
 ghost use Rattle.snl_schedule.specs.Steps.{owned_steps, round_steps, all_rounds_steps, instant_steps};
 
 use crate::plans::{ProgramContext, SetContext};
@@ -44,7 +44,7 @@ fn round<S: Sink, L: Ledger>(
     sink: &mut S,
     steps: &mut Steps<L>,
 ) -> Result<Turned, Stop>
-    requires ready { CanGoOn S.failures program.now.room memory.old sink.old }
+    requires ready { CanGoOn S.failures (wanted_in program.now) memory.old sink.old }
     requires runs { CanRunLoaded (loaded program.now) }
     ensures does { DoesOn S.told (λ t. t) result memory.old memory.new sink.old sink.new
         (spec.round_of (program_of (loaded program.now))) }
@@ -59,6 +59,7 @@ fn round<S: Sink, L: Ledger>(
             set,
             name: plan.name.as_slice(),
             formats: program.formats,
+            functions: program.functions,
             room: program.room,
         };
         let state_set = SetContext {
@@ -100,7 +101,7 @@ fn exit<S: Sink, L: Ledger>(
     sink: &mut S,
     steps: &mut Steps<L>,
 ) -> Result<(), Stop>
-    requires ready { CanGoOn S.failures program.now.room memory.old sink.old }
+    requires ready { CanGoOn S.failures (wanted_in program.now) memory.old sink.old }
     requires runs { CanRunLoaded (loaded program.now) }
     ensures does { DoesOn S.told (λ x. x) result memory.old memory.new sink.old sink.new
         (spec.exited (program_of (loaded program.now))) }
@@ -122,7 +123,7 @@ pub fn rounds<S: Sink, L: Ledger>(
     sink: &mut S,
     steps: &mut Steps<L>,
 ) -> Result<(), Stop>
-    requires ready { CanGoOn S.failures program.now.room memory.old sink.old }
+    requires ready { CanGoOn S.failures (wanted_in program.now) memory.old sink.old }
     requires runs { CanRunLoaded (loaded program.now) }
     ensures does { DoesOn S.told (λ x. x) result memory.old memory.new sink.old sink.new
         (spec.all_rounds (program_of (loaded program.now))) }
@@ -153,7 +154,7 @@ pub fn instant<S: Sink, L: Ledger>(
     sink: &mut S,
     steps: &mut Steps<L>,
 ) -> Result<(), Stop>
-    requires ready { CanGoOn S.failures program.now.room memory.old sink.old }
+    requires ready { CanGoOn S.failures (wanted_in program.now) memory.old sink.old }
     requires runs { CanRunLoaded (loaded program.now) }
     ensures does { DoesOn S.told (λ x. x) result memory.old memory.new sink.old sink.new
         (spec.instant_of (program_of (loaded program.now)) program.now.budget) }

@@ -8,7 +8,7 @@ ghost use Rattle.snl_schedule.specs.Linked.{HasRows};
 ghost use Rattle.std.proofs.Props.{props};
 
 use crate::goes::Goes;
-use snl_meaning::{Instr, Tied};
+use snl_meaning::{FunctionEntry, Instr, Tied};
 use snl_vm::{PieceContext, Rows};
 use std::alloc::{AllocError, Global};
 
@@ -108,7 +108,7 @@ pub struct SetContext<'t> {
     pub plan: &'t SetPlan,
     /// The code of the program.
     pub code: &'t [Instr],
-    /// The number and the name of the state set, the strings of the program, and the room for operands.
+    /// The number and the name of the state set, the strings and the functions of the program, and the room for operands.
     pub context: PieceContext<'t>,
     ghost named: { context.name.now ≡ plan.now.name.items } by { Prim.hlevel props },
 }
@@ -184,6 +184,8 @@ pub struct ProgramContext<'t> {
     pub code: &'t [Instr],
     /// The strings of the program, by their numbers.
     pub formats: &'t [Vec<u8>],
+    /// The functions of the program, by their numbers.
+    pub functions: &'t [FunctionEntry],
     /// How many operands there is room for. It stands in what is promised of a run, and no code reads it.
     pub room: usize,
     /// How many ticks an instant may take.

@@ -5,10 +5,10 @@ ghost use Rattle.std.specs.Bool.{OnTrue};
 ghost use Rattle.std.specs.List.{list_all};
 ghost use Rattle.snl_vm.specs.Counting.{Adds};
 ghost use Rattle.snl_vm.specs.Memory.{CanGoOn, DoesOn, Keeps};
-ghost use Rattle.snl_vm.specs.Running.{context_by};
+ghost use Rattle.snl_vm.specs.Running.{context_by, wanted_by};
 ghost use Rattle.snl_vm.specs.Views.{world_of};
 ghost use Rattle.snl_schedule.specs.Instant as spec;
-ghost use Rattle.snl_schedule.specs.Loaded.{CanRunLoaded, loaded, own_context, program_of};
+ghost use Rattle.snl_schedule.specs.Loaded.{CanRunLoaded, loaded, own_context, program_of, wanted_in};
 ghost use Rattle.snl_schedule.specs.Plans.{CanTurn, context_on, set_on, state_at};
 ghost use Rattle.snl_schedule.specs.Steps.{owned_steps, begun_steps, begun_sets_steps, opened_steps, started_steps};
 
@@ -104,7 +104,7 @@ fn begin<S: Sink, L: Ledger>(
     sink: &mut S,
     steps: &mut Steps<L>,
 ) -> Result<(), Stop>
-    requires ready { CanGoOn S.failures state_set.now.context.room memory.old sink.old }
+    requires ready { CanGoOn S.failures (wanted_by state_set.now.context) memory.old sink.old }
     requires runs { CanTurn state_set.now }
     ensures does { DoesOn S.told (λ x. x) result memory.old memory.new sink.old sink.new
         (spec.begun (set_on state_set.now)) }
@@ -136,7 +136,7 @@ fn begin_sets<S: Sink, L: Ledger>(
     sink: &mut S,
     steps: &mut Steps<L>,
 ) -> Result<(), Stop>
-    requires ready { CanGoOn S.failures program.now.room memory.old sink.old }
+    requires ready { CanGoOn S.failures (wanted_in program.now) memory.old sink.old }
     requires runs { CanRunLoaded (loaded program.now) }
     ensures does { DoesOn S.told (λ x. x) result memory.old memory.new sink.old sink.new
         (spec.begun_sets (program_of (loaded program.now)).sets) }
@@ -149,6 +149,7 @@ fn begin_sets<S: Sink, L: Ledger>(
             set,
             name: plan.name.as_slice(),
             formats: program.formats,
+            functions: program.functions,
             room: program.room,
         };
         let state_set = SetContext {
@@ -177,12 +178,13 @@ fn first_name<'t>(program: &ProgramContext<'t>) -> &'t [u8]
 /// What the program's own blocks run with: the copy and the name of the first state set.
 fn own_context<'t>(program: &ProgramContext<'t>) -> PieceContext<'t>
     ensures means { context_by result ≡ own_context (loaded program.now) }
-    ensures room { result.room ≡ program.now.room }
+    ensures room { wanted_by result ≡ wanted_in program.now }
 {
     PieceContext {
         set: 0,
         name: first_name(program),
         formats: program.formats,
+        functions: program.functions,
         room: program.room,
     }
 }
@@ -194,7 +196,7 @@ fn enter_program<S: Sink, L: Ledger>(
     sink: &mut S,
     steps: &mut Steps<L>,
 ) -> Result<(), Stop>
-    requires ready { CanGoOn S.failures program.now.room memory.old sink.old }
+    requires ready { CanGoOn S.failures (wanted_in program.now) memory.old sink.old }
     requires runs { CanRunLoaded (loaded program.now) }
     ensures does { DoesOn S.told (λ x. x) result memory.old memory.new sink.old sink.new
         (spec.owned (program_of (loaded program.now)) (program_of (loaded program.now)).entry) }
@@ -214,7 +216,7 @@ pub fn leave_program<S: Sink, L: Ledger>(
     sink: &mut S,
     steps: &mut Steps<L>,
 ) -> Result<(), Stop>
-    requires ready { CanGoOn S.failures program.now.room memory.old sink.old }
+    requires ready { CanGoOn S.failures (wanted_in program.now) memory.old sink.old }
     requires runs { CanRunLoaded (loaded program.now) }
     ensures does { DoesOn S.told (λ x. x) result memory.old memory.new sink.old sink.new
         (spec.owned (program_of (loaded program.now)) (program_of (loaded program.now)).exit) }
@@ -234,7 +236,7 @@ fn open<S: Sink, L: Ledger>(
     sink: &mut S,
     steps: &mut Steps<L>,
 ) -> Result<(), Stop>
-    requires ready { CanGoOn S.failures program.now.room memory.old sink.old }
+    requires ready { CanGoOn S.failures (wanted_in program.now) memory.old sink.old }
     requires runs { CanRunLoaded (loaded program.now) }
     ensures does { DoesOn S.told (λ x. x) result memory.old memory.new sink.old sink.new
         (spec.opened (program_of (loaded program.now))) }
@@ -256,7 +258,7 @@ pub fn start<S: Sink, L: Ledger>(
     sink: &mut S,
     steps: &mut Steps<L>,
 ) -> Result<(), Stop>
-    requires ready { CanGoOn S.failures program.now.room memory.old sink.old }
+    requires ready { CanGoOn S.failures (wanted_in program.now) memory.old sink.old }
     requires runs { CanRunLoaded (loaded program.now) }
     ensures does { DoesOn S.told (λ x. x) result memory.old memory.new sink.old sink.new
         (spec.started (program_of (loaded program.now))) }

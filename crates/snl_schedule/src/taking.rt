@@ -5,7 +5,7 @@ ghost use Rattle.snl_schedule.specs.Event as spec;
 ghost use Rattle.snl_vm.specs.Counting.{Adds};
 ghost use Rattle.snl_vm.specs.Memory.{CanGoOn, DoesOn, KeepsButTime};
 ghost use Rattle.snl_vm.specs.Views.{world_of};
-ghost use Rattle.snl_schedule.specs.Loaded.{CanRunLoaded, loaded, program_of};
+ghost use Rattle.snl_schedule.specs.Loaded.{CanRunLoaded, loaded, program_of, wanted_in};
 ghost use Rattle.snl_schedule.specs.Steps.{all_wakes_steps, event_steps, passed_steps, line_steps};
 
 use crate::arrivals::{answer, connect, fit_links, receive};
@@ -67,7 +67,7 @@ fn wake_up<S: Sink, L: Ledger>(
     sink: &mut S,
     steps: &mut Steps<L>,
 ) -> Result<(), Stop>
-    requires ready { CanGoOn S.failures program.now.room memory.old sink.old }
+    requires ready { CanGoOn S.failures (wanted_in program.now) memory.old sink.old }
     requires runs { CanRunLoaded (loaded program.now) }
     ensures does { DoesOn S.told (λ x. x) result memory.old memory.new sink.old sink.new
         (spec.all_wakes (program_of (loaded program.now)) program.now.budget ms) }
@@ -101,7 +101,7 @@ fn happen<S: Sink, L: Ledger>(
     sink: &mut S,
     steps: &mut Steps<L>,
 ) -> Result<(), Stop>
-    requires ready { CanGoOn S.failures program.now.room memory.old sink.old }
+    requires ready { CanGoOn S.failures (wanted_in program.now) memory.old sink.old }
     requires runs { CanRunLoaded (loaded program.now) }
     ensures does { DoesOn S.told (λ x. x) result memory.old memory.new sink.old sink.new
         (λ w. spec.event_by (program_of (loaded program.now)) program.now.budget ms event.now
@@ -129,7 +129,7 @@ fn pass<S: Sink, L: Ledger>(
     sink: &mut S,
     steps: &mut Steps<L>,
 ) -> Result<(), Stop>
-    requires ready { CanGoOn S.failures program.now.room memory.old sink.old }
+    requires ready { CanGoOn S.failures (wanted_in program.now) memory.old sink.old }
     requires runs { CanRunLoaded (loaded program.now) }
     ensures does { DoesOn S.told (λ x. x) result memory.old memory.new sink.old sink.new
         (spec.passed (program_of (loaded program.now)) program.now.budget ms event.now) }
@@ -159,7 +159,7 @@ pub fn take<S: Sink, L: Ledger>(
     sink: &mut S,
     steps: &mut Steps<L>,
 ) -> Result<Live, Stop>
-    requires ready { CanGoOn S.failures program.now.room memory.old sink.old }
+    requires ready { CanGoOn S.failures (wanted_in program.now) memory.old sink.old }
     requires runs { CanRunLoaded (loaded program.now) }
     ensures does { DoesOn S.told (λ live. live) result memory.old memory.new sink.old sink.new
         (spec.line_of (program_of (loaded program.now)) program.now.budget ms event.now) }

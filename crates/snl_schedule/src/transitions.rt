@@ -5,7 +5,7 @@ ghost use Rattle.snl_output.specs.Devices.{counted, Wrote};
 ghost use Rattle.snl_output.specs.Lines.{go_line};
 ghost use Rattle.snl_vm.specs.Counting.{Adds};
 ghost use Rattle.snl_vm.specs.Memory.{CanGoOn, DoesOn, Keeps};
-ghost use Rattle.snl_vm.specs.Running.{context_by};
+ghost use Rattle.snl_vm.specs.Running.{context_by, wanted_by};
 ghost use Rattle.snl_vm.specs.Views.{world_of};
 ghost use Rattle.snl_schedule.specs.Goes.{name_at, target_name};
 ghost use Rattle.snl_schedule.specs.Plans.{CanDo, CanRun, CanTurn, block_at, clause_on, context_on, set_on, state_at};
@@ -39,7 +39,7 @@ pub fn do_block<S: Sink, L: Ledger>(
     sink: &mut S,
     steps: &mut Steps<L>,
 ) -> Result<(), Stop>
-    requires ready { CanGoOn S.failures context.now.room memory.old sink.old }
+    requires ready { CanGoOn S.failures (wanted_by context.now) memory.old sink.old }
     requires runs { CanDo (context_by context.now) code.now start }
     ensures does { DoesOn S.told (λ x. x) result memory.old memory.new sink.old sink.new
         (block_at (context_by context.now) code.now start) }
@@ -65,7 +65,7 @@ fn do_if_due<S: Sink, L: Ledger>(
     sink: &mut S,
     steps: &mut Steps<L>,
 ) -> Result<(), Stop>
-    requires ready { CanGoOn S.failures state_set.now.context.room memory.old sink.old }
+    requires ready { CanGoOn S.failures (wanted_by state_set.now.context) memory.old sink.old }
     requires runs { CanDo (context_on state_set.now) state_set.now.code.now start }
     ensures does { DoesOn S.told (λ x. x) result memory.old memory.new sink.old sink.new
         (spec.if_due is_due (block_at (context_on state_set.now) state_set.now.code.now start)) }
@@ -111,7 +111,7 @@ fn leave<S: Sink, L: Ledger>(
     sink: &mut S,
     steps: &mut Steps<L>,
 ) -> Result<(), Stop>
-    requires ready { CanGoOn S.failures state_set.now.context.room memory.old sink.old }
+    requires ready { CanGoOn S.failures (wanted_by state_set.now.context) memory.old sink.old }
     requires runs { CanTurn state_set.now }
     ensures does { DoesOn S.told (λ x. x) result memory.old memory.new sink.old sink.new
         (spec.left_for (set_on state_set.now) from to) }
@@ -137,7 +137,7 @@ fn come<S: Sink, L: Ledger>(
     sink: &mut S,
     steps: &mut Steps<L>,
 ) -> Result<(), Stop>
-    requires ready { CanGoOn S.failures state_set.now.context.room memory.old sink.old }
+    requires ready { CanGoOn S.failures (wanted_by state_set.now.context) memory.old sink.old }
     requires runs { CanTurn state_set.now }
     ensures does { DoesOn S.told (λ x. x) result memory.old memory.new sink.old sink.new
         (spec.come_to (set_on state_set.now) from to) }
@@ -169,7 +169,7 @@ fn cross<S: Sink, L: Ledger>(
     sink: &mut S,
     steps: &mut Steps<L>,
 ) -> Result<Turned, Stop>
-    requires ready { CanGoOn S.failures state_set.now.context.room memory.old sink.old }
+    requires ready { CanGoOn S.failures (wanted_by state_set.now.context) memory.old sink.old }
     requires runs { CanTurn state_set.now }
     ensures does { DoesOn S.told (λ t. t) result memory.old memory.new sink.old sink.new
         (spec.crossed (set_on state_set.now) from to) }
@@ -234,7 +234,7 @@ fn arrive<S: Sink, L: Ledger>(
     sink: &mut S,
     steps: &mut Steps<L>,
 ) -> Result<Turned, Stop>
-    requires ready { CanGoOn S.failures state_set.now.context.room memory.old sink.old }
+    requires ready { CanGoOn S.failures (wanted_by state_set.now.context) memory.old sink.old }
     requires runs { CanTurn state_set.now }
     ensures does { DoesOn S.told (λ t. t) result memory.old memory.new sink.old sink.new
         (spec.arrived (set_on state_set.now) transition.from transition.target) }
@@ -273,7 +273,7 @@ fn act<S: Sink, L: Ledger>(
     sink: &mut S,
     steps: &mut Steps<L>,
 ) -> Result<Turned, Stop>
-    requires ready { CanGoOn S.failures state_set.now.context.room memory.old sink.old }
+    requires ready { CanGoOn S.failures (wanted_by state_set.now.context) memory.old sink.old }
     requires clause { CanRun (context_on state_set.now) state_set.now.code.now clause }
     requires runs { CanTurn state_set.now }
     ensures does { DoesOn S.told (λ t. t) result memory.old memory.new sink.old sink.new
@@ -311,7 +311,7 @@ pub fn transit<S: Sink, L: Ledger>(
     sink: &mut S,
     steps: &mut Steps<L>,
 ) -> Result<Turned, Stop>
-    requires ready { CanGoOn S.failures state_set.now.context.room memory.old sink.old }
+    requires ready { CanGoOn S.failures (wanted_by state_set.now.context) memory.old sink.old }
     requires clause { CanRun (context_on state_set.now) state_set.now.code.now clause }
     requires runs { CanTurn state_set.now }
     ensures does { DoesOn S.told (λ t. t) result memory.old memory.new sink.old sink.new

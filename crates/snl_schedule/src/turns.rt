@@ -3,7 +3,7 @@
 ghost use Rattle.std.specs.Prelude.{◌≡◌, ℕ, map, slice_get, IfOk};
 ghost use Rattle.snl_vm.specs.Counting.{Adds};
 ghost use Rattle.snl_vm.specs.Memory.{CanGoOn, DoesOn, Keeps};
-ghost use Rattle.snl_vm.specs.Running.{context_by};
+ghost use Rattle.snl_vm.specs.Running.{context_by, wanted_by};
 ghost use Rattle.snl_meaning.specs.World.{World, copy_of};
 ghost use Rattle.snl_vm.specs.Views.{world_of};
 ghost use Rattle.snl_schedule.specs.Plans.{CanDo, CanTest, CanFire, CanRunAll, CanTurn, block_at, held_at, clause_of, clause_by, context_on, set_on};
@@ -26,7 +26,7 @@ fn holds<S: Sink, L: Ledger>(
     sink: &mut S,
     steps: &mut Steps<L>,
 ) -> Result<bool, Stop>
-    requires ready { CanGoOn S.failures state_set.now.context.room memory.old sink.old }
+    requires ready { CanGoOn S.failures (wanted_by state_set.now.context) memory.old sink.old }
     requires runs { CanTest (context_on state_set.now) state_set.now.code.now condition }
     ensures does { DoesOn S.told (λ b. b) result memory.old memory.new sink.old sink.new
         (held_at (context_on state_set.now) state_set.now.code.now condition) }
@@ -58,7 +58,7 @@ fn first_true<S: Sink, L: Ledger>(
     sink: &mut S,
     steps: &mut Steps<L>,
 ) -> Result<Option<ClausePlan>, Stop>
-    requires ready { CanGoOn S.failures state_set.now.context.room memory.old sink.old }
+    requires ready { CanGoOn S.failures (wanted_by state_set.now.context) memory.old sink.old }
     requires runs { CanRunAll (context_on state_set.now) state_set.now.code.now clauses.now }
     ensures runs { IfOk result (CanFire (context_on state_set.now) state_set.now.code.now) }
     ensures does { DoesOn S.told (clause_by (context_on state_set.now) state_set.now.code.now)
@@ -103,7 +103,7 @@ fn fire<S: Sink, L: Ledger>(
     sink: &mut S,
     steps: &mut Steps<L>,
 ) -> Result<Turned, Stop>
-    requires ready { CanGoOn S.failures state_set.now.context.room memory.old sink.old }
+    requires ready { CanGoOn S.failures (wanted_by state_set.now.context) memory.old sink.old }
     requires clause { CanFire (context_on state_set.now) state_set.now.code.now clause }
     requires runs { CanTurn state_set.now }
     ensures does { DoesOn S.told (λ t. t) result memory.old memory.new sink.old sink.new
@@ -145,7 +145,7 @@ fn try_state<S: Sink, L: Ledger>(
     sink: &mut S,
     steps: &mut Steps<L>,
 ) -> Result<Turned, Stop>
-    requires ready { CanGoOn S.failures state_set.now.context.room memory.old sink.old }
+    requires ready { CanGoOn S.failures (wanted_by state_set.now.context) memory.old sink.old }
     requires runs { CanTurn state_set.now }
     ensures does { DoesOn S.told (λ t. t) result memory.old memory.new sink.old sink.new
         (spec.tried (set_on state_set.now) from) }
@@ -177,7 +177,7 @@ pub fn turn<S: Sink, L: Ledger>(
     sink: &mut S,
     steps: &mut Steps<L>,
 ) -> Result<Turned, Stop>
-    requires ready { CanGoOn S.failures state_set.now.context.room memory.old sink.old }
+    requires ready { CanGoOn S.failures (wanted_by state_set.now.context) memory.old sink.old }
     requires runs { CanTurn state_set.now }
     ensures does { DoesOn S.told (λ t. t) result memory.old memory.new sink.old sink.new
         (spec.turn_of (set_on state_set.now)) }
@@ -210,7 +210,7 @@ pub fn do_told<S: Sink, L: Ledger>(
     sink: &mut S,
     steps: &mut Steps<L>,
 ) -> Result<(), Stop>
-    requires ready { CanGoOn S.failures context.now.room memory.old sink.old }
+    requires ready { CanGoOn S.failures (wanted_by context.now) memory.old sink.old }
     requires runs { CanDo (context_by context.now) code.now start }
     ensures does { DoesOn S.told (λ x. x) result memory.old memory.new sink.old sink.new
         (λ w. spec.told_fault context.now.name.now

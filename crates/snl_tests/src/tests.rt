@@ -3,6 +3,7 @@
 mod beginnings;
 mod calls;
 mod footprints;
+mod functions;
 mod hearing;
 mod programs;
 mod tables;

@@ -3,3 +3,4 @@ pub mod Still
 pub mod Silent
 pub mod Ending
 pub mod Answering
+pub mod RunAnswers

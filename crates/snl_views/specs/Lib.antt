@@ -2,3 +2,5 @@ pub mod Answers
 pub mod Awaits
 pub mod Laws
 pub mod Prepared
+pub mod Runs
+pub mod Staged

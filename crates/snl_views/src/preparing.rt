@@ -31,7 +31,7 @@ pub trait Prepares {
 }
 
 /// What the run of a checked program needs that is lent.
-fn prepared_of<'a>(
+pub(crate) fn prepared_of<'a>(
     alloc: Global,
     checked: &Checked<'a>,
     macros: &Macros,

@@ -29,7 +29,7 @@ pub(crate) struct Start {
 }
 
 /// The names of a machine's channels, by their numbers.
-fn names_of(alloc: Global, machine: &Machine) -> Result<IndexSet<Vec<u8>>, AllocError> {
+pub(crate) fn names_of(alloc: Global, machine: &Machine) -> Result<IndexSet<Vec<u8>>, AllocError> {
     let mut names = IndexSet::new(alloc);
     for number in 0..usize::MAX {
         let Some(name) = machine.channel_name(number) else {

@@ -1,5 +1,5 @@
 -- One member of a list changes, as its view does; words are copied one by one.
-use Rattle.std.proofs.Common.{◌≡◌, ◌∙◌, ◌+◌, ◌-◌, ◌<◌, ◌≤◌, refl, ℕ, zero, suc, ℤ, pos, List, [], ◌∷◌, ap, sym, arith, map, length, get_or, slice_set, slice_index_or}
+use Rattle.std.proofs.Common.{◌≡◌, ◌∙◌, ◌+◌, ◌-◌, ◌<◌, ℕ, zero, suc, ℤ, pos, List, [], ◌∷◌, ap, sym, arith, map, length, get_or, slice_set, slice_index_or}
 use Rattle.snl_meaning.specs.World.{words_at, overwritten}
 
 -- a member whose view was changed

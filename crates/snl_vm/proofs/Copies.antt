@@ -1,6 +1,6 @@
 -- The copies of a store, seen as those of its world.
-use Rattle.std.proofs.Common.{◌≡◌, ◌∙◌, ◌+◌, ◌-◌, ◌<◌, ℕ, zero, suc, ℤ, pos, List, [], ◌∷◌, ap, sym, arith, map, length, get_or, slice_set, slice_index_or}
-use Rattle.snl_meaning.specs.World.{no_copy, zeroed}
+use Rattle.std.proofs.Common.{◌≡◌, ◌∙◌, ◌+◌, ◌-◌, ◌<◌, refl, ℕ, zero, suc, ℤ, pos, Bool, true, false, List, [], ◌∷◌, ap, sym, arith, map, length, get_or, slice_set, slice_index_or}
+use Rattle.snl_meaning.specs.World.{World, copy_of, no_copy, with_words_for, words_for, zeroed}
 use Rattle.snl_vm.specs.declared.stores.SetMemory.{SetMemory}
 use Rattle.snl_vm.specs.Views.{copy_view}
 
@@ -21,3 +21,9 @@ zeroed_more words place n count less =
     let after : place + (n + 1) ≡ suc (place + n) = omega arith in
     let left : count - n ≡ suc (count - (n + 1)) = omega (arith, less) in
     ap (λ p. zeroed (slice_set words (place + n) (pos 0)) p (count - (n + 1))) after ∙ sym (ap (zeroed words (place + n)) left)
+
+-- the words of a variable that is not shared are those of the copy
+pub unshared : (set : ℕ) (is_shared : Bool) (words : List ℤ → List ℤ) (w : World) → is_shared ≡ false →
+    record w { copies = slice_set w.copies set (record (copy_of set w) { words = words (copy_of set w).words }) } ≡ with_words_for set is_shared (words (words_for set is_shared w)) w
+unshared set false words w is = refl
+unshared set true words w is = absurd (cc)

@@ -1,10 +1,9 @@
 -- The words of a store are those of its world's frame.
 use Rattle.std.proofs.Common.{◌≡◌, ◌∙◌, ◌+◌, ◌*◌, refl, sym, ap, ℕ, List, [], ◌∷◌, map, length, Bool}
 use Rattle.std.specs.List.{sum_by}
-use Rattle.std.proofs.lemmas.List.{length-map}
 use Rattle.std.proofs.lemmas.List.FromFn.{length-map-range_with_len}
 use Rattle.std.proofs.lemmas.List.Sums.{sum_by-cons}
-use Rattle.snl_meaning.specs.Frames.{Frame, at_time, frame_of, room_in}
+use Rattle.snl_meaning.specs.Frames.{at_time, frame_of, room_in}
 use Rattle.snl_meaning.specs.World as world
 use Rattle.snl_vm.specs.declared.marks.Marks.{Marks}
 use Rattle.snl_vm.specs.declared.queues.Queue.{Queue}
@@ -43,7 +42,7 @@ marks-words ms =
 pub words_are_of_the_frame : WordsAreOfTheFrame
 words_are_of_the_frame s =
     let frame = frame_of (world_of s) in
-    let rest = λ (a b c : ℕ). a + length s.buffers.items + b + c + length s.flags.items + length s.waiting.items + (length s.ups.items + length s.valued.items) + 5 in
+    let rest = λ (a b c : ℕ). a + length s.shared.items + length s.buffers.items + b + c + length s.flags.items + length s.waiting.items + (length s.ups.items + length s.valued.items) + 5 in
     ap (λ (a : ℕ). rest a (sum_by queue_words s.queues.items) (sum_by mark_words s.marks.items)) (copies-words s.copies.items)
     ∙ ap (λ (b : ℕ). rest (sum_by (λ (words : ℕ). words + 2) frame.words) b (sum_by mark_words s.marks.items)) (queues-words s.queues.items)
     ∙ ap (λ (c : ℕ). rest (sum_by (λ (words : ℕ). words + 2) frame.words) (sum_by (λ (room : ℕ × ℕ). room.0 * room.1) frame.queues) c) (marks-words s.marks.items)

@@ -4,10 +4,12 @@ pub mod RowLaws
 pub mod Copies
 pub mod Meets
 pub mod OperandLaws
-pub mod Elements
+pub mod Spaced
 pub mod Silence
 pub mod Frames
 pub mod UnderWay
+pub mod Onward
+pub mod Binding
 pub mod Beginnings
 pub mod Changes
 pub mod Items

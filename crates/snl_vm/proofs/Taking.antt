@@ -3,7 +3,7 @@ use Rattle.std.proofs.Common.{◌≡◌, ◌∙◌, ◌≤◌, refl, sym, ap, ar
 use Rattle.snl_meaning.specs.Asking.{drained, taken_of}
 use Rattle.snl_meaning.specs.declared.ties.Tied.{Tied}
 use Rattle.snl_meaning.specs.Links.{no_queue, queue_of, with_elements, with_items, unflagged}
-use Rattle.snl_meaning.specs.Ran.{Ran, Gives}
+use Rattle.snl_meaning.specs.Ran.{Gives}
 use Rattle.snl_meaning.specs.World.{Queue, SetMemory, World, no_copy, copy_of, overwritten}
 use Rattle.snl_vm.specs.Asking.{taken_out}
 use Rattle.snl_vm.specs.Queues.{is_there, oldest_to}

@@ -1,6 +1,8 @@
-//! What code runs with: its state set, the texts that its lines say, and the room for its operands.
+//! What code runs with: its state set, the texts that its lines say, the functions that it calls, and the room for its operands.
 
 ghost use Rattle.std.specs.Prelude.{◌≡◌};
+
+use snl_meaning::FunctionEntry;
 
 /// What a piece of code runs with.
 #[derive(Clone, Copy)]
@@ -11,6 +13,8 @@ pub struct PieceContext<'t> {
     pub name: &'t [u8],
     /// The strings of the program, as spelled with their quotes, by the numbers that instructions give them.
     pub formats: &'t [Vec<u8>],
+    /// The functions of the program, by the numbers that instructions give them.
+    pub functions: &'t [FunctionEntry],
     /// How many operands there is room for. It stands in what is promised of a run, and no code reads it.
     pub room: usize,
 }

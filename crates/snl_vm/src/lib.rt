@@ -2,8 +2,10 @@
 #![tactic(auto)]
 
 mod asking;
+mod calling;
 mod contexts;
 mod counting;
+mod elements;
 mod homes;
 mod leads;
 mod linking;

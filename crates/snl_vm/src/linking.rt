@@ -1,38 +1,18 @@
 //! What is done with links: words that are copied to their buffers and queues or from them, event flags, marks.
 
-ghost use Rattle.std.specs.Prelude.{◌≡◌, ◌+◌, [], map, nat_lt, pos, slice_index_or, slice_set, true, if◌then◌else◌};
+ghost use Rattle.std.specs.Prelude.{◌≡◌, [], map, nat_lt, slice_index_or, slice_set, true, if◌then◌else◌};
 ghost use Rattle.snl_meaning.specs.Links as spec;
 ghost use Rattle.snl_meaning.specs.World.{copy_of, overwritten, words_at};
 ghost use Rattle.snl_vm.specs.Marks.{marks_of};
 ghost use Rattle.snl_vm.specs.Queues.{queue_view};
 ghost use Rattle.snl_vm.specs.Views.{world_of};
 
+use crate::elements::{put_after, word_after};
 use crate::homes::Homes;
 use crate::marks::Marks;
 use crate::queues::Queue;
 use crate::stores::Store;
 use snl_meaning::Tied;
-
-/// A word that stands so many words after a place; 0 where there is none.
-pub fn word_after(words: &[i64], place: usize, after: usize) -> i64
-    ensures { slice_index_or words.now (place + after) (pos 0) ≡ result }
-{
-    match place.checked_add(after) {
-        Some(at) => words.get(at).copied().unwrap_or(0),
-        None => 0,
-    }
-}
-
-/// Puts a number into the word that stands so many words after a place, if there is one.
-pub fn put_after(words: &mut Vec<i64>, place: usize, after: usize, number: i64)
-    ensures { words.new.items ≡ slice_set words.old.items (place + after) number }
-{
-    if let Some(at) = place.checked_add(after) {
-        if let Some(word) = words.get_mut(at) {
-            *word = number;
-        }
-    }
-}
 
 /// Puts numbers into words, from a place on. Those for which there is no word are dropped.
 pub fn fill(words: &mut Vec<i64>, place: usize, numbers: &[i64])

@@ -8,6 +8,6 @@ use crate::stores::Store;
 pub struct Memory {
     /// What the state sets, the links and the channels hold, and the clock.
     pub store: Store,
-    /// Room for the operands of the piece of code that runs.
+    /// Room for the operands of the piece of code that runs, and for the calls that it makes.
     pub operands: Operands,
 }

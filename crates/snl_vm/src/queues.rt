@@ -4,7 +4,7 @@ ghost use Rattle.std.specs.Prelude.{◌≡◌, ◌+◌, ◌*◌, ◌<◌, ◌≤
 ghost use Rattle.snl_meaning.specs.Queues.{kept, put_in};
 ghost use Rattle.snl_meaning.specs.World.{words_at, overwritten};
 
-use crate::linking::{put_after, word_after};
+use crate::elements::{put_after, word_after};
 use circular_buffer::HeapCircularBuffer;
 use std::alloc::{AllocError, Global};
 

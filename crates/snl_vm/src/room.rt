@@ -47,6 +47,7 @@ pub fn words_with(store: &Store, others: usize) -> Option<u64>
     ensures { IfSome result (λ words. words ≡ spec.store_words store.now + others) }
 {
     let words = with_copies(5, store.copies.as_slice())?;
+    let words = words.checked_add(store.shared.len() as u64)?;
     let words = words.checked_add(store.buffers.len() as u64)?;
     let words = with_queues(words, store.queues.as_slice())?;
     let words = with_marks(words, store.marks.as_slice())?;

@@ -1,7 +1,8 @@
 //! The store: all that a run reads and changes.
 
-ghost use Rattle.std.specs.Prelude.{◌≡◌, ◌+◌, [], false, pos, slice_get, slice_index_or, slice_set};
+ghost use Rattle.std.specs.Prelude.{◌≡◌, ◌+◌, [], false, pos, slice_get, slice_index_or};
 
+use crate::elements::{put_after, word_after, zero_from};
 use crate::homes::Homes;
 use crate::marks::Marks;
 use crate::queues::Queue;
@@ -33,6 +34,8 @@ pub struct Store {
     pub due: Option<u64>,
     /// By state set.
     pub copies: Vec<SetMemory>,
+    /// The elements of the parameters and variables of all functions, one variable after another. All state sets share them.
+    pub shared: Vec<i64>,
     /// By event flag, which all state sets share: whether it is set.
     pub flags: Vec<bool>,
     /// By channel: its name, which never changes.
@@ -58,45 +61,6 @@ pub struct Store {
     pub awaited: usize,
 }
 
-impl SetMemory {
-    ghost use Rattle.snl_vm.specs.Views.{copy_view};
-    ghost use Rattle.snl_meaning.specs.World.{zeroed};
-
-    /// A word that stands so many words after a place; 0 where there is none.
-    pub fn word(&self, place: usize, after: usize) -> i64
-        ensures { slice_index_or self.now.words.items (place + after) (pos 0) ≡ result }
-    {
-        match place.checked_add(after) {
-            Some(at) => self.words.get(at).copied().unwrap_or(0),
-            None => 0,
-        }
-    }
-
-    /// Puts a number into such a word, where there is one.
-    pub fn set_word(&mut self, place: usize, after: usize, number: i64)
-        ensures { copy_view self.new ≡ record (copy_view self.old) {
-          words = slice_set self.old.words.items (place + after) number;
-        } }
-    {
-        if let Some(at) = place.checked_add(after) {
-            if let Some(word) = self.words.get_mut(at) {
-                *word = number;
-            }
-        }
-    }
-
-    /// Makes so many words 0 from a place on.
-    pub fn zero(&mut self, place: usize, count: usize)
-        ensures { copy_view self.new ≡ record (copy_view self.old) {
-          words = zeroed self.old.words.items place count;
-        } }
-    {
-        for number in 0..count {
-            self.set_word(place, number, 0);
-        }
-    }
-}
-
 impl Store {
     ghost use Rattle.snl_vm.specs.Views.{world_of};
     ghost use Rattle.snl_meaning.specs.Links.{home_of, link_at};
@@ -107,10 +71,7 @@ impl Store {
         ensures { slice_index_or (copy_of set (world_of self.now)).words (place + after) (pos 0)
             ≡ result }
     {
-        match self.copies.get(set) {
-            Some(copy) => copy.word(place, after),
-            None => 0,
-        }
+        word_after(self.words(set), place, after)
     }
 
     /// All words of a state set's copy, one variable after another; none where there is no such copy.
@@ -127,15 +88,21 @@ impl Store {
     pub fn element(&self, set: usize, variable: Variable, element: usize) -> i64
         ensures { element_of set variable element (world_of self.now) ≡ result }
     {
-        self.word(set, variable.place, element)
+        if variable.is_shared {
+            word_after(self.shared.as_slice(), variable.place, element)
+        } else {
+            self.word(set, variable.place, element)
+        }
     }
 
     /// Puts a number into an element, where there is one.
     pub fn set_element(&mut self, set: usize, variable: Variable, element: usize, number: i64)
         ensures { world_of self.new ≡ with_element set variable element number (world_of self.old) }
     {
-        if let Some(copy) = self.copies.get_mut(set) {
-            copy.set_word(variable.place, element, number);
+        if variable.is_shared {
+            put_after(&mut self.shared, variable.place, element, number);
+        } else if let Some(copy) = self.copies.get_mut(set) {
+            put_after(&mut copy.words, variable.place, element, number);
         }
     }
 
@@ -143,8 +110,10 @@ impl Store {
     pub fn clear(&mut self, set: usize, variable: Variable)
         ensures { world_of self.new ≡ with_zeros set variable (world_of self.old) }
     {
-        if let Some(copy) = self.copies.get_mut(set) {
-            copy.zero(variable.place, variable.size);
+        if variable.is_shared {
+            zero_from(&mut self.shared, variable.place, variable.size);
+        } else if let Some(copy) = self.copies.get_mut(set) {
+            zero_from(&mut copy.words, variable.place, variable.size);
         }
     }
 

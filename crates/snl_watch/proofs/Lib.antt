@@ -1,1 +1,5 @@
+pub mod ExtraLaws
+pub mod FoldLaws
+pub mod LineLaws
+pub mod TurningLaws
 pub mod Windows

@@ -23,8 +23,13 @@ pub fn checked<'a>(alloc: Global, lexed: &Lexed<'a>) -> Result<Checked<'a>, Fail
     Ok(outcome.checked.ok_or("not accepted")?)
 }
 
-/// The machine of a program with a budget of 10. It outlives the bytes of the source, which end here.
+/// The machine of a program with a budget of 10.
 pub fn loaded(alloc: Global, program: &[u8]) -> Result<Box<Machine>, Fail> {
+    loaded_with(alloc, program, 10)
+}
+
+/// The machine of a program with a budget. It outlives the bytes of the source, which end here.
+pub fn loaded_with(alloc: Global, program: &[u8], budget: u32) -> Result<Box<Machine>, Fail> {
     let mut source = Vec::new(alloc);
     source.extend_from_slice(program)?;
     let lexed = lex(alloc, source.as_slice())?;
@@ -32,7 +37,7 @@ pub fn loaded(alloc: Global, program: &[u8]) -> Result<Box<Machine>, Fail> {
     let macros = Macros {
         text: b"".as_slice(),
     };
-    let machine = Machine::load(alloc, checked, &macros, 10)?;
+    let machine = Machine::load(alloc, checked, &macros, budget)?;
     Ok(Box::new(alloc, machine)?)
 }
 

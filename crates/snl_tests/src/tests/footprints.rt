@@ -62,7 +62,7 @@ fn after(alloc: Global, machine: &mut Machine, line: &[u8]) -> Result<u64, Alloc
 }
 
 /// The machine of a program holds so many words before a trace and after each of its lines.
-fn holds(
+pub fn holds(
     rt: &impl Abort,
     alloc: Global,
     program: &[u8],

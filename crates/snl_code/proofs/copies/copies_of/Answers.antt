@@ -1,15 +1,11 @@
-use Rattle.std.proofs.Common.{◌∙◌, ap, map}
-use Rattle.snl_syntax.specs.view.Programs.{program_view}
-use Rattle.snl_resolve.specs.Variables.{variables_of}
-use Rattle.snl_meaning.specs.Names.{placed_from}
-use Rattle.snl_code.specs.Copies.{sets_of}
-use Rattle.snl_code.proofs.Rows.{row-map}
+use Rattle.std.proofs.Common.{◌∙◌, ◌++◌, [], ap, map}
+use Rattle.snl_syntax.specs.view.Definitions.{definition_view}
+use Rattle.snl_resolve.specs.Held.{held_view}
+use Rattle.snl_resolve.specs.Variables.{by_definitions}
 use Rattle.snl_code.proofs.copies.copies_of.Goals as goal
 
--- the places of the variables of a program are those of its copies
-pub returns-clause-places : goal.returns-clause-places
-returns-clause-places c =
-    let p = program_view c.args.program.now in
-    c.in_ok-places.ensures
-    ∙ ap (map (placed_from 0)) (ap sets_of c.as_slice.ensures.value ∙ c.in_ok-held.ensures)
-    ∙ row-map (placed_from 0) (variables_of p) 0 p.state_sets
+-- the variables of the program's definitions are those of all copies and of functions begin with
+pub copies_by-requires-clause-own : goal.copies_by-requires-clause-own
+copies_by-requires-clause-own c =
+    ap (map held_view) c.as_slice.ensures.value ∙ c.in_ok-scope.ensures.kept
+    ∙ (λ j. map held_view (c.new-own.ensures.items j) ++ by_definitions [] (map definition_view (c.as_slice-definitions.ensures.value j)))

@@ -18,6 +18,6 @@ returns c =
     let exit = shown (held block_view) p.exit in
     program_held p c.args.set p.definitions.items sets (scope_of [] (map definition_view p.definitions.items)) []
     (map held_view c.in_ok-held.held.items) (map held_view c.push_parts.new.kept.items)
-    refl c.as_slice.ensures.value refl (ap (map held_view) c.in_ok-held.ensures.items ∙ c.requires.shared)
+    refl c.as_slice.ensures.value refl (ap (map held_view) c.in_ok-held.ensures.items ∙ c.requires.own)
     (c.in_ok-push_parts.ensures
     ∙ (λ j. map held_view c.in_ok-held.held.items ++ by_parts (c.requires.scopes j) c.args.set entry (map state_set_view sets) exit))

@@ -24,11 +24,11 @@ emit_statement-returns-in-Block t c =
 pub emit_statement-returns-in_ok-emit_test-in-While : goal.emit_statement-returns-in_ok-emit_test-in-While
 emit_statement-returns-in_ok-emit_test-in-While t c =
     let end : c.len-end.result ≡ length c.args.code.now.items = omega (arith, c.len-end.ensures, c.args.code.now.ok.0) in
-    let test : c.len-test.result ≡ length c.emit_test.new.code.items = omega (arith, c.len-test.ensures, c.emit_test.new.code.ok.0) in
+    let test : c.len.result ≡ length c.emit_test.new.code.items = omega (arith, c.len.ensures, c.emit_test.new.code.ok.0) in
     on_ok_weaker c.emit_turn.result
     (while-made (here_of c.args.known.now) c.args.statement.now c.in-While.word c.in-While.condition c.in-While.body
     c.deref-in-While.result.now c.deref-in-While-2.result.now (length c.args.code.now.items - c.args.around.end)
-    (length c.args.code.now.items - c.args.around.again) c.len-end.result c.len-test.result
+    (length c.args.code.now.items - c.args.around.again) c.len-end.result c.len.result
     c.args.code.now.items c.open.new.code.items c.emit_test.new.code.items (reverse c.emit_turn.new.code.items)
     c.in-While.is c.deref-in-While.ensures c.deref-in-While-2.ensures end c.in_ok-open-in-While.ensures c.in_ok-emit_test-in-While.ensures test)
     c.emit_turn.ensures
@@ -36,11 +36,11 @@ emit_statement-returns-in_ok-emit_test-in-While t c =
 pub emit_statement-returns-in_ok-emit_turn-in-For : goal.emit_statement-returns-in_ok-emit_turn-in-For
 emit_statement-returns-in_ok-emit_turn-in-For t c =
     let end : c.len-end-in-For.result ≡ length c.args.code.now.items = omega (arith, c.len-end-in-For.ensures, c.args.code.now.ok.0) in
-    let test : c.len-test-in-For.result ≡ length c.open_tested.new.code.items = omega (arith, c.len-test-in-For.ensures, c.open_tested.new.code.ok.0) in
+    let test : c.len-test.result ≡ length c.open_tested.new.code.items = omega (arith, c.len-test.ensures, c.open_tested.new.code.ok.0) in
     on_ok_weaker c.emit_if_there-in-For.result
     (for-made (here_of c.args.known.now) c.args.statement.now c.in-For.word c.in-For.header c.in-For.body
     c.deref-in-For.result.now c.deref-in-For-2.result.now c.deref-in-For-4.result.now c.deref-in-For-3.result.now
-    (length c.args.code.now.items - c.args.around.end) (length c.args.code.now.items - c.args.around.again) c.len-end-in-For.result c.len-test-in-For.result
+    (length c.args.code.now.items - c.args.around.end) (length c.args.code.now.items - c.args.around.again) c.len-end-in-For.result c.len-test.result
     c.args.code.now.items c.open_tested.new.code.items c.emit_if_there.new.code.items
     (reverse c.emit_turn-in-For.new.code.items) (reverse c.emit_if_there-in-For.new.code.items)
     c.in-For.is c.deref-in-For.ensures c.deref-in-For-2.ensures c.deref-in-For-3.ensures c.deref-in-For-4.ensures end

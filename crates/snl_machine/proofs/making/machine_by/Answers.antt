@@ -1,7 +1,6 @@
-use Rattle.std.proofs.Common.{◌∙◌, ◌+◌, ◌<◌, ℕ, ◌-◌, ◌^◌, ap, arith, length, map, refl, subst, sym}
+use Rattle.std.proofs.Common.{◌≡◌, ◌∙◌, ◌+◌, ◌<◌, ◌-◌, ◌^◌, ap, arith, length, map, refl, subst, sym}
 use Rattle.snl_syntax.specs.view.Programs.{program_view}
 use Rattle.snl_links.specs.LinkViews.{link_view}
-use Rattle.snl_code.specs.Copies.{sets_of}
 use Rattle.snl_load.specs.First.{first_world}
 use Rattle.snl_load.specs.Places.{homes_in}
 use Rattle.snl_load.specs.Sets.{names_in}
@@ -14,19 +13,24 @@ use Rattle.snl_code.specs.Starts.{table_of, holds_in}
 use Rattle.snl_machine.proofs.Reached.{first_are_reached, reached_are_closed}
 use Rattle.snl_machine.specs.Reached.{AreReached}
 use Rattle.snl_machine.specs.Worlds.{IsWorldOf}
+use Rattle.snl_meaning.specs.declared.functions.FunctionEntry.{FunctionEntry}
 use Rattle.snl_vm.specs.Footprint.{store_words}
+use Rattle.snl_vm.specs.Stack.{Room, room_for, room_of}
 use Rattle.snl_meaning.specs.World.{World}
 
+-- the room that was made is that of the code
 pub invariant_of-result : goal.invariant_of-result
 invariant_of-result c =
     let p = program_view c.args.program.now in
     let ls = map link_view c.args.links.now in
     let code = c.args.code in
     let plan = c.in_ok-plan.plan in
-    let room = c.in_ok-operands.ensures.room ∙ c.depth.ensures in
-    let counted : code.depth < 2 ^ 64 - 1 = omega (arith, room, c.in_ok-operands.operands.items.small) in
+    let calls = ap (length {A = FunctionEntry}) c.functions-calls.ensures in
+    let room : room_of c.in_ok-operands.operands ≡ room_for code.depth (length code.functions.items) = c.in_ok-operands.ensures.room ∙ (λ j. room_for (c.depth-depth.ensures j) (calls j)) in
+    let deep = ap (λ (r : Room). r.operands) room in
+    let counted : code.depth < 2 ^ 64 - 1 = omega (arith, deep, c.in_ok-operands.operands.items.small) in
     let is = loaded-is p ls ls c.args.waits code plan refl c.in_ok-plan.ensures c.requires.code c.requires.inside c.requires.short counted in
-    let words = c.in_ok-footprint.ensures ∙ ap (λ (n : ℕ). store_words c.in_ok-store.store + n) (c.depth-2.ensures ∙ sym room) in
+    let words = c.in_ok-footprint.ensures ∙ ap (λ (r : Room). store_words c.in_ok-store.store + (r.operands + r.places)) (sym c.in_ok-operands.ensures.room) in
     record { words = words; room = room; runs = (plans_are_right p ls c.args.waits code (loaded_by plan code) is).1 }
 
 pub returns-clause-made : goal.returns-clause-made
@@ -36,14 +40,12 @@ returns-clause-made c =
     let code = c.args.code in
     let plan = c.in_ok-plan.plan in
     let names = names_in c.in_ok-names.names in
-    let room = c.in_ok-operands.ensures.room ∙ c.depth.ensures in
-    let counted : code.depth < 2 ^ 64 - 1 = omega (arith, room, c.in_ok-operands.operands.items.small) in
+    let deep = ap (λ (r : Room). r.operands) c.in_ok-operands.ensures.room ∙ c.depth-depth.ensures in
+    let counted : code.depth < 2 ^ 64 - 1 = omega (arith, deep, c.in_ok-operands.operands.items.small) in
     let flags = c.len.ensures ∙ ap length c.requires.flags in
     let ties = c.as_slice-ties.result.now in
-    let held = ap sets_of c.as_slice-held.ensures.value ∙ c.requires.held in
-    let places = c.as_slice-places.ensures.value ∙ c.requires.places in
-    let store = c.in_ok-store.ensures ∙ (λ j. first_world (held j) (flags j) names ties (homes_in c.as_slice-places.result.now ls) ls) in
-    let first = first-is p ls ls c.args.waits code plan refl c.in_ok-plan.ensures _ _ _ _ c.in_ok-names.ensures c.as_slice-ties.ensures.value places store in
+    let store = c.in_ok-store.ensures ∙ (λ j. first_world (c.requires.held j) (c.requires.shared j) (flags j) names ties (homes_in c.args.copies.now.places.items ls) ls) in
+    let first = first-is p ls ls c.args.waits code plan refl c.in_ok-plan.ensures _ _ _ _ c.in_ok-names.ensures c.as_slice-ties.ensures.value c.requires.places store in
     record {
       links_are = c.requires.links;
       loaded = loaded-is p ls ls c.args.waits code plan refl c.in_ok-plan.ensures c.requires.code c.requires.inside c.requires.short counted;
@@ -61,7 +63,5 @@ returns-clause-first c =
     let names = names_in c.in_ok-names.names in
     let flags = c.len.ensures ∙ ap length c.requires.flags in
     let ties = c.as_slice-ties.result.now in
-    let held = ap sets_of c.as_slice-held.ensures.value ∙ c.requires.held in
-    let places = c.as_slice-places.ensures.value ∙ c.requires.places in
-    let store = c.in_ok-store.ensures ∙ (λ j. first_world (held j) (flags j) names ties (homes_in c.as_slice-places.result.now ls) ls) in
-    first-is p ls ls c.args.waits c.args.code c.in_ok-plan.plan refl c.in_ok-plan.ensures _ _ _ _ c.in_ok-names.ensures c.as_slice-ties.ensures.value places store
+    let store = c.in_ok-store.ensures ∙ (λ j. first_world (c.requires.held j) (c.requires.shared j) (flags j) names ties (homes_in c.args.copies.now.places.items ls) ls) in
+    first-is p ls ls c.args.waits c.args.code c.in_ok-plan.plan refl c.in_ok-plan.ensures _ _ _ _ c.in_ok-names.ensures c.as_slice-ties.ensures.value c.requires.places store

@@ -7,5 +7,5 @@ returns c = (
   (refl, refl, refl, refl, refl, refl, refl, refl, refl, refl, refl, refl),
   (refl, refl, refl, refl, refl, refl, refl, refl, refl, refl, refl, refl, refl, refl, refl, refl),
   (refl, refl, refl, refl, refl, refl),
-  (refl, refl, refl, refl, refl, refl, refl),
+  (refl, refl, refl, refl, refl, refl),
 )

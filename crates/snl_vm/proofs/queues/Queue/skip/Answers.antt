@@ -1,4 +1,4 @@
-use Rattle.std.proofs.Common.{◌∙◌, ◌<◌, ◌-◌, ap, arith, rules, length, length-drop, drop}
+use Rattle.std.proofs.Common.{◌∙◌, ◌<◌, ◌-◌, ap, rules, length, length-drop, drop}
 use Rattle.snl_vm.specs.Queues.{items_in}
 use Rattle.snl_vm.proofs.Items.{some-there, items_in-rest, one-less, one-within, drop-first}
 use Rattle.snl_vm.proofs.queues.Queue.skip.Goals as goal

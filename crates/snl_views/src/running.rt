@@ -1,0 +1,313 @@
+//! `run`: a run for a person, with notes between its lines and a summary behind them.
+
+ghost use Rattle.std.specs.Prelude.{◌≡◌, ◌+◌, ◌-◌, ◌^◌, ◌<◌, ℕ, List, Option, Bool, [], Some, false, true, IfOk, IfSome, string_bytes};
+ghost use Rattle.std.specs.Option.{option_map, unwrap_or};
+ghost use Rattle.snl_syntax.specs.Programs.{ProgramTree};
+ghost use Rattle.snl_links.specs.Links.{Link};
+ghost use Rattle.snl_machine.specs.MachineOf.{IsMachineOf, task_of, world_held};
+ghost use Rattle.snl_output.specs.Devices.{counted};
+ghost use Rattle.snl_trace.specs.Ends.{sink_failed};
+ghost use Rattle.snl_trace.specs.Run.{rules_by};
+ghost use Rattle.snl_trace.specs.RunOver.{RunsOver, standing};
+ghost use Rattle.snl_watch.specs.Extra.{shown};
+ghost use Rattle.snl_watch.specs.Folding.{IsFolded};
+ghost use Rattle.snl_views.specs.Runs.{IsRun, RunsLike};
+
+use crate::preparing::Prepared;
+use crate::staging::{Stage, Staged, staged_of};
+use crate::starting::names_of;
+use crate::summaries::summary_of;
+use crate::telling::Scene;
+use snc::Status;
+use snc_args::Job;
+use snl_machine::{Machine, Sink};
+use snl_trace::{End, Source, run};
+use snl_watch::{ByLine, Folder, Follower, Heard, Legend, Listener, Moment, Notes, Teller};
+use std::alloc::{AllocError, Global};
+use std::cell::Cell;
+
+/// What `run` answers.
+#[derive(Drop)]
+pub struct RunAnswer<K> {
+    /// A line for each message about the source.
+    pub messages: Vec<u8>,
+    /// How the run ended; None where a message is an error: then the trace was not read, and nothing was written.
+    pub end: Option<End>,
+    /// Whether all was written, with the summary.
+    pub is_whole: bool,
+    /// Where it was written.
+    pub sink: K,
+}
+
+/// What came of a run.
+#[derive(Drop)]
+struct Ran {
+    end: End,
+    heard: Heard,
+}
+
+/// Runs a machine over a trace, line by line. Fails only where memory ran out.
+fn ran_over<R: Source + Drop, S: Sink>(
+    alloc: Global,
+    machine: &mut Machine,
+    trace: R,
+    sink: &mut S,
+    moment: &Cell<Moment>,
+) -> Result<Ran, AllocError>
+    requires trace { R.failures trace < 2 ^ 64 - 1 }
+    requires sink { S.failures sink.old < 2 ^ 64 - 1 }
+    ensures means { IfOk result (λ ran. (p : ProgramTree) (ls : List Link) (waits : Bool)
+        (budget : ℕ) → IsMachineOf p ls waits budget machine.old → (bytes : List ℕ) →
+        R.rest trace ≡ Some bytes → (left : Option (List ℕ)) ×
+        RunsOver (rules_by (task_of p ls waits) budget) ran.end bytes left
+        (standing [] 1 machine.old (S.told sink.old)) (world_held machine.new)
+        (S.told sink.new)) }
+    ensures failures { IfOk result (λ ran. S.failures sink.new
+        ≡ counted (sink_failed ran.end) (S.failures sink.old)) }
+{
+    let names = names_of(alloc, machine)?;
+    let heard = Heard::new(alloc, names)?;
+    let lines = ByLine::new(alloc, trace)?;
+    let listener = Listener::new(lines, heard);
+    let mut follower = Follower::new(listener, moment);
+    let end = run(machine, &mut follower, sink);
+    let heard = follower.into_inner().into_heard();
+    if heard.ran_out() {
+        return Err(AllocError);
+    }
+    Ok(Ran { end, heard })
+}
+
+/// Whether a run ended because its lines could not be written.
+fn failed(end: End) -> bool
+    ensures { result ≡ sink_failed end }
+{
+    match end {
+        End::SinkFailed => true,
+        _ => false,
+    }
+}
+
+/// Tells a summary behind a run, unless the sink has failed. Answers whether all of it went out.
+fn summed<K: Sink>(teller: &mut Teller<'_, K>, end: End, summary: &[u8]) -> bool
+    requires { sink_failed end ≡ false →
+        K.failures teller.old.inner + teller.old.refused < 2 ^ 64 - 1 }
+    ensures { shown (K.told teller.new.inner) ≡ shown (K.told teller.old.inner) }
+{
+    if failed(end) {
+        return false;
+    }
+    teller.tell(summary).is_ok()
+}
+
+/// Ends a run that is folded, with a summary, unless the sink has failed. Answers whether all of it went out.
+fn finished<K: Sink, W: Sink>(folder: &mut Folder<'_, K, W>, end: End, summary: &[u8]) -> bool
+    requires { sink_failed end ≡ false → K.failures folder.old.inner
+        + (W.failures folder.old.witness + folder.old.refused) < 2 ^ 64 - 1 }
+    ensures told { W.told folder.new.witness ≡ W.told folder.old.witness }
+    ensures folded { result ≡ true → (run output : List ℕ) →
+        W.told folder.new.witness ≡ Some run → K.told folder.new.inner ≡ Some output →
+        ∥ IsFolded run output ∥₁ }
+{
+    if failed(end) {
+        return false;
+    }
+    match folder.finish(summary) {
+        Ok(()) => true,
+        Err(_) => false,
+    }
+}
+
+/// What was told of a run.
+#[derive(Drop)]
+struct Told<K> {
+    end: End,
+    /// Whether all was written, with the summary.
+    is_whole: bool,
+    sink: K,
+}
+
+/// Runs a program that is staged over a trace, each line of the run as it is. Fails only where memory ran out.
+fn whole_of<R: Source + Drop, K: Sink + Drop>(
+    alloc: Global,
+    source: &[u8],
+    stage: Stage,
+    trace: R,
+    sink: K,
+) -> Result<Told<K>, AllocError>
+    requires trace { R.failures trace < 2 ^ 64 - 1 }
+    requires sink { K.failures sink < 2 ^ 64 - 1 }
+    requires fresh { (text : List ℕ) → K.told sink ≡ Some text → text ≡ [] }
+    ensures { IfOk result (λ told. (p : ProgramTree) (ls : List Link) (budget : ℕ) →
+        IsMachineOf p ls stage.prepared.waits budget stage.prepared.machine →
+        RunsLike R.rest p ls stage.prepared.waits budget (world_held stage.prepared.machine)
+        trace (shown (K.told sink)) (shown (K.told told.sink)) told.end) }
+{
+    let Stage { prepared, sets } = stage;
+    let Prepared {
+        links,
+        mut machine,
+        waits,
+    } = prepared;
+    let channels = names_of(alloc, &machine)?;
+    let moment = Cell::new(Moment::new());
+    let notes = Notes::new(alloc, Legend { sets, channels }, &moment)?;
+    let mut teller = Teller::new(sink, notes);
+    let ran = ran_over(alloc, &mut machine, trace, &mut teller, &moment)?;
+    let Ran { end, heard } = ran;
+    let scene = Scene {
+        source,
+        links: links.as_slice(),
+        machine: &machine,
+        waits,
+    };
+    let summary = summary_of(alloc, scene, end, heard, teller.notes())?;
+    let is_whole = summed(&mut teller, end, summary.as_slice());
+    Ok(Told {
+        end,
+        is_whole,
+        sink: teller.into_inner(),
+    })
+}
+
+/// The same, with blocks of lines that repeat folded; a witness takes each line of the run as it is.
+fn folded_of<R: Source + Drop, K: Sink + Drop, W: Sink + Drop>(
+    alloc: Global,
+    source: &[u8],
+    stage: Stage,
+    trace: R,
+    sink: K,
+    witness: W,
+) -> Result<Told<(K, W)>, AllocError>
+    requires trace { R.failures trace < 2 ^ 64 - 1 }
+    requires sinks { K.failures sink + W.failures witness < 2 ^ 64 - 1 }
+    requires fresh { (text : List ℕ) → K.told sink ≡ Some text → text ≡ [] }
+    requires unused { (text : List ℕ) → W.told witness ≡ Some text → text ≡ [] }
+    ensures runs { IfOk result (λ told. (p : ProgramTree) (ls : List Link) (budget : ℕ) →
+        IsMachineOf p ls stage.prepared.waits budget stage.prepared.machine →
+        RunsLike R.rest p ls stage.prepared.waits budget (world_held stage.prepared.machine)
+        trace (W.told witness) (W.told told.sink.1) told.end) }
+    ensures folded { IfOk result (λ told. told.is_whole ≡ true → (run output : List ℕ) →
+        W.told told.sink.1 ≡ Some run → K.told told.sink.0 ≡ Some output →
+        ∥ IsFolded run output ∥₁) }
+{
+    let Stage { prepared, sets } = stage;
+    let Prepared {
+        links,
+        mut machine,
+        waits,
+    } = prepared;
+    let channels = names_of(alloc, &machine)?;
+    let moment = Cell::new(Moment::new());
+    let notes = Notes::new(alloc, Legend { sets, channels }, &moment)?;
+    let mut folder = Folder::new(alloc, sink, witness, notes)?;
+    let ran = ran_over(alloc, &mut machine, trace, &mut folder, &moment)?;
+    let Ran { end, heard } = ran;
+    if folder.ran_out() {
+        return Err(AllocError);
+    }
+    let scene = Scene {
+        source,
+        links: links.as_slice(),
+        machine: &machine,
+        waits,
+    };
+    let summary = summary_of(alloc, scene, end, heard, folder.notes())?;
+    let is_whole = finished(&mut folder, end, summary.as_slice());
+    Ok(Told {
+        end,
+        is_whole,
+        sink: folder.into_parts(),
+    })
+}
+
+/// Reads and checks a program and, if it has no error, runs it over a trace, with notes between the lines of the run and a
+/// summary behind them. The lines that do not begin with `#` are those that `snlrun` writes.
+///
+/// `job` has the options, the macros and the budget, as `snlrun` has them. The sink is one that nothing was written to. Fails
+/// only where memory ran out.
+pub fn run_whole<R: Source + Drop, K: Sink + Drop>(
+    alloc: Global,
+    source: &[u8],
+    job: &Job,
+    trace: R,
+    sink: K,
+) -> Result<RunAnswer<K>, AllocError>
+    requires trace { R.failures trace < 2 ^ 64 - 1 }
+    requires sink { K.failures sink < 2 ^ 64 - 1 }
+    requires fresh { (text : List ℕ) → K.told sink ≡ Some text → text ≡ [] }
+    ensures { IfOk result (λ answer. IsRun R.rest job.now.options (string_bytes job.now.file)
+        (unwrap_or (option_map string_bytes job.now.macros) []) source.now job.now.budget trace
+        (shown (K.told sink)) (shown (K.told answer.sink)) answer.messages.items answer.end) }
+{
+    let Staged { messages, stage } = staged_of(alloc, source, job)?;
+    let Some(stage) = stage else {
+        return Ok(RunAnswer {
+            messages,
+            end: None,
+            is_whole: true,
+            sink,
+        });
+    };
+    let told = whole_of(alloc, source, stage, trace, sink)?;
+    Ok(RunAnswer {
+        messages,
+        end: Some(told.end),
+        is_whole: told.is_whole,
+        sink: told.sink,
+    })
+}
+
+/// The same, with blocks of lines that repeat folded: what is written stands for the lines that `snlrun` writes, but for their
+/// times. A witness takes the lines of the run as they are; `Nowhere` is one for who does not want them.
+pub fn run_folded<R: Source + Drop, K: Sink + Drop, W: Sink + Drop>(
+    alloc: Global,
+    source: &[u8],
+    job: &Job,
+    trace: R,
+    sink: K,
+    witness: W,
+) -> Result<RunAnswer<(K, W)>, AllocError>
+    requires trace { R.failures trace < 2 ^ 64 - 1 }
+    requires sinks { K.failures sink + W.failures witness < 2 ^ 64 - 1 }
+    requires fresh { (text : List ℕ) → K.told sink ≡ Some text → text ≡ [] }
+    requires unused { (text : List ℕ) → W.told witness ≡ Some text → text ≡ [] }
+    ensures run { IfOk result (λ answer. IsRun R.rest job.now.options
+        (string_bytes job.now.file) (unwrap_or (option_map string_bytes job.now.macros) [])
+        source.now job.now.budget trace (W.told witness) (W.told answer.sink.1)
+        answer.messages.items answer.end) }
+    ensures folded { IfOk result (λ answer. IfSome answer.end (λ _. answer.is_whole ≡ true →
+        (run output : List ℕ) → W.told answer.sink.1 ≡ Some run →
+        K.told answer.sink.0 ≡ Some output → ∥ IsFolded run output ∥₁)) }
+{
+    let Staged { messages, stage } = staged_of(alloc, source, job)?;
+    let Some(stage) = stage else {
+        return Ok(RunAnswer {
+            messages,
+            end: None,
+            is_whole: true,
+            sink: (sink, witness),
+        });
+    };
+    let told = folded_of(alloc, source, stage, trace, sink, witness)?;
+    Ok(RunAnswer {
+        messages,
+        end: Some(told.end),
+        is_whole: told.is_whole,
+        sink: told.sink,
+    })
+}
+
+impl<K> RunAnswer<K> {
+    /// The status of a call: 0 where the trace or the program ended; 1 where the source has an error, 5 where the program
+    /// faulted, 6 where a line of the trace is bad, and 3 where the trace could not be read, or something not be written.
+    pub fn status(&self) -> Status {
+        match self.end {
+            None => Status::SourceErrors,
+            Some(End::TraceEnded | End::ProgramEnded) if self.is_whole => Status::Well,
+            Some(End::Fault(_, _)) => Status::ProgramFault,
+            Some(End::TraceFault(_, _)) => Status::TraceFault,
+            Some(_) => Status::InputOutput,
+        }
+    }
+}

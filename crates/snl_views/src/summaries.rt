@@ -1,0 +1,133 @@
+//! What stands behind a run: how it ended, where the state sets stand, and counts.
+
+use crate::awaited::awaited_of;
+use crate::pieces::{push_all, push_count, push_number};
+use crate::starting::Start;
+use crate::telling::{Scene, text_of};
+use snl_trace::End;
+use snl_watch::{Heard, Notes, Standing};
+use std::alloc::{AllocError, Global};
+
+/// Adds how a run ended, the time then in milliseconds, and the line of the trace.
+fn push_end(out: &mut Vec<u8>, what: &[u8], ms: u64, line: u64) -> Result<(), AllocError> {
+    push_all(out, &[b"# ", what, b" at "])?;
+    push_number(out, ms)?;
+    out.extend_from_slice(b", line ")?;
+    push_number(out, line)?;
+    out.extend_from_slice(b"\n")
+}
+
+/// Adds which line of the trace is bad.
+fn push_bad_line(out: &mut Vec<u8>, number: u128) -> Result<(), AllocError> {
+    out.extend_from_slice(b"# bad line ")?;
+    push_number(out, u64::try_from(number).unwrap_or(u64::MAX))?;
+    out.extend_from_slice(b"\n")
+}
+
+/// Adds how a run ended.
+fn push_how(out: &mut Vec<u8>, end: End, ms: u64, line: u64) -> Result<(), AllocError> {
+    match end {
+        End::TraceEnded => push_end(out, b"end of the trace", ms, line),
+        End::ProgramEnded => push_end(out, b"the program ended", ms, line),
+        End::Fault(_, _) => push_end(out, b"fault", ms, line),
+        End::TraceFault(number, _) => push_bad_line(out, number),
+        End::SourceFailed => push_end(out, b"the trace could not be read on", ms, line),
+        End::SinkFailed => Ok(()),
+    }
+}
+
+/// Adds lines, each with `# ` in front.
+fn push_noted(out: &mut Vec<u8>, text: &[u8]) -> Result<(), AllocError> {
+    let mut begins = true;
+    for byte in text {
+        if begins {
+            out.extend_from_slice(b"# ")?;
+        }
+        out.push(*byte)?;
+        begins = *byte == b'\n';
+    }
+    Ok(())
+}
+
+/// Adds where each state set stands.
+fn push_sets(out: &mut Vec<u8>, notes: &Notes) -> Result<(), AllocError> {
+    let legend = notes.legend();
+    let count = legend.sets.len() as u64;
+    for (number, standing) in notes.standing().sets().iter().enumerate() {
+        let (Some(set), Some(state)) = (
+            legend.sets.get(number),
+            legend.state(number, standing.state),
+        ) else {
+            return Ok(());
+        };
+        push_all(out, &[b"# ", set.name.as_slice()])?;
+        push_all(out, &[b" in ", state.name.as_slice()])?;
+        push_since(out, standing.since, number as u64, count)?;
+    }
+    Ok(())
+}
+
+/// Adds since when a state set stands where it does, and which of them it is.
+fn push_since(out: &mut Vec<u8>, since: u64, number: u64, count: u64) -> Result<(), AllocError> {
+    out.extend_from_slice(b" since ")?;
+    push_number(out, since)?;
+    out.extend_from_slice(b" (")?;
+    push_number(out, number.saturating_add(1))?;
+    out.extend_from_slice(b" of ")?;
+    push_count(out, count, b"state set")?;
+    out.extend_from_slice(b")\n")
+}
+
+/// Adds what the program waits for, where it never began.
+fn push_waits(
+    alloc: Global,
+    out: &mut Vec<u8>,
+    scene: Scene,
+    end: End,
+    heard: Heard,
+) -> Result<(), AllocError> {
+    let awaited = awaited_of(alloc, scene.machine, scene.waits)?;
+    let start = Start {
+        end,
+        awaited,
+        heard,
+    };
+    let text = text_of(alloc, scene, &start)?;
+    push_noted(out, text.as_slice())
+}
+
+/// Adds how much has happened.
+fn push_counts(out: &mut Vec<u8>, standing: &Standing) -> Result<(), AllocError> {
+    out.extend_from_slice(b"# ")?;
+    push_count(out, standing.transitions(), b"transition")?;
+    out.extend_from_slice(b", ")?;
+    push_count(out, standing.puts(), b"put")?;
+    out.extend_from_slice(b", ")?;
+    push_number(out, standing.refused())?;
+    out.extend_from_slice(b" refused, ")?;
+    push_count(out, standing.prints(), b"print")?;
+    out.extend_from_slice(b"\n")
+}
+
+/// The summary of a run, each line with `# ` in front. Fails only where memory ran out.
+pub(crate) fn summary_of(
+    alloc: Global,
+    scene: Scene,
+    end: End,
+    heard: Heard,
+    notes: &Notes,
+) -> Result<Vec<u8>, AllocError> {
+    let mut out = Vec::new(alloc);
+    let standing = notes.standing();
+    if standing.ran_out() {
+        return Err(AllocError);
+    }
+    push_how(&mut out, end, scene.machine.time(), heard.lines())?;
+    if standing.has_begun() {
+        push_sets(&mut out, notes)?;
+    } else if end != End::SinkFailed {
+        push_waits(alloc, &mut out, scene, end, heard)?;
+    }
+    push_counts(&mut out, standing)?;
+    Ok(out)
+}

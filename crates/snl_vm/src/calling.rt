@@ -1,0 +1,103 @@
+//! Calls of functions, and the way back from them.
+
+ghost use Rattle.std.specs.Prelude.{◌≡◌, ◌+◌, ◌<◌, ◌^◌, ℕ, Ok, length};
+ghost use Rattle.snl_meaning.specs.declared.instrs.Instr.TheVariants as instr;
+ghost use Rattle.snl_meaning.specs.Run.{done_by};
+ghost use Rattle.snl_meaning.specs.Words as spec;
+ghost use Rattle.snl_vm.specs.Running.{context_of};
+ghost use Rattle.snl_vm.specs.Stack.{stack_of, room_of, at_rest};
+ghost use Rattle.snl_vm.specs.Steps.{CanStep, crossed};
+ghost use Rattle.snl_vm.specs.Views.{gave, world_of};
+
+use crate::contexts::PieceContext;
+use crate::operands::Operands;
+use crate::stores::Store;
+use crate::words::{Charge, put_number, spend};
+use snl_meaning::Variable;
+
+/// A call, as its instruction says it.
+#[derive(Clone, Copy)]
+pub struct CallSite {
+    /// The number of the function.
+    pub function: usize,
+    /// How many values it is called with.
+    pub count: usize,
+    /// The line of the call, from 1.
+    pub line: usize,
+}
+
+/// Each value in order into its parameter. Those for which there is none are dropped.
+fn bind(
+    parameters: &[Variable],
+    line: usize,
+    values: &[i64],
+    set: usize,
+    store: &mut Store,
+) -> Result<(), Charge>
+    ensures { spec.bound set parameters.now line values.now (world_of store.old)
+        ≡ gave result (world_of store.new) }
+{
+    for number in 0..parameters.len() {
+        if number >= values.len() {
+            return Ok(());
+        }
+        put_number(store, set, parameters[number], line, 0, values[number])?;
+    }
+    Ok(())
+}
+
+/// How a call begins: a tick, and then the parameters.
+fn enter(
+    parameters: &[Variable],
+    line: usize,
+    values: &[i64],
+    set: usize,
+    store: &mut Store,
+) -> Result<(), Charge>
+    ensures { spec.called_with set parameters.now line values.now (world_of store.old)
+        ≡ gave result (world_of store.new) }
+{
+    spend(store, line)?;
+    bind(parameters, line, values, set, store)
+}
+
+/// Calls a function from an address with the topmost operands: takes them away, keeps the address after this one, and answers where
+/// the code of the function begins.
+pub fn call(
+    site: CallSite,
+    pc: usize,
+    context: &PieceContext,
+    store: &mut Store,
+    operands: &mut Operands,
+) -> Result<usize, Charge>
+    requires after { pc + 1 < 2 ^ 64 }
+    requires places { (room_of operands.old).places ≡ length context.now.functions.now }
+    requires possible { CanStep (done_by (context_of context.now operands.old)
+        (instr.Call site.function site.count site.line) pc (stack_of operands.old)
+        (world_of store.old)) }
+    ensures does { done_by (context_of context.now operands.old)
+        (instr.Call site.function site.count site.line) pc (stack_of operands.old)
+        (world_of store.old) ≡ crossed result operands.new (world_of store.new) }
+    ensures room { at_rest (room_of operands.new) ≡ at_rest (room_of operands.old) }
+{
+    let entry = &context.functions[site.function];
+    let parameters = entry.parameters.as_slice();
+    let values = operands.topmost(site.count);
+    enter(parameters, site.line, values, context.set, store)?;
+    operands.take_away(site.count);
+    operands.keep(pc + 1);
+    Ok(entry.start)
+}
+
+/// The end of the innermost call: answers where it goes on.
+pub fn go_back(context: &PieceContext, store: &Store, operands: &mut Operands) -> usize
+    ghost pc: { ℕ }
+    requires { CanStep (done_by (context_of context.now operands.old) instr.Return pc
+        (stack_of operands.old) (world_of store.now)) }
+    ensures does { done_by (context_of context.now operands.old) instr.Return pc
+        (stack_of operands.old) (world_of store.now)
+        ≡ crossed (Ok result) operands.new (world_of store.now) }
+    ensures room { at_rest (room_of operands.new) ≡ at_rest (room_of operands.old) }
+{
+    operands.back()
+}

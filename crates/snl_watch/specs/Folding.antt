@@ -1,0 +1,85 @@
+-- Lines of a run in which blocks that repeat are told by one line.
+use Rattle.std.specs.Prelude.{◌≡◌, ◌==◌, ◌≢◌, ◌-◌, ℕ, Bool, true, zero, suc, List, [], ◌∷◌, ◌++◌, length, drop, map, codes, decimal, if◌then◌else◌, All}
+use Rattle.std.specs.Char.{is_ascii_digit}
+use Rattle.snl_output.specs.Lines.{joined}
+use Rattle.snl_watch.specs.Extra.{are_dropped, start}
+
+-- ---- lines
+
+-- A line that has begun and that no newline ends is one, if anything stands there.
+abbrev pub begun_line : List ℕ → List (List ℕ)
+begun_line [] = []
+begun_line (byte ∷ bytes) = (byte ∷ bytes) ∷ []
+
+-- The lines of a text that goes on from a line that has begun, each with its newline (10); the last one may have none.
+abbrev pub lines_behind : List ℕ → List ℕ → List (List ℕ)
+lines_behind begun [] = begun_line begun
+lines_behind begun (byte ∷ bytes) =
+    if byte == 10 then (begun ++ byte ∷ []) ∷ lines_behind [] bytes else lines_behind (begun ++ byte ∷ []) bytes
+
+-- The lines of a text.
+abbrev pub lines_of : List ℕ → List (List ℕ)
+lines_of text = lines_behind [] text
+
+-- A line without its time, the digits in front.
+abbrev pub without_time : List ℕ → List ℕ
+without_time [] = []
+without_time (byte ∷ bytes) = if is_ascii_digit byte then without_time bytes else byte ∷ bytes
+
+-- ---- what is written in their place
+
+-- A piece of the output: a line, with the notes in front of it; notes alone; or that the last lines, so many, come so many times
+-- more, up to a time.
+pub data Piece : Type 0 where
+  Line : (note line : List ℕ) → Piece
+  Note : (text : List ℕ) → Piece
+  Again : (size times : ℕ) (until : List ℕ) → Piece
+
+-- A list, so many times.
+abbrev pub repeated : {A : Type 0} → ℕ → List A → List A
+repeated zero xs = []
+repeated (suc n) xs = repeated n xs ++ xs
+
+-- The last n of a list.
+abbrev pub last_of : {A : Type 0} → ℕ → List A → List A
+last_of n xs = drop (length xs - n) xs
+
+-- The lines that pieces stand for, without their times, behind those of earlier ones.
+abbrev pub unfolded_behind : List (List ℕ) → List Piece → List (List ℕ)
+unfolded_behind done [] = done
+unfolded_behind done (Line note line ∷ pieces) = unfolded_behind (done ++ without_time line ∷ []) pieces
+unfolded_behind done (Note text ∷ pieces) = unfolded_behind done pieces
+unfolded_behind done (Again size times until ∷ pieces) = unfolded_behind (done ++ repeated times (last_of size done)) pieces
+
+-- The lines that pieces stand for, without their times.
+abbrev pub unfolded : List Piece → List (List ℕ)
+unfolded pieces = unfolded_behind [] pieces
+
+-- What stands behind how often it comes.
+abbrev pub more_words : ℕ → List ℕ
+more_words times = if times == 1 then codes " time more, up to " else codes " times more, up to "
+
+-- `# these 6 lines 4 times more, up to 32000`
+abbrev pub again_line : ℕ → ℕ → List ℕ → List ℕ
+again_line size times until =
+    if size == 1 then joined (codes "# this line " ∷ decimal times ∷ more_words times ∷ until ∷ codes "\n" ∷ [])
+    else joined (codes "# these " ∷ decimal size ∷ codes " lines " ∷ decimal times ∷ more_words times ∷ until ∷ codes "\n" ∷ [])
+
+-- What a piece writes.
+abbrev pub written : Piece → List ℕ
+written (Line note line) = note ++ line
+written (Note text) = text
+written (Again size times until) = again_line size times until
+
+-- Whether the notes of a piece are extra lines, which begin with `#`.
+abbrev pub IsNoted : Piece → Type 0
+IsNoted (Line note line) = are_dropped start note ≡ true
+IsNoted (Note text) = are_dropped start text ≡ true
+IsNoted (Again size times until) = Unit {0}
+
+-- A run and what was written in its place: pieces that stand for the lines of the run, but for their times.
+pub record IsFolded (run output : List ℕ) : Type 0 where
+  pub pieces : List Piece
+  pub output_is : output ≡ joined (map written pieces)
+  pub noted : All IsNoted pieces
+  pub unfolds : unfolded pieces ≡ map without_time (lines_of run)

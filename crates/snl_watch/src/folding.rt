@@ -1,0 +1,173 @@
+//! The end of a line of a run that is folded.
+
+ghost use Rattle.std.specs.Prelude.{◌≡◌, ◌≤◌, ◌<◌, ◌-◌, ◌^◌, ℕ, List, [], ◌++◌, Some, length, take, drop, is_err, IfSome, OnOk, true};
+ghost use Rattle.snl_output.specs.Devices.{counted, told_more};
+ghost use Rattle.snl_watch.specs.Blocks.{told_again};
+ghost use Rattle.snl_watch.specs.Extra.{are_dropped, start};
+ghost use Rattle.snl_watch.specs.Folding.{without_time};
+ghost use Rattle.snl_watch.specs.Folds.{Folds, TellsMore, ends_line, is_in_line};
+
+use crate::block::Block;
+use crate::places::Place;
+use crate::recent::{Recent, Text};
+use crate::writing::write_pieces;
+use arrayvec::ArrayVec;
+use snl_output::{Sink, SinkFault};
+
+/// Whether a text ends with a newline.
+pub(crate) fn ends_line(text: &[u8]) -> bool
+    ensures { result ≡ ends_line text.now }
+{
+    match text {
+        [.., last] => *last == b'\n',
+        [] => false,
+    }
+}
+
+/// How many bytes the first line of a text has, with its newline; where none ends it, all.
+pub(crate) fn first_line(text: &[u8]) -> usize
+    ensures within { result ≤ length text.now }
+    ensures line { is_in_line (take result text.now) ≡ true }
+    ensures some { 0 < length text.now → 0 < result }
+{
+    let mut count = 0;
+    for byte in text {
+        count += 1;
+        if *byte == b'\n' {
+            return count;
+        }
+    }
+    count
+}
+
+/// Notes, where they are extra lines and nothing else; else none.
+pub(crate) fn noted<'t>(notes: &'t [u8]) -> &'t [u8]
+    ensures { are_dropped start result.now ≡ true }
+{
+    if Place::start().drops_all(notes) {
+        notes
+    } else {
+        b""
+    }
+}
+
+/// How many digits a line begins with.
+fn digits_of(line: &[u8]) -> usize
+    ensures within { result ≤ length line.now }
+    ensures left { drop result line.now ≡ without_time line.now }
+{
+    let mut count = 0;
+    for byte in line {
+        if !byte.is_ascii_digit() {
+            return count;
+        }
+        count += 1;
+    }
+    count
+}
+
+/// A line without its time; None where it is too long for a block.
+fn text_of(line: &[u8]) -> Option<Text>
+    ensures { IfSome result (λ text. text.items ≡ without_time line.now) }
+{
+    let mut text = ArrayVec::new();
+    if text
+        .try_extend_from_slice(&line[digits_of(line)..])
+        .is_err()
+    {
+        return None;
+    }
+    Some(text)
+}
+
+/// Writes what is left of a block, and behind it a line with the notes in front.
+fn print<'t, S: Sink>(
+    line: &'t [u8],
+    note: &'t [u8],
+    block: &Block,
+    sink: &mut S,
+) -> Result<(), SinkFault>
+    requires { S.failures sink.old < 2 ^ 64 - 1 }
+    ensures told { OnOk result (S.told sink.new ≡ told_more (told_more (S.told sink.old)
+        (told_again block.now ++ block.now.held.items)) (note.now ++ line.now)) }
+    ensures failures { S.failures sink.new ≡ counted (is_err result) (S.failures sink.old) }
+{
+    block.write(sink)?;
+    write_pieces(sink, &[note, line])
+}
+
+/// Ends a line that may be in a block.
+fn end_text<'t, S: Sink>(
+    text: Text,
+    line: &'t [u8],
+    note: &'t [u8],
+    recent: &mut Recent,
+    block: &mut Block,
+    sink: &mut S,
+) -> Result<(), SinkFault>
+    requires failures { S.failures sink.old < 2 ^ 64 - 1 }
+    requires text { text.items ≡ without_time line.now }
+    requires line { ends_line line.now ≡ true }
+    requires note { are_dropped start note.now ≡ true }
+    ensures told { OnOk result (TellsMore (S.told sink.old) (S.told sink.new)) }
+    ensures folds { OnOk result ((run output output' : List ℕ) → S.told sink.old ≡ Some output →
+        S.told sink.new ≡ Some output' → Folds run output line.now recent.old block.old →
+        Folds run output' [] recent.new block.new) }
+    ensures failures { S.failures sink.new ≡ counted (is_err result) (S.failures sink.old) }
+{
+    if recent.is_again(block.size(), text.as_slice()) && block.has_room(note, line) {
+        block.take(note, line);
+        recent.push(text);
+        return Ok(());
+    }
+    print(line, note, block, sink)?;
+    recent.push(text);
+    block.begin(recent.block());
+    Ok(())
+}
+
+/// Ends a line that is too long for a block.
+fn end_long<'t, S: Sink>(
+    line: &'t [u8],
+    note: &'t [u8],
+    recent: &mut Recent,
+    block: &mut Block,
+    sink: &mut S,
+) -> Result<(), SinkFault>
+    requires failures { S.failures sink.old < 2 ^ 64 - 1 }
+    requires line { ends_line line.now ≡ true }
+    requires note { are_dropped start note.now ≡ true }
+    ensures told { OnOk result (TellsMore (S.told sink.old) (S.told sink.new)) }
+    ensures folds { OnOk result ((run output output' : List ℕ) → S.told sink.old ≡ Some output →
+        S.told sink.new ≡ Some output' → Folds run output line.now recent.old block.old →
+        Folds run output' [] recent.new block.new) }
+    ensures failures { S.failures sink.new ≡ counted (is_err result) (S.failures sink.old) }
+{
+    print(line, note, block, sink)?;
+    recent.clear();
+    block.begin(0);
+    Ok(())
+}
+
+/// Ends a line, with the notes in front of it: it is held, where it comes again in a block that does, or written.
+pub(crate) fn end_line<'t, S: Sink>(
+    line: &'t [u8],
+    note: &'t [u8],
+    recent: &mut Recent,
+    block: &mut Block,
+    sink: &mut S,
+) -> Result<(), SinkFault>
+    requires failures { S.failures sink.old < 2 ^ 64 - 1 }
+    requires line { ends_line line.now ≡ true }
+    requires note { are_dropped start note.now ≡ true }
+    ensures told { OnOk result (TellsMore (S.told sink.old) (S.told sink.new)) }
+    ensures folds { OnOk result ((run output output' : List ℕ) → S.told sink.old ≡ Some output →
+        S.told sink.new ≡ Some output' → Folds run output line.now recent.old block.old →
+        Folds run output' [] recent.new block.new) }
+    ensures failures { S.failures sink.new ≡ counted (is_err result) (S.failures sink.old) }
+{
+    match text_of(line) {
+        Some(text) => end_text(text, line, note, recent, block, sink),
+        None => end_long(line, note, recent, block, sink),
+    }
+}

@@ -1,0 +1,120 @@
+//! The last lines of a run, without their times, and whether the last of them repeat.
+
+ghost use Rattle.std.specs.Prelude.{◌≡◌, ◌≤◌, ◌<◌, ◌-◌, [], ◌∷◌, ◌++◌, length, slice_get, IfOk, IsTrue, Some};
+ghost use Rattle.circular_buffer.specs.Buffer.{keep_last};
+
+use arrayvec::ArrayVec;
+use circular_buffer::HeapCircularBuffer;
+use std::alloc::{AllocError, Global};
+
+/// How many lines a block has at most.
+const BLOCK: usize = 60;
+
+/// How many lines are kept.
+const KEPT: usize = 120;
+
+/// How many bytes a line of a block has at most, without its time.
+const TEXT: usize = 256;
+
+/// A line without its time.
+pub(crate) type Text = ArrayVec<u8, TEXT>;
+
+/// The last lines of a run, without their times.
+#[derive(Drop)]
+pub(crate) struct Recent {
+    texts: HeapCircularBuffer<Text>,
+    /// A number of each, by which most lines differ: a line is compared with many.
+    marks: HeapCircularBuffer<u64>,
+}
+
+/// How many bytes at the end of a line make its number.
+const MARKED: usize = 8;
+
+/// The number of a line, made of its length and its end.
+fn mark_of(text: &[u8]) -> u64 {
+    let mut mark = text.len() as u64;
+    for byte in &text[text.len().saturating_sub(MARKED)..] {
+        mark = mark.rotate_left(8) ^ (*byte as u64);
+    }
+    mark
+}
+
+impl Recent {
+    ghost use Rattle.snl_watch.specs.Recents.{recent_texts};
+
+    /// No line. Fails only where memory ran out.
+    pub(crate) fn new(alloc: Global) -> Result<Self, AllocError>
+        ensures { IfOk result (λ recent. recent_texts recent ≡ []) }
+    {
+        let texts = HeapCircularBuffer::with_capacity(alloc, KEPT)?;
+        let marks = HeapCircularBuffer::with_capacity(alloc, KEPT)?;
+        Ok(Recent { texts, marks })
+    }
+
+    /// Adds a line, in the place of the oldest where there is no room.
+    pub(crate) fn push(&mut self, text: Text)
+        ensures { recent_texts self.new
+            ≡ keep_last self.old.texts.capacity (recent_texts self.old ++ text.items ∷ []) }
+    {
+        let mark = mark_of(text.as_slice());
+        self.texts.push_back(text);
+        self.marks.push_back(mark);
+    }
+
+    /// Forgets all lines.
+    pub(crate) fn clear(&mut self)
+        ensures { recent_texts self.new ≡ [] }
+    {
+        self.marks.clear();
+        self.texts.clear();
+    }
+
+    /// Whether a line that comes equals the one that many lines before it.
+    pub(crate) fn is_again(&self, size: usize, text: &[u8]) -> bool
+        ensures some { IsTrue result → 0 < size }
+        ensures within { IsTrue result → size ≤ length (recent_texts self.now) }
+        ensures same { IsTrue result → slice_get (recent_texts self.now)
+            (length (recent_texts self.now) - size) ≡ Some text.now }
+    {
+        let count = self.texts.len();
+        if size == 0 || size > count {
+            return false;
+        }
+        match self.texts.get(count - size) {
+            Some(before) => before.as_slice() == text,
+            None => false,
+        }
+    }
+
+    /// Whether two lines are equal, by how many come behind them.
+    fn are_equal(&self, last: usize, before: usize) -> bool {
+        match (self.texts.nth_back(last), self.texts.nth_back(before)) {
+            (Some(last), Some(before)) => last.as_slice() == before.as_slice(),
+            _ => false,
+        }
+    }
+
+    /// Whether the last lines, so many, equal those before them.
+    fn repeats(&self, size: usize) -> bool {
+        for number in 0..size {
+            if !self.are_equal(number, number.saturating_add(size)) {
+                return false;
+            }
+        }
+        true
+    }
+
+    /// How many lines the shortest block has that came twice, now; 0 where there is none.
+    pub(crate) fn block(&self) -> usize
+        ensures { result ≤ length (recent_texts self.now) }
+    {
+        let most = BLOCK.min(self.texts.len() / 2);
+        let last = self.marks.nth_back(0);
+        for size in 1..=most {
+            if self.marks.nth_back(size) == last && self.repeats(size) {
+                return size;
+            }
+        }
+        0
+    }
+}

@@ -1,0 +1,109 @@
+"""What a program is made of: its channels, state sets, states and clauses, as `snc --tables` tells them."""
+import re
+from dataclasses import dataclass, field
+
+LINK = re.compile(r'channel (\S+) (\d+) (\d+) "(.*)" (\S+) (\S+) (\d+)')
+CLAUSE = re.compile(r"when (\d+) (?:state (\S+)|(exit))")
+HEAD = re.compile(r'\bprogram\s+\w+\s*\(\s*((?:"(?:[^"\\\n]|\\.)*"\s*)+)\)')
+TEXT = re.compile(r'"((?:[^"\\\n]|\\.)*)"')
+COMMENT = re.compile(r'"(?:[^"\\\n]|\\.)*"|/\*.*?\*/|//[^\n]*', re.DOTALL)
+PUT = re.compile(r"\bpvPut\s*\(\s*(\w+)\b(?=[^;]*?,\s*ASYNC\s*\))")
+EXIT = "exit"
+
+
+@dataclass
+class Channel:
+    """A channel that a program names."""
+
+    name: str
+    # The variables that are linked to it, and the most values that one of them takes.
+    variables: list = field(default_factory=list)
+    count: int = 1
+    is_monitored: bool = False
+    # Whether a put may wait for an answer: the source has `pvPut` of a variable of it with ASYNC.
+    is_asking: bool = False
+
+
+@dataclass
+class StateSet:
+    """A state set with its states in their order."""
+
+    name: str
+    states: list = field(default_factory=list)
+    # From a state and its target the numbers of the clauses that lead there.
+    clauses: dict = field(default_factory=dict)
+
+
+@dataclass
+class Program:
+    """What is drawn of a program. All texts have a letter for each byte."""
+
+    name: str = ""
+    channels: dict = field(default_factory=dict)
+    sets: list = field(default_factory=list)
+
+
+def program_of(tables: str, source: str, macros: str) -> Program:
+    """The program of what `snc --tables` wrote, of its source and of the macros of the call."""
+    made = Program()
+    texts = macros_of(own_macros(source) + "," + macros)
+    asking = set(PUT.findall(without_comments(source)))
+    for line in tables.splitlines():
+        kind, _, rest = line.partition(" ")
+        if kind == "program":
+            made.name = rest
+        elif kind == "channel":
+            add_link(made, line, texts, asking)
+        elif kind == "ss":
+            made.sets.append(StateSet(rest))
+        elif kind == "state":
+            made.sets[-1].states.append(rest.split(" ")[0])
+        elif kind == "when":
+            add_clause(made.sets[-1], line)
+    return made
+
+
+def add_link(made: Program, line: str, texts: dict, asking: set) -> None:
+    """Adds the channel of a link, where it has one."""
+    variable, first, count, spelled, monitor, _, _ = LINK.fullmatch(line).groups()
+    name = filled(spelled, texts)
+    if not name:
+        return
+    channel = made.channels.setdefault(name, Channel(name))
+    channel.variables.append(variable if (first, count) == ("0", "1") else f"{variable}[{first}]")
+    channel.count = max(channel.count, int(count))
+    channel.is_monitored |= monitor == "monitor"
+    channel.is_asking |= variable in asking
+
+
+def add_clause(of: StateSet, line: str) -> None:
+    """Adds the number of a clause of the last state."""
+    number, target, _ = CLAUSE.fullmatch(line).groups()
+    of.clauses.setdefault((of.states[-1], target or EXIT), []).append(int(number))
+
+
+def without_comments(source: str) -> str:
+    """A source with a blank for each comment, and with its texts."""
+    return COMMENT.sub(lambda it: it[0] if it[0].startswith('"') else " ", source)
+
+
+def own_macros(source: str) -> str:
+    """The text of the macros that a program has behind its name."""
+    head = HEAD.search(without_comments(source))
+    return "".join(TEXT.findall(head[1])) if head else ""
+
+
+def macros_of(text: str) -> dict:
+    """The value of each macro that a text defines; of one name the last counts."""
+    found = {}
+    for piece in text.split(","):
+        name, sign, value = piece.partition("=")
+        name = name.strip(" \t\r\n\f\v")
+        if sign and re.fullmatch(r"[A-Za-z0-9_]+", name):
+            found[name] = value.strip(" \t\r\n\f\v")
+    return found
+
+
+def filled(spelled: str, texts: dict) -> str:
+    """A name with the values of its macros. A value is not searched again, and a macro without one stands for nothing."""
+    return re.sub(r"\{([^}]*)\}", lambda it: texts.get(it[1], ""), spelled)

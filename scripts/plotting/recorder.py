@@ -1,0 +1,201 @@
+"""Takes the lines of a trace and of a run, merged by time, and fills the record of what is drawn."""
+from typing import Iterator, Optional
+
+from plotting.instants import Deed
+from plotting.notes import Clause, Ending, Entry, Refusal, entries
+from plotting.program import StateSet
+from plotting.record import ChannelLanes, Record, SetLanes
+from plotting.spots import DOWN, FAULT, REFUSED, Spot
+from plotting.trace import Event
+from plotting.values import Values
+
+# So many names that are no channels of the program are kept.
+MOST_UNKNOWN = 5
+
+
+def recorded(record: Record, values: Values, events: Iterator[Event], run: Iterator[bytes]) -> None:
+    """Fills a record. At one time the lines of the trace come first; lines of the run at other times are those of wakes."""
+    ending, recorder = Ending(), Recorder(record, values)
+    lines = entries(run, ending)
+    entry = next(lines, None)
+    for event in events:
+        while entry is not None and entry.time < event.time:
+            recorder.entry(entry)
+            entry = next(lines, None)
+        recorder.event(event)
+    while entry is not None:
+        recorder.entry(entry)
+        entry = next(lines, None)
+    record.close(ending)
+
+
+class Recorder:
+    """Puts lines where they belong."""
+
+    def __init__(self, record: Record, values: Values):
+        """The record that is filled, and how values are told in its table."""
+        self.record, self.part, self.values = record, record.part, values
+        self.kinds = {"go": self.go, "put": self.put, "print": self.say}
+        self.kinds |= {"start": self.start, "exit": self.leave, "fault": self.fault}
+        # The clause whose transition comes next.
+        self.clause: Optional[Clause] = None
+        self.words = {"val": self.val, "up": self.up, "down": self.down, "done": self.done}
+
+    # Lines of the trace.
+
+    def event(self, event: Event) -> None:
+        """Takes a line of the trace."""
+        record = self.record
+        record.reach(event.time).line(event.line, event.text)
+        if self.part.has(event.time):
+            record.counts.lines += 1
+            record.lines.add(event.time)
+        if event.word == "tick":
+            return
+        lanes = record.by_channel.get(event.name)
+        if lanes is None:
+            self.unknown(event)
+            return
+        take = self.words[event.word]
+        for it in lanes:
+            take(it, event)
+
+    def unknown(self, event: Event) -> None:
+        """A line names a channel that the program does not have."""
+        known = self.record.unknown
+        if len(known) < MOST_UNKNOWN:
+            known.setdefault(event.name, event.line)
+
+    def val(self, lanes: ChannelLanes, event: Event) -> None:
+        """Values came. A value that is as it was is no change."""
+        if lanes.element >= len(event.values):
+            return
+        value = event.values[lanes.element]
+        if value != lanes.value:
+            lanes.value = value
+            self.part.keep(lanes.told, event.time, value)
+
+    def up(self, lanes: ChannelLanes, event: Event) -> None:
+        """The channel is connected."""
+        self.part.keep(lanes.link, event.time, 1)
+        self.linked(lanes, event.time, "connected again")
+
+    def down(self, lanes: ChannelLanes, event: Event) -> None:
+        """The channel is not connected any more, which ends the waiting for an answer."""
+        self.part.keep(lanes.link, event.time, 0)
+        self.wait(lanes, event.time, False)
+        self.linked(lanes, event.time, "not connected any more")
+        if lanes.element == 0 and self.part.has(event.time):
+            self.record.spots.add(Spot(event.time, DOWN, f"{lanes.name} goes down"))
+
+    def linked(self, lanes: ChannelLanes, time: int, text: str) -> None:
+        """Tells that a channel was lost or found, once the program has begun."""
+        if self.record.began is not None and lanes is self.record.by_channel[lanes.name][0]:
+            self.record.instant.deed(Deed("link", f"{lanes.name} is {text}"))
+
+    def done(self, lanes: ChannelLanes, event: Event) -> None:
+        """The puts to the channel were answered."""
+        self.wait(lanes, event.time, False)
+
+    def wait(self, lanes: ChannelLanes, time: int, is_waiting: bool) -> None:
+        """From now on a put to the channel waits for its answer, or none does."""
+        if lanes.is_waiting != is_waiting:
+            lanes.is_waiting = is_waiting
+            self.part.keep(lanes.waits, time, int(is_waiting))
+
+    # Lines of the run.
+
+    def entry(self, entry: Entry) -> None:
+        """Takes a line of the run, with the notes of its time."""
+        instant = self.record.reach(entry.time)
+        if not instant.line_count and not instant.deed_count and self.part.has(entry.time):
+            self.record.wakes.add(entry.time)
+        for clause in entry.clauses:
+            instant.name(clause.trace)
+            self.clause = clause
+        for refusal in entry.refusals:
+            self.refuse(entry.time, refusal)
+        self.kinds.get(entry.kind, lambda _: None)(entry)
+        for refusal in entry.later:
+            self.refuse(entry.time, refusal)
+
+    def go(self, entry: Entry) -> None:
+        """A transition."""
+        name, source, target = entry.rest.split(" ")
+        lanes, is_drawn = self.record.by_set[name], self.part.has(entry.time)
+        lanes.at_once += 1
+        is_own = source == target
+        clause, saw = clause_of(self.clause, lanes.of, source, target)
+        self.clause = None
+        deed = Deed("go", f"{name}: {source} -> {target}", clause, saw)
+        self.record.instant.deed(deed, is_dull=is_own and lanes.at_once == 1)
+        self.record.counts.transitions += is_drawn
+        if not is_own and target in lanes.numbers:
+            self.enter(lanes, entry.time, lanes.numbers[target])
+        elif is_own and is_drawn:
+            lanes.own.add(entry.time)
+
+    def enter(self, lanes: SetLanes, time: int, number: int) -> None:
+        """A state set is in a state from now on."""
+        self.part.keep(lanes.steps, time, number)
+        if self.part.high is None or time <= self.part.high:
+            lanes.state, lanes.since = number, time
+
+    def put(self, entry: Entry) -> None:
+        """A put. Of an array each element that is drawn has a lane of its own."""
+        name, *texts = entry.rest.split(" ")
+        self.record.counts.puts += self.part.has(entry.time)
+        shown = [self.values.full(name, int(it)) for it in texts[:8]] + [".."] * (len(texts) > 8)
+        self.record.instant.deed(Deed("put", f"{name} := {' '.join(shown)}"))
+        for lanes in self.record.by_channel.get(name, ()):
+            if lanes.element < len(texts):
+                self.part.keep(lanes.asked, entry.time, int(texts[lanes.element]))
+            if lanes.of.is_asking:
+                self.wait(lanes, entry.time, True)
+
+    def say(self, entry: Entry) -> None:
+        """A `printf`."""
+        name, _, text = entry.rest.partition(" ")
+        self.record.instant.deed(Deed("print", f"{name} says: {text}"))
+        if self.part.has(entry.time):
+            self.record.counts.prints += 1
+            self.record.prints.add(entry.time, text)
+
+    def start(self, entry: Entry) -> None:
+        """The program begins, with each state set in its first state."""
+        self.record.began = entry.time
+        self.record.instant.deed(Deed("start", "the program starts"))
+        for lanes in self.record.sets:
+            self.enter(lanes, entry.time, 0)
+
+    def leave(self, entry: Entry) -> None:
+        """The program ends by itself."""
+        self.record.over = entry.time
+        self.record.instant.deed(Deed("exit", "the program ends"))
+
+    def fault(self, entry: Entry) -> None:
+        """The program did something wrong, and is stopped."""
+        name, line, text = entry.rest.split(" ", 2)
+        self.record.over, self.record.fault = entry.time, f"{name}, line {line}: {text}"
+        self.record.instant.deed(Deed("fault", f"FAULT in {self.record.fault}"))
+        if self.part.has(entry.time):
+            self.record.spots.add(Spot(entry.time, FAULT, f"fault in {self.record.fault}"))
+
+    def refuse(self, time: int, refusal: Refusal) -> None:
+        """A put was refused."""
+        text = f"put to {refusal.name} refused: {refusal.why}" if refusal.name else f"put refused: {refusal.why}"
+        self.record.instant.deed(Deed("refused", text))
+        if not self.part.has(time):
+            return
+        self.record.counts.refused += 1
+        self.record.spots.add(Spot(time, REFUSED, text))
+        for lanes in self.record.by_channel.get(refusal.name, ()):
+            lanes.refused.add(time)
+
+
+def clause_of(noted: Optional[Clause], of: StateSet, source: str, target: str) -> tuple[str, str]:
+    """The clause of a transition, and the values that it saw: those of the note; without one each clause that leads there."""
+    if noted is not None:
+        return f"clause {noted.number}, line {noted.line}", noted.saw
+    numbers = of.clauses.get((source, target), [])
+    return f"clause {' or '.join(map(str, numbers))}" if numbers else "", ""
