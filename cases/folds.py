@@ -1,5 +1,4 @@
 """Cases of `snl run` that no file of cases can have: what holds of every run, long runs, memory, a trace that comes slowly."""
-import os
 import re
 import subprocess
 import tempfile
@@ -8,6 +7,7 @@ from pathlib import Path
 from typing import Callable
 
 from case import SECONDS
+from memory import peak
 
 AGAIN = re.compile(r"# (?:this line|these (\d+) lines) (\d+) times? more, up to \d+")
 # How many lines the long trace has, and how much more memory in kilobytes a call may take over it than over a short one.
@@ -145,19 +145,17 @@ def memory(programs, folder):
         return ""
     (folder / "p.st").write_text(VALVE.replace("opened == 1", "pressure > 2000"))
     for words in (["run", "p.st"], ["run", "--whole", "p.st"]):
-        few, many = (peak(programs["snl"], folder, words, count) for count in (10, LINES))
+        few, many = (taken(programs["snl"], folder, words, count) for count in (10, LINES))
         if many >= few + SLACK:
             return f"{few} kilobytes over ten lines, {many} over {LINES}"
     return ""
 
 
-def peak(program, folder, words, count):
+def taken(program, folder, words, count):
     trace = folder / f"{count}.trace"
     with open(trace, "w") as out:
         out.writelines(["0 up V:P\n", "0 up V:OPEN\n"] + [f"{n} val V:P {n * 7919 % 4000}\n" for n in range(count)])
     with open(trace) as stdin:
-        ran = subprocess.Popen([program, *words], cwd=folder, stdin=stdin, stdout=subprocess.DEVNULL)
-        _, status, used = os.wait4(ran.pid, 0)
-    ran.returncode = os.waitstatus_to_exitcode(status)
-    assert ran.returncode == 0, ran.returncode
-    return used.ru_maxrss
+        status, kilobytes = peak([program, *words], folder, stdin)
+    assert status == 0, status
+    return kilobytes

@@ -8,6 +8,7 @@ from pathlib import Path
 from typing import Callable
 
 from case import SECONDS
+from memory import peak
 
 SOURCE = """program p option +s; int x; assign x to "X"; monitor x;
 ss s { state a { when (x > 1) {} state a } }
@@ -104,18 +105,16 @@ def memory(program, folder):
     """A build of `bin/try` has its own memory, and is not asked."""
     if "try" in program.parts:
         return ""
-    few, many = (peak(program, folder, count) for count in (10, LINES))
+    few, many = (taken(program, folder, count) for count in (10, LINES))
     return "" if many < few + SLACK else f"{few} kilobytes over ten lines, {many} over {LINES}"
 
 
-def peak(program, folder, count):
+def taken(program, folder, count):
     """The memory of a call over a trace of so many lines, over which the program does not begin."""
     trace = folder / f"{count}.trace"
     with open(trace, "w") as out:
         out.writelines(f"{n} val OTHER{n % 50} {n}\n" for n in range(count))
     with open(trace) as stdin:
-        ran = subprocess.Popen([program, "waits", "p.st"], cwd=folder, stdin=stdin, stdout=subprocess.DEVNULL)
-        _, status, used = os.wait4(ran.pid, 0)
-    ran.returncode = os.waitstatus_to_exitcode(status)
-    assert ran.returncode == 1, ran.returncode
-    return used.ru_maxrss
+        status, kilobytes = peak([program, "waits", "p.st"], folder, stdin)
+    assert status == 1, status
+    return kilobytes
