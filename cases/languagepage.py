@@ -1,4 +1,4 @@
-"""Cases from docs/LANGUAGE.md and docs/FUNCTIONS.md: each program, run over the trace in the table behind it; each expression and each call of a table."""
+"""Cases from docs/LANGUAGE.md, QUEUES.md and FUNCTIONS.md: each program, run over the trace in the table behind it; each expression and each call of a table."""
 import re
 
 from case import Case
@@ -90,4 +90,4 @@ def missing(root):
 
 
 def text_of(root):
-    return "\n".join((root / "docs" / it).read_text() for it in ("LANGUAGE.md", "FUNCTIONS.md"))
+    return "\n".join((root / "docs" / it).read_text() for it in ("LANGUAGE.md", "QUEUES.md", "FUNCTIONS.md"))
