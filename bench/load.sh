@@ -9,8 +9,8 @@
 # has to take at most 2.2 times the time of the half, and at most 1.5 times that of `snc`, which judges it and loads nothing.
 #
 # Then 1,000 links with 15,000 `monitor` definitions, which has to take less than 0.1 s; and a sum of 28,000 names inside 60
-# parentheses, each of them behind an operator of every level, which has to take no more than 3 times `snc`. Each time is the best of all runs, less the time
-# for an empty file, for what else the machine does only adds to it.
+# parentheses, each of them behind an operator of every level, which has to take no more than 3 times `snc`. Each time is the processor's, the best
+# of all runs, less the time for an empty file, for what else the machine does only adds to it.
 set -eu
 cd "$(dirname "$0")/.."
 runs=${1:-30}
@@ -48,13 +48,12 @@ source_of() {
     }' > "$2"
 }
 
-# runs a program on a source over an empty trace, and keeps the microseconds where no run before took fewer
+# runs a program on a source over an empty trace, and keeps the microseconds of processor time where no run before took fewer
 time_run() {
     local -n best=$1
-    local from=$EPOCHREALTIME to
-    "$2" "$3" > /dev/null 2>&1 < /dev/null || true
-    to=$EPOCHREALTIME
-    local took=$((${to/[.,]/} - ${from/[.,]/}))
+    local TIMEFORMAT='%U %S' user system
+    read -r user system < <({ time "$2" "$3" > /dev/null 2>&1 < /dev/null || true; } 2>&1)
+    local took=$((1000 * (10#${user/[.,]/} + 10#${system/[.,]/})))
     if ((took < best)); then best=$took; fi
 }
 

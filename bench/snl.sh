@@ -1,9 +1,10 @@
 #!/usr/bin/env bash
-# How long `snl run` takes beside `snlrun` over the trace of bench/trace.sh, and its peak memory over that and over ten lines.
+# How long `snl run`, `snl cover` and `snl graph` take beside `snlrun` over the trace of bench/trace.sh, and their peak memory over
+# that and over ten lines.
 #
 #   bench/snl.sh [LINES]           5,000,000 lines where none are given
 #
-# `snl run --whole` and `snl run` are to take at most 1.6 times as long as `snlrun`. Needs GNU time.
+# Each is to take at most 1.6 times as long as `snlrun`. Needs GNU time.
 set -eu
 cd "$(dirname "$0")/.."
 lines=${1:-5000000}
@@ -58,13 +59,14 @@ best() {
 
 read -r base _ <<< "$(best "$work/long.trace" "$plain" "$work/limit.st")"
 mv "$work/out" "$work/run"
-for way in --whole ''; do
-    read -r seconds memory <<< "$(best "$work/long.trace" "$noted" run $way "$work/limit.st")"
+for way in 'run --whole' run cover graph; do
+    # ($way is words: the word of the companion, and its options)
+    read -r seconds memory <<< "$(best "$work/long.trace" "$noted" $way "$work/limit.st")"
     written=$(wc -l < "$work/out")
-    [ -z "$way" ] || grep -v '^#' "$work/out" | cmp - "$work/run"
-    read -r _ start <<< "$(best "$work/short.trace" "$noted" run $way "$work/limit.st")"
-    awk -v way="snl run $way" -v seconds="$seconds" -v base="$base" -v memory="$memory" -v start="$start" -v written="$written" 'BEGIN {
-        printf "%-14s %.2f s beside %.2f of snlrun, %.2f times; %d lines written; peak %d KB, %d over 10 lines\n",
+    [ "$way" != 'run --whole' ] || grep -v '^#' "$work/out" | cmp - "$work/run"
+    read -r _ start <<< "$(best "$work/short.trace" "$noted" $way "$work/limit.st")"
+    awk -v way="snl $way" -v seconds="$seconds" -v base="$base" -v memory="$memory" -v start="$start" -v written="$written" 'BEGIN {
+        printf "%-15s %.2f s beside %.2f of snlrun, %.2f times; %d lines written; peak %d KB, %d over 10 lines\n",
             way, seconds, base, seconds / base, written, memory, start
     }'
 done

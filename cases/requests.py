@@ -72,7 +72,9 @@ CALLS = (
     Call("snlrun", ["--budget", "0", "r.st"], 2, 10, 1),
     Call("snl", ["waits", "r.st"], 0, 100, 1),
     Call("snl", ["waits", "+s", "waiting.st", "A=1"], 1, 100, 3),
-    Call("snl", ["wait", "r.st"], 2, 5, 4),
+    Call("snl", ["cover", "--fail-under", "100", "r.st"], 1, 100, 1),
+    Call("snl", ["graph", "warned.st"], 0, 100, 2),
+    Call("snl", ["wait", "r.st"], 2, 5, 6),
 )
 OUT_OF_MEMORY = 4
 # The number of a request that no call comes to.

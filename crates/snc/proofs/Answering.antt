@@ -11,7 +11,7 @@ use Rattle.snl_text.specs.declared.faults.LexFault.TheVariants.{SourceTooLong}
 use Rattle.snl_text.specs.declared.faults.LexFault.TheVariants as faults
 use Rattle.snl_text.specs.declared.faults.Flaw.{Flaw}
 use Rattle.snl_text.specs.declared.faults.Flaw.TheVariants as flaw
-use Rattle.snl_text.specs.declared.pieces.Piece.{Piece}
+use Rattle.snl_text.specs.declared.lexemes.Lexeme.{Lexeme}
 use Rattle.snl_text.specs.Cut.{Cuts, Reading, nothing_read, start}
 use Rattle.snl_text.specs.Faults.{fault_pos, fault_text}
 use Rattle.snl_text.specs.Lexing.{FaultHolds, GivesOnly, IsLexed}
@@ -39,7 +39,7 @@ use Rattle.snl_links.specs.Links.{links}
 use Rattle.snl_links.specs.Tables.{tables}
 use Rattle.snc.specs.Judging.{AreNamesBefore, ReadsNames, HasFault, HasTokens, IsJudged, IsSaidOf, IsTreeSaid, NoErrors, error_at, names_of, nesting_error, syntax_error}
 use Rattle.snc.specs.Outcomes.{IsReport, IsRunOf, IsSession, at_first, status_of, tables_text}
-use Rattle.snc.specs.Texts.{text_of}
+use Rattle.snc.specs.Texts.{messages_text}
 use Rattle.snc.specs.ReportSteps.{AreNamesOf, AreTokensTold, IsFaultTold, IsTreeTold, asked_tables}
 
 -- an error alone
@@ -72,21 +72,21 @@ has_tokens source lexed is long =
 
 -- the names in a text that was cut
 pub names_cut : (text : List ℕ) (lexed : Lexed) → IsLexed text lexed
-    → ((pieces : List Piece) (end : Reading) → length text ≤ 1048576 → Cuts nothing_read text pieces end [] → GivesOnly end (Ok lexed)) → AreNamesOf text (names_of lexed)
+    → ((lexemes : List Lexeme) (end : Reading) → length text ≤ 1048576 → Cuts nothing_read text lexemes end [] → GivesOnly end (Ok lexed)) → AreNamesOf text (names_of lexed)
 names_cut text lexed w whole = record {
-  cut = λ end within is. (whole is.pieces end within is.cut).files;
+  cut = λ end within is. (whole is.lexemes end within is.cut).files;
   none = λ never. absurd (never w.end w.cut);
 }
 
 -- the text of the message about a fault
 pub fault_told : (word source text front words told : List ℕ) (fault : LexFault) (pos : Pos) (names listed : List (List ℕ)) → fault_pos fault ≡ Some pos → fault_text fault ≡ Some words
-    → front ≡ take pos.offset source → AreNamesOf front names → listed ≡ names → told ≡ words → text ≡ text_of word listed (error_at pos 3 told ∷ []) → IsFaultTold word source fault text
+    → front ≡ take pos.offset source → AreNamesOf front names → listed ≡ names → told ≡ words → text ≡ messages_text word listed (error_at pos 3 told ∷ []) → IsFaultTold word source fault text
 fault_told word source text front words told fault pos names listed at says is given same_names same_words text_is = record {
   names = names;
   messages = error_at pos 3 words ∷ [];
   said = record { pos = pos; words = words; at = at; says = says; messages_are = refl };
   given = subst (λ l. AreNamesOf l names) is given;
-  text_is = text_is ∙ (λ i. text_of word (same_names i) (error_at pos 3 (same_words i) ∷ []));
+  text_is = text_is ∙ (λ i. messages_text word (same_names i) (error_at pos 3 (same_words i) ∷ []));
 }
 
 -- so many of the first bytes are no more than all
@@ -103,7 +103,7 @@ names_read source kind pos names within given w = given.cut w.end within (before
 
 -- nothing has no names
 names_of_nothing : (source : List ℕ) (names : List (List ℕ)) → AreNamesOf (take 0 source) names → names ≡ []
-names_of_nothing source names given = given.cut nothing_read (lit≤ tt) record { pieces = []; cut = (refl, refl) }
+names_of_nothing source names given = given.cut nothing_read (lit≤ tt) record { lexemes = []; cut = (refl, refl) }
 
 -- places that are given as one are one
 same_place : (p q : Pos) → ◌≡◌ {A = Option Pos} (Some p) (Some q) → p ≡ q
@@ -174,20 +174,20 @@ error_alone message is none = none message (Contains-push [] message) is
 
 -- tokens with one message, which is an error
 told_alone : (given : Options) (word text : List ℕ) (names : List (List ℕ)) (lexed : Lexed) (message : Said) (checked : Option Checked) → names ≡ names_of lexed
-    → message.severity ≡ Error → IsSaidOf given lexed (message ∷ []) None → text ≡ text_of word names (message ∷ []) → checked ≡ None
+    → message.severity ≡ Error → IsSaidOf given lexed (message ∷ []) None → text ≡ messages_text word names (message ∷ []) → checked ≡ None
     → AreTokensTold given word lexed text (tree_of checked)
 told_alone given word text names lexed message checked named error said is none = subst (λ o. AreTokensTold given word lexed text (tree_of o)) (sym none) record {
   messages = message ∷ [];
   tree = None;
   said = said;
-  text_is = is ∙ ap (λ n. text_of word n (message ∷ [])) named;
+  text_is = is ∙ ap (λ n. messages_text word n (message ∷ [])) named;
   accepted = (λ h. absurd (false≢true h), λ h. absurd (error_alone message error h));
   same = tt;
 }
 
 -- tokens that are no program
 pub told_stuck : (given : Options) (word text : List ℕ) (names : List (List ℕ)) (lexed : Lexed) (k : ℕ) (checked : Option Checked) → names ≡ names_of lexed
-    → IsUnexpected programs 64 lexed.tokens.items k → text ≡ text_of word names (syntax_error lexed (slice_get lexed.tokens.items k) ∷ []) → checked ≡ None
+    → IsUnexpected programs 64 lexed.tokens.items k → text ≡ messages_text word names (syntax_error lexed (slice_get lexed.tokens.items k) ∷ []) → checked ≡ None
     → AreTokensTold given word lexed text (tree_of checked)
 told_stuck given word text names lexed k checked named read is none =
     told_alone given word text names lexed (syntax_error lexed (slice_get lexed.tokens.items k)) checked named (is_error lexed (slice_get lexed.tokens.items k))
@@ -195,7 +195,7 @@ told_stuck given word text names lexed k checked named read is none =
 
 -- tokens that are nested too deep
 pub told_deep : (given : Options) (word text : List ℕ) (names : List (List ℕ)) (lexed : Lexed) (k : ℕ) (token : Token) (checked : Option Checked) → names ≡ names_of lexed
-    → IsTooDeep programs 64 lexed.tokens.items k → slice_get lexed.tokens.items k ≡ Some token → text ≡ text_of word names (nesting_error token ∷ []) → checked ≡ None
+    → IsTooDeep programs 64 lexed.tokens.items k → slice_get lexed.tokens.items k ≡ Some token → text ≡ messages_text word names (nesting_error token ∷ []) → checked ≡ None
     → AreTokensTold given word lexed text (tree_of checked)
 told_deep given word text names lexed k token checked named read at is none =
     told_alone given word text names lexed (nesting_error token) checked named refl
@@ -221,7 +221,7 @@ told_program given word text names lexed whole embedded beyond checked named pie
     tree_is = refl;
     said = subst (λ (b : Option Pos). IsTreeSaid given whole lexed.embedded.items b w.messages) past (subst (λ (e : List Pos). IsTreeSaid given whole e beyond w.messages) pieces w.said);
   };
-  text_is = w.text_is ∙ ap (λ n. text_of word n w.messages) named;
+  text_is = w.text_is ∙ ap (λ n. messages_text word n w.messages) named;
   accepted = w.accepted;
   same = some_tree checked whole w.same;
 }
@@ -246,7 +246,7 @@ checked_options given p (Some c) same are = are ∙ ap (λ q. options_in_force (
 pub told_checked : (given : Options) (word text : List ℕ) (names : List (List ℕ)) (p : Program) (messages : List Said) (checked : Option Checked)
     → ((m : Said) → Contains messages m ↔ IsSaid given (program_view p) p.embedded.items p.beyond m) → IsInOrder messages
     → (IsSome checked ↔ IsAccepted (options_in_force (program_view p) given) p) → IfSome checked (λ c. c.program ≡ p)
-    → text ≡ text_of word names messages → IsTreeTold given word names (program_view p) p.embedded.items p.beyond text (tree_of checked)
+    → text ≡ messages_text word names messages → IsTreeTold given word names (program_view p) p.embedded.items p.beyond text (tree_of checked)
 told_checked given word text names p messages checked exactly in_order accepted same is =
     let some = is_some_tree checked in
     record {

@@ -19,9 +19,9 @@ use Rattle.snl_messages.specs.declared.messages.Severity.TheVariants.{Error}
 use Rattle.snl_messages.specs.declared.refusals.Refusal.{Refusal}
 use Rattle.snl_messages.specs.declared.refusals.Refusal.TheVariants.{Unexpected, EndOfFile, TooDeep, NoTokens}
 use Rattle.snl_messages.specs.Messages.{Said, IsInOrder}
-use Rattle.snl_messages.specs.Refusals.{number_of, words_of}
+use Rattle.snl_messages.specs.Refusals.{refusal_number, words_of}
 use Rattle.snl_messages.specs.Says.{IsSaid}
-use Rattle.snc.specs.Texts.{text_of}
+use Rattle.snc.specs.Texts.{messages_text}
 
 -- an error at a place
 abbrev pub error_at : Pos → ℕ → List ℕ → Said
@@ -51,7 +51,7 @@ pub record IsFaultSaid (fault : LexFault) (messages : List Said) : Type 0 where
   pub words : List ℕ
   pub at : fault_pos fault ≡ Some pos
   pub says : fault_text fault ≡ Some words
-  pub messages_are : messages ≡ error_at pos (number_of NoTokens) words ∷ []
+  pub messages_are : messages ≡ error_at pos (refusal_number NoTokens) words ∷ []
 
 -- the source is no row of tokens, by a fault
 pub record HasFault (source : List ℕ) (fault : LexFault) : Type 0 where
@@ -65,11 +65,11 @@ pub record HasTokens (source : List ℕ) (lexed : Lexed) : Type 0 where
 
 -- an error that quotes its token
 abbrev pub token_error : Refusal → Token → Said
-token_error why t = error_at t.pos (number_of why) (words_of why ++ (t.text.now ++ codes "'"))
+token_error why t = error_at t.pos (refusal_number why) (words_of why ++ (t.text.now ++ codes "'"))
 
 -- E01, at a token or at the end of the file
 abbrev pub syntax_error : Lexed → Option Token → Said
-syntax_error lexed None = error_at lexed.eof (number_of EndOfFile) (words_of EndOfFile)
+syntax_error lexed None = error_at lexed.eof (refusal_number EndOfFile) (words_of EndOfFile)
 syntax_error lexed (Some t) = token_error Unexpected t
 
 -- E02, at a token
@@ -139,6 +139,6 @@ pub record IsJudged (given : Options) (word source text : List ℕ) (checked : O
   pub messages : List Said
   pub tree : Option ProgramTree
   pub finds : Finds given source names messages tree
-  pub text_is : text ≡ text_of word names messages
+  pub text_is : text ≡ messages_text word names messages
   pub accepted : IsSome checked ↔ NoErrors messages
   pub same : IfSome checked (λ p. tree ≡ Some p)

@@ -17,7 +17,7 @@ use Rattle.snl_trace.specs.RunOver.{Place, RunsOver}
 use Rattle.snl_trace.specs.declared.runner.End.{End}
 use Rattle.snl_trace.specs.declared.runner.End.TheVariants as end
 use Rattle.snc.specs.Judging.{Finds, NoErrors}
-use Rattle.snc.specs.Texts.{text_of}
+use Rattle.snc.specs.Texts.{messages_text}
 use Rattle.snc.specs.declared.jobs.Status.{Status}
 use Rattle.snc.specs.declared.jobs.Status.TheVariants.{Well, SourceErrors, Usage, InputOutput, Memory, ProgramFault, TraceFault}
 
@@ -58,7 +58,7 @@ pub record IsReport (given : Options) (asked : Bool) (word source text shown : L
   pub messages : List Said
   pub tree : Option ProgramTree
   pub finds : Finds given source names messages tree
-  pub text_is : text ≡ text_of word names messages
+  pub text_is : text ≡ messages_text word names messages
   pub status_is : IsStatusOf messages status
   pub shown_is : shown ≡ tables_text asked status tree
 
@@ -102,5 +102,5 @@ pub record IsSession {R S : Type 0} (source_rest : R → Option (List ℕ)) (sou
   pub messages : List Said
   pub tree : Option ProgramTree
   pub finds : Finds given source names messages tree
-  pub text_is : text ≡ text_of word names messages
+  pub text_is : text ≡ messages_text word names messages
   pub goes_on : GoesOn source_rest source_failures sink_told sink_failures given macros messages tree budget trace trace' sink sink' end status

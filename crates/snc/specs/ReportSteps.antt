@@ -10,7 +10,7 @@ use Rattle.snl_resolve.specs.declared.options.Options.{Options}
 use Rattle.snl_messages.specs.Messages.{Said}
 use Rattle.snl_links.specs.Tables.{tables}
 use Rattle.snc.specs.Judging.{IsFaultSaid, IsSaidOf, IsTreeSaid, NoErrors, names_of}
-use Rattle.snc.specs.Texts.{text_of}
+use Rattle.snc.specs.Texts.{messages_text}
 
 -- the names that the markers of a text give to files: those of its cut, if it has one
 pub record AreNamesOf (text : List ℕ) (names : List (List ℕ)) : Type 0 where
@@ -23,14 +23,14 @@ pub record IsFaultTold (word source : List ℕ) (fault : LexFault) (text : List 
   pub messages : List Said
   pub said : IsFaultSaid fault messages
   pub given : AreNamesOf (take said.pos.offset source) names
-  pub text_is : text ≡ text_of word names messages
+  pub text_is : text ≡ messages_text word names messages
 
 -- the text of the messages about tokens, and their tree, if none is an error
 pub record AreTokensTold (given : Options) (word : List ℕ) (lexed : Lexed) (text : List ℕ) (checked : Option ProgramTree) : Type 0 where
   pub messages : List Said
   pub tree : Option ProgramTree
   pub said : IsSaidOf given lexed messages tree
-  pub text_is : text ≡ text_of word (names_of lexed) messages
+  pub text_is : text ≡ messages_text word (names_of lexed) messages
   pub accepted : IsSome checked ↔ NoErrors messages
   pub same : IfSome checked (λ p. tree ≡ Some p)
 
@@ -39,7 +39,7 @@ pub record IsTreeTold (given : Options) (word : List ℕ) (names : List (List �
     (text : List ℕ) (checked : Option ProgramTree) : Type 0 where
   pub messages : List Said
   pub said : IsTreeSaid given whole embedded beyond messages
-  pub text_is : text ≡ text_of word names messages
+  pub text_is : text ≡ messages_text word names messages
   pub accepted : IsSome checked ↔ NoErrors messages
   pub same : IfSome checked (λ p. p ≡ whole)
 

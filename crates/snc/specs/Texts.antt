@@ -20,5 +20,5 @@ line_of word names m =
     concat (file_name word names m.pos.file ∷ codes ":" ∷ decimal m.pos.line ∷ head_of m.severity m.number ∷ decimal m.number ∷ codes " " ∷ m.text ∷ codes "\n" ∷ [])
 
 -- the lines of messages
-abbrev pub text_of : List ℕ → List (List ℕ) → List Said → List ℕ
-text_of word names messages = flat_map (line_of word names) messages
+abbrev pub messages_text : List ℕ → List (List ℕ) → List Said → List ℕ
+messages_text word names messages = flat_map (line_of word names) messages

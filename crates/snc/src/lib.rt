@@ -11,7 +11,7 @@ mod reports;
 mod sessions;
 
 pub use jobs::{Report, Status};
-pub use messages::{Findings, judged};
+pub use messages::{Judgement, judged};
 pub use reports::report;
 pub use sessions::{macros_of, session};
 pub use snc_args::{DEFAULT_BUDGET, Job, Tool, WordsFault, read_words};

@@ -3,7 +3,7 @@
 ghost use Rattle.std.specs.Prelude.{◌≡◌, [], ◌∷◌, ◌++◌, map, OnOk, codes, decimal};
 ghost use Rattle.std.specs.List.{concat};
 ghost use Rattle.snl_messages.specs.Messages.{said};
-ghost use Rattle.snc.specs.Texts.{file_name, head_of, line_of, text_of};
+ghost use Rattle.snc.specs.Texts.{file_name, head_of, line_of, messages_text};
 
 use itoa::Buffer;
 use snl_check::{Message, Severity};
@@ -99,7 +99,8 @@ pub fn push_line(
 /// Adds the lines of messages. Fails only where memory ends.
 pub fn push_lines(out: &mut Vec<u8>, names: Names, messages: &[Message]) -> Result<(), AllocError>
     ensures { OnOk result (out.new.items ≡ out.old.items
-        ++ text_of names.entry.read.now (map (λ name. name.now) names.entry.marked.now) (map said messages.now)) }
+        ++ messages_text names.entry.read.now (map (λ name. name.now) names.entry.marked.now)
+        (map said messages.now)) }
 {
     for message in messages {
         let text = message.text.as_slice();

@@ -4,9 +4,9 @@ ghost use Rattle.std.specs.Prelude.{◌≡◌, ◌<◌, [], ◌∷◌, ◌++◌,
 ghost use Rattle.std.specs.Option.{option_map};
 ghost use Rattle.snl_syntax.specs.view.Programs.{program_view};
 ghost use Rattle.snl_messages.specs.Silence.{options_in_force};
-ghost use Rattle.snl_messages.specs.Refusals.{number_of};
+ghost use Rattle.snl_messages.specs.Refusals.{refusal_number};
 ghost use Rattle.snc.specs.Judging.{IsJudged, error_at, nesting_error, syntax_error, token_error};
-ghost use Rattle.snc.specs.Texts.{text_of};
+ghost use Rattle.snc.specs.Texts.{messages_text};
 ghost use Rattle.snc.specs.ReportSteps.{AreNamesOf, AreTokensTold, IsFaultTold, IsTreeTold};
 
 use crate::lines::{Names, push_line, push_lines};
@@ -19,7 +19,7 @@ use std::alloc::{AllocError, Global};
 
 /// What the rules say of a source.
 #[derive(Drop)]
-pub struct Findings<'a> {
+pub struct Judgement<'a> {
     /// A line for each message, in the order of the source.
     pub messages: Vec<u8>,
     /// The program, if no message is an error.
@@ -35,7 +35,7 @@ pub fn judged<'a>(
     source: &'a [u8],
     file: &[u8],
     given: Options,
-) -> Result<Findings<'a>, AllocError>
+) -> Result<Judgement<'a>, AllocError>
     ensures judged { IfOk result (λ f. IsJudged given file.now source.now f.messages.items
         (option_map (λ c. program_view c.program) f.checked)) }
     ensures options { IfOk result (λ f. IfSome f.checked (λ c. c.options
@@ -59,7 +59,7 @@ fn fault_judged<'a>(
     source: &[u8],
     fault: LexFault,
     file: &[u8],
-) -> Result<Findings<'a>, AllocError>
+) -> Result<Judgement<'a>, AllocError>
     ensures told { IfOk result (λ f. IsFaultTold file.now source.now fault f.messages.items) }
     ensures none { IfOk result (λ f. f.checked ≡ None) }
 {
@@ -103,7 +103,7 @@ fn tokens_judged<'a>(
     lexed: &Lexed<'a>,
     file: &[u8],
     given: Options,
-) -> Result<Findings<'a>, AllocError>
+) -> Result<Judgement<'a>, AllocError>
     ensures told { IfOk result (λ f. AreTokensTold given file.now lexed.now f.messages.items
         (option_map (λ c. program_view c.program) f.checked)) }
     ensures options { IfOk result (λ f. IfSome f.checked (λ c. c.options
@@ -137,7 +137,7 @@ fn tree_judged<'a>(
     program: Program<'a>,
     names: Names,
     given: Options,
-) -> Result<Findings<'a>, AllocError>
+) -> Result<Judgement<'a>, AllocError>
     ensures told { IfOk result (λ f. IsTreeTold given names.entry.read.now
         (map (λ name. name.now) names.entry.marked.now) (program_view program.entry)
         program.entry.embedded.items program.entry.beyond f.messages.items
@@ -151,7 +151,7 @@ fn tree_judged<'a>(
     } = check(alloc, program, given)?;
     let mut messages = Vec::new(alloc);
     push_lines(&mut messages, names, said.as_slice())?;
-    Ok(Findings { messages, checked })
+    Ok(Judgement { messages, checked })
 }
 
 /// The one message of tokens that are no program, at the first that can't stand where it does.
@@ -160,9 +160,9 @@ fn syntax_fault<'a>(
     lexed: &Lexed,
     k: usize,
     names: Names,
-) -> Result<Findings<'a>, AllocError>
+) -> Result<Judgement<'a>, AllocError>
     ensures text { IfOk result (λ f. f.messages.items
-        ≡ text_of names.entry.read.now (map (λ name. name.now) names.entry.marked.now)
+        ≡ messages_text names.entry.read.now (map (λ name. name.now) names.entry.marked.now)
         (syntax_error lexed.now (slice_get lexed.now.tokens.items k) ∷ [])) }
     ensures none { IfOk result (λ f. f.checked ≡ None) }
 {
@@ -185,9 +185,9 @@ fn syntax_fault<'a>(
 }
 
 /// The one message of tokens with which only programs go on that are nested too deep.
-fn nesting_fault<'a>(alloc: Global, token: Token, names: Names) -> Result<Findings<'a>, AllocError>
+fn nesting_fault<'a>(alloc: Global, token: Token, names: Names) -> Result<Judgement<'a>, AllocError>
     ensures text { IfOk result (λ f. f.messages.items
-        ≡ text_of names.entry.read.now (map (λ name. name.now) names.entry.marked.now)
+        ≡ messages_text names.entry.read.now (map (λ name. name.now) names.entry.marked.now)
         (nesting_error token.entry ∷ [])) }
     ensures none { IfOk result (λ f. f.checked ≡ None) }
 {
@@ -201,9 +201,9 @@ fn token_fault<'a>(
     token: Token,
     names: Names,
     why: Refusal,
-) -> Result<Findings<'a>, AllocError>
+) -> Result<Judgement<'a>, AllocError>
     ensures text { IfOk result (λ f. f.messages.items
-        ≡ text_of names.entry.read.now (map (λ name. name.now) names.entry.marked.now)
+        ≡ messages_text names.entry.read.now (map (λ name. name.now) names.entry.marked.now)
         (token_error why token.entry ∷ [])) }
     ensures none { IfOk result (λ f. f.checked ≡ None) }
 {
@@ -244,10 +244,10 @@ fn refused<'a>(
     pos: Pos,
     why: Refusal,
     text: &[u8],
-) -> Result<Findings<'a>, AllocError>
+) -> Result<Judgement<'a>, AllocError>
     ensures text { IfOk result (λ f. f.messages.items
-        ≡ text_of names.entry.read.now (map (λ name. name.now) names.entry.marked.now)
-        (error_at pos (number_of why) text.now ∷ [])) }
+        ≡ messages_text names.entry.read.now (map (λ name. name.now) names.entry.marked.now)
+        (error_at pos (refusal_number why) text.now ∷ [])) }
     ensures none { IfOk result (λ f. f.checked ≡ None) }
 {
     let mut messages = Vec::new(alloc);
@@ -259,7 +259,7 @@ fn refused<'a>(
         why.number(),
         text,
     )?;
-    Ok(Findings {
+    Ok(Judgement {
         messages,
         checked: None,
     })

@@ -5,7 +5,7 @@ ghost use Rattle.std.specs.Option.{option_map, unwrap_or};
 ghost use Rattle.snc.specs.Outcomes.{IsSession, status_of};
 
 use crate::jobs::Status;
-use crate::messages::{Findings, judged};
+use crate::messages::{Judgement, judged};
 use snc_args::Job;
 use snl_links::Macros;
 use snl_machine::{Machine, Sink};
@@ -33,7 +33,7 @@ pub fn session<R: Source, S: Sink>(
     ensures unread { OnErr result (trace.new ≡ trace.old) }
     ensures unwritten { OnErr result (sink.new ≡ sink.old) }
 {
-    let Findings { messages, checked } = judged(alloc, source, job.file.as_bytes(), job.options)?;
+    let Judgement { messages, checked } = judged(alloc, source, job.file.as_bytes(), job.options)?;
     let Some(checked) = checked else {
         return Ok((messages, None, Status::SourceErrors));
     };

@@ -3,4 +3,3 @@ pub mod Faults
 pub mod Jobs
 pub mod Parses
 pub mod Programs
-pub mod Settings

@@ -4,7 +4,7 @@ use Rattle.std.specs.List.{filter_map}
 use Rattle.std.specs.Option.{option_or}
 use Rattle.std.specs.Str.{chars}
 use Rattle.clap.specs.Words.{Text}
-use Rattle.snl_resolve.specs.Options.{is_among, is_program_letter}
+use Rattle.snl_resolve.specs.Options.{is_program_letter, last_sign, no_options, options_by, sign_said}
 use Rattle.snl_resolve.specs.declared.options.Options.{Options}
 use Rattle.snc_args.specs.declared.options.OptionWord.{OptionWord}
 
@@ -45,15 +45,13 @@ first_refused (o ∷ more) = option_or (option_map (λ c. (sign_of o, c)) (refus
 
 -- ---- what is in force
 
--- The sign of a letter: that of the last option that has the letter.
-abbrev pub sign_in_force : ℕ → List Setting → Option Bool
-sign_in_force letter [] = None
-sign_in_force letter (o ∷ more) =
-    option_or (sign_in_force letter more) (if is_among o.letters letter then Some o.on else None)
+-- The sign that an option gives to a letter.
+abbrev pub sign_given : ℕ → Setting → Option Bool
+sign_given letter o = sign_said letter o.on o.letters
 
--- The letters that matter are `s` (115), `c` (99), `u` (117) and `w` (119).
+-- Of each letter the last sign is in force.
 abbrev pub options_in_force : List Setting → Options
-options_in_force os = record { s = sign_in_force 115 os; c = sign_in_force 99 os; u = sign_in_force 117 os; w = sign_in_force 119 os }
+options_in_force os = options_by (λ letter. last_sign (sign_given letter) os) no_options
 
 -- An option word of the program as an option.
 abbrev pub setting_of : OptionWord → Setting

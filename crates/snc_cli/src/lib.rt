@@ -1,8 +1,11 @@
-//! What the programs do with the system they run on: the words of a call, the bytes of FILE, messages.
+//! What the programs do with the system they run on: the words of a call, the bytes of FILE, messages, lines that go out while a
+//! trace comes.
 #![tactic(auto)]
 
 mod calls;
 mod files;
+mod output;
 
 pub use calls::{job_of, tell, words_of, write};
 pub use files::{source_in, source_of};
+pub use output::{Lines, Output, flush};

@@ -2,7 +2,7 @@
 
 ghost use Rattle.std.specs.Prelude.{◌≡◌, ◌≤◌, length, IfSome};
 
-use crate::output::{Output, flush};
+use snc_cli::{Output, flush};
 use snl_trace::{Source, SourceFault};
 use snl_watch::Tally;
 use std::cell::RefCell;

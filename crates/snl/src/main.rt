@@ -3,10 +3,14 @@
 //! The answer goes to standard output, all else to standard error.
 #![tactic(auto)]
 
+mod covering;
+mod graphing;
 mod input;
-mod output;
 mod run;
+mod traces;
 
+use covering::answered_cover;
+use graphing::answered_graph;
 use input::Input;
 use run::answered_run;
 use snc::Status;
@@ -62,6 +66,8 @@ fn answered(rt: &HostRuntime, call: &Call) -> Status {
         Ok(source) => match call.word {
             Word::Waits => answered_waits(rt, source.as_slice(), call),
             Word::Run => answered_run(rt, source.as_slice(), call),
+            Word::Cover => answered_cover(rt, source.as_slice(), call),
+            Word::Graph => answered_graph(rt, source.as_slice(), call),
         },
         Err(status) => status,
     }

@@ -1,9 +1,8 @@
 //! `snl run`.
 
 use crate::input::Input;
-use crate::output::{Lines, Output};
 use snc::{SinkFault, Status};
-use snc_cli::tell;
+use snc_cli::{Lines, Output, tell};
 use snl_args::Call;
 use snl_trace::End;
 use snl_views::{RunAnswer, run_folded, run_whole};

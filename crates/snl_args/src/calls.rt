@@ -1,8 +1,9 @@
 //! What the words of a call ask for, and what may be wrong with them.
 
-use crate::commands::{over_trace, whole_argument};
+use crate::commands::{for_cover, for_graph, for_run, over_trace};
 use crate::texts::{
-    HELP, RUN_ABOUT, RUN_MORE, RUN_USAGE, WAITS_ABOUT, WAITS_MORE, WAITS_USAGE, WORDS,
+    COVER_ABOUT, COVER_MORE, COVER_USAGE, GRAPH_ABOUT, GRAPH_MORE, GRAPH_USAGE, HELP, RUN_ABOUT,
+    RUN_MORE, RUN_USAGE, WAITS_ABOUT, WAITS_MORE, WAITS_USAGE, WORDS,
 };
 use clap::error::ErrorKind;
 use clap::{ArgMatches, Command, Error};
@@ -19,10 +20,14 @@ pub enum Word {
     Waits,
     /// A run with notes and a summary: `snl run [--whole] FILE [MACROS]`.
     Run,
+    /// What of a program no run showed: `snl cover [--fail-under PERCENT] [--trace FILE].. FILE [MACROS]`.
+    Cover,
+    /// A picture of a program: `snl graph [--no-trace] FILE [MACROS]`.
+    Graph,
 }
 
 /// The names of the words.
-const NAMES: [&str; 2] = ["waits", "run"];
+const NAMES: [&str; 4] = ["waits", "run", "cover", "graph"];
 
 /// What a call asks for.
 #[derive(Drop)]
@@ -35,6 +40,12 @@ pub struct Call {
     pub progress: bool,
     /// Whether no block of lines is folded, where a run is asked for.
     pub is_whole: bool,
+    /// The files of the traces that `cover` is to read; none where the trace is on standard input.
+    pub traces: Vec<String>,
+    /// How many percent of the clauses have to be taken, where `cover` is asked for; 0 where nothing is said.
+    pub fail_under: u32,
+    /// Whether the program is drawn without a run, where a picture is asked for.
+    pub no_trace: bool,
 }
 
 /// Why words ask for nothing that is to be done. `Display` gives the text for the user.
@@ -65,6 +76,8 @@ fn word_of(name: &str) -> Option<Word> {
     match name {
         "waits" => Some(Word::Waits),
         "run" => Some(Word::Run),
+        "cover" => Some(Word::Cover),
+        "graph" => Some(Word::Graph),
         _ => None,
     }
 }
@@ -113,31 +126,68 @@ fn job_in(alloc: Global, matches: &ArgMatches, options: Options) -> Result<Job, 
     })
 }
 
+/// What all words have in common, as a command found it.
+fn call_in(
+    alloc: Global,
+    matches: &ArgMatches,
+    word: Word,
+    options: Options,
+) -> Result<Call, AllocError> {
+    Ok(Call {
+        word,
+        job: job_in(alloc, matches, options)?,
+        progress: matches.get_flag("progress"),
+        is_whole: false,
+        traces: Vec::new(alloc),
+        fail_under: 0,
+        no_trace: false,
+    })
+}
+
 /// What follows `waits`.
 fn read_waits(alloc: Global, words: &[&str], options: Options) -> Result<Call, CallFault> {
     let command = over_trace(alloc, WAITS_USAGE, WAITS_ABOUT, WAITS_MORE)?;
     let matches = matches_in(alloc, command, words)?;
-    let job = job_in(alloc, &matches, options)?;
-    Ok(Call {
-        word: Word::Waits,
-        job,
-        progress: matches.get_flag("progress"),
-        is_whole: false,
-    })
+    Ok(call_in(alloc, &matches, Word::Waits, options)?)
 }
 
 /// What follows `run`.
 fn read_run(alloc: Global, words: &[&str], options: Options) -> Result<Call, CallFault> {
-    let command = over_trace(alloc, RUN_USAGE, RUN_ABOUT, RUN_MORE)?;
-    let command = command.arg(whole_argument(alloc))?;
+    let command = for_run(alloc, RUN_USAGE, RUN_ABOUT, RUN_MORE)?;
     let matches = matches_in(alloc, command, words)?;
-    let job = job_in(alloc, &matches, options)?;
-    Ok(Call {
-        word: Word::Run,
-        job,
-        progress: matches.get_flag("progress"),
-        is_whole: matches.get_flag("whole"),
-    })
+    let mut call = call_in(alloc, &matches, Word::Run, options)?;
+    call.is_whole = matches.get_flag("whole");
+    Ok(call)
+}
+
+/// Texts of the caller's own.
+fn all_owned(alloc: Global, texts: &[&str]) -> Result<Vec<String>, AllocError> {
+    let mut list = Vec::new(alloc);
+    for text in texts {
+        list.push(String::from_str(alloc, text)?)?;
+    }
+    Ok(list)
+}
+
+/// What follows `cover`.
+fn read_cover(alloc: Global, words: &[&str], options: Options) -> Result<Call, CallFault> {
+    let command = for_cover(alloc, COVER_USAGE, COVER_ABOUT, COVER_MORE)?;
+    let matches = matches_in(alloc, command, words)?;
+    let mut call = call_in(alloc, &matches, Word::Cover, options)?;
+    if let Some(names) = matches.get_strs("trace") {
+        call.traces = all_owned(alloc, names)?;
+    }
+    call.fail_under = matches.get_one::<u32>("fail-under").unwrap_or(0);
+    Ok(call)
+}
+
+/// What follows `graph`.
+fn read_graph(alloc: Global, words: &[&str], options: Options) -> Result<Call, CallFault> {
+    let command = for_graph(alloc, GRAPH_USAGE, GRAPH_ABOUT, GRAPH_MORE)?;
+    let matches = matches_in(alloc, command, words)?;
+    let mut call = call_in(alloc, &matches, Word::Graph, options)?;
+    call.no_trace = matches.get_flag("no-trace");
+    Ok(call)
 }
 
 /// What follows a word.
@@ -150,6 +200,8 @@ fn read_word(
     match word {
         Word::Waits => read_waits(alloc, words, options),
         Word::Run => read_run(alloc, words, options),
+        Word::Cover => read_cover(alloc, words, options),
+        Word::Graph => read_graph(alloc, words, options),
     }
 }
 

@@ -39,12 +39,40 @@ fn progress_argument<'a>(alloc: Global) -> Arg<'a> {
 }
 
 /// `--whole`.
-pub(crate) fn whole_argument<'a>(alloc: Global) -> Arg<'a> {
+fn whole_argument<'a>(alloc: Global) -> Arg<'a> {
     Arg::new(alloc, "whole")
         .long("whole")
         .action(ArgAction::SetTrue)
         .value_parser(clap::value_parser!(bool))
         .help("Fold no blocks of lines that repeat")
+}
+
+/// `--fail-under`.
+fn fail_under_argument<'a>(alloc: Global) -> Arg<'a> {
+    Arg::new(alloc, "fail-under")
+        .long("fail-under")
+        .value_name("PERCENT")
+        .action(ArgAction::Set)
+        .value_parser(clap::value_parser!(u32).range(0..=100))
+        .help("End with status 1 where less of the clauses was taken")
+}
+
+/// `--trace`.
+fn trace_argument<'a>(alloc: Global) -> Arg<'a> {
+    Arg::new(alloc, "trace")
+        .long("trace")
+        .value_name("FILE")
+        .action(ArgAction::Append)
+        .help("A trace, in the place of standard input; several add up")
+}
+
+/// `--no-trace`.
+fn no_trace_argument<'a>(alloc: Global) -> Arg<'a> {
+    Arg::new(alloc, "no-trace")
+        .long("no-trace")
+        .action(ArgAction::SetTrue)
+        .value_parser(clap::value_parser!(bool))
+        .help("Read no trace, and tell no counts")
 }
 
 /// `--help`. `clap` would add `-h` beside it, but that is an option of the language.
@@ -73,4 +101,36 @@ pub(crate) fn over_trace<'a>(
         .arg(budget_argument(alloc))?
         .arg(progress_argument(alloc))?
         .arg(help_argument(alloc))
+}
+
+/// The command of `run`.
+pub(crate) fn for_run<'a>(
+    alloc: Global,
+    usage: &'a str,
+    about: &'a str,
+    more: &'a str,
+) -> Result<Command<'a>, AllocError> {
+    over_trace(alloc, usage, about, more)?.arg(whole_argument(alloc))
+}
+
+/// The command of `cover`.
+pub(crate) fn for_cover<'a>(
+    alloc: Global,
+    usage: &'a str,
+    about: &'a str,
+    more: &'a str,
+) -> Result<Command<'a>, AllocError> {
+    over_trace(alloc, usage, about, more)?
+        .arg(fail_under_argument(alloc))?
+        .arg(trace_argument(alloc))
+}
+
+/// The command of `graph`.
+pub(crate) fn for_graph<'a>(
+    alloc: Global,
+    usage: &'a str,
+    about: &'a str,
+    more: &'a str,
+) -> Result<Command<'a>, AllocError> {
+    over_trace(alloc, usage, about, more)?.arg(no_trace_argument(alloc))
 }

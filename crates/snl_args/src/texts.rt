@@ -9,6 +9,8 @@ Usage: snl [+X|-X].. WORD [OPTIONS] ..
 Words:
   waits  When a program begins over a trace, or what it still waits for
   run    A run with notes on what fired and why, blocks that repeat folded, and a summary
+  cover  What of a program no run showed: clauses, states, channels
+  graph  A picture of a program, for Graphviz
 
 snl WORD --help tells what a word takes, with an example, and snl --version the version.
 
@@ -26,6 +28,8 @@ Usage: snl [+X|-X].. WORD [OPTIONS] ..
 Words:
   waits  When a program begins over a trace, or what it still waits for
   run    A run with notes on what fired and why, blocks that repeat folded, and a summary
+  cover  What of a program no run showed: clauses, states, channels
+  graph  A picture of a program, for Graphviz
 
 For more information, try 'snl --help'.
 ";
@@ -63,3 +67,36 @@ Example: snl run light.st < light.trace
 Status: 0 the trace or the program ended, 1 the program has errors, 2 the words of the call are wrong,
 3 the file, the input or the output failed, 4 memory ran out, 5 the program faulted,
 6 a line of the trace is bad.";
+/// What `snl cover --help` tells.
+pub(crate) const COVER_USAGE: &str =
+    "snl cover [±X..] [--budget N] [--progress] [--fail-under PERCENT] [--trace FILE].. FILE [MACROS] [< TRACE]";
+
+pub(crate) const COVER_ABOUT: &str = "\
+What of a program no run showed: clauses that were never taken, states that were never entered, and
+channels that a pvPut names and that were never put to; and a last line with the sums.";
+
+pub(crate) const COVER_MORE: &str = "\
+Each trace is a run from the start, and their counts add up. With no --trace the trace is read from
+standard input.
+
+Example: snl cover --fail-under 80 --trace monday.trace --trace tuesday.trace pump.st
+
+Status: 0 done, 1 less of the clauses was taken than --fail-under asks, or the program has errors,
+2 the words of the call are wrong, 3 a file, the input or the output failed, 4 memory ran out,
+5 the program faulted, 6 a line of a trace is bad.";
+
+/// What `snl graph --help` tells.
+pub(crate) const GRAPH_USAGE: &str =
+    "snl graph [±X..] [--budget N] [--progress] [--no-trace] FILE [MACROS] [< TRACE]";
+
+pub(crate) const GRAPH_ABOUT: &str = "\
+A picture of a program, for dot of Graphviz: its states and the clauses that lead from one to another,
+with how often each was taken. What was never taken is red and dashed.";
+
+pub(crate) const GRAPH_MORE: &str = "\
+The trace is read from standard input, but with --no-trace.
+
+Example: snl graph light.st < light.trace | dot -Tsvg > light.svg
+
+Status: 0 done, 1 the program has errors, 2 the words of the call are wrong, 3 the file, the input or
+the output failed, 4 memory ran out, 5 the program faulted, 6 a line of the trace is bad.";

@@ -7,8 +7,8 @@ ghost use Rattle.snl_check.specs.Findings.{AreFindings};
 ghost use Rattle.snl_check.specs.declared.findings.Findings as declared;
 ghost use Rattle.snl_resolve.specs.declared.options.Options as sites;
 
-use snl_messages::{Message, Severity, messages_of, options_in_force};
-use snl_resolve::{Options, UseTable, sites_of};
+use snl_messages::{Message, Severity, messages_and_uses, options_in_force};
+use snl_resolve::{Options, UseTable};
 use snl_syntax::Program;
 use std::alloc::{AllocError, Global};
 
@@ -48,9 +48,7 @@ fn has_no_error(messages: &[Message]) -> bool
 fn findings_of(alloc: Global, program: &Program, given: Options) -> Result<Findings, AllocError>
     ensures { IfOk result (AreFindings program.now given) }
 {
-    let messages = messages_of(alloc, program, given)?;
-    let sites = sites_of(alloc, program)?;
-    let uses = UseTable::of(alloc, sites.as_slice())?;
+    let (messages, uses) = messages_and_uses(alloc, program, given)?;
     let options = options_in_force(program, given);
     Ok(Findings {
         messages,

@@ -11,8 +11,8 @@ use Rattle.snl_resolve.specs.declared.builtins.Builtin.TheVariants.{Delay, Print
 use Rattle.snl_resolve.specs.Builtins.{builtin_of}
 use Rattle.snl_meaning.specs.declared.operators.Joint.{Joint}
 use Rattle.snl_meaning.specs.declared.operators.Joint.TheVariants.{And, Or, Sequel, Operation}
-use Rattle.snl_meaning.specs.declared.operators.Sign.{Sign}
-use Rattle.snl_meaning.specs.declared.operators.Sign.TheVariants.{Steps, Alone}
+use Rattle.snl_meaning.specs.declared.operators.Unary.{Unary}
+use Rattle.snl_meaning.specs.declared.operators.Unary.TheVariants.{ByOne, OfValue}
 use Rattle.snl_meaning.specs.Effect.{names_of, values_of}
 use Rattle.snl_meaning.specs.Names.{Outline, outline_named}
 use Rattle.snl_meaning.specs.Value.{compound_of, joint_of, sign_of}
@@ -40,9 +40,9 @@ joint Or a b f = f
 joint Sequel a b f = f
 
 -- a sign
-signed : (s : Sign) (a b c d : ℕ) → Alike a b → Alike c d → Alike (signed_depth s a c) (signed_depth s b d)
-signed (Steps op) a b c d f g = f
-signed (Alone op) a b c d f g = g
+signed : (s : Unary) (a b c d : ℕ) → Alike a b → Alike c d → Alike (signed_depth s a c) (signed_depth s b d)
+signed (ByOne op) a b c d f g = f
+signed (OfValue op) a b c d f g = g
 
 -- a call
 called : (o : Option Builtin) (a b c d e f g h : ℕ) → Alike a b → Alike c d → Alike e f → Alike g h → Alike (called_depth o a c e g) (called_depth o b d f h)

@@ -21,8 +21,8 @@ use Rattle.snl_meaning.specs.declared.instrs.Instr.TheVariants as instr
 use Rattle.snl_meaning.specs.declared.instrs.Variable.{Variable}
 use Rattle.snl_meaning.specs.declared.names.Sense.{Sense}
 use Rattle.snl_meaning.specs.declared.names.Sense.TheVariants.{Varies, Stands}
-use Rattle.snl_meaning.specs.declared.operators.Sign.{Sign}
-use Rattle.snl_meaning.specs.declared.operators.Sign.TheVariants.{Steps, Alone}
+use Rattle.snl_meaning.specs.declared.operators.Unary.{Unary}
+use Rattle.snl_meaning.specs.declared.operators.Unary.TheVariants.{ByOne, OfValue}
 use Rattle.snl_meaning.specs.Effect.{variable_for, values_of, names_of}
 use Rattle.snl_meaning.specs.Names.{Within, Piece, Body, sense_of, state_number}
 use Rattle.snl_meaning.specs.Value.{compound_of, sign_of}
@@ -117,11 +117,11 @@ module _ (p : ProgramTree) (set : ℕ) (stand : Standing p set) where
       (any-one p set (instr.Assign x.0 0 x.1) (λ b a some. some) (is x refl, inr refl))
 
   -- `++` or `--`
-  any-stepped : (o : Option (Variable × ℕ)) (sign : Sign) (line : ℕ) (other : List Instr) → ((x : Variable × ℕ) → o ≡ Some x → IsVariableOf p set x.0) → Anywhere p set other →
+  any-stepped : (o : Option (Variable × ℕ)) (sign : Unary) (line : ℕ) (other : List Instr) → ((x : Variable × ℕ) → o ≡ Some x → IsVariableOf p set x.0) → Anywhere p set other →
       Anywhere p set (stepped_code o sign line other)
   any-stepped None sign line other is k = k
-  any-stepped (Some x) (Steps by) line other is k = any-one p set (instr.Increment x.0 by line x.1) (λ b a some. some) (is x refl)
-  any-stepped (Some x) (Alone op) line other is k = k
+  any-stepped (Some x) (ByOne by) line other is k = any-one p set (instr.Increment x.0 by line x.1) (λ b a some. some) (is x refl)
+  any-stepped (Some x) (OfValue op) line other is k = k
 
   -- an expression for what it does
   any-effect : (e : ExprTree) (w : Bool) (s : Sight) (u : Purpose) → Asks p set u → AllIn p (in_expression w s u e) → Anywhere p set (effect_code (h p set stand) e)

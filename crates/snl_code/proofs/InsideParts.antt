@@ -15,7 +15,7 @@ use Rattle.snl_resolve.specs.Numbered.{number_from, number_of}
 use Rattle.snl_resolve.specs.Programs.{program_scopes, sites}
 use Rattle.snl_resolve.specs.Scopes.{is_spelled}
 use Rattle.snl_resolve.specs.Uses.{declared_in}
-use Rattle.snl_resolve.specs.Variables.{Held, by_definitions, by_numbered, for_first, functions_of, shared_variables, variables_of}
+use Rattle.snl_resolve.specs.Variables.{CopyVariable, by_definitions, by_numbered, for_first, functions_of, shared_variables, variables_of}
 use Rattle.snl_meaning.specs.declared.instrs.Instr.{Instr}
 use Rattle.snl_meaning.specs.declared.instrs.Instr.TheVariants.{Jump, JumpIfZero, Tick, Return, Leave, End}
 use Rattle.snl_meaning.specs.declared.instrs.Variable.{Variable}
@@ -121,7 +121,7 @@ pub no-piece : (least greatest : ℤ) → Body least greatest ≡ Piece → ⊥
 no-piece least greatest is = cc
 
 -- no variable of a copy is one of functions
-own-variable : (at : ℕ) (vs : List Held) (i : ℕ) (x : Placed) → slice_get (placed_from at vs) i ≡ Some x → x.variable.is_shared ≡ false
+own-variable : (at : ℕ) (vs : List CopyVariable) (i : ℕ) (x : Placed) → slice_get (placed_from at vs) i ≡ Some x → x.variable.is_shared ≡ false
 own-variable at [] i x is = absurd (cc)
 own-variable at (v ∷ vs) zero x is =
     let one : record { offset = v.name.pos.offset; variable = variable_from at v } ≡ x = cc in
@@ -129,7 +129,7 @@ own-variable at (v ∷ vs) zero x is =
 own-variable at (v ∷ vs) (suc i) x is = own-variable (behind at v) vs i x is
 
 -- each of those is
-shared-variable : (at : ℕ) (vs : List Held) (i : ℕ) (x : Placed) → slice_get (placed_shared at vs) i ≡ Some x → x.variable.is_shared ≡ true
+shared-variable : (at : ℕ) (vs : List CopyVariable) (i : ℕ) (x : Placed) → slice_get (placed_shared at vs) i ≡ Some x → x.variable.is_shared ≡ true
 shared-variable at [] i x is = absurd (cc)
 shared-variable at (v ∷ vs) zero x is =
     let one : record { offset = v.name.pos.offset; variable = shared_from at v } ≡ x = cc in
@@ -137,7 +137,7 @@ shared-variable at (v ∷ vs) zero x is =
 shared-variable at (v ∷ vs) (suc i) x is = shared-variable (behind at v) vs i x is
 
 -- where more variables follow, the first ones stand where they stood
-placed-front : (at : ℕ) (vs ws : List Held) (i : ℕ) (x : Placed) → slice_get (placed_from at vs) i ≡ Some x → slice_get (placed_from at (vs ++ ws)) i ≡ Some x
+placed-front : (at : ℕ) (vs ws : List CopyVariable) (i : ℕ) (x : Placed) → slice_get (placed_from at vs) i ≡ Some x → slice_get (placed_from at (vs ++ ws)) i ≡ Some x
 placed-front at [] ws i x is = absurd (cc)
 placed-front at (v ∷ vs) ws zero x is = is
 placed-front at (v ∷ vs) ws (suc i) x is = placed-front (behind at v) vs ws i x is
@@ -284,7 +284,7 @@ module _ (p : ProgramTree) where
     pub known-in-function : (offset : ℕ) (v : Variable) → variable_in (function_places p) offset ≡ Some v → IsVariableOf p set v
     known-in-function offset v is = by (one-of (placed_from 0 own) (shared_in p) there.0 there.1 there.2)
       where
-        own : List Held
+        own : List CopyVariable
         own = by_definitions [] p.definitions
 
         there : (i : ℕ) × (x : Placed) × (slice_get (function_places p) i ≡ Some x) × (x.variable ≡ v)

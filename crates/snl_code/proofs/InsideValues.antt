@@ -21,7 +21,7 @@ use Rattle.snl_meaning.specs.declared.instrs.Instr.TheVariants as instr
 use Rattle.snl_meaning.specs.declared.instrs.Variable.{Variable}
 use Rattle.snl_meaning.specs.Names.{sense_of, format_number, function_number}
 use Rattle.snl_meaning.specs.Value.{joint_of, compound_of, sign_of, constant_of, is_decimal}
-use Rattle.snl_emit.specs.Worth.{worth_of, number_of}
+use Rattle.snl_emit.specs.Worth.{worth_of, constant_number}
 use Rattle.snl_emit.specs.ExpressionCode.{joint_code, get_code, routine_code, CodeOn, ask_flag_code, count_values, expression_code, lead_code, terms_code, target_code, print_code, values_code, wait_code, put_call_code, ask_code}
 use Rattle.snl_code.specs.Inside.{IsVariableOf}
 use Rattle.snl_code.proofs.InsideParts.{text-below, AllIn, in-front, in-back, Standing, h, function-below, sense-knows}
@@ -120,13 +120,13 @@ module _ (p : ProgramTree) (set : ℕ) (stand : Standing p set) where
         Anywhere p set (lead_code (h p set stand) rest left own)
     any-lead no_terms w s u q all left own f = f
     any-lead (term op e rest) w s u q all left own f =
-        let jc = joint_code (joint_of op.kind) op.pos.line (number_of (sites p) e) (expression_code (h p set stand) e) in
+        let jc = joint_code (joint_of op.kind) op.pos.line (constant_number (sites p) e) (expression_code (h p set stand) e) in
         let behind = in-back p (in_expression w s u e) (in_terms w s u rest) all in
         any-or p set (joined op.kind left (worth_of (sites p) e)) (λ z. lead_code (h p set stand) rest (Worth z) (instr.Push z ∷ [])) (own ++ (jc ++ terms_code (h p set stand) rest))
         (λ z. any-lead rest w s u q behind (Worth z) (instr.Push z ∷ []) (any-push p set z))
         (any-append p set own (jc ++ terms_code (h p set stand) rest) f
         (any-append p set jc (terms_code (h p set stand) rest)
-        (any-joint p set (joint_of op.kind) op.pos.line (number_of (sites p) e) (expression_code (h p set stand) e)
+        (any-joint p set (joint_of op.kind) op.pos.line (constant_number (sites p) e) (expression_code (h p set stand) e)
         (any-value e w s u q (in-front p (in_expression w s u e) (in_terms w s u rest) all)))
         (any-terms rest w s u q behind)))
 
@@ -134,8 +134,8 @@ module _ (p : ProgramTree) (set : ℕ) (stand : Standing p set) where
     any-terms : (rest : TermList) (w : Bool) (s : Sight) (u : Purpose) → Asks p set u → AllIn p (in_terms w s u rest) → Anywhere p set (terms_code (h p set stand) rest)
     any-terms no_terms w s u q all = any-none p set
     any-terms (term op e rest) w s u q all =
-        any-append p set (joint_code (joint_of op.kind) op.pos.line (number_of (sites p) e) (expression_code (h p set stand) e)) (terms_code (h p set stand) rest)
-        (any-joint p set (joint_of op.kind) op.pos.line (number_of (sites p) e) (expression_code (h p set stand) e)
+        any-append p set (joint_code (joint_of op.kind) op.pos.line (constant_number (sites p) e) (expression_code (h p set stand) e)) (terms_code (h p set stand) rest)
+        (any-joint p set (joint_of op.kind) op.pos.line (constant_number (sites p) e) (expression_code (h p set stand) e)
         (any-value e w s u q (in-front p (in_expression w s u e) (in_terms w s u rest) all)))
         (any-terms rest w s u q (in-back p (in_expression w s u e) (in_terms w s u rest) all))
 

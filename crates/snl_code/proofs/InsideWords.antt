@@ -35,8 +35,8 @@ use Rattle.snl_meaning.specs.declared.names.Sense.{Sense}
 use Rattle.snl_meaning.specs.declared.names.Sense.TheVariants.{Varies, Stands}
 use Rattle.snl_meaning.specs.declared.operators.Joint.{Joint}
 use Rattle.snl_meaning.specs.declared.operators.Joint.TheVariants.{And, Or, Sequel, Operation}
-use Rattle.snl_meaning.specs.declared.operators.Sign.{Sign}
-use Rattle.snl_meaning.specs.declared.operators.Sign.TheVariants.{Steps, Alone}
+use Rattle.snl_meaning.specs.declared.operators.Unary.{Unary}
+use Rattle.snl_meaning.specs.declared.operators.Unary.TheVariants.{ByOne, OfValue}
 use Rattle.snl_meaning.specs.Names.{number_by, flags_of}
 use Rattle.snl_emit.specs.Worth.{worth_or}
 use Rattle.snl_emit.specs.ExpressionCode.{folded, joint_code, if_code, name_code, at_code, put_at_code, renewed_code, put_code, CodeOn, at_name_code, signed_code, called_code, routine_code, ask_flag_code}
@@ -170,10 +170,10 @@ module _ (p : ProgramTree) (set : ℕ) where
       any-append (renewed_code op op_line right v) (instr.Store v line ∷ []) (any-renewed op op_line right v is f) (any-one (instr.Store v line) (λ b a some. some) is)
 
   -- a sign
-  pub any-signed : (s : Sign) (stepping : Kind → List Instr) (operand : List Instr) (line : ℕ) → ((by : Kind) → Anywhere (stepping by)) → Anywhere operand →
+  pub any-signed : (s : Unary) (stepping : Kind → List Instr) (operand : List Instr) (line : ℕ) → ((by : Kind) → Anywhere (stepping by)) → Anywhere operand →
       Anywhere (signed_code s stepping operand line)
-  any-signed (Steps op) stepping operand line f g = f op
-  any-signed (Alone op) stepping operand line f g = any-append operand (instr.ApplyPrefix op line ∷ []) g (any-one (instr.ApplyPrefix op line) (λ b a some. some) tt)
+  any-signed (ByOne op) stepping operand line f g = f op
+  any-signed (OfValue op) stepping operand line f g = any-append operand (instr.ApplyPrefix op line ∷ []) g (any-one (instr.ApplyPrefix op line) (λ b a some. some) tt)
 
   -- a call of a function
   pub any-routine : (o : Option ℕ) (values : List Instr) (count line : ℕ) → ((n : ℕ) → o ≡ Some n → n < length (functions_of p)) → Anywhere values →

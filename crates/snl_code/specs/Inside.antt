@@ -12,7 +12,7 @@ use Rattle.snl_resolve.specs.declared.sites.Site.TheVariants.{Use}
 use Rattle.snl_resolve.specs.Builtins.{form_of}
 use Rattle.snl_resolve.specs.Programs.{sites}
 use Rattle.snl_resolve.specs.Uses.{declared_of}
-use Rattle.snl_resolve.specs.Variables.{Held, functions_of, shared_variables, variables_of}
+use Rattle.snl_resolve.specs.Variables.{CopyVariable, functions_of, shared_variables, variables_of}
 use Rattle.snl_meaning.specs.declared.instrs.Instr.{Instr}
 use Rattle.snl_meaning.specs.declared.instrs.Instr.TheVariants.{Load, Check, Get, Peek, Store, StoreAt, Adjust, Increment, AdjustAt, Jump, JumpIfZero, Tick, Print, Put, PutAt, Ask, AskLink, AskElement, Clear, Assign, Call, Return, Leave, End}
 use Rattle.snl_meaning.specs.declared.instrs.Variable.{Variable}
@@ -40,7 +40,7 @@ LeadsInside size at End = Unit {0}
 LeadsInside size at _ = at + 1 < size
 
 -- The variables that code which runs on the copy of a state set may name: those of the copy, or those of functions.
-abbrev pub held_by : ProgramTree → (set : ℕ) → (is_shared : Bool) → List Held
+abbrev pub held_by : ProgramTree → (set : ℕ) → (is_shared : Bool) → List CopyVariable
 held_by p set false = variables_of p set
 held_by p set true = shared_variables p
 

@@ -10,3 +10,4 @@ pub mod Size
 pub mod Apart
 pub mod Pieces
 pub mod Inside
+pub mod Examples

@@ -1,6 +1,6 @@
 //! How many operands a block holds at once.
 
-ghost use Rattle.std.specs.Prelude.{◌≡◌, ◌∷◌, [], map};
+ghost use Rattle.std.specs.Prelude.{◌≡◌, ◌∷◌, [], map, max};
 ghost use Rattle.snl_syntax.specs.view.Expressions.{boxed};
 ghost use Rattle.snl_syntax.specs.view.Declarations.{declarator_view, declaration_view, initialiser_view};
 ghost use Rattle.snl_syntax.specs.view.Lists.{statement_list};
@@ -13,7 +13,7 @@ ghost use Rattle.snl_code.specs.Depths.{capped};
 
 use crate::depths::{expression_depth, larger, maybe_depth};
 use snl_meaning::Outline;
-use snl_syntax::{Block, Declaration, Declarator, Expr, Initialiser, Stmt};
+use snl_syntax::{Block, Declaration, Declarator, Expr, Header, Initialiser, Stmt};
 
 /// Of some values.
 fn values_depth(values: &[Box<Expr>], functions: &[Outline]) -> usize
@@ -110,19 +110,29 @@ fn statement_depth(statement: &Stmt, functions: &[Outline]) -> usize
             expression_depth(condition, functions),
             statement_depth(body, functions),
         ),
-        Stmt::For { header, body, .. } => {
-            let begins = larger(
-                maybe_depth(&header.start, functions),
-                maybe_depth(&header.condition, functions),
-            );
-            let turns = larger(
-                maybe_depth(&header.step, functions),
-                statement_depth(body, functions),
-            );
-            larger(begins, turns)
-        }
+        Stmt::For { header, body, .. } => for_depth(header, body, functions),
         Stmt::Empty | Stmt::Break(_) | Stmt::Continue(_) | Stmt::State { .. } => 0,
     }
+}
+
+/// Of a `for` loop.
+#[cycle(depths)]
+fn for_depth(header: &Header, body: &Stmt, functions: &[Outline]) -> usize
+    ensures { result ≡ capped (max
+        (max (spec.maybe_depth (outlines functions.now) (shown boxed header.now.start))
+        (spec.maybe_depth (outlines functions.now) (shown boxed header.now.condition)))
+        (max (spec.maybe_depth (outlines functions.now) (shown boxed header.now.step))
+        (spec.statement_depth (outlines functions.now) (statement_view body.now)))) }
+{
+    let begins = larger(
+        maybe_depth(&header.start, functions),
+        maybe_depth(&header.condition, functions),
+    );
+    let turns = larger(
+        maybe_depth(&header.step, functions),
+        statement_depth(body, functions),
+    );
+    larger(begins, turns)
 }
 
 /// Of statements.

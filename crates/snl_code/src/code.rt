@@ -1,7 +1,7 @@
 //! The code of a program, as it is read.
 
 ghost use Rattle.std.specs.Prelude.{◌≡◌, ◌<◌, Some, length, slice_get, option_map};
-ghost use Rattle.snl_meaning.specs.Names.{text_of};
+ghost use Rattle.snl_meaning.specs.Names.{format_text};
 ghost use Rattle.snl_code.specs.Pieces.{texts_of};
 ghost use Rattle.snl_code.specs.Starts.{table_of, start_in, holds_in, state_table};
 ghost use Rattle.snl_code.specs.Starts as spec;
@@ -44,7 +44,7 @@ impl Code {
 
     /// The string of a number, as spelled with its quotes; empty where the program has no string of that number.
     pub fn text(&self, number: usize) -> &[u8]
-        ensures { result.now ≡ text_of (texts_of self.now) number }
+        ensures { result.now ≡ format_text (texts_of self.now) number }
     {
         match self.texts.get(number) {
             Some(text) => text.as_slice(),

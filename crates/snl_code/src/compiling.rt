@@ -20,9 +20,9 @@ ghost use Rattle.snl_code.specs.Size.{program_size};
 ghost use Rattle.snl_code.specs.Starts.{state_tables, table_of, holds_in};
 
 use crate::code::Code;
-use crate::functions::{Common, names_among, place_functions};
+use crate::functions::{Common, lay_functions, names_among};
+use crate::laying::{lay_block, lay_states};
 use crate::outlines::outlines_among;
-use crate::placing::{place_block, place_states};
 use crate::program_depths::program_depth;
 use crate::starts::StateStarts;
 use snl_meaning::{Instr, Known, Places, Sites, Within};
@@ -112,7 +112,7 @@ fn marks_of(marks: &[Vec<bool>], set: usize) -> &[bool]
 }
 
 /// Adds the code of a state set with the variables of its copy; gives where its pieces begin.
-fn place_set<'a>(
+fn lay_set<'a>(
     alloc: Global,
     program: &Program<'a>,
     common: &Common<'_, 'a>,
@@ -143,11 +143,11 @@ fn place_set<'a>(
         above: common.count,
     };
     let marks = marks_of(marks, number);
-    place_states(alloc, set.states.as_slice(), marks, &known, code)
+    lay_states(alloc, set.states.as_slice(), marks, &known, code)
 }
 
 /// Adds the code of all state sets; gives where their pieces begin.
-fn place_sets<'a>(
+fn lay_sets<'a>(
     alloc: Global,
     program: &Program<'a>,
     common: &Common<'_, 'a>,
@@ -172,7 +172,7 @@ fn place_sets<'a>(
 {
     let mut starts = Vec::new(alloc);
     for (number, set) in sets.iter().enumerate() {
-        let one = place_set(
+        let one = lay_set(
             alloc,
             program,
             common,
@@ -188,7 +188,7 @@ fn place_sets<'a>(
 }
 
 /// Adds the code of a block of the program, if it is there; gives where it begins.
-fn place_own<'a>(
+fn lay_own<'a>(
     alloc: Global,
     program: &Program<'a>,
     common: &Common<'_, 'a>,
@@ -217,7 +217,7 @@ fn place_own<'a>(
         functions: common.names,
         above: common.count,
     };
-    place_block(alloc, block, &known, code)
+    lay_block(alloc, block, &known, code)
 }
 
 /// How many operands a program holds at once, at most 2^64 - 1.
@@ -252,10 +252,10 @@ fn code_of<'a>(
     let definitions = program.definitions.as_slice();
     let sets = program.state_sets.as_slice();
     let mut instrs = Vec::new(alloc);
-    let functions = place_functions(alloc, definitions, common, &mut instrs)?;
-    let entry = place_own(alloc, program, common, &program.entry, &mut instrs)?;
-    let sets = place_sets(alloc, program, common, copies, marks, sets, &mut instrs)?;
-    let exit = place_own(alloc, program, common, &program.exit, &mut instrs)?;
+    let functions = lay_functions(alloc, definitions, common, &mut instrs)?;
+    let entry = lay_own(alloc, program, common, &program.entry, &mut instrs)?;
+    let sets = lay_sets(alloc, program, common, copies, marks, sets, &mut instrs)?;
+    let exit = lay_own(alloc, program, common, &program.exit, &mut instrs)?;
     let texts = texts_of(alloc, common.sites.as_slice())?;
     let depth = depth_of(alloc, program)?;
     Ok(Code {

@@ -3,7 +3,7 @@
 ghost use Rattle.std.specs.Prelude.{◌≡◌, [], map, IfOk};
 ghost use Rattle.snl_syntax.specs.view.Programs.{program_view};
 ghost use Rattle.snl_resolve.specs.Chains.{scopes_of};
-ghost use Rattle.snl_resolve.specs.Held.{held_view};
+ghost use Rattle.snl_resolve.specs.CopyVariables.{variable_view};
 ghost use Rattle.snl_resolve.specs.Programs.{program_scopes};
 ghost use Rattle.snl_resolve.specs.Variables.{by_definitions, shared_variables, variables_of};
 ghost use Rattle.snl_meaning.specs.Names.{placed_from};
@@ -11,7 +11,7 @@ ghost use Rattle.snl_code.specs.Copies.{held_sets, sets_of, variables_in};
 ghost use Rattle.snl_code.specs.Heres as heres;
 
 use snl_meaning::Places;
-use snl_resolve::{Held, Scopes, push_definitions, push_functions, push_parts};
+use snl_resolve::{CopyVariable, Scopes, push_definitions, push_functions, push_parts};
 use snl_syntax::Program;
 use std::alloc::{AllocError, Global};
 
@@ -19,11 +19,11 @@ use std::alloc::{AllocError, Global};
 #[derive(Drop)]
 pub struct Copies<'p, 'a> {
     /// What is declared of those that copies hold, by the numbers of the state sets.
-    pub held: Vec<Vec<Held<'p, 'a>>>,
+    pub held: Vec<Vec<CopyVariable<'p, 'a>>>,
     /// Where their words stand.
     pub places: Vec<Places>,
     /// What is declared of those of functions, whose words all state sets share.
-    pub shared: Vec<Held<'p, 'a>>,
+    pub shared: Vec<CopyVariable<'p, 'a>>,
     /// What functions may name: the variables of the program's definitions, and those of functions.
     pub bodies: Places,
 }
@@ -32,14 +32,14 @@ pub struct Copies<'p, 'a> {
 fn held_set<'p, 'a>(
     alloc: Global,
     program: &'p Program<'a>,
-    own: &[Held<'p, 'a>],
+    own: &[CopyVariable<'p, 'a>],
     scopes: &Scopes<'_, 'a>,
     set: usize,
-) -> Result<Vec<Held<'p, 'a>>, AllocError>
-    requires own { map held_view own.now
+) -> Result<Vec<CopyVariable<'p, 'a>>, AllocError>
+    requires own { map variable_view own.now
         ≡ by_definitions [] (program_view program.now).definitions }
     requires scopes { scopes_of scopes.now ≡ program_scopes (program_view program.now) }
-    ensures { IfOk result (λ held. map held_view held.items
+    ensures { IfOk result (λ held. map variable_view held.items
         ≡ variables_of (program_view program.now) set) }
 {
     let mut held = Vec::from_slice(alloc, own)?;
@@ -59,10 +59,10 @@ fn held_set<'p, 'a>(
 fn held_by<'p, 'a>(
     alloc: Global,
     program: &'p Program<'a>,
-    own: &[Held<'p, 'a>],
+    own: &[CopyVariable<'p, 'a>],
     scopes: &Scopes<'_, 'a>,
-) -> Result<Vec<Vec<Held<'p, 'a>>>, AllocError>
-    requires own { map held_view own.now
+) -> Result<Vec<Vec<CopyVariable<'p, 'a>>>, AllocError>
+    requires own { map variable_view own.now
         ≡ by_definitions [] (program_view program.now).definitions }
     requires scopes { scopes_of scopes.now ≡ program_scopes (program_view program.now) }
     ensures { IfOk result (λ sets. sets_of sets.items
@@ -81,9 +81,9 @@ fn shared_by<'p, 'a>(
     alloc: Global,
     program: &'p Program<'a>,
     scopes: &Scopes<'_, 'a>,
-) -> Result<Vec<Held<'p, 'a>>, AllocError>
+) -> Result<Vec<CopyVariable<'p, 'a>>, AllocError>
     requires scopes { scopes_of scopes.now ≡ program_scopes (program_view program.now) }
-    ensures { IfOk result (λ held. map held_view held.items
+    ensures { IfOk result (λ held. map variable_view held.items
         ≡ shared_variables (program_view program.now)) }
 {
     let mut held = Vec::new(alloc);
@@ -92,7 +92,7 @@ fn shared_by<'p, 'a>(
 }
 
 /// The places of the variables of copies.
-fn placed_sets(alloc: Global, sets: &[Vec<Held>]) -> Result<Vec<Places>, AllocError>
+fn placed_sets(alloc: Global, sets: &[Vec<CopyVariable>]) -> Result<Vec<Places>, AllocError>
     ensures { IfOk result (λ copies. copies.items ≡ map (placed_from 0) (sets_of sets.now)) }
 {
     let mut copies = Vec::new(alloc);
@@ -107,10 +107,10 @@ fn placed_sets(alloc: Global, sets: &[Vec<Held>]) -> Result<Vec<Places>, AllocEr
 fn copies_by<'p, 'a>(
     alloc: Global,
     program: &'p Program<'a>,
-    own: &[Held<'p, 'a>],
+    own: &[CopyVariable<'p, 'a>],
     scopes: &Scopes<'_, 'a>,
 ) -> Result<Copies<'p, 'a>, AllocError>
-    requires own { map held_view own.now
+    requires own { map variable_view own.now
         ≡ by_definitions [] (program_view program.now).definitions }
     requires scopes { scopes_of scopes.now ≡ program_scopes (program_view program.now) }
     ensures held { IfOk result (λ copies. sets_of copies.held.items

@@ -12,7 +12,7 @@ ghost use Rattle.snl_meaning.specs.Names.{outline_named};
 ghost use Rattle.snl_meaning.specs.Value.{compound_of as compound};
 ghost use Rattle.snl_code.specs.DepthParts as parts;
 
-use snl_meaning::{Joint, Outline, Sign, compound_of, joint_of, sign_of};
+use snl_meaning::{Joint, Outline, Unary, compound_of, joint_of, sign_of};
 use snl_resolve::{Builtin, builtin_of};
 use snl_syntax::{Argument, Expr, Term};
 use snl_text::{Kind, Token};
@@ -103,8 +103,8 @@ fn sign_depth(operand: &Expr, sign: Token, functions: &[Outline]) -> usize
         ≡ capped (parts.sign_depth (outlines functions.now) sign.entry.kind (view operand.now)) }
 {
     match sign_of(sign.kind) {
-        Sign::Steps(_) => target_depth(operand, 2, 3, functions),
-        Sign::Alone(_) => expression_depth(operand, functions),
+        Unary::ByOne(_) => target_depth(operand, 2, 3, functions),
+        Unary::OfValue(_) => expression_depth(operand, functions),
     }
 }
 
@@ -164,7 +164,8 @@ fn body_depth(functions: &[Outline], name: &[u8]) -> Option<usize>
 #[cycle(depths)]
 fn routine_depth(arguments: &[Argument], name: &[u8], functions: &[Outline]) -> usize
     ensures { result ≡ capped (spec.routine_depth (outline_named (outlines functions.now) name.now)
-        (spec.arguments_depth (outlines functions.now) 0 (list_before arguments.now no_arguments))) }
+        (spec.arguments_depth (outlines functions.now) 0
+        (list_before arguments.now no_arguments))) }
 {
     match body_depth(functions, name) {
         Some(depth) => larger(1, larger(values_depth(arguments, functions), depth)),

@@ -10,7 +10,7 @@ ghost use Rattle.snl_emit.specs.FunctionCode as spec;
 ghost use Rattle.snl_meaning.specs.Known.{entries, here_of, within_view};
 ghost use Rattle.snl_code.specs.Heres as heres;
 
-use crate::placing::add_reversed;
+use crate::laying::add_reversed;
 use snl_emit::emit_function;
 use snl_meaning::{FunctionEntry, Instr, Known, Places, Sites, Variable, Within};
 use snl_resolve::{Numbered, range_of};
@@ -91,7 +91,7 @@ fn add_body<'a>(
 }
 
 /// Adds the code of a function; gives where it begins.
-fn place_function<'a>(
+fn lay_function<'a>(
     alloc: Global,
     function: &Function<'a>,
     known: &Known<'_, 'a>,
@@ -113,7 +113,7 @@ fn place_function<'a>(
 
 /// Adds the code of the functions among definitions, each below those before it; gives where they begin. Fails only where memory
 /// ends.
-pub fn place_functions<'a>(
+pub fn lay_functions<'a>(
     alloc: Global,
     definitions: &[Def<'a>],
     common: &Common<'_, 'a>,
@@ -141,7 +141,7 @@ pub fn place_functions<'a>(
                 functions: common.names,
                 above: kept.len(),
             };
-            let entry = place_function(alloc, function, &known, code)?;
+            let entry = lay_function(alloc, function, &known, code)?;
             kept.push(entry)?;
         }
     }

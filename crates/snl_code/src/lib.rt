@@ -9,8 +9,8 @@ mod copies;
 mod depths;
 mod functions;
 pub mod laws;
+mod laying;
 mod outlines;
-mod placing;
 mod program_depths;
 mod starts;
 

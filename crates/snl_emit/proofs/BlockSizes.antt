@@ -9,8 +9,8 @@ use Rattle.snl_syntax.specs.Statements.{StatementTree, StatementList, BlockTree,
 use Rattle.snl_meaning.specs.declared.instrs.Instr.{Instr}
 use Rattle.snl_meaning.specs.declared.instrs.Instr.TheVariants as instr
 use Rattle.snl_meaning.specs.declared.instrs.Variable.{Variable}
-use Rattle.snl_meaning.specs.declared.operators.Sign.{Sign}
-use Rattle.snl_meaning.specs.declared.operators.Sign.TheVariants.{Steps, Alone}
+use Rattle.snl_meaning.specs.declared.operators.Unary.{Unary}
+use Rattle.snl_meaning.specs.declared.operators.Unary.TheVariants.{ByOne, OfValue}
 use Rattle.snl_meaning.specs.Effect.{variable_for, values_of, names_of}
 use Rattle.snl_meaning.specs.Names.{Here, Within, Piece, Body, state_number}
 use Rattle.snl_meaning.specs.Value.{compound_of, sign_of}
@@ -28,10 +28,10 @@ assigned-short (Some x) op line right other n le m =
     omega (arith, length-append (renewed_code op line right x.0) (instr.Assign x.0 0 x.1 ∷ []), renewed-short op line right x.0, le)
 
 -- `++` or `--` whose value is not used
-stepped-short : (o : Option (Variable × ℕ)) (sign : Sign) (line : ℕ) (other : List Instr) (n : ℕ) → 1 ≤ n → length other ≤ n → length (stepped_code o sign line other) ≤ n
+stepped-short : (o : Option (Variable × ℕ)) (sign : Unary) (line : ℕ) (other : List Instr) (n : ℕ) → 1 ≤ n → length other ≤ n → length (stepped_code o sign line other) ≤ n
 stepped-short None sign line other n some m = m
-stepped-short (Some x) (Steps by) line other n some m = omega (arith, some)
-stepped-short (Some x) (Alone op) line other n some m = m
+stepped-short (Some x) (ByOne by) line other n some m = omega (arith, some)
+stepped-short (Some x) (OfValue op) line other n some m = m
 
 -- a loop has 2 instructions beside its parts
 loop-short : (line : ℕ) (body step test : List Instr) → length (loop_code line body step test) ≤ length body + (length step + length test) + 2

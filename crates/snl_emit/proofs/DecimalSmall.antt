@@ -5,7 +5,7 @@ use Rattle.std.specs.List.{list_all, prefix_len}
 use Rattle.std.proofs.lemmas.Bool.Decides.{nat_tests}
 use Rattle.snl_text.specs.Bytes.{is_byte, is_digit, is_from}
 use Rattle.snl_text.specs.declared.numbers.DecimalValue.{DecimalValue}
-use Rattle.snl_text.specs.Numbers.{digit_value, digits_value, value_of, decimal_of, decimal_value}
+use Rattle.snl_text.specs.Numbers.{digit_value, digits_value, numeral_value, decimal_of, decimal_value}
 
 -- a number of 63 bits
 abbrev IsSmall : DecimalValue → Type 0
@@ -47,4 +47,4 @@ unfolding decimal_value
 decimal-small text =
     let point = prefix_len is_digit text in
     tested-small (nat_lt point (length text) && is_byte (codes ".") (slice_index text point) && list_all is_digit (drop (point + 1) text) && nat_lt 1 (length text))
-    (decimal_of (value_of 10 (take point text)) (drop (point + 1) text)) (λ e. parts-small (value_of 10 (take point text)) (drop (point + 1) text))
+    (decimal_of (numeral_value 10 (take point text)) (drop (point + 1) text)) (λ e. parts-small (numeral_value 10 (take point text)) (drop (point + 1) text))

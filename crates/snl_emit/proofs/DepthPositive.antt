@@ -4,16 +4,16 @@ use Rattle.snl_syntax.specs.Expressions.{ExprTree, ArgumentList, constant, paren
 use Rattle.snl_emit.specs.Depths.{expression_depth, target_depth, print_depth, wait_depth, put_depth, arguments_depth, called_depth, routine_depth, signed_depth, held_depth}
 use Rattle.snl_resolve.specs.Builtins.{builtin_of}
 use Rattle.snl_meaning.specs.Names.{Outline, outline_named}
-use Rattle.snl_meaning.specs.declared.operators.Sign.{Sign}
-use Rattle.snl_meaning.specs.declared.operators.Sign.TheVariants.{Steps, Alone}
+use Rattle.snl_meaning.specs.declared.operators.Unary.{Unary}
+use Rattle.snl_meaning.specs.declared.operators.Unary.TheVariants.{ByOne, OfValue}
 use Rattle.snl_resolve.specs.declared.builtins.Builtin.{Builtin}
 use Rattle.snl_resolve.specs.declared.builtins.Builtin.TheVariants.{Delay, Printf, PvPut, Ask}
 use Rattle.snl_meaning.specs.Value.{compound_of, sign_of}
 
 -- a sign
-signed-positive : (sign : Sign) (d e : ℕ) → 1 ≤ d → 1 ≤ e → 1 ≤ signed_depth sign d e
-signed-positive (Steps op) d e a b = a
-signed-positive (Alone op) d e a b = b
+signed-positive : (sign : Unary) (d e : ℕ) → 1 ≤ d → 1 ≤ e → 1 ≤ signed_depth sign d e
+signed-positive (ByOne op) d e a b = a
+signed-positive (OfValue op) d e a b = b
 
 -- a call
 called-positive : (function : Option Builtin) (d e i r : ℕ) → 1 ≤ d → 1 ≤ e → 1 ≤ i → 1 ≤ r → 1 ≤ called_depth function d e i r

@@ -9,8 +9,8 @@ use Rattle.snl_syntax.specs.Expressions.{ExprTree, TermList, ArgumentList, const
 use Rattle.snl_emit.specs.Depths.{expression_depth, terms_depth, target_depth, print_depth, arguments_depth, wait_depth, put_depth, called_depth, routine_depth, joint_depth, signed_depth, held_depth, deepest}
 use Rattle.snl_resolve.specs.Builtins.{builtin_of}
 use Rattle.snl_meaning.specs.Names.{Outline, outline_named}
-use Rattle.snl_meaning.specs.declared.operators.Sign.{Sign}
-use Rattle.snl_meaning.specs.declared.operators.Sign.TheVariants.{Steps, Alone}
+use Rattle.snl_meaning.specs.declared.operators.Unary.{Unary}
+use Rattle.snl_meaning.specs.declared.operators.Unary.TheVariants.{ByOne, OfValue}
 use Rattle.snl_meaning.specs.declared.operators.Joint.{Joint}
 use Rattle.snl_meaning.specs.declared.operators.Joint.TheVariants.{And, Or, Sequel, Operation}
 use Rattle.snl_resolve.specs.declared.builtins.Builtin.{Builtin}
@@ -30,9 +30,9 @@ joint-small Sequel d = omega arith
 joint-small (Operation o) d = omega arith
 
 -- a sign
-signed-small : (m : Sign) (d e n : ℕ) → d ≤ n → e ≤ n → signed_depth m d e ≤ n
-signed-small (Steps op) d e n a b = a
-signed-small (Alone op) d e n a b = b
+signed-small : (m : Unary) (d e n : ℕ) → d ≤ n → e ≤ n → signed_depth m d e ≤ n
+signed-small (ByOne op) d e n a b = a
+signed-small (OfValue op) d e n a b = b
 
 -- a call
 called-small : (function : Option Builtin) (d e i r n : ℕ) → d ≤ n → e ≤ n → i ≤ n → r ≤ n → called_depth function d e i r ≤ n

@@ -8,8 +8,8 @@ use Rattle.snl_meaning.specs.declared.instrs.Instr.TheVariants.{Increment, Drop,
 use Rattle.snl_meaning.specs.declared.instrs.Variable.{Variable}
 use Rattle.snl_meaning.specs.declared.names.Sense.{Sense}
 use Rattle.snl_meaning.specs.declared.names.Sense.TheVariants.{Varies, Stands}
-use Rattle.snl_meaning.specs.declared.operators.Sign.{Sign}
-use Rattle.snl_meaning.specs.declared.operators.Sign.TheVariants.{Steps, Alone}
+use Rattle.snl_meaning.specs.declared.operators.Unary.{Unary}
+use Rattle.snl_meaning.specs.declared.operators.Unary.TheVariants.{ByOne, OfValue}
 use Rattle.snl_emit.specs.Depths.{expression_depth, target_depth, held_depth}
 use Rattle.snl_emit.specs.BlockCode.{varied, named_variable, assigned_code, stepped_code, dropping_code, effect_code}
 use Rattle.snl_emit.specs.ExpressionCode.{expression_code, renewed_code}
@@ -17,7 +17,7 @@ use Rattle.snl_meaning.specs.Endings.{HasAt}
 use Rattle.snl_meaning.specs.Names.{Here, sense_of, Outline}
 use Rattle.snl_meaning.specs.Ran.{Ran, Gives, Faults, also, then_do}
 use Rattle.snl_meaning.specs.Run.{PieceContext, GoesTo}
-use Rattle.snl_meaning.specs.Value.{OnElement, at_name, at_target, compound_of, sign_of, signed, renewed, put_at, value_of}
+use Rattle.snl_meaning.specs.Value.{at_name, at_target, compound_of, sign_of, signed, renewed, put_at, value_of}
 use Rattle.snl_meaning.specs.Words.{natural, gives, adjusted, adjusted_to, operated, stored}
 use Rattle.snl_meaning.specs.Scenes.{Scene}
 use Rattle.snl_meaning.specs.World.{World, element_of}
@@ -33,22 +33,22 @@ idle below _ = below
 -- ---- a target that is a variable alone
 
 -- what is done there is done to the variable
-at-named : (m : Scene) (F : Variable → ℕ → World → Ran ℤ) (indexed : OnElement) (other : World → Ran ℤ) (e : ExprTree) (x : Variable × ℕ) → named_variable m.here e ≡ Some x → (w : World) →
-    at_target m e (λ v y. F v y.pos.line) indexed other w ≡ F x.0 x.1 w
-at-named m F indexed other (parenthesized e) x is w = at-named m F indexed other e x is w
-at-named m F indexed other (named y) x is w = by (sense_of m.here y) is
+at-named : (m : Scene) (F : Variable → ℤ → ℕ → World → Ran ℤ) (other : World → Ran ℤ) (e : ExprTree) (x : Variable × ℕ) → named_variable m.here e ≡ Some x → (w : World) →
+    at_target m e (λ v k y. F v k y.pos.line) other w ≡ F x.0 (pos 0) x.1 w
+at-named m F other (parenthesized e) x is w = at-named m F other e x is w
+at-named m F other (named y) x is w = by (sense_of m.here y) is
   where
-    by : (s : Sense) → varied s y.pos.line ≡ Some x → at_name s y (λ v z. F v z.pos.line) other w ≡ F x.0 x.1 w
-    by (Varies v) same = let pair : (v, y.pos.line) ≡ x = cc in ap (λ (p : Variable × ℕ). F p.0 p.1 w) pair
+    by : (s : Sense) → varied s y.pos.line ≡ Some x → at_name s y (λ v k z. F v k z.pos.line) other w ≡ F x.0 (pos 0) x.1 w
+    by (Varies v) same = let pair : (v, y.pos.line) ≡ x = cc in ap (λ (p : Variable × ℕ). F p.0 (pos 0) p.1 w) pair
     by (Stands z) same = absurd (cc)
-at-named m F indexed other (constant t) x is w = absurd (cc)
-at-named m F indexed other (element y b e) x is w = absurd (cc)
-at-named m F indexed other (call f all) x is w = absurd (cc)
-at-named m F indexed other (postfix e op) x is w = absurd (cc)
-at-named m F indexed other (prefix op e) x is w = absurd (cc)
-at-named m F indexed other (chain e rest) x is w = absurd (cc)
-at-named m F indexed other (conditional c a b) x is w = absurd (cc)
-at-named m F indexed other (assignment e op r) x is w = absurd (cc)
+at-named m F other (constant t) x is w = absurd (cc)
+at-named m F other (element y b e) x is w = absurd (cc)
+at-named m F other (call f all) x is w = absurd (cc)
+at-named m F other (postfix e op) x is w = absurd (cc)
+at-named m F other (prefix op e) x is w = absurd (cc)
+at-named m F other (chain e rest) x is w = absurd (cc)
+at-named m F other (conditional c a b) x is w = absurd (cc)
+at-named m F other (assignment e op r) x is w = absurd (cc)
 
 -- it needs room for what is done there alone
 named-depth : (h : Here) (fs : List Outline) (a i : ℕ) (e : ExprTree) (x : Variable × ℕ) → named_variable h e ≡ Some x → target_depth fs e a i ≡ a
@@ -148,31 +148,31 @@ module _ (m : Scene) (setting : Setting) (code : List Instr) (ready : IsSet m se
       let n = expression_depth fs r + held_depth o in
       let enough = named-depth m.here fs n (n + 1) e x is in
       acts-as (put_at o op.pos.line (value_of m r) m.set x.0 x.1 (pos 0)) (value_of m (assignment e op r)) _ n (expression_depth fs (assignment e op r))
-      (λ w. sym (at-named m (λ v line. put_at o op.pos.line (value_of m r) m.set v line (pos 0)) (λ v y. put_at o op.pos.line (value_of m r) m.set v y.pos.line) (value_of m r) e x is w))
+      (λ w. sym (at-named m (λ v k line. put_at o op.pos.line (value_of m r) m.set v line k) (value_of m r) e x is w))
       (omega (arith, enough)) (assigns o op.pos.line r x)
 
   -- `++` or `--`
-  stepped-acts : (word : Sign → World → Ran ℤ) (op_line : ℕ) (is_before : Bool) (d : ℕ) (other : List Instr) (o : Option (Variable × ℕ)) (sign : Sign) →
-      ((x : Variable × ℕ) (by : Kind) → o ≡ Some x → (w : World) → word (Steps by) w ≡ adjusted m.set x.0 by op_line x.1 is_before (pos 0) w) →
+  stepped-acts : (word : Unary → World → Ran ℤ) (op_line : ℕ) (is_before : Bool) (d : ℕ) (other : List Instr) (o : Option (Variable × ℕ)) (sign : Unary) →
+      ((x : Variable × ℕ) (by : Kind) → o ≡ Some x → (w : World) → word (ByOne by) w ≡ adjusted m.set x.0 by op_line x.1 is_before (pos 0) w) →
       Acts (word sign) other d → Acts (word sign) (stepped_code o sign op_line other) d
   stepped-acts word op_line is_before d other None sign is f = f
-  stepped-acts word op_line is_before d other (Some x) (Steps by) is f =
-      acts-as (adjusted m.set x.0 by op_line x.1 is_before (pos 0)) (word (Steps by)) (Increment x.0 by op_line x.1 ∷ []) 0 d (λ w. sym (is x by refl w)) (omega arith) (steps by op_line is_before x)
-  stepped-acts word op_line is_before d other (Some x) (Alone op) is f = f
+  stepped-acts word op_line is_before d other (Some x) (ByOne by) is f =
+      acts-as (adjusted m.set x.0 by op_line x.1 is_before (pos 0)) (word (ByOne by)) (Increment x.0 by op_line x.1 ∷ []) 0 d (λ w. sym (is x by refl w)) (omega arith) (steps by op_line is_before x)
+  stepped-acts word op_line is_before d other (Some x) (OfValue op) is f = f
 
   -- an expression
   pub effect-follows : (e : ExprTree) → Acts (value_of m e) (effect_code m.here e) (expression_depth fs e)
   effect-follows (parenthesized e) = effect-follows e
   effect-follows (assignment e op r) = assignment-acts e op r (named_variable m.here e) refl
   effect-follows (postfix e op) =
-      stepped-acts (λ s. signed s (λ by. at_target m e (λ v x. adjusted m.set v by op.pos.line x.pos.line true (pos 0)) (λ v x. adjusted m.set v by op.pos.line x.pos.line true) (gives (pos 0)))
+      stepped-acts (λ s. signed s (λ by. at_target m e (λ v k x. adjusted m.set v by op.pos.line x.pos.line true k) (gives (pos 0)))
       (value_of m e) op.pos.line) op.pos.line true (expression_depth fs (postfix e op)) (dropping_code m.here (postfix e op)) (named_variable m.here e) (sign_of op.kind)
-      (λ x by is w. at-named m (λ v line. adjusted m.set v by op.pos.line line true (pos 0)) (λ v x. adjusted m.set v by op.pos.line x.pos.line true) (gives (pos 0)) e x is w)
+      (λ x by is w. at-named m (λ v k line. adjusted m.set v by op.pos.line line true k) (gives (pos 0)) e x is w)
       (drops (postfix e op))
   effect-follows (prefix op e) =
-      stepped-acts (λ s. signed s (λ by. at_target m e (λ v x. adjusted m.set v by op.pos.line x.pos.line false (pos 0)) (λ v x. adjusted m.set v by op.pos.line x.pos.line false) (gives (pos 0)))
+      stepped-acts (λ s. signed s (λ by. at_target m e (λ v k x. adjusted m.set v by op.pos.line x.pos.line false k) (gives (pos 0)))
       (value_of m e) op.pos.line) op.pos.line false (expression_depth fs (prefix op e)) (dropping_code m.here (prefix op e)) (named_variable m.here e) (sign_of op.kind)
-      (λ x by is w. at-named m (λ v line. adjusted m.set v by op.pos.line line false (pos 0)) (λ v x. adjusted m.set v by op.pos.line x.pos.line false) (gives (pos 0)) e x is w)
+      (λ x by is w. at-named m (λ v k line. adjusted m.set v by op.pos.line line false k) (gives (pos 0)) e x is w)
       (drops (prefix op e))
   effect-follows (constant t) = drops (constant t)
   effect-follows (named x) = drops (named x)

@@ -18,10 +18,10 @@ use Rattle.snl_emit.specs.ExpressionCode.{expression_code, folded, if_code, lead
 use Rattle.snl_emit.specs.Emission.{front_code, sign_code, call_code, put_target_code, ask_target_code}
 use Rattle.snl_resolve.specs.declared.constants.Constant.{Constant}
 use Rattle.snl_resolve.specs.declared.constants.Constant.TheVariants.{Varies, Faults, Worth}
-use Rattle.snl_emit.specs.Worth.{worth_of, worth_or, number_of}
+use Rattle.snl_emit.specs.Worth.{worth_of, worth_or, constant_number}
 use Rattle.snl_emit.specs.Targets.{place_code, stored_code, adjust_code, put_instr, ask_instr}
-use Rattle.snl_meaning.specs.declared.operators.Sign.{Sign}
-use Rattle.snl_meaning.specs.declared.operators.Sign.TheVariants.{Steps, Alone}
+use Rattle.snl_meaning.specs.declared.operators.Unary.{Unary}
+use Rattle.snl_meaning.specs.declared.operators.Unary.TheVariants.{ByOne, OfValue}
 use Rattle.snl_meaning.specs.Value.{sign_of, compound_of}
 use Rattle.snl_emit.proofs.TargetCode.{target-cut, step-cut, put-cut, ask-cut}
 
@@ -36,11 +36,11 @@ assignment-made h e r op old stored right new es er en =
     ∙ sym (append_assoc (place_code h o e) (expression_code h r ++ stored_code h o n e) old) ∙ ap (λ l. l ++ old) (sym (target-cut h e o n (expression_code h r)))
 
 -- a sign's code, by what it does
-signed-cut : (s : Sign) (h : Here) (e : ExprTree) (n : ℕ) (is_before : Bool)
+signed-cut : (s : Unary) (h : Here) (e : ExprTree) (n : ℕ) (is_before : Bool)
     → signed_code s (λ by. target_code h e (λ v x. Adjust v by n x.pos.line is_before ∷ []) (λ v x. AdjustAt v by n x.pos.line is_before ∷ []) (Push (pos 0) ∷ [])) (expression_code h e) n
     ≡ signed_code s (λ by. place_code h None e ++ adjust_code h by n is_before e ∷ []) (expression_code h e) n
-signed-cut (Steps by) h e n is_before = step-cut h e by n is_before
-signed-cut (Alone op) h e n is_before = refl
+signed-cut (ByOne by) h e n is_before = step-cut h e by n is_before
+signed-cut (OfValue op) h e n is_before = refl
 
 -- a sign after its operand
 postfix-is : (h : Here) (e : ExprTree) (op : Token) → expression_code h (postfix e op) ≡ sign_code h op true e
@@ -101,7 +101,7 @@ postfix-made h a d b op old new ea ed en =
 
 -- A conditional that is no number: what is taken where it fails, what is taken where it holds, and its condition.
 pub conditional-made : (h : Here) (a d d2 d3 : Expr) (c x y : Box Expr Global) (number : Option ℤ) (old failed held new : List Instr)
-    → a ≡ Conditional c x y → d ≡ y.value → d2 ≡ x.value → d3 ≡ c.value → number ≡ number_of h.sites (view a) → ((z : ℤ) → number ≡ Some z → ⊥)
+    → a ≡ Conditional c x y → d ≡ y.value → d2 ≡ x.value → d3 ≡ c.value → number ≡ constant_number h.sites (view a) → ((z : ℤ) → number ≡ Some z → ⊥)
     → failed ≡ Jump (length (expression_code h (view d))) ∷ (expression_code h (view d) ++ old)
     → held ≡ JumpIfZero (length (expression_code h (view d2)) + 1) ∷ (expression_code h (view d2) ++ failed) → new ≡ expression_code h (view d3) ++ held
     → new ≡ expression_code h (view a) ++ old
@@ -116,16 +116,17 @@ conditional-made h a d d2 d3 c x y number old failed held new ea ed e2 e3 ew nev
     ∙ (λ j. cc' ++ test ∷ (hc ++ Jump (length (expression_code h (view (ed j)))) ∷ (expression_code h (view (ed j)) ++ old)))
     ∙ sym (append_assoc cc' (test ∷ (hc ++ over ∷ fc)) old ∙ ap (λ l. cc' ++ test ∷ l) (append_assoc hc (over ∷ fc) old))
     ∙ ap (λ l. l ++ old)
-    (sym (own-folded (worth_of h.sites (conditional (view c.value) (view x.value) (view y.value))) (if_code cc' hc fc) (λ z is. never z (ew ∙ ap (λ q. number_of h.sites (view q)) ea ∙ is))))
+    (sym (own-folded (worth_of h.sites (conditional (view c.value) (view x.value) (view y.value))) (if_code cc' hc fc) (λ z is. never z (ew ∙ ap (λ q. constant_number h.sites (view q)) ea ∙ is))))
     ∙ ap (λ q. expression_code h (view q) ++ old) (sym ea)
 
 -- A sign before its operand, which stands in a box, where the two are no number.
 pub prefix-made : (h : Here) (a d : Expr) (b : Box Expr Global) (op : Token) (number : Option ℤ) (old new : List Instr)
-    → a ≡ Prefix op b → d ≡ b.value → number ≡ number_of h.sites (view a) → ((z : ℤ) → number ≡ Some z → ⊥) → new ≡ sign_code h op false (view d) ++ old
+    → a ≡ Prefix op b → d ≡ b.value → number ≡ constant_number h.sites (view a) → ((z : ℤ) → number ≡ Some z → ⊥) → new ≡ sign_code h op false (view d) ++ old
     → new ≡ expression_code h (view a) ++ old
 prefix-made h a d b op number old new ea ed ew never en =
     en ∙ (λ j. sign_code h op false (view (ed j)) ++ old)
-    ∙ ap (λ l. l ++ old) (sym (own-folded (worth_of h.sites (prefix op (view b.value))) (sign_code h op false (view b.value)) (λ z is. never z (ew ∙ ap (λ x. number_of h.sites (view x)) ea ∙ is))))
+    ∙ ap (λ l. l ++ old) (sym (own-folded (worth_of h.sites (prefix op (view b.value))) (sign_code h op false (view b.value))
+    (λ z is. never z (ew ∙ ap (λ x. constant_number h.sites (view x)) ea ∙ is))))
     ∙ ap (λ l. l ++ old) (sym (prefix-is h (view b.value) op)) ∙ ap (λ x. expression_code h (view x) ++ old) (sym ea)
 
 -- `pvPut`: its instruction, and then the place.

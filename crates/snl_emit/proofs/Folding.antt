@@ -22,7 +22,7 @@ use Rattle.snl_meaning.specs.Words.{outcome_at, operated, operated_prefix, settl
 use Rattle.snl_meaning.specs.Scenes.{Scene}
 use Rattle.snl_meaning.specs.World.{World}
 use Rattle.snl_meaning.proofs.Following.{also-nil, then_do-also}
-use Rattle.snl_emit.specs.Worth.{unless_declared, worth_of, worth_chain, worth_or, number_of}
+use Rattle.snl_emit.specs.Worth.{unless_declared, worth_of, worth_chain, worth_or, constant_number}
 
 -- ---- steps
 
@@ -208,7 +208,7 @@ front-right m op e rest left r z w so is =
     ∙ then_do-then_do r step (chained m rest)
 
 -- a number that an expression is
-pub number-right : (m : Scene) (e : ExprTree) (z : ℤ) → number_of m.here.sites e ≡ Some z → (w : World) → value_of m e w ≡ Gives z w []
+pub number-right : (m : Scene) (e : ExprTree) (z : ℤ) → constant_number m.here.sites e ≡ Some z → (w : World) → value_of m e w ≡ Gives z w []
 number-right m e z is w = by (worth_of m.here.sites e) refl is
   where
     by : (c : Constant) → worth_of m.here.sites e ≡ c → worth_or c Some None ≡ Some z → value_of m e w ≡ Gives z w []

@@ -18,7 +18,7 @@ use Rattle.snl_meaning.specs.declared.instrs.Instr.TheVariants.{Push}
 use Rattle.snl_meaning.specs.Names.{Here, variable_by, sense_by}
 use Rattle.snl_meaning.specs.Value.{constant_of, or_none, joint_of}
 use Rattle.snl_emit.specs.ExpressionCode.{name_code, folded, joint_code, expression_code, lead_code, terms_code}
-use Rattle.snl_emit.specs.Worth.{unless_declared, worth_of, worth_chain, worth_or, number_of}
+use Rattle.snl_emit.specs.Worth.{unless_declared, worth_of, worth_chain, worth_or, constant_number}
 use Rattle.snl_emit.proofs.Folding.{then-worth}
 
 -- ---- what stands left of an operator
@@ -91,5 +91,5 @@ mutual
   lead-pushed h no_terms left own z so is = so z is
   lead-pushed h (term op e rest) left own z so is =
       front-pushed h.sites rest (joined op.kind left (worth_of h.sites e)) (λ y. lead_code h rest (Worth y) (Push y ∷ []))
-      (own ++ (joint_code (joint_of op.kind) op.pos.line (number_of h.sites e) (expression_code h e) ++ terms_code h rest)) z is
+      (own ++ (joint_code (joint_of op.kind) op.pos.line (constant_number h.sites e) (expression_code h e) ++ terms_code h rest)) z is
       (λ y. lead-pushed h rest (Worth y) (Push y ∷ []) z (λ v. same-push y v))

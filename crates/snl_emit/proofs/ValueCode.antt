@@ -17,15 +17,15 @@ use Rattle.snl_meaning.specs.Run.{PieceContext}
 use Rattle.snl_resolve.specs.Builtins.{builtin_of}
 use Rattle.snl_resolve.specs.Numbered.{number_from}
 use Rattle.snl_resolve.specs.declared.builtins.Query.{Query}
-use Rattle.snl_meaning.specs.Value.{OnVariable, OnElement, constant_of, joint_of, compound_of, sign_of, is_decimal, joined_by, put_at, at_subscript, value_of, chained, at_target, if_callable, performed, print_of, printing_with, calling, wait_of, put_of, ask_flag, ask_of}
-use Rattle.snl_meaning.specs.Words.{gives, read, adjusted, put_to, put_element, waited}
-use Rattle.snl_meaning.specs.Asking.{asked, ask_variable, ask_element}
+use Rattle.snl_meaning.specs.Value.{OnTarget, constant_of, joint_of, compound_of, sign_of, is_decimal, joined_by, put_at, at_subscript, value_of, chained, at_target, if_callable, performed, print_of, printing_with, calling, wait_of, put_of, ask_flag, ask_of}
+use Rattle.snl_meaning.specs.Words.{gives, read, adjusted, put_element, waited}
+use Rattle.snl_meaning.specs.Asking.{asked, ask_element}
 use Rattle.snl_meaning.specs.Scenes.{Callable, Scene, callee_named}
 use Rattle.snl_meaning.specs.World.{World}
 use Rattle.snl_resolve.specs.declared.constants.Constant.{Constant}
 use Rattle.snl_resolve.specs.declared.constants.Constant.TheVariants.{Worth}
 use Rattle.snl_resolve.specs.Constants.{joined}
-use Rattle.snl_emit.specs.Worth.{worth_of, number_of}
+use Rattle.snl_emit.specs.Worth.{worth_of, constant_number}
 use Rattle.snl_emit.proofs.DepthPositive.{depth-positive}
 use Rattle.snl_emit.proofs.Folding.{then_do-gives, same-number, folding, front-right, number-right}
 use Rattle.snl_emit.proofs.FoldedCode.{codes-same, codes-number, codes-folded, codes-or}
@@ -126,9 +126,9 @@ module _ (m : Scene) (setting : Setting) (code : List Instr) (ready : IsSet m se
       let d = max (joint_depth j (expression_depth fs e)) (terms_depth fs rest) in
       let l : joint_depth j (expression_depth fs e) ≤ d = omega arith in
       let r : terms_depth fs rest ≤ d = omega arith in
-      on-then g code (joined_by j op.pos.line (value_of m e)) (chained m rest) (joint_code j op.pos.line (number_of m.here.sites e) (expression_code m.here e)) (terms_code m.here rest) d
+      on-then g code (joined_by j op.pos.line (value_of m e)) (chained m rest) (joint_code j op.pos.line (constant_number m.here.sites e) (expression_code m.here e)) (terms_code m.here rest) d
       (on-more g code _ _ _ d l
-      (on-joint g code j op.pos.line (number_of m.here.sites e) (value_of m e) (expression_code m.here e) (expression_depth fs e) (λ z is. number-right m e z is) (depth-positive fs e) f))
+      (on-joint g code j op.pos.line (constant_number m.here.sites e) (value_of m e) (expression_code m.here e) (expression_depth fs e) (λ z is. number-right m e z is) (depth-positive fs e) f))
       (on-more g code _ _ _ d r k)
 
   mutual
@@ -154,14 +154,14 @@ module _ (m : Scene) (setting : Setting) (code : List Instr) (ready : IsSet m se
         (λ n c o right among. calling-follows n f.pos.line c o right among all))
     value-follows (postfix e op) =
         codes-signed g code (sign_of op.kind) _ (value_of m e) _ (expression_code m.here e) op.pos.line (target_depth fs e 2 3) (expression_depth fs e)
-        (λ by. target-follows e _ _ (gives (pos 0)) (λ v x. Adjust v by op.pos.line x.pos.line true ∷ []) (λ v x. AdjustAt v by op.pos.line x.pos.line true ∷ [])
+        (λ by. target-follows e _ (gives (pos 0)) (λ v x. Adjust v by op.pos.line x.pos.line true ∷ []) (λ v x. AdjustAt v by op.pos.line x.pos.line true ∷ [])
         (Push (pos 0) ∷ []) 2 3 (omega arith)
         (λ x v. adjusts op.pos.line by true x 2 (omega arith) v) (λ x v. adjusts-at op.pos.line by true x 3 v) (pushes-zero 2 (omega arith))) (value-follows e)
     value-follows (prefix op e) =
         codes-folded g code (worth_of m.here.sites (prefix op e)) (value_of m (prefix op e)) _ (expression_depth fs (prefix op e)) (depth-positive fs (prefix op e))
         (λ z w. folding m (prefix op e) z w)
         (codes-signed g code (sign_of op.kind) _ (value_of m e) _ (expression_code m.here e) op.pos.line (target_depth fs e 2 3) (expression_depth fs e)
-        (λ by. target-follows e _ _ (gives (pos 0)) (λ v x. Adjust v by op.pos.line x.pos.line false ∷ []) (λ v x. AdjustAt v by op.pos.line x.pos.line false ∷ [])
+        (λ by. target-follows e _ (gives (pos 0)) (λ v x. Adjust v by op.pos.line x.pos.line false ∷ []) (λ v x. AdjustAt v by op.pos.line x.pos.line false ∷ [])
         (Push (pos 0) ∷ []) 2 3 (omega arith)
         (λ x v. adjusts op.pos.line by false x 2 (omega arith) v) (λ x v. adjusts-at op.pos.line by false x 3 v) (pushes-zero 2 (omega arith))) (value-follows e))
     value-follows (chain e rest) =
@@ -182,7 +182,7 @@ module _ (m : Scene) (setting : Setting) (code : List Instr) (ready : IsSet m se
         let rc = expression_code m.here r in
         let d = expression_depth fs r in
         let n : d ≤ d + held_depth o = omega arith in
-        target-follows e (λ v x. put_at o op.pos.line (value_of m r) m.set v x.pos.line (pos 0)) (λ v x. put_at o op.pos.line (value_of m r) m.set v x.pos.line) (value_of m r)
+        target-follows e (λ v k x. put_at o op.pos.line (value_of m r) m.set v x.pos.line k) (value_of m r)
         (λ v x. put_code o op.pos.line rc v x.pos.line) (λ v x. put_at_code o op.pos.line rc x.pos.line v) rc (d + held_depth o) (d + held_depth o + 1) (omega arith)
         (λ x v. codes-put g code o op.pos.line (value_of m r) rc d x.pos.line (value-follows r) v)
         (λ x v. on-put g code o op.pos.line (value_of m r) rc d x.pos.line (value-follows r) v)
@@ -209,27 +209,27 @@ module _ (m : Scene) (setting : Setting) (code : List Instr) (ready : IsSet m se
     chain-follows (term op e rest) = on-term op e rest (value-follows e) (chain-follows rest)
 
     -- what is done at a target
-    target-follows : (e : ExprTree) (alone : OnVariable) (indexed : OnElement) (other : World → Ran ℤ) (ac ic : CodeOn) (oc : List Instr) (a i : ℕ) → a ≤ i →
-        ((x : Token) (v : Variable) → Codes g code (alone v x) (ac v x) a) → ((x : Token) (v : Variable) → CodesOn g code (indexed v x) (ic v x) i) → Codes g code other oc a →
-        Codes g code (at_target m e alone indexed other) (target_code m.here e ac ic oc) (target_depth fs e a i)
-    target-follows (parenthesized e) alone indexed other ac ic oc a i le f d k = target-follows e alone indexed other ac ic oc a i le f d k
-    target-follows (named x) alone indexed other ac ic oc a i le f d k = codes-at_name g code (sense_of m.here x) x alone other ac oc a (f x) k
-    target-follows (element x b e) alone indexed other ac ic oc a i le f d k =
+    target-follows : (e : ExprTree) (go : OnTarget) (other : World → Ran ℤ) (ac ic : CodeOn) (oc : List Instr) (a i : ℕ) → a ≤ i →
+        ((x : Token) (v : Variable) → Codes g code (go v (pos 0) x) (ac v x) a) → ((x : Token) (v : Variable) → CodesOn g code (λ k. go v k x) (ic v x) i) → Codes g code other oc a →
+        Codes g code (at_target m e go other) (target_code m.here e ac ic oc) (target_depth fs e a i)
+    target-follows (parenthesized e) go other ac ic oc a i le f d k = target-follows e go other ac ic oc a i le f d k
+    target-follows (named x) go other ac ic oc a i le f d k = codes-at_name g code (sense_of m.here x) x go other ac oc a (f x) k
+    target-follows (element x b e) go other ac ic oc a i le f d k =
         let most = max (expression_depth fs e) i in
         let l : expression_depth fs e ≤ most = omega arith in
         let r : i ≤ most = omega arith in
         let n : a ≤ most = omega arith in
-        codes-then g code (value_of m e) (at_subscript (sense_of m.here x) b.pos.line (λ v. indexed v x) other)
+        codes-then g code (value_of m e) (at_subscript (sense_of m.here x) b.pos.line (λ v k. go v k x) other)
         (expression_code m.here e) (at_code (sense_of m.here x) b.pos.line (λ v. ic v x) oc) most
         (codes-more g code _ _ _ most l (value-follows e))
-        (on-subscript g code (sense_of m.here x) b.pos.line (λ v. indexed v x) other (λ v. ic v x) oc most (λ v. on-more g code _ _ _ most r (d x v)) (codes-more g code other oc a most n k))
-    target-follows (constant t) alone indexed other ac ic oc a i le f d k = k
-    target-follows (call n all) alone indexed other ac ic oc a i le f d k = k
-    target-follows (postfix e o) alone indexed other ac ic oc a i le f d k = k
-    target-follows (prefix o e) alone indexed other ac ic oc a i le f d k = k
-    target-follows (chain e rest) alone indexed other ac ic oc a i le f d k = k
-    target-follows (conditional b c e) alone indexed other ac ic oc a i le f d k = k
-    target-follows (assignment e o r) alone indexed other ac ic oc a i le f d k = k
+        (on-subscript g code (sense_of m.here x) b.pos.line (λ v k. go v k x) other (λ v. ic v x) oc most (λ v. on-more g code _ _ _ most r (d x v)) (codes-more g code other oc a most n k))
+    target-follows (constant t) go other ac ic oc a i le f d k = k
+    target-follows (call n all) go other ac ic oc a i le f d k = k
+    target-follows (postfix e o) go other ac ic oc a i le f d k = k
+    target-follows (prefix o e) go other ac ic oc a i le f d k = k
+    target-follows (chain e rest) go other ac ic oc a i le f d k = k
+    target-follows (conditional b c e) go other ac ic oc a i le f d k = k
+    target-follows (assignment e o r) go other ac ic oc a i le f d k = k
 
     -- `printf`
     print-follows : (all : ArgumentList) → Codes g code (print_of m all) (print_code m.here all) (print_depth fs all)
@@ -285,9 +285,9 @@ module _ (m : Scene) (setting : Setting) (code : List Instr) (ready : IsSet m se
     put-follows (text t rest) = pushes-zero 1 (omega arith)
     put-follows (value e rest) =
         let async = has_async rest in
-        target-follows e (λ v x. put_to async m.set v) (λ v x. put_element async m.set v) (gives (pos 0)) (λ v x. Put v async ∷ []) (λ v x. PutAt v async ∷ [])
+        target-follows e (λ v k x. put_element async m.set v k) (gives (pos 0)) (λ v x. Put v async ∷ []) (λ v x. PutAt v async ∷ [])
         (Push (pos 0) ∷ []) 1 1 (omega arith)
-        (λ x v. codes-pushes g code (Put v async) (put_to async m.set v) (λ at s w. refl) 1 (omega arith))
+        (λ x v. codes-pushes g code (Put v async) (put_element async m.set v (pos 0)) (λ at s w. refl) 1 (omega arith))
         (λ x v. on-one g code (PutAt v async) (put_element async m.set v) (λ at x s w. refl) 1) (pushes-zero 1 (omega arith))
 
     -- a call that asks
@@ -295,7 +295,7 @@ module _ (m : Scene) (setting : Setting) (code : List Instr) (ready : IsSet m se
     ask-follows no_arguments query = codes-pushes g code (Ask query 0) (asked query 0) (λ at s w. refl) 1 (omega arith)
     ask-follows (text t rest) query = pushes-zero 1 (omega arith)
     ask-follows (value e rest) query =
-        target-follows e (λ v x. ask_variable query m.set v) (λ v x. ask_element query m.set v) (ask_flag m e query) (λ v x. AskLink query v ∷ []) (λ v x. AskElement query v ∷ [])
+        target-follows e (λ v k x. ask_element query m.set v k) (ask_flag m e query) (λ v x. AskLink query v ∷ []) (λ v x. AskElement query v ∷ [])
         (ask_flag_code m.here e query ∷ []) 1 1 (omega arith)
-        (λ x v. codes-pushes g code (AskLink query v) (ask_variable query m.set v) (λ at s w. refl) 1 (omega arith))
+        (λ x v. codes-pushes g code (AskLink query v) (ask_element query m.set v (pos 0)) (λ at s w. refl) 1 (omega arith))
         (λ x v. on-one g code (AskElement query v) (ask_element query m.set v) (λ at x s w. refl) 1) (flag-follows e query)

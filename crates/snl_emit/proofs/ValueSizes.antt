@@ -18,12 +18,12 @@ use Rattle.snl_meaning.specs.declared.names.Sense.{Sense}
 use Rattle.snl_meaning.specs.declared.names.Sense.TheVariants.{Varies, Stands}
 use Rattle.snl_meaning.specs.declared.operators.Joint.{Joint}
 use Rattle.snl_meaning.specs.declared.operators.Joint.TheVariants.{And, Or, Sequel, Operation}
-use Rattle.snl_meaning.specs.declared.operators.Sign.{Sign}
-use Rattle.snl_meaning.specs.declared.operators.Sign.TheVariants.{Steps, Alone}
+use Rattle.snl_meaning.specs.declared.operators.Unary.{Unary}
+use Rattle.snl_meaning.specs.declared.operators.Unary.TheVariants.{ByOne, OfValue}
 use Rattle.snl_meaning.specs.Names.{Here, sense_of, format_number, function_number}
 use Rattle.snl_meaning.specs.Value.{joint_of, compound_of, sign_of, is_decimal}
 use Rattle.snl_resolve.specs.Calls.{has_async}
-use Rattle.snl_emit.specs.Worth.{of_use, worth_of, worth_or, number_of}
+use Rattle.snl_emit.specs.Worth.{of_use, worth_of, worth_or, constant_number}
 use Rattle.snl_emit.specs.ExpressionCode.{folded, joint_code, if_code, at_code, get_code, renewed_code, put_code, put_at_code, CodeOn, at_name_code, signed_code, called_code, routine_code, ask_flag_code, count_values, expression_code, lead_code, terms_code, target_code, print_code, values_code, wait_code, put_call_code, ask_code}
 use Rattle.snl_emit.specs.Size.{sized, expression_size, lead_size, terms_size, arguments_size}
 
@@ -57,10 +57,10 @@ joint-short (Operation op) line None right = omega (arith, length-append right (
 joint-short (Operation op) line (Some z) right = omega arith
 
 -- a sign
-signed-short : (s : Sign) (stepping : Kind → List Instr) (operand : List Instr) (line n : ℕ) → ((by : Kind) → length (stepping by) ≤ n) → length operand + 1 ≤ n →
+signed-short : (s : Unary) (stepping : Kind → List Instr) (operand : List Instr) (line n : ℕ) → ((by : Kind) → length (stepping by) ≤ n) → length operand + 1 ≤ n →
     length (signed_code s stepping operand line) ≤ n
-signed-short (Steps by) stepping operand line n f le = f by
-signed-short (Alone op) stepping operand line n f le = omega (arith, length-append operand (instr.ApplyPrefix op line ∷ []), le)
+signed-short (ByOne by) stepping operand line n f le = f by
+signed-short (OfValue op) stepping operand line n f le = omega (arith, length-append operand (instr.ApplyPrefix op line ∷ []), le)
 
 -- a call
 called-short : (o : Option Builtin) (print wait put : List Instr) (ask : Query → List Instr) (routine : List Instr) (n : ℕ) → length print ≤ n → length wait ≤ n → length put ≤ n →
@@ -168,19 +168,27 @@ module _ (h : Here) where
     lead-short : (rest : TermList) (left : Constant) (own : List Instr) (n : ℕ) → length own + 1 ≤ n → length (lead_code h rest left own) + 1 ≤ lead_size h.sites rest left n
     lead-short no_terms left own n le = le
     lead-short (term op e rest) left own n le =
-        let jc = joint_code (joint_of op.kind) op.pos.line (number_of h.sites e) (expression_code h e) in
+        let jc = joint_code (joint_of op.kind) op.pos.line (constant_number h.sites e) (expression_code h e) in
         let tc = terms_code h rest in
         or-short (joined op.kind left (worth_of h.sites e)) (λ z. lead_code h rest (worth.Worth z) (instr.Push z ∷ [])) (own ++ (jc ++ tc))
         (λ z. lead_size h.sites rest (worth.Worth z) 2) (n + (8 + (expression_size h.sites e + terms_size h.sites rest)))
         (λ z. lead-short rest (worth.Worth z) (instr.Push z ∷ []) 2 (omega arith))
-        (omega (arith, length-append own (jc ++ tc), length-append jc tc, joint-short (joint_of op.kind) op.pos.line (number_of h.sites e) (expression_code h e), value-short e, terms-short rest, le))
+        (omega (
+          arith,
+          length-append own (jc ++ tc),
+          length-append jc tc,
+          joint-short (joint_of op.kind) op.pos.line (constant_number h.sites e) (expression_code h e),
+          value-short e,
+          terms-short rest,
+          le,
+        ))
 
     -- those behind a front
     terms-short : (rest : TermList) → length (terms_code h rest) ≤ terms_size h.sites rest
     terms-short no_terms = omega arith
     terms-short (term op e rest) =
-        let jc = joint_code (joint_of op.kind) op.pos.line (number_of h.sites e) (expression_code h e) in
-        omega (arith, length-append jc (terms_code h rest), joint-short (joint_of op.kind) op.pos.line (number_of h.sites e) (expression_code h e), value-short e, terms-short rest)
+        let jc = joint_code (joint_of op.kind) op.pos.line (constant_number h.sites e) (expression_code h e) in
+        omega (arith, length-append jc (terms_code h rest), joint-short (joint_of op.kind) op.pos.line (constant_number h.sites e) (expression_code h e), value-short e, terms-short rest)
 
     -- what is done at a target
     target-short : (e : ExprTree) (alone indexed : CodeOn) (other : List Instr) (n : ℕ) → ((v : Variable) (x : Token) → length (alone v x) ≤ n) →

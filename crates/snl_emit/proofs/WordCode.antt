@@ -12,16 +12,16 @@ use Rattle.snl_emit.specs.Depths.{held_depth, called_depth, signed_depth}
 use Rattle.snl_emit.specs.ExpressionCode.{name_code, at_code, put_at_code, renewed_code, put_code, CodeOn, at_name_code, called_code, signed_code, if_code}
 use Rattle.snl_meaning.specs.declared.names.Sense.{Sense}
 use Rattle.snl_meaning.specs.declared.names.Sense.TheVariants.{Varies, Stands}
-use Rattle.snl_meaning.specs.Names.{text_of}
+use Rattle.snl_meaning.specs.Names.{format_text}
 use Rattle.snl_meaning.specs.Ran.{Ran, Gives, then_do}
 use Rattle.snl_meaning.specs.Endings.{HasAt}
 use Rattle.snl_meaning.specs.Run.{PieceContext, Sticks, goes_with, takes, with_room}
 use Rattle.snl_resolve.specs.declared.builtins.Builtin.{Builtin}
 use Rattle.snl_resolve.specs.declared.builtins.Builtin.TheVariants.{Delay, Printf, PvPut, Ask}
 use Rattle.snl_resolve.specs.declared.builtins.Query.{Query}
-use Rattle.snl_meaning.specs.Value.{OnVariable, at_name, called, either, renewed, put_at, at_subscript, named_value, signed}
-use Rattle.snl_meaning.specs.declared.operators.Sign.{Sign}
-use Rattle.snl_meaning.specs.declared.operators.Sign.TheVariants.{Steps, Alone}
+use Rattle.snl_meaning.specs.Value.{OnTarget, at_name, called, either, renewed, put_at, at_subscript, named_value, signed}
+use Rattle.snl_meaning.specs.declared.operators.Unary.{Unary}
+use Rattle.snl_meaning.specs.declared.operators.Unary.TheVariants.{ByOne, OfValue}
 use Rattle.snl_meaning.specs.Words.{operated, operated_prefix, subscript, read, stored, printed}
 use Rattle.snl_meaning.specs.World.{World}
 use Rattle.snl_meaning.proofs.Following.{has_front, has_back, Quiet, follows-on, follows-step, follows-quiet, follows-then, follows-to, quiet-jump, quiet-if_zero}
@@ -76,10 +76,10 @@ module _ (g : PieceContext) (code : List Instr) where
       (codes-renewed op op_line right c d f v) (on-one g code (Store v line) (stored set v line (pos 0)) (λ at x s w. refl) (d + held_depth op))
 
   -- what is done at a name
-  pub codes-at_name : (y : Sense) (x : Token) (alone : OnVariable) (other : World → Ran ℤ) (ac : CodeOn) (oc : List Instr) (d : ℕ) →
-      ((v : Variable) → Codes g code (alone v x) (ac v x) d) → Codes g code other oc d → Codes g code (at_name y x alone other) (at_name_code y x ac oc) d
-  codes-at_name (Varies v) x alone other ac oc d f h = f v
-  codes-at_name (Stands z) x alone other ac oc d f h = h
+  pub codes-at_name : (y : Sense) (x : Token) (go : OnTarget) (other : World → Ran ℤ) (ac : CodeOn) (oc : List Instr) (d : ℕ) →
+      ((v : Variable) → Codes g code (go v (pos 0) x) (ac v x) d) → Codes g code other oc d → Codes g code (at_name y x go other) (at_name_code y x ac oc) d
+  codes-at_name (Varies v) x go other ac oc d f h = f v
+  codes-at_name (Stands z) x go other ac oc d f h = h
 
   -- a call
   pub codes-called : (function : Option Builtin) (print wait put : World → Ran ℤ) (ask : Query → World → Ran ℤ) (routine : World → Ran ℤ)
@@ -93,10 +93,10 @@ module _ (g : PieceContext) (code : List Instr) where
   codes-called (Some (Ask query)) print wait put ask routine pc wc uc ac rc d e i r f h k a l = a query
 
   -- a sign
-  pub codes-signed : (sg : Sign) (stepping : Kind → World → Ran ℤ) (operand : World → Ran ℤ) (sc : Kind → List Instr) (oc : List Instr) (line d e : ℕ) →
+  pub codes-signed : (sg : Unary) (stepping : Kind → World → Ran ℤ) (operand : World → Ran ℤ) (sc : Kind → List Instr) (oc : List Instr) (line d e : ℕ) →
       ((op : Kind) → Codes g code (stepping op) (sc op) d) → Codes g code operand oc e → Codes g code (signed sg stepping operand line) (signed_code sg sc oc line) (signed_depth sg d e)
-  codes-signed (Steps op) stepping operand sc oc line d e f h = f op
-  codes-signed (Alone u) stepping operand sc oc line d e f h =
+  codes-signed (ByOne op) stepping operand sc oc line d e f h = f op
+  codes-signed (OfValue u) stepping operand sc oc line d e f h =
       codes-then g code operand (operated_prefix u line) oc (ApplyPrefix u line ∷ []) e h (on-one g code (ApplyPrefix u line) (operated_prefix u line) (λ at x s w. refl) e)
 
   -- one of two
@@ -152,8 +152,8 @@ module _ (g : PieceContext) (code : List Instr) where
 
   -- `printf` with its numbers on top
   pub runs-print : (format n at : ℕ) (taken s : List ℤ) (w : World) → slice_get code at ≡ Some (Print format n) → length taken ≡ n → length s < g.room →
-      Runs g code at (taken ++ s) w (printed g.name (text_of g.formats format) taken w) (at + 1) s
+      Runs g code at (taken ++ s) w (printed g.name (format_text g.formats format) taken w) (at + 1) s
   runs-print format n at taken s w there is room =
-      let word = printed g.name (text_of g.formats format) in
+      let word = printed g.name (format_text g.formats format) in
       follows-step g code (Print format n) at (taken ++ s) w (word taken w) (λ _. at + 1) (λ z. z ∷ s) there
       (ap (λ m. takes g m at (taken ++ s) w word) (sym is) ∙ takes-is at taken s w word room)

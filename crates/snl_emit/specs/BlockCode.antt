@@ -11,8 +11,8 @@ use Rattle.snl_meaning.specs.Effect.{variable_for, values_of, names_of}
 use Rattle.snl_emit.specs.ExpressionCode.{expression_code, renewed_code, if_code}
 use Rattle.snl_meaning.specs.declared.names.Sense.{Sense}
 use Rattle.snl_meaning.specs.declared.names.Sense.TheVariants.{Varies, Stands}
-use Rattle.snl_meaning.specs.declared.operators.Sign.{Sign}
-use Rattle.snl_meaning.specs.declared.operators.Sign.TheVariants.{Steps, Alone}
+use Rattle.snl_meaning.specs.declared.operators.Unary.{Unary}
+use Rattle.snl_meaning.specs.declared.operators.Unary.TheVariants.{ByOne, OfValue}
 use Rattle.snl_meaning.specs.Names.{Here, Within, Piece, Body, sense_of, state_number}
 use Rattle.snl_meaning.specs.Value.{compound_of, sign_of}
 
@@ -53,10 +53,10 @@ assigned_code None op op_line right other = other
 assigned_code (Some x) op op_line right other = renewed_code op op_line right x.0 ++ Assign x.0 0 x.1 ∷ []
 
 -- `++` or `--` whose value is not used: of a variable, by one instruction.
-abbrev pub stepped_code : Option (Variable × ℕ) → Sign → ℕ → List Instr → List Instr
+abbrev pub stepped_code : Option (Variable × ℕ) → Unary → ℕ → List Instr → List Instr
 stepped_code None sign op_line other = other
-stepped_code (Some x) (Steps by) op_line other = Increment x.0 by op_line x.1 ∷ []
-stepped_code (Some x) (Alone op) op_line other = other
+stepped_code (Some x) (ByOne by) op_line other = Increment x.0 by op_line x.1 ∷ []
+stepped_code (Some x) (OfValue op) op_line other = other
 
 -- An expression whose value is dropped.
 abbrev pub dropping_code : Here → ExprTree → List Instr

@@ -9,8 +9,8 @@ use Rattle.snl_resolve.specs.declared.builtins.Builtin.TheVariants.{Delay, Print
 use Rattle.snl_resolve.specs.Builtins.{builtin_of}
 use Rattle.snl_meaning.specs.declared.operators.Joint.{Joint}
 use Rattle.snl_meaning.specs.declared.operators.Joint.TheVariants.{Operation}
-use Rattle.snl_meaning.specs.declared.operators.Sign.{Sign}
-use Rattle.snl_meaning.specs.declared.operators.Sign.TheVariants.{Steps, Alone}
+use Rattle.snl_meaning.specs.declared.operators.Unary.{Unary}
+use Rattle.snl_meaning.specs.declared.operators.Unary.TheVariants.{ByOne, OfValue}
 use Rattle.snl_meaning.specs.Effect.{values_of, names_of}
 use Rattle.snl_meaning.specs.Functions.{Routine}
 use Rattle.snl_meaning.specs.Names.{Outline, outline_named}
@@ -29,9 +29,9 @@ held_depth None = 0
 held_depth (Some op) = 1
 
 -- How much room a sign needs.
-abbrev pub signed_depth : Sign → ℕ → ℕ → ℕ
-signed_depth (Steps op) stepping operand = stepping
-signed_depth (Alone op) stepping operand = operand
+abbrev pub signed_depth : Unary → ℕ → ℕ → ℕ
+signed_depth (ByOne op) stepping operand = stepping
+signed_depth (OfValue op) stepping operand = operand
 
 -- How much room a call of a function needs: for its arguments, and then for its body. One that is not there needs 1.
 abbrev pub routine_depth : Option Outline → ℕ → ℕ

@@ -9,7 +9,7 @@ use Rattle.snl_meaning.specs.declared.instrs.Instr.{Instr}
 use Rattle.snl_meaning.specs.declared.instrs.Instr.TheVariants.{Push, Jump, Tick, Put, PutAt, AskLink, AskElement}
 use Rattle.snl_syntax.specs.Statements.{StatementTree}
 use Rattle.snl_emit.specs.BlockCode.{statement_code}
-use Rattle.snl_emit.specs.Worth.{number_of}
+use Rattle.snl_emit.specs.Worth.{constant_number}
 use Rattle.snl_emit.specs.ExpressionCode.{expression_code, target_code, operator_code, joint_code, signed_code, at_code, get_code, called_code, routine_code, count_values, values_code, print_code, wait_code, put_call_code, ask_code, ask_flag_code}
 use Rattle.snl_meaning.specs.Names.{Here, function_number}
 use Rattle.snl_meaning.specs.declared.names.Sense.{Sense}
@@ -24,11 +24,11 @@ element_code x line = at_code x line get_code (Push (pos 0) ∷ [])
 
 -- An operator with its operand.
 abbrev pub term_code : Here → Token × ExprTree → List Instr
-term_code h t = joint_code (joint_of t.0.kind) t.0.pos.line (number_of h.sites t.1) (expression_code h t.1)
+term_code h t = joint_code (joint_of t.0.kind) t.0.pos.line (constant_number h.sites t.1) (expression_code h t.1)
 
 -- A binary operator with its operand.
 abbrev pub operation_code : Here → Kind → ℕ → ExprTree → List Instr
-operation_code h op line e = operator_code op line (number_of h.sites e) (expression_code h e)
+operation_code h op line e = operator_code op line (constant_number h.sites e) (expression_code h e)
 
 -- What stands left in a chain: the push of the number of its front, or the code of its first operand.
 abbrev pub front_code : Option ℤ → List Instr → List Instr

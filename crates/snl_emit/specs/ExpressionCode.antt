@@ -15,12 +15,12 @@ use Rattle.snl_resolve.specs.declared.constants.Constant.TheVariants.{Worth}
 use Rattle.snl_resolve.specs.Builtins.{builtin_of}
 use Rattle.snl_resolve.specs.Calls.{has_async}
 use Rattle.snl_resolve.specs.Constants.{joined}
-use Rattle.snl_emit.specs.Worth.{worth_of, worth_or, number_of}
+use Rattle.snl_emit.specs.Worth.{worth_of, worth_or, constant_number}
 use Rattle.snl_meaning.specs.Value.{constant_of, joint_of, compound_of, sign_of, is_decimal}
 use Rattle.snl_meaning.specs.declared.operators.Joint.{Joint}
 use Rattle.snl_meaning.specs.declared.operators.Joint.TheVariants.{And, Or, Sequel, Operation}
-use Rattle.snl_meaning.specs.declared.operators.Sign.{Sign}
-use Rattle.snl_meaning.specs.declared.operators.Sign.TheVariants.{Steps, Alone}
+use Rattle.snl_meaning.specs.declared.operators.Unary.{Unary}
+use Rattle.snl_meaning.specs.declared.operators.Unary.TheVariants.{ByOne, OfValue}
 use Rattle.snl_resolve.specs.declared.builtins.Builtin.{Builtin}
 use Rattle.snl_resolve.specs.declared.builtins.Builtin.TheVariants as builtin
 use Rattle.snl_resolve.specs.declared.builtins.Builtin.TheVariants.{Delay, Printf, PvPut}
@@ -86,9 +86,9 @@ at_name_code (Varies v) x alone other = alone v x
 at_name_code (Stands z) x alone other = other
 
 -- The code of a sign before or after an operand.
-abbrev pub signed_code : Sign → (Kind → List Instr) → List Instr → ℕ → List Instr
-signed_code (Steps op) stepping operand line = stepping op
-signed_code (Alone op) stepping operand line = operand ++ ApplyPrefix op line ∷ []
+abbrev pub signed_code : Unary → (Kind → List Instr) → List Instr → ℕ → List Instr
+signed_code (ByOne op) stepping operand line = stepping op
+signed_code (OfValue op) stepping operand line = operand ++ ApplyPrefix op line ∷ []
 
 -- The code of a call, by its built-in function; of any other name it is that of a function of the program.
 abbrev pub called_code : Option Builtin → (print wait put : List Instr) → (Query → List Instr) → (routine : List Instr) → List Instr
@@ -146,12 +146,12 @@ abbrev mutual
   lead_code h no_terms left code = code
   lead_code h (term op e rest) left code =
       worth_or (joined op.kind left (worth_of h.sites e)) (λ z. lead_code h rest (Worth z) (Push z ∷ []))
-      (code ++ (joint_code (joint_of op.kind) op.pos.line (number_of h.sites e) (expression_code h e) ++ terms_code h rest))
+      (code ++ (joint_code (joint_of op.kind) op.pos.line (constant_number h.sites e) (expression_code h e) ++ terms_code h rest))
 
   -- the operators and operands behind that front
   pub terms_code : Here → TermList → List Instr
   terms_code h no_terms = []
-  terms_code h (term op e rest) = joint_code (joint_of op.kind) op.pos.line (number_of h.sites e) (expression_code h e) ++ terms_code h rest
+  terms_code h (term op e rest) = joint_code (joint_of op.kind) op.pos.line (constant_number h.sites e) (expression_code h e) ++ terms_code h rest
 
   -- what is done at a target, after its subscript
   pub target_code : Here → ExprTree → CodeOn → CodeOn → List Instr → List Instr

@@ -44,5 +44,5 @@ worth_or Varies made other = other
 worth_or Faults made other = other
 
 -- The number that an expression is in every run.
-abbrev pub number_of : List Site → ExprTree → Option ℤ
-number_of sites e = worth_or (worth_of sites e) Some None
+abbrev pub constant_number : List Site → ExprTree → Option ℤ
+constant_number sites e = worth_or (worth_of sites e) Some None

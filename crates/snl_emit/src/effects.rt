@@ -10,7 +10,7 @@ ghost use Rattle.snl_meaning.specs.Value as meaning;
 
 use crate::emission::emit_expression;
 use crate::rows::put;
-use snl_meaning::{Instr, Known, Sense, Sign, Variable, compound_of, sign_of};
+use snl_meaning::{Instr, Known, Sense, Unary, Variable, compound_of, sign_of};
 use snl_syntax::Expr;
 use snl_text::{Kind, Token};
 use std::alloc::AllocError;
@@ -115,7 +115,7 @@ fn emit_stepped<'a>(
         return emit_dropped(whole, known, code);
     };
     match sign_of(sign.kind) {
-        Sign::Steps(operator) => {
+        Unary::ByOne(operator) => {
             let operator_line = sign.pos.line;
             put(
                 code,
@@ -127,7 +127,7 @@ fn emit_stepped<'a>(
                 },
             )
         }
-        Sign::Alone(_) => emit_dropped(whole, known, code),
+        Unary::OfValue(_) => emit_dropped(whole, known, code),
     }
 }
 

@@ -16,8 +16,8 @@ use crate::constants::constant_of;
 use crate::parts::{put_checked, put_old, put_read, read_name};
 use crate::rows::put;
 use crate::targets::{adjusted, put_stored};
-use crate::worth::{front_of, number_of, worth_of};
-use snl_meaning::{Instr, Joint, Known, Sign, compound_of, joint_of, sign_of};
+use crate::worth::{constant_number, front_of, worth_of};
+use snl_meaning::{Instr, Joint, Known, Unary, compound_of, joint_of, sign_of};
 use snl_syntax::{Expr, Term};
 use snl_text::{Kind, Token};
 use std::alloc::AllocError;
@@ -45,7 +45,7 @@ pub fn emit_expression<'a>(
         } => emit_element(index, known, *name, bracket.pos.line, code),
         Expr::Call(name, arguments) => emit_call(arguments.as_slice(), known, *name, code),
         Expr::Postfix(target, operator) => emit_sign(target, known, *operator, true, code),
-        Expr::Prefix(operator, operand) => match number_of(expression, known.sites) {
+        Expr::Prefix(operator, operand) => match constant_number(expression, known.sites) {
             Some(number) => put(code, Instr::Push(number)),
             None => emit_sign(operand, known, *operator, false, code),
         },
@@ -55,7 +55,7 @@ pub fn emit_expression<'a>(
             emit_front(first, front.number, known, code)
         }
         Expr::Conditional { condition, yes, no } => {
-            if let Some(number) = number_of(expression, known.sites) {
+            if let Some(number) = constant_number(expression, known.sites) {
                 return put(code, Instr::Push(number));
             }
             emit_failed(no, known, code)?;
@@ -217,7 +217,7 @@ fn emit_operation<'a>(
         ≡ form.operation_code (here_of known.now) operator line (view operand.now)
         ++ reverse code.old.items) }
 {
-    if let Some(number) = number_of(operand, known.sites) {
+    if let Some(number) = constant_number(operand, known.sites) {
         return put(
             code,
             Instr::ApplyNumber {
@@ -246,11 +246,11 @@ fn emit_sign<'a>(
 {
     let line = sign.pos.line;
     match sign_of(sign.kind) {
-        Sign::Steps(operator) => {
+        Unary::ByOne(operator) => {
             put(code, adjusted(operand, known, operator, line, is_before))?;
             emit_place(operand, known, None, code)
         }
-        Sign::Alone(operator) => {
+        Unary::OfValue(operator) => {
             put(code, Instr::ApplyPrefix { operator, line })?;
             emit_expression(operand, known, code)
         }

@@ -65,8 +65,8 @@ fn worth_chain<'a>(terms: &[Term<'a>], sites: &Sites<'_, 'a>, first: Constant) -
 }
 
 /// The number that an expression is in every run.
-pub fn number_of<'a>(expression: &Expr<'a>, sites: &Sites<'_, 'a>) -> Option<i64>
-    ensures { result ≡ spec.number_of sites.now (view expression.now) }
+pub fn constant_number<'a>(expression: &Expr<'a>, sites: &Sites<'_, 'a>) -> Option<i64>
+    ensures { result ≡ spec.constant_number sites.now (view expression.now) }
 {
     match worth_of(expression, sites) {
         Constant::Worth(number) => Some(number),

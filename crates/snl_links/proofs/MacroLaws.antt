@@ -6,7 +6,7 @@ use Rattle.std.specs.HashMap.{HashMap, get_by}
 use Rattle.std.specs.Map.{lookup}
 use Rattle.std.specs.Option.{option_or}
 use Rattle.snl_links.specs.Texts.{before, after}
-use Rattle.snl_links.specs.Macros.{Macro, with_first, pieces, defined_by, definitions, last_value, value_of, replaced}
+use Rattle.snl_links.specs.Macros.{Macro, with_first, pieces, defined_by, definitions, last_value, macro_value, replaced}
 use Rattle.snl_links.specs.MacroTables.{found}
 use Rattle.snl_links.specs.MacroViews.{left_of, left_size}
 
@@ -70,7 +70,7 @@ piece_step q text piece left old new start ep el en inv =
 
 -- the macros of two texts, one noted after the other
 pub both_noted : (q : List ℕ) (xs ys : List Macro) (first second : Option (List ℕ)) → first ≡ option_or (last_value q xs) None → second ≡ option_or (last_value q ys) first
-    → unwrap_or second [] ≡ value_of (xs ++ ys) q
+    → unwrap_or second [] ≡ macro_value (xs ++ ys) q
 both_noted q xs ys first second ef es =
     let last : option_or (last_value q xs) None ≡ last_value q xs = elim (last_value q xs) as (λ o. option_or o None ≡ o) [ None ↦ refl | Some t ↦ refl ] in
     ap (λ o. unwrap_or o []) (es ∙ ap (option_or (last_value q ys)) (ef ∙ last) ∙ sym (last_of_both q xs ys))

@@ -17,7 +17,7 @@ use Rattle.snl_resolve.specs.Programs.{queue_size, program_scopes}
 use Rattle.snl_resolve.specs.Scopes.{Scope, scope_of, meaning, is_hidden}
 use Rattle.snl_links.specs.declared.ties.Named.{Named}
 use Rattle.snl_links.specs.declared.ties.Tie.{Tie}
-use Rattle.snl_links.specs.Macros.{macros_of, value_of, replaced}
+use Rattle.snl_links.specs.Macros.{macros_of, macro_value, replaced}
 
 -- ---- what definitions say
 
@@ -187,4 +187,4 @@ link_by value t = record {
 
 -- The links of a program, with the macros of its text and of a run's.
 abbrev pub links : ProgramTree → List ℕ → List Link
-links p of_run = map (link_by (value_of (macros_of (spelled p.macros) of_run))) (ties p)
+links p of_run = map (link_by (macro_value (macros_of (spelled p.macros) of_run))) (ties p)

@@ -45,8 +45,8 @@ last_value name [] = None
 last_value name (m ∷ more) = option_or (last_value name more) (if bytes_eq m.name name then Some m.value else None)
 
 -- A name that is not defined stands for nothing.
-abbrev pub value_of : List Macro → List ℕ → List ℕ
-value_of macros name = unwrap_or (last_value name macros) []
+abbrev pub macro_value : List Macro → List ℕ → List ℕ
+macro_value macros name = unwrap_or (last_value name macros) []
 
 -- A channel's name after macros. From a `{` (123) to the next `}` (125) a value takes the place of what stands between
 -- them; the value is not searched again. What stands since an open `{` is kept until then, and stays where no `}` comes.
@@ -62,4 +62,4 @@ abbrev pub macros_of : List ℕ → List ℕ → List Macro
 macros_of of_program of_run = definitions of_program ++ definitions of_run
 
 abbrev pub after_macros : List Macro → List ℕ → List ℕ
-after_macros macros name = replaced (value_of macros) None name
+after_macros macros name = replaced (macro_value macros) None name

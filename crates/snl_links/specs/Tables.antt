@@ -1,11 +1,9 @@
 -- The text of a program's tables, line by line. Each line ends in its newline.
-use Rattle.std.specs.Prelude.{ℕ, suc, Bool, true, List, [], ◌∷◌, ◌++◌, codes, Option, None, Some, unwrap_or, if◌then◌else◌}
+use Rattle.std.specs.Prelude.{ℕ, suc, Bool, List, [], ◌∷◌, ◌++◌, codes, Option, None, Some, if◌then◌else◌}
 use Rattle.std.specs.List.{flat_map}
-use Rattle.std.specs.Option.{option_or}
 use Rattle.std.specs.Fmt.{decimal}
-use Rattle.snl_syntax.specs.Definitions.{DefinitionTree, setting}
 use Rattle.snl_syntax.specs.Programs.{TargetTree, to_state, to_exit, ClauseTree, StateTree, StateSetTree, ProgramTree}
-use Rattle.snl_resolve.specs.Options.{is_on, is_among}
+use Rattle.snl_resolve.specs.Options.{sign_in_force}
 use Rattle.snl_links.specs.declared.ties.Named.{Named}
 use Rattle.snl_links.specs.declared.ties.Tie.{Tie}
 use Rattle.snl_links.specs.Links.{spelled, ties}
@@ -46,20 +44,6 @@ abbrev pub channel_line : Tie → List ℕ
 channel_line t = elements_words t.variable.name.now t.first t.count ++ said_words (spelled t.channel) (monitor_word t.monitored) (flag_word t.flag) t.queue
 
 -- ---- the options of a state
-
--- The sign that an option gives to a letter, `true` for `+`, whatever other letters it has.
-abbrev pub sign_by : ℕ → DefinitionTree → Option Bool
-sign_by letter (setting o) = if is_among o.name.text.now letter then Some (is_on o) else None
-sign_by letter d = None
-
--- The last sign of a letter.
-abbrev pub last_sign : ℕ → List DefinitionTree → Option Bool
-last_sign letter [] = None
-last_sign letter (d ∷ more) = option_or (last_sign letter more) (sign_by letter d)
-
--- The sign that is in force; `+` where no option has the letter.
-abbrev pub sign_in_force : ℕ → List DefinitionTree → Bool
-sign_in_force letter defs = unwrap_or (last_sign letter defs) true
 
 abbrev pub sign_word : Bool → List ℕ
 sign_word on = if on then codes "+" else codes "-"

@@ -50,7 +50,7 @@ pub fn spelled(text: Option<Token<'_>>) -> &[u8]
 }
 
 /// The place of a name, where there is one.
-fn place_of(name: Option<Named>) -> Option<Pos>
+fn pos_of(name: Option<Named>) -> Option<Pos>
     ensures { result ≡ option_map (λ f. f.place) name.entry }
 {
     match name {
@@ -76,7 +76,7 @@ fn push_link(
         count: tie.count,
         name,
         monitored: tie.monitored,
-        flag: place_of(tie.flag),
+        flag: pos_of(tie.flag),
         queue: tie.queue,
     })?;
     Ok(())

@@ -14,4 +14,4 @@ mod ties;
 
 pub use channels::{Link, Macros, links_of};
 pub use checked::{links, tables};
-pub use listing::{sign_in_force, tables_of};
+pub use listing::tables_of;

@@ -2,9 +2,7 @@
 
 ghost use Rattle.std.specs.Prelude.{◌≡◌, ◌++◌, map, codes, OnOk, OnErr};
 ghost use Rattle.std.specs.List.{flat_map};
-ghost use Rattle.snl_syntax.specs.view.Definitions.{definition_view};
 ghost use Rattle.snl_syntax.specs.view.Programs.{target_view, clause_view, state_view, state_set_view, program_view};
-ghost use Rattle.snl_resolve.specs.Options.{is_among};
 ghost use Rattle.snl_links.specs.Appended.{Begun};
 ghost use Rattle.snl_links.specs.Tables as spec;
 
@@ -12,9 +10,8 @@ use crate::appending::put_pieces;
 use crate::channels::spelled;
 use crate::ties::{Named, Tie, ties_of};
 use itoa::Buffer;
-use snl_resolve::has_letter;
-use snl_syntax::{Clause, Def, Program, State, StateSet, Target};
-use snl_text::Kind;
+use snl_resolve::sign_in_force;
+use snl_syntax::{Clause, Program, State, StateSet, Target};
 use std::alloc::{AllocError, Global};
 
 /// The name of an event flag, or `-`.
@@ -115,36 +112,6 @@ fn put_channels(ties: &[Tie], out: &mut Vec<u8>) -> Result<(), AllocError>
         put_channel(tie, out)?;
     }
     Ok(())
-}
-
-/// The sign that an option gives to a letter, `true` for `+`.
-fn sign_by(letter: u8, definition: &Def) -> Option<bool>
-    ensures { result ≡ spec.sign_by letter (definition_view definition.now) }
-{
-    match definition {
-        Def::Setting(setting) => {
-            if has_letter(setting.name.text, letter) {
-                Some(matches!(setting.sign.kind, Kind::Plus))
-            } else {
-                None
-            }
-        }
-        _ => None,
-    }
-}
-
-/// The sign of a letter that is in force among the definitions of a state, `true` for `+`: that of the last option with the
-/// letter, and `+` where none has it (SNL Reference, "State Options").
-pub fn sign_in_force(letter: u8, definitions: &[Def]) -> bool
-    ensures { result ≡ spec.sign_in_force letter (map definition_view definitions.now) }
-{
-    let mut on = true;
-    for definition in definitions {
-        if let Some(sign) = sign_by(letter, definition) {
-            on = sign;
-        }
-    }
-    on
 }
 
 /// Appends the line of a state with these signs.

@@ -90,7 +90,7 @@ impl<'a> MacroTable<'a> {
         of_run: &'a [u8],
     ) -> Result<MacroTable<'a>, AllocError>
         ensures { IfOk result (λ table. (q : List ℕ) → value_in table q
-            ≡ spec.value_of (spec.macros_of of_program.now of_run.now) q) }
+            ≡ spec.macro_value (spec.macros_of of_program.now of_run.now) q) }
     {
         let mut table = MacroTable {
             values: IndexMap::new(alloc),

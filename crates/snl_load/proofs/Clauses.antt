@@ -16,8 +16,8 @@ use Rattle.snl_meaning.specs.Run.{Entry, PieceContext, context_of, run_of}
 use Rattle.snl_meaning.specs.World.{World}
 use Rattle.snl_vm.specs.Running.{left_at}
 use Rattle.snl_schedule.specs.declared.plans.ClausePlan.{ClausePlan}
-use Rattle.snl_schedule.specs.Plans.{clause_of, held_at, CanTest, CanRun, CanRunAll}
-use Rattle.snl_load.specs.Meaning.{clause_meaning, left_for}
+use Rattle.snl_schedule.specs.Plans.{clause_of, test_at, CanTest, CanRun, CanRunAll}
+use Rattle.snl_load.specs.Meaning.{clause_meaning, state_left_for}
 use Rattle.snl_load.specs.Plans.{clause_plan, clause_plans}
 use Rattle.snl_load.proofs.Pieces.{condition-means, block-means}
 
@@ -32,7 +32,7 @@ module _ (p : ProgramTree) (code : List Instr) (functions : List Entry) (t : Pro
 
   -- the condition of a clause
   condition : (k : ℕ) (c : ClauseTree) → clause_at p set state k ≡ Some c →
-      ((w : World) → held_at context code (start_in t (Condition set state k)) w ≡ held_by (scene_in p set) c.condition w) × CanTest context code (start_in t (Condition set state k))
+      ((w : World) → test_at context code (start_in t (Condition set state k)) w ≡ held_by (scene_in p set) c.condition w) × CanTest context code (start_in t (Condition set state k))
   condition k c at =
       let name = Condition set state k in
       let is : piece_of p name ≡ option_map (Test set) c.condition = ap (option_and_then (λ d. option_map (Test set) d.condition)) at in
@@ -42,7 +42,7 @@ module _ (p : ProgramTree) (code : List Instr) (functions : List Entry) (t : Pro
 
   -- the block of a clause
   block : (k : ℕ) (c : ClauseTree) → clause_at p set state k ≡ Some c → let start = unwrap_or (start_in t (Block set state k)) 0 in
-      ((w : World) → left_at context code start w ≡ then_do (block_effect (scene_in p set) c.block w) left_for) × ((w : World) → IsOver (run_of context code start w))
+      ((w : World) → left_at context code start w ≡ then_do (block_effect (scene_in p set) c.block w) state_left_for) × ((w : World) → IsOver (run_of context code start w))
   block k c at =
       let name = Block set state k in by (start_in t name) (subst (λ (o : Option PieceTree). IsPlaced p code functions o (start_in t name)) (kept (piece_of p name) ∙ is) (placed name))
     where
@@ -50,7 +50,7 @@ module _ (p : ProgramTree) (code : List Instr) (functions : List Entry) (t : Pro
       is = ap (option_map (λ d. Action set d.block)) at
 
       by : (start : Option ℕ) → IsPlaced p code functions (Some (Action set c.block)) start →
-          ((w : World) → left_at context code (unwrap_or start 0) w ≡ then_do (block_effect (scene_in p set) c.block w) left_for)
+          ((w : World) → left_at context code (unwrap_or start 0) w ≡ then_do (block_effect (scene_in p set) c.block w) state_left_for)
           × ((w : World) → IsOver (run_of context code (unwrap_or start 0) w))
       by None there = absurd there
       by (Some start) there = block-means p code functions room set c.block start there (omega (arith, enough, depth_is_enough p (Block set state k) (Action set c.block) is))

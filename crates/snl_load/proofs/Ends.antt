@@ -6,7 +6,7 @@ use Rattle.snl_meaning.specs.Endings.{IsOver}
 use Rattle.snl_emit.specs.Right.{ends_with, leads_to}
 use Rattle.snl_vm.specs.Running.{LeavesValue, value_left, state_left}
 use Rattle.snl_schedule.specs.Plans.{ended}
-use Rattle.snl_load.specs.Meaning.{left_for, finished}
+use Rattle.snl_load.specs.Meaning.{state_left_for, finished}
 
 -- text with nothing behind it, twice
 nothing_behind : (text : List ℕ) → (text ++ []) ++ [] ≡ text
@@ -23,7 +23,7 @@ leaves-value (Gives z w text) = tt
 leaves-value (Faults f line w text) = tt
 
 -- the state that a block left for is the one that its run left for
-pub state-left : (r : Ran Way) → then_do (then_do r leads_to) state_left ≡ then_do r left_for
+pub state-left : (r : Ran Way) → then_do (then_do r leads_to) state_left ≡ then_do r state_left_for
 state-left (Gives Done w text) = ap (λ t. Gives None w t) (append-nil (text ++ []))
 state-left (Gives Broken w text) = ap (λ t. Gives None w t) (append-nil (text ++ []))
 state-left (Gives Continued w text) = ap (λ t. Gives None w t) (append-nil (text ++ []))

@@ -5,7 +5,7 @@ use Rattle.snl_syntax.specs.Expressions.{ExprTree}
 use Rattle.snl_syntax.specs.view.Declarations.{value_list}
 use Rattle.snl_resolve.specs.Types.{listed_values}
 use Rattle.snl_meaning.specs.Laws.{words_of}
-use Rattle.snl_resolve.specs.Variables.{Held}
+use Rattle.snl_resolve.specs.Variables.{CopyVariable}
 use Rattle.snl_resolve.proofs.ListLaws.{listed_of}
 use Rattle.snl_resolve.specs.Scopes.{elements}
 use Rattle.snl_load.specs.First.{first_shared}
@@ -22,7 +22,7 @@ zeros-more n words i less =
     append_assoc words (pos 0 ∷ []) (replicate (n - (i + 1)) (pos 0)) ∙ sym (ap (λ (m : ℕ). words ++ replicate m (pos 0)) left)
 
 -- one element more was added
-pub elements-more : (v : Held) (from n : ℕ) (words : List ℤ) (i : ℕ) → i < n →
+pub elements-more : (v : CopyVariable) (from n : ℕ) (words : List ℤ) (i : ℕ) → i < n →
     (words ++ first_element v (from + i) ∷ []) ++ first_elements v (from + (i + 1)) (n - (i + 1)) ≡ words ++ first_elements v (from + i) (n - i)
 elements-more v from n words i less =
     let left : n - i ≡ suc (n - (i + 1)) = omega (arith, less) in
@@ -38,5 +38,5 @@ zeros-both (suc m) n =
     ap (λ (k : ℕ). replicate k (pos 0)) (let e : suc m + n ≡ suc (m + n) = omega arith in e) ∙ ap (λ (l : List ℤ). pos 0 ∷ l) (zeros-both m n)
 
 -- the words of one more variable of functions
-pub shared_more : (v : Held) (vs : List Held) → first_shared (v ∷ vs) ≡ replicate (elements v.size) (pos 0) ++ first_shared vs
+pub shared_more : (v : CopyVariable) (vs : List CopyVariable) → first_shared (v ∷ vs) ≡ replicate (elements v.size) (pos 0) ++ first_shared vs
 shared_more v vs = zeros-both (elements v.size) (words_of vs)

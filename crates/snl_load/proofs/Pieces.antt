@@ -15,8 +15,8 @@ use Rattle.snl_meaning.specs.Run.{Entry, PieceContext, Exit, context_of, run_of}
 use Rattle.snl_meaning.specs.Value.{value_of}
 use Rattle.snl_meaning.specs.World.{World}
 use Rattle.snl_vm.specs.Running.{LeavesValue, value_left, left_at, state_left}
-use Rattle.snl_schedule.specs.Plans.{held_at, CanTest, block_at, CanDo, ended}
-use Rattle.snl_load.specs.Meaning.{left_for, block_meaning}
+use Rattle.snl_schedule.specs.Plans.{test_at, CanTest, block_at, CanDo, ended}
+use Rattle.snl_load.specs.Meaning.{state_left_for, block_meaning}
 use Rattle.snl_load.proofs.Ends.{value-left, leaves-value, state-left, block-ended, is-over}
 
 module _ (p : ProgramTree) (code : List Instr) (functions : List Entry) (room set : ℕ) where
@@ -26,7 +26,7 @@ module _ (p : ProgramTree) (code : List Instr) (functions : List Entry) (room se
   -- a condition holds where its code says so, and its code leaves a value
   pub condition-means : (e : Option ExprTree) (start : Option ℕ) → IsPlaced p code functions (option_map (Test set) e) start →
       ((x : ExprTree) → e ≡ Some x → expression_depth (outlines_in p) x ≤ room) →
-      ((w : World) → held_at context code start w ≡ held_by (scene_in p set) e w) × CanTest context code start
+      ((w : World) → test_at context code start w ≡ held_by (scene_in p set) e w) × CanTest context code start
   condition-means None None placed enough = (λ w. refl, tt)
   condition-means None (Some start) placed enough = absurd placed
   condition-means (Some e) None placed enough = absurd placed
@@ -39,7 +39,7 @@ module _ (p : ProgramTree) (code : List Instr) (functions : List Entry) (room se
 
   -- a block does what its code does, and that comes to its end
   pub block-means : (b : BlockTree) (start : ℕ) → IsPlaced p code functions (Some (Action set b)) (Some start) → block_depth (outlines_in p) b ≤ room →
-      ((w : World) → left_at context code start w ≡ then_do (block_effect (scene_in p set) b w) left_for) × ((w : World) → IsOver (run_of context code start w))
+      ((w : World) → left_at context code start w ≡ then_do (block_effect (scene_in p set) b w) state_left_for) × ((w : World) → IsOver (run_of context code start w))
   block-means b start placed enough =
       let right = placed room enough in
       let is : (w : World) → run_of context code start w ≡ then_do (block_effect (scene_in p set) b w) leads_to = right.is in (

@@ -6,10 +6,10 @@ use Rattle.snl_syntax.specs.Programs.{TargetTree, to_state, to_exit, ClauseTree,
 use Rattle.snl_syntax.specs.Statements.{BlockTree}
 use Rattle.snl_code.specs.Heres.{scene_in}
 use Rattle.snl_links.specs.Links.{Link}
-use Rattle.snl_links.specs.Tables.{sign_in_force}
 use Rattle.snl_meaning.specs.Effect.{Way, Left, held_by, block_effect}
 use Rattle.snl_meaning.specs.Names.{or_first}
 use Rattle.snl_resolve.specs.Numbered.{number_of}
+use Rattle.snl_resolve.specs.Options.{sign_in_force}
 use Rattle.snl_meaning.specs.Ran.{Ran, Gives, then_do}
 use Rattle.snl_meaning.specs.Scenes.{Scene}
 use Rattle.snl_meaning.specs.World.{World}
@@ -21,9 +21,9 @@ use Rattle.snl_schedule.specs.Turn as turn
 use Rattle.snl_load.specs.Places.{ties_in}
 
 -- The state that a block leaves for, if it does.
-abbrev pub left_for : Way → World → Ran (Option ℕ)
-left_for (Left state) w = Gives (Some state) w []
-left_for _ w = Gives None w []
+abbrev pub state_left_for : Way → World → Ran (Option ℕ)
+state_left_for (Left state) w = Gives (Some state) w []
+state_left_for _ w = Gives None w []
 
 -- An entry or an exit block is over: where it leads does not count.
 abbrev pub finished : Way → World → Ran (Unit {0})
@@ -48,7 +48,7 @@ target_of states to_exit = Exit
 abbrev pub clause_meaning : Scene → ClauseTree → turn.Clause
 clause_meaning m c = record {
   holds = held_by m c.condition;
-  acts = λ w. then_do (block_effect m c.block w) left_for;
+  acts = λ w. then_do (block_effect m c.block w) state_left_for;
   target = target_of m.here.states c.target;
   line = c.word.pos.line;
 }

@@ -4,8 +4,8 @@ use Rattle.std.specs.List.{fold, list_any}
 use Rattle.std.specs.Str.{bytes_eq}
 
 -- The first place of a name in a list of names, if it stands there.
-abbrev pub place_of : List (List ℕ) → List ℕ → Option ℕ
-place_of names name = position (bytes_eq name) names
+abbrev pub position_of : List (List ℕ) → List ℕ → Option ℕ
+position_of names name = position (bytes_eq name) names
 
 -- Whether a name stands in a list of names.
 abbrev pub is_in : List (List ℕ) → List ℕ → Bool

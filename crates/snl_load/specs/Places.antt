@@ -9,7 +9,7 @@ use Rattle.snl_meaning.specs.declared.names.Placed.{Placed}
 pub use Rattle.snl_code.specs.Heres.{for_each_set, placed_in, placed_sets}
 use Rattle.snl_meaning.specs.Names.{variable_in, number_at, flags_of}
 use Rattle.snl_meaning.specs.declared.ties.Tied.{Tied}
-use Rattle.snl_load.specs.Names.{place_of, once}
+use Rattle.snl_load.specs.Names.{position_of, once}
 
 -- ---- channels
 
@@ -54,7 +54,7 @@ range_of (Some v) = (v.least, v.greatest)
 -- A link whose buffer begins at a place, among these channels, event flags and copies.
 abbrev pub tie_of : List (List ℕ) → List ℕ → List (List Placed) → ℕ → Link → Tied
 tie_of names flags copies at l = let range = range_of (variable_among copies l.variable.offset) in record {
-  channel = place_of names l.name;
+  channel = position_of names l.name;
   is_monitored = l.monitored;
   flag = option_map (λ f. number_at flags f.offset) l.flag;
   from = at;

@@ -2,7 +2,7 @@
 
 ghost use Rattle.std.specs.Prelude.{◌≡◌, map, IfOk, OnOk};
 ghost use Rattle.snl_links.specs.LinkViews.{link_view};
-ghost use Rattle.snl_load.specs.Names.{noted_all, place_of};
+ghost use Rattle.snl_load.specs.Names.{noted_all, position_of};
 ghost use Rattle.snl_load.specs.Places as spec;
 ghost use Rattle.snl_load.specs.Sets.{names_in};
 
@@ -38,7 +38,7 @@ pub fn channels_of(alloc: Global, links: &[Link]) -> Result<IndexSet<Vec<u8>>, A
 
 /// The number of the channel of a name; None where no link has such a channel.
 pub fn channel_number(names: &IndexSet<Vec<u8>>, name: &[u8]) -> Option<usize>
-    ensures { result ≡ place_of (names_in names.now) name.now }
+    ensures { result ≡ position_of (names_in names.now) name.now }
 {
     names.get_index_of(name)
 }

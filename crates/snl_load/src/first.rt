@@ -4,7 +4,7 @@ ghost use Rattle.std.specs.Prelude.{◌≡◌, map, false, replicate, IfOk};
 ghost use Rattle.snl_links.specs.LinkViews.{link_view};
 ghost use Rattle.snl_vm.specs.Views.{copy_view, world_of};
 ghost use Rattle.snl_code.specs.Copies.{sets_of, variables_in};
-ghost use Rattle.snl_resolve.specs.Held.{held_view};
+ghost use Rattle.snl_resolve.specs.CopyVariables.{variable_view};
 ghost use Rattle.snl_load.specs.First as spec;
 ghost use Rattle.snl_vm.specs.Marks as tables;
 ghost use Rattle.snl_vm.specs.Queues.{queue_view};
@@ -17,12 +17,12 @@ use indexmap::IndexSet;
 use snl_code::Copies;
 use snl_links::Link;
 use snl_meaning::{Live, Tied};
-use snl_resolve::Held;
+use snl_resolve::CopyVariable;
 use snl_vm::{Marks, Queue, SetMemory, Store};
 use std::alloc::{AllocError, Global};
 
 /// The copies of all state sets.
-fn first_copies(alloc: Global, sets: &[Vec<Held>]) -> Result<Vec<SetMemory>, AllocError>
+fn first_copies(alloc: Global, sets: &[Vec<CopyVariable>]) -> Result<Vec<SetMemory>, AllocError>
     ensures { IfOk result (λ made. map copy_view made.items
         ≡ map spec.first_copy (sets_of sets.now)) }
 {
@@ -39,8 +39,9 @@ fn first_copies(alloc: Global, sets: &[Vec<Held>]) -> Result<Vec<SetMemory>, All
 }
 
 /// The words of the variables of functions.
-fn first_shared(alloc: Global, shared: &[Held]) -> Result<Vec<i64>, AllocError>
-    ensures { IfOk result (λ words. words.items ≡ spec.first_shared (map held_view shared.now)) }
+fn first_shared(alloc: Global, shared: &[CopyVariable]) -> Result<Vec<i64>, AllocError>
+    ensures { IfOk result (λ words. words.items
+        ≡ spec.first_shared (map variable_view shared.now)) }
 {
     let mut words = Vec::new(alloc);
     for number in 0..shared.len() {
@@ -62,7 +63,11 @@ fn names_of(alloc: Global, names: &IndexSet<Vec<u8>>) -> Result<Vec<Vec<u8>>, Al
 }
 
 /// No link is marked for any state set.
-fn marks_of(alloc: Global, sets: &[Vec<Held>], links: usize) -> Result<Vec<Marks>, AllocError>
+fn marks_of(
+    alloc: Global,
+    sets: &[Vec<CopyVariable>],
+    links: usize,
+) -> Result<Vec<Marks>, AllocError>
     ensures { IfOk result (λ marks. map tables.marks_of marks.items
         ≡ map (λ vs. replicate links false) (sets_of sets.now)) }
 {

@@ -5,14 +5,14 @@ ghost use Rattle.std.specs.List.{flat_map};
 ghost use Rattle.snl_links.specs.LinkViews.{link_view};
 ghost use Rattle.snl_meaning.specs.Effect.{values_of};
 ghost use Rattle.snl_resolve.specs.Constants.{constant_of};
-ghost use Rattle.snl_resolve.specs.Held.{begun, held_view};
+ghost use Rattle.snl_resolve.specs.CopyVariables.{begun, variable_view};
 ghost use Rattle.snl_resolve.specs.Scopes.{is_hidden};
 ghost use Rattle.snl_syntax.specs.view.Expressions.{boxed, view};
 ghost use Rattle.snl_code.specs.Copies.{sets_of};
 ghost use Rattle.snl_load.specs.Initials as spec;
 
 use snl_links::Link;
-use snl_resolve::{Constant, Held, Scopes, constant_of};
+use snl_resolve::{Constant, CopyVariable, Scopes, constant_of};
 use snl_syntax::{Expr, Initialiser};
 use std::alloc::{AllocError, Global};
 
@@ -60,8 +60,8 @@ fn value_for<'p, 'a>(
 }
 
 /// What the element begins with that stands so many elements after another one.
-fn first_element(held: &Held, from: usize, more: usize) -> i64
-    ensures { result ≡ spec.first_element (held_view held.now) (from + more) }
+fn first_element(held: &CopyVariable, from: usize, more: usize) -> i64
+    ensures { result ≡ spec.first_element (variable_view held.now) (from + more) }
 {
     match value_for(held.initial, from, more) {
         Some(value) => worth_in(held.range, constant_of(value, &Scopes::Outside)),
@@ -71,13 +71,13 @@ fn first_element(held: &Held, from: usize, more: usize) -> i64
 
 /// Adds what so many elements of a variable begin with, from one on.
 fn push_elements(
-    held: &Held,
+    held: &CopyVariable,
     from: usize,
     count: usize,
     words: &mut Vec<i64>,
 ) -> Result<(), AllocError>
     ensures { OnOk result (words.new.items
-        ≡ words.old.items ++ spec.first_elements (held_view held.now) from count) }
+        ≡ words.old.items ++ spec.first_elements (variable_view held.now) from count) }
 {
     for more in 0..count {
         words.push(first_element(held, from, more))?;
@@ -86,9 +86,9 @@ fn push_elements(
 }
 
 /// What the variables of a copy begin with, one variable after another. The only error is that memory ends.
-pub fn first_words(alloc: Global, variables: &[Held]) -> Result<Vec<i64>, AllocError>
+pub fn first_words(alloc: Global, variables: &[CopyVariable]) -> Result<Vec<i64>, AllocError>
     ensures { IfOk result (λ words. words.items
-        ≡ flat_map spec.all_elements (map held_view variables.now)) }
+        ≡ flat_map spec.all_elements (map variable_view variables.now)) }
 {
     let mut words = Vec::new(alloc);
     for number in 0..variables.len() {
@@ -99,8 +99,12 @@ pub fn first_words(alloc: Global, variables: &[Held]) -> Result<Vec<i64>, AllocE
 }
 
 /// The variable that is declared at an offset, among those of a copy.
-fn held_in<'p, 'a>(variables: &[Held<'p, 'a>], offset: usize) -> Option<Held<'p, 'a>>
-    ensures { option_map held_view result ≡ spec.held_in (map held_view variables.now) offset }
+fn held_in<'p, 'a>(
+    variables: &[CopyVariable<'p, 'a>],
+    offset: usize,
+) -> Option<CopyVariable<'p, 'a>>
+    ensures { option_map variable_view result
+        ≡ spec.held_in (map variable_view variables.now) offset }
 {
     for number in 0..variables.len() {
         let held = variables[number];
@@ -112,8 +116,11 @@ fn held_in<'p, 'a>(variables: &[Held<'p, 'a>], offset: usize) -> Option<Held<'p,
 }
 
 /// The same, in the first copy that has it.
-fn held_among<'p, 'a>(sets: &[Vec<Held<'p, 'a>>], offset: usize) -> Option<Held<'p, 'a>>
-    ensures { option_map held_view result ≡ spec.held_among (sets_of sets.now) offset }
+fn held_among<'p, 'a>(
+    sets: &[Vec<CopyVariable<'p, 'a>>],
+    offset: usize,
+) -> Option<CopyVariable<'p, 'a>>
+    ensures { option_map variable_view result ≡ spec.held_among (sets_of sets.now) offset }
 {
     for variables in sets {
         if let Some(held) = held_in(variables.as_slice(), offset) {
@@ -137,7 +144,7 @@ pub fn push_zeros(count: usize, words: &mut Vec<i64>) -> Result<(), AllocError>
 /// memory ends.
 pub fn first_buffers(
     alloc: Global,
-    sets: &[Vec<Held>],
+    sets: &[Vec<CopyVariable>],
     links: &[Link],
 ) -> Result<Vec<i64>, AllocError>
     ensures { IfOk result (λ words. words.items

@@ -22,7 +22,7 @@ use Rattle.snl_resolve.specs.declared.constants.Constant.{Constant}
 use Rattle.snl_resolve.specs.declared.constants.Constant.TheVariants.{Varies, Faults, Worth}
 use Rattle.snl_resolve.specs.Constants.{constant_of}
 use Rattle.snl_resolve.specs.Scopes.{elements, is_hidden}
-use Rattle.snl_resolve.specs.Variables.{Held, variables_of, shared_variables}
+use Rattle.snl_resolve.specs.Variables.{CopyVariable, variables_of, shared_variables}
 use Rattle.snl_meaning.specs.declared.ties.Tied.{Tied}
 use Rattle.snl_schedule.specs.Arrivals.{is_in}
 
@@ -50,7 +50,7 @@ by-in range (Some e) nought = worth-in range (constant_of (is_hidden []) e) noug
 -- ---- words one after another
 
 -- so many elements
-pub length-elements : (v : Held) (k n : ℕ) → length (first_elements v k n) ≡ n
+pub length-elements : (v : CopyVariable) (k n : ℕ) → length (first_elements v k n) ≡ n
 length-elements v k zero = refl
 length-elements v k (suc n) = ap suc (length-elements v (k + 1) n)
 
@@ -62,14 +62,14 @@ index-behind (b ∷ before) rest j =
     ∙ index-behind before rest j
 
 -- an element of those in front
-index-front : (v : Held) (k n j : ℕ) (rest : List ℤ) → j < n → slice_index_or (first_elements v k n ++ rest) j (pos 0) ≡ first_element v (k + j)
+index-front : (v : CopyVariable) (k n j : ℕ) (rest : List ℤ) → j < n → slice_index_or (first_elements v k n ++ rest) j (pos 0) ≡ first_element v (k + j)
 index-front v k zero j rest less = absurd (omega (arith, less))
 index-front v k (suc n) zero rest less = ap (first_element v) (let e : k ≡ k + 0 = omega arith in e)
 index-front v k (suc n) (suc j) rest less =
     index-front v (k + 1) n j rest (omega (arith, less)) ∙ ap (first_element v) (let e : k + 1 + j ≡ k + suc j = omega arith in e)
 
 -- the words of a variable among those of others
-words-fit : (vs : List Held) (before : List ℤ) (at i k : ℕ) (x : Placed) → length before ≡ at → at + words_of vs ≤ 2 ^ 64 - 1 → slice_get (placed_from at vs) i ≡ Some x →
+words-fit : (vs : List CopyVariable) (before : List ℤ) (at i k : ℕ) (x : Placed) → length before ≡ at → at + words_of vs ≤ 2 ^ 64 - 1 → slice_get (placed_from at vs) i ≡ Some x →
     k < x.variable.size → Has x.variable (pos 0) → Has x.variable (slice_index_or (before ++ flat_map all_elements vs) (x.variable.place + k) (pos 0))
 words-fit [] before at i k x long few is less nought = absurd (cc)
 words-fit (v ∷ vs) before at zero k x long few is less nought =
@@ -92,7 +92,7 @@ words-fit (v ∷ vs) before at (suc i) k x long few is less nought =
 -- ---- copies
 
 -- the copy of a state set, if it is there
-copy-at : (f : ℕ → List Held) (k : ℕ) (gs : List StateSetTree) (i : ℕ) →
+copy-at : (f : ℕ → List CopyVariable) (k : ℕ) (gs : List StateSetTree) (i : ℕ) →
     (slice_index_or (map first_copy (for_each_set f k gs)) i no_copy ≡ first_copy (f (k + i))) ⊎ (slice_index_or (map first_copy (for_each_set f k gs)) i no_copy ≡ no_copy)
 copy-at f k [] i = inr refl
 copy-at f k (g ∷ gs) zero = inl (ap (λ (n : ℕ). first_copy (f n)) (let e : k ≡ k + 0 = omega arith in e))
@@ -139,10 +139,10 @@ shared-fits p sized i k x is less =
 -- ---- buffers
 
 -- what a link's buffer begins with, where its variable stands in a copy
-abbrev Begins : List (List Held) → Link → Tied → Type 0
-Begins sets l t = (v : Held) × (held_among sets l.variable.offset ≡ Some v) × (t.least ≡ v.range.0) × (t.greatest ≡ v.range.1) × (is_in t (pos 0) ≡ true)
+abbrev Begins : List (List CopyVariable) → Link → Tied → Type 0
+Begins sets l t = (v : CopyVariable) × (held_among sets l.variable.offset ≡ Some v) × (t.least ≡ v.range.0) × (t.greatest ≡ v.range.1) × (is_in t (pos 0) ≡ true)
 
-module _ (names : List (List ℕ)) (flags : List ℕ) (copies : List (List Placed)) (sets : List (List Held)) where
+module _ (names : List (List ℕ)) (flags : List ℕ) (copies : List (List Placed)) (sets : List (List CopyVariable)) where
   -- the words of a link's buffer among those of others
   buffer-fits : (ks : List Link) (before : List ℤ) (at i k : ℕ) (t : Tied) → length before ≡ at → at + counts ks ≤ 2 ^ 64 - 1 →
       ((j : ℕ) (l : Link) (u : Tied) → slice_get ks j ≡ Some l → slice_get (ties_from names flags copies at ks) j ≡ Some u → Begins sets l u) →
@@ -155,7 +155,7 @@ module _ (names : List (List ℕ)) (flags : List ℕ) (copies : List (List Place
       let within : k < l.count = subst (λ (u : Tied). k < u.count) (sym here) less in
       let rest = flat_map (first_buffer sets) ks in
       let words = before ++ flat_map (first_buffer sets) (l ∷ ks) in
-      let front : flat_map (first_buffer sets) (l ∷ ks) ≡ first_elements v l.first l.count ++ rest = ap (λ (o : Option Held). buffer_by o l ++ rest) b.1 in
+      let front : flat_map (first_buffer sets) (l ∷ ks) ≡ first_elements v l.first l.count ++ rest = ap (λ (o : Option CopyVariable). buffer_by o l ++ rest) b.1 in
       let from : t.from + k ≡ length before + k = omega (arith, long, ap (λ (u : Tied). u.from) (sym here)) in
       let value : slice_index_or words (t.from + k) (pos 0) ≡ first_element v (l.first + k) =
       ap (λ (n : ℕ). slice_index_or words n (pos 0)) from ∙ index-behind before (flat_map (first_buffer sets) (l ∷ ks)) k
@@ -169,7 +169,7 @@ module _ (names : List (List ℕ)) (flags : List ℕ) (copies : List (List Place
       let next : place_after at l.count ≡ at + l.count = omega (arith, few) in
       let b = held 0 l (tie_of names flags copies at l) refl refl in
       let own = first_buffer sets l in
-      let count : length own ≡ l.count = ap (λ (o : Option Held). length (buffer_by o l)) b.1 ∙ length-elements b.0 l.first l.count in
+      let count : length own ≡ l.count = ap (λ (o : Option CopyVariable). length (buffer_by o l)) b.1 ∙ length-elements b.0 l.first l.count in
       let longer : length (before ++ own) ≡ place_after at l.count =
       length-append before own ∙ (let e : length before + length own ≡ place_after at l.count = omega (arith, long, next, count) in e) in
       subst (λ (m : List ℤ). is_in t (slice_index_or m (t.from + k) (pos 0)) ≡ true) (append_assoc before own (flat_map (first_buffer sets) ks))

@@ -21,7 +21,7 @@ use Rattle.snl_meaning.specs.Names.{placed_from}
 use Rattle.snl_meaning.specs.World.{SetMemory, World, no_copy, copy_of, words_for, with_words, element_of, words_at, overwritten, zeroed, with_element, with_zeros}
 use Rattle.snl_meaning.proofs.Apart.{variables_lie_within, variables_are_apart}
 use Rattle.snl_meaning.proofs.Sizes.{set-many}
-use Rattle.snl_resolve.specs.Variables.{Held, variables_of}
+use Rattle.snl_resolve.specs.Variables.{CopyVariable, variables_of}
 
 -- ---- words
 
@@ -133,7 +133,7 @@ zeros-written set v w own has =
 -- ---- variables
 
 -- two elements at one word are one
-pub element-apart : (vs : List Held) (i j k m : ℕ) (x y : Placed) → words_of vs ≤ 2 ^ 64 - 1 → slice_get (placed_from 0 vs) i ≡ Some x → slice_get (placed_from 0 vs) j ≡ Some y →
+pub element-apart : (vs : List CopyVariable) (i j k m : ℕ) (x y : Placed) → words_of vs ≤ 2 ^ 64 - 1 → slice_get (placed_from 0 vs) i ≡ Some x → slice_get (placed_from 0 vs) j ≡ Some y →
     k < x.variable.size → m < y.variable.size → x.variable.place + k ≡ y.variable.place + m → (i ≡ j) × (k ≡ m)
 element-apart vs i j k m x y few is_x is_y less_x less_y same = by (cases_order i j)
   where

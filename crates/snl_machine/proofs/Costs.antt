@@ -13,7 +13,7 @@ use Rattle.snl_meaning.specs.Run.{PieceContext, Exit, Over, LeftFor, Unfinished,
 use Rattle.snl_meaning.specs.World.{World}
 use Rattle.snl_meaning.proofs.Counts.{after-also, run-keeps}
 use Rattle.snl_vm.specs.Running.{value_left, left_at, state_left}
-use Rattle.snl_schedule.specs.Plans.{held_at, block_at, ended, CanDo}
+use Rattle.snl_schedule.specs.Plans.{test_at, block_at, ended, CanDo}
 use Rattle.snl_schedule.specs.Refresh.{is_marked, with_mark, copied_to, refreshed_link, refreshed_from, refreshed}
 use Rattle.snl_schedule.specs.Steps.{steps_then, block_steps}
 use Rattle.snl_schedule.specs.Turn.{told_fault}
@@ -111,11 +111,11 @@ then-same (Gives a u text) go same = after-also text (go a u) ∙ same a u
 then-same (Faults f line u text) go same = refl
 
 -- a condition leaves the ticks of its run
-pub held-ticks : (g : PieceContext) (code : List Instr) (start : ℕ) (w : World) → (world_after (held_at g code (Some start) w)).ticks ≡ (world_after (run_of g code start w)).ticks
+pub held-ticks : (g : PieceContext) (code : List Instr) (start : ℕ) (w : World) → (world_after (test_at g code (Some start) w)).ticks ≡ (world_after (run_of g code start w)).ticks
 held-ticks g code start w = then-same (then_do (run_of g code start w) value_left) holds (λ z u. refl) ∙ then-same (run_of g code start w) value_left value-still
 
 -- no condition gives ticks back
-pub held-still : (g : PieceContext) (code : List Instr) (condition : Option ℕ) (w : World) → (world_after (held_at g code condition w)).ticks ≤ w.ticks
+pub held-still : (g : PieceContext) (code : List Instr) (condition : Option ℕ) (w : World) → (world_after (test_at g code condition w)).ticks ≤ w.ticks
 held-still g code None w = omega arith
 held-still g code (Some start) w =
     let same = held-ticks g code start w in let kept = run-keeps g code (suc (credit g w) * length code) start [] w in omega (arith, same, kept)

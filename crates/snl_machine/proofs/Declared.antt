@@ -13,10 +13,10 @@ use Rattle.snl_syntax.specs.Programs.{ClauseTree, StateTree, StateSetTree, Progr
 use Rattle.snl_syntax.specs.Expressions.{slots}
 use Rattle.snl_resolve.specs.Programs.{program_scopes}
 use Rattle.snl_resolve.specs.Scopes.{Scope, scope_of}
-use Rattle.snl_resolve.specs.Variables.{Held, held_for, by_declaration, by_definition, by_definitions, by_statement, by_statements, by_block, by_maybe, by_clause, by_state, by_state_set, by_numbered, for_first, variables_of}
+use Rattle.snl_resolve.specs.Variables.{CopyVariable, held_for, by_declaration, by_definition, by_definitions, by_statement, by_statements, by_block, by_maybe, by_clause, by_state, by_state_set, by_numbered, for_first, variables_of}
 
 -- all variables of a program
-abbrev pub declared : ProgramTree → List Held
+abbrev pub declared : ProgramTree → List CopyVariable
 declared p =
     by_definitions [] p.definitions ++ by_maybe (program_scopes p) p.entry
     ++ flat_map (by_state_set (program_scopes p)) p.state_sets ++ by_maybe (program_scopes p) p.exit
@@ -26,22 +26,22 @@ four-parts : {A : Type 0} (a b c d : List A) → a ++ (b ++ (c ++ d)) ≡ ((a ++
 four-parts a b c d = simp append_assoc
 
 -- What holds of no variable whatever is spelled, of each where its name is, and of two parts where it does of each, holds of all.
-module _ (R : List Slot → List Held → Type 0) (any : (ss : List Slot) → R ss []) (both : (a b : List Slot) (m k : List Held) → R a m → R b k → R (a ++ b) (m ++ k))
+module _ (R : List Slot → List CopyVariable → Type 0) (any : (ss : List Slot) → R ss []) (both : (a b : List Slot) (m k : List CopyVariable) → R a m → R b k → R (a ++ b) (m ++ k))
     (one : (s : List Scope) (type : TypeTree) (d : DeclaratorTree) → R (The d.name ∷ []) (held_for s type d ∷ [])) where
   -- a slot before
-  lead : (x : Slot) (ss : List Slot) (vs : List Held) → R ss vs → R (x ∷ ss) vs
+  lead : (x : Slot) (ss : List Slot) (vs : List CopyVariable) → R ss vs → R (x ∷ ss) vs
   lead x ss vs h = both (x ∷ []) ss [] vs (any (x ∷ [])) h
 
   -- slots before
-  after : (a ss : List Slot) (vs : List Held) → R ss vs → R (a ++ ss) vs
+  after : (a ss : List Slot) (vs : List CopyVariable) → R ss vs → R (a ++ ss) vs
   after a ss vs h = both a ss [] vs (any a) h
 
   -- slots behind
-  trail : (ss a : List Slot) (vs : List Held) → R ss vs → R (ss ++ a) vs
+  trail : (ss a : List Slot) (vs : List CopyVariable) → R ss vs → R (ss ++ a) vs
   trail ss a vs h = subst (R (ss ++ a)) (append-nil vs) (both ss a vs [] h (any a))
 
   -- a row
-  each : {A : Type 0} (f : A → List Slot) (g : A → List Held) → ((x : A) → R (f x) (g x)) → (l : List A) → R (row_slots f l) (flat_map g l)
+  each : {A : Type 0} (f : A → List Slot) (g : A → List CopyVariable) → ((x : A) → R (f x) (g x)) → (l : List A) → R (row_slots f l) (flat_map g l)
   each f g h [] = any []
   each f g h (x ∷ l) = both (f x) (row_slots f l) (g x) (flat_map g l) (h x) (each f g h l)
 
@@ -123,7 +123,7 @@ module _ (R : List Slot → List Held → Type 0) (any : (ss : List Slot) → R 
       (trail (block_slots c.block) (target_slots c.target) (by_block s c.block) (blocks s c.block)))
 
   -- four parts one after the other
-  parts : (a b c d : List Slot) (m k l n : List Held) → R a m → R b k → R c l → R d n → R (a ++ (b ++ (c ++ d))) (m ++ k ++ l ++ n)
+  parts : (a b c d : List Slot) (m k l n : List CopyVariable) → R a m → R b k → R c l → R d n → R (a ++ (b ++ (c ++ d))) (m ++ k ++ l ++ n)
   parts a b c d m k l n f g h i = subst (R (a ++ (b ++ (c ++ d)))) (four-parts m k l n) (both a (b ++ (c ++ d)) m (k ++ (l ++ n)) f (both b (c ++ d) k (l ++ n) g (both c d l n h i)))
 
   -- a state
@@ -199,12 +199,12 @@ in-row f x (b ∷ l) zero a is there = let same : b ≡ a = cc in in-left x (f b
 in-row f x (b ∷ l) (suc k) a is there = in-right x (f b) (flat_map f l) (in-row f x l k a is there)
 
 -- one of a state set that may be missing
-in-numbered : (s : List Scope) (v : Held) (gs : List StateSetTree) (k : ℕ) (o : Option StateSetTree) → slice_get gs k ≡ o → In v (by_numbered s o) → In v (flat_map (by_state_set s) gs)
+in-numbered : (s : List Scope) (v : CopyVariable) (gs : List StateSetTree) (k : ℕ) (o : Option StateSetTree) → slice_get gs k ≡ o → In v (by_numbered s o) → In v (flat_map (by_state_set s) gs)
 in-numbered s v gs k None is there = absurd there
 in-numbered s v gs k (Some g) is there = in-row (by_state_set s) v gs k g is there
 
 -- one of a block of the program
-in-first : (s : List Scope) (v : Held) (set : ℕ) (b : Option BlockTree) → In v (for_first set s b) → In v (by_maybe s b)
+in-first : (s : List Scope) (v : CopyVariable) (set : ℕ) (b : Option BlockTree) → In v (for_first set s b) → In v (by_maybe s b)
 in-first s v set b there = by (set == 0) there
   where
     by : (is : Bool) → In v (if is then by_maybe s b else []) → In v (by_maybe s b)
@@ -212,31 +212,31 @@ in-first s v set b there = by (set == 0) there
     by false here = absurd here
 
 -- each of a copy
-pub in-declared : (p : ProgramTree) (set : ℕ) (v : Held) → In v (variables_of p set) → In v (declared p)
+pub in-declared : (p : ProgramTree) (set : ℕ) (v : CopyVariable) → In v (variables_of p set) → In v (declared p)
 in-declared p set v there = by (in-either v (defs ++ first ++ own) last there)
   where
     s : List Scope
     s = program_scopes p
 
-    defs : List Held
+    defs : List CopyVariable
     defs = by_definitions [] p.definitions
 
-    first : List Held
+    first : List CopyVariable
     first = for_first set s p.entry
 
-    own : List Held
+    own : List CopyVariable
     own = by_numbered s (slice_get p.state_sets set)
 
-    last : List Held
+    last : List CopyVariable
     last = for_first set s p.exit
 
-    entry : List Held
+    entry : List CopyVariable
     entry = by_maybe s p.entry
 
-    sets-all : List Held
+    sets-all : List CopyVariable
     sets-all = flat_map (by_state_set s) p.state_sets
 
-    exit : List Held
+    exit : List CopyVariable
     exit = by_maybe s p.exit
 
     one : In v defs ⊎ In v first → In v (declared p)

@@ -17,7 +17,7 @@ use Rattle.snl_meaning.proofs.Apart.{variables_are_apart, shared_are_apart}
 use Rattle.snl_load.specs.Places.{placed_in}
 use Rattle.snl_resolve.specs.Programs.{program_scopes}
 use Rattle.snl_resolve.specs.Scopes.{Scope}
-use Rattle.snl_resolve.specs.Variables.{Held, by_definitions, by_numbered, for_first, variables_of, shared_variables}
+use Rattle.snl_resolve.specs.Variables.{CopyVariable, by_definitions, by_numbered, for_first, variables_of, shared_variables}
 
 -- ---- lists
 
@@ -211,16 +211,16 @@ module _ (p : ProgramTree) (sized : IsSized p) where
       s : List Scope
       s = program_scopes p
 
-      defs : List Held
+      defs : List CopyVariable
       defs = by_definitions [] p.definitions
 
-      first : List Held
+      first : List CopyVariable
       first = for_first set s p.entry
 
-      own : List Held
+      own : List CopyVariable
       own = by_numbered s (slice_get p.state_sets set)
 
-      last : List Held
+      last : List CopyVariable
       last = for_first set s p.exit
 
       by : (slice_get (placed_from 0 defs) i ≡ Some x) ⊎ ((j : ℕ) × (slice_get (shared_in p) j ≡ Some x)) → (0 < x.variable.size) × ((k : ℤ) → natural k < x.variable.size → May set x.variable k)

@@ -33,7 +33,7 @@ use Rattle.snl_resolve.specs.Programs.{at_defined, defined, in_flag, in_size, qu
 use Rattle.snl_resolve.specs.Scopes.{Scope, first_of, scope_of, meaning, declared_as}
 use Rattle.snl_resolve.specs.Sights.{Sight, within, headings_by, parameters_of, parameter_scope}
 use Rattle.snl_resolve.specs.Sites.{in_expression, in_value, at_type, maybe, declares, words_of, in_block}
-use Rattle.snl_resolve.specs.Uses.{place_of, use_at, declared_by, declared_in}
+use Rattle.snl_resolve.specs.Uses.{declared_pos, use_at, declared_by, declared_in}
 use Rattle.snl_rules.specs.declared.rules.Rule.{Rule}
 use Rattle.snl_rules.specs.declared.rules.Rule.TheVariants.{Undeclared, NoFlag, UnknownFunction, WrongArguments, DelayElsewhere, NoValue}
 use Rattle.snl_rules.specs.Rules.{when, alone}
@@ -303,19 +303,19 @@ module _ (F : ℕ → Type 0) where
 
 -- what is used at an offset of its own is what is found there
 declared-at : (low : ℕ) (ss : List Site) (n : ℕ) (s : Site) (t : Token) (m : Meaning) → Ascends low (uses ss) → slice_get ss n ≡ Some s → use_at s ≡ Some (t, m) →
-    (low ≤ t.pos.offset) × (declared_in t.pos.offset ss ≡ place_of m)
+    (low ≤ t.pos.offset) × (declared_in t.pos.offset ss ≡ declared_pos m)
 declared-at low [] n s t m ascends is used = absurd (cc)
 declared-at low (x ∷ ss) n s t m ascends is used = by n (use_at x) refl ascends is (declared-at low ss) (λ o. declared-at (suc o) ss)
   where
     Rest : ℕ → Type 0
     Rest l = (k : ℕ) (y : Site) (u : Token) (w : Meaning) → Ascends l (uses ss) → slice_get ss k ≡ Some y → use_at y ≡ Some (u, w) →
-        (l ≤ u.pos.offset) × (declared_in u.pos.offset ss ≡ place_of w)
+        (l ≤ u.pos.offset) × (declared_in u.pos.offset ss ≡ declared_pos w)
 
     found : Option (Token × Meaning) → Option Pos
     found o = declared_by t.pos.offset o (declared_in t.pos.offset ss)
 
     by : (k : ℕ) (o : Option (Token × Meaning)) → use_at x ≡ o → Ascends low (offset-of o ++ uses ss) → slice_get (x ∷ ss) k ≡ Some s → Rest low → ((l : ℕ) → Rest (suc l)) →
-        (low ≤ t.pos.offset) × (declared_in t.pos.offset (x ∷ ss) ≡ place_of m)
+        (low ≤ t.pos.offset) × (declared_in t.pos.offset (x ∷ ss) ≡ declared_pos m)
     by zero None e up there rest later = absurd (let same : x ≡ s = cc in let none : None ≡ Some (t, m) = sym e ∙ ap use_at same ∙ used in cc)
     by zero (Some u) e up there rest later =
         let same : x ≡ s = cc in
@@ -323,7 +323,7 @@ declared-at low (x ∷ ss) n s t m ascends is used = by n (use_at x) refl ascend
         let own : u ≡ (t, m) = cc in
         let place : u.0.pos.offset ≡ t.pos.offset = ap (λ (y : Token × Meaning). y.0.pos.offset) own in (
           let first = up.0 in omega (arith, first, place),
-          ap found e ∙ ap (λ (b : Bool). if b then place_of u.1 else declared_in t.pos.offset ss) (eq-eqb u.0.pos.offset t.pos.offset place) ∙ ap (λ (y : Token × Meaning). place_of y.1) own,
+          ap found e ∙ ap (λ (b : Bool). if b then declared_pos u.1 else declared_in t.pos.offset ss) (eq-eqb u.0.pos.offset t.pos.offset place) ∙ ap (λ (y : Token × Meaning). declared_pos y.1) own,
         )
     by (suc k) None e up there rest later = let w = rest k s t m up there used in (w.0, ap found e ∙ w.1)
     by (suc k) (Some u) e up there rest later =
@@ -333,7 +333,7 @@ declared-at low (x ∷ ss) n s t m ascends is used = by n (use_at x) refl ascend
         )
       where
         other : (u : Token × Meaning) (b : Bool) → (u.0.pos.offset == t.pos.offset) ≡ b → suc u.0.pos.offset ≤ t.pos.offset →
-            (if b then place_of u.1 else declared_in t.pos.offset ss) ≡ declared_in t.pos.offset ss
+            (if b then declared_pos u.1 else declared_in t.pos.offset ss) ≡ declared_in t.pos.offset ss
         other u true is above = absurd (let same = eqb-true u.0.pos.offset t.pos.offset is in omega (arith, same, above))
         other u false is above = refl
 
@@ -395,7 +395,7 @@ module _ (o : Options) (p : ProgramTree) (embedded : List Pos) (beyond : Option 
         let d = right.0 in
         let flag : IsKnown IsFlag (Flag d) = subst (IsKnown IsFlag) right.1 (at-number (λ s. IsKnownUse IsFlag (use_at s)) (sites p) n (Use Flagged x m sub) fits.known is) in
         let number = numbered d.offset (flags_of (sites p)) flag in
-        (d, number.0, (declared-at 0 (sites p) n (Use Flagged x m sub) x m ascending is refl).1 ∙ ap place_of right.1, number.1);
+        (d, number.0, (declared-at 0 (sites p) n (Use Flagged x m sub) x m ascending is refl).1 ∙ ap declared_pos right.1, number.1);
   }
 
 -- so it is of each program

@@ -11,24 +11,24 @@ use Rattle.snl_links.specs.Links.{Link}
 use Rattle.snl_machine.specs.Footprint.{MachinesHoldTheFootprint}
 use Rattle.snl_machine.proofs.LaidOut.{sets-many}
 use Rattle.snl_meaning.specs.Laws.{words_of}
-use Rattle.snl_resolve.specs.Variables.{Held, variables_of, shared_variables}
+use Rattle.snl_resolve.specs.Variables.{CopyVariable, variables_of, shared_variables}
 use Rattle.snl_machine.proofs.Sized.{same-words}
 use Rattle.snl_vm.specs.Footprint.{frame_words}
 use Rattle.snl_vm.proofs.Footprint.{words_are_of_the_frame}
 use Rattle.snl_vm.specs.Stack.{Room}
 
 -- two words beside those of each copy
-with-two : (sets : List (List Held)) → sum_by (λ (words : ℕ). words + 2) (map words_of sets) ≡ sum_by words_of sets + 2 * length sets
+with-two : (sets : List (List CopyVariable)) → sum_by (λ (words : ℕ). words + 2) (map words_of sets) ≡ sum_by words_of sets + 2 * length sets
 with-two [] = refl
 with-two (vs ∷ sets) =
     omega (arith, sum_by-cons (λ (words : ℕ). words + 2) (words_of vs) (map words_of sets), sum_by-cons words_of vs sets, with-two sets)
 
 -- so many for each
-so-many : (n : ℕ) (sets : List (List Held)) → sum_by (λ (marks : ℕ). marks) (map (λ (vs : List Held). n) sets) ≡ length sets * n
+so-many : (n : ℕ) (sets : List (List CopyVariable)) → sum_by (λ (marks : ℕ). marks) (map (λ (vs : List CopyVariable). n) sets) ≡ length sets * n
 so-many n [] = sym (zero-mul n)
 so-many n (vs ∷ sets) =
     let rest = so-many n sets in
-    omega (arith, sum_by-cons (λ (marks : ℕ). marks) n (map (λ (us : List Held). n) sets), rest, suc-mul (length sets) n)
+    omega (arith, sum_by-cons (λ (marks : ℕ). marks) n (map (λ (us : List CopyVariable). n) sets), rest, suc-mul (length sets) n)
 
 -- the room of queues
 queues-room : (ls : List Link) →

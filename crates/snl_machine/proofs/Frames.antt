@@ -23,7 +23,7 @@ use Rattle.snl_meaning.specs.Laws.{words_of}
 use Rattle.snl_meaning.specs.World.{SetMemory}
 use Rattle.snl_meaning.proofs.Frames.{pieces_keep_the_frame}
 use Rattle.snl_resolve.specs.Scopes.{elements}
-use Rattle.snl_resolve.specs.Variables.{Held, shared_variables}
+use Rattle.snl_resolve.specs.Variables.{CopyVariable, shared_variables}
 use Rattle.snl_schedule.specs.Event.{applied}
 use Rattle.snl_schedule.specs.Refresh.{refreshed}
 use Rattle.snl_schedule.specs.Turn.{entered_in}
@@ -42,7 +42,7 @@ frame-steady p = record {
   enters = λ set state within is_timed w. but-same w (entered_in set state is_timed w) (entered-same set state is_timed w);
   opens = λ w. refl;
   wakes = λ w. refl;
-  phase = λ x w. refl;
+  phase = λ x lives w. refl;
   spends = λ left w is. refl;
   weaker = λ w u a. a;
   before = but-both;
@@ -60,14 +60,14 @@ frame_stays p ls waits budget ms event w =
 -- ---- the first world
 
 -- the words of a copy
-words-many : (vs : List Held) → length (flat_map all_elements vs) ≡ words_of vs
+words-many : (vs : List CopyVariable) → length (flat_map all_elements vs) ≡ words_of vs
 words-many [] = refl
 words-many (v ∷ vs) =
     length-append (all_elements v) (flat_map all_elements vs) ∙ ap (λ (n : ℕ). n + length (flat_map all_elements vs)) (length-elements v 0 (elements v.size))
     ∙ ap (λ (n : ℕ). elements v.size + n) (words-many vs)
 
 -- those of all copies
-copies-many : (sets : List (List Held)) → map (λ (c : SetMemory). length c.words) (map first_copy sets) ≡ map words_of sets
+copies-many : (sets : List (List CopyVariable)) → map (λ (c : SetMemory). length c.words) (map first_copy sets) ≡ map words_of sets
 copies-many [] = refl
 copies-many (vs ∷ sets) = ap (λ (n : ℕ). n ∷ map (λ (c : SetMemory). length c.words) (map first_copy sets)) (words-many vs) ∙ ap (λ (ns : List ℕ). words_of vs ∷ ns) (copies-many sets)
 
@@ -77,17 +77,18 @@ queues-room [] = refl
 queues-room (l ∷ ls) = ap (λ (qs : List (ℕ × ℕ)). (l.queue, l.count) ∷ qs) (queues-room ls)
 
 -- marks
-marks-many : (n : ℕ) (sets : List (List Held)) → map (length {A = Bool}) (map (λ (vs : List Held). replicate n false) sets) ≡ map (λ (vs : List Held). n) sets
+marks-many : (n : ℕ) (sets : List (List CopyVariable)) → map (length {A = Bool}) (map (λ (vs : List CopyVariable). replicate n false) sets) ≡ map (λ (vs : List CopyVariable). n) sets
 marks-many n [] = refl
-marks-many n (vs ∷ sets) = ap (λ (m : ℕ). m ∷ map (length {A = Bool}) (map (λ (us : List Held). replicate n false) sets)) (length-replicate n false) ∙ ap (λ (ms : List ℕ). n ∷ ms) (marks-many n sets)
+marks-many n (vs ∷ sets) = ap (λ (m : ℕ). m ∷ map (length {A = Bool}) (map (λ (us : List CopyVariable). replicate n false) sets)) (length-replicate n false)
+    ∙ ap (λ (ms : List ℕ). n ∷ ms) (marks-many n sets)
 
 -- the buffer of a link
-buffer-many : (o : Option Held) (l : Link) → length (buffer_by o l) ≡ l.count
+buffer-many : (o : Option CopyVariable) (l : Link) → length (buffer_by o l) ≡ l.count
 buffer-many None l = length-replicate l.count (pos 0)
 buffer-many (Some v) l = length-elements v l.first l.count
 
 -- all buffers
-buffers-many : (sets : List (List Held)) (ls : List Link) → length (flat_map (first_buffer sets) ls) ≡ counts ls
+buffers-many : (sets : List (List CopyVariable)) (ls : List Link) → length (flat_map (first_buffer sets) ls) ≡ counts ls
 buffers-many sets [] = refl
 buffers-many sets (l ∷ ls) =
     length-append (first_buffer sets l) (flat_map (first_buffer sets) ls)

@@ -45,3 +45,5 @@ pub mod Spent
 pub mod Instants
 pub mod Stretches
 pub mod Bounds
+pub mod Anew
+pub mod Pictured

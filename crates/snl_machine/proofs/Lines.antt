@@ -61,7 +61,7 @@ module _ (p : ProgramTree) (ls : List Link) (sized : IsSized p) (tied : IsTied p
         copy-holds p sized ls set (record (copy_of set w) { state = state; entered = if is_timed then w.time else (copy_of set w).entered }) w (λ fit. fit);
     opens = λ w holds. holds;
     wakes = λ w holds. holds;
-    phase = λ x w holds. holds;
+    phase = λ x lives w holds. holds;
     spends = λ left w is holds. holds;
     weaker = λ w u a. a;
     before = λ u v w a b holds. b (a holds);

@@ -10,7 +10,7 @@ use Rattle.snl_text.specs.declared.tokens.Token.{Token}
 use Rattle.snl_text.proofs.Ascending.{ascend, none_yet}
 use Rattle.snl_syntax.specs.Slots.{Slot, The, Sign, Spelled}
 use Rattle.snl_syntax.specs.Programs.{ProgramTree, program_slots}
-use Rattle.snl_resolve.specs.Variables.{Held}
+use Rattle.snl_resolve.specs.Variables.{CopyVariable}
 use Rattle.snl_machine.specs.Accepted.{IsRead, ParsedAreRead}
 use Rattle.snl_machine.proofs.Declared.{declared, programs, In}
 
@@ -100,35 +100,35 @@ kept-ascend p read =
 -- ---- declarations
 
 -- where variables are declared
-abbrev places : List Held → List ℕ
-places vs = map (λ (v : Held). v.name.pos.offset) vs
+abbrev places : List CopyVariable → List ℕ
+places vs = map (λ (v : CopyVariable). v.name.pos.offset) vs
 
 -- the places of all variables are among the tokens of the program
 declared-kept : (p : ProgramTree) → Sub (places (declared p)) (kept (program_slots p))
 declared-kept p =
     programs (λ ss vs. Sub (places vs) (kept ss)) (λ ss. tt)
-    (λ a b m k f g. subst (λ (l : List ℕ). Sub l (kept (a ++ b))) (sym (map-append (λ (v : Held). v.name.pos.offset) m k))
+    (λ a b m k f g. subst (λ (l : List ℕ). Sub l (kept (a ++ b))) (sym (map-append (λ (v : CopyVariable). v.name.pos.offset) m k))
     (subst (λ (l : List ℕ). Sub (places m ++ places k) l) (sym (kept-both a b)) (sub-both (places m) (kept a) (places k) (kept b) f g)))
     (λ s type d. inl (refl, tt)) p
 
 -- one of those that ascend is no less than the bound
-no-less : (low : ℕ) (vs : List Held) (v : Held) → Ascends low (places vs) → In v vs → low ≤ v.name.pos.offset
+no-less : (low : ℕ) (vs : List CopyVariable) (v : CopyVariable) → Ascends low (places vs) → In v vs → low ≤ v.name.pos.offset
 no-less low [] v h is = absurd is
-no-less low (u ∷ us) v h (inl is) = let first = h.0 in let same = ap (λ (w : Held). w.name.pos.offset) is in omega (arith, first, same)
+no-less low (u ∷ us) v h (inl is) = let first = h.0 in let same = ap (λ (w : CopyVariable). w.name.pos.offset) is in omega (arith, first, same)
 no-less low (u ∷ us) v h (inr is) = let first = h.0 in let later = no-less (suc u.name.pos.offset) us v h.1 is in omega (arith, first, later)
 
 -- two at one place are one
-same-place : (low : ℕ) (vs : List Held) (v w : Held) → Ascends low (places vs) → In v vs → In w vs → v.name.pos.offset ≡ w.name.pos.offset → v ≡ w
+same-place : (low : ℕ) (vs : List CopyVariable) (v w : CopyVariable) → Ascends low (places vs) → In v vs → In w vs → v.name.pos.offset ≡ w.name.pos.offset → v ≡ w
 same-place low [] v w h is_v is_w same = absurd is_v
 same-place low (u ∷ us) v w h (inl is_v) (inl is_w) same = sym is_v ∙ is_w
 same-place low (u ∷ us) v w h (inl is_v) (inr is_w) same =
-    let later = no-less (suc u.name.pos.offset) us w h.1 is_w in let here = ap (λ (x : Held). x.name.pos.offset) is_v in absurd (omega (arith, later, here, same))
+    let later = no-less (suc u.name.pos.offset) us w h.1 is_w in let here = ap (λ (x : CopyVariable). x.name.pos.offset) is_v in absurd (omega (arith, later, here, same))
 same-place low (u ∷ us) v w h (inr is_v) (inl is_w) same =
-    let later = no-less (suc u.name.pos.offset) us v h.1 is_v in let here = ap (λ (x : Held). x.name.pos.offset) is_w in absurd (omega (arith, later, here, same))
+    let later = no-less (suc u.name.pos.offset) us v h.1 is_v in let here = ap (λ (x : CopyVariable). x.name.pos.offset) is_w in absurd (omega (arith, later, here, same))
 same-place low (u ∷ us) v w h (inr is_v) (inr is_w) same = same-place (suc u.name.pos.offset) us v w h.1 is_v is_w same
 
 -- two variables of a program that was read are one, where their declarations stand at one offset
-pub one-at : (p : ProgramTree) → IsRead p → (v w : Held) → In v (declared p) → In w (declared p) → v.name.pos.offset ≡ w.name.pos.offset → v ≡ w
+pub one-at : (p : ProgramTree) → IsRead p → (v w : CopyVariable) → In v (declared p) → In w (declared p) → v.name.pos.offset ≡ w.name.pos.offset → v ≡ w
 one-at p read v w is_v is_w same =
     same-place 0 (declared p) v w (sub-ascends 0 (places (declared p)) (kept (program_slots p)) (declared-kept p) (kept-ascend p read)) is_v is_w same
 
@@ -147,5 +147,5 @@ parsed_are_read source lexed limit p lexes is spells = record {
   is = is;
   spells = spells;
   ascend = subst IsStrictlyIncreasing (ap (λ (l : List cut.Spelled). map (λ (s : cut.Spelled). s.pos.offset) l) (sym lexes.reads.tokens) ∙ spelled-offsets lexed.tokens.items)
-      (ascend nothing_read source lexes.cut.pieces lexes.end [] none_yet lexes.cut.cut).rises;
+      (ascend nothing_read source lexes.cut.lexemes lexes.end [] none_yet lexes.cut.cut).rises;
 }

@@ -6,7 +6,7 @@ use Rattle.snl_code.specs.Heres.{here_in, scene_in}
 use Rattle.snl_meaning.specs.Effect.{Way, Done, Broken, Continued, Left, Returned, block_effect}
 use Rattle.snl_meaning.specs.Keeping.{PiecesKeep}
 use Rattle.snl_meaning.specs.World.{World}
-use Rattle.snl_load.specs.Meaning.{left_for, finished, block_meaning, target_of, clause_meaning, state_meaning}
+use Rattle.snl_load.specs.Meaning.{state_left_for, finished, block_meaning, target_of, clause_meaning, state_meaning}
 use Rattle.snl_meaning.specs.Ran.{Ran, Gives, Faults, then_do}
 use Rattle.snl_meaning.proofs.Leaving.{state-below}
 use Rattle.snl_machine.specs.Worlds.{last_state}
@@ -20,7 +20,7 @@ module _ (p : ProgramTree) (set : ℕ) where
   target-leads to_exit = tt
 
   -- so does what its block leaves for
-  left-leads : (r : Ran Way) → Leads (λ n. n ≤ last_state p set) r → ActsWithin (last_state p set) (then_do r left_for)
+  left-leads : (r : Ran Way) → Leads (λ n. n ≤ last_state p set) r → ActsWithin (last_state p set) (then_do r state_left_for)
   left-leads (Gives Done w text) h = tt
   left-leads (Gives Broken w text) h = tt
   left-leads (Gives Continued w text) h = tt
@@ -31,7 +31,7 @@ module _ (p : ProgramTree) (set : ℕ) where
 module _ (p : ProgramTree) (set : ℕ) (R : World → World → Type 0) (nothing : (w : World) → R w w) (both : (u v w : World) → R u v → R v w → R u w)
     (pieces : PiecesKeep (scene_in p set) R) where
   -- the state that a block leaves for changes nothing
-  left-keeps : (way : Way) → Keeps R (left_for way)
+  left-keeps : (way : Way) → Keeps R (state_left_for way)
   left-keeps Done w = nothing w
   left-keeps Broken w = nothing w
   left-keeps Continued w = nothing w
@@ -49,7 +49,7 @@ module _ (p : ProgramTree) (set : ℕ) (R : World → World → Type 0) (nothing
   clauses-keep (c ∷ cs) = (
     record {
       holds = pieces.condition c.condition;
-      acts = λ w. then-keeps R both w (block_effect (scene_in p set) c.block w) left_for (pieces.block c.block w) left-keeps;
+      acts = λ w. then-keeps R both w (block_effect (scene_in p set) c.block w) state_left_for (pieces.block c.block w) left-keeps;
       leads = target-leads p set c.target;
       leaves = λ w. left-leads p set (block_effect (scene_in p set) c.block w)
           (block-leads (scene_in p set) (λ n. n ≤ last_state p set) c.block (λ x among. state-below (here_in p set).states x.text.now) w);

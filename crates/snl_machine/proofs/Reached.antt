@@ -12,7 +12,7 @@ use Rattle.snl_rules.proofs.WayLaws.{leads_within, reached_more}
 use Rattle.snl_links.specs.Links.{Link}
 use Rattle.snl_code.specs.Copies.{held_sets}
 use Rattle.snl_code.specs.Heres.{scene_in, states_by}
-use Rattle.snl_load.specs.Meaning.{left_for, finished, block_meaning, target_of, clause_meaning, state_meaning, set_meaning, set_meanings, program_meaning}
+use Rattle.snl_load.specs.Meaning.{state_left_for, finished, block_meaning, target_of, clause_meaning, state_meaning, set_meaning, set_meanings, program_meaning}
 use Rattle.snl_load.specs.Reached.{if_reached, states_reached}
 use Rattle.snl_machine.specs.Reached.{Table, HasState, IsIn, IsClosed, FirstAreReached, ReachedStay, UnreachedDoNothing, InstantsAreTheSame, ReachedAreClosed}
 use Rattle.snl_machine.proofs.Alike.{Good, Plain, After, Stays, LeadsIn, LeavesIn, IsSound, AreSound, IsSoundState, IsSoundSet, after-world, after-then}
@@ -58,7 +58,7 @@ module _ (p : ProgramTree) (reached : Table) (set : ℕ) where
 
   -- where its block leaves for
   leaves-in : (r : Ran Way) → Leads (IsIn p reached set) r → Good p reached (world_after r) →
-      After p reached (λ left u. LeavesIn p reached set left × Good p reached u) (then_do r left_for)
+      After p reached (λ left u. LeavesIn p reached set left × Good p reached u) (then_do r state_left_for)
   leaves-in (Gives Done w text) leads good = (tt, good)
   leaves-in (Gives Broken w text) leads good = (tt, good)
   leaves-in (Gives Continued w text) leads good = (tt, good)

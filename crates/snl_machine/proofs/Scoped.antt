@@ -12,7 +12,7 @@ use Rattle.snl_resolve.specs.declared.sites.Meaning.TheVariants.{Number, Nothing
 use Rattle.snl_resolve.specs.declared.sites.Size.{Size}
 use Rattle.snl_resolve.specs.Constants.{predefined}
 use Rattle.snl_resolve.specs.Scopes.{Scope, is_spelled, first_of, or_in, bound, is_hidden, declared_as, meaning_by, meaning, size_of, names_by, bare, declared_name, declared_names, declared_by, bare_names, scope_of}
-use Rattle.snl_resolve.specs.Variables.{Held, held_for, by_definition, by_definitions}
+use Rattle.snl_resolve.specs.Variables.{CopyVariable, held_for, by_definition, by_definitions}
 use Rattle.snl_machine.proofs.Declared.{In, in-left, in-right, in-either}
 
 -- ---- what a name is bound to
@@ -108,11 +108,11 @@ hidden-alike outer ds = λ j name. same name j
 -- ---- the variable of a declared name
 
 -- what a name declares is one of some variables, if it has a size
-abbrev pub IsOf : List Held → Declared → Type 0
-IsOf vs x = (z : Size) → x.size ≡ Some z → (v : Held) × In v vs × (v.name ≡ x.name) × (v.size ≡ z)
+abbrev pub IsOf : List CopyVariable → Declared → Type 0
+IsOf vs x = (z : Size) → x.size ≡ Some z → (v : CopyVariable) × In v vs × (v.name ≡ x.name) × (v.size ≡ z)
 
 -- among more
-more-of : (us vs : List Held) (x : Declared) → ((v : Held) → In v us → In v vs) → IsOf us x → IsOf vs x
+more-of : (us vs : List CopyVariable) (x : Declared) → ((v : CopyVariable) → In v us → In v vs) → IsOf us x → IsOf vs x
 more-of us vs x up of z is = let w = of z is in (w.0, up w.0 w.1, w.2, w.3)
 
 module _ (s : List Scope) where

@@ -5,12 +5,12 @@ use Rattle.snl_meaning.specs.declared.instrs.Variable.{Variable}
 use Rattle.snl_meaning.specs.declared.names.Placed.{Placed}
 use Rattle.snl_meaning.specs.Names.{behind, placed_from, placed_shared, shared_from, variable_from}
 use Rattle.snl_meaning.specs.World.{World, copy_of, words_for, with_words, with_words_for, with_element, with_zeros, zeroed}
-use Rattle.snl_resolve.specs.Variables.{Held}
+use Rattle.snl_resolve.specs.Variables.{CopyVariable}
 
 -- ---- variables
 
 -- a variable of a copy is none of a function
-pub placed-own : (vs : List Held) (at i : ℕ) (x : Placed) → slice_get (placed_from at vs) i ≡ Some x → x.variable.is_shared ≡ false
+pub placed-own : (vs : List CopyVariable) (at i : ℕ) (x : Placed) → slice_get (placed_from at vs) i ≡ Some x → x.variable.is_shared ≡ false
 placed-own [] at i x is = absurd (cc)
 placed-own (v ∷ vs) at zero x is =
     let same : record { offset = v.name.pos.offset; variable = variable_from at v } ≡ x = cc in sym (ap (λ (y : Placed). y.variable.is_shared) same)
@@ -21,13 +21,13 @@ abbrev pub as_shared : Placed → Placed
 as_shared y = record y { variable = record y.variable { is_shared = true } }
 
 -- What is known of a variable of a function: it stands as one of a copy would.
-pub record IsShared (vs : List Held) (at i : ℕ) (x : Placed) : Type 0 where
+pub record IsShared (vs : List CopyVariable) (at i : ℕ) (x : Placed) : Type 0 where
   pub y : Placed
   pub placed : slice_get (placed_from at vs) i ≡ Some y
   pub is : as_shared y ≡ x
 
 -- each is such a one
-pub placed-shared : (vs : List Held) (at i : ℕ) (x : Placed) → slice_get (placed_shared at vs) i ≡ Some x → IsShared vs at i x
+pub placed-shared : (vs : List CopyVariable) (at i : ℕ) (x : Placed) → slice_get (placed_shared at vs) i ≡ Some x → IsShared vs at i x
 placed-shared [] at i x is = absurd (cc)
 placed-shared (v ∷ vs) at zero x is =
     let same : record { offset = v.name.pos.offset; variable = shared_from at v } ≡ x = cc in
@@ -36,7 +36,7 @@ placed-shared (v ∷ vs) at (suc i) x is =
     let rest = placed-shared vs (behind at v) i x is in record { y = rest.y; placed = rest.placed; is = rest.is }
 
 -- it is one of a function
-pub is-shared : (vs : List Held) (at i : ℕ) (x : Placed) → slice_get (placed_shared at vs) i ≡ Some x → x.variable.is_shared ≡ true
+pub is-shared : (vs : List CopyVariable) (at i : ℕ) (x : Placed) → slice_get (placed_shared at vs) i ≡ Some x → x.variable.is_shared ≡ true
 is-shared vs at i x is = sym (ap (λ (z : Placed). z.variable.is_shared) (placed-shared vs at i x is).is)
 
 -- ---- lists of variables
@@ -48,7 +48,7 @@ in-parts (a ∷ xs) ys zero x is = inl is
 in-parts (a ∷ xs) ys (suc i) x is = in-parts xs ys i x is
 
 -- variables stand where they stand, whatever follows
-pub placed-front : (us vs : List Held) (at i : ℕ) (x : Placed) → slice_get (placed_from at us) i ≡ Some x → slice_get (placed_from at (us ++ vs)) i ≡ Some x
+pub placed-front : (us vs : List CopyVariable) (at i : ℕ) (x : Placed) → slice_get (placed_from at us) i ≡ Some x → slice_get (placed_from at (us ++ vs)) i ≡ Some x
 placed-front [] vs at i x is = absurd (cc)
 placed-front (u ∷ us) vs at zero x is = is
 placed-front (u ∷ us) vs at (suc i) x is = placed-front us vs (behind at u) i x is

@@ -16,7 +16,7 @@ use Rattle.snl_meaning.specs.declared.names.Placed.{Placed}
 use Rattle.snl_meaning.specs.Laws.{words_of}
 use Rattle.snl_meaning.specs.Names.{placed_shared}
 use Rattle.snl_meaning.specs.World.{World, words_for, element_of, words_at, overwritten, with_element, with_zeros}
-use Rattle.snl_resolve.specs.Variables.{Held, shared_variables}
+use Rattle.snl_resolve.specs.Variables.{CopyVariable, shared_variables}
 
 -- ---- the words of functions
 
@@ -63,7 +63,7 @@ element-in-shared p set i k x w is =
     ap (λ (b : Bool). slice_index_or (words_for set b w) (x.variable.place + k) (pos 0)) (is-shared (shared_variables p) 0 i x is)
 
 -- two elements at one word are one
-shared-element-apart : (vs : List Held) (i j k m : ℕ) (x y : Placed) → words_of vs ≤ 2 ^ 64 - 1 → slice_get (placed_shared 0 vs) i ≡ Some x → slice_get (placed_shared 0 vs) j ≡ Some y →
+shared-element-apart : (vs : List CopyVariable) (i j k m : ℕ) (x y : Placed) → words_of vs ≤ 2 ^ 64 - 1 → slice_get (placed_shared 0 vs) i ≡ Some x → slice_get (placed_shared 0 vs) j ≡ Some y →
     k < x.variable.size → m < y.variable.size → x.variable.place + k ≡ y.variable.place + m → (i ≡ j) × (k ≡ m)
 shared-element-apart vs i j k m x y few is_x is_y less_x less_y same = by (cases_order i j)
   where

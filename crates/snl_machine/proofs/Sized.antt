@@ -23,7 +23,7 @@ use Rattle.snl_resolve.specs.Programs.{program_scopes}
 use Rattle.snl_resolve.specs.Scopes.{Scope, elements, size_by, size_of, is_hidden}
 use Rattle.snl_resolve.specs.Types.{unsigned_range, range_by, range_or_long}
 use Rattle.snl_resolve.specs.Sights.{parameter_scope}
-use Rattle.snl_resolve.specs.Variables.{Held, held_for, held_parameter, by_block, by_definitions, by_function, by_maybe, by_numbered, functions_of, shared_variables, variables_of}
+use Rattle.snl_resolve.specs.Variables.{CopyVariable, held_for, held_parameter, by_block, by_definitions, by_function, by_maybe, by_numbered, functions_of, shared_variables, variables_of}
 use Rattle.snl_rules.specs.Words.{variable_words}
 use Rattle.snl_meaning.specs.declared.names.Placed.{Placed}
 use Rattle.snl_meaning.specs.Laws.{words_of}
@@ -38,7 +38,7 @@ use Rattle.snl_machine.proofs.Shared.{placed-shared}
 -- ---- each variable
 
 -- a variable has an element, and its type has 0
-abbrev pub IsDecent : Held → Type 0
+abbrev pub IsDecent : CopyVariable → Type 0
 IsDecent v = (0 < elements v.size) × ((int_le v.range.0 (pos 0) && int_le (pos 0) v.range.1) ≡ true)
 
 -- a size by a constant
@@ -120,8 +120,8 @@ shared-decent p = by (functions_of p)
         all-both IsDecent (by_function (program_scopes p) f) (flat_map (by_function (program_scopes p)) fs) (function-decent (program_scopes p) f) (by fs)
 
 -- a placed one is one of the copy
-pub placed-held : (vs : List Held) (at i : ℕ) (x : Placed) → slice_get (placed_from at vs) i ≡ Some x →
-    (v : Held) × In v vs × (v.name.pos.offset ≡ x.offset) × (elements v.size ≡ x.variable.size) × (v.range.0 ≡ x.variable.least) × (v.range.1 ≡ x.variable.greatest)
+pub placed-held : (vs : List CopyVariable) (at i : ℕ) (x : Placed) → slice_get (placed_from at vs) i ≡ Some x →
+    (v : CopyVariable) × In v vs × (v.name.pos.offset ≡ x.offset) × (elements v.size ≡ x.variable.size) × (v.range.0 ≡ x.variable.least) × (v.range.1 ≡ x.variable.greatest)
 placed-held [] at i x is = absurd (cc)
 placed-held (v ∷ vs) at zero x is =
     let same : record { offset = v.name.pos.offset; variable = variable_from at v } ≡ x = cc in
@@ -130,7 +130,7 @@ placed-held (v ∷ vs) at (suc i) x is =
     let w = placed-held vs (behind at v) i x is in (w.0, inr w.1, w.2, w.3, w.4, w.5)
 
 -- it is as decent as the variable that it stands for
-placed-decent : (v : Held) (x : Placed) → elements v.size ≡ x.variable.size → v.range.0 ≡ x.variable.least → v.range.1 ≡ x.variable.greatest → IsDecent v →
+placed-decent : (v : CopyVariable) (x : Placed) → elements v.size ≡ x.variable.size → v.range.0 ≡ x.variable.least → v.range.1 ≡ x.variable.greatest → IsDecent v →
     (0 < x.variable.size) × Has x.variable (pos 0)
 placed-decent v x size least greatest decent = (
   subst (λ (n : ℕ). 0 < n) size decent.0,
@@ -141,7 +141,7 @@ placed-decent v x size least greatest decent = (
 -- ---- words
 
 -- words are counted alike
-pub same-words : (vs : List Held) → words_of vs ≡ sum_by variable_words vs
+pub same-words : (vs : List CopyVariable) → words_of vs ≡ sum_by variable_words vs
 same-words [] = refl
 same-words (v ∷ vs) =
     let rest = same-words vs in
@@ -149,7 +149,7 @@ same-words (v ∷ vs) =
     omega (arith, rest, all)
 
 -- those of two lists
-words-both : (us vs : List Held) → words_of (us ++ vs) ≡ words_of us + words_of vs
+words-both : (us vs : List CopyVariable) → words_of (us ++ vs) ≡ words_of us + words_of vs
 words-both [] vs = omega arith
 words-both (u ∷ us) vs = let rest = words-both us vs in omega (arith, rest)
 
@@ -179,7 +179,7 @@ module _ (o : Options) (p : ProgramTree) (embedded : List Pos) (beyond : Option 
           let few : words_of (variables_of p 0) ≤ 65536 = there-few 0 some.0 some.1 in
           let s = program_scopes p in
           let defs = by_definitions [] p.definitions in
-          let early : Bool → Option StateSetTree → List Held = λ b found. ((defs ++ (if b then by_maybe s p.entry else [])) ++ by_numbered s found) ++ (if b then by_maybe s p.exit else []) in
+          let early : Bool → Option StateSetTree → List CopyVariable = λ b found. ((defs ++ (if b then by_maybe s p.entry else [])) ++ by_numbered s found) ++ (if b then by_maybe s p.exit else []) in
           let here : variables_of p (suc k) ≡ ((defs ++ []) ++ []) ++ [] = λ j. early (eqb-suc-zero k j) (is j) in
           let first = by_maybe s p.entry in
           let own = by_numbered s (slice_get p.state_sets 0) in

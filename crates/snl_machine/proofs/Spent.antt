@@ -16,7 +16,7 @@ use Rattle.snl_schedule.specs.declared.plans.Destination.TheVariants as to
 use Rattle.snl_schedule.specs.declared.plans.SetPlan.{SetPlan}
 use Rattle.snl_schedule.specs.declared.plans.StatePlan.{StatePlan}
 use Rattle.snl_schedule.specs.Instant.{begun}
-use Rattle.snl_schedule.specs.Plans.{held_at, block_at, clause_of, state_of, set_of, CanDo, CanRunSet}
+use Rattle.snl_schedule.specs.Plans.{test_at, block_at, clause_of, state_of, set_of, CanDo, CanRunSet}
 use Rattle.snl_schedule.specs.Refresh.{refreshed}
 use Rattle.snl_schedule.specs.Steps.{steps_then, block_steps, held_steps, chosen_if_steps, chosen_steps, left_steps, come_steps, arrived_steps, crossed_steps, acted_steps, transition_steps, clauses_in, tried_steps, turn_steps, begun_steps}
 use Rattle.snl_schedule.specs.Turn.{State, StateSet, no_state, nothing, state_in, state_name, chosen, chosen_if, is_due, if_due, entered_in, left_for, come_to, moved, crossed, arrived, target_by, arrived_by, acted, transition, fired, tried, turn_of}
@@ -27,7 +27,7 @@ use Rattle.snl_machine.proofs.Costs.{paid, Costs, costs-also, costs-between, cos
 -- ticks that it spends pay for.
 pub record IsTested (g : PieceContext) (code : List Instr) (from : ℕ) (c : ClausePlan) : Type 0 where
   pub within : c.block ≤ length code
-  pub test : (w : World) → held_steps g code c.condition w + from + paid (length code) (world_after (held_at g code c.condition w)).ticks ≤ c.block + paid (length code) w.ticks
+  pub test : (w : World) → held_steps g code c.condition w + from + paid (length code) (world_after (test_at g code c.condition w)).ticks ≤ c.block + paid (length code) w.ticks
 
 -- The same of clauses one after another.
 abbrev pub AreTested : PieceContext → List Instr → ℕ → List ClausePlan → Type 0
@@ -137,7 +137,7 @@ module _ (bounded : StepsAreBounded) (g : PieceContext) (code : List Instr) (s :
       (w : World) → Costs len len w (chosen_steps g code (transition_steps g code s state) cs w + from) (then_do (chosen (map (clause_of g code) cs) w) (fired of state))
   chooses state from [] tested le over w = record { still = omega arith; fits = omega (arith, le) }
   chooses state from (c ∷ cs) tested le over w =
-      by (held_at g code c.condition w) (held-still g code c.condition w) (tested.0.test w) (λ u. chooses state c.block cs tested.1 tested.0.within (λ d n is. over d (suc n) is) u)
+      by (test_at g code c.condition w) (held-still g code c.condition w) (tested.0.test w) (λ u. chooses state c.block cs tested.1 tested.0.within (λ d n is. over d (suc n) is) u)
     where
       by : (r : Ran Bool) → (world_after r).ticks ≤ w.ticks → held_steps g code c.condition w + from + paid len (world_after r).ticks ≤ c.block + paid len w.ticks →
           ((u : World) → Costs len len u (chosen_steps g code (transition_steps g code s state) cs u + c.block) (then_do (chosen (map (clause_of g code) cs) u) (fired of state))) →

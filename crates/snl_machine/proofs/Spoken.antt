@@ -30,7 +30,7 @@ use Rattle.snl_resolve.specs.Programs.{queue_size, in_definition, in_definitions
 use Rattle.snl_resolve.specs.Scopes.{Scope, elements, is_array, is_hidden, meaning, declared_as, scope_of}
 use Rattle.snl_resolve.specs.Sights.{Sight, within, headings_by}
 use Rattle.snl_resolve.specs.Sites.{declares, in_value, maybe}
-use Rattle.snl_resolve.specs.Variables.{Held, by_definitions, by_maybe, by_clause, by_state, by_state_set}
+use Rattle.snl_resolve.specs.Variables.{CopyVariable, by_definitions, by_maybe, by_clause, by_state, by_state_set}
 use Rattle.snl_rules.specs.declared.rules.Rule.TheVariants.{WrongArray}
 use Rattle.snl_rules.specs.Words.{assigned_by, link_words}
 use Rattle.snl_links.specs.Links.{Said, assigned, monitored, synced, place_part, of_part, flag_at, flag_if_there, first_in, count_in, said_by, said_in, said_in_state, said_in_set, said_in_program}
@@ -74,7 +74,7 @@ count-all (x ∷ xs) = count-of x + count-all xs
 
 -- what is assigned is a variable that is declared, and has the elements
 abbrev pub IsSound : ProgramTree → Said → Type 0
-IsSound p (assigned t part c) = (v : Held) × In v (declared p) × (v.name.pos ≡ part.variable) × (top part c ≤ elements v.size)
+IsSound p (assigned t part c) = (v : CopyVariable) × In v (declared p) × (v.name.pos ≡ part.variable) × (top part c ≤ elements v.size)
 IsSound p said = Unit {0}
 
 -- those of two lists
@@ -178,7 +178,7 @@ module _ (p : ProgramTree) (queue : ℕ → ℕ) where
 
   -- a name that means a variable means one that is declared
   abbrev IsMeant : Meaning → Type 0
-  IsMeant (Variable d size) = (v : Held) × In v (declared p) × (v.name.pos ≡ d) × (v.size ≡ size)
+  IsMeant (Variable d size) = (v : CopyVariable) × In v (declared p) × (v.name.pos ≡ d) × (v.size ≡ size)
   IsMeant m = Unit {0}
 
   -- a list of names is no longer than the array
@@ -186,7 +186,7 @@ module _ (p : ProgramTree) (queue : ℕ → ℕ) where
   list-fits size n e = let few = ltb-false (elements size) n (or-false (not (is_array size) || false) (nat_lt (elements size) n) e).1 in omega (arith, few)
 
   -- one part, with its site
-  one-part : (t : Token) (part : Part) (c : Option ChannelsTree) (site : Site) (rest : List Site) (v : Held) → In v (declared p) → v.name.pos ≡ part.variable →
+  one-part : (t : Token) (part : Part) (c : Option ChannelsTree) (site : Site) (rest : List Site) (v : CopyVariable) → In v (declared p) → v.name.pos ≡ part.variable →
       top part c ≤ elements v.size → tied part c ≤ words-at site → Fits (assigned t part c ∷ []) (site ∷ rest)
   one-part t part c site rest v is place within few = λ fine. (omega (arith, few, sum_by-cons words-at site rest), ((v, is, place, within), tt))
 
@@ -270,8 +270,8 @@ module _ (p : ProgramTree) (queue : ℕ → ℕ) where
   definition in_state s good (function f) = λ fine. (omega arith, tt)
 
   -- all of some variables are declared in the program
-  abbrev Up : List Held → Type 0
-  Up vs = (v : Held) → In v vs → In v (declared p)
+  abbrev Up : List CopyVariable → Type 0
+  Up vs = (v : CopyVariable) → In v vs → In v (declared p)
 
   -- a scope of such definitions
   more-good : (outer : List Scope) (ds : List DefinitionTree) → Up (by_definitions outer ds) → IsGood outer → IsGood (scope_of outer ds ∷ outer)

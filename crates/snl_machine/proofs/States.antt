@@ -117,7 +117,7 @@ module _ (p : ProgramTree) where
     enters = λ set state within is_timed w. copy-stays Exists set _ w (λ h. within);
     opens = λ w h. h;
     wakes = λ w h. h;
-    phase = λ x w h. h;
+    phase = λ x lives w h. h;
     spends = λ left w is h. h;
     weaker = λ w u a. a;
     before = λ u v w a b h. b (a h);

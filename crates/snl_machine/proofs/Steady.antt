@@ -36,7 +36,7 @@ pub record IsSteady (p : ProgramTree) (R S : World → World → Type 0) : Type 
   pub opens : (w : World) → R w (record w { due = None })
   -- after the last one the wake is the least due time
   pub wakes : (w : World) → R w (record w { wake = w.due })
-  pub phase : (x : Live) (w : World) → R w (record w { phase = x })
+  pub phase : (x : Live) → (x ≡ Waiting → ⊥) → (w : World) → R w (record w { phase = x })
   pub spends : (left : ℕ) (w : World) → w.ticks ≡ suc left → S w (record w { ticks = left })
   pub weaker : (w u : World) → S w u → R w u
   pub before : (u v w : World) → R u v → S v w → S u w
@@ -57,7 +57,7 @@ pub record IsLoose (R S : World → World → Type 0) : Type 0 where
   pub opens : (w : World) → R w (record w { due = None })
   pub notes : (t : ℤ) (w : World) → int_le t (pos w.time) ≡ false → R w (record w { due = noted t w.due })
   pub wakes : (w : World) → R w (record w { wake = w.due })
-  pub phase : (x : Live) (w : World) → R w (record w { phase = x })
+  pub phase : (x : Live) → (x ≡ Waiting → ⊥) → (w : World) → R w (record w { phase = x })
   pub spends : (left : ℕ) (w : World) → w.ticks ≡ suc left → S w (record w { ticks = left })
   pub weaker : (w u : World) → S w u → R w u
   pub before : (u v w : World) → R u v → S v w → S u w
@@ -200,7 +200,7 @@ module _ (p : ProgramTree) (ls : List Link) (waiting : Bool) (R S : World → Wo
   exited-keeps w =
       let q = program_meaning p ls waiting in
       then-keeps R s.both w (owned q q.exit w) (λ _ u. closed_by q.name u)
-      (told-after R (first_name q.sets) w (q.exit w) (block-keeps p 0 R s.nothing s.both (s.pieces 0) p.exit w)) (λ _ u. s.phase Ended u)
+      (told-after R (first_name q.sets) w (q.exit w) (block-keeps p 0 R s.nothing s.both (s.pieces 0) p.exit w)) (λ _ u. s.phase Ended (λ (e : Ended ≡ Waiting). absurd (cc)) u)
 
   -- rounds
   rounds-keep : (n : ℕ) (w : World) → R w (world_after (rounds_of (program_meaning p ls waiting) n w))
@@ -229,7 +229,7 @@ module _ (p : ProgramTree) (ls : List Link) (waiting : Bool) (R S : World → Wo
   begins-keep (g ∷ gs) all w = then-keeps R s.both w (begun g w) (λ _ u. begun_sets gs u) (begun-keeps g R S all.0 w) (λ _ u. begins-keep gs all.1 u)
 
   -- what follows the line of the start
-  opened-keeps : Keeps R (opened (program_meaning p ls waiting))
+  pub opened-keeps : Keeps R (opened (program_meaning p ls waiting))
   opened-keeps w =
       let q = program_meaning p ls waiting in
       let all = sets-keep 0 p.state_sets in
@@ -242,7 +242,7 @@ module _ (p : ProgramTree) (ls : List Link) (waiting : Bool) (R S : World → Wo
   -- the start
   pub started-keeps : Keeps R (started (program_meaning p ls waiting))
   started-keeps w =
-      let q = program_meaning p ls waiting in then-keeps R s.both w (told_start q w) (λ _ u. opened q u) (s.phase Running w) (λ _ u. opened-keeps u)
+      let q = program_meaning p ls waiting in then-keeps R s.both w (told_start q w) (λ _ u. opened q u) (s.phase Running (λ (e : Running ≡ Waiting). absurd (cc)) w) (λ _ u. opened-keeps u)
 
   -- an instant, with the ticks that it has
   pub instant-keeps : (phase : Live) (w : World) → R w (world_after (instant_by (program_meaning p ls waiting) phase w))

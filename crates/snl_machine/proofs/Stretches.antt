@@ -26,7 +26,7 @@ use Rattle.snl_schedule.specs.declared.plans.ClausePlan.{ClausePlan}
 use Rattle.snl_schedule.specs.declared.plans.SetPlan.{SetPlan}
 use Rattle.snl_schedule.specs.declared.plans.StatePlan.{StatePlan}
 use Rattle.snl_schedule.specs.Loaded.{Loaded, context_in}
-use Rattle.snl_schedule.specs.Plans.{held_at}
+use Rattle.snl_schedule.specs.Plans.{test_at}
 use Rattle.snl_schedule.specs.Steps.{held_steps}
 use Rattle.snl_load.specs.Plans.{PlainState, PlainSet, PlainPlan, state_view, set_view, clause_plan, clause_plans, clauses_if, state_plan, state_plans, set_plan, set_plans}
 use Rattle.snl_load.specs.Right.{IsLoadedOf}
@@ -162,7 +162,7 @@ module _ (stretches : StretchesAreBounded) (p : ProgramTree) (ls : List Link) (w
       where
         -- up to its block
         to-block : (condition : Option ℕ) → start_in tb (Condition set state j) ≡ condition → s.block ≤ length code →
-            ((w : World) → held_steps (context set) code condition w + from + paid (length code) (world_after (held_at (context set) code condition w)).ticks ≤ s.block + paid (length code) w.ticks) →
+            ((w : World) → held_steps (context set) code condition w + from + paid (length code) (world_after (test_at (context set) code condition w)).ticks ≤ s.block + paid (length code) w.ticks) →
             IsTested (context set) code from (plan_of j d)
         to-block condition begins within test =
             let b = block-is j s starts in
@@ -171,7 +171,7 @@ module _ (stretches : StretchesAreBounded) (p : ProgramTree) (ls : List Link) (w
               test = λ w.
                   let h = test w in
                   let e = ap (λ (o : Option ℕ). held_steps (context set) code o w) begins in
-                  let t = ap (λ (o : Option ℕ). paid (length code) (world_after (held_at (context set) code o w)).ticks) begins in
+                  let t = ap (λ (o : Option ℕ). paid (length code) (world_after (test_at (context set) code o w)).ticks) begins in
                   omega (arith, b, e, t, h);
             }
 

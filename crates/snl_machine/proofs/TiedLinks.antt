@@ -13,11 +13,11 @@ use Rattle.snl_resolve.specs.declared.options.Options.{Options}
 use Rattle.snl_resolve.specs.declared.sites.Part.{Part}
 use Rattle.snl_resolve.specs.Programs.{program_scopes, sites}
 use Rattle.snl_resolve.specs.Scopes.{Scope, elements}
-use Rattle.snl_resolve.specs.Variables.{Held, by_definitions, by_maybe, by_numbered, by_state_set, for_first, variables_of}
+use Rattle.snl_resolve.specs.Variables.{CopyVariable, by_definitions, by_maybe, by_numbered, by_state_set, for_first, variables_of}
 use Rattle.snl_rules.specs.Words.{queue_size, links_words}
 use Rattle.snl_links.specs.Links.{Said, assigned, monitored, synced, ties_from, ties_by_channels, ties_by, said_in_program, spelled, Link, link_by, links}
 use Rattle.snl_links.specs.declared.ties.Tie.{Tie}
-use Rattle.snl_links.specs.Macros.{macros_of, value_of}
+use Rattle.snl_links.specs.Macros.{macros_of, macro_value}
 use Rattle.snl_meaning.specs.declared.instrs.Variable.{Variable}
 use Rattle.snl_meaning.specs.declared.names.Placed.{Placed}
 use Rattle.snl_meaning.specs.declared.ties.Tied.{Tied}
@@ -38,7 +38,7 @@ use Rattle.snl_machine.proofs.Spoken.{tied, top, count-of, count-all, IsSound, a
 
 -- a link ties elements of a variable that is declared
 abbrev IsSoundLink : ProgramTree → Link → Type 0
-IsSoundLink p l = (v : Held) × In v (declared p) × (v.name.pos.offset ≡ l.variable.offset) × (l.first + l.count ≤ elements v.size)
+IsSoundLink p l = (v : CopyVariable) × In v (declared p) × (v.name.pos.offset ≡ l.variable.offset) × (l.first + l.count ≤ elements v.size)
 
 -- how many elements two lists of links have
 counts-both : (ks ls : List Link) → counts (ks ++ ls) ≡ counts ks + counts ls
@@ -56,7 +56,7 @@ module _ (p : ProgramTree) (value : List ℕ → List ℕ) (all : List Said) whe
   from-counts t part k (x ∷ xs) = let rest = from-counts t part (suc k) xs in omega (arith, rest)
 
   -- they tie elements that are there
-  from-sound : (t : Token) (part : Part) (k : ℕ) (xs : List Token) (v : Held) → In v (declared p) → v.name.pos ≡ part.variable → k + length xs ≤ elements v.size →
+  from-sound : (t : Token) (part : Part) (k : ℕ) (xs : List Token) (v : CopyVariable) → In v (declared p) → v.name.pos ≡ part.variable → k + length xs ≤ elements v.size →
       AllByRecursion (IsSoundLink p) (made (ties_from all t part k xs))
   from-sound t part k [] v is place within = tt
   from-sound t part k (x ∷ xs) v is place within =
@@ -69,7 +69,7 @@ module _ (p : ProgramTree) (value : List ℕ → List ℕ) (all : List Said) whe
   names-counts t part to (name_list xs) = from-counts t part 0 xs
 
   -- they tie elements that are there
-  names-sound : (t : Token) (part : Part) (to : Bool) (names : NamesTree) (v : Held) → In v (declared p) → v.name.pos ≡ part.variable →
+  names-sound : (t : Token) (part : Part) (to : Bool) (names : NamesTree) (v : CopyVariable) → In v (declared p) → v.name.pos ≡ part.variable →
       let c : Option ChannelsTree = Some (record { to = to; names = names }) in top part c ≤ elements v.size → AllByRecursion (IsSoundLink p) (made (ties_by_channels all t part c))
   names-sound t part to (one_name x) v is place within = ((v, is, ap (λ (d : Pos). d.offset) place, within), tt)
   names-sound t part to (name_list xs) v is place within = from-sound t part 0 xs v is place (omega (arith, within))
@@ -124,32 +124,32 @@ in-some {A} {B} f x (b ∷ l) is = by (in-either x (f b) (flat_map f l) is) (in-
     by (inr there) rest = let w = rest there in (suc w.0, w.1, w.2, w.3)
 
 -- a variable stands in the copy of a state set that is there
-abbrev StandsIn : ProgramTree → Held → Type 0
+abbrev StandsIn : ProgramTree → CopyVariable → Type 0
 StandsIn p v = (k : ℕ) × (k < length p.state_sets) × In v (variables_of p k)
 
 -- each that is declared does
-stands-somewhere : (p : ProgramTree) → IsRead p → (v : Held) → In v (declared p) → StandsIn p v
+stands-somewhere : (p : ProgramTree) → IsRead p → (v : CopyVariable) → In v (declared p) → StandsIn p v
 stands-somewhere p read v is = by (in-either v (defs ++ entry ++ all) exit is)
   where
     s : List Scope
     s = program_scopes p
 
-    defs : List Held
+    defs : List CopyVariable
     defs = by_definitions [] p.definitions
 
-    entry : List Held
+    entry : List CopyVariable
     entry = by_maybe s p.entry
 
-    all : List Held
+    all : List CopyVariable
     all = flat_map (by_state_set s) p.state_sets
 
-    exit : List Held
+    exit : List CopyVariable
     exit = by_maybe s p.exit
 
     some : 0 < length p.state_sets
     some = let first = first-set p read in slice_get_within p.state_sets 0 first.0 first.1
 
-    own : ℕ → List Held
+    own : ℕ → List CopyVariable
     own k = by_numbered s (slice_get p.state_sets k)
 
     one : In v defs ⊎ In v entry → StandsIn p v
@@ -175,16 +175,16 @@ stands-somewhere p read v is = by (in-either v (defs ++ entry ++ all) exit is)
 -- ---- variables by the offsets of their declarations
 
 -- what is found of an offset among some: a variable, with the form that it has in the copy; or that there is none
-abbrev IsFoundIn : List Held → ℕ → ℕ → Type 0
-IsFoundIn vs at offset = (v : Held) × In v vs × (v.name.pos.offset ≡ offset) × (held_in vs offset ≡ Some v) × (w : Variable) × (variable_in (placed_from at vs) offset ≡ Some w)
+abbrev IsFoundIn : List CopyVariable → ℕ → ℕ → Type 0
+IsFoundIn vs at offset = (v : CopyVariable) × In v vs × (v.name.pos.offset ≡ offset) × (held_in vs offset ≡ Some v) × (w : Variable) × (variable_in (placed_from at vs) offset ≡ Some w)
     × (elements v.size ≡ w.size) × (v.range.0 ≡ w.least) × (v.range.1 ≡ w.greatest)
 
 -- none of them stands at the offset
-abbrev IsNone : List Held → ℕ → ℕ → Type 0
-IsNone vs at offset = (held_in vs offset ≡ None) × (variable_in (placed_from at vs) offset ≡ None) × ((v : Held) → In v vs → v.name.pos.offset ≡ offset → ⊥)
+abbrev IsNone : List CopyVariable → ℕ → ℕ → Type 0
+IsNone vs at offset = (held_in vs offset ≡ None) × (variable_in (placed_from at vs) offset ≡ None) × ((v : CopyVariable) → In v vs → v.name.pos.offset ≡ offset → ⊥)
 
 -- one of both
-found-or-none : (vs : List Held) (at offset : ℕ) → IsFoundIn vs at offset ⊎ IsNone vs at offset
+found-or-none : (vs : List CopyVariable) (at offset : ℕ) → IsFoundIn vs at offset ⊎ IsNone vs at offset
 found-or-none [] at offset = inr (refl, refl, λ v is same. is)
 found-or-none (v ∷ vs) at offset = by (v.name.pos.offset == offset) refl (found-or-none vs (behind at v) offset)
   where
@@ -220,23 +220,23 @@ found-or-none (v ∷ vs) at offset = by (v.name.pos.offset == offset) refl (foun
           λ u there same. other u there same,
         )
       where
-        other : (u : Held) → In u (v ∷ vs) → u.name.pos.offset ≡ offset → ⊥
-        other u (inl here) same = false≢true (sym is ∙ eq-eqb v.name.pos.offset offset (ap (λ (x : Held). x.name.pos.offset) here ∙ same))
+        other : (u : CopyVariable) → In u (v ∷ vs) → u.name.pos.offset ≡ offset → ⊥
+        other u (inl here) same = false≢true (sym is ∙ eq-eqb v.name.pos.offset offset (ap (λ (x : CopyVariable). x.name.pos.offset) here ∙ same))
         other u (inr later) same = n.2 u later same
 
 module _ (p : ProgramTree) where
   -- what is found of an offset in the first copy that has it
   abbrev IsFoundAmong : ℕ → List StateSetTree → ℕ → Type 0
-  IsFoundAmong k gs offset = (v : Held) × In v (declared p) × (v.name.pos.offset ≡ offset) × (held_among (for_each_set (variables_of p) k gs) offset ≡ Some v)
+  IsFoundAmong k gs offset = (v : CopyVariable) × In v (declared p) × (v.name.pos.offset ≡ offset) × (held_among (for_each_set (variables_of p) k gs) offset ≡ Some v)
       × (v.range.0 ≡ (range_of (variable_among (for_each_set (placed_in p) k gs) offset)).0) × (v.range.1 ≡ (range_of (variable_among (for_each_set (placed_in p) k gs) offset)).1)
 
   -- a variable that stands in a copy is found
-  found-among : (k : ℕ) (gs : List StateSetTree) (offset j n : ℕ) (v : Held) → n ≡ k + j → j < length gs → In v (variables_of p n) → v.name.pos.offset ≡ offset →
+  found-among : (k : ℕ) (gs : List StateSetTree) (offset j n : ℕ) (v : CopyVariable) → n ≡ k + j → j < length gs → In v (variables_of p n) → v.name.pos.offset ≡ offset →
       IsFoundAmong k gs offset
   found-among k [] offset j n v number less is same = absurd (omega (arith, less))
   found-among k (g ∷ gs) offset j n v number less is same = by j number less (found-or-none (variables_of p k) 0 offset) (λ i e short. found-among (k + 1) gs offset i n v e short is same)
     where
-      held-here : Option Held → Option Held
+      held-here : Option CopyVariable → Option CopyVariable
       held-here o = elim o [ Some u ↦ Some u | None ↦ held_among (for_each_set (variables_of p) (k + 1) gs) offset ]
 
       range-here : Option Variable → ℤ × ℤ
@@ -273,7 +273,7 @@ module _ (o : Options) (p : ProgramTree) (embedded : List Pos) (beyond : Option 
 
   -- the values of macros
   abbrev value : List ℕ → List ℕ
-  value = value_of (macros_of (spelled p.macros) macros)
+  value = macro_value (macros_of (spelled p.macros) macros)
 
   -- what is said is sound, and has few words
   said-fits : (count-all (said_in_program p) ≤ links_words (sites p)) × AllByRecursion (IsSound p) (said_in_program p)
@@ -292,11 +292,11 @@ module _ (o : Options) (p : ProgramTree) (embedded : List Pos) (beyond : Option 
 
   -- a variable at its offset in a copy is that one
   found-here : (set i : ℕ) (l : Link) (w : Variable) → slice_get ls i ≡ Some l → variable_in (placed_in p set) l.variable.offset ≡ Some w →
-      (v : Held) × In v (declared p) × (v.name.pos.offset ≡ l.variable.offset) × (elements v.size ≡ w.size) × (v.range.0 ≡ w.least) × (v.range.1 ≡ w.greatest)
+      (v : CopyVariable) × In v (declared p) × (v.name.pos.offset ≡ l.variable.offset) × (elements v.size ≡ w.size) × (v.range.0 ≡ w.least) × (v.range.1 ≡ w.greatest)
   found-here set i l w is there = by (found-or-none (variables_of p set) 0 l.variable.offset)
     where
       by : IsFoundIn (variables_of p set) 0 l.variable.offset ⊎ IsNone (variables_of p set) 0 l.variable.offset →
-          (v : Held) × In v (declared p) × (v.name.pos.offset ≡ l.variable.offset) × (elements v.size ≡ w.size) × (v.range.0 ≡ w.least) × (v.range.1 ≡ w.greatest)
+          (v : CopyVariable) × In v (declared p) × (v.name.pos.offset ≡ l.variable.offset) × (elements v.size ≡ w.size) × (v.range.0 ≡ w.least) × (v.range.1 ≡ w.greatest)
       by (inl f) =
           let both : Some f.4 ≡ Some w = sym f.5 ∙ there in
           let same : f.4 ≡ w = cc in
@@ -319,7 +319,7 @@ module _ (o : Options) (p : ProgramTree) (embedded : List Pos) (beyond : Option 
         let sound = link-sound i l is in
         let here = found-here set i l w is there in
         let same = one-at p read sound.0 here.0 sound.1 here.1 (sound.2 ∙ sym here.2) in
-        let long : elements sound.0.size ≡ w.size = ap (λ (v : Held). elements v.size) same ∙ here.3 in
+        let long : elements sound.0.size ≡ w.size = ap (λ (v : CopyVariable). elements v.size) same ∙ here.3 in
         let within = sound.3 in
         omega (arith, within, long);
     type = λ set i l t w is_l is_t there.
@@ -327,7 +327,7 @@ module _ (o : Options) (p : ProgramTree) (embedded : List Pos) (beyond : Option 
         let here = found-here set i l w is_l there in
         let same = one-at p read found.0 here.0 found.1 here.1 (found.2 ∙ sym here.2) in
         let range = tie-range (channels ls) (flags_in p) (placed_sets p 0 p.state_sets) 0 ls i l t is_l is_t in
-        (range.0 ∙ sym found.4 ∙ ap (λ (v : Held). v.range.0) same ∙ here.4, range.1 ∙ sym found.5 ∙ ap (λ (v : Held). v.range.1) same ∙ here.5);
+        (range.0 ∙ sym found.4 ∙ ap (λ (v : CopyVariable). v.range.0) same ∙ here.4, range.1 ∙ sym found.5 ∙ ap (λ (v : CopyVariable). v.range.1) same ∙ here.5);
   }
 
   -- their variables are held

@@ -1,5 +1,5 @@
 -- What a line of a trace keeps of the world: its wakes, its event, and what they give to who asked for them.
-use Rattle.std.proofs.Common.{ℕ, zero, suc, ◌-◌, Bool, List, Option, None, Some}
+use Rattle.std.proofs.Common.{◌≡◌, ℕ, zero, suc, ◌-◌, Bool, List, Option, None, Some}
 use Rattle.snl_syntax.specs.Programs.{ProgramTree}
 use Rattle.snl_links.specs.Links.{Link}
 use Rattle.snl_load.specs.Meaning.{program_meaning}
@@ -44,7 +44,7 @@ module _ (p : ProgramTree) (ls : List Link) (waits : Bool) (R S : World → Worl
   -- what instants give to who asked for them
   closed-keeps : (w : World) (r : Ran (Unit {0})) → R w (world_after r) → R w (world_after (closed r))
   closed-keeps w (Gives v u text) h = h
-  closed-keeps w (Faults f line u text) h = s.both w u (record u { phase = Ended }) h (s.phase Ended u)
+  closed-keeps w (Faults f line u text) h = s.both w u (record u { phase = Ended }) h (s.phase Ended (λ (e : Ended ≡ Waiting). absurd (cc)) u)
 
   module _ (event : Event) (happens : (w : World) → R w (applied q event w)) where
     -- the event, and an instant

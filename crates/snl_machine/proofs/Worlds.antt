@@ -16,14 +16,14 @@ use Rattle.snl_meaning.specs.declared.live.Live.TheVariants.{Ended}
 use Rattle.snl_meaning.specs.Frames.{at_time}
 use Rattle.snl_meaning.specs.Keeping.{world_after}
 use Rattle.snl_meaning.specs.World.{World, no_copy}
-use Rattle.snl_resolve.specs.Variables.{Held}
+use Rattle.snl_resolve.specs.Variables.{CopyVariable}
 use Rattle.snl_schedule.specs.declared.events.Event.{Event}
 use Rattle.snl_schedule.specs.Event.{line_by, line_of}
 
 -- ---- the first world
 
 -- copies are in their first states
-pub copies-first : (sets : List (List Held)) (i : ℕ) → (slice_index_or (map first_copy sets) i no_copy).state ≡ 0
+pub copies-first : (sets : List (List CopyVariable)) (i : ℕ) → (slice_index_or (map first_copy sets) i no_copy).state ≡ 0
 copies-first [] i = refl
 copies-first (vs ∷ sets) zero = refl
 copies-first (vs ∷ sets) (suc i) = copies-first sets i

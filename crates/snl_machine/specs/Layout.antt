@@ -16,7 +16,7 @@ use Rattle.snl_meaning.specs.Links.{home_of, elements_at, with_elements, buffer_
 use Rattle.snl_meaning.specs.Names.{placed_from, placed_shared, variable_in}
 use Rattle.snl_meaning.specs.Queues.{put_in}
 use Rattle.snl_meaning.specs.World.{World, copy_of, is_set, element_of, words_at, with_element, with_zeros}
-use Rattle.snl_resolve.specs.Variables.{Held, variables_of, shared_variables}
+use Rattle.snl_resolve.specs.Variables.{CopyVariable, variables_of, shared_variables}
 use Rattle.snl_schedule.specs.Arrivals.{is_of, received}
 use Rattle.snl_schedule.specs.Refresh.{is_marked, refreshed}
 
@@ -101,9 +101,9 @@ IsAlone p ls set w link =
 -- variable that was cleared is 0; numbers that came to a link, one for each of its elements, are read there. Each other element of
 -- each variable, each other copy and all the rest are as before.
 pub record VariablesAreCells : Type 0 where
-  pub apart : (vs : List Held) (i j k m : ℕ) (x y : Placed) → words_of vs ≤ 2 ^ 64 - 1 → slice_get (placed_from 0 vs) i ≡ Some x → slice_get (placed_from 0 vs) j ≡ Some y →
+  pub apart : (vs : List CopyVariable) (i j k m : ℕ) (x y : Placed) → words_of vs ≤ 2 ^ 64 - 1 → slice_get (placed_from 0 vs) i ≡ Some x → slice_get (placed_from 0 vs) j ≡ Some y →
       k < x.variable.size → m < y.variable.size → x.variable.place + k ≡ y.variable.place + m → (i ≡ j) × (k ≡ m)
-  pub within : (vs : List Held) (i : ℕ) (x : Placed) → words_of vs ≤ 2 ^ 64 - 1 → slice_get (placed_from 0 vs) i ≡ Some x → x.variable.place + x.variable.size ≤ words_of vs
+  pub within : (vs : List CopyVariable) (i : ℕ) (x : Placed) → words_of vs ≤ 2 ^ 64 - 1 → slice_get (placed_from 0 vs) i ≡ Some x → x.variable.place + x.variable.size ≤ words_of vs
   pub stores : (p : ProgramTree) (ls : List Link) (set i k : ℕ) (x : Placed) (z : ℤ) (w : World) → IsSized p → IsLaidOut p ls w → set < length p.state_sets →
       slice_get (placed_in p set) i ≡ Some x → k < x.variable.size → let u = with_element set x.variable k z w in
       (element_of set x.variable k u ≡ z) × ElementsStay p set (λ j m. (i ≡ j) × (k ≡ m)) w u × CopiesStay set w u × (record u { copies = w.copies } ≡ w)
@@ -125,9 +125,9 @@ SharedElementsStay p Touched w u =
 
 -- They are rows of cells, too, and lie apart from all copies: a store to one, and the clearing of one, leave every copy as it is.
 pub record FunctionVariablesAreCells : Type 0 where
-  pub apart : (vs : List Held) (i j k m : ℕ) (x y : Placed) → words_of vs ≤ 2 ^ 64 - 1 → slice_get (placed_shared 0 vs) i ≡ Some x → slice_get (placed_shared 0 vs) j ≡ Some y →
+  pub apart : (vs : List CopyVariable) (i j k m : ℕ) (x y : Placed) → words_of vs ≤ 2 ^ 64 - 1 → slice_get (placed_shared 0 vs) i ≡ Some x → slice_get (placed_shared 0 vs) j ≡ Some y →
       k < x.variable.size → m < y.variable.size → x.variable.place + k ≡ y.variable.place + m → (i ≡ j) × (k ≡ m)
-  pub within : (vs : List Held) (i : ℕ) (x : Placed) → words_of vs ≤ 2 ^ 64 - 1 → slice_get (placed_shared 0 vs) i ≡ Some x → x.variable.place + x.variable.size ≤ words_of vs
+  pub within : (vs : List CopyVariable) (i : ℕ) (x : Placed) → words_of vs ≤ 2 ^ 64 - 1 → slice_get (placed_shared 0 vs) i ≡ Some x → x.variable.place + x.variable.size ≤ words_of vs
   pub stores : (p : ProgramTree) (ls : List Link) (set i k : ℕ) (x : Placed) (z : ℤ) (w : World) → IsSized p → IsLaidOut p ls w →
       slice_get (shared_in p) i ≡ Some x → k < x.variable.size → let u = with_element set x.variable k z w in
       ((other : ℕ) → element_of other x.variable k u ≡ z) × SharedElementsStay p (λ j m. (i ≡ j) × (k ≡ m)) w u × (record u { shared = w.shared } ≡ w)

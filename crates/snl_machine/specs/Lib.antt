@@ -13,3 +13,4 @@ pub mod Reached
 pub mod Layout
 pub mod Footprint
 pub mod Bounds
+pub mod Snapshots

@@ -17,7 +17,7 @@ use Rattle.snl_load.specs.First.{first_world_of}
 use Rattle.snl_load.specs.Initials.{held_among}
 use Rattle.snl_load.specs.Meaning.{program_meaning}
 use Rattle.snl_load.specs.Places.{placed_in, placed_sets, channels, ties_in, homes_in}
-use Rattle.snl_resolve.specs.Variables.{Held, variables_of, shared_variables}
+use Rattle.snl_resolve.specs.Variables.{CopyVariable, variables_of, shared_variables}
 use Rattle.snl_meaning.specs.declared.ties.Tied.{Tied}
 use Rattle.snl_schedule.specs.Arrivals.{is_in}
 
@@ -34,7 +34,7 @@ abbrev pub AllFit : ProgramTree → World → Type 0
 AllFit p w = (set : ℕ) → Fit (placed_in p set) (copy_of set w).words
 
 -- Variables with their places: each has an element, its type has 0, and all have no more words than an index can count.
-pub record AreSized (held : List Held) (vs : List Placed) : Type 0 where
+pub record AreSized (held : List CopyVariable) (vs : List Placed) : Type 0 where
   pub few : words_of held ≤ 2 ^ 64 - 1
   pub some : (i : ℕ) (x : Placed) → slice_get vs i ≡ Some x → 0 < x.variable.size
   pub zero : (i : ℕ) (x : Placed) → slice_get vs i ≡ Some x → Has x.variable (pos 0)
@@ -87,7 +87,7 @@ pub record IsTied (p : ProgramTree) (ls : List Link) : Type 0 where
 -- And the variable of each link stands in a copy; its type is the link's, and has 0.
 abbrev pub AreHeld : ProgramTree → List Link → Type 0
 AreHeld p ls = (i : ℕ) (l : Link) (t : Tied) → slice_get ls i ≡ Some l → slice_get (ties_in p ls) i ≡ Some t →
-    (v : Held) × (held_among (held_sets p 0 p.state_sets) l.variable.offset ≡ Some v) × (t.least ≡ v.range.0) × (t.greatest ≡ v.range.1) × (is_in t (pos 0) ≡ true)
+    (v : CopyVariable) × (held_among (held_sets p 0 p.state_sets) l.variable.offset ≡ Some v) × (t.least ≡ v.range.0) × (t.greatest ≡ v.range.1) × (is_in t (pos 0) ≡ true)
 
 -- Before the first event all of them hold what their types have.
 abbrev pub FirstHolds : Type 0

@@ -4,6 +4,7 @@ ghost use Rattle.std.specs.Prelude.{◌≡◌, ◌↔◌, ◌-◌, ◌^◌, ◌<
 ghost use Rattle.snl_syntax.specs.Programs.{ProgramTree};
 ghost use Rattle.snl_links.specs.Links.{Link};
 ghost use Rattle.snl_load.specs.Meaning.{program_meaning};
+ghost use Rattle.snl_meaning.specs.Frames.{at_time, frame_of};
 ghost use Rattle.snl_meaning.specs.Links.{home_of};
 ghost use Rattle.snl_schedule.specs.Event.{HasInstant, line_of};
 ghost use Rattle.snl_schedule.specs.Steps.{line_steps};
@@ -104,6 +105,8 @@ impl Machine {
             self.old.budget ms event.now (world_held self.old)) steps.old steps.new }
         ensures ended { OnErr result ((world_held self.new).phase ≡ Live.Ended) }
         ensures fixed { fixed_of self.new ≡ fixed_of self.old }
+        ensures frame { at_time 0 (frame_of (world_held self.new))
+            ≡ at_time 0 (frame_of (world_held self.old)) }
         ensures stays { StaysMachineOf self.old self.new }
         ensures time { OnErr result (HasInstant (task_held self.old).program self.old.budget ms
             (world_held self.old) (world_held self.new).time) }

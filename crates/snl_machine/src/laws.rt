@@ -9,6 +9,7 @@ ghost use Rattle.snl_machine.specs.Layout.{BuffersAreCells, FeedsFillBuffers, Fu
 ghost use Rattle.snl_machine.specs.Ranges.{EventsFit, FirstHolds, PiecesFit, ReachedHold};
 ghost use Rattle.snl_machine.specs.Reached.{FirstAreReached, InstantsAreTheSame, ReachedAreClosed, ReachedStay, UnreachedDoNothing};
 ghost use Rattle.snl_machine.specs.Rounds.{RoundsEnd, TicksWithinBudget};
+ghost use Rattle.snl_machine.specs.Snapshots.{PicturesAreApart, PicturesAreOfThePrograms, PicturesTellMarks, TicksAndDueAreAnew};
 ghost use Rattle.snl_machine.specs.Wakes.{TimeIsTheEvents, TimeIsTheEventsAlone, TimeNeverFalls, WakesEnd, WakesLieLater, WakesStayLater};
 ghost use Rattle.snl_machine.specs.Worlds.{WorldsAreTheProgram, WorldsStay};
 
@@ -219,4 +220,25 @@ pub fn accepted_hold()
 /// flags are declared.
 pub fn accepted_declares_its_flags()
     ensures { AcceptedDeclaresItsFlags }
+{}
+
+/// Equal snapshots of worlds in which the same stands for the same are of equal worlds.
+pub fn pictures_are_apart()
+    ensures { PicturesAreApart }
+{}
+
+/// Worlds that differ in one mark have other snapshots.
+pub fn pictures_tell_marks()
+    ensures { PicturesTellMarks }
+{}
+
+/// A machine of a program can be in the world that its snapshot pictures.
+pub fn pictures_are_of_the_programs()
+    ensures { PicturesAreOfThePrograms }
+{}
+
+/// A line reads neither the ticks nor the due time of the world that it begins in, and as long as a program waits for its channels
+/// no due time is noted.
+pub fn ticks_and_due_are_anew()
+    ensures { TicksAndDueAreAnew }
 {}

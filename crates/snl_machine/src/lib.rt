@@ -9,11 +9,13 @@ pub mod laws;
 mod loading;
 mod machine;
 mod making;
+mod snapshots;
 mod telling;
 
 pub use loading::Loads;
 pub use machine::Machine;
+pub use snapshots::Snapshot;
 pub use snl_meaning::{Fault, Live, Tied};
-pub use snl_output::{Fired, Refusal, Refused, Sink, SinkFault, Stop};
+pub use snl_output::{Fired, RefusalCause, Refused, Sink, SinkFault, Stop};
 pub use snl_schedule::{Event, VALUES_KEPT};
 pub use snl_vm::Steps;

@@ -2,7 +2,7 @@
 use Rattle.std.proofs.Common.{◌≡◌, ◌+◌, ◌<◌, ◌≤◌, true, ℕ, zero, suc, List, [], ◌∷◌, Option, None, Some, refl, sym, ap, subst, arith, slice_get}
 use Rattle.std.specs.Prelude.{◌-◌, ◌^◌}
 use Rattle.snl_resolve.specs.Scopes.{elements}
-use Rattle.snl_resolve.specs.Variables.{Held}
+use Rattle.snl_resolve.specs.Variables.{CopyVariable}
 use Rattle.snl_meaning.specs.declared.names.Placed.{Placed}
 use Rattle.snl_meaning.specs.Laws.{words_of, VariablesLieWithin, VariablesAreApart, SharedLieWithin, SharedAreApart}
 use Rattle.snl_meaning.specs.Names.{placed_from, placed_shared, behind, variable_from, shared_from}
@@ -23,7 +23,7 @@ wider low high l h None a b w = tt
 wider low high l h (Some x) a b w = (omega (arith, a, w.0), omega (arith, b, w.1))
 
 -- each variable of those from a place on
-within : (at : ℕ) (vs : List Held) (i : ℕ) → at + words_of vs ≤ 2 ^ 64 - 1 → Within at (at + words_of vs) (slice_get (placed_from at vs) i)
+within : (at : ℕ) (vs : List CopyVariable) (i : ℕ) → at + words_of vs ≤ 2 ^ 64 - 1 → Within at (at + words_of vs) (slice_get (placed_from at vs) i)
 within at [] i few = tt
 within at (v ∷ vs) zero few = (omega arith, omega arith)
 within at (v ∷ vs) (suc i) few =
@@ -32,7 +32,7 @@ within at (v ∷ vs) (suc i) few =
     (within (behind at v) vs i (omega (arith, next, few)))
 
 -- the first of them, and another
-first : (at : ℕ) (v : Held) (high : ℕ) (o : Option Placed) → at + elements v.size ≡ behind at v → Within (behind at v) high o →
+first : (at : ℕ) (v : CopyVariable) (high : ℕ) (o : Option Placed) → at + elements v.size ≡ behind at v → Within (behind at v) high o →
     (x : Placed) → x.variable.place ≡ at → x.variable.size ≡ elements v.size → Before (Some x) o
 first at v high None next w x is_at is_long = tt
 first at v high (Some y) next w x is_at is_long = omega (arith, next, w.0, is_at, is_long)
@@ -43,7 +43,7 @@ before-none None = tt
 before-none (Some y) = tt
 
 -- two of them
-apart : (at : ℕ) (vs : List Held) (i j : ℕ) → at + words_of vs ≤ 2 ^ 64 - 1 → i < j → Before (slice_get (placed_from at vs) i) (slice_get (placed_from at vs) j)
+apart : (at : ℕ) (vs : List CopyVariable) (i j : ℕ) → at + words_of vs ≤ 2 ^ 64 - 1 → i < j → Before (slice_get (placed_from at vs) i) (slice_get (placed_from at vs) j)
 apart at [] i j few less = tt
 apart at (v ∷ vs) i zero few less = absurd (omega (arith, less))
 apart at (v ∷ vs) zero (suc j) few less =
@@ -54,7 +54,7 @@ apart at (v ∷ vs) (suc i) (suc j) few less =
     let next : at + elements v.size ≡ behind at v = omega (arith, few) in apart (behind at v) vs i j (omega (arith, next, few)) (omega (arith, less))
 
 -- a variable of functions stands where one of a copy would stand among as many words before
-shared-alike : (at : ℕ) (vs : List Held) (i : ℕ) (x : Placed) → slice_get (placed_shared at vs) i ≡ Some x →
+shared-alike : (at : ℕ) (vs : List CopyVariable) (i : ℕ) (x : Placed) → slice_get (placed_shared at vs) i ≡ Some x →
     (y : Placed) × (slice_get (placed_from at vs) i ≡ Some y) × (x.variable.place ≡ y.variable.place) × (x.variable.size ≡ y.variable.size)
     × (x.variable.is_shared ≡ true)
 shared-alike at [] i x is = absurd (cc)

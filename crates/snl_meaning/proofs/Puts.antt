@@ -5,7 +5,7 @@ use Rattle.snl_meaning.specs.declared.ties.Tied.{Tied}
 use Rattle.snl_meaning.specs.Links.{link_at, elements_at, with_buffer, is_queued, enqueued, flagged, all_marked, marked, kept_for, handed_over}
 use Rattle.snl_meaning.specs.Printing.{put_line}
 use Rattle.snl_meaning.specs.Ran.{Gives}
-use Rattle.snl_meaning.specs.Words.{natural, put_out, put_by, put_by_tie, put_by_number, put_word, place_of}
+use Rattle.snl_meaning.specs.Words.{natural, put_out, put_by, OnLink, at_tie, at_number, put_word, element_place}
 use Rattle.snl_meaning.specs.World.{World, copy_of, words_at, is_waiting, with_waiting}
 use Rattle.snl_meaning.specs.Puts.{remarked, PlainPutsKnowNoMarks, WaitingPutsNothing}
 
@@ -59,13 +59,17 @@ module _ (marks : List Bool) where
   by-on set place link t None w = ap (λ (u : World). Gives (pos 0) u []) (handed-on set place link t w)
   by-on set place link t (Some channel) w = out-on set place t.count channel w
 
+  -- a put of a link
+  abbrev putting : (set place : ℕ) → OnLink
+  putting set place link t = put_by false set place link t t.channel
+
   -- by what it is tied to
-  tie-on : (set place link : ℕ) (tie : Option Tied) (w : World) → put_by_tie false set place link tie (on w) ≡ remarked marks (put_by_tie false set place link tie w)
+  tie-on : (set place link : ℕ) (tie : Option Tied) (w : World) → at_tie (negsuc 0) (putting set place) link tie (on w) ≡ remarked marks (at_tie (negsuc 0) (putting set place) link tie w)
   tie-on set place link None w = refl
   tie-on set place link (Some t) w = by-on set place link t t.channel w
 
   -- by its number
-  number-on : (set place : ℕ) (number : Option ℕ) (w : World) → put_by_number false set place number (on w) ≡ remarked marks (put_by_number false set place number w)
+  number-on : (set place : ℕ) (number : Option ℕ) (w : World) → at_number (negsuc 0) (putting set place) number (on w) ≡ remarked marks (at_number (negsuc 0) (putting set place) number w)
   number-on set place None w = refl
   number-on set place (Some link) w = tie-on set place link (slice_get w.ties link) w
 
@@ -75,7 +79,7 @@ module _ (marks : List Bool) where
 
 -- plain puts
 pub plain_puts_know_no_marks : PlainPutsKnowNoMarks
-plain_puts_know_no_marks set v k marks w = (word-on marks set v.place w, word-on marks set (place_of v (natural k)) w)
+plain_puts_know_no_marks set v k marks w = word-on marks set (element_place v (natural k)) w
 
 -- while a link waits
 pub waiting_puts_nothing : WaitingPutsNothing

@@ -11,8 +11,8 @@ use Rattle.snl_meaning.specs.Keeping.{IsKept, MayStore, AllMay, AllStore, world_
 use Rattle.snl_meaning.specs.Names.{Here}
 use Rattle.snl_meaning.specs.Scenes.{Callable, Scene}
 use Rattle.snl_meaning.specs.Ran.{Ran, Gives, Faults, also, then_do}
-use Rattle.snl_meaning.specs.Words.{operated, operated_prefix, subscript, stored, adjusted, fitted, put_to, put_element, waited, spent_of, spent, bound, called_with}
-use Rattle.snl_meaning.specs.Asking.{asked, ask_variable, ask_element}
+use Rattle.snl_meaning.specs.Words.{operated, operated_prefix, subscript, stored, adjusted, fitted, put_element, waited, spent_of, spent, bound, called_with}
+use Rattle.snl_meaning.specs.Asking.{asked, ask_element}
 use Rattle.snl_meaning.specs.World.{World}
 use Rattle.snl_meaning.proofs.EffectKeeps as effects
 use Rattle.snl_meaning.proofs.WordKeeps as words
@@ -126,10 +126,6 @@ keeps-adjusted set v op op_line line is_before k =
     few (adjusted set v op op_line line is_before k) (words.keeps-adjusted set Any NoMore (ticks-kept set) v op op_line line is_before k tt)
 
 -- `pvPut`
-pub keeps-put_to : (async : Bool) (set : ℕ) (v : Variable) → Keeps (put_to async set v)
-keeps-put_to async set v = few (put_to async set v) (words.keeps-put_to set Any NoMore (ticks-kept set) async v)
-
--- the same of an element
 pub keeps-put_element : (async : Bool) (set : ℕ) (v : Variable) (k : ℤ) → Keeps (put_element async set v k)
 keeps-put_element async set v k = few (put_element async set v k) (words.keeps-put_element set Any NoMore (ticks-kept set) async v k)
 
@@ -137,11 +133,7 @@ keeps-put_element async set v k = few (put_element async set v k) (words.keeps-p
 pub keeps-asked : (query : Query) (flag : ℕ) → Keeps (asked query flag)
 keeps-asked query flag = few (asked query flag) (words.keeps-asked 0 Any NoMore (ticks-kept 0) query flag)
 
--- of the link of a variable
-pub keeps-ask_variable : (query : Query) (set : ℕ) (v : Variable) → Keeps (ask_variable query set v)
-keeps-ask_variable query set v = few (ask_variable query set v) (words.keeps-ask_variable set Any NoMore (ticks-kept set) query v)
-
--- of that of an element
+-- of the link of an element
 pub keeps-ask_element : (query : Query) (set : ℕ) (v : Variable) (k : ℤ) → Keeps (ask_element query set v k)
 keeps-ask_element query set v k = few (ask_element query set v k) (words.keeps-ask_element set Any NoMore (ticks-kept set) query v k)
 

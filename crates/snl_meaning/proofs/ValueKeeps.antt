@@ -12,13 +12,13 @@ use Rattle.snl_meaning.specs.Names.{Varies, variable_at, variable_by, sense_by, 
 use Rattle.snl_meaning.specs.Ran.{Ran}
 use Rattle.snl_resolve.specs.Builtins.{builtin_of}
 use Rattle.snl_resolve.specs.declared.builtins.Query.{Query}
-use Rattle.snl_meaning.specs.Value.{OnVariable, OnElement, joint_of, compound_of, sign_of, is_decimal, joined_by, either, value_of, chained, at_target, print_of, printing_with, calling, if_callable, wait_of, put_of, ask_flag, ask_of}
+use Rattle.snl_meaning.specs.Value.{OnTarget, joint_of, compound_of, sign_of, is_decimal, joined_by, either, value_of, chained, at_target, print_of, printing_with, calling, if_callable, wait_of, put_of, ask_flag, ask_of}
 use Rattle.snl_resolve.specs.Calls.{has_async}
 use Rattle.snl_meaning.specs.Scenes.{Callable, Scene, callee_named}
 use Rattle.snl_meaning.specs.Words.{gives, is_subscript, read}
 use Rattle.snl_meaning.specs.World.{World}
 use Rattle.snl_meaning.specs.Keeping.{IsKept, MayStore}
-use Rattle.snl_meaning.proofs.WordKeeps.{Keeps, KeepsOn, CallKeeps, CallsKeep, keeps-then, keeps-here, keeps-read, keeps-adjusted, keeps-joined, keeps-put, keeps-at_subscript, keeps-at_name, keeps-named, keeps-signed, keeps-called, keeps-named_call, keeps-performed, keeps-put_to, keeps-put_element, keeps-asked, keeps-ask_variable, keeps-ask_element, keeps-waited, after-test}
+use Rattle.snl_meaning.proofs.WordKeeps.{Keeps, KeepsOn, CallKeeps, CallsKeep, keeps-then, keeps-here, keeps-read, keeps-adjusted, keeps-joined, keeps-put, keeps-at_subscript, keeps-at_name, keeps-named, keeps-signed, keeps-called, keeps-named_call, keeps-performed, keeps-put_element, keeps-asked, keeps-ask_element, keeps-waited, after-test}
 
 -- what a name means is a variable of the copy
 pub sense-held : (m : Scene) (o : Option Pos) (number : Option ℤ) (v : Variable) → sense_by (variable_by m.here o) number ≡ Varies v → (offset : ℕ) × (variable_at m.here offset ≡ Some v)
@@ -68,19 +68,19 @@ module _ (m : Scene) (May : Variable → ℤ → Type 0) (R : World → World �
         (keeps-named_call m.set May R kept m.callees f.text.now (λ c. calling m c f.pos.line all []) calls (λ c keeps. calling-keeps c f.pos.line all [] keeps)) w
     value-keeps (postfix e op) w =
         keeps-signed m.set May R kept (sign_of op.kind) _ (value_of m e) op.pos.line
-        (λ by. target-keeps e _ _ (gives (pos 0)) (λ v x ok. keeps-adjusted m.set May R kept v by op.pos.line x.pos.line true (pos 0) ok)
-        (λ v x k ok. keeps-adjusted m.set May R kept v by op.pos.line x.pos.line true k ok) (keeps-here m.set May R kept (pos 0))) (value-keeps e) w
+        (λ by. target-keeps e _ (gives (pos 0)) (λ v k x ok. keeps-adjusted m.set May R kept v by op.pos.line x.pos.line true k ok)
+        (keeps-here m.set May R kept (pos 0))) (value-keeps e) w
     value-keeps (prefix op e) w =
         keeps-signed m.set May R kept (sign_of op.kind) _ (value_of m e) op.pos.line
-        (λ by. target-keeps e _ _ (gives (pos 0)) (λ v x ok. keeps-adjusted m.set May R kept v by op.pos.line x.pos.line false (pos 0) ok)
-        (λ v x k ok. keeps-adjusted m.set May R kept v by op.pos.line x.pos.line false k ok) (keeps-here m.set May R kept (pos 0))) (value-keeps e) w
+        (λ by. target-keeps e _ (gives (pos 0)) (λ v k x ok. keeps-adjusted m.set May R kept v by op.pos.line x.pos.line false k ok)
+        (keeps-here m.set May R kept (pos 0))) (value-keeps e) w
     value-keeps (chain e rest) w = keeps-then m.set May R kept (value_of m e) (chained m rest) (value-keeps e) (chain-keeps rest) w
     value-keeps (conditional c a b) w =
         keeps-then m.set May R kept (value_of m c) (either (value_of m a) (value_of m b)) (value-keeps c)
         (λ z u. after-test (R u) (is_zero z) _ _ (value-keeps b u) (value-keeps a u)) w
     value-keeps (assignment e op r) w =
-        target-keeps e _ _ (value_of m r) (λ v x ok. keeps-put m.set May R kept (compound_of op.kind) op.pos.line (value_of m r) v x.pos.line (value-keeps r) (pos 0) ok)
-        (λ v x k ok. keeps-put m.set May R kept (compound_of op.kind) op.pos.line (value_of m r) v x.pos.line (value-keeps r) k ok) (value-keeps r) w
+        target-keeps e _ (value_of m r) (λ v k x ok. keeps-put m.set May R kept (compound_of op.kind) op.pos.line (value_of m r) v x.pos.line (value-keeps r) k ok)
+        (value-keeps r) w
 
     -- operators and operands of one level
     chain-keeps : (ts : TermList) → KeepsOn R (chained m ts)
@@ -90,20 +90,20 @@ module _ (m : Scene) (May : Variable → ℤ → Type 0) (R : World → World �
         (keeps-joined m.set May R kept (joint_of op.kind) op.pos.line (value_of m e) (value-keeps e) x) (chain-keeps rest) w
 
     -- what is done at a target
-    target-keeps : (e : ExprTree) (alone : OnVariable) (indexed : OnElement) (other : World → Ran ℤ) → ((v : Variable) (x : Token) → May v (pos 0) → Keeps R (alone v x)) →
-        ((v : Variable) (x : Token) (k : ℤ) → May v k → Keeps R (indexed v x k)) → Keeps R other → Keeps R (at_target m e alone indexed other)
-    target-keeps (parenthesized e) alone indexed other a i o = target-keeps e alone indexed other a i o
-    target-keeps (named x) alone indexed other a i o = keeps-at_name m.set May R kept (sense_of m.here x) x alone other (λ v is. a v x (may-first x v is)) o
-    target-keeps (element x b e) alone indexed other a i o =
+    target-keeps : (e : ExprTree) (go : OnTarget) (other : World → Ran ℤ) → ((v : Variable) (k : ℤ) (x : Token) → May v k → Keeps R (go v k x)) → Keeps R other →
+        Keeps R (at_target m e go other)
+    target-keeps (parenthesized e) go other h o = target-keeps e go other h o
+    target-keeps (named x) go other h o = keeps-at_name m.set May R kept (sense_of m.here x) x go other (λ v is. h v (pos 0) x (may-first x v is)) o
+    target-keeps (element x b e) go other h o =
         keeps-then m.set May R kept (value_of m e) _ (value-keeps e)
-        (keeps-at_subscript m.set May R kept (sense_of m.here x) b.pos.line (λ v. indexed v x) other (λ v k is within. i v x k (may-element x v k is within)) o)
-    target-keeps (constant t) alone indexed other a i o = o
-    target-keeps (call f all) alone indexed other a i o = o
-    target-keeps (postfix e op) alone indexed other a i o = o
-    target-keeps (prefix op e) alone indexed other a i o = o
-    target-keeps (chain e rest) alone indexed other a i o = o
-    target-keeps (conditional b c e) alone indexed other a i o = o
-    target-keeps (assignment e op r) alone indexed other a i o = o
+        (keeps-at_subscript m.set May R kept (sense_of m.here x) b.pos.line (λ v k. go v k x) other (λ v k is within. h v k x (may-element x v k is within)) o)
+    target-keeps (constant t) go other h o = o
+    target-keeps (call f all) go other h o = o
+    target-keeps (postfix e op) go other h o = o
+    target-keeps (prefix op e) go other h o = o
+    target-keeps (chain e rest) go other h o = o
+    target-keeps (conditional b c e) go other h o = o
+    target-keeps (assignment e op r) go other h o = o
 
     -- `printf`
     print-keeps : (all : ArgumentList) → Keeps R (print_of m all)
@@ -135,13 +135,11 @@ module _ (m : Scene) (May : Variable → ℤ → Type 0) (R : World → World �
     put-keeps no_arguments w = kept.nothing w
     put-keeps (text t rest) w = kept.nothing w
     put-keeps (value e rest) w =
-        target-keeps e _ _ (gives (pos 0)) (λ v x ok. keeps-put_to m.set May R kept (has_async rest) v)
-        (λ v x k ok. keeps-put_element m.set May R kept (has_async rest) v k) (keeps-here m.set May R kept (pos 0)) w
+        target-keeps e _ (gives (pos 0)) (λ v k x ok. keeps-put_element m.set May R kept (has_async rest) v k) (keeps-here m.set May R kept (pos 0)) w
 
     -- a call that asks
     ask-keeps : (all : ArgumentList) (query : Query) → Keeps R (ask_of m all query)
     ask-keeps no_arguments query w = keeps-asked m.set May R kept query 0 w
     ask-keeps (text t rest) query w = kept.nothing w
     ask-keeps (value e rest) query w =
-        target-keeps e _ _ (ask_flag m e query) (λ v x ok. keeps-ask_variable m.set May R kept query v)
-        (λ v x k ok. keeps-ask_element m.set May R kept query v k) (flag-keeps e query) w
+        target-keeps e _ (ask_flag m e query) (λ v k x ok. keeps-ask_element m.set May R kept query v k) (flag-keeps e query) w

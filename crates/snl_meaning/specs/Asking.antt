@@ -1,13 +1,13 @@
 -- What calls ask and tell of event flags, of links, and of how many links there are.
-use Rattle.std.specs.Prelude.{ℕ, ℤ, pos, negsuc, ◌&&◌, Bool, true, false, not, List, [], ◌∷◌, Option, None, Some, is_some, count_by, slice_get, slice_index_or, if◌then◌else◌}
+use Rattle.std.specs.Prelude.{ℕ, ℤ, pos, negsuc, ◌&&◌, Bool, true, false, not, List, [], ◌∷◌, Option, None, Some, is_some, count_by, slice_index_or, if◌then◌else◌}
 use Rattle.snl_arithmetic.specs.Arithmetic.{truth}
 use Rattle.snl_resolve.specs.declared.builtins.Query.{Query}
 use Rattle.snl_resolve.specs.declared.builtins.Query.TheVariants.{EfClear, EfSet, EfTest, EfTestAndClear, PvChannelCount, PvConnectCount, PvConnected, PvFlushQ, PvGet, PvGetQ, PvPutComplete}
 use Rattle.snl_meaning.specs.declared.instrs.Variable.{Variable}
 use Rattle.snl_meaning.specs.declared.ties.Tied.{Tied}
-use Rattle.snl_meaning.specs.Links.{link_at, with_elements, buffer_of, queue_of, with_items, unflagged}
+use Rattle.snl_meaning.specs.Links.{with_elements, buffer_of, queue_of, with_items, unflagged}
 use Rattle.snl_meaning.specs.Ran.{Ran, Gives}
-use Rattle.snl_meaning.specs.Words.{natural, place_of}
+use Rattle.snl_meaning.specs.Words.{at_link, natural, element_place}
 use Rattle.snl_meaning.specs.World.{World, is_set, is_waiting, with_flag}
 
 -- ---- channels
@@ -81,24 +81,10 @@ abbrev pub unlinked : Query → ℤ
 unlinked PvGet = negsuc 0
 unlinked _ = pos 0
 
--- The same by what never changes of the link,
-abbrev pub asked_by_tie : Query → (set place link : ℕ) → Option Tied → World → Ran ℤ
-asked_by_tie query set place link None w = Gives (unlinked query) w []
-asked_by_tie query set place link (Some t) w = asked_of query set place link t w
-
--- by the link's number,
-abbrev pub asked_by_number : Query → (set place : ℕ) → Option ℕ → World → Ran ℤ
-asked_by_number query set place None w = Gives (unlinked query) w []
-asked_by_number query set place (Some link) w = asked_by_tie query set place link (slice_get w.ties link) w
-
--- and by the link that begins at a word of a copy.
+-- What a call asks or tells by the link that begins at a word of a copy.
 abbrev pub ask_word : Query → (set place : ℕ) → World → Ran ℤ
-ask_word query set place w = asked_by_number query set place (link_at set place w) w
+ask_word query set place w = at_link (unlinked query) (asked_of query set place) set place w
 
--- What is asked or told of a variable, by the link that begins where its words do,
-abbrev pub ask_variable : Query → ℕ → Variable → World → Ran ℤ
-ask_variable query set v w = ask_word query set v.place w
-
--- and of an element, by a subscript that was checked.
+-- The same by the link that begins at an element, by a subscript that was checked.
 abbrev pub ask_element : Query → ℕ → Variable → ℤ → World → Ran ℤ
-ask_element query set v k w = ask_word query set (place_of v (natural k)) w
+ask_element query set v k w = ask_word query set (element_place v (natural k)) w

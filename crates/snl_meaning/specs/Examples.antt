@@ -15,7 +15,7 @@ use Rattle.snl_meaning.specs.declared.faults.Fault.TheVariants.{OutOfRange, Does
 use Rattle.snl_meaning.specs.declared.live.Live.TheVariants.{Running}
 use Rattle.snl_meaning.specs.declared.ties.Tied.{Tied}
 use Rattle.snl_meaning.specs.Effect.{Done, Left, effect_of}
-use Rattle.snl_resolve.specs.Variables.{Held}
+use Rattle.snl_resolve.specs.Variables.{CopyVariable}
 use Rattle.snl_meaning.specs.Names.{Here, Piece, variable_in, placed_from}
 use Rattle.snl_meaning.specs.Printing.{print_line, put_line}
 use Rattle.snl_meaning.specs.Ran.{Gives, Faults}
@@ -190,7 +190,7 @@ StatementExamples =
 -- ---- places
 
 -- `int x[3]`, or `int y`
-abbrev pub held_of : Token → Size → Held
+abbrev pub held_of : Token → Size → CopyVariable
 held_of t size = record { name = t; range = (pos 0, pos 9); size = size; initial = None }
 
 -- The words of two variables stand one after another.

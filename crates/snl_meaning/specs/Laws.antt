@@ -5,11 +5,11 @@ use Rattle.snl_syntax.specs.Declarations.{DeclaratorTree, DeclarationTree}
 use Rattle.snl_syntax.specs.Statements.{StatementTree, StatementList, block}
 use Rattle.snl_meaning.specs.Effect.{held_by, evaluated, turns, looped, effect_of, variable_for, names_of, block_effect}
 use Rattle.snl_resolve.specs.Scopes.{elements}
-use Rattle.snl_resolve.specs.Variables.{Held}
+use Rattle.snl_resolve.specs.Variables.{CopyVariable}
 use Rattle.snl_meaning.specs.Functions.{Routine, IsBelow, callable_of}
 use Rattle.snl_meaning.specs.declared.instrs.Variable.{Variable}
 use Rattle.snl_meaning.specs.declared.names.Placed.{Placed}
-use Rattle.snl_meaning.specs.Names.{text_number, text_of, placed_from, placed_shared}
+use Rattle.snl_meaning.specs.Names.{text_number, format_text, placed_from, placed_shared}
 use Rattle.snl_meaning.specs.Scenes.{Callable, Scene}
 use Rattle.snl_meaning.specs.Value.{performed}
 use Rattle.snl_meaning.specs.World.{World, with_element}
@@ -22,31 +22,31 @@ TurnsAreEnough = (rs : List Routine) (m : Scene) (line : ℕ) (condition step : 
 -- A text among some is found by its number.
 abbrev pub TextsAreFound : Type 0
 TextsAreFound = (before after : List (List ℕ)) (text : List ℕ) →
-    text_of (before ++ text ∷ after) (text_number (before ++ text ∷ after) text) ≡ text
+    format_text (before ++ text ∷ after) (text_number (before ++ text ∷ after) text) ≡ text
 
 -- How many words some variables have.
-abbrev pub words_of : List Held → ℕ
+abbrev pub words_of : List CopyVariable → ℕ
 words_of [] = 0
 words_of (v ∷ vs) = elements v.size + words_of vs
 
 -- No variable has a word outside its copy,
 abbrev pub VariablesLieWithin : Type 0
-VariablesLieWithin = (vs : List Held) (i : ℕ) (x : Placed) → words_of vs ≤ 2 ^ 64 - 1 → slice_get (placed_from 0 vs) i ≡ Some x →
+VariablesLieWithin = (vs : List CopyVariable) (i : ℕ) (x : Placed) → words_of vs ≤ 2 ^ 64 - 1 → slice_get (placed_from 0 vs) i ≡ Some x →
     x.variable.place + x.variable.size ≤ words_of vs
 
 -- and no two variables share a word: the words of the later one begin after those of the earlier one.
 abbrev pub VariablesAreApart : Type 0
-VariablesAreApart = (vs : List Held) (i j : ℕ) (x y : Placed) → words_of vs ≤ 2 ^ 64 - 1 → i < j →
+VariablesAreApart = (vs : List CopyVariable) (i j : ℕ) (x y : Placed) → words_of vs ≤ 2 ^ 64 - 1 → i < j →
     slice_get (placed_from 0 vs) i ≡ Some x → slice_get (placed_from 0 vs) j ≡ Some y → x.variable.place + x.variable.size ≤ y.variable.place
 
 -- A variable of a function stands among the words that all state sets share, and none has one outside of them,
 abbrev pub SharedLieWithin : Type 0
-SharedLieWithin = (vs : List Held) (i : ℕ) (x : Placed) → words_of vs ≤ 2 ^ 64 - 1 → slice_get (placed_shared 0 vs) i ≡ Some x →
+SharedLieWithin = (vs : List CopyVariable) (i : ℕ) (x : Placed) → words_of vs ≤ 2 ^ 64 - 1 → slice_get (placed_shared 0 vs) i ≡ Some x →
     (x.variable.is_shared ≡ true) × (x.variable.place + x.variable.size ≤ words_of vs)
 
 -- and no two of them share a word.
 abbrev pub SharedAreApart : Type 0
-SharedAreApart = (vs : List Held) (i j : ℕ) (x y : Placed) → words_of vs ≤ 2 ^ 64 - 1 → i < j →
+SharedAreApart = (vs : List CopyVariable) (i j : ℕ) (x y : Placed) → words_of vs ≤ 2 ^ 64 - 1 → i < j →
     slice_get (placed_shared 0 vs) i ≡ Some x → slice_get (placed_shared 0 vs) j ≡ Some y → x.variable.place + x.variable.size ≤ y.variable.place
 
 -- A block forgets what its variables were: with another number in an element of one of them, it does the same.

@@ -9,7 +9,7 @@ use Rattle.snl_resolve.specs.Constants.{predefined}
 use Rattle.snl_resolve.specs.Numbered.{number_of}
 use Rattle.snl_resolve.specs.Scopes.{elements}
 use Rattle.snl_resolve.specs.Uses.{declared_in}
-use Rattle.snl_resolve.specs.Variables.{Held}
+use Rattle.snl_resolve.specs.Variables.{CopyVariable}
 use Rattle.snl_meaning.specs.declared.instrs.Variable.{Variable}
 use Rattle.snl_meaning.specs.declared.names.Placed.{Placed}
 pub use Rattle.snl_meaning.specs.declared.names.Sense.{Sense}
@@ -39,24 +39,24 @@ pub record Here : Type 0 where
   pub functions : List Token
 
 -- A variable whose words begin at a place of the copy.
-abbrev pub variable_from : ℕ → Held → Variable
+abbrev pub variable_from : ℕ → CopyVariable → Variable
 variable_from at v = record { place = at; size = elements v.size; least = v.range.0; greatest = v.range.1; is_shared = false }
 
 -- Where the words of the next variable begin. No program that the rules accept has as many words as 2^64 - 1.
-abbrev pub behind : ℕ → Held → ℕ
+abbrev pub behind : ℕ → CopyVariable → ℕ
 behind at v = min (at + elements v.size) (2 ^ 64 - 1)
 
 -- The same of a variable of a function, which all state sets share.
-abbrev pub shared_from : ℕ → Held → Variable
+abbrev pub shared_from : ℕ → CopyVariable → Variable
 shared_from at v = record (variable_from at v) { is_shared = true }
 
 -- Variables whose words stand one after another from a place on, each with the offset of its declaration.
-abbrev pub placed_from : ℕ → List Held → List Placed
+abbrev pub placed_from : ℕ → List CopyVariable → List Placed
 placed_from at [] = []
 placed_from at (v ∷ vs) = record { offset = v.name.pos.offset; variable = variable_from at v } ∷ placed_from (behind at v) vs
 
 -- The same of variables of functions, among the words that all state sets share.
-abbrev pub placed_shared : ℕ → List Held → List Placed
+abbrev pub placed_shared : ℕ → List CopyVariable → List Placed
 placed_shared at [] = []
 placed_shared at (v ∷ vs) = record { offset = v.name.pos.offset; variable = shared_from at v } ∷ placed_shared (behind at v) vs
 
@@ -158,8 +158,8 @@ text_number [] text = 0
 text_number (t ∷ ts) text = if bytes_eq t text then 0 else suc (text_number ts text)
 
 -- The text of a number; none where there is no such number.
-abbrev pub text_of : List (List ℕ) → ℕ → List ℕ
-text_of texts n = slice_index_or texts n []
+abbrev pub format_text : List (List ℕ) → ℕ → List ℕ
+format_text texts n = slice_index_or texts n []
 
 -- The number of a string among those of the program.
 abbrev pub format_number : Here → Token → ℕ

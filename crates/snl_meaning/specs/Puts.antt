@@ -3,7 +3,7 @@ use Rattle.std.specs.Prelude.{◌≡◌, ℕ, ℤ, Bool, true, false, List, [], 
 use Rattle.snl_meaning.specs.declared.instrs.Variable.{Variable}
 use Rattle.snl_meaning.specs.declared.ties.Tied.{Tied}
 use Rattle.snl_meaning.specs.Ran.{Ran, Gives, Faults}
-use Rattle.snl_meaning.specs.Words.{put_by, put_to, put_element}
+use Rattle.snl_meaning.specs.Words.{put_by, put_element}
 use Rattle.snl_meaning.specs.World.{World, is_waiting}
 
 -- What came out, with other links that wait.
@@ -14,8 +14,7 @@ remarked marks (Faults fault line w text) = Faults fault line (record w { waitin
 -- A plain put neither asks which links wait nor changes that.
 abbrev pub PlainPutsKnowNoMarks : Type 0
 PlainPutsKnowNoMarks = (set : ℕ) (v : Variable) (k : ℤ) (marks : List Bool) (w : World) →
-    (put_to false set v (record w { waiting = marks }) ≡ remarked marks (put_to false set v w))
-    × (put_element false set v k (record w { waiting = marks }) ≡ remarked marks (put_element false set v k w))
+    put_element false set v k (record w { waiting = marks }) ≡ remarked marks (put_element false set v k w)
 
 -- While its link waits, a put with `ASYNC` to a channel writes nothing and changes nothing.
 abbrev pub WaitingPutsNothing : Type 0

@@ -15,14 +15,14 @@ use Rattle.snl_resolve.specs.declared.builtins.Query.{Query}
 use Rattle.snl_resolve.specs.Builtins.{builtin_of}
 pub use Rattle.snl_meaning.specs.declared.operators.Joint.{Joint}
 pub use Rattle.snl_meaning.specs.declared.operators.Joint.TheVariants.{And, Or, Sequel, Operation}
-pub use Rattle.snl_meaning.specs.declared.operators.Sign.{Sign}
-pub use Rattle.snl_meaning.specs.declared.operators.Sign.TheVariants.{Steps, Alone}
-use Rattle.snl_meaning.specs.Names.{Sense, Varies, Stands, sense_of, flag_number, formats_of, format_number, text_of}
+pub use Rattle.snl_meaning.specs.declared.operators.Unary.{Unary}
+pub use Rattle.snl_meaning.specs.declared.operators.Unary.TheVariants.{ByOne, OfValue}
+use Rattle.snl_meaning.specs.Names.{Sense, Varies, Stands, sense_of, flag_number, formats_of, format_number, format_text}
 use Rattle.snl_meaning.specs.Ran.{Ran, Gives, then_do}
 use Rattle.snl_meaning.specs.Scenes.{Callable, Scene, callee_named}
 use Rattle.snl_resolve.specs.Calls.{has_async}
-use Rattle.snl_meaning.specs.Asking.{asked, ask_variable, ask_element}
-use Rattle.snl_meaning.specs.Words.{called_with, gives, operated, operated_prefix, settled, subscript, read, stored, adjusted, printed, put_to, put_element, waited}
+use Rattle.snl_meaning.specs.Asking.{asked, ask_element}
+use Rattle.snl_meaning.specs.Words.{called_with, gives, operated, operated_prefix, settled, subscript, read, stored, adjusted, printed, put_element, waited}
 use Rattle.snl_meaning.specs.World.{World}
 
 -- ---- constants
@@ -84,15 +84,15 @@ compound_of kind.GreaterGreaterEqual = Some kind.GreaterGreater
 compound_of _ = None
 
 -- A sign before or after an operand: `++` and `--` add 1 or take 1 away; all others make a number of a number.
-abbrev pub sign_of : Kind → Sign
-sign_of kind.PlusPlus = Steps kind.Plus
-sign_of kind.MinusMinus = Steps kind.Minus
-sign_of op = Alone op
+abbrev pub sign_of : Kind → Unary
+sign_of kind.PlusPlus = ByOne kind.Plus
+sign_of kind.MinusMinus = ByOne kind.Minus
+sign_of op = OfValue op
 
 -- A sign with its operand.
-abbrev pub signed : Sign → (Kind → World → Ran ℤ) → (World → Ran ℤ) → ℕ → World → Ran ℤ
-signed (Steps op) stepping operand line w = stepping op w
-signed (Alone op) stepping operand line w = then_do (operand w) (operated_prefix op line)
+abbrev pub signed : Unary → (Kind → World → Ran ℤ) → (World → Ran ℤ) → ℕ → World → Ran ℤ
+signed (ByOne op) stepping operand line w = stepping op w
+signed (OfValue op) stepping operand line w = then_do (operand w) (operated_prefix op line)
 
 -- ---- variables
 
@@ -106,18 +106,14 @@ abbrev pub at_subscript : Sense → ℕ → (Variable → ℤ → World → Ran 
 at_subscript (Varies v) line go other k w = then_do (subscript v line k w) (go v)
 at_subscript (Stands z) line go other k w = other w
 
--- What is done to a variable, or to an element by its subscript; with the use of its name.
-abbrev pub OnVariable : Type 0
-OnVariable = Variable → Token → World → Ran ℤ
+-- What is done at a target: a variable, the subscript of an element, the use of the name. A name alone is the first element.
+abbrev pub OnTarget : Type 0
+OnTarget = Variable → ℤ → Token → World → Ran ℤ
 
--- The same of an element, by its subscript.
-abbrev pub OnElement : Type 0
-OnElement = Variable → Token → ℤ → World → Ran ℤ
-
--- What is done to a name, or for a name that is no variable something else.
-abbrev pub at_name : Sense → Token → OnVariable → (World → Ran ℤ) → World → Ran ℤ
-at_name (Varies v) x alone other w = alone v x w
-at_name (Stands z) x alone other w = other w
+-- What is done at a name, or for a name that is no variable something else.
+abbrev pub at_name : Sense → Token → OnTarget → (World → Ran ℤ) → World → Ran ℤ
+at_name (Varies v) x go other w = go v (pos 0) x w
+at_name (Stands z) x go other w = other w
 
 -- The number that an assignment stores: its right side, or with an operator what that makes of the old value, which
 -- is read first, and the right side.
@@ -162,7 +158,7 @@ is_decimal _ = false
 
 -- `printf` with its numbers.
 abbrev pub printing : Scene → ℕ → List ℤ → World → Ran ℤ
-printing m format taken w = printed m.set_name (text_of (formats_of m.here) format) taken w
+printing m format taken w = printed m.set_name (format_text (formats_of m.here) format) taken w
 
 -- ---- expressions
 
@@ -177,16 +173,15 @@ abbrev mutual
       called (builtin_of f.text.now) (print_of m all) (wait_of m all) (put_of m all) (ask_of m all)
       (if_callable (callee_named m.callees f.text.now) (λ c. calling m c f.pos.line all [])) w
   value_of m (postfix e op) w =
-      signed (sign_of op.kind) (λ by. at_target m e (λ v x. adjusted m.set v by op.pos.line x.pos.line true (pos 0))
-      (λ v x. adjusted m.set v by op.pos.line x.pos.line true) (gives (pos 0))) (value_of m e) op.pos.line w
+      signed (sign_of op.kind) (λ by. at_target m e (λ v k x. adjusted m.set v by op.pos.line x.pos.line true k) (gives (pos 0)))
+      (value_of m e) op.pos.line w
   value_of m (prefix op e) w =
-      signed (sign_of op.kind) (λ by. at_target m e (λ v x. adjusted m.set v by op.pos.line x.pos.line false (pos 0))
-      (λ v x. adjusted m.set v by op.pos.line x.pos.line false) (gives (pos 0))) (value_of m e) op.pos.line w
+      signed (sign_of op.kind) (λ by. at_target m e (λ v k x. adjusted m.set v by op.pos.line x.pos.line false k) (gives (pos 0)))
+      (value_of m e) op.pos.line w
   value_of m (chain e rest) w = then_do (value_of m e w) (chained m rest)
   value_of m (conditional c a b) w = then_do (value_of m c w) (either (value_of m a) (value_of m b))
   value_of m (assignment e op r) w =
-      at_target m e (λ v x. put_at (compound_of op.kind) op.pos.line (value_of m r) m.set v x.pos.line (pos 0))
-      (λ v x. put_at (compound_of op.kind) op.pos.line (value_of m r) m.set v x.pos.line) (value_of m r) w
+      at_target m e (λ v k x. put_at (compound_of op.kind) op.pos.line (value_of m r) m.set v x.pos.line k) (value_of m r) w
 
   -- the operators and operands of one level, after what stands left of them
   pub chained : Scene → TermList → ℤ → World → Ran ℤ
@@ -195,12 +190,11 @@ abbrev mutual
 
   -- what is done at a target, which may stand in parentheses and whose subscript comes first; where an expression is
   -- no target, something else
-  pub at_target : Scene → ExprTree → OnVariable → OnElement → (World → Ran ℤ) → World → Ran ℤ
-  at_target m (parenthesized e) alone indexed other w = at_target m e alone indexed other w
-  at_target m (named x) alone indexed other w = at_name (sense_of m.here x) x alone other w
-  at_target m (element x b e) alone indexed other w =
-      then_do (value_of m e w) (at_subscript (sense_of m.here x) b.pos.line (λ v. indexed v x) other)
-  at_target m _ alone indexed other w = other w
+  pub at_target : Scene → ExprTree → OnTarget → (World → Ran ℤ) → World → Ran ℤ
+  at_target m (parenthesized e) go other w = at_target m e go other w
+  at_target m (named x) go other w = at_name (sense_of m.here x) x go other w
+  at_target m (element x b e) go other w = then_do (value_of m e w) (at_subscript (sense_of m.here x) b.pos.line (λ v k. go v k x) other)
+  at_target m _ go other w = other w
 
   -- `printf` with its arguments
   pub print_of : Scene → ArgumentList → World → Ran ℤ
@@ -226,13 +220,12 @@ abbrev mutual
 
   -- `pvPut` with its argument, and perhaps `ASYNC`. The subscript of an element comes first, and is checked.
   pub put_of : Scene → ArgumentList → World → Ran ℤ
-  put_of m (value e rest) w = at_target m e (λ v x. put_to (has_async rest) m.set v) (λ v x. put_element (has_async rest) m.set v) (gives (pos 0)) w
+  put_of m (value e rest) w = at_target m e (λ v k x. put_element (has_async rest) m.set v k) (gives (pos 0)) w
   put_of m _ w = Gives (pos 0) w []
 
   -- a call that asks: of the link of a variable or of an element, whose subscript comes first, or of an event flag; without an
   -- argument, of all links
   pub ask_of : Scene → ArgumentList → Query → World → Ran ℤ
   ask_of m no_arguments query w = asked query 0 w
-  ask_of m (value e rest) query w =
-      at_target m e (λ v x. ask_variable query m.set v) (λ v x. ask_element query m.set v) (ask_flag m e query) w
+  ask_of m (value e rest) query w = at_target m e (λ v k x. ask_element query m.set v k) (ask_flag m e query) w
   ask_of m (text t rest) query w = Gives (pos 0) w []

@@ -20,7 +20,7 @@ pub use instrs::{Instr, Variable};
 pub use live::Live;
 pub use names::{Known, Outline, Placed, Sense, Within};
 pub use offsets::Offsets;
-pub use operators::{Joint, Sign, compound_of, is_decimal, joint_of, sign_of};
+pub use operators::{Joint, Unary, compound_of, is_decimal, joint_of, sign_of};
 pub use places::Places;
 pub use sites::{Sites, flags_of};
 pub use ties::Tied;

@@ -1,14 +1,14 @@
 //! What the names in a piece of code mean.
 
 ghost use Rattle.std.specs.Prelude.{◌≡◌, ◌++◌, map, IfOk, OnOk};
-ghost use Rattle.snl_resolve.specs.Held.{held_view};
+ghost use Rattle.snl_resolve.specs.CopyVariables.{variable_view};
 ghost use Rattle.snl_meaning.specs.Names as spec;
 ghost use Rattle.snl_meaning.specs.Known.{here_of};
 
 use crate::instrs::Variable;
 use crate::places::Places;
 use crate::sites::Sites;
-use snl_resolve::{Held, Numbered, predefined};
+use snl_resolve::{CopyVariable, Numbered, predefined};
 use snl_text::Token;
 use std::alloc::{AllocError, Global};
 
@@ -65,8 +65,8 @@ pub struct Known<'s, 'a> {
     pub above: usize,
 }
 
-fn variable_from(place: usize, held: &Held) -> Variable
-    ensures { result ≡ spec.variable_from place (held_view held.now) }
+fn variable_from(place: usize, held: &CopyVariable) -> Variable
+    ensures { result ≡ spec.variable_from place (variable_view held.now) }
 {
     let (least, greatest) = held.range;
     Variable {
@@ -80,9 +80,9 @@ fn variable_from(place: usize, held: &Held) -> Variable
 
 /// The variables of a copy, each by its declaration; their words stand one after another. The only error is that
 /// memory ends.
-pub fn places_of(alloc: Global, variables: &[Held]) -> Result<Vec<Placed>, AllocError>
+pub fn places_of(alloc: Global, variables: &[CopyVariable]) -> Result<Vec<Placed>, AllocError>
     ensures { IfOk result (λ places. places.items
-        ≡ spec.placed_from 0 (map held_view variables.now)) }
+        ≡ spec.placed_from 0 (map variable_view variables.now)) }
 {
     let mut places = Vec::new(alloc);
     let mut place = 0usize;
@@ -98,8 +98,8 @@ pub fn places_of(alloc: Global, variables: &[Held]) -> Result<Vec<Placed>, Alloc
     Ok(places)
 }
 
-fn shared_from(place: usize, held: &Held) -> Variable
-    ensures { result ≡ spec.shared_from place (held_view held.now) }
+fn shared_from(place: usize, held: &CopyVariable) -> Variable
+    ensures { result ≡ spec.shared_from place (variable_view held.now) }
 {
     let (least, greatest) = held.range;
     Variable {
@@ -113,9 +113,9 @@ fn shared_from(place: usize, held: &Held) -> Variable
 
 /// Adds the variables of functions, each by its declaration; their words stand one after another among those that all state
 /// sets share. The only error is that memory ends.
-pub fn push_shared(variables: &[Held], places: &mut Vec<Placed>) -> Result<(), AllocError>
+pub fn push_shared(variables: &[CopyVariable], places: &mut Vec<Placed>) -> Result<(), AllocError>
     ensures { OnOk result (places.new.items ≡ places.old.items
-        ++ spec.placed_shared 0 (map held_view variables.now)) }
+        ++ spec.placed_shared 0 (map variable_view variables.now)) }
 {
     let mut place = 0usize;
     for number in 0..variables.len() {

@@ -22,11 +22,11 @@ pub enum Joint {
 
 /// What a sign before or after an operand does.
 #[derive(Clone, Copy)]
-pub enum Sign {
+pub enum Unary {
     /// `++` and `--`, as the sum or the difference with 1.
-    Steps(Kind),
+    ByOne(Kind),
     /// A prefix operator that makes a number of a number.
-    Alone(Kind),
+    OfValue(Kind),
 }
 
 /// How an operator of a chain joins its operand to what stands left of it.
@@ -61,13 +61,13 @@ pub fn compound_of(operator: Kind) -> Option<Kind>
 }
 
 /// What a sign before or after an operand does.
-pub fn sign_of(operator: Kind) -> Sign
+pub fn sign_of(operator: Kind) -> Unary
     ensures { result ≡ spec.sign_of operator }
 {
     match operator {
-        Kind::PlusPlus => Sign::Steps(Kind::Plus),
-        Kind::MinusMinus => Sign::Steps(Kind::Minus),
-        other => Sign::Alone(other),
+        Kind::PlusPlus => Unary::ByOne(Kind::Plus),
+        Kind::MinusMinus => Unary::ByOne(Kind::Minus),
+        other => Unary::OfValue(other),
     }
 }
 

@@ -1,13 +1,13 @@
 //! The variables of a copy, found by their declarations.
 
 ghost use Rattle.std.specs.Prelude.{◌≡◌, ◌++◌, map, IfOk};
-ghost use Rattle.snl_resolve.specs.Held.{held_view};
+ghost use Rattle.snl_resolve.specs.CopyVariables.{variable_view};
 ghost use Rattle.snl_meaning.specs.Names as spec;
 
 use crate::instrs::Variable;
 use crate::names::{Placed, places_of, push_shared};
 use crate::offsets::Offsets;
-use snl_resolve::Held;
+use snl_resolve::CopyVariable;
 use std::alloc::{AllocError, Global};
 use std::marker::Model;
 
@@ -52,9 +52,9 @@ fn declared_of(alloc: Global, all: &[Placed]) -> Result<Offsets, AllocError>
 
 impl Places {
     /// The variables of a copy; their words stand one after another. The only error is that memory ends.
-    pub fn of(alloc: Global, variables: &[Held]) -> Result<Places, AllocError>
+    pub fn of(alloc: Global, variables: &[CopyVariable]) -> Result<Places, AllocError>
         ensures { IfOk result (λ places. places
-            ≡ spec.placed_from 0 (map held_view variables.now)) }
+            ≡ spec.placed_from 0 (map variable_view variables.now)) }
     {
         let all = places_of(alloc, variables)?;
         let declared = declared_of(alloc, all.as_slice())?;
@@ -63,9 +63,13 @@ impl Places {
 
     /// The variables that the functions of a program may name: those that stand first in each copy, and those of functions. The
     /// only error is that memory ends.
-    pub fn of_functions(alloc: Global, own: &[Held], shared: &[Held]) -> Result<Places, AllocError>
-        ensures { IfOk result (λ places. places ≡ spec.placed_from 0 (map held_view own.now)
-            ++ spec.placed_shared 0 (map held_view shared.now)) }
+    pub fn of_functions(
+        alloc: Global,
+        own: &[CopyVariable],
+        shared: &[CopyVariable],
+    ) -> Result<Places, AllocError>
+        ensures { IfOk result (λ places. places ≡ spec.placed_from 0 (map variable_view own.now)
+            ++ spec.placed_shared 0 (map variable_view shared.now)) }
     {
         let mut all = places_of(alloc, own)?;
         push_shared(shared, &mut all)?;

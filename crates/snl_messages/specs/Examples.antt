@@ -11,7 +11,7 @@ use Rattle.snl_resolve.specs.declared.sites.Meaning.{Meaning}
 use Rattle.snl_resolve.specs.declared.sites.Meaning.TheVariants.{Number, Nothing}
 use Rattle.snl_resolve.specs.declared.sites.Purpose.TheVariants.{Read}
 use Rattle.snl_resolve.specs.declared.sites.Site.{Site}
-use Rattle.snl_resolve.specs.declared.sites.Site.TheVariants.{Declaration, Typed, Declarator, Defined, Setting, Use, Decimal, Call, Format, Change, Leave, Move, Target, Clause, State, StateSet, Function, Return}
+use Rattle.snl_resolve.specs.declared.sites.Site.TheVariants.{Declaration, Typed, Declarator, Defined, Setting, Use, Decimal, Call, Format, Change, LoopExit, StateChange, Target, Clause, State, StateSet, Function, Return}
 use Rattle.snl_resolve.specs.declared.sites.Site.TheVariants as Sites
 use Rattle.snl_resolve.specs.declared.sites.Size.TheVariants.{Scalar, TooLong, Wrong}
 use Rattle.snl_resolve.specs.declared.sites.Sort.TheVariants.{Assign, Sync}
@@ -90,8 +90,8 @@ LateErrors =
     × Says StateTwice (State (at 3 (codes "state")) (at 9 (codes "x")) true true) Error 24 (codes "state 'x' is defined twice") 9
     × Says StateSetTwice (StateSet (at 3 (codes "ss")) (at 6 (codes "x")) true) Error 24 (codes "state set 'x' is defined twice") 6
     × Says NoState (Target (at 7 (codes "x")) None true) Error 25 (codes "no state 'x' in this state set") 7
-    × Says StateElsewhere (Move (at 7 (codes "state")) false) Error 26 (codes "state statement not allowed here") 7
-    × Says OutsideLoop (Leave (at 7 (codes "continue")) false) Error 27 (codes "'continue' outside a loop") 7
+    × Says StateElsewhere (StateChange (at 7 (codes "state")) false) Error 26 (codes "state statement not allowed here") 7
+    × Says OutsideLoop (LoopExit (at 7 (codes "continue")) false) Error 27 (codes "'continue' outside a loop") 7
     × Says BadInitialiser (Declarator (at 7 (codes "x")) Scalar false) Error 28 (codes "bad initialiser for 'x'") 7
     × Says WrongArray (Declarator (at 7 (codes "x")) Wrong true) Error 29 (codes "wrong array use of 'x'") 7
     × Says NotAssignable (Change (at 7 (codes "++")) false) Error 30 (codes "not assignable") 7

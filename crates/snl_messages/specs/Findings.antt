@@ -3,14 +3,14 @@ use Rattle.std.specs.Prelude.{ℕ, List, [], ◌∷◌, ◌++◌, Option, None, 
 use Rattle.snl_text.specs.declared.tokens.Pos.{Pos}
 use Rattle.snl_text.specs.declared.tokens.Token.{Token}
 use Rattle.snl_resolve.specs.declared.sites.Site.{Site}
-use Rattle.snl_resolve.specs.declared.sites.Site.TheVariants.{Declaration, Typed, Declarator, Defined, QueueSize, Setting, Use, Decimal, Call, Format, Change, Leave, Move, Target, Clause, State, StateSet, Function, Return}
+use Rattle.snl_resolve.specs.declared.sites.Site.TheVariants.{Declaration, Typed, Declarator, Defined, QueueSize, Setting, Use, Decimal, Call, Format, Change, LoopExit, StateChange, Target, Clause, State, StateSet, Function, Return}
 use Rattle.snl_rules.specs.declared.rules.Broken.{Broken}
 use Rattle.snl_rules.specs.declared.rules.Rule.{Rule}
 use Rattle.snl_rules.specs.declared.rules.Rule.TheVariants.{TooManySets, TooManyStates, TooManyChannels}
 use Rattle.snl_messages.specs.declared.matters.Matter.{Matter}
 use Rattle.snl_messages.specs.declared.matters.Matter.TheVariants.{AtSite, TooManyWordsOfSet, EmbeddedC, Unreached}
 use Rattle.snl_messages.specs.Messages.{Said}
-use Rattle.snl_messages.specs.Wordings.{wording, text_of}
+use Rattle.snl_messages.specs.Wordings.{wording, wording_text}
 
 -- A message, with the rank of its limit.
 pub record Finding : Type 0 where
@@ -22,7 +22,7 @@ abbrev pub finding : Matter → Pos → List ℕ → Finding
 finding matter pos quote =
     record {
       rank = (wording matter).rank;
-      said = record { pos = pos; severity = (wording matter).severity; number = (wording matter).number; text = text_of (wording matter) quote };
+      said = record { pos = pos; severity = (wording matter).severity; number = (wording matter).number; text = wording_text (wording matter) quote };
     }
 
 -- ---- at a site
@@ -42,8 +42,8 @@ token_of (Function t taken) = t
 token_of (Return t may) = t
 token_of (Format t good) = t
 token_of (Change t good) = t
-token_of (Leave t in_loop) = t
-token_of (Move t in_clause) = t
+token_of (LoopExit t in_loop) = t
+token_of (StateChange t in_clause) = t
 token_of (Target t state may) = t
 token_of (Clause t blocked) = t
 token_of (State word t later clauses) = t
@@ -57,11 +57,11 @@ word_of (StateSet word t later) = word
 word_of s = token_of s
 
 -- Where a rule's message stands: the limits of state sets, states and channels at the first word, all others at the token.
-abbrev pub place_of : Rule → Site → Token
-place_of TooManySets s = word_of s
-place_of TooManyStates s = word_of s
-place_of TooManyChannels s = word_of s
-place_of rule s = token_of s
+abbrev pub marked_token : Rule → Site → Token
+marked_token TooManySets s = word_of s
+marked_token TooManyStates s = word_of s
+marked_token TooManyChannels s = word_of s
+marked_token rule s = token_of s
 
 -- The words of a type, with one space between them.
 abbrev pub words_of : Token → Option Token → List ℕ
@@ -81,7 +81,7 @@ quote_of s = (token_of s).text.now
 
 -- What a rule says at a site that breaks it.
 abbrev pub found_at : Rule → Site → Finding
-found_at rule s = finding (AtSite rule) (place_of rule s).pos (quote_of s)
+found_at rule s = finding (AtSite rule) (marked_token rule s).pos (quote_of s)
 
 -- Its message.
 abbrev pub said_at : Rule → Site → Said

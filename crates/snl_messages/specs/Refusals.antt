@@ -4,11 +4,11 @@ use Rattle.snl_messages.specs.declared.refusals.Refusal.{Refusal}
 use Rattle.snl_messages.specs.declared.refusals.Refusal.TheVariants.{Unexpected, EndOfFile, TooDeep, NoTokens}
 
 -- The number after E.
-abbrev pub number_of : Refusal → ℕ
-number_of Unexpected = 1
-number_of EndOfFile = 1
-number_of TooDeep = 2
-number_of NoTokens = 3
+abbrev pub refusal_number : Refusal → ℕ
+refusal_number Unexpected = 1
+refusal_number EndOfFile = 1
+refusal_number TooDeep = 2
+refusal_number NoTokens = 3
 
 -- The text, or what stands of it before a token that it quotes. A lexical fault tells its own.
 abbrev pub words_of : Refusal → List ℕ

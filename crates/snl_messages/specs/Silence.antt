@@ -1,22 +1,16 @@
 -- The options in force, and the messages that they let through.
-use Rattle.std.specs.Prelude.{ℕ, Bool, true, false, not, ◌&&◌, ◌||◌, ◌==◌, List, [], ◌∷◌, unwrap_or}
-use Rattle.snl_syntax.specs.Definitions.{DefinitionTree, setting}
+use Rattle.std.specs.Prelude.{ℕ, Bool, true, false, not, ◌&&◌, ◌||◌, ◌==◌, List, unwrap_or}
+use Rattle.snl_syntax.specs.Definitions.{DefinitionTree}
 use Rattle.snl_syntax.specs.Programs.{ProgramTree}
 use Rattle.snl_resolve.specs.declared.options.Options.{Options}
-use Rattle.snl_resolve.specs.Options.{is_on, after_option}
+use Rattle.snl_resolve.specs.Options.{last_sign, options_by, sign_by}
 use Rattle.snl_messages.specs.declared.messages.Severity.{Severity}
 use Rattle.snl_messages.specs.declared.messages.Severity.TheVariants.{Error, Warning}
 use Rattle.snl_messages.specs.Findings.{Finding}
 
--- Among definitions only options change what is in force.
-abbrev pub after_definition : Options → DefinitionTree → Options
-after_definition o (setting s) = after_option (is_on s) s.name.text.now o
-after_definition o d = o
-
--- Definitions count one after the other, so the last sign of each letter is in force.
+-- The options after some definitions: of each letter the last sign is in force.
 abbrev pub after_definitions : Options → List DefinitionTree → Options
-after_definitions o [] = o
-after_definitions o (d ∷ ds) = after_definitions (after_definition o d) ds
+after_definitions o ds = options_by (λ letter. last_sign (sign_by letter) ds) o
 
 -- The options of a program come after those that are given with it.
 abbrev pub options_in_force : ProgramTree → Options → Options

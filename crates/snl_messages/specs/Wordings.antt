@@ -88,8 +88,8 @@ wording NotSafe = plain_warning 1 (codes "not in safe mode, safe mode is used")
 wording Unreached = warning 2 (codes "state '") (codes "' cannot be reached")
 
 -- The text, with this quoted.
-abbrev pub text_of : Wording → List ℕ → List ℕ
-text_of w quote = if w.is_quoting then w.before ++ quote ++ w.after else w.before
+abbrev pub wording_text : Wording → List ℕ → List ℕ
+wording_text w quote = if w.is_quoting then w.before ++ quote ++ w.after else w.before
 
 -- Whether it is a warning.
 abbrev pub is_warning : Severity → Bool

@@ -1,7 +1,7 @@
 //! What messages are about, and how they are worded.
 
 ghost use Rattle.std.specs.Prelude.{◌≡◌, IfOk};
-ghost use Rattle.snl_messages.specs.Wordings.{wording, wording_of, text_of, is_warning};
+ghost use Rattle.snl_messages.specs.Wordings.{wording, wording_of, wording_text, is_warning};
 
 use snl_rules::Rule;
 use std::alloc::{AllocError, Global};
@@ -26,7 +26,7 @@ pub enum Matter {
 }
 
 /// The number of a rule's message.
-fn number_of(rule: Rule) -> u8
+fn rule_number(rule: Rule) -> u8
     ensures { result ≡ (wording_of rule).number }
 {
     match rule {
@@ -187,7 +187,7 @@ impl Matter {
         ensures { result ≡ (wording self).number }
     {
         match self {
-            Matter::AtSite(rule) => number_of(rule),
+            Matter::AtSite(rule) => rule_number(rule),
             Matter::TooManyTokens | Matter::TooManyWordsOfSet | Matter::TooManyWords => 4,
             Matter::EmbeddedC => 10,
             Matter::NotSafe => 1,
@@ -257,7 +257,7 @@ impl Matter {
 
     /// The text of its message, which may quote these bytes. Fails only where memory ends.
     pub fn text(self, alloc: Global, quote: &[u8]) -> Result<Vec<u8>, AllocError>
-        ensures { IfOk result (λ text. text.items ≡ text_of (wording self) quote.now) }
+        ensures { IfOk result (λ text. text.items ≡ wording_text (wording self) quote.now) }
     {
         let mut text = Vec::from_slice(alloc, self.before())?;
         if self.is_quoting() {

@@ -24,8 +24,8 @@ fn token_of<'a>(site: Site<'a>) -> Token<'a>
         | Site::State { name, .. }
         | Site::StateSet { name, .. } => name,
         Site::Typed { word, .. }
-        | Site::Leave { word, .. }
-        | Site::Move { word, .. }
+        | Site::LoopExit { word, .. }
+        | Site::StateChange { word, .. }
         | Site::Return { word, .. }
         | Site::Clause { word, .. } => word,
         Site::QueueSize { number, .. } | Site::Decimal { number, .. } => number,
@@ -45,8 +45,8 @@ fn word_of<'a>(site: Site<'a>) -> Token<'a>
 }
 
 /// The token at which a rule's message stands at a site.
-pub fn place_of<'a>(rule: Rule, site: Site<'a>) -> Token<'a>
-    ensures { result ≡ spec.place_of rule site.entry }
+pub fn marked_token<'a>(rule: Rule, site: Site<'a>) -> Token<'a>
+    ensures { result ≡ spec.marked_token rule site.entry }
 {
     match rule {
         Rule::TooManySets | Rule::TooManyStates | Rule::TooManyChannels => word_of(site),

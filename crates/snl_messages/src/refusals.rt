@@ -19,7 +19,7 @@ pub enum Refusal {
 impl Refusal {
     /// What stands after E.
     pub fn number(self) -> u8
-        ensures { result ≡ spec.number_of self }
+        ensures { result ≡ spec.refusal_number self }
     {
         match self {
             Refusal::Unexpected | Refusal::EndOfFile => 1,

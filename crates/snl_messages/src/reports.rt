@@ -3,6 +3,7 @@
 ghost use Rattle.std.specs.Prelude.{◌≡◌, ◌↔◌, ◌⊎◌, true, map, Contains, OnOk, IfOk};
 ghost use Rattle.snl_syntax.specs.view.Programs.{program_view};
 ghost use Rattle.snl_resolve.specs.Programs as spec;
+ghost use Rattle.snl_resolve.specs.UseTables.{IsTableOf};
 ghost use Rattle.snl_messages.specs.Findings.{Finding};
 ghost use Rattle.snl_messages.specs.Entries.{finding_in};
 ghost use Rattle.snl_messages.specs.Given.{IsGiven};
@@ -18,7 +19,7 @@ use crate::gathering::{
 use crate::messages::Message;
 use crate::ordering::in_order;
 use crate::silence::{options_in_force, silence};
-use snl_resolve::{Options, Site, sites_of};
+use snl_resolve::{Options, Site, UseTable, sites_of};
 use snl_rules::{Broken, broken_rules, is_overfull, overfull_sets, unreached};
 use snl_syntax::Program;
 use snl_text::Token;
@@ -88,16 +89,17 @@ fn note_limits(
 fn all_findings(
     alloc: Global,
     program: &Program,
+    sites: &[Site],
     options: Options,
 ) -> Result<Vec<Entry>, AllocError>
+    requires { sites.now ≡ spec.sites (program_view program.now) }
     ensures { IfOk result (λ entries. (f : Finding) → Contains (map finding_in entries.items) f
         ↔ IsFoundAtAll options (program_view program.now) program.now.embedded.items
         program.now.beyond f) }
 {
-    let sites = sites_of(alloc, program)?;
-    let mut entries = findings(alloc, program, sites.as_slice(), options)?;
+    let mut entries = findings(alloc, program, sites, options)?;
     if !has_error(entries.as_slice()) {
-        note_limits(alloc, program, sites.as_slice(), &mut entries)?;
+        note_limits(alloc, program, sites, &mut entries)?;
     }
     Ok(entries)
 }
@@ -118,21 +120,42 @@ fn given_in_order(
     Ok(messages)
 }
 
-/// All messages of a program, where these options are given with it: by place, at one place errors
-/// before warnings, and then by number; one for each place and number (SNL Reference; Compiling SNL
-/// Programs, "Options"). The only error is that memory ends.
-pub fn messages_of(
+/// All messages of a program that has these sites.
+fn messages_by(
     alloc: Global,
     program: &Program,
+    sites: &[Site],
     given: Options,
 ) -> Result<Vec<Message>, AllocError>
+    requires { sites.now ≡ spec.sites (program_view program.now) }
     ensures exactly { IfOk result (λ messages. (m : Said) → Contains (map said messages.items) m
         ↔ IsSaid given (program_view program.now) program.now.embedded.items
         program.now.beyond m) }
     ensures in_order { IfOk result (λ messages. IsInOrder (map said messages.items)) }
 {
     let options = options_in_force(program, given);
-    let entries = all_findings(alloc, program, options)?;
+    let entries = all_findings(alloc, program, sites, options)?;
     let messages = given_in_order(alloc, options, entries)?;
     Ok(messages)
+}
+
+/// All messages of a program, where these options are given with it: by place, at one place errors
+/// before warnings, and then by number; one for each place and number (SNL Reference; Compiling SNL
+/// Programs, "Options"). With them comes what its names mean, since one walk over the program serves
+/// both. The only error is that memory ends.
+pub fn messages_and_uses(
+    alloc: Global,
+    program: &Program,
+    given: Options,
+) -> Result<(Vec<Message>, UseTable), AllocError>
+    ensures exactly { IfOk result (λ told. (m : Said) → Contains (map said told.0.items) m
+        ↔ IsSaid given (program_view program.now) program.now.embedded.items
+        program.now.beyond m) }
+    ensures in_order { IfOk result (λ told. IsInOrder (map said told.0.items)) }
+    ensures uses { IfOk result (λ told. IsTableOf told.1 (program_view program.now)) }
+{
+    let sites = sites_of(alloc, program)?;
+    let messages = messages_by(alloc, program, sites.as_slice(), given)?;
+    let uses = UseTable::of(alloc, sites.as_slice())?;
+    Ok((messages, uses))
 }

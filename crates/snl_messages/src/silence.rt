@@ -3,6 +3,7 @@
 ghost use Rattle.std.specs.Prelude.{◌≡◌, filter};
 ghost use Rattle.snl_syntax.specs.view.Definitions.{definition_view};
 ghost use Rattle.snl_syntax.specs.view.Programs.{program_view};
+ghost use Rattle.snl_resolve.specs.Options.{options_by, sign_by};
 ghost use Rattle.snl_messages.specs.Entries.{finding_in, severity_by};
 ghost use Rattle.snl_messages.specs.Silence as spec;
 
@@ -13,7 +14,7 @@ use snl_text::Kind;
 
 /// The options in force after a definition, where `before` were.
 fn after_definition(before: Options, definition: &Def) -> Options
-    ensures { result ≡ spec.after_definition before (definition_view definition.now) }
+    ensures { result ≡ options_by (λ letter. sign_by letter (definition_view definition.now)) before }
 {
     match definition {
         Def::Setting(setting) => {

@@ -8,6 +8,10 @@ use Rattle.snl_output.proofs.Writing.{append-lost, told_more-told_more, told_mor
 pub held-all : (text held : List ℕ) (told : Option (List ℕ)) → held ≡ text → IsHeldBack text held told told
 held-all text held told is = record { sent = []; is = sym is; told = sym (told_more-nil told) }
 
+-- nothing was added
+pub held_none : (held : List ℕ) (told : Option (List ℕ)) → IsHeldBack (held ++ []) held told told
+held_none held told = held-all (held ++ []) held told (sym (append-nil held))
+
 -- one part more was added
 pub held-more : (text part held held' : List ℕ) (old mid new : Option (List ℕ)) → IsHeldBack text held old mid → IsHeldBack (held ++ part) held' mid new →
     IsHeldBack (text ++ part) held' old new

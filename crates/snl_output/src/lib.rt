@@ -13,4 +13,4 @@ pub use lines::{
     add_number, add_put, go_text, write_exit, write_fault, write_go, write_start, write_timed,
 };
 pub use printing::write_print;
-pub use sinks::{Fired, Refusal, Refused, Sink, SinkFault};
+pub use sinks::{Fired, RefusalCause, Refused, Sink, SinkFault};

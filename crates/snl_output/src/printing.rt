@@ -1,6 +1,6 @@
 //! The line of a `printf`: its format with the numbers in it.
 
-ghost use Rattle.std.specs.Prelude.{◌≡◌, ◌-◌, ◌^◌, ◌<◌, ◌++◌, [], drop, is_err};
+ghost use Rattle.std.specs.Prelude.{◌≡◌, ◌-◌, ◌^◌, ◌<◌, ◌≤◌, ◌++◌, [], ℤ, List, drop, take, length, is_err};
 ghost use Rattle.snl_output.specs.Devices.{counted, Wrote};
 ghost use Rattle.snl_output.specs.Held.{Adds};
 ghost use Rattle.snl_output.specs.Lines.{print_front};
@@ -59,7 +59,25 @@ fn after_first(numbers: &[i64]) -> &[i64]
     &numbers[1..]
 }
 
-/// What the bytes of a format write.
+/// How many bytes from the front on write themselves: up to the first that does not; 0 within an escape or a conversion.
+#[inline(always)]
+fn plain_run(state: FormatState, text: &[u8]) -> usize
+    ensures within { result ≤ length text.now }
+    ensures shown { (numbers : List ℤ) → spec.shown state numbers text.now
+        ≡ take result text.now ++ spec.shown state numbers (drop result text.now) }
+{
+    let FormatState::Plain = state else {
+        return 0;
+    };
+    for (run, byte) in text.iter().enumerate() {
+        if *byte == b'%' || *byte == b'\\' || *byte == b'\t' {
+            return run;
+        }
+    }
+    text.len()
+}
+
+/// What the bytes of a format write. Bytes that write themselves are added as one piece.
 fn add_text<S: Sink>(
     line: &mut Line,
     text: &[u8],
@@ -74,12 +92,21 @@ fn add_text<S: Sink>(
 {
     let mut state = FormatState::Plain;
     let mut left = numbers;
-    for byte in text {
-        add_byte(line, state, *byte, left, sink)?;
-        if converts(state, *byte) {
+    let mut at = 0;
+    while at < text.len() {
+        let run = plain_run(state, &text[at..]);
+        if run > 0 {
+            line.add(&text[at..at + run], sink)?;
+            at += run;
+            continue;
+        }
+        let byte = text[at];
+        add_byte(line, state, byte, left, sink)?;
+        if converts(state, byte) {
             left = after_first(left);
         }
-        state = next(state, *byte).unwrap_or(FormatState::Plain);
+        state = next(state, byte).unwrap_or(FormatState::Plain);
+        at += 1;
     }
     Ok(())
 }
@@ -112,11 +139,22 @@ fn add_byte<S: Sink>(
             } else if byte == b'd' {
                 add_first(line, numbers, sink)
             } else {
-                line.add(&[], sink)
+                add_nothing(line, sink)
             }
         }
         FormatState::Long => add_first(line, numbers, sink),
     }
+}
+
+/// Adds nothing.
+#[inline(always)]
+#[tactic(auto, using(crate::proofs::Adding::held_none))]
+fn add_nothing<S: Sink>(line: &mut Line, sink: &mut S) -> Result<(), SinkFault>
+    ensures told { Adds result (line.old.held.items ++ []) line.new.held.items
+        (S.told sink.old) (S.told sink.new) }
+    ensures failures { S.failures sink.new ≡ counted (is_err result) (S.failures sink.old) }
+{
+    Ok(())
 }
 
 /// A byte that stands for itself. A tab is written as `\t`; what begins an escape or a conversion writes nothing.
@@ -127,7 +165,7 @@ fn add_plain<S: Sink>(line: &mut Line, byte: u8, sink: &mut S) -> Result<(), Sin
     ensures failures { S.failures sink.new ≡ counted (is_err result) (S.failures sink.old) }
 {
     if byte == b'\\' || byte == b'%' {
-        line.add(&[], sink)
+        add_nothing(line, sink)
     } else if byte == b'\t' {
         line.add(b"\\t", sink)
     } else {
@@ -147,6 +185,6 @@ fn add_first<S: Sink>(line: &mut Line, numbers: &[i64], sink: &mut S) -> Result<
             let mut digits = Buffer::new();
             line.add(digits.format(*first).as_bytes(), sink)
         }
-        [] => line.add(&[], sink),
+        [] => add_nothing(line, sink),
     }
 }

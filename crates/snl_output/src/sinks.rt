@@ -23,7 +23,7 @@ pub struct Fired {
 
 /// Why a `pvPut` was refused (SNL Reference, "pvPut").
 #[derive(Clone, Copy, Debug, PartialEq, Eq)]
-pub enum Refusal {
+pub enum RefusalCause {
     /// No channel is assigned to what was put: -1.
     NoLink,
     /// The channel is not connected: -2.
@@ -43,7 +43,7 @@ pub struct Refused {
     /// no link.
     pub channel: Option<usize>,
     /// Why.
-    pub why: Refusal,
+    pub why: RefusalCause,
 }
 
 /// Where the lines of a run go. It may also hear which clauses fired and which puts were refused, beside the lines and in their

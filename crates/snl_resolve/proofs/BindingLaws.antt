@@ -10,7 +10,7 @@ use Rattle.snl_resolve.specs.declared.scopes.Declared.{Declared}
 use Rattle.snl_resolve.specs.declared.sites.Size.{Size}
 use Rattle.snl_resolve.specs.Constants.{predefined}
 use Rattle.snl_resolve.specs.Scopes.{Scope, is_spelled, first_of, or_in, bound, declared_as, meaning_by, meaning, IsOther, Means}
-use Rattle.snl_resolve.specs.Uses.{place_of}
+use Rattle.snl_resolve.specs.Uses.{declared_pos}
 
 -- nothing is not something
 pub none_some : {A : Type 0} → (x : A) → ◌≡◌ {A = Option A} None (Some x) → ⊥
@@ -115,26 +115,26 @@ binding scopes name d = (
 -- ---- the place of a meaning
 
 -- the place of what is declared
-place_found : (d : Declared) (n : Bool) → place_of (meaning_by (Some d) n) ≡ Some d.name.pos
+place_found : (d : Declared) (n : Bool) → declared_pos (meaning_by (Some d) n) ≡ Some d.name.pos
 place_found d n = by_size d.size
   where
-    by_size : (o : Option Size) → place_of (declared_as o d.name) ≡ Some d.name.pos
+    by_size : (o : Option Size) → declared_pos (declared_as o d.name) ≡ Some d.name.pos
     by_size None = refl
     by_size (Some size) = refl
 
 -- a predefined name and one that is not declared have no place
-no_place : (n : Bool) → place_of (meaning_by None n) ≡ None
+no_place : (n : Bool) → declared_pos (meaning_by None n) ≡ None
 no_place true = refl
 no_place false = refl
 
 -- a place is that of what the name is bound to
-place_of_bound : (o : Option Declared) (n : Bool) (place : Pos) → place_of (meaning_by o n) ≡ Some place → (d : Declared) × (o ≡ Some d) × (d.name.pos ≡ place)
+place_of_bound : (o : Option Declared) (n : Bool) (place : Pos) → declared_pos (meaning_by o n) ≡ Some place → (d : Declared) × (o ≡ Some d) × (d.name.pos ≡ place)
 place_of_bound None n place e = absurd (none_some place (sym (no_place n) ∙ e))
 place_of_bound (Some d) n place e = (d, refl, same_some d.name.pos place (sym (place_found d n) ∙ e))
 
 -- the place that a site gives is that of the declaration meant
-pub place_meant : (scopes : List Scope) (t : Token) (place : Pos) → (place_of (meaning scopes t) ≡ Some place) ↔ ((d : Declared) × Means scopes t.text.now d × (d.name.pos ≡ place))
+pub place_meant : (scopes : List Scope) (t : Token) (place : Pos) → (declared_pos (meaning scopes t) ≡ Some place) ↔ ((d : Declared) × Means scopes t.text.now d × (d.name.pos ≡ place))
 place_meant scopes t place = (
   λ e. let w = place_of_bound (bound scopes t.text.now) (is_some (predefined t.text.now)) place e in (w.0, (binding scopes t.text.now w.0).1 w.1, w.2),
-  λ w. ap (λ o. place_of (meaning_by o (is_some (predefined t.text.now)))) ((binding scopes t.text.now w.0).0 w.1) ∙ place_found w.0 (is_some (predefined t.text.now)) ∙ ap Some w.2,
+  λ w. ap (λ o. declared_pos (meaning_by o (is_some (predefined t.text.now)))) ((binding scopes t.text.now w.0).0 w.1) ∙ place_found w.0 (is_some (predefined t.text.now)) ∙ ap Some w.2,
 )

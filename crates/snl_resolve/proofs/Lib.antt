@@ -11,3 +11,4 @@ pub mod VariableLaws
 pub mod Steps
 pub mod BindingLaws
 pub mod NameLaws
+pub mod SignLaws

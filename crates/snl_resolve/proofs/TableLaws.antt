@@ -1,9 +1,10 @@
 -- The table of a scope has the first declaration of each name.
-use Rattle.std.proofs.Common.{◌≡◌, ℕ, ◌+◌, ◌<◌, true, false, cond, List, [], ◌∷◌, ◌++◌, length, get_or, take, drop, Option, None, Some, nat_eq, is_some, refl, sym, ap, ◌∙◌, append_assoc, add-one, Bor}
-use Rattle.std.specs.Cmp.Lexicographic.{pointwise}
+use Rattle.std.proofs.Common.{◌≡◌, ℕ, ◌+◌, ◌<◌, Bool, true, false, cond, if◌then◌else◌, List, [], ◌∷◌, ◌++◌, length, get_or, take, drop, Option, None, Some, nat_eq, is_some, refl, sym, ap, ◌∙◌, append_assoc, add-one, Bor}
+use Rattle.std.specs.Cmp.Lexicographic.{pointwise, same_text}
 use Rattle.std.specs.HashMap.{HashMap, get_by}
 use Rattle.std.specs.Map.{lookup}
 use Rattle.std.proofs.Math.Seq.{drop-cons}
+use Rattle.std.proofs.lemmas.Cmp.{nat_list_eq_equiv}
 use Rattle.std.proofs.lemmas.List.{take_more}
 use Rattle.indexmap.specs.IndexMap.{insert_entry}
 use Rattle.indexmap.proofs.CallerLemmas.{insert_entry-new}
@@ -18,6 +19,11 @@ use Rattle.snl_resolve.specs.Tables.{found_in, only}
 pub none_of : {A : Type 0} (o : Option A) → is_some o ≡ false → o ≡ None
 none_of None e = refl
 none_of (Some t) e = cc
+
+-- what is nothing is not there
+pub none_where : {A : Type 0} (o : Option A) → ((x : A) → o ≡ Some x → ⊥) → o ≡ None
+none_where None never = refl
+none_where (Some x) never = absurd (never x refl)
 
 -- an entry at the end is found where none before it is
 pub lookup_last : (q : List ℕ) (t : Declared) (es : List (Bor (List ℕ) × Declared)) → lookup (λ key. pointwise nat_eq q key.now) (es ++ (t.name.text, t) ∷ [])
@@ -39,6 +45,32 @@ pub found_after : {S : Type 0} (m n : HashMap (Bor (List ℕ)) Declared S) (t : 
 found_after m n t none e q =
     ap (lookup (λ key. pointwise nat_eq q key.now)) (e ∙ insert_entry-new (λ a b. pointwise nat_eq a.now b.now) m t.name.text t none)
     ∙ lookup_last q t m.entries
+
+-- the first of two
+or_none : {A : Type 0} (o : Option A) → or_in o None ≡ o
+or_none None = refl
+or_none (Some x) = refl
+
+-- a first declaration that another one replaced, and that was put back, is found as before
+pub found_back : {S : Type 0} (m n back : HashMap (Bor (List ℕ)) Declared S) (t first : Declared) → Some first ≡ found_in m t.name.text.now
+    → ((q : Bor (List ℕ)) → found_in n q.now ≡ cond (pointwise nat_eq t.name.text.now q.now) (Some t) (found_in m q.now))
+    → ((q : Bor (List ℕ)) → found_in back q.now ≡ cond (pointwise nat_eq t.name.text.now q.now) (Some first) (found_in n q.now))
+    → (q : List ℕ) → found_in back q ≡ or_in (found_in m q) (only q t)
+found_back m n back t first there replaced put_back q = by (pointwise nat_eq k q) refl
+  where
+    k : List ℕ
+    k = t.name.text.now
+
+    key : Bor (List ℕ)
+    key = record { ref_ptr = (0, 0); now = q }
+
+    by : (b : Bool) → pointwise nat_eq k q ≡ b → found_in back q ≡ or_in (found_in m q) (only q t)
+    by true same =
+        put_back key ∙ ap (λ b. cond b (Some first) (found_in n q)) same
+        ∙ sym (ap (λ o. or_in o (only q t)) (ap (found_in m) (sym (same_text k q (sym same))) ∙ sym there))
+    by false other =
+        put_back key ∙ ap (λ b. cond b (Some first) (found_in n q)) other ∙ replaced key ∙ ap (λ b. cond b (Some t) (found_in m q)) other
+        ∙ sym (ap (λ b. or_in (found_in m q) (if b then Some t else None)) (nat_list_eq_equiv.symm q k ∙ other) ∙ or_none (found_in m q))
 
 -- one more name is in the table
 pub table_step : (names : List Declared) (i : ℕ) (d : Declared) → i < length names → (before after : List ℕ → Option Declared)

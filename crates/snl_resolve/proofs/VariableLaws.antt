@@ -26,23 +26,23 @@ use Rattle.snl_syntax.specs.view.Programs.{clause_view, state_view, state_set_vi
 use Rattle.snl_syntax.proofs.StatementRows.{view_block}
 use Rattle.snl_resolve.specs.Scopes.{Scope, scope_of}
 use Rattle.snl_resolve.specs.Sights.{parameters_of}
-use Rattle.snl_resolve.specs.Variables.{Held, by_declaration, by_definition, by_definitions, by_statement, by_statements, by_block, by_maybe, held_parameter, by_function, function_by, by_clause, by_blocks, by_state, by_state_set, by_numbered, for_first, by_parts, variables_of}
+use Rattle.snl_resolve.specs.Variables.{CopyVariable, by_declaration, by_definition, by_definitions, by_statement, by_statements, by_block, by_maybe, held_parameter, by_function, function_by, by_clause, by_blocks, by_state, by_state_set, by_numbered, for_first, by_parts, variables_of}
 
 -- three parts in a row
-three_parts : (old a b c : List Held) → ((old ++ a) ++ b) ++ c ≡ old ++ ((a ++ b) ++ c)
+three_parts : (old a b c : List CopyVariable) → ((old ++ a) ++ b) ++ c ≡ old ++ ((a ++ b) ++ c)
 three_parts old a b c = simp append_assoc
 
 -- one part, then three
-one_and_three : (old a b c d : List Held) → (old ++ a) ++ ((b ++ c) ++ d) ≡ old ++ (((a ++ b) ++ c) ++ d)
+one_and_three : (old a b c d : List CopyVariable) → (old ++ a) ++ ((b ++ c) ++ d) ≡ old ++ (((a ++ b) ++ c) ++ d)
 one_and_three old a b c d = simp append_assoc
 
 -- definitions, within their own scope
-pub definitions_held : (s : List Scope) (ds : List DefinitionTree) (names scope : Scope) (old new : List Held)
+pub definitions_held : (s : List Scope) (ds : List DefinitionTree) (names scope : Scope) (old new : List CopyVariable)
     → names ≡ scope_of s ds → scope ≡ names → new ≡ old ++ flat_map (by_definition (scope ∷ s)) ds → new ≡ old ++ by_definitions s ds
 definitions_held s ds names scope old new en es e = e ∙ (λ j. old ++ flat_map (by_definition ((es ∙ en) j ∷ s)) ds)
 
 -- a block: its declarations, then its statements
-pub block_held : (s : List Scope) (b : DeclaredBlock) (ds es : List Declaration) (ss : List Stmt) (names scope : Scope) (old mid new : List Held)
+pub block_held : (s : List Scope) (b : DeclaredBlock) (ds es : List Declaration) (ss : List Stmt) (names scope : Scope) (old mid new : List CopyVariable)
     → ds ≡ b.declarations.items → es ≡ b.declarations.items → ss ≡ b.statements.items
     → names ≡ scope_of s (map declaration (map declaration_view ds)) → scope ≡ names
     → mid ≡ old ++ flat_map (by_declaration (scope ∷ s)) (map declaration_view es)
@@ -58,12 +58,12 @@ block_held s b ds es ss names scope old mid new ed ee et en ec em e =
     ∙ append_assoc old _ _
 
 -- a block that stands among statements
-pub nested_held : (s : List Scope) (a : Stmt) (b : DeclaredBlock) (old new : List Held) → a ≡ Block b
+pub nested_held : (s : List Scope) (a : Stmt) (b : DeclaredBlock) (old new : List CopyVariable) → a ≡ Block b
     → new ≡ old ++ by_block s (block_view b) → new ≡ old ++ by_statement s (statement_view a)
 nested_held s a b old new ea e = e ∙ ap (λ x. old ++ by_statement s x) (sym (ap statement_view ea ∙ view_block b))
 
 -- a function: its parameters, then its body, round which they stand
-pub function_held : (s : List Scope) (f : Function) (ps : List Parameter) (b : DeclaredBlock) (scope : Scope) (old one new : List Held)
+pub function_held : (s : List Scope) (f : Function) (ps : List Parameter) (b : DeclaredBlock) (scope : Scope) (old one new : List CopyVariable)
     → ps ≡ f.parameters.each.items → b ≡ f.body.value → scope ≡ parameters_of (map parameter_view ps)
     → one ≡ old ++ map held_parameter (map parameter_view ps)
     → new ≡ one ++ by_block (scope ∷ s) (block_view b)
@@ -77,21 +77,21 @@ function_held s f ps b scope old one new ep eb es e1 en =
     ∙ append_assoc old _ _
 
 -- a definition that is a function
-pub definition_held : (s : List Scope) (d : Def) (b : Box Function Global) (f : Function) (old new : List Held) → d ≡ def.Function b → f ≡ b.value
+pub definition_held : (s : List Scope) (d : Def) (b : Box Function Global) (f : Function) (old new : List CopyVariable) → d ≡ def.Function b → f ≡ b.value
     → new ≡ old ++ by_function s (function_view f) → new ≡ old ++ flat_map (by_function s) (function_by (definition_view d))
 definition_held s d b f old new ed ef en =
     en ∙ ap (λ x. old ++ by_function s (function_view x)) ef ∙ ap (λ l. old ++ l) (sym (append-nil _))
     ∙ ap (λ x. old ++ flat_map (by_function s) (function_by (definition_view x))) (sym ed)
 
 -- the blocks of a state: `entry`, its clauses, `exit`
-pub blocks_held : (s : List Scope) (entry exit : Option BlockTree) (cs : List ClauseTree) (old one two new : List Held)
+pub blocks_held : (s : List Scope) (entry exit : Option BlockTree) (cs : List ClauseTree) (old one two new : List CopyVariable)
     → one ≡ old ++ by_maybe s entry → two ≡ one ++ flat_map (by_clause s) cs → new ≡ two ++ by_maybe s exit
     → new ≡ old ++ by_blocks s entry cs exit
 blocks_held s entry exit cs old one two new e1 e2 en =
     en ∙ (λ j. e2 j ++ by_maybe s exit) ∙ (λ j. (e1 j ++ flat_map (by_clause s) cs) ++ by_maybe s exit) ∙ three_parts old _ _ _
 
 -- a state: its definitions, then its blocks
-pub state_held : (s : List Scope) (a : State) (ds : List Def) (cs : List Clause) (scope : Scope) (old one new : List Held)
+pub state_held : (s : List Scope) (a : State) (ds : List Def) (cs : List Clause) (scope : Scope) (old one new : List CopyVariable)
     → ds ≡ a.definitions.items → cs ≡ a.clauses.items → scope ≡ scope_of s (map definition_view ds)
     → one ≡ old ++ by_definitions s (map definition_view ds)
     → new ≡ one ++ by_blocks (scope ∷ s) (shown (held block_view) a.entry) (map clause_view cs) (shown (held block_view) a.exit)
@@ -106,7 +106,7 @@ state_held s a ds cs scope old one new ed ec es e1 en =
     ∙ one_and_three old _ _ _ _
 
 -- a state set: its definitions, then its states
-pub state_set_held : (s : List Scope) (a : StateSet) (ds : List Def) (ts : List State) (scope : Scope) (old one new : List Held)
+pub state_set_held : (s : List Scope) (a : StateSet) (ds : List Def) (ts : List State) (scope : Scope) (old one new : List CopyVariable)
     → ds ≡ a.definitions.items → ts ≡ a.states.items → scope ≡ scope_of s (map definition_view ds)
     → one ≡ old ++ by_definitions s (map definition_view ds)
     → new ≡ one ++ flat_map (by_state (scope ∷ s)) (map state_view ts)
@@ -120,14 +120,14 @@ state_set_held s a ds ts scope old one new ed et es e1 en =
     ∙ append_assoc old _ _
 
 -- the program's blocks and one state set
-pub parts_held : (s : List Scope) (set : ℕ) (entry exit : Option BlockTree) (gs : List StateSetTree) (old one two new : List Held)
+pub parts_held : (s : List Scope) (set : ℕ) (entry exit : Option BlockTree) (gs : List StateSetTree) (old one two new : List CopyVariable)
     → one ≡ old ++ for_first set s entry → two ≡ one ++ by_numbered s (slice_get gs set) → new ≡ two ++ for_first set s exit
     → new ≡ old ++ by_parts s set entry gs exit
 parts_held s set entry exit gs old one two new e1 e2 en =
     en ∙ (λ j. e2 j ++ for_first set s exit) ∙ (λ j. (e1 j ++ by_numbered s (slice_get gs set)) ++ for_first set s exit) ∙ three_parts old _ _ _
 
 -- a program: its definitions, then its blocks and one state set
-pub program_held : (p : Program) (set : ℕ) (ds : List Def) (gs : List StateSet) (scope : Scope) (old one new : List Held)
+pub program_held : (p : Program) (set : ℕ) (ds : List Def) (gs : List StateSet) (scope : Scope) (old one new : List CopyVariable)
     → ds ≡ p.definitions.items → gs ≡ p.state_sets.items → scope ≡ scope_of [] (map definition_view ds)
     → one ≡ old ++ by_definitions [] (map definition_view ds)
     → new ≡ one ++ by_parts (scope ∷ []) set (shown (held block_view) p.entry) (map state_set_view gs) (shown (held block_view) p.exit)

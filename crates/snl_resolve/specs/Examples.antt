@@ -11,7 +11,7 @@ use Rattle.snl_resolve.specs.declared.constants.Constant.TheVariants.{Varies, Fa
 use Rattle.snl_resolve.specs.declared.sites.Meaning.TheVariants.{Variable, Flag, Number, Nothing}
 use Rattle.snl_resolve.specs.declared.sites.Purpose.TheVariants.{Read, Channel, Ignored}
 use Rattle.snl_resolve.specs.declared.sites.Size.TheVariants.{Scalar, Array, Wrong}
-use Rattle.snl_resolve.specs.declared.sites.Site.TheVariants.{Use, Decimal, Call, Format, Leave}
+use Rattle.snl_resolve.specs.declared.sites.Site.TheVariants.{Use, Decimal, Call, Format, LoopExit}
 use Rattle.snl_resolve.specs.Constants.{constant_of}
 use Rattle.snl_resolve.specs.Numbered.{number_of}
 use Rattle.snl_resolve.specs.Scopes.{scope_of, meaning}
@@ -110,7 +110,7 @@ SiteExamples =
     ≡ Call (name 0 (codes "printf")) true true true true None ∷ Format (token kind.Text 7 (codes "\"%ld%%\"")) true ∷ [])
     × (in_expression false bare Read (call (name 0 (codes "f")) (value (named (name 2 (codes "x"))) no_arguments))
     ≡ Call (name 0 (codes "f")) false true true true None ∷ Use Ignored (name 2 (codes "x")) Nothing false ∷ [])
-    × (in_statement room.Clause [] bare false (while_loop (sign kind.While) (whole (codes "1")) (break_loop (sign kind.Break))) ≡ Leave (sign kind.Break) true ∷ [])
+    × (in_statement room.Clause [] bare false (while_loop (sign kind.While) (whole (codes "1")) (break_loop (sign kind.Break))) ≡ LoopExit (sign kind.Break) true ∷ [])
 
 -- ---- `ASYNC`: `pvPut(x, ASYNC)`, `pvPut(x, y)`, `foo(pvPut(x, ASYNC))`, `pvGet(x, ASYNC)`, `pvPut(x, (ASYNC))`, `pvPutComplete(x)`; no name is declared
 abbrev pub use_of : ℕ → List ℕ → ExprTree

@@ -11,13 +11,13 @@ use Rattle.snl_resolve.specs.declared.calls.Heading.{Heading}
 use Rattle.snl_resolve.specs.declared.sites.Purpose.TheVariants.{Read}
 use Rattle.snl_resolve.specs.declared.sites.Room.TheVariants as room
 use Rattle.snl_resolve.specs.declared.sites.Site.{Site}
-use Rattle.snl_resolve.specs.declared.sites.Site.TheVariants.{Declaration, Typed, Declarator, Call, Format, Move, Target, Function, Return}
+use Rattle.snl_resolve.specs.declared.sites.Site.TheVariants.{Declaration, Typed, Declarator, Call, Format, StateChange, Target, Function, Return}
 use Rattle.snl_resolve.specs.declared.sites.Size.TheVariants.{Scalar}
 use Rattle.snl_resolve.specs.Examples.{token, name, sign, whole, bare}
 use Rattle.snl_resolve.specs.Programs.{sites}
 use Rattle.snl_resolve.specs.Sights.{Sight}
 use Rattle.snl_resolve.specs.Sites.{in_expression, in_statement}
-use Rattle.snl_resolve.specs.Variables.{Held, shared_variables}
+use Rattle.snl_resolve.specs.Variables.{CopyVariable, shared_variables}
 
 -- a function with parameters of type `char`, of type `int` or without a value
 abbrev pub of_names : Token → Bool → List Token → BlockTree → DefinitionTree
@@ -72,7 +72,7 @@ FunctionExamples =
     (block (record { type_name = record { word = sign kind.Int; second = None }; names = record { name = name 15 (codes "n"); sizes = []; initial = None } ∷ [] } ∷ []) no_statements) ∷ []))
     ≡ Function (name 5 (codes "f")) false ∷ Declaration (name 7 (codes "n")) false false 1 ∷ Declaration (name 9 (codes "n")) false true 1 ∷ char_type ∷ char_type
     ∷ Declaration (name 15 (codes "n")) false false 1 ∷ Typed (sign kind.Int) None true ∷ Declarator (name 15 (codes "n")) Scalar true ∷ [])
-    × (in_statement (room.Function false) [] bare false (change_state (sign kind.State) (name 7 (codes "s"))) ≡ Move (sign kind.State) false ∷ Target (name 7 (codes "s")) None false ∷ [])
+    × (in_statement (room.Function false) [] bare false (change_state (sign kind.State) (name 7 (codes "s"))) ≡ StateChange (sign kind.State) false ∷ Target (name 7 (codes "s")) None false ∷ [])
 
 -- what calls see of a function at an offset
 abbrev pub heading : ℕ → List ℕ → ℕ → Bool → Heading
@@ -100,7 +100,7 @@ CallExamples =
     × (in_statement room.Elsewhere [] three false (return_with (sign kind.Return) None) ≡ Return (sign kind.Return) false ∷ [])
 
 -- a variable of type `char`
-abbrev pub char_variable : Token → Held
+abbrev pub char_variable : Token → CopyVariable
 char_variable t = record { name = t; range = (negsuc 127, pos 127); size = Scalar; initial = None }
 
 -- `void f(char n) { ; }` and `void g(char n, char m) {}`: their parameters are variables, which all state sets share

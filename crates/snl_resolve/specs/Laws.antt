@@ -6,7 +6,7 @@ use Rattle.snl_resolve.specs.declared.scopes.Declared.{Declared}
 use Rattle.snl_resolve.specs.Scopes.{Scope, bound, meaning, Means}
 use Rattle.snl_syntax.specs.Programs.{ProgramTree}
 use Rattle.snl_resolve.specs.Names.{names_of, meant_at}
-use Rattle.snl_resolve.specs.Uses.{place_of, declared_of}
+use Rattle.snl_resolve.specs.Uses.{declared_pos, declared_of}
 
 -- What a name means by the relation is what it is bound to.
 abbrev pub BindingIsOne : Type 0
@@ -15,7 +15,7 @@ BindingIsOne = (scopes : List Scope) (name : List ℕ) (d : Declared) → Means 
 -- The declaration whose place a site gives is the one that the name means by the relation.
 abbrev pub PlaceIsMeant : Type 0
 PlaceIsMeant = (scopes : List Scope) (t : Token) (place : Pos) →
-    (place_of (meaning scopes t) ≡ Some place) ↔ ((d : Declared) × Means scopes t.text.now d × (d.name.pos ≡ place))
+    (declared_pos (meaning scopes t) ≡ Some place) ↔ ((d : Declared) × Means scopes t.text.now d × (d.name.pos ≡ place))
 
 -- What a program's sites say of an offset is what the first name there means, in the scopes round it.
 abbrev pub DeclaredIsMeant : Type 0

@@ -18,7 +18,7 @@ pub mod Tables
 pub mod Chains
 pub mod NumberTables
 pub mod FunctionTables
-pub mod Held
+pub mod CopyVariables
 pub mod Names
 pub mod Laws
 pub mod Examples

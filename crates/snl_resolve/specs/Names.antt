@@ -13,7 +13,7 @@ use Rattle.snl_resolve.specs.Calls.{word_at, is_word, unless}
 use Rattle.snl_resolve.specs.Scopes.{Scope, scope_of, meaning}
 use Rattle.snl_resolve.specs.Sights.{parameter_scope}
 use Rattle.snl_resolve.specs.Programs.{program_scopes}
-use Rattle.snl_resolve.specs.Uses.{place_of}
+use Rattle.snl_resolve.specs.Uses.{declared_pos}
 
 -- A name, with the scopes round it.
 abbrev pub Placed : Type 0
@@ -148,4 +148,4 @@ names_of p =
 -- What the first of some names at an offset means, by the place of the declaration.
 abbrev pub meant_at : ℕ → List Placed → Option Pos
 meant_at offset [] = None
-meant_at offset (n ∷ rest) = if n.1.pos.offset == offset then place_of (meaning n.0 n.1) else meant_at offset rest
+meant_at offset (n ∷ rest) = if n.1.pos.offset == offset then declared_pos (meaning n.0 n.1) else meant_at offset rest

@@ -13,7 +13,7 @@ use Rattle.snl_resolve.specs.declared.sites.Purpose.TheVariants.{Read, Dropped}
 use Rattle.snl_resolve.specs.declared.sites.Room.{Room}
 use Rattle.snl_resolve.specs.declared.sites.Room.TheVariants as room
 use Rattle.snl_resolve.specs.declared.sites.Site.{Site}
-use Rattle.snl_resolve.specs.declared.sites.Site.TheVariants.{Declaration, Typed, Declarator, Use, Leave, Move, Target, Return}
+use Rattle.snl_resolve.specs.declared.sites.Site.TheVariants.{Declaration, Typed, Declarator, Use, LoopExit, StateChange, Target, Return}
 use Rattle.snl_resolve.specs.Builtins.{builtin_of}
 use Rattle.snl_resolve.specs.Calls.{is_fitting, count_of, word_at, is_word, unless}
 use Rattle.snl_resolve.specs.Sights.{Sight, called, within}
@@ -129,9 +129,9 @@ abbrev mutual
   in_statement c g s l (nested b) = in_block c g s l b
   in_statement c g s l empty = []
   in_statement c g s l (expression e) = in_expression false s Dropped e
-  in_statement c g s l (break_loop t) = Leave t l ∷ []
-  in_statement c g s l (continue_loop t) = Leave t l ∷ []
-  in_statement c g s l (change_state t x) = Move t (is_clause c) ∷ Target x (number_of g x.text.now) (is_clause c) ∷ []
+  in_statement c g s l (break_loop t) = LoopExit t l ∷ []
+  in_statement c g s l (continue_loop t) = LoopExit t l ∷ []
+  in_statement c g s l (change_state t x) = StateChange t (is_clause c) ∷ Target x (number_of g x.text.now) (is_clause c) ∷ []
   in_statement c g s l (return_with t e) = Return t (may_return c e) ∷ maybe (in_value s) e
   in_statement c g s l (if_then e a) = in_value s e ++ in_statement c g s l a
   in_statement c g s l (if_else e a b) = in_value s e ++ in_statement c g s l a ++ in_statement c g s l b

@@ -10,10 +10,10 @@ use Rattle.snl_resolve.specs.declared.sites.Site.TheVariants.{Use, Defined}
 use Rattle.snl_resolve.specs.Programs.{sites}
 
 -- The place of the declaration that a name means, of a variable or an event flag.
-abbrev pub place_of : Meaning → Option Pos
-place_of (Variable d size) = Some d
-place_of (Flag d) = Some d
-place_of m = None
+abbrev pub declared_pos : Meaning → Option Pos
+declared_pos (Variable d size) = Some d
+declared_pos (Flag d) = Some d
+declared_pos m = None
 
 -- The name that a site uses, with what it means there.
 abbrev pub use_at : Site → Option (Token × Meaning)
@@ -24,7 +24,7 @@ use_at _ = None
 -- The place of what is used, if the use is at this offset; else that of a later one.
 abbrev pub declared_by : ℕ → Option (Token × Meaning) → Option Pos → Option Pos
 declared_by offset None later = later
-declared_by offset (Some u) later = if u.0.pos.offset == offset then place_of u.1 else later
+declared_by offset (Some u) later = if u.0.pos.offset == offset then declared_pos u.1 else later
 
 -- What the first of some sites says that uses a name at this offset.
 abbrev pub declared_in : ℕ → List Site → Option Pos

@@ -8,11 +8,11 @@ ghost use Rattle.snl_syntax.specs.view.Statements.{statement_view, block_view};
 ghost use Rattle.snl_syntax.specs.view.Lists.{statement_list};
 ghost use Rattle.snl_resolve.specs.Chains.{scopes_of};
 ghost use Rattle.snl_resolve.specs.Variables as spec;
-ghost use Rattle.snl_resolve.specs.Held.{held_view};
+ghost use Rattle.snl_resolve.specs.CopyVariables.{variable_view};
 
 use crate::scopes::{Scope, Scopes};
 use crate::scoping::block_names;
-use crate::variables::{Held, push_held};
+use crate::variables::{CopyVariable, push_held};
 use snl_syntax::{Block, Declaration, Stmt};
 use std::alloc::{AllocError, Global};
 
@@ -20,9 +20,9 @@ use std::alloc::{AllocError, Global};
 fn push_declarations<'p, 'a>(
     declarations: &'p [Declaration<'a>],
     scopes: &Scopes<'_, 'a>,
-    kept: &mut Vec<Held<'p, 'a>>,
+    kept: &mut Vec<CopyVariable<'p, 'a>>,
 ) -> Result<(), AllocError>
-    ensures { OnOk result (map held_view kept.new.items ≡ map held_view kept.old.items
+    ensures { OnOk result (map variable_view kept.new.items ≡ map variable_view kept.old.items
         ++ flat_map (spec.by_declaration (scopes_of scopes.now))
         (map declaration_view declarations.now)) }
 {
@@ -38,9 +38,9 @@ fn push_statement<'p, 'a>(
     alloc: Global,
     statement: &'p Stmt<'a>,
     scopes: &Scopes<'_, 'a>,
-    kept: &mut Vec<Held<'p, 'a>>,
+    kept: &mut Vec<CopyVariable<'p, 'a>>,
 ) -> Result<(), AllocError>
-    ensures { OnOk result (map held_view kept.new.items ≡ map held_view kept.old.items
+    ensures { OnOk result (map variable_view kept.new.items ≡ map variable_view kept.old.items
         ++ spec.by_statement (scopes_of scopes.now) (statement_view statement.now)) }
 {
     match statement {
@@ -63,9 +63,9 @@ fn push_statements<'p, 'a>(
     alloc: Global,
     statements: &'p [Stmt<'a>],
     scopes: &Scopes<'_, 'a>,
-    kept: &mut Vec<Held<'p, 'a>>,
+    kept: &mut Vec<CopyVariable<'p, 'a>>,
 ) -> Result<(), AllocError>
-    ensures { OnOk result (map held_view kept.new.items ≡ map held_view kept.old.items
+    ensures { OnOk result (map variable_view kept.new.items ≡ map variable_view kept.old.items
         ++ spec.by_statements (scopes_of scopes.now) (statement_list
         (map statement_view statements.now))) }
 {
@@ -81,9 +81,9 @@ pub fn push_block<'p, 'a>(
     alloc: Global,
     block: &'p Block<'a>,
     outer: &Scopes<'_, 'a>,
-    kept: &mut Vec<Held<'p, 'a>>,
+    kept: &mut Vec<CopyVariable<'p, 'a>>,
 ) -> Result<(), AllocError>
-    ensures { OnOk result (map held_view kept.new.items ≡ map held_view kept.old.items
+    ensures { OnOk result (map variable_view kept.new.items ≡ map variable_view kept.old.items
         ++ spec.by_block (scopes_of outer.now) (block_view block.now)) }
 {
     let names = block_names(alloc, block.declarations.as_slice(), outer)?;
@@ -98,9 +98,9 @@ pub fn push_if_there<'p, 'a>(
     alloc: Global,
     block: &'p Option<Box<Block<'a>>>,
     scopes: &Scopes<'_, 'a>,
-    kept: &mut Vec<Held<'p, 'a>>,
+    kept: &mut Vec<CopyVariable<'p, 'a>>,
 ) -> Result<(), AllocError>
-    ensures { OnOk result (map held_view kept.new.items ≡ map held_view kept.old.items
+    ensures { OnOk result (map variable_view kept.new.items ≡ map variable_view kept.old.items
         ++ spec.by_maybe (scopes_of scopes.now) (shown (held block_view) block.now)) }
 {
     if let Some(block) = block {

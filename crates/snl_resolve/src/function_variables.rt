@@ -7,7 +7,7 @@ ghost use Rattle.snl_syntax.specs.view.Functions.{function_view, parameter_view}
 ghost use Rattle.snl_resolve.specs.Chains.{scopes_of};
 ghost use Rattle.snl_resolve.specs.Sights.{parameters_of};
 ghost use Rattle.snl_resolve.specs.Variables as spec;
-ghost use Rattle.snl_resolve.specs.Held.{held_view};
+ghost use Rattle.snl_resolve.specs.CopyVariables.{variable_view};
 
 use crate::block_variables::push_block;
 use crate::functions::parameter_names;
@@ -15,15 +15,15 @@ use crate::initialisers::range_of;
 use crate::rows::pushed;
 use crate::scopes::{Scope, Scopes};
 use crate::sites::Size;
-use crate::variables::Held;
+use crate::variables::CopyVariable;
 use snl_syntax::{Def, Function, Parameter};
 use std::alloc::{AllocError, Global};
 
 /// The variable of a parameter.
-fn held_parameter<'p, 'a>(parameter: Parameter<'a>) -> Held<'p, 'a>
-    ensures { held_view result ≡ spec.held_parameter (parameter_view parameter.entry) }
+fn held_parameter<'p, 'a>(parameter: Parameter<'a>) -> CopyVariable<'p, 'a>
+    ensures { variable_view result ≡ spec.held_parameter (parameter_view parameter.entry) }
 {
-    Held {
+    CopyVariable {
         name: parameter.name,
         range: range_of(parameter.type_name).unwrap_or((i64::MIN, i64::MAX)),
         size: Size::Scalar,
@@ -34,9 +34,9 @@ fn held_parameter<'p, 'a>(parameter: Parameter<'a>) -> Held<'p, 'a>
 /// Adds the variables of parameters.
 fn push_parameters<'p, 'a>(
     parameters: &[Parameter<'a>],
-    kept: &mut Vec<Held<'p, 'a>>,
+    kept: &mut Vec<CopyVariable<'p, 'a>>,
 ) -> Result<(), AllocError>
-    ensures { OnOk result (map held_view kept.new.items ≡ map held_view kept.old.items
+    ensures { OnOk result (map variable_view kept.new.items ≡ map variable_view kept.old.items
         ++ map spec.held_parameter (map parameter_view parameters.now)) }
 {
     for parameter in parameters {
@@ -58,9 +58,9 @@ fn push_function<'p, 'a>(
     alloc: Global,
     function: &'p Function<'a>,
     outer: &Scopes<'_, 'a>,
-    kept: &mut Vec<Held<'p, 'a>>,
+    kept: &mut Vec<CopyVariable<'p, 'a>>,
 ) -> Result<(), AllocError>
-    ensures { OnOk result (map held_view kept.new.items ≡ map held_view kept.old.items
+    ensures { OnOk result (map variable_view kept.new.items ≡ map variable_view kept.old.items
         ++ spec.by_function (scopes_of outer.now) (function_view function.now)) }
 {
     let parameters = function.parameters.each.as_slice();
@@ -79,9 +79,9 @@ fn push_if_function<'p, 'a>(
     alloc: Global,
     definition: &'p Def<'a>,
     scopes: &Scopes<'_, 'a>,
-    kept: &mut Vec<Held<'p, 'a>>,
+    kept: &mut Vec<CopyVariable<'p, 'a>>,
 ) -> Result<(), AllocError>
-    ensures { OnOk result (map held_view kept.new.items ≡ map held_view kept.old.items
+    ensures { OnOk result (map variable_view kept.new.items ≡ map variable_view kept.old.items
         ++ flat_map (spec.by_function (scopes_of scopes.now)) (spec.function_by
         (definition_view definition.now))) }
 {
@@ -97,9 +97,9 @@ pub fn push_functions<'p, 'a>(
     alloc: Global,
     definitions: &'p [Def<'a>],
     scopes: &Scopes<'_, 'a>,
-    kept: &mut Vec<Held<'p, 'a>>,
+    kept: &mut Vec<CopyVariable<'p, 'a>>,
 ) -> Result<(), AllocError>
-    ensures { OnOk result (map held_view kept.new.items ≡ map held_view kept.old.items
+    ensures { OnOk result (map variable_view kept.new.items ≡ map variable_view kept.old.items
         ++ flat_map (spec.by_function (scopes_of scopes.now)) (flat_map spec.function_by
         (map definition_view definitions.now))) }
 {

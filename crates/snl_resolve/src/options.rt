@@ -1,10 +1,10 @@
 //! The letters of options.
 
-ghost use Rattle.std.specs.Prelude.{◌≡◌};
-ghost use Rattle.snl_syntax.specs.view.Definitions.{setting_view};
+ghost use Rattle.std.specs.Prelude.{◌≡◌, map};
+ghost use Rattle.snl_syntax.specs.view.Definitions.{definition_view, setting_view};
 ghost use Rattle.snl_resolve.specs.Options as spec;
 
-use snl_syntax::Setting;
+use snl_syntax::{Def, Setting};
 use snl_text::Kind;
 
 /// The signs in force of the letters that change what is said of a program or how it starts:
@@ -22,22 +22,48 @@ pub struct Options {
 }
 
 /// Whether one of the letters is this one.
-pub fn has_letter(letters: &[u8], letter: u8) -> bool
+fn has_letter(letters: &[u8], letter: u8) -> bool
     ensures { result ≡ spec.is_among letters.now letter }
 {
     letters.iter().any(|next| letter == *next)
 }
 
-/// The sign of a letter after an option with this sign and these letters, where `before` was in
-/// force.
-fn sign_after(on: bool, letters: &[u8], letter: u8, before: Option<bool>) -> Option<bool>
-    ensures { result ≡ spec.sign_after on letters.now letter before }
+/// The sign that an option with this sign and these letters gives to a letter, if it has the letter.
+fn sign_said(letter: u8, on: bool, letters: &[u8]) -> Option<bool>
+    ensures { result ≡ spec.sign_said letter on letters.now }
 {
     if has_letter(letters, letter) {
         Some(on)
     } else {
-        before
+        None
     }
+}
+
+/// The sign that a definition gives to a letter, `true` for `+`.
+fn sign_by(letter: u8, definition: &Def) -> Option<bool>
+    ensures { result ≡ spec.sign_by letter (definition_view definition.now) }
+{
+    match definition {
+        Def::Setting(setting) => {
+            let on = matches!(setting.sign.kind, Kind::Plus);
+            sign_said(letter, on, setting.name.text)
+        }
+        _ => None,
+    }
+}
+
+/// The sign of a letter that is in force among the definitions of a state, `true` for `+`: that of the last option with the
+/// letter, and `+` where none has it (SNL Reference, "State Options").
+pub fn sign_in_force(letter: u8, definitions: &[Def]) -> bool
+    ensures { result ≡ spec.sign_in_force letter (map definition_view definitions.now) }
+{
+    let mut on = true;
+    for definition in definitions {
+        if let Some(sign) = sign_by(letter, definition) {
+            on = sign;
+        }
+    }
+    on
 }
 
 impl Options {
@@ -59,10 +85,10 @@ impl Options {
         ensures { result ≡ spec.after_option on letters.now self }
     {
         Options {
-            s: sign_after(on, letters, b's', self.s),
-            c: sign_after(on, letters, b'c', self.c),
-            u: sign_after(on, letters, b'u', self.u),
-            w: sign_after(on, letters, b'w', self.w),
+            s: sign_said(b's', on, letters).or(self.s),
+            c: sign_said(b'c', on, letters).or(self.c),
+            u: sign_said(b'u', on, letters).or(self.u),
+            w: sign_said(b'w', on, letters).or(self.w),
         }
     }
 }

@@ -89,11 +89,12 @@ fn note_first<'a>(
     ensures firsts { OnOk result ((q : List ℕ) → found_in firsts.new q
         ≡ spec.or_in (found_in firsts.old q) (only q declared.entry)) }
 {
-    if firsts.contains_key(&declared.name.text) {
-        return Ok(true);
-    }
-    firsts.insert(declared.name.text, declared)?;
-    Ok(false)
+    // One look at the table: where there was one, it goes back to its place.
+    let Some(first) = firsts.insert(declared.name.text, declared)? else {
+        return Ok(false);
+    };
+    firsts.insert(declared.name.text, first)?;
+    Ok(true)
 }
 
 impl<'a> Scope<'a> {
@@ -172,13 +173,15 @@ impl<'s, 'a> Scopes<'s, 'a> {
     pub fn bound(&self, name: Token<'a>) -> Option<Declared<'a>>
         ensures { result ≡ spec.bound (scopes_of self.now) name.entry.text.now }
     {
-        match self {
-            Scopes::Outside => None,
-            Scopes::Within(scope, outer) => match scope.find(name) {
-                Some(declared) => Some(declared),
-                None => outer.bound(name),
-            },
+        let mut scopes = self;
+        while let Scopes::Within(scope, outer) = scopes {
+            let found = scope.find(name);
+            if found.is_some() {
+                return found;
+            }
+            scopes = outer;
         }
+        None
     }
 
     /// What a name means (SNL Reference, "Declarations" and "Built-in Constants").

@@ -7,11 +7,11 @@ ghost use Rattle.snl_syntax.specs.view.Statements.{block_view};
 ghost use Rattle.snl_syntax.specs.view.Programs.{clause_view, state_view, state_set_view, program_view};
 ghost use Rattle.snl_resolve.specs.Chains.{scopes_of};
 ghost use Rattle.snl_resolve.specs.Variables as spec;
-ghost use Rattle.snl_resolve.specs.Held.{held_view};
+ghost use Rattle.snl_resolve.specs.CopyVariables.{variable_view};
 
 use crate::block_variables::{push_block, push_if_there};
 use crate::scopes::Scopes;
-use crate::variables::{Held, push_definitions};
+use crate::variables::{CopyVariable, push_definitions};
 use snl_syntax::{Block, Clause, Program, State, StateSet};
 use std::alloc::{AllocError, Global};
 
@@ -20,9 +20,9 @@ fn push_clauses<'p, 'a>(
     alloc: Global,
     clauses: &'p [Clause<'a>],
     scopes: &Scopes<'_, 'a>,
-    kept: &mut Vec<Held<'p, 'a>>,
+    kept: &mut Vec<CopyVariable<'p, 'a>>,
 ) -> Result<(), AllocError>
-    ensures { OnOk result (map held_view kept.new.items ≡ map held_view kept.old.items
+    ensures { OnOk result (map variable_view kept.new.items ≡ map variable_view kept.old.items
         ++ flat_map (spec.by_clause (scopes_of scopes.now)) (map clause_view clauses.now)) }
 {
     for clause in clauses {
@@ -38,9 +38,9 @@ fn push_blocks<'p, 'a>(
     clauses: &'p [Clause<'a>],
     exit: &'p Option<Box<Block<'a>>>,
     scopes: &Scopes<'_, 'a>,
-    kept: &mut Vec<Held<'p, 'a>>,
+    kept: &mut Vec<CopyVariable<'p, 'a>>,
 ) -> Result<(), AllocError>
-    ensures { OnOk result (map held_view kept.new.items ≡ map held_view kept.old.items
+    ensures { OnOk result (map variable_view kept.new.items ≡ map variable_view kept.old.items
         ++ spec.by_blocks (scopes_of scopes.now) (shown (held block_view) entry.now)
         (map clause_view clauses.now) (shown (held block_view) exit.now)) }
 {
@@ -54,9 +54,9 @@ fn push_state<'p, 'a>(
     alloc: Global,
     state: &'p State<'a>,
     outer: &Scopes<'_, 'a>,
-    kept: &mut Vec<Held<'p, 'a>>,
+    kept: &mut Vec<CopyVariable<'p, 'a>>,
 ) -> Result<(), AllocError>
-    ensures { OnOk result (map held_view kept.new.items ≡ map held_view kept.old.items
+    ensures { OnOk result (map variable_view kept.new.items ≡ map variable_view kept.old.items
         ++ spec.by_state (scopes_of outer.now) (state_view state.now)) }
 {
     let scope = push_definitions(alloc, state.definitions.as_slice(), outer, kept)?;
@@ -70,9 +70,9 @@ fn push_states<'p, 'a>(
     alloc: Global,
     states: &'p [State<'a>],
     outer: &Scopes<'_, 'a>,
-    kept: &mut Vec<Held<'p, 'a>>,
+    kept: &mut Vec<CopyVariable<'p, 'a>>,
 ) -> Result<(), AllocError>
-    ensures { OnOk result (map held_view kept.new.items ≡ map held_view kept.old.items
+    ensures { OnOk result (map variable_view kept.new.items ≡ map variable_view kept.old.items
         ++ flat_map (spec.by_state (scopes_of outer.now)) (map state_view states.now)) }
 {
     for state in states {
@@ -86,9 +86,9 @@ fn push_set<'p, 'a>(
     alloc: Global,
     set: &'p StateSet<'a>,
     outer: &Scopes<'_, 'a>,
-    kept: &mut Vec<Held<'p, 'a>>,
+    kept: &mut Vec<CopyVariable<'p, 'a>>,
 ) -> Result<(), AllocError>
-    ensures { OnOk result (map held_view kept.new.items ≡ map held_view kept.old.items
+    ensures { OnOk result (map variable_view kept.new.items ≡ map variable_view kept.old.items
         ++ spec.by_state_set (scopes_of outer.now) (state_set_view set.now)) }
 {
     let scope = push_definitions(alloc, set.definitions.as_slice(), outer, kept)?;
@@ -106,9 +106,9 @@ fn push_numbered<'p, 'a>(
     sets: &'p [StateSet<'a>],
     outer: &Scopes<'_, 'a>,
     set: usize,
-    kept: &mut Vec<Held<'p, 'a>>,
+    kept: &mut Vec<CopyVariable<'p, 'a>>,
 ) -> Result<(), AllocError>
-    ensures { OnOk result (map held_view kept.new.items ≡ map held_view kept.old.items
+    ensures { OnOk result (map variable_view kept.new.items ≡ map variable_view kept.old.items
         ++ spec.by_numbered (scopes_of outer.now) (slice_get (map state_set_view sets.now) set)) }
 {
     if sets.len() <= set {
@@ -123,9 +123,9 @@ fn push_for_first<'p, 'a>(
     block: &'p Option<Box<Block<'a>>>,
     scopes: &Scopes<'_, 'a>,
     set: usize,
-    kept: &mut Vec<Held<'p, 'a>>,
+    kept: &mut Vec<CopyVariable<'p, 'a>>,
 ) -> Result<(), AllocError>
-    ensures { OnOk result (map held_view kept.new.items ≡ map held_view kept.old.items
+    ensures { OnOk result (map variable_view kept.new.items ≡ map variable_view kept.old.items
         ++ spec.for_first set (scopes_of scopes.now) (shown (held block_view) block.now)) }
 {
     if set == 0 {
@@ -144,9 +144,9 @@ pub fn push_parts<'p, 'a>(
     exit: &'p Option<Box<Block<'a>>>,
     scopes: &Scopes<'_, 'a>,
     set: usize,
-    kept: &mut Vec<Held<'p, 'a>>,
+    kept: &mut Vec<CopyVariable<'p, 'a>>,
 ) -> Result<(), AllocError>
-    ensures { OnOk result (map held_view kept.new.items ≡ map held_view kept.old.items
+    ensures { OnOk result (map variable_view kept.new.items ≡ map variable_view kept.old.items
         ++ spec.by_parts (scopes_of scopes.now) set (shown (held block_view) entry.now)
         (map state_set_view sets.now) (shown (held block_view) exit.now)) }
 {
@@ -160,9 +160,9 @@ fn push_variables<'p, 'a>(
     alloc: Global,
     program: &'p Program<'a>,
     set: usize,
-    kept: &mut Vec<Held<'p, 'a>>,
+    kept: &mut Vec<CopyVariable<'p, 'a>>,
 ) -> Result<(), AllocError>
-    ensures { OnOk result (map held_view kept.new.items ≡ map held_view kept.old.items
+    ensures { OnOk result (map variable_view kept.new.items ≡ map variable_view kept.old.items
         ++ spec.variables_of (program_view program.now) set) }
 {
     let outside = Scopes::Outside;
@@ -186,8 +186,8 @@ pub fn variables_of<'p, 'a>(
     alloc: Global,
     program: &'p Program<'a>,
     set: usize,
-) -> Result<Vec<Held<'p, 'a>>, AllocError>
-    ensures { IfOk result (λ held. map held_view held.items
+) -> Result<Vec<CopyVariable<'p, 'a>>, AllocError>
+    ensures { IfOk result (λ held. map variable_view held.items
         ≡ spec.variables_of (program_view program.now) set) }
 {
     let mut kept = Vec::new(alloc);

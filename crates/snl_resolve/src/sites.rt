@@ -173,12 +173,12 @@ pub enum Site<'a> {
         is_good: bool,
     },
     /// `break` or `continue`.
-    Leave {
+    LoopExit {
         word: Token<'a>,
         is_in_loop: bool,
     },
     /// The word of a state statement.
-    Move {
+    StateChange {
         word: Token<'a>,
         is_in_clause: bool,
     },

@@ -77,9 +77,9 @@ fn note_leave<'a>(
     sites: &mut Vec<Site<'a>>,
 ) -> Result<(), AllocError>
     ensures { OnOk result (sites.new.items ≡ sites.old.items
-        ++ Site.Leave word.entry is_in_loop ∷ []) }
+        ++ Site.LoopExit word.entry is_in_loop ∷ []) }
 {
-    pushed(sites, Site::Leave { word, is_in_loop })
+    pushed(sites, Site::LoopExit { word, is_in_loop })
 }
 
 /// Notes a state statement and its target.
@@ -90,12 +90,12 @@ fn note_move<'a>(
     sites: &mut Vec<Site<'a>>,
 ) -> Result<(), AllocError>
     ensures { OnOk result (sites.new.items ≡ sites.old.items
-        ++ Site.Move word.entry (spec.is_clause around.now.room)
+        ++ Site.StateChange word.entry (spec.is_clause around.now.room)
         ∷ Site.Target name.entry (number_of around.now.states.now name.entry.text.now)
         (spec.is_clause around.now.room) ∷ []) }
 {
     let is_in_clause = around.room.is_clause();
-    pushed(sites, Site::Move { word, is_in_clause })?;
+    pushed(sites, Site::StateChange { word, is_in_clause })?;
     note_target(around.states, name, is_in_clause, sites)
 }
 

@@ -6,7 +6,7 @@ ghost use Rattle.snl_resolve.specs.Uses as spec;
 ghost use Rattle.snl_resolve.specs.UseTables.{IsUseTable, declared_at, place_in};
 
 use crate::sites::Site;
-use crate::uses::{place_of, use_at};
+use crate::uses::{declared_pos, use_at};
 use indexmap::IndexMap;
 use snl_text::Pos;
 use std::alloc::{AllocError, Global};
@@ -26,7 +26,7 @@ fn note_meant(site: &Site, places: &mut IndexMap<usize, Option<Pos>>) -> Result<
 {
     if let Some((name, meaning)) = use_at(site) {
         if !places.contains_key(&name.pos.offset) {
-            places.insert(name.pos.offset, place_of(meaning))?;
+            places.insert(name.pos.offset, declared_pos(meaning))?;
         }
     }
     Ok(())

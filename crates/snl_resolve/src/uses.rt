@@ -7,8 +7,8 @@ use crate::sites::{Meaning, Site};
 use snl_text::{Pos, Token};
 
 /// The place of the declaration that a name means, of a variable or an event flag.
-pub fn place_of(meaning: Meaning) -> Option<Pos>
-    ensures { result ≡ spec.place_of meaning }
+pub fn declared_pos(meaning: Meaning) -> Option<Pos>
+    ensures { result ≡ spec.declared_pos meaning }
 {
     match meaning {
         Meaning::Variable(declared, _) | Meaning::Flag(declared) => Some(declared),

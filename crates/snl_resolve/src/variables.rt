@@ -8,8 +8,8 @@ ghost use Rattle.snl_syntax.specs.view.Definitions.{definition_view};
 ghost use Rattle.snl_resolve.specs.Chains.{scopes_of};
 ghost use Rattle.snl_resolve.specs.Scopes.{scope_of};
 ghost use Rattle.snl_resolve.specs.Variables as spec;
-ghost use Rattle.snl_resolve.specs.Held as held;
-ghost use Rattle.snl_resolve.specs.Held.{held_view};
+ghost use Rattle.snl_resolve.specs.CopyVariables as held;
+ghost use Rattle.snl_resolve.specs.CopyVariables.{variable_view};
 
 use crate::definition_scopes::definition_names;
 use crate::initialisers::range_of;
@@ -23,7 +23,7 @@ use std::alloc::{AllocError, Global};
 
 /// A variable of a state set's copy, or of a function.
 #[derive(Clone, Copy)]
-pub struct Held<'p, 'a> {
+pub struct CopyVariable<'p, 'a> {
     /// Its name, with the place of its declaration.
     pub name: Token<'a>,
     /// The least and the greatest number of its type; those of `long` where the type is not
@@ -50,12 +50,12 @@ fn held_for<'p, 'a>(
     declarator: &'p Declarator<'a>,
     scopes: &Scopes<'_, 'a>,
     type_name: TypeName<'a>,
-) -> Held<'p, 'a>
-    ensures { held_view result
+) -> CopyVariable<'p, 'a>
+    ensures { variable_view result
         ≡ spec.held_for (scopes_of scopes.now) (type_view type_name.entry)
         (declarator_view declarator.now) }
 {
-    Held {
+    CopyVariable {
         name: declarator.name,
         range: range_of(type_name).unwrap_or((i64::MIN, i64::MAX)),
         size: size_of(declarator.sizes.as_slice(), scopes),
@@ -67,9 +67,9 @@ fn held_for<'p, 'a>(
 pub fn push_held<'p, 'a>(
     declared: &'p Declaration<'a>,
     scopes: &Scopes<'_, 'a>,
-    kept: &mut Vec<Held<'p, 'a>>,
+    kept: &mut Vec<CopyVariable<'p, 'a>>,
 ) -> Result<(), AllocError>
-    ensures { OnOk result (map held_view kept.new.items ≡ map held_view kept.old.items
+    ensures { OnOk result (map variable_view kept.new.items ≡ map variable_view kept.old.items
         ++ spec.by_declaration (scopes_of scopes.now) (declaration_view declared.now)) }
 {
     for declarator in &declared.names {
@@ -82,9 +82,9 @@ pub fn push_held<'p, 'a>(
 fn push_definition<'p, 'a>(
     definition: &'p Def<'a>,
     scopes: &Scopes<'_, 'a>,
-    kept: &mut Vec<Held<'p, 'a>>,
+    kept: &mut Vec<CopyVariable<'p, 'a>>,
 ) -> Result<(), AllocError>
-    ensures { OnOk result (map held_view kept.new.items ≡ map held_view kept.old.items
+    ensures { OnOk result (map variable_view kept.new.items ≡ map variable_view kept.old.items
         ++ spec.by_definition (scopes_of scopes.now) (definition_view definition.now)) }
 {
     match definition {
@@ -97,9 +97,9 @@ fn push_definition<'p, 'a>(
 fn push_each<'p, 'a>(
     definitions: &'p [Def<'a>],
     scopes: &Scopes<'_, 'a>,
-    kept: &mut Vec<Held<'p, 'a>>,
+    kept: &mut Vec<CopyVariable<'p, 'a>>,
 ) -> Result<(), AllocError>
-    ensures { OnOk result (map held_view kept.new.items ≡ map held_view kept.old.items
+    ensures { OnOk result (map variable_view kept.new.items ≡ map variable_view kept.old.items
         ++ flat_map (spec.by_definition (scopes_of scopes.now))
         (map definition_view definitions.now)) }
 {
@@ -115,11 +115,11 @@ pub fn push_definitions<'p, 'a>(
     alloc: Global,
     definitions: &'p [Def<'a>],
     outer: &Scopes<'_, 'a>,
-    kept: &mut Vec<Held<'p, 'a>>,
+    kept: &mut Vec<CopyVariable<'p, 'a>>,
 ) -> Result<Scope<'a>, AllocError>
     ensures scope { IfOk result (λ scope. scope
         ≡ scope_of (scopes_of outer.now) (map definition_view definitions.now)) }
-    ensures kept { OnOk result (map held_view kept.new.items ≡ map held_view kept.old.items
+    ensures kept { OnOk result (map variable_view kept.new.items ≡ map variable_view kept.old.items
         ++ spec.by_definitions (scopes_of outer.now) (map definition_view definitions.now)) }
 {
     let names = definition_names(alloc, definitions, outer)?;

@@ -9,13 +9,13 @@ use Rattle.snl_syntax.specs.view.Definitions.{definition_view}
 use Rattle.snl_syntax.specs.view.Programs.{program_view}
 use Rattle.snl_resolve.specs.Programs.{program_scopes}
 use Rattle.snl_resolve.specs.Scopes.{Scope, scope_of}
-use Rattle.snl_resolve.specs.Variables.{Held, by_definitions, by_parts, by_function, function_by, shared_variables}
+use Rattle.snl_resolve.specs.Variables.{CopyVariable, by_definitions, by_parts, by_function, function_by, shared_variables}
 use Rattle.snl_rules.specs.declared.words.Shared.{Shared}
 use Rattle.snl_rules.specs.Words.{variable_words, set_words}
 use Rattle.snl_rules.specs.Counts.{IsSharedIn, capped, own_words_in}
 
 -- one part and three, cut behind the first
-one_and_three : (a b c d : List Held) → ((a ++ b) ++ c) ++ d ≡ a ++ ((b ++ c) ++ d)
+one_and_three : (a b c d : List CopyVariable) → ((a ++ b) ++ c) ++ d ≡ a ++ ((b ++ c) ++ d)
 one_and_three a b c d = simp append_assoc
 
 -- the words of a state set are the shared ones and its own
@@ -36,7 +36,7 @@ set_words_of p k shared own words is eo ew =
     (set_words_are p k) is.words (eo ∙ ap (λ s. capped (own_words_in (s ∷ []) p k)) is.scope) ew
 
 -- The variables that were added for functions are those that all state sets share.
-pub shared_are : (p : Program) (ds : List Def) (scope : Scope) (old new : List Held) → ds ≡ p.definitions.items → scope ≡ scope_of [] (map definition_view ds) → old ≡ []
+pub shared_are : (p : Program) (ds : List Def) (scope : Scope) (old new : List CopyVariable) → ds ≡ p.definitions.items → scope ≡ scope_of [] (map definition_view ds) → old ≡ []
     → new ≡ old ++ flat_map (by_function (scope ∷ [])) (flat_map function_by (map definition_view ds)) → new ≡ shared_variables (program_view p)
 shared_are p ds scope old new ed es eo en =
     let defs = map definition_view p.definitions.items in

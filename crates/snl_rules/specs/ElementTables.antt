@@ -6,8 +6,8 @@ use Rattle.snl_resolve.specs.declared.sites.Sort.{Sort}
 use Rattle.snl_rules.specs.declared.elements.Elements.{Elements}
 use Rattle.snl_rules.specs.declared.elements.Naming.{Naming}
 use Rattle.snl_rules.specs.declared.elements.Naming.TheVariants.{Assigning, Monitoring, Syncing, Queueing}
-use Rattle.snl_rules.specs.declared.facts.Known.{Known}
-use Rattle.snl_rules.specs.declared.facts.Seen.{Seen}
+use Rattle.snl_rules.specs.declared.facts.ProgramFacts.{ProgramFacts}
+use Rattle.snl_rules.specs.declared.facts.EarlierFacts.{EarlierFacts}
 use Rattle.snl_rules.specs.Elements.{is_assign, is_monitor, is_queue, is_sync}
 use Rattle.snl_rules.specs.Tests.{Named, AllFacts, SeenFacts}
 
@@ -63,7 +63,7 @@ pub record IsEmpty (t : Elements) : Type 0 where
   pub some : (v : ℕ) → some_in t v ≡ false
 
 -- Nothing is known.
-pub record IsBlank (k : Known) : Type 0 where
+pub record IsBlank (k : ProgramFacts) : Type 0 where
   pub assigned : IsEmpty k.assigned
   pub monitored : IsEmpty k.monitored
   pub queued : IsEmpty k.queued
@@ -71,7 +71,7 @@ pub record IsBlank (k : Known) : Type 0 where
   pub used : (v : ℕ) → contains nat_eq k.used v ≡ false
 
 -- The facts that the tables of all sites know.
-abbrev pub known_in : Known → AllFacts
+abbrev pub known_in : ProgramFacts → AllFacts
 known_in k = record {
   assigned = named_in k.assigned;
   monitored = named_in k.monitored;
@@ -81,7 +81,7 @@ known_in k = record {
 }
 
 -- The facts that the tables of the sites before a site know.
-abbrev pub seen_in : Seen → SeenFacts
+abbrev pub seen_in : EarlierFacts → SeenFacts
 seen_in s = record {
   assigned = named_in s.assigned;
   synced = named_in s.synced;

@@ -15,7 +15,7 @@ use Rattle.snl_resolve.specs.declared.sites.Size.TheVariants.{Scalar, TooLong, W
 use Rattle.snl_resolve.specs.declared.sites.Sort.{Sort}
 use Rattle.snl_resolve.specs.declared.sites.Sort.TheVariants.{Assign, Monitor, Queue}
 use Rattle.snl_resolve.specs.declared.sites.Site.{Site}
-use Rattle.snl_resolve.specs.declared.sites.Site.TheVariants.{Declaration, Typed, Declarator, Defined, QueueSize, Setting, Use, Decimal, Call, Format, Change, Leave, Move, Target, Clause, State, StateSet, Function, Return}
+use Rattle.snl_resolve.specs.declared.sites.Site.TheVariants.{Declaration, Typed, Declarator, Defined, QueueSize, Setting, Use, Decimal, Call, Format, Change, LoopExit, StateChange, Target, Clause, State, StateSet, Function, Return}
 use Rattle.snl_resolve.specs.Scopes.{is_array}
 use Rattle.snl_rules.specs.declared.rules.Broken.{Broken}
 use Rattle.snl_rules.specs.declared.rules.Rule.{Rule}
@@ -91,9 +91,9 @@ alone (Format t good) = when (not good) r.BadFormat
 -- E30
 alone (Change t good) = when (not good) r.NotAssignable
 -- E27
-alone (Leave t in_loop) = when (not in_loop) r.OutsideLoop
+alone (LoopExit t in_loop) = when (not in_loop) r.OutsideLoop
 -- E26
-alone (Move t in_clause) = when (not in_clause) r.StateElsewhere
+alone (StateChange t in_clause) = when (not in_clause) r.StateElsewhere
 -- E25; where the state statement itself may not stand, that is said alone
 alone (Target t state may) = when (may && is_none state) r.NoState
 -- W3

@@ -13,12 +13,12 @@ use Rattle.snl_resolve.specs.declared.sites.Site.{Site}
 use Rattle.snl_resolve.specs.declared.sites.Site.TheVariants.{Defined}
 use Rattle.snl_resolve.specs.Programs.{sites}
 use Rattle.snl_resolve.specs.Scopes.{elements, or_in}
-use Rattle.snl_resolve.specs.Variables.{Held, variables_of, functions_of, shared_variables}
+use Rattle.snl_resolve.specs.Variables.{CopyVariable, variables_of, functions_of, shared_variables}
 
 -- ---- the stores of state sets
 
 -- A variable takes a word for each element.
-abbrev pub variable_words : Held → ℕ
+abbrev pub variable_words : CopyVariable → ℕ
 variable_words v = elements v.size
 
 -- The store of the state set of a number: the words of all variables that its copy holds.

@@ -145,8 +145,12 @@ pub fn tell_alone(site: &Site, found: &mut Vec<Rule>) -> Result<(), AllocError>
         Site::Return { may_stand, .. } => tell_when(!*may_stand, Rule::ReturnElsewhere, found),
         Site::Format { is_good, .. } => tell_when(!*is_good, Rule::BadFormat, found),
         Site::Change { is_good, .. } => tell_when(!*is_good, Rule::NotAssignable, found),
-        Site::Leave { is_in_loop, .. } => tell_when(!*is_in_loop, Rule::OutsideLoop, found),
-        Site::Move { is_in_clause, .. } => tell_when(!*is_in_clause, Rule::StateElsewhere, found),
+        Site::LoopExit { is_in_loop, .. } => tell_when(!*is_in_loop, Rule::OutsideLoop, found),
+        Site::StateChange { is_in_clause, .. } => tell_when(
+            !*is_in_clause,
+            Rule::StateElsewhere,
+            found,
+        ),
         Site::Target {
             state,
             may_stand,

@@ -7,14 +7,19 @@ ghost use Rattle.snl_rules.specs.Tests as tests;
 ghost use Rattle.snl_rules.specs.ElementTables as spec;
 
 use crate::alone::tell_alone;
-use crate::facts::{Known, Seen};
+use crate::facts::{EarlierFacts, ProgramFacts};
 use crate::rules::{Broken, Rule};
 use crate::together::tell_together;
 use snl_resolve::Site;
 use std::alloc::{AllocError, Global};
 
 /// The rules that a site breaks.
-fn rules_at(alloc: Global, seen: &Seen, known: &Known, site: &Site) -> Result<Vec<Rule>, AllocError>
+fn rules_at(
+    alloc: Global,
+    seen: &EarlierFacts,
+    known: &ProgramFacts,
+    site: &Site,
+) -> Result<Vec<Rule>, AllocError>
     ensures { IfOk result (λ rules. rules.items
         ≡ tests.rules_at (spec.seen_in seen.now) (spec.known_in known.now) site.now) }
 {
@@ -45,9 +50,9 @@ fn push_broken<'a>(
 /// Adds what is broken at a site, and notes the site.
 fn note_site<'a>(
     alloc: Global,
-    known: &Known,
+    known: &ProgramFacts,
     site: &Site<'a>,
-    seen: &mut Seen,
+    seen: &mut EarlierFacts,
     found: &mut Vec<Broken<'a>>,
 ) -> Result<(), AllocError>
     ensures found { OnOk result (found.new.items ≡ found.old.items
@@ -66,8 +71,8 @@ fn note_site<'a>(
 fn tell_sites<'a>(
     alloc: Global,
     sites: &[Site<'a>],
-    known: &Known,
-    seen: &mut Seen,
+    known: &ProgramFacts,
+    seen: &mut EarlierFacts,
     found: &mut Vec<Broken<'a>>,
 ) -> Result<(), AllocError>
     requires known { spec.known_in known.now ≡ tests.all_facts sites.now }
@@ -85,8 +90,8 @@ fn tell_sites<'a>(
 fn tell_all<'a>(
     alloc: Global,
     sites: &[Site<'a>],
-    known: &mut Known,
-    seen: &mut Seen,
+    known: &mut ProgramFacts,
+    seen: &mut EarlierFacts,
     found: &mut Vec<Broken<'a>>,
 ) -> Result<(), AllocError>
     requires known { spec.IsBlank known.old }
@@ -107,8 +112,8 @@ fn tell_by_tables<'a>(
     requires { found.old.items ≡ [] }
     ensures { OnOk result (found.new.items ≡ tests.all_broken sites.now) }
 {
-    let mut known = Known::new(alloc);
-    let mut seen = Seen::new(alloc);
+    let mut known = ProgramFacts::new(alloc);
+    let mut seen = EarlierFacts::new(alloc);
     let told = tell_all(alloc, sites, &mut known, &mut seen, found);
     drop(known);
     drop(seen);

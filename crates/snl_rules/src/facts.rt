@@ -25,7 +25,7 @@ const MOST_CHANNELS: usize = 1024;
 
 /// What is known of all sites. Variables and flags are told by the offsets of their declarations.
 #[derive(Drop)]
-pub struct Known {
+pub struct ProgramFacts {
     /// What `assign` names.
     pub assigned: Elements,
     /// What `monitor` names.
@@ -40,7 +40,7 @@ pub struct Known {
 
 /// What is known of the sites before a site.
 #[derive(Drop)]
-pub struct Seen {
+pub struct EarlierFacts {
     /// What `assign` names.
     pub assigned: Elements,
     /// What `sync` and `syncQ` name.
@@ -125,12 +125,12 @@ fn note_uses(used: &mut IndexSet<usize>, sites: &[Site]) -> Result<(), AllocErro
     Ok(())
 }
 
-impl Known {
+impl ProgramFacts {
     /// What is known where there is no site.
-    pub fn new(alloc: Global) -> Known
+    pub fn new(alloc: Global) -> ProgramFacts
         ensures { spec.IsBlank result }
     {
-        Known {
+        ProgramFacts {
             assigned: Elements::new(alloc),
             monitored: Elements::new(alloc),
             queued: Elements::new(alloc),
@@ -230,12 +230,12 @@ fn room_after(room: Option<usize>, count: usize) -> Option<usize>
     }
 }
 
-impl Seen {
+impl EarlierFacts {
     /// Nothing is before the first site.
-    pub fn new(alloc: Global) -> Seen
+    pub fn new(alloc: Global) -> EarlierFacts
         ensures { spec.seen_in result ≡ tests.seen_facts [] }
     {
-        Seen {
+        EarlierFacts {
             assigned: Elements::new(alloc),
             synced: Elements::new(alloc),
             sets: Some(MOST_SETS),

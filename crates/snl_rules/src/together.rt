@@ -8,7 +8,7 @@ ghost use Rattle.snl_rules.specs.ElementTables as spec;
 
 use crate::alone::tell_when;
 use crate::elements::Elements;
-use crate::facts::{Known, Seen, channels_at, is_over};
+use crate::facts::{EarlierFacts, ProgramFacts, channels_at, is_over};
 use crate::rules::Rule;
 use snl_resolve::{Extent, Meaning, Part, Purpose, Site, Size, Sort};
 use std::alloc::AllocError;
@@ -43,7 +43,7 @@ fn is_array(size: Size) -> bool
 }
 
 /// E20: no `assign` names the part.
-fn is_unassigned(known: &Known, part: Part) -> bool
+fn is_unassigned(known: &ProgramFacts, part: Part) -> bool
     ensures { result ≡ tests.is_unassigned (spec.known_in known.now) (Some part) }
 {
     let variable = part.variable.offset;
@@ -55,7 +55,7 @@ fn is_unassigned(known: &Known, part: Part) -> bool
 
 /// E29 at a definition.
 fn is_wrong_definition(
-    known: &Known,
+    known: &ProgramFacts,
     sort: Sort,
     meaning: Meaning,
     has_subscript: bool,
@@ -82,8 +82,8 @@ fn is_wrong_definition(
 
 /// E20, E22 and W4 at a `sync` or `syncQ`.
 fn tell_sync(
-    seen: &Seen,
-    known: &Known,
+    seen: &EarlierFacts,
+    known: &ProgramFacts,
     part: Part,
     found: &mut Vec<Rule>,
 ) -> Result<(), AllocError>
@@ -98,8 +98,8 @@ fn tell_sync(
 
 /// E19, E20, E22 and W4 at a definition without E29.
 fn tell_part(
-    seen: &Seen,
-    known: &Known,
+    seen: &EarlierFacts,
+    known: &ProgramFacts,
     sort: Sort,
     part: Part,
     found: &mut Vec<Rule>,
@@ -118,7 +118,7 @@ fn tell_part(
 }
 
 /// E29 where the channel or the queue of a variable is used.
-fn is_wrong_channel(known: &Known, variable: usize, size: Size, has_subscript: bool) -> bool
+fn is_wrong_channel(known: &ProgramFacts, variable: usize, size: Size, has_subscript: bool) -> bool
     ensures { result
         ≡ tests.is_wrong_channel (spec.known_in known.now) variable size has_subscript }
 {
@@ -141,7 +141,12 @@ fn is_wrong_subscript(size: Size, has_subscript: bool) -> bool
 }
 
 /// E29 at a name in an expression.
-fn is_wrong_use(known: &Known, purpose: Purpose, meaning: Meaning, has_subscript: bool) -> bool
+fn is_wrong_use(
+    known: &ProgramFacts,
+    purpose: Purpose,
+    meaning: Meaning,
+    has_subscript: bool,
+) -> bool
     ensures { result ≡ tests.is_wrong_use (spec.known_in known.now) purpose meaning has_subscript }
 {
     match purpose {
@@ -165,7 +170,7 @@ fn is_wrong_use(known: &Known, purpose: Purpose, meaning: Meaning, has_subscript
 }
 
 /// E20 at a name in an expression.
-fn is_unassigned_use(known: &Known, purpose: Purpose, meaning: Meaning) -> bool
+fn is_unassigned_use(known: &ProgramFacts, purpose: Purpose, meaning: Meaning) -> bool
     ensures { result ≡ tests.is_unassigned_use (spec.known_in known.now) purpose meaning }
 {
     match (purpose, meaning) {
@@ -177,7 +182,7 @@ fn is_unassigned_use(known: &Known, purpose: Purpose, meaning: Meaning) -> bool
 }
 
 /// E23 at a name in an expression.
-fn is_without_queue(known: &Known, purpose: Purpose, meaning: Meaning) -> bool
+fn is_without_queue(known: &ProgramFacts, purpose: Purpose, meaning: Meaning) -> bool
     ensures { result ≡ tests.is_without_queue (spec.known_in known.now) purpose meaning }
 {
     match (purpose, meaning) {
@@ -190,8 +195,8 @@ fn is_without_queue(known: &Known, purpose: Purpose, meaning: Meaning) -> bool
 
 /// W8 and E04 at a function.
 fn tell_function(
-    seen: &Seen,
-    known: &Known,
+    seen: &EarlierFacts,
+    known: &ProgramFacts,
     place: usize,
     found: &mut Vec<Rule>,
 ) -> Result<(), AllocError>
@@ -205,7 +210,7 @@ fn tell_function(
 
 /// E29, E20 and E23 at a name in an expression.
 fn tell_use(
-    known: &Known,
+    known: &ProgramFacts,
     purpose: Purpose,
     meaning: Meaning,
     has_subscript: bool,
@@ -232,8 +237,8 @@ fn tell_use(
 /// Adds the rules that a site breaks beside what is known of the sites before it and of all sites.
 /// Fails only where memory ends.
 pub fn tell_together(
-    seen: &Seen,
-    known: &Known,
+    seen: &EarlierFacts,
+    known: &ProgramFacts,
     site: &Site,
     found: &mut Vec<Rule>,
 ) -> Result<(), AllocError>

@@ -4,21 +4,21 @@ ghost use Rattle.std.specs.Prelude.{◌≡◌, ◌++◌, ◌+◌, ◌↔◌, [],
 ghost use Rattle.std.specs.List.{Contains, sum_by};
 ghost use Rattle.snl_text.specs.declared.tokens.Token.{Token};
 ghost use Rattle.snl_syntax.specs.view.Programs.{state_set_view, program_view};
-ghost use Rattle.snl_resolve.specs.Held.{held_view};
+ghost use Rattle.snl_resolve.specs.CopyVariables.{variable_view};
 ghost use Rattle.snl_resolve.specs.Programs as program_sites;
 ghost use Rattle.snl_rules.specs.Words as spec;
 ghost use Rattle.snl_rules.specs.Counts.{IsSharedIn, capped, own_words_in, overfull_at, overfull_from};
 
 use crate::function_words::words_of_functions;
 use crate::link_words::words_of_all_links;
-use snl_resolve::{Held, Scope, Scopes, Site, push_definitions, push_parts};
+use snl_resolve::{CopyVariable, Scope, Scopes, Site, push_definitions, push_parts};
 use snl_syntax::{Program, StateSet};
 use snl_text::Token;
 use std::alloc::{AllocError, Global};
 
 /// The words of variables, at most 2^64 - 1.
-pub fn words_of_variables(held: &[Held]) -> u64
-    ensures { result ≡ capped (sum_by spec.variable_words (map held_view held.now)) }
+pub fn words_of_variables(held: &[CopyVariable]) -> u64
+    ensures { result ≡ capped (sum_by spec.variable_words (map variable_view held.now)) }
 {
     let mut words: u64 = 0;
     for variable in held {

@@ -17,7 +17,7 @@ use Rattle.snl_schedule.specs.declared.transitions.Turned.TheVariants.{Stayed, M
 use Rattle.snl_schedule.specs.Event.{wake_before}
 use Rattle.snl_schedule.specs.Instant.{later, is_exit, round_of, begun, instant_of}
 use Rattle.snl_schedule.specs.Loaded.{Loaded, context_in, own_context, program_of}
-use Rattle.snl_schedule.specs.Plans.{held_at, set_of}
+use Rattle.snl_schedule.specs.Plans.{test_at, set_of}
 use Rattle.snl_schedule.specs.Turn.{turn_of}
 use Rattle.snl_schedule.specs.Steps.{steps_then, block_steps, held_steps, chosen_if_steps, chosen_steps, AddsUpTo, turn_steps, turns_steps, unless_exited_steps, round_steps, rounds_steps, unless_still_steps, begun_steps, begun_sets_steps, instant_steps, wakes_steps, woken_steps}
 
@@ -61,29 +61,29 @@ module _ (g : PieceContext) (code : List Instr) (fire : ClausePlan → World →
   tested = get_or cs i d
 
   -- what is left begins with its condition
-  tested_here : mid + (held_steps g code tested.condition w + steps_then (held_at g code tested.condition w) (chosen_if_steps (fire tested) (chosen_steps g code fire (drop (i + 1) cs)))) ≡ all
+  tested_here : mid + (held_steps g code tested.condition w + steps_then (test_at g code tested.condition w) (chosen_if_steps (fire tested) (chosen_steps g code fire (drop (i + 1) cs)))) ≡ all
   tested_here = subst (λ (k : List ClausePlan). mid + chosen_steps g code fire k w ≡ all) (drop_more cs i d within) so_far
 
   -- it does not hold
-  pub count-goes_on : (u : World) (old new : Option (List ℕ)) (after : ℕ) → Gave false u old new (held_at g code tested.condition w) → after ≡ mid + held_steps g code tested.condition w →
+  pub count-goes_on : (u : World) (old new : Option (List ℕ)) (after : ℕ) → Gave false u old new (test_at g code tested.condition w) → after ≡ mid + held_steps g code tested.condition w →
       after + chosen_steps g code fire (drop (i + 1) cs) u ≡ all
   count-goes_on u old new after did added =
-      let h = then-is (held_at g code tested.condition w) (chosen_if_steps (fire tested) (chosen_steps g code fire (drop (i + 1) cs))) false u old new did in
+      let h = then-is (test_at g code tested.condition w) (chosen_if_steps (fire tested) (chosen_steps g code fire (drop (i + 1) cs))) false u old new did in
       omega (arith, h, added, tested_here)
 
   -- it holds
-  pub count-chooses : (u : World) (old new : Option (List ℕ)) (after : ℕ) → Gave true u old new (held_at g code tested.condition w) → after ≡ mid + held_steps g code tested.condition w →
+  pub count-chooses : (u : World) (old new : Option (List ℕ)) (after : ℕ) → Gave true u old new (test_at g code tested.condition w) → after ≡ mid + held_steps g code tested.condition w →
       after + fire tested u ≡ all
   count-chooses u old new after did added =
-      let h = then-is (held_at g code tested.condition w) (chosen_if_steps (fire tested) (chosen_steps g code fire (drop (i + 1) cs))) true u old new did in
+      let h = then-is (test_at g code tested.condition w) (chosen_if_steps (fire tested) (chosen_steps g code fire (drop (i + 1) cs))) true u old new did in
       omega (arith, h, added, tested_here)
 
   -- it stops
   pub count-stops : (why : Stop) (u : World) (old new : Option (List ℕ)) (before n after : ℕ) → all ≡ before + n →
-      Does {V = Bool} {A = Bool} (λ b. b) (Err why) u old new (held_at g code tested.condition w) →
+      Does {V = Bool} {A = Bool} (λ b. b) (Err why) u old new (test_at g code tested.condition w) →
       Adds {A = Bool} (Err why) (held_steps g code tested.condition w) mid after → AddsUpTo fire (Err why) u n before after
   count-stops (stop.Fault f line) u old new before n after is did added =
-      let none : steps_then (held_at g code tested.condition w) (chosen_if_steps (fire tested) (chosen_steps g code fire (drop (i + 1) cs))) ≡ 0 =
+      let none : steps_then (test_at g code tested.condition w) (chosen_if_steps (fire tested) (chosen_steps g code fire (drop (i + 1) cs))) ≡ 0 =
       ap (λ x. steps_then x (chosen_if_steps (fire tested) (chosen_steps g code fire (drop (i + 1) cs)))) did.is in
       omega (arith, none, added, is, tested_here)
   count-stops stop.Sink u old new before n after is did added = omega (arith, added, is, tested_here)

@@ -14,9 +14,9 @@ use Rattle.snl_schedule.specs.declared.plans.SetContext.{SetContext}
 use Rattle.snl_schedule.specs.Turn.{Clause, State, StateSet, nothing}
 
 -- Whether the condition whose code begins at an address holds. A missing one does.
-abbrev pub held_at : PieceContext → List Instr → Option ℕ → World → Ran Bool
-held_at g code None w = Gives true w []
-held_at g code (Some start) w = then_do (value_at g code start w) holds
+abbrev pub test_at : PieceContext → List Instr → Option ℕ → World → Ran Bool
+test_at g code None w = Gives true w []
+test_at g code (Some start) w = then_do (value_at g code start w) holds
 
 -- Where an entry or an exit block leads does not count.
 abbrev pub ended : Option ℕ → World → Ran (Unit {0})
@@ -29,7 +29,7 @@ block_at g code (Some start) w = then_do (left_at g code start w) ended
 
 -- What stands for a clause,
 abbrev pub clause_of : PieceContext → List Instr → ClausePlan → Clause
-clause_of g code c = record { holds = held_at g code c.condition; acts = left_at g code c.block; target = c.target; line = c.line }
+clause_of g code c = record { holds = test_at g code c.condition; acts = left_at g code c.block; target = c.target; line = c.line }
 
 -- for a state,
 abbrev pub state_of : PieceContext → List Instr → StatePlan → State

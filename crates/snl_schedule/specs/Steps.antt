@@ -22,7 +22,7 @@ use Rattle.snl_schedule.specs.declared.transitions.Turned.TheVariants.{Stayed, M
 use Rattle.snl_schedule.specs.Event.{applied, wake_before, all_wakes}
 use Rattle.snl_schedule.specs.Instant.{later, is_exit, is_ready, round_of, refreshed_sets, owned, begun, started, instant_of}
 use Rattle.snl_schedule.specs.Loaded.{Loaded, context_in, own_context, program_of}
-use Rattle.snl_schedule.specs.Plans.{context_on, held_at, set_of}
+use Rattle.snl_schedule.specs.Plans.{context_on, test_at, set_of}
 use Rattle.snl_schedule.specs.Refresh.{refreshed}
 use Rattle.snl_schedule.specs.Turn.{is_due, entered_in, left_for, target_by, turn_of}
 
@@ -54,7 +54,7 @@ chosen_if_steps fire others false w = others w
 -- The conditions up to the first that holds, and what its clause fires.
 abbrev pub chosen_steps : PieceContext → List Instr → (ClausePlan → World → ℕ) → List ClausePlan → World → ℕ
 chosen_steps g code fire [] w = 0
-chosen_steps g code fire (c ∷ cs) w = held_steps g code c.condition w + steps_then (held_at g code c.condition w) (chosen_if_steps (fire c) (chosen_steps g code fire cs))
+chosen_steps g code fire (c ∷ cs) w = held_steps g code c.condition w + steps_then (test_at g code c.condition w) (chosen_if_steps (fire c) (chosen_steps g code fire cs))
 
 -- What the clause fires that was chosen, if one was.
 abbrev pub fired_steps : (ClausePlan → World → ℕ) → Option ClausePlan → World → ℕ

@@ -67,7 +67,12 @@ fn is_short(name: &[u8]) -> bool
 }
 
 /// What follows the time in the line of a transition, if that is kept.
-fn text_of(alloc: Global, set: &[u8], from: &[u8], to: &[u8]) -> Result<Option<Vec<u8>>, AllocError>
+fn short_text(
+    alloc: Global,
+    set: &[u8],
+    from: &[u8],
+    to: &[u8],
+) -> Result<Option<Vec<u8>>, AllocError>
     ensures { IfOk result (λ kept. option_map (λ text. text.items) kept
         ≡ spec.kept_text set.now from.now to.now) }
 {
@@ -90,7 +95,7 @@ fn go_for(
         ≡ spec.kept_for set.now states.now from.now clause) }
 {
     let target = clause.target;
-    let text = text_of(alloc, set, from, target_name(states, target))?;
+    let text = short_text(alloc, set, from, target_name(states, target))?;
     Ok(Go { target, text })
 }
 

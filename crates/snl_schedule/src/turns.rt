@@ -6,7 +6,7 @@ ghost use Rattle.snl_vm.specs.Memory.{CanGoOn, DoesOn, Keeps};
 ghost use Rattle.snl_vm.specs.Running.{context_by, wanted_by};
 ghost use Rattle.snl_meaning.specs.World.{World, copy_of};
 ghost use Rattle.snl_vm.specs.Views.{world_of};
-ghost use Rattle.snl_schedule.specs.Plans.{CanDo, CanTest, CanFire, CanRunAll, CanTurn, block_at, held_at, clause_of, clause_by, context_on, set_on};
+ghost use Rattle.snl_schedule.specs.Plans.{CanDo, CanTest, CanFire, CanRunAll, CanTurn, block_at, test_at, clause_of, clause_by, context_on, set_on};
 ghost use Rattle.snl_schedule.specs.Steps.{AddsUpTo, block_steps, held_steps, chosen_steps, clauses_in, fired_steps, transition_steps_on, tried_steps, turn_steps};
 ghost use Rattle.snl_schedule.specs.Turn as spec;
 
@@ -29,7 +29,7 @@ fn holds<S: Sink, L: Ledger>(
     requires ready { CanGoOn S.failures (wanted_by state_set.now.context) memory.old sink.old }
     requires runs { CanTest (context_on state_set.now) state_set.now.code.now condition }
     ensures does { DoesOn S.told (λ b. b) result memory.old memory.new sink.old sink.new
-        (held_at (context_on state_set.now) state_set.now.code.now condition) }
+        (test_at (context_on state_set.now) state_set.now.code.now condition) }
     ensures steps { Adds result (held_steps (context_on state_set.now) state_set.now.code.now
         condition (world_of memory.old.store)) steps.old steps.new }
     ensures keeps { Keeps S.failures result memory.old memory.new sink.old sink.new }

@@ -6,5 +6,6 @@ mod footprints;
 mod functions;
 mod hearing;
 mod programs;
+mod snapshots;
 mod tables;
 mod tokens;

@@ -7,9 +7,9 @@ use Rattle.std.specs.List.Sorted.{IsStrictlyIncreasing}
 use Rattle.snl_text.specs.Cut.{Reading, Spelled, Cuts, after, renamed, nothing_read}
 use Rattle.snl_text.specs.declared.markers.Marker.{Marker}
 use Rattle.snl_text.specs.declared.markers.Span.{Span}
-use Rattle.snl_text.specs.declared.pieces.Piece.{Piece}
-use Rattle.snl_text.specs.declared.pieces.Sort.{Sort}
-use Rattle.snl_text.specs.declared.pieces.Sort.TheVariants as sort
+use Rattle.snl_text.specs.declared.lexemes.Lexeme.{Lexeme}
+use Rattle.snl_text.specs.declared.lexemes.LexemeSort.{LexemeSort}
+use Rattle.snl_text.specs.declared.lexemes.LexemeSort.TheVariants as sort
 use Rattle.snl_text.proofs.Cuts.{offset_after}
 use Rattle.snl_text.proofs.Names.{map_one_more}
 
@@ -62,8 +62,8 @@ renamed_tokens : (r : Reading) (text : List ℕ) (marker : Marker) (name : Optio
 renamed_tokens r text marker None = refl
 renamed_tokens r text marker (Some span) = refl
 
--- a piece of one byte or more keeps the order
-order_after : (r : Reading) (text : List ℕ) (sort : Sort) → 0 < length text → InOrder r → InOrder (after r text sort)
+-- a lexeme of one byte or more keeps the order
+order_after : (r : Reading) (text : List ℕ) (sort : LexemeSort) → 0 < length text → InOrder r → InOrder (after r text sort)
 order_after r text sort.Blank some h = same_tokens r (after r text sort.Blank) refl (omega arith) h
 order_after r text sort.LineEnd some h = same_tokens r (after r text sort.LineEnd) refl (omega arith) h
 order_after r text sort.Skipped some h = same_tokens r (after r text sort.Skipped) refl (omega arith) h
@@ -80,7 +80,7 @@ order_after r text (sort.Token kind) some h =
     }
 
 -- the tokens of a cut are in order, where those before it are
-pub ascend : (r : Reading) (bytes : List ℕ) (pieces : List Piece) (end : Reading) (rest : List ℕ) → InOrder r → Cuts r bytes pieces end rest → InOrder end
+pub ascend : (r : Reading) (bytes : List ℕ) (lexemes : List Lexeme) (end : Reading) (rest : List ℕ) → InOrder r → Cuts r bytes lexemes end rest → InOrder end
 ascend r bytes [] end rest h cut = subst (λ (s : Reading). InOrder s) cut.0 h
 ascend r bytes (p ∷ ps) end rest h cut =
     let text = take p.length bytes in

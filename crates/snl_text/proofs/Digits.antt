@@ -7,7 +7,7 @@ use Rattle.std.proofs.lemmas.List.Recursion.{and_fails_at}
 use Rattle.std.proofs.lemmas.List.Sums.{fold-append}
 use Rattle.std.proofs.lemmas.List.{take-append-drop}
 use Rattle.std.proofs.lemmas.Bool.Decides.{nat_tests}
-use Rattle.snl_text.specs.Numbers.{digit_value, digits_value, value_of}
+use Rattle.snl_text.specs.Numbers.{digit_value, digits_value, numeral_value}
 
 -- one digit more makes no value less
 step : (value base d : ℕ) → 1 ≤ base → value ≤ value * base + d
@@ -30,8 +30,8 @@ front_grows base h digits i =
     rw whole (grows base h (digits_value base (take i digits)) (drop i digits))
 
 -- a byte that is no digit of the base
-pub stray : (base : ℕ) (digits : List ℕ) (i : ℕ) → i < length digits → base ≤ digit_value (get_or digits i 0) → value_of base digits ≡ None
-unfolding value_of
+pub stray : (base : ℕ) (digits : List ℕ) (i : ℕ) → i < length digits → base ≤ digit_value (get_or digits i 0) → numeral_value base digits ≡ None
+unfolding numeral_value
 stray base digits i h d =
     let p : ℕ → Bool = λ byte. nat_lt (digit_value byte) base in
     let no : p (get_or digits i 0) ≡ false = grind (arith, nat_tests) in
@@ -39,16 +39,17 @@ stray base digits i h d =
     rw fails refl
 
 -- a front that is too large already
-pub too_large : (base : ℕ) (digits : List ℕ) (i : ℕ) → 1 ≤ base → 2 ^ 63 ≤ digits_value base (take i digits) → value_of base digits ≡ None
-unfolding value_of
+pub too_large : (base : ℕ) (digits : List ℕ) (i : ℕ) → 1 ≤ base → 2 ^ 63 ≤ digits_value base (take i digits) → numeral_value base digits ≡ None
+unfolding numeral_value
 too_large base digits i h large =
     let more = front_grows base h digits i in
     let no : nat_lt (digits_value base digits) (2 ^ 63) ≡ false = grind (arith, nat_tests, more, large) in
     rw no (grind (arith, nat_tests))
 
 -- digits of the base below the limit have a value
-pub given : (base : ℕ) (digits : List ℕ) → list_all (λ byte. nat_lt (digit_value byte) base) digits ≡ true → digits_value base digits < 2 ^ 63 → value_of base digits ≡ Some (digits_value base digits)
-unfolding value_of
+pub given : (base : ℕ) (digits : List ℕ) → list_all (λ byte. nat_lt (digit_value byte) base) digits ≡ true → digits_value base digits < 2 ^ 63
+    → numeral_value base digits ≡ Some (digits_value base digits)
+unfolding numeral_value
 given base digits all small =
     let b : nat_lt (digits_value base digits) (2 ^ 63) ≡ true = grind (arith, nat_tests) in
     rw all (rw b refl)

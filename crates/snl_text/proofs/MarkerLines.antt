@@ -10,7 +10,7 @@ use Rattle.std.specs.List.{list_all, prefix_len, starts_with}
 use Rattle.snl_text.specs.Bytes.{is_blank, is_digit, is_inner_blank}
 use Rattle.snl_text.specs.MarkerLines.{IsApart, IsLineWord, IsMarkerLine, Names, spanned}
 use Rattle.snl_text.specs.Markers.{is_parted, marker_at, name_at, number_start}
-use Rattle.snl_text.specs.Numbers.{digit_value, digits_value, value_of}
+use Rattle.snl_text.specs.Numbers.{digit_value, digits_value, numeral_value}
 use Rattle.snl_text.specs.declared.markers.Marker.{Marker}
 use Rattle.snl_text.specs.declared.markers.Span.{Span}
 use Rattle.snl_text.proofs.Digits.{given}
@@ -49,7 +49,7 @@ digits_of_ten (x ∷ xs) all =
     (digits_of_ten xs (and_right (is_digit x) (list_all is_digit xs) all))
 
 -- nine digits at most have a value
-value_given : (digits : List ℕ) → list_all is_digit digits ≡ true → length digits < 10 → value_of 10 digits ≡ Some (digits_value 10 digits)
+value_given : (digits : List ℕ) → list_all is_digit digits ≡ true → length digits < 10 → numeral_value 10 digits ≡ Some (digits_value 10 digits)
 value_given digits all few =
     let small : digits_value 10 digits ≤ 999999999 = digits_small 9 digits 0 0 (omega (arith, few)) all (omega arith) in
     given 10 digits (digits_of_ten digits all) (omega (arith, small))
@@ -60,8 +60,8 @@ value_step true x v e = cc e
 value_step false x v e = absurd (cc e)
 
 -- the value that digits have
-value_is : (digits : List ℕ) (v : ℕ) → value_of 10 digits ≡ Some v → v ≡ digits_value 10 digits
-unfolding value_of
+value_is : (digits : List ℕ) (v : ℕ) → numeral_value 10 digits ≡ Some v → v ≡ digits_value 10 digits
+unfolding numeral_value
 value_is digits v e = value_step (list_all (λ byte. nat_lt (digit_value byte) 10) digits && nat_lt (digits_value 10 digits) (2 ^ 63)) (digits_value 10 digits) v e
 
 -- where the number begins, by the parts before it
@@ -119,7 +119,7 @@ record Read (line : List ℕ) (marker : Marker) (start count : ℕ) : Type 0 whe
   pub some : 0 < count
   pub few : count < 10
   pub parted : is_parted line (start + count) ≡ true
-  pub value : value_of 10 (take count (drop start line)) ≡ Some marker.line
+  pub value : numeral_value 10 (take count (drop start line)) ≡ Some marker.line
   pub name : marker.name ≡ name_at line (start + count)
 
 -- what holds where a marker is answered
@@ -140,7 +140,7 @@ unfolding marker_at
 read_of line marker e =
     let start = number_start line in
     let count = prefix_len is_digit (drop start line) in
-    let parts = read_step (nat_lt 0 count) (nat_lt count 10) (is_parted line (start + count)) (value_of 10 (take count (drop start line))) (name_at line (start + count)) marker e in
+    let parts = read_step (nat_lt 0 count) (nat_lt count 10) (is_parted line (start + count)) (numeral_value 10 (take count (drop start line))) (name_at line (start + count)) marker e in
     record { some = below 0 count parts.0; few = below count 10 parts.1; parted = parts.2; value = parts.3; name = parts.4 }
 
 -- what is read as a marker is a marker line
@@ -269,17 +269,17 @@ line_is_marker line number file h =
     let rest : drop count left ≡ h.rest = ap (λ i. drop i left) run ∙ ap (drop (length h.digits)) left_is ∙ drop-append_seam h.digits h.rest in
     let end : h.rest ≡ drop (start + count) line = sym rest ∙ drop-drop count start line in
     let parted = apart_tested line (start + count) h.rest end h.apart in
-    let value : value_of 10 (take count left) ≡ Some (digits_value 10 h.digits) = ap (value_of 10) digits ∙ value_given h.digits h.digit h.few in
+    let value : numeral_value 10 (take count left) ≡ Some (digits_value 10 h.digits) = ap (numeral_value 10) digits ∙ value_given h.digits h.digit h.few in
     let name = name_at line (start + count) in
     let marker : Marker = record { line = digits_value 10 h.digits; name = name } in
     let some : nat_lt 0 count ≡ true = is_below 0 count (omega (arith, run, h.some)) in
     let few : nat_lt count 10 ≡ true = is_below count 10 (omega (arith, run, h.few)) in
-    let made : option_map (λ (number : ℕ). let m : Marker = record { line = number; name = name } in m) (value_of 10 (take count left)) ≡ Some marker =
+    let made : option_map (λ (number : ℕ). let m : Marker = record { line = number; name = name } in m) (numeral_value 10 (take count left)) ≡ Some marker =
     ap (option_map (λ (number : ℕ). let m : Marker = record { line = number; name = name } in m)) value in (
       marker,
       (
         marker_step (nat_lt 0 count) (nat_lt count 10) (is_parted line (start + count))
-            (option_map (λ (number : ℕ). let m : Marker = record { line = number; name = name } in m) (value_of 10 (take count left))) marker some few parted made,
+            (option_map (λ (number : ℕ). let m : Marker = record { line = number; name = name } in m) (numeral_value 10 (take count left))) marker some few parted made,
         (sym h.number_is, names_found line (start + count) file (subst (λ l. Names l file) end h.names)),
       ),
     )

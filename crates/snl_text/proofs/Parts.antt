@@ -4,26 +4,26 @@ use Rattle.std.proofs.lemmas.List.{drop-take, length-take-le, take-append-drop}
 use Rattle.std.proofs.Math.Seq.{take-add, take-append_seam}
 use Rattle.snl_text.specs.Cut.{Reading, Cuts, Stands, after, nothing_read}
 use Rattle.snl_text.specs.Lexing.{IsCut, IsFault}
-use Rattle.snl_text.specs.Pieces.{piece_at}
+use Rattle.snl_text.specs.Lexemes.{lexeme_at}
 use Rattle.snl_text.specs.declared.faults.Flaw.{Flaw}
-use Rattle.snl_text.specs.declared.pieces.Piece.{Piece}
+use Rattle.snl_text.specs.declared.lexemes.Lexeme.{Lexeme}
 use Rattle.snl_text.specs.declared.tokens.Pos.{Pos}
 use Rattle.snl_text.proofs.Cuts.{at_end, offset_after, one_cut, shrinks}
-use Rattle.snl_text.proofs.Fronts.{piece_alone}
+use Rattle.snl_text.proofs.Fronts.{lexeme_alone}
 
--- a piece that stands stands in each front that holds it
-pub stands_alone : (r : Reading) (bytes : List ℕ) (p : Piece) (n : ℕ) → Stands r bytes p → p.length ≤ n → n ≤ length bytes → Stands r (take n bytes) p
+-- a lexeme that stands stands in each front that holds it
+pub stands_alone : (r : Reading) (bytes : List ℕ) (p : Lexeme) (n : ℕ) → Stands r bytes p → p.length ≤ n → n ≤ length bytes → Stands r (take n bytes) p
 stands_alone r bytes p n stands short within =
     let long : length (take n bytes) ≡ n = length-take-le n bytes within in
-    let apart : piece_at r.opens_line (take n bytes ++ drop n bytes) ≡ Some p = rw (take-append-drop n bytes) stands.there in
+    let apart : lexeme_at r.opens_line (take n bytes ++ drop n bytes) ≡ Some p = rw (take-append-drop n bytes) stands.there in
     record {
       some = stands.some;
       within = omega (arith, long, short);
-      there = piece_alone r.opens_line (take n bytes) (drop n bytes) p (omega (arith, long, short, stands.some)) (omega (arith, long, short)) apart;
+      there = lexeme_alone r.opens_line (take n bytes) (drop n bytes) p (omega (arith, long, short, stands.some)) (omega (arith, long, short)) apart;
     }
 
 -- the offset tells how many bytes were taken
-pub offset_of : (r : Reading) (bytes : List ℕ) (pieces : List Piece) (end : Reading) (rest : List ℕ) → Cuts r bytes pieces end rest → end.pos.offset + length rest ≡ r.pos.offset + length bytes
+pub offset_of : (r : Reading) (bytes : List ℕ) (lexemes : List Lexeme) (end : Reading) (rest : List ℕ) → Cuts r bytes lexemes end rest → end.pos.offset + length rest ≡ r.pos.offset + length bytes
 offset_of r bytes [] end rest cut = omega (arith, ap (λ (s : Reading). s.pos.offset) cut.0, ap length cut.1)
 offset_of r bytes (p ∷ ps) end rest cut =
     let text = take p.length bytes in
@@ -38,8 +38,8 @@ take-take k m bytes within =
     ap (take k) (take-add k m bytes) ∙ ap (λ i. take i (front ++ more)) (sym (length-take-le k bytes within)) ∙ take-append_seam front more
 
 -- a cut of a front, without the rest
-pub cut_alone : (r : Reading) (bytes : List ℕ) (pieces : List Piece) (end : Reading) (rest : List ℕ) (n : ℕ) → Cuts r bytes pieces end rest → n + length rest ≡ length bytes
-    → Cuts r (take n bytes) pieces end []
+pub cut_alone : (r : Reading) (bytes : List ℕ) (lexemes : List Lexeme) (end : Reading) (rest : List ℕ) (n : ℕ) → Cuts r bytes lexemes end rest → n + length rest ≡ length bytes
+    → Cuts r (take n bytes) lexemes end []
 cut_alone r bytes [] end rest n cut h =
     let none : n ≡ 0 = omega (arith, ap length cut.1, h) in
     (cut.0, ap (λ i. take i bytes) none)
@@ -60,17 +60,17 @@ cut_alone r bytes (p ∷ ps) end rest n cut h =
     )
 
 -- the bytes that a cut takes have that cut
-pub front_cut : (source : List ℕ) (pieces : List Piece) (end : Reading) (rest : List ℕ) → Cuts nothing_read source pieces end rest → Cuts nothing_read (take end.pos.offset source) pieces end []
-front_cut source pieces end rest cut =
-    cut_alone nothing_read source pieces end rest end.pos.offset cut (omega (arith, offset_of nothing_read source pieces end rest cut))
+pub front_cut : (source : List ℕ) (lexemes : List Lexeme) (end : Reading) (rest : List ℕ) → Cuts nothing_read source lexemes end rest → Cuts nothing_read (take end.pos.offset source) lexemes end []
+front_cut source lexemes end rest cut =
+    cut_alone nothing_read source lexemes end rest end.pos.offset cut (omega (arith, offset_of nothing_read source lexemes end rest cut))
 
 -- the bytes before a fault are read as the longest cut reads them
 pub before_fault : (source : List ℕ) (kind : Flaw) (pos : Pos) (fault : IsFault source kind pos)
     → IsCut (take pos.offset source) fault.end × ((end : Reading) → IsCut (take pos.offset source) end → end ≡ fault.end)
 before_fault source kind pos fault =
-    let front = front_cut source fault.pieces fault.end fault.rest fault.cut in
-    let here : Cuts nothing_read (take pos.offset source) fault.pieces fault.end [] =
-    subst (λ (q : Pos). Cuts nothing_read (take q.offset source) fault.pieces fault.end []) (sym fault.pos_is) front in (
-      record { pieces = fault.pieces; cut = here },
-      λ end other. (one_cut (take pos.offset source) other.pieces fault.pieces end fault.end [] [] other.cut (at_end end) here (at_end fault.end)).1,
+    let front = front_cut source fault.lexemes fault.end fault.rest fault.cut in
+    let here : Cuts nothing_read (take pos.offset source) fault.lexemes fault.end [] =
+    subst (λ (q : Pos). Cuts nothing_read (take q.offset source) fault.lexemes fault.end []) (sym fault.pos_is) front in (
+      record { lexemes = fault.lexemes; cut = here },
+      λ end other. (one_cut (take pos.offset source) other.lexemes fault.lexemes end fault.end [] [] other.cut (at_end end) here (at_end fault.end)).1,
     )

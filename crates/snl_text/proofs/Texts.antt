@@ -1,4 +1,4 @@
--- A text that can stand at a place is a piece that stands there.
+-- A text that can stand at a place is a lexeme that stands there.
 use Rattle.std.proofs.Common.{◌≡◌, ◌≢◌, ◌⊎◌, ℕ, suc, ◌+◌, ◌-◌, ◌<◌, ◌≤◌, Bool, true, false, cond, List, [], ◌∷◌, ◌++◌, length, take, drop, length-append, inl, inr, refl, ap, sym, subst, ◌∙◌, arith, Option, Some, None, option_map, slice_index, MatchBool}
 use Rattle.std.proofs.lemmas.Bool.Decides.{eqb_tells, leb_tells, nat_tests}
 use Rattle.std.proofs.lemmas.List.{append-nil, length-take-le, take-append-drop, take-append-le}
@@ -10,7 +10,7 @@ use Rattle.snl_text.specs.Bytes.{is_blank, is_digit, is_in_line, is_letter, is_n
 use Rattle.snl_text.specs.Cut.{Reading, Stands}
 use Rattle.snl_text.specs.Markers.{directive_at, says_of}
 use Rattle.snl_text.specs.Numbers.{decimal_value, whole_value}
-use Rattle.snl_text.specs.Pieces.{begins_number, blank_sort, block_at, character_piece, marked_at, number_at, piece, piece_at, sign_piece, string_at, word_at}
+use Rattle.snl_text.specs.Lexemes.{begins_number, blank_sort, block_at, character_lexeme, marked_at, number_at, lexeme, lexeme_at, sign_lexeme, string_at, word_at}
 use Rattle.snl_text.specs.Quotes.{character_at, escape_value, is_plain, quoted, through}
 use Rattle.snl_text.specs.Signs.{sign_at}
 use Rattle.snl_text.specs.SignsByBytes.{first_sign, sign_by_bytes, sign_of_one, sign_of_two, sign_of_three}
@@ -18,29 +18,29 @@ use Rattle.snl_text.specs.Standing.{CanStand}
 use Rattle.snl_text.specs.Texts.{IsMarkedText, IsText}
 use Rattle.snl_text.specs.declared.kinds.Kind.{Kind}
 use Rattle.snl_text.specs.declared.kinds.Kind.TheVariants as k
-use Rattle.snl_text.specs.declared.pieces.Piece.{Piece}
-use Rattle.snl_text.specs.declared.pieces.Sort.{Sort}
-use Rattle.snl_text.specs.declared.pieces.Sort.TheVariants as sort
+use Rattle.snl_text.specs.declared.lexemes.Lexeme.{Lexeme}
+use Rattle.snl_text.specs.declared.lexemes.LexemeSort.{LexemeSort}
+use Rattle.snl_text.specs.declared.lexemes.LexemeSort.TheVariants as sort
 use Rattle.snl_text.proofs.Conditions.{no_and}
 use Rattle.snl_text.proofs.Fronts.{character_three, no_second, point_run, run_alone, tested}
 use Rattle.snl_text.proofs.Listed.{by_bytes}
 use Rattle.snl_text.proofs.Longest.{character_step, no_length, no_longer, no_third, quoted_more, through_more}
 use Rattle.snl_text.proofs.Whole.{standing_text}
 
--- a piece is found, of one byte or more and of so many at most
-pub record Has (most : ℕ) (o : Option Piece) : Type 0 where
-  pub found : Piece
+-- a lexeme is found, of one byte or more and of so many at most
+pub record Has (most : ℕ) (o : Option Lexeme) : Type 0 where
+  pub found : Lexeme
   pub is : o ≡ Some found
   pub some : 0 < found.length
   pub within : found.length ≤ most
 
 -- what a test chooses is found, where it is in both cases
-find : (b : Bool) (n : ℕ) (X Y : Option Piece) (P Q : Type 0) → (b ≡ true → P → Has n X) → (Q → Has n Y) → MatchBool b P Q → Has n (cond b X Y)
+find : (b : Bool) (n : ℕ) (X Y : Option Lexeme) (P Q : Type 0) → (b ≡ true → P → Has n X) → (Q → Has n Y) → MatchBool b P Q → Has n (cond b X Y)
 find true n X Y P Q x y h = x refl h
 find false n X Y P Q x y h = y h
 
 -- the same, where the text alone fails the test
-find_lone : (b c : Bool) (n : ℕ) (X Y : Option Piece) (P Q : Type 0) → c ≡ false → (b ≡ true → Has n X) → (Q → Has n Y) → MatchBool c P Q → Has n (cond b X Y)
+find_lone : (b c : Bool) (n : ℕ) (X Y : Option Lexeme) (P Q : Type 0) → c ≡ false → (b ≡ true → Has n X) → (Q → Has n Y) → MatchBool c P Q → Has n (cond b X Y)
 find_lone b true n X Y P Q none x y h = absurd (cc none)
 find_lone true false n X Y P Q none x y h = x refl
 find_lone false false n X Y P Q none x y h = y h
@@ -69,9 +69,9 @@ word_has a rest letter = record {
 }
 
 -- a number of one of the two kinds
-number_step : (b c : Bool) (n most : ℕ) → 0 < n → n ≤ most → (b || c) ≡ true → Has most (cond b (Some (piece (sort.Token k.Whole) n)) (cond c (Some (piece (sort.Token k.Decimal) n)) None))
-number_step true c n most some within h = record { found = piece (sort.Token k.Whole) n; is = refl; some = some; within = within }
-number_step false true n most some within h = record { found = piece (sort.Token k.Decimal) n; is = refl; some = some; within = within }
+number_step : (b c : Bool) (n most : ℕ) → 0 < n → n ≤ most → (b || c) ≡ true → Has most (cond b (Some (lexeme (sort.Token k.Whole) n)) (cond c (Some (lexeme (sort.Token k.Decimal) n)) None))
+number_step true c n most some within h = record { found = lexeme (sort.Token k.Whole) n; is = refl; some = some; within = within }
+number_step false true n most some within h = record { found = lexeme (sort.Token k.Decimal) n; is = refl; some = some; within = within }
 number_step false false n most some within h = absurd (cc h)
 
 -- a number word that stands whole
@@ -91,7 +91,7 @@ string_has : (a : ℕ) (t rest : List ℕ) → quoted false t ≡ Some (length (
 unfolding string_at
 string_has a t rest h =
     let count = length (a ∷ t) - 1 in
-    let f : ℕ → Piece = λ n. piece (sort.Token k.Text) (1 + n) in
+    let f : ℕ → Lexeme = λ n. lexeme (sort.Token k.Text) (1 + n) in
     let closes : quoted false (t ++ rest) ≡ Some count = quoted_more false t rest (ap (is_some {T = ℕ}) h) ∙ h in
     record { found = f count; is = ap (option_map f) closes; some = omega arith; within = omega (arith, length-append t rest) }
 
@@ -100,14 +100,14 @@ length_made : {A : Type 0} (o : Option (A × ℕ)) (n : ℕ) → option_map (λ 
 length_made None n e = absurd (no_length e)
 length_made (Some f) n e = (f, (refl, e))
 
--- a piece of what was found
-made_has : {A : Type 0} (sort_of : A → Sort) (o : Option (A × ℕ)) (n most : ℕ) → 0 < n → n ≤ most → option_map (λ f. f.1) o ≡ Some n → Has most (option_map (λ f. piece (sort_of f.0) f.1) o)
+-- a lexeme of what was found
+made_has : {A : Type 0} (sort_of : A → LexemeSort) (o : Option (A × ℕ)) (n most : ℕ) → 0 < n → n ≤ most → option_map (λ f. f.1) o ≡ Some n → Has most (option_map (λ f. lexeme (sort_of f.0) f.1) o)
 made_has {A} sort_of o n most some within h =
     let made = length_made o n h in
     let same : made.0.1 ≡ n = cc made.1.1 in
     record {
-      found = piece (sort_of made.0.0) made.0.1;
-      is = ap (option_map (λ (f : A × ℕ). piece (sort_of f.0) f.1)) made.1.0;
+      found = lexeme (sort_of made.0.0) made.0.1;
+      is = ap (option_map (λ (f : A × ℕ). lexeme (sort_of f.0) f.1)) made.1.0;
       some = omega (arith, same, some);
       within = omega
           (arith, same, within);
@@ -138,8 +138,8 @@ character_more (a ∷ b ∷ c ∷ []) rest h =
 character_more (a ∷ b ∷ c ∷ d ∷ t) rest h = refl
 
 -- a character constant
-character_has : (text rest : List ℕ) → 0 < length text → option_map (λ (f : ℕ × ℕ). f.1) (character_at text) ≡ Some (length text) → Has (length (text ++ rest)) (character_piece (text ++ rest))
-unfolding character_piece
+character_has : (text rest : List ℕ) → 0 < length text → option_map (λ (f : ℕ × ℕ). f.1) (character_at text) ≡ Some (length text) → Has (length (text ++ rest)) (character_lexeme (text ++ rest))
+unfolding character_lexeme
 character_has text rest some h =
     let there = ap (option_map (λ (f : ℕ × ℕ). f.1)) (character_more text rest h) ∙ h in
     made_has {A = ℕ} (λ _. sort.Token k.Character) (character_at (text ++ rest)) (length text) (length (text ++ rest)) some (omega (arith, length-append text rest)) there
@@ -154,12 +154,12 @@ line_some : (b : Bool) (n : ℕ) → 0 < n → 0 < cond b n (n + 1)
 line_some true n h = h
 line_some false n h = omega arith
 
--- a line that says something is a piece
-says_has : (says : Option Sort) (b : Bool) (n most : ℕ) → 0 < n → cond b n (n + 1) ≤ most → is_some says ≡ true
-    → Has most (option_map (λ (s : Sort). cond b (piece sort.Skipped n) (piece s (n + 1))) says)
+-- a line that says something is a lexeme
+says_has : (says : Option LexemeSort) (b : Bool) (n most : ℕ) → 0 < n → cond b n (n + 1) ≤ most → is_some says ≡ true
+    → Has most (option_map (λ (s : LexemeSort). cond b (lexeme sort.Skipped n) (lexeme s (n + 1))) says)
 says_has None b n most some within h = absurd (cc h)
-says_has (Some s) true n most some within h = record { found = piece sort.Skipped n; is = refl; some = some; within = within }
-says_has (Some s) false n most some within h = record { found = piece s (n + 1); is = refl; some = omega arith; within = within }
+says_has (Some s) true n most some within h = record { found = lexeme sort.Skipped n; is = refl; some = some; within = within }
+says_has (Some s) false n most some within h = record { found = lexeme s (n + 1); is = refl; some = omega arith; within = within }
 
 -- a line that says something
 directive_has : (bytes : List ℕ) → 0 < prefix_len is_in_line bytes → is_some (says_of (take (prefix_len is_in_line bytes) bytes)) ≡ true → Has (length bytes) (directive_at bytes)
@@ -208,19 +208,20 @@ hash_has true a t rest is opens longest says =
     subst (λ x. Has (length (x ∷ (t ++ rest))) (directive_at (x ∷ (t ++ rest)))) (sym is) here
 
 -- what two bytes open and two close
-block_has : (s : Sort) (close end : ℕ) → (0 == end) ≡ false → (a b : ℕ) (t rest : List ℕ) → through close end t ≡ Some (length (a ∷ b ∷ t) - 2)
+block_has : (s : LexemeSort) (close end : ℕ) → (0 == end) ≡ false → (a b : ℕ) (t rest : List ℕ) → through close end t ≡ Some (length (a ∷ b ∷ t) - 2)
     → Has (length (a ∷ b ∷ (t ++ rest))) (block_at s close end (a ∷ b ∷ (t ++ rest)))
 unfolding block_at
 block_has s close end real a b t rest h =
     let count = length (a ∷ b ∷ t) - 2 in
-    let f : ℕ → Piece = λ n. piece s (2 + n) in
+    let f : ℕ → Lexeme = λ n. lexeme s (2 + n) in
     let closes : through close end (t ++ rest) ≡ Some count = through_more close end real t rest (ap (is_some {T = ℕ}) h) ∙ h in
     record { found = f count; is = ap (option_map f) closes; some = omega arith; within = omega (arith, length-append t rest) }
 
 -- a line to its end
-to_end_has : (s : Sort) (m n : ℕ) (a : ℕ) (rest : List ℕ) → is_in_line m ≡ true → (a ≡ m) × (slice_index rest 0 ≡ n) → Has (length (a ∷ rest)) (Some (piece s (prefix_len is_in_line (a ∷ rest))))
+to_end_has : (s : LexemeSort) (m n : ℕ) (a : ℕ) (rest : List ℕ) → is_in_line m ≡ true → (a ≡ m) × (slice_index rest 0 ≡ n)
+    → Has (length (a ∷ rest)) (Some (lexeme s (prefix_len is_in_line (a ∷ rest))))
 to_end_has s m n a rest in_line is = record {
-  found = piece s (prefix_len is_in_line (a ∷ rest));
+  found = lexeme s (prefix_len is_in_line (a ∷ rest));
   is = refl;
   some = run_some is_in_line a rest (ap is_in_line is.0 ∙ in_line);
   within = prefix_len-le-length is_in_line (a ∷ rest);
@@ -288,10 +289,10 @@ sign_more (a ∷ b ∷ []) rest h some =
     two_more (sign_of_three a b (slice_index rest 0)) (sign_of_two a b) (sign_of_one a) (subst (λ o. is_some (first_sign o (sign_of_two a b) (sign_of_one a)) ≡ true) (no_third a b) h)
 sign_more (a ∷ b ∷ c ∷ t) rest h some = h
 
--- a sign that is found is a piece
-found_has : (o : Option (Kind × ℕ)) (most : ℕ) → ((f : Kind × ℕ) → o ≡ Some f → (0 < f.1) × (f.1 ≤ most)) → is_some o ≡ true → Has most (option_map (λ (f : Kind × ℕ). piece (sort.Token f.0) f.1) o)
+-- a sign that is found is a lexeme
+found_has : (o : Option (Kind × ℕ)) (most : ℕ) → ((f : Kind × ℕ) → o ≡ Some f → (0 < f.1) × (f.1 ≤ most)) → is_some o ≡ true → Has most (option_map (λ (f : Kind × ℕ). lexeme (sort.Token f.0) f.1) o)
 found_has None most within h = absurd (cc h)
-found_has (Some f) most within h = record { found = piece (sort.Token f.0) f.1; is = refl; some = (within f refl).0; within = (within f refl).1 }
+found_has (Some f) most within h = record { found = lexeme (sort.Token f.0) f.1; is = refl; some = (within f refl).0; within = (within f refl).1 }
 
 -- what has a length is there
 length_some : (o : Option (Kind × ℕ)) (n : ℕ) → option_map (λ f. f.1) o ≡ Some n → is_some o ≡ true
@@ -299,8 +300,8 @@ length_some None n h = absurd (no_length h)
 length_some (Some f) n h = refl
 
 -- a sign
-sign_has : (text rest : List ℕ) → 0 < length text → option_map (λ (f : Kind × ℕ). f.1) (sign_at text) ≡ Some (length text) → Has (length (text ++ rest)) (sign_piece (text ++ rest))
-unfolding sign_piece
+sign_has : (text rest : List ℕ) → 0 < length text → option_map (λ (f : Kind × ℕ). f.1) (sign_at text) ≡ Some (length text) → Has (length (text ++ rest)) (sign_lexeme (text ++ rest))
+unfolding sign_lexeme
 sign_has text rest some h =
     let here : is_some (sign_by_bytes text) ≡ true = subst (λ (o : Option (Kind × ℕ)). is_some o ≡ true) (sym (by_bytes text)) (length_some (sign_at text) (length text) h) in
     let there = subst (λ (o : Option (Kind × ℕ)). is_some o ≡ true) (by_bytes (text ++ rest)) (sign_more text rest here some) in
@@ -331,7 +332,7 @@ marked_one a rest comment embedded =
     (sign_has (a ∷ []) rest (omega arith)))))
 
 -- a number of one byte
-number_one : (digit second none : Bool) (n : ℕ) (X Y : Option Piece) (P Q : Type 0) → none ≡ false → (digit ≡ true → P → Has n X) → (second ≡ true → ⊥) → (Q → Has n Y)
+number_one : (digit second none : Bool) (n : ℕ) (X Y : Option Lexeme) (P Q : Type 0) → none ≡ false → (digit ≡ true → P → Has n X) → (second ≡ true → ⊥) → (Q → Has n Y)
     → MatchBool (digit || none) P Q → Has n (cond (digit || second) X Y)
 number_one true second none n X Y P Q is x never y h = x refl h
 number_one false true none n X Y P Q is x never y h = absurd (never refl)
@@ -354,42 +355,42 @@ no_point a [] number h = cc (sym h ∙ no_and (a == 46))
 no_point a (b ∷ rest) number h = omega (arith, number (or_other (is_digit a) (a == 46 && is_digit b) h), point_run a b rest h)
 
 -- a text of two bytes or more that can stand
-piece_has : (r : Reading) (a b : ℕ) (t rest : List ℕ) → CanStand r (a ∷ b ∷ t) rest → IsText (a ∷ b ∷ t) → Has (length (a ∷ b ∷ (t ++ rest))) (piece_at r.opens_line (a ∷ b ∷ (t ++ rest)))
-unfolding piece_at
-piece_has r a b t rest can =
+lexeme_has : (r : Reading) (a b : ℕ) (t rest : List ℕ) → CanStand r (a ∷ b ∷ t) rest → IsText (a ∷ b ∷ t) → Has (length (a ∷ b ∷ (t ++ rest))) (lexeme_at r.opens_line (a ∷ b ∷ (t ++ rest)))
+unfolding lexeme_at
+lexeme_has r a b t rest can =
     let text = a ∷ b ∷ t in
     let n = length (a ∷ b ∷ (t ++ rest)) in
     find (is_letter a) n _ _ _ _ (λ is _. word_has a (b ∷ (t ++ rest)) is)
     (find (begins_number text) n _ _ _ _ (λ is h. number_has text rest (omega arith) (can.number is) h)
-    (find (is_blank a) n _ _ _ _ (λ _ h. record { found = piece (blank_sort a) 1; is = refl; some = omega arith; within = omega arith })
+    (find (is_blank a) n _ _ _ _ (λ _ h. record { found = lexeme (blank_sort a) 1; is = refl; some = omega arith; within = omega arith })
     (find (a == 34) n _ _ _ _ (λ _ h. string_has a (b ∷ t) rest h)
     (find (a == 39) n _ _ _ _ (λ _ h. character_has text rest (omega arith) h)
     (find (a == 35) n _ _ _ _ (λ is h. hash_has r.opens_line a (b ∷ t) rest (is_equal a 35 is) (can.opens is) can.longest (can.says is))
     (marked_has a b t rest))))))
 
 -- a text of one byte that can stand
-piece_one : (r : Reading) (a : ℕ) (rest : List ℕ) → CanStand r (a ∷ []) rest → IsText (a ∷ []) → Has (length (a ∷ rest)) (piece_at r.opens_line (a ∷ rest))
-unfolding piece_at
-piece_one r a rest can =
+lexeme_one : (r : Reading) (a : ℕ) (rest : List ℕ) → CanStand r (a ∷ []) rest → IsText (a ∷ []) → Has (length (a ∷ rest)) (lexeme_at r.opens_line (a ∷ rest))
+unfolding lexeme_at
+lexeme_one r a rest can =
     let text = a ∷ [] in
     let n = length (a ∷ rest) in
     find (is_letter a) n _ _ _ _ (λ is _. word_has a rest is)
     (number_one (is_digit a) (a == 46 && is_digit (slice_index rest 0)) (a == 46 && false) n _ _ _ _ (no_and (a == 46))
     (λ is h. number_has text rest (omega arith) (can.number (or_one (is_digit a) (a == 46 && is_digit (slice_index rest 0)) is)) h) (no_point a rest can.number)
-    (find (is_blank a) n _ _ _ _ (λ _ h. record { found = piece (blank_sort a) 1; is = refl; some = omega arith; within = omega arith })
+    (find (is_blank a) n _ _ _ _ (λ _ h. record { found = lexeme (blank_sort a) 1; is = refl; some = omega arith; within = omega arith })
     (find (a == 34) n _ _ _ _ (λ _ h. string_has a [] rest h)
     (find (a == 39) n _ _ _ _ (λ _ h. character_has text rest (omega arith) h)
     (find (a == 35) n _ _ _ _ (λ is h. hash_has r.opens_line a [] rest (is_equal a 35 is) (can.opens is) can.longest (can.says is))
     (marked_one a rest can.comment can.embedded))))))
 
--- where a text can stand, a piece is found
-found_there : (r : Reading) (text rest : List ℕ) → CanStand r text rest → Has (length (text ++ rest)) (piece_at r.opens_line (text ++ rest))
+-- where a text can stand, a lexeme is found
+found_there : (r : Reading) (text rest : List ℕ) → CanStand r text rest → Has (length (text ++ rest)) (lexeme_at r.opens_line (text ++ rest))
 found_there r [] rest can = absurd (omega (arith, can.some))
-found_there r (a ∷ []) rest can = piece_one r a rest can can.is
-found_there r (a ∷ b ∷ t) rest can = piece_has r a b t rest can can.is
+found_there r (a ∷ []) rest can = lexeme_one r a rest can can.is
+found_there r (a ∷ b ∷ t) rest can = lexeme_has r a b t rest can can.is
 
--- where a text can stand, a piece of its length stands
-pub text_stands : (r : Reading) (text rest : List ℕ) → CanStand r text rest → (piece : Piece) × (Stands r (text ++ rest) piece × (piece.length ≡ length text))
+-- where a text can stand, a lexeme of its length stands
+pub text_stands : (r : Reading) (text rest : List ℕ) → CanStand r text rest → (lexeme : Lexeme) × (Stands r (text ++ rest) lexeme × (lexeme.length ≡ length text))
 text_stands r text rest can =
     let has = found_there r text rest can in
     let p = has.found in

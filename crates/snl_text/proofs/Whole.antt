@@ -1,4 +1,4 @@
--- What stands over the whole of a text: then the text is one piece.
+-- What stands over the whole of a text: then the text is one lexeme.
 use Rattle.std.proofs.Common.{◌≡◌, ℕ, suc, ◌+◌, ◌-◌, ◌≤◌, Bool, true, false, cond, List, [], ◌∷◌, length, take, drop, refl, ap, sym, subst, ◌∙◌, arith, Option, Some, None, option_map, slice_index, MatchBool}
 use Rattle.std.proofs.lemmas.List.{length-take-le, take_all}
 use Rattle.std.specs.Prelude.{◌==◌, ◌&&◌, ◌||◌, is_some}
@@ -7,21 +7,21 @@ use Rattle.snl_text.specs.Bytes.{is_blank, is_in_line, is_letter, is_name_byte, 
 use Rattle.snl_text.specs.Cut.{Reading, Stands}
 use Rattle.snl_text.specs.Markers.{directive_at, says_of}
 use Rattle.snl_text.specs.Numbers.{decimal_value, whole_value}
-use Rattle.snl_text.specs.Pieces.{begins_number, blank_sort, block_at, character_piece, marked_at, number_at, piece, piece_at, sign_piece, string_at, word_at}
+use Rattle.snl_text.specs.Lexemes.{begins_number, blank_sort, block_at, character_lexeme, marked_at, number_at, lexeme, lexeme_at, sign_lexeme, string_at, word_at}
 use Rattle.snl_text.specs.Quotes.{character_at, quoted, through}
 use Rattle.snl_text.specs.Signs.{sign_at}
 use Rattle.snl_text.specs.Texts.{IsMarkedText, IsText}
 use Rattle.snl_text.specs.declared.kinds.Kind.{Kind}
 use Rattle.snl_text.specs.declared.kinds.Kind.TheVariants as k
-use Rattle.snl_text.specs.declared.pieces.Piece.{Piece}
-use Rattle.snl_text.specs.declared.pieces.Sort.{Sort}
-use Rattle.snl_text.specs.declared.pieces.Sort.TheVariants as sort
+use Rattle.snl_text.specs.declared.lexemes.Lexeme.{Lexeme}
+use Rattle.snl_text.specs.declared.lexemes.LexemeSort.{LexemeSort}
+use Rattle.snl_text.specs.declared.lexemes.LexemeSort.TheVariants as sort
 use Rattle.snl_text.proofs.Fronts.{made_of, number_run}
-use Rattle.snl_text.proofs.Longest.{lengths_of, line_step, none_some, opened, some_piece}
+use Rattle.snl_text.proofs.Longest.{lengths_of, line_step, none_some, opened, some_lexeme}
 use Rattle.snl_text.proofs.Parts.{stands_alone}
 
 -- the two tests of one condition go together
-chosen : (b : Bool) {X Y : Option Piece} {P Q : Type 0} {p : Piece} → (X ≡ Some p → P) → (Y ≡ Some p → Q) → cond b X Y ≡ Some p → MatchBool b P Q
+chosen : (b : Bool) {X Y : Option Lexeme} {P Q : Type 0} {p : Lexeme} → (X ≡ Some p → P) → (Y ≡ Some p → Q) → cond b X Y ≡ Some p → MatchBool b P Q
 chosen true x y = x
 chosen false x y = y
 
@@ -36,38 +36,38 @@ all_of_run q [] h = refl
 all_of_run q (x ∷ xs) h = all_step (q x) (list_all q xs) (prefix_len q xs) (length xs) (all_of_run q xs) h
 
 -- a name or a reserved word
-word_text : (text : List ℕ) (p : Piece) → p.length ≡ length text → ◌≡◌ {A = Option Piece} (Some (word_at text)) (Some p) → list_all is_name_byte text ≡ true
+word_text : (text : List ℕ) (p : Lexeme) → p.length ≡ length text → ◌≡◌ {A = Option Lexeme} (Some (word_at text)) (Some p) → list_all is_name_byte text ≡ true
 unfolding word_at
-word_text text p whole e = all_of_run is_name_byte text (ap (λ (q : Piece). q.length) (some_piece e) ∙ whole)
+word_text text p whole e = all_of_run is_name_byte text (ap (λ (q : Lexeme). q.length) (some_lexeme e) ∙ whole)
 
 -- one of the two holds
-one_of : (b c : Bool) (x y : Piece) (p : Piece) → cond b (Some x) (cond c (Some y) None) ≡ Some p → (b || c) ≡ true
+one_of : (b c : Bool) (x y : Lexeme) (p : Lexeme) → cond b (Some x) (cond c (Some y) None) ≡ Some p → (b || c) ≡ true
 one_of true c x y p e = refl
 one_of false true x y p e = refl
 one_of false false x y p e = absurd (none_some e)
 
 -- a number
-number_text : (text : List ℕ) (p : Piece) → p.length ≡ length text → number_at text ≡ Some p
+number_text : (text : List ℕ) (p : Lexeme) → p.length ≡ length text → number_at text ≡ Some p
     → (list_all is_number_byte text ≡ true) × ((is_some (whole_value text) || is_some (decimal_value text)) ≡ true)
 unfolding number_at
 number_text text p whole e =
     let n = prefix_len is_number_byte text in
     let all : n ≡ length text = number_run text p e ∙ whole in
     let word : take n text ≡ text = take_all n text (omega (arith, all)) in
-    let some = one_of (is_some (whole_value (take n text))) (is_some (decimal_value (take n text))) (piece (sort.Token k.Whole) n) (piece (sort.Token k.Decimal) n) p e in
+    let some = one_of (is_some (whole_value (take n text))) (is_some (decimal_value (take n text))) (lexeme (sort.Token k.Whole) n) (lexeme (sort.Token k.Decimal) n) p e in
     (all_of_run is_number_byte text all, subst (λ (l : List ℕ). (is_some (whole_value l) || is_some (decimal_value l)) ≡ true) word some)
 
 -- a string
-string_text : (text : List ℕ) (p : Piece) → p.length ≡ length text → string_at text ≡ Some p → quoted false (drop 1 text) ≡ Some (length text - 1)
+string_text : (text : List ℕ) (p : Lexeme) → p.length ≡ length text → string_at text ≡ Some p → quoted false (drop 1 text) ≡ Some (length text - 1)
 unfolding string_at
 string_text text p whole e =
-    let made = made_of (λ count. piece (sort.Token k.Text) (1 + count)) (quoted false (drop 1 text)) p e in
-    let count : made.0 ≡ length text - 1 = omega (arith, ap (λ (q : Piece). q.length) made.1.1, whole) in
+    let made = made_of (λ count. lexeme (sort.Token k.Text) (1 + count)) (quoted false (drop 1 text)) p e in
+    let count : made.0 ≡ length text - 1 = omega (arith, ap (λ (q : Lexeme). q.length) made.1.1, whole) in
     made.1.0 ∙ ap (λ i. Some i) count
 
 -- a character constant
-character_text : (text : List ℕ) (p : Piece) → p.length ≡ length text → character_piece text ≡ Some p → option_map (λ (f : ℕ × ℕ). f.1) (character_at text) ≡ Some (length text)
-unfolding character_piece
+character_text : (text : List ℕ) (p : Lexeme) → p.length ≡ length text → character_lexeme text ≡ Some p → option_map (λ (f : ℕ × ℕ). f.1) (character_at text) ≡ Some (length text)
+unfolding character_lexeme
 character_text text p whole e = lengths_of {A = ℕ} (λ _. sort.Token k.Character) (character_at text) p e ∙ ap (λ i. Some i) whole
 
 -- a line has one byte more at most
@@ -76,7 +76,7 @@ line_long true n = omega arith
 line_long false n = omega arith
 
 -- a line with `#`
-hash_text : (opens : Bool) (text : List ℕ) (p : Piece) → p.length ≡ length text → cond opens (directive_at text) None ≡ Some p → length text ≤ prefix_len is_in_line text + 1
+hash_text : (opens : Bool) (text : List ℕ) (p : Lexeme) → p.length ≡ length text → cond opens (directive_at text) None ≡ Some p → length text ≤ prefix_len is_in_line text + 1
 unfolding directive_at
 hash_text opens text p whole e =
     let n = prefix_len is_in_line text in
@@ -84,24 +84,25 @@ hash_text opens text p whole e =
     omega (arith, is, whole, line_long (n == length text) n)
 
 -- what two bytes open
-block_text : (s : Sort) (a b : ℕ) (text : List ℕ) (p : Piece) → p.length ≡ length text → block_at s a b text ≡ Some p → through a b (drop 2 text) ≡ Some (length text - 2)
+block_text : (s : LexemeSort) (a b : ℕ) (text : List ℕ) (p : Lexeme) → p.length ≡ length text → block_at s a b text ≡ Some p → through a b (drop 2 text) ≡ Some (length text - 2)
 unfolding block_at
 block_text s a b text p whole e =
-    let made = made_of (λ count. piece s (2 + count)) (through a b (drop 2 text)) p e in
-    let count : made.0 ≡ length text - 2 = omega (arith, ap (λ (q : Piece). q.length) made.1.1, whole) in
+    let made = made_of (λ count. lexeme s (2 + count)) (through a b (drop 2 text)) p e in
+    let count : made.0 ≡ length text - 2 = omega (arith, ap (λ (q : Lexeme). q.length) made.1.1, whole) in
     made.1.0 ∙ ap (λ i. Some i) count
 
 -- a line to its end
-to_end_text : (s : Sort) (text : List ℕ) (p : Piece) → p.length ≡ length text → ◌≡◌ {A = Option Piece} (Some (piece s (prefix_len is_in_line text))) (Some p) → list_all is_in_line text ≡ true
-to_end_text s text p whole e = all_of_run is_in_line text (ap (λ (q : Piece). q.length) (some_piece e) ∙ whole)
+to_end_text : (s : LexemeSort) (text : List ℕ) (p : Lexeme) → p.length ≡ length text
+    → ◌≡◌ {A = Option Lexeme} (Some (lexeme s (prefix_len is_in_line text))) (Some p) → list_all is_in_line text ≡ true
+to_end_text s text p whole e = all_of_run is_in_line text (ap (λ (q : Lexeme). q.length) (some_lexeme e) ∙ whole)
 
 -- a sign
-sign_text : (text : List ℕ) (p : Piece) → p.length ≡ length text → sign_piece text ≡ Some p → option_map (λ (f : Kind × ℕ). f.1) (sign_at text) ≡ Some (length text)
-unfolding sign_piece
+sign_text : (text : List ℕ) (p : Lexeme) → p.length ≡ length text → sign_lexeme text ≡ Some p → option_map (λ (f : Kind × ℕ). f.1) (sign_at text) ≡ Some (length text)
+unfolding sign_lexeme
 sign_text text p whole e = lengths_of (λ (x : Kind). sort.Token x) (sign_at text) p e ∙ ap (λ i. Some i) whole
 
 -- a comment, embedded C or a sign
-marked_text : (text : List ℕ) (p : Piece) → p.length ≡ length text → marked_at text ≡ Some p → IsMarkedText text
+marked_text : (text : List ℕ) (p : Lexeme) → p.length ≡ length text → marked_at text ≡ Some p → IsMarkedText text
 unfolding marked_at
 marked_text text p whole =
     let a = slice_index text 0 in
@@ -112,21 +113,21 @@ marked_text text p whole =
     (chosen (a == 37 && b == 37) (to_end_text sort.EmbeddedC text p whole)
     (sign_text text p whole))))
 
--- a text over the whole of which a piece stands is one piece
-pub whole_text : (opens : Bool) (text : List ℕ) (p : Piece) → p.length ≡ length text → piece_at opens text ≡ Some p → IsText text
-unfolding piece_at
+-- a text over the whole of which a lexeme stands is one lexeme
+pub whole_text : (opens : Bool) (text : List ℕ) (p : Lexeme) → p.length ≡ length text → lexeme_at opens text ≡ Some p → IsText text
+unfolding lexeme_at
 whole_text opens text p whole =
     let a = slice_index text 0 in
     chosen (is_letter a) (word_text text p whole)
     (chosen (begins_number text) (number_text text p whole)
-    (chosen (is_blank a) (λ e. sym whole ∙ sym (ap (λ (q : Piece). q.length) (some_piece {a = piece (blank_sort a) 1} e)))
+    (chosen (is_blank a) (λ e. sym whole ∙ sym (ap (λ (q : Lexeme). q.length) (some_lexeme {a = lexeme (blank_sort a) 1} e)))
     (chosen (a == 34) (string_text text p whole)
     (chosen (a == 39) (character_text text p whole)
     (chosen (a == 35) (hash_text opens text p whole)
     (marked_text text p whole))))))
 
--- what stands at a place is one piece
-pub standing_text : (r : Reading) (bytes : List ℕ) (p : Piece) → Stands r bytes p → IsText (take p.length bytes)
+-- what stands at a place is one lexeme
+pub standing_text : (r : Reading) (bytes : List ℕ) (p : Lexeme) → Stands r bytes p → IsText (take p.length bytes)
 standing_text r bytes p stands =
     let alone = stands_alone r bytes p p.length stands (omega arith) stands.within in
     whole_text r.opens_line (take p.length bytes) p (sym (length-take-le p.length bytes stands.within)) alone.there

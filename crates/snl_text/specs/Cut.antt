@@ -1,14 +1,14 @@
--- What a cut of the source gives: the tokens, the embedded pieces, the names of files and the places.
+-- What a cut of the source gives: the tokens, the embedded lexemes, the names of files and the places.
 use Rattle.std.specs.Prelude.{ℕ, ◌+◌, ◌<◌, ◌≤◌, Bool, true, false, List, [], ◌∷◌, ◌++◌, length, count_by, bytes_eq, if◌then◌else◌, codes, Option, Some, None, slice_range, ◌≡◌, drop, take}
 use Rattle.std.specs.List.{list_any, position_or_len}
 use Rattle.snl_text.specs.Bytes.{is_byte}
-use Rattle.snl_text.specs.Pieces.{piece_at}
+use Rattle.snl_text.specs.Lexemes.{lexeme_at}
 use Rattle.snl_text.specs.declared.kinds.Kind.{Kind}
 use Rattle.snl_text.specs.declared.markers.Marker.{Marker}
 use Rattle.snl_text.specs.declared.markers.Span.{Span}
-use Rattle.snl_text.specs.declared.pieces.Piece.{Piece}
-use Rattle.snl_text.specs.declared.pieces.Sort.{Sort}
-use Rattle.snl_text.specs.declared.pieces.Sort.TheVariants as sort
+use Rattle.snl_text.specs.declared.lexemes.Lexeme.{Lexeme}
+use Rattle.snl_text.specs.declared.lexemes.LexemeSort.{LexemeSort}
+use Rattle.snl_text.specs.declared.lexemes.LexemeSort.TheVariants as sort
 use Rattle.snl_text.specs.declared.tokens.Pos.{Pos}
 
 -- a token without where it lies in memory
@@ -52,8 +52,8 @@ abbrev pub with_name : List (List ℕ) → List ℕ → List (List ℕ)
 with_name names name = if list_any (bytes_eq name) names then names else names ++ name ∷ []
 
 -- the number of a name, from 1
-abbrev pub number_of : List (List ℕ) → List ℕ → ℕ
-number_of names name = 1 + position_or_len (bytes_eq name) names
+abbrev pub file_number : List (List ℕ) → List ℕ → ℕ
+file_number names name = 1 + position_or_len (bytes_eq name) names
 
 -- a marker: the next line has its number, in its file or in the same one
 abbrev pub renamed : Reading → List ℕ → Marker → Option Span → Reading
@@ -64,13 +64,13 @@ renamed r text marker None = record r {
 renamed r text marker (Some span) =
     let name = slice_range text span.start span.end in
     record r {
-      pos = record { offset = r.pos.offset + length text; file = number_of r.files name; line = marker.line };
+      pos = record { offset = r.pos.offset + length text; file = file_number r.files name; line = marker.line };
       opens_line = true;
       files = with_name r.files name;
     }
 
--- what is read once a piece of a sort, with this text, is taken
-abbrev pub after : Reading → List ℕ → Sort → Reading
+-- what is read once a lexeme of a sort, with this text, is taken
+abbrev pub after : Reading → List ℕ → LexemeSort → Reading
 after r text sort.Blank = record r { pos = along r.pos text }
 after r text sort.LineEnd = record r { pos = beyond r.pos text; opens_line = true }
 after r text sort.Skipped = record r { pos = beyond r.pos text; opens_line = false }
@@ -82,19 +82,19 @@ after r text (sort.Token kind) = record r {
   tokens = r.tokens ++ record { kind = kind; text = text; pos = r.pos } ∷ [];
 }
 
--- the piece can stand at the front of the bytes, of which it takes one or more
-pub record Stands (r : Reading) (bytes : List ℕ) (piece : Piece) : Type 0 where
-  pub some : 0 < piece.length
-  pub within : piece.length ≤ length bytes
-  pub there : piece_at r.opens_line bytes ≡ Some piece
+-- the lexeme can stand at the front of the bytes, of which it takes one or more
+pub record Stands (r : Reading) (bytes : List ℕ) (lexeme : Lexeme) : Type 0 where
+  pub some : 0 < lexeme.length
+  pub within : lexeme.length ≤ length bytes
+  pub there : lexeme_at r.opens_line bytes ≡ Some lexeme
 
--- no piece can stand there
+-- no lexeme can stand there
 abbrev pub IsStuck : Reading → List ℕ → Type 0
-IsStuck r bytes = (piece : Piece) → Stands r bytes piece → ⊥
+IsStuck r bytes = (lexeme : Lexeme) → Stands r bytes lexeme → ⊥
 
--- A cut: pieces that adjoin, each of which can stand at its place. They lead from what was read before to what
+-- A cut: lexemes that adjoin, each of which can stand at its place. They lead from what was read before to what
 -- is read then, and from the bytes to the rest of them.
-abbrev pub Cuts : Reading → List ℕ → List Piece → Reading → List ℕ → Type 0
+abbrev pub Cuts : Reading → List ℕ → List Lexeme → Reading → List ℕ → Type 0
 Cuts r bytes [] end rest = (r ≡ end) × (bytes ≡ rest)
-Cuts r bytes (piece ∷ pieces) end rest =
-    Stands r bytes piece × Cuts (after r (take piece.length bytes) piece.sort) (drop piece.length bytes) pieces end rest
+Cuts r bytes (lexeme ∷ lexemes) end rest =
+    Stands r bytes lexeme × Cuts (after r (take lexeme.length bytes) lexeme.sort) (drop lexeme.length bytes) lexemes end rest

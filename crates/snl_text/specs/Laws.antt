@@ -5,7 +5,7 @@ use Rattle.snl_text.specs.Cut.{Reading, Spelled, Cuts, IsStuck, nothing_read}
 use Rattle.snl_text.specs.Faults.{fault_of}
 use Rattle.snl_text.specs.Lexing.{IsCut, IsFault}
 use Rattle.snl_text.specs.declared.faults.Flaw.{Flaw}
-use Rattle.snl_text.specs.declared.pieces.Piece.{Piece}
+use Rattle.snl_text.specs.declared.lexemes.Lexeme.{Lexeme}
 use Rattle.snl_text.specs.declared.tokens.Pos.{Pos}
 
 -- Each source has a cut that reaches its end, or a fault.
@@ -18,28 +18,28 @@ NotBoth = (source : List ℕ) (end : Reading) (kind : Flaw) (pos : Pos) → IsCu
 
 -- There is at most one cut that reaches the end of a source.
 abbrev pub AtMostOneCut : Type 0
-AtMostOneCut = (source : List ℕ) (pieces others : List Piece) (end there : Reading) →
-    Cuts nothing_read source pieces end [] → Cuts nothing_read source others there [] → (pieces ≡ others) × (end ≡ there)
+AtMostOneCut = (source : List ℕ) (lexemes others : List Lexeme) (end there : Reading) →
+    Cuts nothing_read source lexemes end [] → Cuts nothing_read source others there [] → (lexemes ≡ others) × (end ≡ there)
 
--- Where no piece can stand, every cut of the source ends there or before.
+-- Where no lexeme can stand, every cut of the source ends there or before.
 abbrev pub NoCutPasses : Type 0
-NoCutPasses = (source : List ℕ) (pieces others : List Piece) (end there : Reading) (rest left : List ℕ) →
-    Cuts nothing_read source pieces end rest → IsStuck end rest → Cuts nothing_read source others there left → length rest ≤ length left
+NoCutPasses = (source : List ℕ) (lexemes others : List Lexeme) (end there : Reading) (rest left : List ℕ) →
+    Cuts nothing_read source lexemes end rest → IsStuck end rest → Cuts nothing_read source others there left → length rest ≤ length left
 
--- At the end of the longest cut no piece can stand, and a source has at most one fault.
+-- At the end of the longest cut no lexeme can stand, and a source has at most one fault.
 abbrev pub AtMostOneFault : Type 0
 AtMostOneFault = (source : List ℕ) (kind other : Flaw) (pos there : Pos) →
     IsFault source kind pos → IsFault source other there → fault_of kind pos ≡ fault_of other there
 
 -- Of the tokens of a cut each begins after the one before it.
 abbrev pub TokensAscend : Type 0
-TokensAscend = (source : List ℕ) (pieces : List Piece) (end : Reading) (rest : List ℕ) →
-    Cuts nothing_read source pieces end rest → IsStrictlyIncreasing (map (λ (token : Spelled). token.pos.offset) end.tokens)
+TokensAscend = (source : List ℕ) (lexemes : List Lexeme) (end : Reading) (rest : List ℕ) →
+    Cuts nothing_read source lexemes end rest → IsStrictlyIncreasing (map (λ (token : Spelled). token.pos.offset) end.tokens)
 
 -- The bytes that a cut takes have that cut on their own, whatever follows them in the source.
 abbrev pub FrontHasTheCut : Type 0
-FrontHasTheCut = (source : List ℕ) (pieces : List Piece) (end : Reading) (rest : List ℕ) →
-    Cuts nothing_read source pieces end rest → Cuts nothing_read (take end.pos.offset source) pieces end []
+FrontHasTheCut = (source : List ℕ) (lexemes : List Lexeme) (end : Reading) (rest : List ℕ) →
+    Cuts nothing_read source lexemes end rest → Cuts nothing_read (take end.pos.offset source) lexemes end []
 
 -- What is read up to a fault, by the longest cut, is what the cut of the bytes before the fault reads: the same
 -- files of markers, tokens and places.

@@ -2,13 +2,13 @@
 use Rattle.std.specs.Prelude.{ℕ, ◌≡◌, ◌<◌, ◌≤◌, List, [], length, map, Result, Ok, Err}
 use Rattle.snl_text.specs.Cut.{Reading, Cuts, nothing_read}
 use Rattle.snl_text.specs.Faults.{fault_of}
-use Rattle.snl_text.specs.Pieces.{flaw_at}
+use Rattle.snl_text.specs.Lexemes.{flaw_at}
 use Rattle.snl_text.specs.Scanning.{reading, spelled}
 use Rattle.snl_text.specs.declared.faults.Flaw.{Flaw}
 use Rattle.snl_text.specs.declared.faults.Flaw.TheVariants as flaw
 use Rattle.snl_text.specs.declared.faults.LexFault.{LexFault}
 use Rattle.snl_text.specs.declared.faults.LexFault.TheVariants as fault
-use Rattle.snl_text.specs.declared.pieces.Piece.{Piece}
+use Rattle.snl_text.specs.declared.lexemes.Lexeme.{Lexeme}
 use Rattle.snl_text.specs.declared.scanner.Scanner.{Scanner}
 use Rattle.snl_text.specs.declared.tokens.Lexed.{Lexed}
 use Rattle.snl_text.specs.declared.tokens.Pos.{Pos}
@@ -16,12 +16,12 @@ use Rattle.snl_text.specs.declared.tokens.Pos.{Pos}
 -- The fault stands at the end of the longest cut, if that does not reach the end of the source. Its kind is
 -- read from the bytes there.
 pub record IsFault (source : List ℕ) (kind : Flaw) (pos : Pos) : Type 0 where
-  pub pieces : List Piece
+  pub lexemes : List Lexeme
   pub end : Reading
   pub rest : List ℕ
-  pub cut : Cuts nothing_read source pieces end rest
+  pub cut : Cuts nothing_read source lexemes end rest
   pub short : 0 < length rest
-  pub longest : (others : List Piece) (there : Reading) (left : List ℕ) → Cuts nothing_read source others there left → length rest ≤ length left
+  pub longest : (others : List Lexeme) (there : Reading) (left : List ℕ) → Cuts nothing_read source others there left → length rest ≤ length left
   pub kind_is : kind ≡ flaw_at rest
   pub pos_is : pos ≡ end.pos
 
@@ -37,8 +37,8 @@ FaultHolds source fault.Memory = Unit {0}
 
 -- some cut of the source reaches its end, and this is what it reads
 pub record IsCut (source : List ℕ) (end : Reading) : Type 0 where
-  pub pieces : List Piece
-  pub cut : Cuts nothing_read source pieces end []
+  pub lexemes : List Lexeme
+  pub cut : Cuts nothing_read source lexemes end []
 
 -- the lists and the end of what was read
 pub record IsReading (r : Reading) (lexed : Lexed) : Type 0 where

@@ -6,7 +6,7 @@ pub mod Lexing
 pub mod MarkerLines
 pub mod Markers
 pub mod Numbers
-pub mod Pieces
+pub mod Lexemes
 pub mod Quotes
 pub mod Scanning
 pub mod Signs

@@ -2,13 +2,13 @@
 use Rattle.std.specs.Prelude.{ℕ, ◌+◌, Bool, false, ◌&&◌, ◌||◌, ◌==◌, nat_le, nat_lt, nat_eq, List, length, take, drop, Option, Some, None, option_map, if◌then◌else◌, slice_index, codes}
 use Rattle.std.specs.List.{prefix_len, starts_with}
 use Rattle.snl_text.specs.Bytes.{is_blank, is_byte, is_digit, is_inner_blank, is_in_line}
-use Rattle.snl_text.specs.Numbers.{value_of}
+use Rattle.snl_text.specs.Numbers.{numeral_value}
 use Rattle.snl_text.specs.Quotes.{quoted}
 use Rattle.snl_text.specs.declared.markers.Marker.{Marker}
 use Rattle.snl_text.specs.declared.markers.Span.{Span}
-use Rattle.snl_text.specs.declared.pieces.Piece.{Piece}
-use Rattle.snl_text.specs.declared.pieces.Sort.{Sort}
-use Rattle.snl_text.specs.declared.pieces.Sort.TheVariants as sort
+use Rattle.snl_text.specs.declared.lexemes.Lexeme.{Lexeme}
+use Rattle.snl_text.specs.declared.lexemes.LexemeSort.{LexemeSort}
+use Rattle.snl_text.specs.declared.lexemes.LexemeSort.TheVariants as sort
 
 -- the line ends at the place, or has a blank there
 abbrev pub is_parted : List ℕ → ℕ → Bool
@@ -42,18 +42,18 @@ marker_at line =
     let count = prefix_len is_digit (drop start line) in
     if nat_lt 0 count && nat_lt count 10 && is_parted line (start + count)
     then option_map (λ number. record { line = number; name = name_at line (start + count) })
-    (value_of 10 (take count (drop start line)))
+    (numeral_value 10 (take count (drop start line)))
     else None
 
 -- What the line at the front says: nothing, where it begins `#pragma`; else it has to be a marker.
-abbrev pub says_of : List ℕ → Option Sort
+abbrev pub says_of : List ℕ → Option LexemeSort
 says_of line =
     if starts_with nat_eq line (codes "#pragma") then Some sort.LineEnd
     else option_map (λ marker. sort.Marker marker) (marker_at line)
 
--- The piece that the line at the front is, with the newline after it. On a last line, that no newline ends,
+-- The lexeme that the line at the front is, with the newline after it. On a last line, that no newline ends,
 -- it says nothing.
-unfoldable pub directive_at : List ℕ → Option Piece
+unfoldable pub directive_at : List ℕ → Option Lexeme
 directive_at bytes =
     let count = prefix_len is_in_line bytes in
     option_map (λ says. if count == length bytes

@@ -17,14 +17,14 @@ abbrev pub digits_value : ℕ → List ℕ → ℕ
 digits_value base digits = fold (λ value byte. value * base + digit_value byte) 0 digits
 
 -- the value of digits of a base, if there are no other bytes and it is at most 2^63 - 1; of no digits 0
-unfoldable pub value_of : ℕ → List ℕ → Option ℕ
-value_of base text =
+unfoldable pub numeral_value : ℕ → List ℕ → Option ℕ
+numeral_value base text =
     if list_all (λ byte. nat_lt (digit_value byte) base) text && nat_lt (digits_value base text) (2 ^ 63)
     then Some (digits_value base text) else None
 
 -- the same of at least one digit
 unfoldable pub value_in : ℕ → List ℕ → Option ℕ
-value_in base text = if length text == 0 then None else value_of base text
+value_in base text = if length text == 0 then None else numeral_value base text
 
 -- the text without an `L` or `l` at its end
 unfoldable pub without_suffix : List ℕ → List ℕ
@@ -62,4 +62,4 @@ unfoldable pub decimal_value : List ℕ → Option DecimalValue
 decimal_value text =
     let point = prefix_len is_digit text in
     if nat_lt point (length text) && is_byte (codes ".") (slice_index text point) && list_all is_digit (drop (point + 1) text) && nat_lt 1 (length text)
-    then decimal_of (value_of 10 (take point text)) (drop (point + 1) text) else None
+    then decimal_of (numeral_value 10 (take point text)) (drop (point + 1) text) else None

@@ -1,14 +1,14 @@
--- What a whole text is when it is one piece, by what it begins with; and the law that no such text is longer
--- than the piece that stands at a place.
+-- What a whole text is when it is one lexeme, by what it begins with; and the law that no such text is longer
+-- than the lexeme that stands at a place.
 use Rattle.std.specs.Prelude.{ℕ, ◌+◌, ◌-◌, ◌<◌, ◌≤◌, ◌≡◌, ◌||◌, true, false, List, length, take, drop, ◌++◌, Some, codes, MatchBool, is_some, option_map, slice_index}
 use Rattle.std.specs.List.{list_all, prefix_len}
 use Rattle.snl_text.specs.Bytes.{is_blank, is_byte, is_letter, is_in_line, is_name_byte, is_number_byte, open_with}
 use Rattle.snl_text.specs.Cut.{Reading, Stands}
 use Rattle.snl_text.specs.Numbers.{whole_value, decimal_value}
-use Rattle.snl_text.specs.Pieces.{begins_number}
+use Rattle.snl_text.specs.Lexemes.{begins_number}
 use Rattle.snl_text.specs.Quotes.{quoted, through_mark, character_at}
 use Rattle.snl_text.specs.Signs.{sign_at}
-use Rattle.snl_text.specs.declared.pieces.Piece.{Piece}
+use Rattle.snl_text.specs.declared.lexemes.Lexeme.{Lexeme}
 
 -- what begins with `/` or `%` and a mark after it; and signs
 abbrev pub IsMarkedText : List ℕ → Type 0
@@ -22,7 +22,7 @@ IsMarkedText text =
     -- a sign
     (option_map (λ found. found.1) (sign_at text) ≡ Some (length text)))))
 
--- the whole text is one piece
+-- the whole text is one lexeme
 abbrev pub IsText : List ℕ → Type 0
 IsText text =
     let a = slice_index text 0 in
@@ -40,18 +40,18 @@ IsText text =
     (MatchBool (is_byte (codes "#") a) (length text ≤ prefix_len is_in_line text + 1)
     (IsMarkedText text))))))
 
--- Where a piece stands, no longer text is one piece.
+-- Where a lexeme stands, no longer text is one lexeme.
 abbrev pub NoLongerPiece : Type 0
-NoLongerPiece = (r : Reading) (text rest : List ℕ) (piece : Piece) →
-    Stands r (text ++ rest) piece → piece.length < length text → IsText text → ⊥
+NoLongerPiece = (r : Reading) (text rest : List ℕ) (lexeme : Lexeme) →
+    Stands r (text ++ rest) lexeme → lexeme.length < length text → IsText text → ⊥
 
--- Examples: texts that are one piece, and some that are not.
+-- Examples: texts that are one lexeme, and some that are not.
 abbrev pub TextExamples : Type 0
 TextExamples =
     IsText (codes "while") × IsText (codes "0x1FL") × IsText (codes ".5") × IsText (codes "/**/")
     × IsText (codes "// to the end") × IsText (codes "%{ a } }%") × IsText (codes "<<=") × IsText (codes "# 7")
     × (IsText (codes "09") → ⊥) × (IsText (codes "/*/") → ⊥) × (IsText (codes "<=>") → ⊥)
 
--- What stands at a place is one piece.
+-- What stands at a place is one lexeme.
 abbrev pub StandingIsText : Type 0
-StandingIsText = (r : Reading) (bytes : List ℕ) (piece : Piece) → Stands r bytes piece → IsText (take piece.length bytes)
+StandingIsText = (r : Reading) (bytes : List ℕ) (lexeme : Lexeme) → Stands r bytes lexeme → IsText (take lexeme.length bytes)

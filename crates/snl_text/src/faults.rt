@@ -10,7 +10,7 @@ use thiserror::Error;
 /// Why a source can't be cut into tokens, with the first place where it can't.
 #[derive(Clone, Copy, Debug, PartialEq, Eq, Error)]
 pub enum LexFault {
-    /// No piece begins with this byte, or a line that begins with `#` is no marker.
+    /// No lexeme begins with this byte, or a line that begins with `#` is no marker.
     #[error("bad byte")]
     BadByte(Pos),
     /// A `/*` that no `*/` follows.
@@ -77,7 +77,7 @@ impl LexFault {
     }
 }
 
-/// What keeps any piece from standing at a place.
+/// What keeps any lexeme from standing at a place.
 #[derive(Clone, Copy, Debug, PartialEq, Eq)]
 pub enum Flaw {
     BadByte,

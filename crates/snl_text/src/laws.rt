@@ -20,7 +20,7 @@ pub fn at_most_one_cut()
     ensures { AtMostOneCut }
 {}
 
-/// Where no piece can stand, every cut ends there or before.
+/// Where no lexeme can stand, every cut ends there or before.
 pub fn no_cut_passes()
     ensures { NoCutPasses }
 {}
@@ -45,23 +45,23 @@ pub fn read_before_fault()
     ensures { ReadBeforeFault }
 {}
 
-/// What stands at a place is one piece.
+/// What stands at a place is one lexeme.
 pub fn standing_is_text()
     ensures { StandingIsText }
 {}
 
-/// Where a piece stands, its text can stand, by the rules of texts alone.
+/// Where a lexeme stands, its text can stand, by the rules of texts alone.
 pub fn standing_can_stand()
     ensures { StandingCanStand }
 {}
 
-/// Where a text can stand by the rules of texts, a piece of its length stands.
+/// Where a text can stand by the rules of texts, a lexeme of its length stands.
 pub fn texts_stand()
     ensures { TextsStand }
 {}
 
-/// Where a piece stands, no longer text is one piece.
-pub fn no_longer_piece()
+/// Where a lexeme stands, no longer text is one lexeme.
+pub fn no_longer_lexeme()
     ensures { NoLongerPiece }
 {}
 
@@ -75,7 +75,7 @@ pub fn lines_are_markers()
     ensures { LinesAreMarkers }
 {}
 
-/// Texts that are one piece, and some that are not.
+/// Texts that are one lexeme, and some that are not.
 pub fn examples_of_texts()
     ensures { TextExamples }
 {}

@@ -3,12 +3,12 @@
 ghost use Rattle.snl_text.specs.Cut.{Cuts, Reading, nothing_read, start};
 ghost use Rattle.snl_text.specs.Lexing.{FaultHolds, FaultsOnly, GivesOnly, IsFault, IsLexed, Scans};
 ghost use Rattle.snl_text.specs.declared.faults.Flaw.{Flaw};
-ghost use Rattle.snl_text.specs.declared.pieces.Piece.{Piece};
+ghost use Rattle.snl_text.specs.declared.lexemes.Lexeme.{Lexeme};
 ghost use Rattle.snl_text.specs.declared.tokens.Pos.{Pos};
 ghost use Rattle.std.specs.Prelude.{◌<◌, ◌≡◌, ◌≤◌, [], IfErr, IfOk, List, length};
 
 use crate::faults::LexFault;
-use crate::pieces::{flaw_at, piece_at};
+use crate::lexemes::{flaw_at, lexeme_at};
 use crate::scanner::Scanner;
 use crate::tokens::{Lexed, Pos};
 use std::alloc::Global;
@@ -16,11 +16,11 @@ use std::alloc::Global;
 /// The most bytes that a source may have.
 pub const SOURCE_LIMIT: usize = 1_048_576;
 
-/// Cuts a source into tokens, with blanks, comments, embedded C and markers between them, each piece the
+/// Cuts a source into tokens, with blanks, comments, embedded C and markers between them, each lexeme the
 /// longest that can stand at its place.
 ///
 /// A source of more than [`SOURCE_LIMIT`] bytes is `SourceTooLong`, before all other faults, at its begin. Any
-/// other fault stands at the end of the longest cut, where no piece can stand. `Memory` comes where the lists
+/// other fault stands at the end of the longest cut, where no lexeme can stand. `Memory` comes where the lists
 /// found no room.
 pub fn lex<'a>(alloc: Global, source: &'a [u8]) -> Result<Lexed<'a>, LexFault>
     ensures long { SOURCE_LIMIT < length source.now → result ≡ Err (LexFault.SourceTooLong start) }
@@ -30,8 +30,8 @@ pub fn lex<'a>(alloc: Global, source: &'a [u8]) -> Result<Lexed<'a>, LexFault>
     ensures fault { IfErr result (FaultHolds source.now) }
 
     // Where a cut reaches the end, what it reads is answered; where none does, the fault is.
-    ensures whole { (pieces : List Piece) (end : Reading) → length source.now ≤ SOURCE_LIMIT
-        → Cuts nothing_read source.now pieces end [] → GivesOnly end result }
+    ensures whole { (lexemes : List Lexeme) (end : Reading) → length source.now ≤ SOURCE_LIMIT
+        → Cuts nothing_read source.now lexemes end [] → GivesOnly end result }
     ensures broken { (kind : Flaw) (pos : Pos) → length source.now ≤ SOURCE_LIMIT
         → IsFault source.now kind pos → FaultsOnly kind pos result }
 {
@@ -68,7 +68,7 @@ fn lex_within<'a>(alloc: Global, source: &'a [u8]) -> Result<Lexed<'a>, LexFault
     })
 }
 
-/// Takes piece after piece, until the source ends or none can stand.
+/// Takes lexeme after lexeme, until the source ends or none can stand.
 fn scan<'a>(alloc: Global, source: &'a [u8]) -> Result<Scanner<'a>, LexFault>
     requires { length source.now ≤ SOURCE_LIMIT }
     ensures { Scans source.now result }
@@ -76,10 +76,10 @@ fn scan<'a>(alloc: Global, source: &'a [u8]) -> Result<Scanner<'a>, LexFault>
     let mut scanner = Scanner::new(alloc);
     while scanner.pos.offset < source.len() {
         let rest = &source[scanner.pos.offset..];
-        let Some(piece) = piece_at(scanner.opens_line, rest) else {
+        let Some(lexeme) = lexeme_at(scanner.opens_line, rest) else {
             return Err(flaw_at(rest).at(scanner.pos));
         };
-        scanner.take(piece.sort, &rest[..piece.length])?;
+        scanner.take(lexeme.sort, &rest[..lexeme.length])?;
     }
     Ok(scanner)
 }

@@ -1,6 +1,6 @@
 //! The tokens of a source in the State Notation Language, each with its place.
 //!
-//! [`lex`] cuts the whole source into pieces, or answers the first place where none can stand. A token borrows
+//! [`lex`] cuts the whole source into lexemes, or answers the first place where none can stand. A token borrows
 //! its bytes from the source; [`whole_value`], [`decimal_value`] and [`character_value`] say what it is worth.
 //! The rules are told in `docs/LANGUAGE.md`, "Source text".
 #![tactic(auto)]
@@ -9,10 +9,10 @@ mod classes;
 mod faults;
 mod kinds;
 pub mod laws;
+mod lexemes;
 mod lexer;
 mod markers;
 mod numbers;
-mod pieces;
 mod quotes;
 mod scanner;
 mod signs;

@@ -1,15 +1,15 @@
 //! Lines whose first byte but for spaces and tabs is `#`.
 
 ghost use Rattle.snl_text.specs.Markers.{directive_at, is_parted, marker_at, name_at, number_start};
-ghost use Rattle.snl_text.specs.Pieces.{FitsIn, SortFits};
+ghost use Rattle.snl_text.specs.Lexemes.{FitsIn, SortFits};
 ghost use Rattle.std.specs.Prelude.{◌≡◌, ◌<◌, ◌≤◌, IfSome, length, slice_index};
 
 use crate::classes::{Digit, InLine, InnerBlank, byte_at, is_blank, run};
-use crate::numbers::value_of;
-use crate::pieces::{Piece, Sort};
+use crate::lexemes::{Lexeme, LexemeSort};
+use crate::numbers::numeral_value;
 use crate::quotes::quoted;
 
-/// Some bytes in a row of a piece, counted from its first byte.
+/// Some bytes in a row of a lexeme, counted from its first byte.
 #[derive(Clone, Copy, Debug, PartialEq, Eq)]
 pub struct Span {
     pub start: usize,
@@ -78,7 +78,7 @@ fn name_at(line: &[u8], place: usize) -> Option<Span>
 fn marker_at(line: &[u8]) -> Option<Marker>
     requires { 0 < length line.now }
     ensures value { result ≡ marker_at line.now }
-    ensures fits { IfSome result (λ marker. SortFits (length line.now) (Sort.Marker marker)) }
+    ensures fits { IfSome result (λ marker. SortFits (length line.now) (LexemeSort.Marker marker)) }
 {
     let start = number_start(line);
     let count = run::<Digit>(&line[start..]);
@@ -86,16 +86,16 @@ fn marker_at(line: &[u8]) -> Option<Marker>
     if count == 0 || count > 9 || !is_parted(line, end) {
         return None;
     }
-    let number = value_of(10, &line[start..end])?;
+    let number = numeral_value(10, &line[start..end])?;
     Some(Marker {
         line: number as usize,
         name: name_at(line, end),
     })
 }
 
-/// The piece that a line is, of which the first byte but for spaces and tabs is the `#` at the front.
+/// The lexeme that a line is, of which the first byte but for spaces and tabs is the `#` at the front.
 #[tactic(auto, unfolding(crate::specs::Markers::directive_at))]
-pub fn directive_at(bytes: &[u8]) -> Option<Piece>
+pub fn directive_at(bytes: &[u8]) -> Option<Lexeme>
     requires { slice_index bytes.now 0 ≡ 35 }
     ensures value { result ≡ directive_at bytes.now }
     ensures fits { IfSome result (FitsIn (length bytes.now)) }
@@ -103,17 +103,17 @@ pub fn directive_at(bytes: &[u8]) -> Option<Piece>
     let length = run::<InLine>(bytes);
     let line = &bytes[..length];
     let says = if line.starts_with(b"#pragma") {
-        Sort::LineEnd
+        LexemeSort::LineEnd
     } else {
-        Sort::Marker(marker_at(line)?)
+        LexemeSort::Marker(marker_at(line)?)
     };
     if length == bytes.len() {
-        Some(Piece {
-            sort: Sort::Skipped,
+        Some(Lexeme {
+            sort: LexemeSort::Skipped,
             length,
         })
     } else {
-        Some(Piece {
+        Some(Lexeme {
             sort: says,
             length: length + 1,
         })

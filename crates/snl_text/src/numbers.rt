@@ -1,6 +1,6 @@
 //! The values of numbers, as functions of their text.
 
-ghost use Rattle.snl_text.specs.Numbers.{decimal_value, digit_value, is_exact, thousandths_of, value_in, value_of, whole_value, without_suffix};
+ghost use Rattle.snl_text.specs.Numbers.{decimal_value, digit_value, is_exact, thousandths_of, value_in, numeral_value, whole_value, without_suffix};
 ghost use Rattle.std.specs.List.{list_all};
 ghost use Rattle.std.specs.Prelude.{◌+◌, ◌≡◌, ◌^◌, ◌≤◌, ◌<◌, option_map, pos, slice_index, slice_index_or, IfSome};
 
@@ -22,10 +22,10 @@ fn digit_value(byte: u8) -> u8
 }
 
 /// The value of digits of a base; None where there is another byte, or the value is above 2^63 - 1.
-pub fn value_of(base: u8, digits: &[u8]) -> Option<u64>
+pub fn numeral_value(base: u8, digits: &[u8]) -> Option<u64>
     requires low { 1 ≤ base }
     requires high { base ≤ 16 }
-    ensures value { result ≡ value_of base digits.now }
+    ensures value { result ≡ numeral_value base digits.now }
     ensures small { IfSome result (λ value. value < 2 ^ 63) }
 {
     let mut value = 0u128;
@@ -53,7 +53,7 @@ fn value_in(base: u8, digits: &[u8]) -> Option<u64>
     if digits.is_empty() {
         return None;
     }
-    value_of(base, digits)
+    numeral_value(base, digits)
 }
 
 /// The text without an `L` or `l` at its end.
@@ -162,7 +162,7 @@ pub fn decimal_value(text: &[u8]) -> Option<DecimalValue>
     if !is_all::<Digit>(fraction) || text.len() < 2 {
         return None;
     }
-    let whole = value_of(10, &text[..point])?;
+    let whole = numeral_value(10, &text[..point])?;
     if whole > LARGEST_WHOLE {
         return None;
     }

@@ -1,11 +1,11 @@
-//! The walk over the source, piece by piece.
+//! The walk over the source, lexeme by lexeme.
 
-ghost use Rattle.snl_text.specs.Cut.{after, along, beyond, newlines, nothing_read, number_of, renamed, with_name};
-ghost use Rattle.snl_text.specs.Pieces.{SortFits};
+ghost use Rattle.snl_text.specs.Cut.{after, along, beyond, newlines, nothing_read, file_number, renamed, with_name};
+ghost use Rattle.snl_text.specs.Lexemes.{SortFits};
 ghost use Rattle.std.specs.Prelude.{◌+◌, ◌<◌, ◌≡◌, ◌≤◌, ◌^◌, IfOk, OnOk, length, map};
 
+use crate::lexemes::LexemeSort;
 use crate::markers::Marker;
-use crate::pieces::Sort;
 use crate::tokens::{Pos, Token};
 use indexmap::IndexSet;
 use std::alloc::{AllocError, Global};
@@ -40,7 +40,7 @@ fn newlines(text: &[u8]) -> usize
 fn note_name<'a>(files: &mut IndexSet<&'a [u8]>, name: &'a [u8]) -> Result<usize, AllocError>
     requires { length (map (λ name. name.now) files.old.keys) < 2 ^ 32 }
     ensures number { IfOk result
-        (λ number. number ≡ number_of (map (λ name. name.now) files.old.keys) name.now) }
+        (λ number. number ≡ file_number (map (λ name. name.now) files.old.keys) name.now) }
     ensures names { OnOk result (map (λ name. name.now) files.new.keys
         ≡ with_name (map (λ name. name.now) files.old.keys) name.now) }
 {
@@ -93,8 +93,8 @@ impl<'a> Scanner<'a> {
         }
     }
 
-    /// Takes a piece, of this sort and text. Fails only where memory ends.
-    pub fn take(&mut self, sort: Sort, text: &'a [u8]) -> Result<(), AllocError>
+    /// Takes a lexeme, of this sort and text. Fails only where memory ends.
+    pub fn take(&mut self, sort: LexemeSort, text: &'a [u8]) -> Result<(), AllocError>
         requires offset { self.old.pos.offset + length text.now < 2 ^ 32 }
         requires line { self.old.pos.line < 2 ^ 63 + self.old.pos.offset }
         requires files { length (reading self.old).files < 2 ^ 32 }
@@ -102,22 +102,22 @@ impl<'a> Scanner<'a> {
         ensures { OnOk result (reading self.new ≡ after (reading self.old) text.now sort) }
     {
         match sort {
-            Sort::Blank => self.pos = along(self.pos, text),
-            Sort::LineEnd => {
+            LexemeSort::Blank => self.pos = along(self.pos, text),
+            LexemeSort::LineEnd => {
                 self.pos = beyond(self.pos, text);
                 self.opens_line = true;
             }
-            Sort::Skipped => {
+            LexemeSort::Skipped => {
                 self.pos = beyond(self.pos, text);
                 self.opens_line = false;
             }
-            Sort::EmbeddedC => {
+            LexemeSort::EmbeddedC => {
                 self.embedded.push(self.pos)?;
                 self.pos = beyond(self.pos, text);
                 self.opens_line = false;
             }
-            Sort::Marker(marker) => self.take_marker(marker, text)?,
-            Sort::Token(kind) => {
+            LexemeSort::Marker(marker) => self.take_marker(marker, text)?,
+            LexemeSort::Token(kind) => {
                 self.tokens.push(Token {
                     kind,
                     text,
@@ -134,7 +134,7 @@ impl<'a> Scanner<'a> {
     fn take_marker(&mut self, marker: Marker, text: &'a [u8]) -> Result<(), AllocError>
         requires offset { self.old.pos.offset + length text.now < 2 ^ 32 }
         requires files { length (reading self.old).files < 2 ^ 32 }
-        requires fits { SortFits (length text.now) (Sort.Marker marker) }
+        requires fits { SortFits (length text.now) (LexemeSort.Marker marker) }
         ensures { OnOk result
             (reading self.new ≡ renamed (reading self.old) text.now marker marker.name) }
     {

@@ -27,7 +27,7 @@ pub struct Token<'a> {
 pub struct Lexed<'a> {
     /// In the order of the source.
     pub tokens: Vec<Token<'a>>,
-    /// Where each piece of embedded C begins, in the order of the source.
+    /// Where each lexeme of embedded C begins, in the order of the source.
     pub embedded: Vec<Pos>,
     /// The names of files that markers gave, as spelled between their quotes. The first has number 1.
     pub files: Vec<&'a [u8]>,

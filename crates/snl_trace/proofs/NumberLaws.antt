@@ -10,7 +10,7 @@ use Rattle.std.specs.Char.{is_ascii_digit}
 use Rattle.std.specs.List.{list_all}
 use Rattle.std.specs.Str.Parse.{digits_value}
 use Rattle.snl_trace.specs.Fields.{is_blank, begins_with}
-use Rattle.snl_trace.specs.Numbers.{number_of, value_of, from_zero, below_zero}
+use Rattle.snl_trace.specs.Numbers.{spelled_number, spelled_value, from_zero, below_zero}
 use Rattle.snl_trace.specs.Reading.{front, at_end, IsRun, Reads, begins_with_digit}
 use Rattle.snl_trace.proofs.FieldLaws.{front-more, front-none}
 
@@ -41,22 +41,22 @@ front-digits : (text : List ℕ) (k : ℕ) → list_all is_ascii_digit (take k t
 front-digits text k digits = ap front (sym (take-append-drop k text)) ∙ front-over (take k text) (drop k text) digits
 
 -- what spells no number: bytes that are not all digits, too many, none
-not-odd : (most : ℕ) (field : List ℕ) → list_all is_ascii_digit field ≡ false → number_of most field ≡ None
-unfolding number_of
+not-odd : (most : ℕ) (field : List ℕ) → list_all is_ascii_digit field ≡ false → spelled_number most field ≡ None
+unfolding spelled_number
 not-odd most field odd = rw (odd, and-false) refl
 
 -- more than there may be
-not-many : (most : ℕ) (field : List ℕ) → most < length field → number_of most field ≡ None
-unfolding number_of
+not-many : (most : ℕ) (field : List ℕ) → most < length field → spelled_number most field ≡ None
+unfolding spelled_number
 not-many most field many = rw (lt-leb (length field) most many, and-false) refl
 
 -- none
-not-none : (most : ℕ) → number_of most [] ≡ None
-unfolding number_of
+not-none : (most : ℕ) → spelled_number most [] ≡ None
+unfolding spelled_number
 not-none most = refl
 
 -- a front that ends in a byte that is no digit
-odd-front : (most : ℕ) (xs rest : List ℕ) → begins_with_digit rest ≡ false → at_end rest ≡ false → number_of most (xs ++ front rest) ≡ None
+odd-front : (most : ℕ) (xs rest : List ℕ) → begins_with_digit rest ≡ false → at_end rest ≡ false → spelled_number most (xs ++ front rest) ≡ None
 odd-front most xs [] other goes_on = absurd (cc)
 odd-front most xs (b ∷ bs) other goes_on =
     not-odd most (xs ++ front (b ∷ bs))
@@ -64,52 +64,52 @@ odd-front most xs (b ∷ bs) other goes_on =
     ∙ rw (other, and-false) refl)
 
 -- a text that begins with digits, then with another byte that is no blank
-pub run-odd : (number count most : ℕ) (text : List ℕ) → IsRun number count most text → at_end (drop count text) ≡ false → number_of most (front text) ≡ None
-run-odd number count most text run goes_on = ap (number_of most) (front-digits text count run.digits) ∙ odd-front most (take count text) (drop count text) run.stops goes_on
+pub run-odd : (number count most : ℕ) (text : List ℕ) → IsRun number count most text → at_end (drop count text) ≡ false → spelled_number most (front text) ≡ None
+run-odd number count most text run goes_on = ap (spelled_number most) (front-digits text count run.digits) ∙ odd-front most (take count text) (drop count text) run.stops goes_on
 
 -- one that begins with none
-pub run-none : (number most : ℕ) (text : List ℕ) → begins_with_digit text ≡ false → number_of most (front text) ≡ None
+pub run-none : (number most : ℕ) (text : List ℕ) → begins_with_digit text ≡ false → spelled_number most (front text) ≡ None
 run-none number most text other = elim (cases_Bool (at_end text)) [
-  | inl ends ↦ ap (number_of most) (front-none text ends) ∙ not-none most
+  | inl ends ↦ ap (spelled_number most) (front-none text ends) ∙ not-none most
   | inr goes_on ↦ odd-front most [] text other goes_on
 ]
 
 -- one that begins with more digits than there may be
-pub run-many : (count most : ℕ) (text : List ℕ) → list_all is_ascii_digit (take count text) ≡ true → most < length (take count text) → number_of most (front text) ≡ None
+pub run-many : (count most : ℕ) (text : List ℕ) → list_all is_ascii_digit (take count text) ≡ true → most < length (take count text) → spelled_number most (front text) ≡ None
 run-many count most text digits many =
-    ap (number_of most) (front-digits text count digits)
+    ap (spelled_number most) (front-digits text count digits)
     ∙ not-many most (take count text ++ front (drop count text)) (omega (arith, many, length-append (take count text) (front (drop count text))))
 
 -- few digits, and at least one, spell a number
 pub all-digits : (number most : ℕ) (field : List ℕ) → 0 < length field → length field ≤ most → list_all is_ascii_digit field ≡ true → number ≡ digits_value 10 field →
-    number_of most field ≡ Some number
-unfolding number_of
+    spelled_number most field ≡ Some number
+unfolding spelled_number
 all-digits number most field some few digits spelled =
     rw (le-leb 1 (length field) (omega (arith, some)), le-leb (length field) most few, digits) (ap (λ n. Some n) (sym spelled))
 
 -- one that begins with a field of digits: its number, and what stands behind it
 pub run-read : (number count most : ℕ) (text : List ℕ) → IsRun number count most text → 0 < count → at_end (drop count text) ≡ true →
-    (number_of most (front text) ≡ Some number) × (drop count text ≡ drop (length (front text)) text)
+    (spelled_number most (front text) ≡ Some number) × (drop count text ≡ drop (length (front text)) text)
 run-read number count most text run some ends =
     let field : front text ≡ take count text = front-digits text count run.digits ∙ ap (λ f. take count text ++ f) (front-none (drop count text) ends) ∙ append-nil (take count text) in
     let size : length (take count text) ≡ count = length-take-le count text run.within in (
-      ap (number_of most) field ∙ all-digits number most (take count text) (omega (arith, size, some)) (omega (arith, size, run.few)) run.digits run.spelled,
+      ap (spelled_number most) field ∙ all-digits number most (take count text) (omega (arith, size, some)) (omega (arith, size, run.few)) run.digits run.spelled,
       ap (λ n. drop n text) (sym (ap length field ∙ size)),
     )
 
 -- a text that begins with another byte than `-`
-pub plain-value : (text : List ℕ) → begins_with 45 text ≡ false → value_of (front text) ≡ from_zero (number_of 19 (front text))
-unfolding value_of front
+pub plain-value : (text : List ℕ) → begins_with 45 text ≡ false → spelled_value (front text) ≡ from_zero (spelled_number 19 (front text))
+unfolding spelled_value front
 plain-value [] other = refl
 plain-value (b ∷ bs) other = elim (cases_Bool (is_blank b)) [ inl blank ↦ rw blank refl | inr plain ↦ rw (plain, other) refl ]
 
 -- one that begins with `-`
-pub signed-value : (text : List ℕ) → begins_with 45 text ≡ true → value_of (front text) ≡ below_zero (number_of 19 (front (drop 1 text)))
-unfolding value_of
+pub signed-value : (text : List ℕ) → begins_with 45 text ≡ true → spelled_value (front text) ≡ below_zero (spelled_number 19 (front (drop 1 text)))
+unfolding spelled_value
 signed-value [] signed = absurd (cc)
 signed-value (b ∷ bs) signed =
     let plain : is_blank b ≡ false = grind arith in
-    ap value_of (front-more b bs plain) ∙ rw signed refl
+    ap spelled_value (front-more b bs plain) ∙ rw signed refl
 
 -- what stands behind its front
 pub signed-behind : (text : List ℕ) → begins_with 45 text ≡ true → drop (length (front (drop 1 text))) (drop 1 text) ≡ drop (length (front text)) text

@@ -7,11 +7,11 @@ use Rattle.std.proofs.lemmas.Bool.{and_parts, cases_Bool, false≢true, le-leb, 
 use Rattle.std.proofs.lemmas.List.{take-append-drop, length-take-le}
 use Rattle.std.proofs.lemmas.List.Elements.{All-cons, All-nil}
 use Rattle.std.proofs.lemmas.List.Folds.{list_all-append}
-use Rattle.snl_trace.specs.declared.words.Word.TheVariants as words
+use Rattle.snl_trace.specs.declared.words.LineWord.TheVariants as words
 use Rattle.snl_trace.specs.Fields.{is_blank, is_filled, is_text, is_silent, fields, begins_with}
 use Rattle.snl_trace.specs.Grammar.{Told, Val, Tick, kept, values_of, told_of, told_by, timed, spoken, val_with, tick_with, word_of}
 use Rattle.snl_trace.specs.Lines.{without_return}
-use Rattle.snl_trace.specs.Numbers.{is_numeral, number_of, time_of, value_of, from_zero, below_zero, up_to}
+use Rattle.snl_trace.specs.Numbers.{is_numeral, spelled_number, time_of, spelled_value, from_zero, below_zero, up_to}
 use Rattle.snl_trace.specs.Plain.{is_plain, Begins, BeginsWithValues, BeginsWithTelling}
 use Rattle.snl_trace.specs.Reading.{IsRun}
 use Rattle.snl_trace.proofs.FieldLaws.{fields-at, fields-all}
@@ -57,7 +57,7 @@ plain-unblank (x ∷ xs) plain =
 
 -- digits at the front of a text, and the byte behind them
 pub begins-number : (number count most stop : ℕ) (text rest : List ℕ) → IsRun number count most text → 0 < count → drop count text ≡ stop ∷ rest →
-    Begins (λ field. number_of most field ≡ Some number) stop text rest
+    Begins (λ field. spelled_number most field ≡ Some number) stop text rest
 begins-number number count most stop text rest run some behind =
     let size : length (take count text) ≡ count = length-take-le count text run.within in record {
       field = take count text;
@@ -71,20 +71,20 @@ pub begins-as : (P Q : List ℕ → Type 0) (stop : ℕ) (text rest : List ℕ) 
 begins-as P Q stop text rest as_well begins = record { field = begins.field; is = begins.is; plain = begins.plain; right = as_well begins.field begins.right }
 
 -- a number that is not above the limit of times is a time
-pub number-time : (field : List ℕ) (ms : ℕ) → ms ≤ 10 ^ 15 → number_of 16 field ≡ Some ms → time_of field ≡ Some ms
+pub number-time : (field : List ℕ) (ms : ℕ) → ms ≤ 10 ^ 15 → spelled_number 16 field ≡ Some ms → time_of field ≡ Some ms
 number-time field ms within is = rw is (rw (le-leb ms (10 ^ 15) within) refl)
 
 -- what spells a number is digits, and at least one
-numeral : (most number : ℕ) (field : List ℕ) → number_of most field ≡ Some number → is_numeral most field ≡ true
-unfolding number_of
+numeral : (most number : ℕ) (field : List ℕ) → spelled_number most field ≡ Some number → is_numeral most field ≡ true
+unfolding spelled_number
 numeral most number field is = elim (cases_Bool (is_numeral most field)) [
   | inl all ↦ all
   | inr other ↦ (let none : None ≡ Some number = sym (rw other refl) ∙ is in absurd (cc))
 ]
 
 -- the value of a size that digits spell
-pub number-value : (field : List ℕ) (size : ℕ) (value : ℤ) → from_zero (Some size) ≡ Some value → number_of 19 field ≡ Some size → value_of field ≡ Some value
-unfolding value_of
+pub number-value : (field : List ℕ) (size : ℕ) (value : ℤ) → from_zero (Some size) ≡ Some value → spelled_number 19 field ≡ Some size → spelled_value field ≡ Some value
+unfolding spelled_value
 number-value [] size value fits is = absurd (false≢true (numeral 19 size [] is))
 number-value (b ∷ bs) size value fits is =
     let all = and_parts _ _ (numeral 19 size (b ∷ bs) is) in
@@ -93,8 +93,8 @@ number-value (b ∷ bs) size value fits is =
     rw (other, is) fits
 
 -- the value below zero of one
-pub number-below : (field : List ℕ) (size : ℕ) (value : ℤ) → below_zero (Some size) ≡ Some value → number_of 19 field ≡ Some size → value_of (45 ∷ field) ≡ Some value
-unfolding value_of
+pub number-below : (field : List ℕ) (size : ℕ) (value : ℤ) → below_zero (Some size) ≡ Some value → spelled_number 19 field ≡ Some size → spelled_value (45 ∷ field) ≡ Some value
+unfolding spelled_value
 number-below field size value fits is = rw is fits
 
 -- ---- values
@@ -113,13 +113,13 @@ pub way-start : (text : List ℕ) → IsWayIn [] text text
 way-start text = record { done = []; are = refl; plain = refl; within = omega arith; goes_on = λ more. kept_after_start (fields more) }
 
 -- a field with a value is filled
-value-filled : (field : List ℕ) (value : ℤ) → value_of field ≡ Some value → is_filled field ≡ true
-unfolding value_of number_of
+value-filled : (field : List ℕ) (value : ℤ) → spelled_value field ≡ Some value → is_filled field ≡ true
+unfolding spelled_value spelled_number
 value-filled [] value is = absurd (cc)
 value-filled (b ∷ bs) value is = refl
 
 -- a value more, and the space behind it
-pub way-on : (items : List ℤ) (value : ℤ) (text left rest : List ℕ) → IsWayIn items text left → Begins (λ field. value_of field ≡ Some value) 32 left rest →
+pub way-on : (items : List ℤ) (value : ℤ) (text left rest : List ℕ) → IsWayIn items text left → Begins (λ field. spelled_value field ≡ Some value) 32 left rest →
     IsWayIn (take 1024 (items ++ value ∷ [])) text rest
 way-on items value text left rest way begins =
     let f = begins.field in
@@ -141,7 +141,7 @@ way-on items value text left rest way begins =
     }
 
 -- the last value, and the newline behind it
-pub way-ends : (items : List ℤ) (value : ℤ) (text left rest : List ℕ) → IsWayIn items text left → Begins (λ field. value_of field ≡ Some value) 10 left rest →
+pub way-ends : (items : List ℤ) (value : ℤ) (text left rest : List ℕ) → IsWayIn items text left → Begins (λ field. spelled_value field ≡ Some value) 10 left rest →
     BeginsWithValues (take 1024 (items ++ value ∷ [])) text rest
 way-ends items value text left rest way begins =
     let f = begins.field in
@@ -241,7 +241,7 @@ read-line ms told text row rest timed telling = record {
 
 -- what spells a time is digits, and at least one
 time-numeral : (field : List ℕ) (ms : ℕ) → time_of field ≡ Some ms → is_numeral 16 field ≡ true
-time-numeral field ms is = elim (number_of 16 field) as (λ o. number_of 16 field ≡ o → up_to (10 ^ 15) o ≡ Some ms → is_numeral 16 field ≡ true) [
+time-numeral field ms is = elim (spelled_number 16 field) as (λ o. spelled_number 16 field ≡ o → up_to (10 ^ 15) o ≡ Some ms → is_numeral 16 field ≡ true) [
   | None ↦ λ e none. absurd (cc)
   | Some number ↦ λ e some. numeral 16 number field e
 ] refl is

@@ -2,7 +2,7 @@
 use Rattle.std.proofs.Common.{◌≡◌, ◌∙◌, ◌+◌, ℕ, List, [], ◌∷◌, Bool, Option, None, Some, Result, Ok, Err, refl, ap, subst, sym, length}
 use Rattle.snl_syntax.specs.Programs.{ProgramTree}
 use Rattle.snl_links.specs.Links.{Link}
-use Rattle.snl_load.specs.Names.{place_of}
+use Rattle.snl_load.specs.Names.{position_of}
 use Rattle.snl_machine.specs.declared.machine.Machine.{Machine}
 use Rattle.snl_machine.specs.Laws.{states_held}
 use Rattle.snl_machine.specs.MachineOf.{IsMachineOf, Task, task_held, task_of}
@@ -127,7 +127,7 @@ pub runs-as : (t u : Task) (budget : ℕ) (Is : World → Type 0) → t.channels
     RunsOver (rules_by t budget) e bytes left from w told → RunsOver (rules_by u budget) e bytes left from w told
 unfolding rules_by
 runs-as t u budget Is channels links acts stay e bytes left from w told is ran =
-    over-same (rules_by t budget) (rules_by u budget) Is (λ ms line. λ j. read_of (place_of (channels j)) (is_event_fit (length (channels j)) (links j)) ms line)
+    over-same (rules_by t budget) (rules_by u budget) Is (λ ms line. λ j. read_of (position_of (channels j)) (is_event_fit (length (channels j)) (links j)) ms line)
     acts stay e bytes left from w told is ran
 
 -- a machine runs over a trace as each program does that it is a machine of

@@ -3,7 +3,7 @@ use Rattle.std.proofs.Common.{◌≡◌, ℕ, ◌<◌, ◌≤◌, false, List, [
 use Rattle.std.proofs.lemmas.Bool.{le-ltb, lt-ltb}
 use Rattle.snl_trace.specs.declared.trace_faults.TraceFault.TheVariants.{BadTime, BackInTime}
 use Rattle.snl_trace.specs.Fields.{fields, begins_blank}
-use Rattle.snl_trace.specs.Numbers.{number_of, time_of}
+use Rattle.snl_trace.specs.Numbers.{spelled_number, time_of}
 use Rattle.snl_trace.specs.Grammar.{◌>>=◌, in_order, timed}
 use Rattle.snl_trace.specs.Reading.{front}
 use Rattle.snl_trace.proofs.FieldLaws.{fields-front, fields_empty}
@@ -16,7 +16,7 @@ timed-none last (b ∷ bs) trimmed none = ap (timed last) (fields-front (b ∷ b
 
 -- no bytes have no time
 no-time : time_of (front []) ≡ None
-unfolding front number_of
+unfolding front spelled_number
 no-time = refl
 
 -- a text with one

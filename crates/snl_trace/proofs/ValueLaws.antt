@@ -4,7 +4,7 @@ use Rattle.std.specs.Option.{option_map}
 use Rattle.std.proofs.lemmas.List.{append-nil, take-append-le, take_all}
 use Rattle.snl_trace.specs.declared.trace_faults.TraceFault.{TraceFault}
 use Rattle.snl_trace.specs.declared.trace_faults.TraceFault.TheVariants.{FieldCount, BadValue}
-use Rattle.snl_trace.specs.Numbers.{value_of}
+use Rattle.snl_trace.specs.Numbers.{spelled_value}
 use Rattle.snl_trace.specs.Grammar.{values_of, put_first, kept, kept_values}
 
 -- what the fields that are left make of the values so far
@@ -17,7 +17,7 @@ unfolding kept_after
 kept_after_start fields = elim (values_of fields) as (λ o. kept (option_map (λ values. [] ++ values) o) ≡ kept o) [ None ↦ refl | Some values ↦ refl ]
 
 -- a field that is no value is the fault, whatever was kept
-pub kept_after_bad : (items : List ℤ) (field : List ℕ) (rest : List (List ℕ)) → value_of field ≡ None → kept_after items (field ∷ rest) ≡ Err BadValue
+pub kept_after_bad : (items : List ℤ) (field : List ℕ) (rest : List (List ℕ)) → spelled_value field ≡ None → kept_after items (field ∷ rest) ≡ Err BadValue
 unfolding kept_after values_of
 kept_after_bad items field rest bad = rw bad refl
 
@@ -28,7 +28,7 @@ take_front (suc n) [] ys = refl
 take_front (suc n) (x ∷ xs) ys = ap (λ z. x ∷ z) (take_front n xs ys)
 
 -- a field that is a value is kept where there is room
-pub kept_after_more : (items : List ℤ) (field : List ℕ) (rest : List (List ℕ)) (value : ℤ) → value_of field ≡ Some value
+pub kept_after_more : (items : List ℤ) (field : List ℕ) (rest : List (List ℕ)) (value : ℤ) → spelled_value field ≡ Some value
     → kept_after (take 1024 (items ++ value ∷ [])) rest ≡ kept_after items (field ∷ rest)
 unfolding kept_after values_of
 kept_after_more items field rest value is =
@@ -84,7 +84,7 @@ some_kept (Some value) (Some values) items is none =
 pub kept_values_none : (fields : List (List ℕ)) (items : List ℤ) → kept (values_of fields) ≡ Ok items → length items ≡ 0 → kept_values fields ≡ Err FieldCount
 unfolding values_of
 kept_values_none [] items is none = refl
-kept_values_none (field ∷ rest) items is none = absurd (some_kept (value_of field) (values_of rest) items is none)
+kept_values_none (field ∷ rest) items is none = absurd (some_kept (spelled_value field) (values_of rest) items is none)
 
 -- with a value there was one
 pub kept_values_some : (fields : List (List ℕ)) (items : List ℤ) → kept (values_of fields) ≡ Ok items → 0 < length items → kept_values fields ≡ Ok items

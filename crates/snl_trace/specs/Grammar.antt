@@ -6,11 +6,11 @@ use Rattle.snl_schedule.specs.declared.events.Event.{Event}
 use Rattle.snl_schedule.specs.declared.events.Event.TheVariants as events
 use Rattle.snl_trace.specs.declared.trace_faults.TraceFault.{TraceFault}
 use Rattle.snl_trace.specs.declared.trace_faults.TraceFault.TheVariants.{NotAscii, BadTime, BackInTime, UnknownWord, FieldCount, BadValue, OutOfRange, LineTooLong}
-use Rattle.snl_trace.specs.declared.words.Word.{Word}
-use Rattle.snl_trace.specs.declared.words.Word.TheVariants as words
+use Rattle.snl_trace.specs.declared.words.LineWord.{LineWord}
+use Rattle.snl_trace.specs.declared.words.LineWord.TheVariants as words
 use Rattle.snl_trace.specs.Fields.{is_text, is_silent, fields}
 use Rattle.snl_trace.specs.Lines.{without_return}
-use Rattle.snl_trace.specs.Numbers.{time_of, value_of}
+use Rattle.snl_trace.specs.Numbers.{time_of, spelled_value}
 
 -- what the fields behind the time tell, with a channel by its name
 pub data Told : Type 0 where
@@ -34,7 +34,7 @@ put_first (Some value) values = option_map (λ rest. value ∷ rest) values
 -- the values that fields spell, if each of them spells one
 unfoldable pub values_of : List (List ℕ) → Option (List ℤ)
 values_of [] = Some []
-values_of (field ∷ rest) = put_first (value_of field) (values_of rest)
+values_of (field ∷ rest) = put_first (spelled_value field) (values_of rest)
 
 -- of the values the first 1,024
 abbrev pub kept : Option (List ℤ) → Result (List ℤ) TraceFault
@@ -78,7 +78,7 @@ unfoldable pub tick_with : List (List ℕ) → Result Told TraceFault
 tick_with rest = ended rest >>= λ _. Ok Tick
 
 -- the words
-unfoldable pub word_of : List ℕ → Option Word
+unfoldable pub word_of : List ℕ → Option LineWord
 word_of field =
     if bytes_eq field (codes "up") then Some words.Up
     else if bytes_eq field (codes "down") then Some words.Down
@@ -88,7 +88,7 @@ word_of field =
     else None
 
 -- what a word tells with these fields after it
-abbrev pub told_after : Option Word → List (List ℕ) → Result Told TraceFault
+abbrev pub told_after : Option LineWord → List (List ℕ) → Result Told TraceFault
 told_after None rest = Err UnknownWord
 told_after (Some words.Up) rest = up_with rest
 told_after (Some words.Down) rest = down_with rest

@@ -9,7 +9,7 @@ use Rattle.snl_output.specs.declared.faults.Stop.TheVariants as stop
 use Rattle.snl_schedule.specs.Event.{line_of}
 use Rattle.snl_machine.specs.MachineOf.{Task, task_held}
 use Rattle.snl_schedule.specs.Event.{is_event_fit}
-use Rattle.snl_load.specs.Names.{place_of}
+use Rattle.snl_load.specs.Names.{position_of}
 use Rattle.snl_meaning.specs.Ran.{Ran, Gives, then_do}
 use Rattle.snl_meaning.specs.World.{World}
 use Rattle.snl_trace.specs.declared.runner.End.{End}
@@ -64,7 +64,7 @@ run_from rules number (line ∷ lines) w =
 -- those of a program with a budget
 unfoldable pub rules_by : Task → ℕ → Rules
 rules_by t budget = record {
-  read = read_of (place_of t.channels) (is_event_fit (length t.channels) t.program.links);
+  read = read_of (position_of t.channels) (is_event_fit (length t.channels) t.program.links);
   act = line_of t.program budget;
 }
 

@@ -5,7 +5,7 @@ ghost use Rattle.snl_schedule.specs.declared.events.Event.TheVariants as event;
 ghost use Rattle.snl_trace.specs.Seen.{channel_in, event_heard, with_channel};
 
 use crate::reader::Heard;
-use crate::words::Values;
+use crate::words::LineValues;
 use snl_machine::Event;
 
 /// Room for the events of all lines. Each event takes as much room as one with 1,024 values, so one of each sort stands ready, and
@@ -43,7 +43,7 @@ impl Events {
     /// Room for values, of which none were read yet.
     pub fn new() -> Self {
         Events {
-            values: Event::Val(0, Values::new()),
+            values: Event::Val(0, LineValues::new()),
             up: Event::Up(0),
             down: Event::Down(0),
             done: Event::Done(0),

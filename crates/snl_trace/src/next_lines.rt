@@ -70,7 +70,7 @@ fn read_plain<'t>(text: &'t [u8], machine: &Machine, room: &mut Event) -> Option
             let plain = plain_line(text, machine.time(), values)?;
             match plain.telling {
                 Telling::Val(name) => {
-                    *channel = number_of(name, *channel, machine)?;
+                    *channel = channel_named(name, *channel, machine)?;
                     if !machine.fits(room) {
                         return None;
                     }
@@ -101,7 +101,7 @@ fn heard_in<'t>(plain: &Plain<'t>, heard: Heard) -> NextLine<'t>
 /// The number of the channel of a name. It is often the channel that was heard of last, or the one after it: so a scan
 /// writes its channels.
 #[inline(always)]
-fn number_of(name: &[u8], last: usize, machine: &Machine) -> Option<usize>
+fn channel_named(name: &[u8], last: usize, machine: &Machine) -> Option<usize>
     ensures { result ≡ channel_of machine.now name.now }
 {
     if machine.is_channel(last, name) {

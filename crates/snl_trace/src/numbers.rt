@@ -3,7 +3,7 @@
 ghost use Rattle.std.specs.Prelude.{◌≡◌, ◌≤◌, None, Some, IfSome, IfNone};
 ghost use Rattle.snl_trace.specs.Reading as reading;
 ghost use Rattle.snl_trace.specs.Numbers as spec;
-ghost use Rattle.snl_trace.specs.Numbers.{number_of, time_of, value_of};
+ghost use Rattle.snl_trace.specs.Numbers.{spelled_number, time_of, spelled_value};
 ghost use Rattle.snl_trace.specs.Reading.{front, IsRun, Reads};
 
 use crate::fields::{begins_with, is_blank};
@@ -15,7 +15,7 @@ use crate::trace_faults::TIME_LIMIT;
 pub fn digits(text: &[u8], most: usize) -> Option<(u64, usize)>
     requires { most ≤ 19 }
     ensures some { IfSome result (λ n. IsRun n.0 n.1 most text.now) }
-    ensures none { IfNone result (number_of most (front text.now) ≡ None) }
+    ensures none { IfNone result (spelled_number most (front text.now) ≡ None) }
 {
     let mut number = 0u64;
     let mut count = 0;
@@ -44,7 +44,7 @@ fn at_end(text: &[u8]) -> bool
 /// first blank is cut and read in one pass.
 fn number(text: &[u8], most: usize) -> Option<(u64, &[u8])>
     requires { most ≤ 19 }
-    ensures { Reads (number_of most (front text.now)) text.now result }
+    ensures { Reads (spelled_number most (front text.now)) text.now result }
 {
     let (number, count) = digits(text, most)?;
     if count == 0 {
@@ -70,7 +70,7 @@ pub fn time(text: &[u8]) -> Option<(u64, &[u8])>
 
 /// The value that the front of a text spells, by an optional `-` and 1 to 19 digits, and the text behind it.
 pub fn value(text: &[u8]) -> Option<(i64, &[u8])>
-    ensures { Reads (value_of (front text.now)) text.now result }
+    ensures { Reads (spelled_value (front text.now)) text.now result }
 {
     if begins_with(text, b'-') {
         negative(&text[1..])
@@ -81,7 +81,7 @@ pub fn value(text: &[u8]) -> Option<(i64, &[u8])>
 
 /// The value that digits spell, and the text behind them.
 fn positive(text: &[u8]) -> Option<(i64, &[u8])>
-    ensures { Reads (spec.from_zero (number_of 19 (front text.now))) text.now result }
+    ensures { Reads (spec.from_zero (spelled_number 19 (front text.now))) text.now result }
 {
     let (size, rest) = number(text, 19)?;
     Some((from_zero(size)?, rest))
@@ -89,7 +89,7 @@ fn positive(text: &[u8]) -> Option<(i64, &[u8])>
 
 /// The value that digits behind a `-` spell, and the text behind them.
 fn negative(text: &[u8]) -> Option<(i64, &[u8])>
-    ensures { Reads (spec.below_zero (number_of 19 (front text.now))) text.now result }
+    ensures { Reads (spec.below_zero (spelled_number 19 (front text.now))) text.now result }
 {
     let (size, rest) = number(text, 19)?;
     Some((below_zero(size)?, rest))

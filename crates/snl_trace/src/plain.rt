@@ -4,14 +4,14 @@
 ghost use Rattle.std.specs.Prelude.{◌≡◌, ◌≢◌, ◌<◌, ◌≤◌, ◌++◌, ◌∷◌, true, Some, Ok, IfSome, All, codes, length, take};
 ghost use Rattle.std.specs.List.{list_all};
 ghost use Rattle.snl_trace.specs.Grammar.{told_of};
-ghost use Rattle.snl_trace.specs.Numbers.{number_of, time_of, value_of};
+ghost use Rattle.snl_trace.specs.Numbers.{spelled_number, time_of, spelled_value};
 ghost use Rattle.snl_trace.specs.Plain as spec;
 ghost use Rattle.snl_trace.specs.Plain.{Begins, BeginsWithValues, BeginsWithTelling};
 ghost use Rattle.snl_trace.specs.Seen.{told};
 
 use crate::numbers::{below_zero, digits, from_zero};
 use crate::trace_faults::{LINE_LIMIT, TIME_LIMIT};
-use crate::words::{Telling, Values, keep};
+use crate::words::{LineValues, Telling, keep};
 
 /// What a plain line says, and what stands behind its newline. The values stand apart.
 #[derive(Clone, Copy)]
@@ -38,8 +38,8 @@ fn is_plain(byte: u8) -> bool
 #[inline(always)]
 fn number(text: &[u8], most: usize) -> Option<(u64, u8, &[u8])>
     requires { most ≤ 19 }
-    ensures { IfSome result (λ read. Begins (λ field. number_of most field ≡ Some read.0) read.1
-        text.now read.2.now) }
+    ensures { IfSome result (λ read. Begins (λ field. spelled_number most field ≡ Some read.0)
+        read.1 text.now read.2.now) }
 {
     let (number, count) = digits(text, most)?;
     if count == 0 {
@@ -113,7 +113,7 @@ fn name(text: &[u8]) -> Option<(&[u8], &[u8])>
 /// The value that a text begins with, the byte behind it, and the text behind that.
 #[inline(always)]
 fn value(text: &[u8]) -> Option<(i64, u8, &[u8])>
-    ensures { IfSome result (λ read. Begins (λ field. value_of field ≡ Some read.0) read.1
+    ensures { IfSome result (λ read. Begins (λ field. spelled_value field ≡ Some read.0) read.1
         text.now read.2.now) }
 {
     match text {
@@ -125,8 +125,8 @@ fn value(text: &[u8]) -> Option<(i64, u8, &[u8])>
 /// The same behind a `-`.
 #[inline(always)]
 fn negative(text: &[u8]) -> Option<(i64, u8, &[u8])>
-    ensures { IfSome result (λ read. Begins (λ field. value_of (45 ∷ field) ≡ Some read.0) read.1
-        text.now read.2.now) }
+    ensures { IfSome result (λ read. Begins (λ field. spelled_value (45 ∷ field) ≡ Some read.0)
+        read.1 text.now read.2.now) }
 {
     let (size, stop, rest) = number(text, 19)?;
     Some((below_zero(size)?, stop, rest))
@@ -135,7 +135,7 @@ fn negative(text: &[u8]) -> Option<(i64, u8, &[u8])>
 /// The same where no `-` stands.
 #[inline(always)]
 fn positive(text: &[u8]) -> Option<(i64, u8, &[u8])>
-    ensures { IfSome result (λ read. Begins (λ field. value_of field ≡ Some read.0) read.1
+    ensures { IfSome result (λ read. Begins (λ field. spelled_value field ≡ Some read.0) read.1
         text.now read.2.now) }
 {
     let (size, stop, rest) = number(text, 19)?;
@@ -144,7 +144,7 @@ fn positive(text: &[u8]) -> Option<(i64, u8, &[u8])>
 
 /// The text behind the values and the newline that a text begins with. The values take the place of those that stood there.
 #[inline(always)]
-fn behind_values<'t>(text: &'t [u8], values: &mut Values) -> Option<&'t [u8]>
+fn behind_values<'t>(text: &'t [u8], values: &mut LineValues) -> Option<&'t [u8]>
     ensures { IfSome result (λ rest. BeginsWithValues values.new.items text.now rest.now) }
 {
     // A single value is popped: that costs less than the call by which `clear` blanks many.
@@ -165,7 +165,7 @@ fn behind_values<'t>(text: &'t [u8], values: &mut Values) -> Option<&'t [u8]>
 /// What a text tells that stands behind a time and a space, and the text behind its newline. The values of a `val` take the
 /// place of those that stood there.
 #[inline(always)]
-fn telling<'t>(text: &'t [u8], values: &mut Values) -> Option<(Telling<'t>, &'t [u8])>
+fn telling<'t>(text: &'t [u8], values: &mut LineValues) -> Option<(Telling<'t>, &'t [u8])>
     ensures { IfSome result (λ read. BeginsWithTelling (told values.new.items read.0)
         text.now read.1.now) }
 {
@@ -180,7 +180,7 @@ fn telling<'t>(text: &'t [u8], values: &mut Values) -> Option<(Telling<'t>, &'t 
 /// The plain line that a text begins with, where its time is not below that of the last event. The values of a `val` take
 /// the place of those that stood there. None says nothing.
 #[inline(always)]
-pub fn plain_line<'t>(text: &'t [u8], last_ms: u64, values: &mut Values) -> Option<Plain<'t>>
+pub fn plain_line<'t>(text: &'t [u8], last_ms: u64, values: &mut LineValues) -> Option<Plain<'t>>
     ensures cut { IfSome result (λ plain. text.now ≡ plain.line.now ++ 10 ∷ plain.rest.now) }
     ensures first { IfSome result (λ plain. All (λ byte. byte ≢ 10) plain.line.now) }
     ensures told { IfSome result (λ plain. told_of last_ms plain.line.now

@@ -11,7 +11,7 @@ use crate::fields::{is_ascii_text, is_silent, trimmed};
 use crate::lines::without_return;
 use crate::numbers::time;
 use crate::trace_faults::{LINE_LIMIT, TraceFault};
-use crate::words::{Telling, Values, heard};
+use crate::words::{LineValues, Telling, heard};
 use snl_machine::{Event, Machine};
 
 /// What a line tells a machine.
@@ -100,7 +100,7 @@ fn make_room(room: &mut Event)
 {
     match room {
         Event::Val(_, _) => {}
-        _ => *room = Event::Val(0, Values::new()),
+        _ => *room = Event::Val(0, LineValues::new()),
     }
 }
 
@@ -110,7 +110,7 @@ fn make_room(room: &mut Event)
 pub fn told<'a>(
     line: &'a [u8],
     last_ms: u64,
-    values: &mut Values,
+    values: &mut LineValues,
 ) -> Result<Option<(u64, Telling<'a>)>, TraceFault>
     ensures { seen (told_seen values.new.items) result ≡ told_of last_ms line.now }
 {

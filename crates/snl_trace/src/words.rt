@@ -13,11 +13,11 @@ use arrayvec::ArrayVec;
 use snl_machine::VALUES_KEPT;
 
 /// The values of one line, as many as are kept.
-pub type Values = ArrayVec<i64, VALUES_KEPT>;
+pub type LineValues = ArrayVec<i64, VALUES_KEPT>;
 
 /// The words of a trace.
 #[derive(Clone, Copy, Debug, PartialEq, Eq)]
-pub enum Word {
+pub enum LineWord {
     /// A channel is connected.
     Up,
     /// A channel is not connected any more.
@@ -47,19 +47,19 @@ pub enum Telling<'a> {
 
 /// The word that a field spells.
 #[tactic(auto, unfolding(crate::specs::Grammar::word_of))]
-fn word_in(field: &[u8]) -> Option<Word>
+fn word_in(field: &[u8]) -> Option<LineWord>
     ensures { result ≡ word_of field.now }
 {
     if field == b"up".as_slice() {
-        Some(Word::Up)
+        Some(LineWord::Up)
     } else if field == b"down".as_slice() {
-        Some(Word::Down)
+        Some(LineWord::Down)
     } else if field == b"val".as_slice() {
-        Some(Word::Val)
+        Some(LineWord::Val)
     } else if field == b"tick".as_slice() {
-        Some(Word::Tick)
+        Some(LineWord::Tick)
     } else if field == b"done".as_slice() {
-        Some(Word::Done)
+        Some(LineWord::Done)
     } else {
         None
     }
@@ -68,17 +68,17 @@ fn word_in(field: &[u8]) -> Option<Word>
 /// What the fields of a text tell: a word, and what follows it. The values of a `val` take the place
 /// of those that stood in `values`.
 #[tactic(auto, unfolding(crate::specs::Grammar::told_by))]
-pub fn heard<'a>(text: &'a [u8], values: &mut Values) -> Result<Telling<'a>, TraceFault>
+pub fn heard<'a>(text: &'a [u8], values: &mut LineValues) -> Result<Telling<'a>, TraceFault>
     ensures { seen (told values.new.items) result ≡ told_by (fields text.now) }
 {
     let (field, rest) = first_field(text).ok_or(TraceFault::FieldCount)?;
     match word_in(field) {
         None => Err(TraceFault::UnknownWord),
-        Some(Word::Up) => up(rest),
-        Some(Word::Down) => down(rest),
-        Some(Word::Val) => val(rest, values),
-        Some(Word::Tick) => tick(rest),
-        Some(Word::Done) => done(rest),
+        Some(LineWord::Up) => up(rest),
+        Some(LineWord::Down) => down(rest),
+        Some(LineWord::Val) => val(rest, values),
+        Some(LineWord::Tick) => tick(rest),
+        Some(LineWord::Done) => done(rest),
     }
 }
 
@@ -127,7 +127,7 @@ fn tick<'a>(rest: &'a [u8]) -> Result<Telling<'a>, TraceFault>
 
 /// What `val` tells: the name that follows it, and the values behind that.
 #[tactic(auto, unfolding(crate::specs::Grammar::val_with))]
-fn val<'a>(rest: &'a [u8], values: &mut Values) -> Result<Telling<'a>, TraceFault>
+fn val<'a>(rest: &'a [u8], values: &mut LineValues) -> Result<Telling<'a>, TraceFault>
     ensures { seen (told values.new.items) result ≡ val_with (fields rest.now) }
 {
     let (name, rest) = first_field(rest).ok_or(TraceFault::FieldCount)?;
@@ -147,7 +147,7 @@ fn end(rest: &[u8]) -> Result<(), TraceFault>
 
 /// Puts the values of the fields, of which there has to be one, in place of those that stood there.
 #[tactic(auto, using(crate::proofs::ValueLaws::kept_values_bad, crate::proofs::ValueLaws::kept_values_none, crate::proofs::ValueLaws::kept_values_some))]
-fn keep_values(rest: &[u8], values: &mut Values) -> Result<(), TraceFault>
+fn keep_values(rest: &[u8], values: &mut LineValues) -> Result<(), TraceFault>
     ensures { seen (λ _. values.new.items) result ≡ kept_values (fields rest.now) }
 {
     all_values(rest, values)?;
@@ -159,7 +159,7 @@ fn keep_values(rest: &[u8], values: &mut Values) -> Result<(), TraceFault>
 
 /// Puts the values of the fields in place of those that stood there.
 #[tactic(auto, using(crate::proofs::ValueLaws::kept_after_start))]
-fn all_values(rest: &[u8], values: &mut Values) -> Result<(), TraceFault>
+fn all_values(rest: &[u8], values: &mut LineValues) -> Result<(), TraceFault>
     ensures { seen (λ _. values.new.items) result ≡ kept (values_of (fields rest.now)) }
 {
     values.clear();
@@ -179,7 +179,7 @@ fn all_values(rest: &[u8], values: &mut Values) -> Result<(), TraceFault>
 /// Adds a value, where there is room for it.
 #[tactic(auto, using(crate::proofs::ValueLaws::take_room, crate::proofs::ValueLaws::take_full))]
 #[inline(always)]
-pub fn keep(values: &mut Values, value: i64)
+pub fn keep(values: &mut LineValues, value: i64)
     ensures { values.new.items ≡ take 1024 (values.old.items ++ value ∷ []) }
 {
     if values.is_full() {

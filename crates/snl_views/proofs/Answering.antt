@@ -9,7 +9,7 @@ use Rattle.snl_messages.specs.Silence.{options_in_force}
 use Rattle.snl_resolve.specs.declared.options.Options.{Options}
 use Rattle.snc.specs.Judging.{IsJudged}
 use Rattle.snl_views.specs.Answers.{AwaitsOn, AwaitsOver, GoesOn, IsWaits}
-use Rattle.snl_views.specs.declared.waiting.Outcome.{Outcome}
+use Rattle.snl_views.specs.declared.waiting.WaitsOutcome.{WaitsOutcome}
 use Rattle.snl_views.specs.declared.waiting.Answer.{Answer}
 
 -- the tree of a checked program
@@ -26,12 +26,12 @@ module _ {R : Type 0} (source_rest : R → Option (List ℕ)) (given : Options) 
     tree = w.tree;
     finds = w.finds;
     text_is = w.text_is;
-    goes_on = subst (λ (o : Option Outcome). GoesOn source_rest given macros w.messages w.tree budget trace o) (sym is)
+    goes_on = subst (λ (o : Option WaitsOutcome). GoesOn source_rest given macros w.messages w.tree budget trace o) (sym is)
         (λ h. false≢true (subst (λ o. IsSome (tree_of o)) none (w.accepted.1 h)));
   }
 
   -- a program that is accepted
-  pub accepted : (checked : Option Checked) (c : Checked) (o : Outcome) → checked ≡ Some c → IsJudged given word source answer.messages.items (tree_of checked) →
+  pub accepted : (checked : Option Checked) (c : Checked) (o : WaitsOutcome) → checked ≡ Some c → IsJudged given word source answer.messages.items (tree_of checked) →
       c.options ≡ options_in_force (program_view c.program) given → AwaitsOn source_rest c macros budget trace o → answer.outcome ≡ Some o →
       IsWaits source_rest given word macros source budget trace answer
   accepted checked c o some w are named is =
@@ -43,6 +43,6 @@ module _ {R : Type 0} (source_rest : R → Option (List ℕ)) (given : Options) 
         tree = v.tree;
         finds = v.finds;
         text_is = v.text_is;
-        goes_on = subst (λ (x : Option Outcome). GoesOn source_rest given macros v.messages v.tree budget trace x) (sym is)
+        goes_on = subst (λ (x : Option WaitsOutcome). GoesOn source_rest given macros v.messages v.tree budget trace x) (sym is)
             (v.accepted.0 refl, (whole, (v.same, subst (λ options. AwaitsOver source_rest whole options macros budget trace o) are named)));
       }

@@ -4,3 +4,7 @@ pub mod Silent
 pub mod Ending
 pub mod Answering
 pub mod RunAnswers
+pub mod Answered
+pub mod Counting
+pub mod CoverRuns
+pub mod Texts

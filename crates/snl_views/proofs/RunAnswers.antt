@@ -1,5 +1,5 @@
 -- What `run` answers of a source, by what the rules say of it and by what its run told.
-use Rattle.std.proofs.Common.{◌≡◌, ℕ, Bool, List, Option, None, Some, IsSome, subst, refl}
+use Rattle.std.proofs.Common.{◌≡◌, ℕ, Bool, List, Option, None, Some, Box, Global, subst}
 use Rattle.snl_syntax.specs.Programs.{ProgramTree}
 use Rattle.snl_check.specs.Waits.{waits}
 use Rattle.snl_links.specs.Links.{Link, links}
@@ -14,6 +14,7 @@ use Rattle.snl_trace.specs.declared.runner.End.{End}
 use Rattle.snc.specs.Outcomes.{at_first}
 use Rattle.snl_views.specs.Runs.{IsRun, RunsLike}
 use Rattle.snl_views.specs.Staged.{IsStage, IsStaged, StagedOn}
+use Rattle.snl_views.specs.declared.preparing.Prepared.{Prepared}
 use Rattle.snl_views.specs.declared.staging.Stage.{Stage}
 use Rattle.snl_views.specs.declared.staging.Staged.{Staged}
 
@@ -31,6 +32,19 @@ runs-like source_rest whole ls waiting budget first world trace old told old' to
       (ran bytes rest));
 }
 
+-- the same, of what was prepared, by another name of it
+pub runs-like-as : {R : Type 0} (source_rest : R → Option (List ℕ)) (before started : Prepared) (world : World) (trace : R) (old told old' told' : Option (List ℕ)) (end : End) →
+    started ≡ before → old ≡ told → old' ≡ told' →
+    ((p : ProgramTree) (ls : List Link) (waits : Bool) (budget : ℕ) → IsMachineOf p ls waits budget started.machine → (bytes : List ℕ) → source_rest trace ≡ Some bytes →
+    (left : Option (List ℕ)) × RunsOver (rules_by (task_of p ls waits) budget) end bytes left (at_first (world_held started.machine) old) world old') →
+    (p : ProgramTree) (ls : List Link) (budget : ℕ) → IsMachineOf p ls before.waits budget before.machine →
+    RunsLike source_rest p ls before.waits budget (world_held before.machine) trace told told' end
+runs-like-as source_rest before started world trace old told old' told' end same is is' means =
+    subst (λ (q : Prepared). (p : ProgramTree) (ls : List Link) (budget : ℕ) → IsMachineOf p ls q.waits budget q.machine →
+    RunsLike source_rest p ls q.waits budget (world_held q.machine) trace told told' end) same
+    (λ p ls budget made. runs-like source_rest p ls started.waits budget (world_held started.machine) world trace old told old' told' end is is'
+    (means p ls started.waits budget made))
+
 module _ {R : Type 0} (source_rest : R → Option (List ℕ)) (given : Options) (word macros source : List ℕ) (budget : ℕ) (trace : R) (told told' : Option (List ℕ)) (s : Staged) where
   -- a source with an error
   pub refused-run : s.stage ≡ None → IsStaged given word macros source budget s → told' ≡ told →
@@ -41,19 +55,21 @@ module _ {R : Type 0} (source_rest : R → Option (List ℕ)) (given : Options) 
     tree = w.tree;
     finds = w.finds;
     text_is = w.text_is;
-    goes_on = (subst (λ (o : Option Stage). StagedOn given macros w.messages w.tree budget o) none w.staged, same);
+    goes_on = (subst (λ (o : Option (Box Stage Global)). StagedOn given macros w.messages w.tree budget o) none w.staged, same);
   }
 
-  -- a program that was run
-  pub accepted-run : (stage : Stage) (end : End) → s.stage ≡ Some stage → IsStaged given word macros source budget s →
-      ((p : ProgramTree) (ls : List Link) (b : ℕ) → IsMachineOf p ls stage.prepared.waits b stage.prepared.machine →
-      RunsLike source_rest p ls stage.prepared.waits b (world_held stage.prepared.machine) trace told told' end) →
+  -- a program that was run, lent out of its box
+  pub accepted-run : (stage : Box Stage Global) (lent : Stage) (end : End) → s.stage ≡ Some stage → lent ≡ stage.value → IsStaged given word macros source budget s →
+      ((p : ProgramTree) (ls : List Link) (b : ℕ) → IsMachineOf p ls lent.prepared.waits b lent.prepared.machine →
+      RunsLike source_rest p ls lent.prepared.waits b (world_held lent.prepared.machine) trace told told' end) →
       IsRun source_rest given word macros source budget trace told told' s.messages.items (Some end)
-  accepted-run stage end some w said =
-      let on = subst (λ (o : Option Stage). StagedOn given macros w.messages w.tree budget o) some w.staged in
+  accepted-run stage lent end some same w lent_said =
+      let said = subst (λ (q : Stage). (p : ProgramTree) (ls : List Link) (b : ℕ) → IsMachineOf p ls q.prepared.waits b q.prepared.machine →
+      RunsLike source_rest p ls q.prepared.waits b (world_held q.prepared.machine) trace told told' end) same lent_said in
+      let on = subst (λ (o : Option (Box Stage Global)). StagedOn given macros w.messages w.tree budget o) some w.staged in
       let whole : ProgramTree = on.1.0 in
       let ls : List Link = links whole macros in
-      let staged : IsStage whole ls (waits (options_in_force whole given)) budget stage = on.1.1.1 in
+      let staged : IsStage whole ls (waits (options_in_force whole given)) budget stage.value = on.1.1.1 in
       record {
         names = w.names;
         messages = w.messages;
@@ -67,7 +83,7 @@ module _ {R : Type 0} (source_rest : R → Option (List ℕ)) (given : Options) 
             (
               on.1.1.0,
               subst (λ (b : Bool). RunsLike source_rest whole ls b budget (first_world_of whole ls) trace told told' end) staged.waits
-                  (subst (λ (f : World). RunsLike source_rest whole ls stage.prepared.waits budget f trace told told' end) staged.first (said whole ls budget staged.machine)),
+                  (subst (λ (f : World). RunsLike source_rest whole ls stage.value.prepared.waits budget f trace told told' end) staged.first (said whole ls budget staged.machine)),
             ),
           ),
         );

@@ -4,3 +4,12 @@ pub mod Laws
 pub mod Prepared
 pub mod Runs
 pub mod Staged
+pub mod Answered
+pub mod Charted
+pub mod Coverage
+pub mod Covers
+pub mod Graphs
+pub mod Pictures
+pub mod Ready
+pub mod Observed
+pub mod Shapes

@@ -14,7 +14,7 @@ use Rattle.snl_trace.specs.RunOver.{RunsOver}
 use Rattle.snl_trace.specs.declared.runner.End.{End}
 use Rattle.snc.specs.Judging.{Finds, NoErrors}
 use Rattle.snc.specs.Outcomes.{at_first}
-use Rattle.snc.specs.Texts.{text_of}
+use Rattle.snc.specs.Texts.{messages_text}
 
 -- The program was run over a source from a world on, and the run ended so. Where the source tells its bytes, what was told is what `snlrun` writes of
 -- them: the lines that the meaning of the program gives over them; where that could not be written, a
@@ -41,5 +41,5 @@ pub record IsRun {R : Type 0} (source_rest : R → Option (List ℕ)) (given : O
   pub messages : List Said
   pub tree : Option ProgramTree
   pub finds : Finds given source names messages tree
-  pub text_is : text ≡ text_of word names messages
+  pub text_is : text ≡ messages_text word names messages
   pub goes_on : GoesOn source_rest given macros messages tree budget trace told told' end

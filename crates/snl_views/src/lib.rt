@@ -1,15 +1,32 @@
 //! What the words of the companion do: from the bytes of a program and those of a trace to an answer with its text.
 //!
 //! `waits` says when a program began, or what it still waits for where a trace ends. `run_whole` and `run_folded`
-//! run it with notes and a summary for a person.
+//! run it with notes and a summary for a person. `cover` says what of a program a run never showed, and `graph` draws it.
 #![tactic(auto)]
 
 mod awaited;
+mod charting;
+mod charts;
+mod conditions;
+pub mod cover_laws;
+mod coverage;
+mod covering;
+mod drawing;
+mod go_lines;
+mod graphing;
 mod hints;
 pub mod laws;
 mod legends;
+mod lending;
+mod missed;
+mod missing;
+mod observing;
+mod pictures;
+mod picturing;
 mod pieces;
 mod preparing;
+mod puts;
+mod readying;
 mod running;
 mod staging;
 mod starting;
@@ -17,7 +34,16 @@ mod summaries;
 mod telling;
 mod variables;
 mod waiting;
+mod watching;
 
 pub use awaited::Awaited;
+pub use charts::{ArrowChart, Chart, SetChart, StateChart};
+pub use coverage::{Coverage, PutChart};
+pub use covering::{CoverAnswer, cover};
+pub use graphing::{Drawing, GraphAnswer, graph};
+pub use missed::{Gaps, Missed, Share, gaps_of};
+pub use missing::coverage_text;
+pub use observing::Covered;
+pub use pictures::{Arrow, Cluster, Node, Picture};
 pub use running::{RunAnswer, run_folded, run_whole};
-pub use waiting::{Answer, Outcome, waits};
+pub use waiting::{Answer, WaitsOutcome, waits};

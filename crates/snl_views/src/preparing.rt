@@ -1,9 +1,9 @@
 //! What a run of a checked program needs, made while the program is lent.
 
-ghost use Rattle.std.specs.Prelude.{ℕ, List, IfOk};
+ghost use Rattle.std.specs.Prelude.{IfOk};
 ghost use Rattle.snl_views.specs.Prepared.{IsPrepared};
-ghost use Rattle.snl_views.specs.declared.preparing.Prepared as prepared;
 
+use crate::lending::Lends;
 use snl_check::Checked;
 use snl_links::{Link, Macros, links};
 use snl_machine::{Loads, Machine};
@@ -18,16 +18,6 @@ pub struct Prepared {
     pub machine: Machine,
     /// Whether the program waits for its channels before it starts.
     pub waits: bool,
-}
-
-/// What is lent while that is made. A function that owns a whole checked program and lends it is dear to prove; one that owns
-/// a value of a type parameter is not.
-pub trait Prepares {
-    ghost lent: { Self → List ℕ → ℕ → prepared.Prepared → Type 0 };
-
-    /// What its run needs. The only error is that memory ends.
-    fn prepare(&self, alloc: Global, macros: &Macros, budget: u32) -> Result<Prepared, AllocError>
-        ensures { IfOk result (lent self.now macros.now.text.now budget) };
 }
 
 /// What the run of a checked program needs that is lent.
@@ -48,22 +38,16 @@ pub(crate) fn prepared_of<'a>(
     })
 }
 
-impl<'a> Prepares for Checked<'a> {
+impl<'a> Lends<Prepared> for Checked<'a> {
     ghost lent = { IsPrepared };
 
-    fn prepare(&self, alloc: Global, macros: &Macros, budget: u32) -> Result<Prepared, AllocError> {
+    fn lend(
+        &self,
+        alloc: Global,
+        _source: &[u8],
+        macros: &Macros,
+        budget: u32,
+    ) -> Result<Prepared, AllocError> {
         prepared_of(alloc, self, macros, budget)
     }
-}
-
-/// What the run of a program needs. The program is dropped. The only error is that memory ends.
-pub(crate) fn prepared_by<T: Prepares + Drop>(
-    alloc: Global,
-    checked: T,
-    macros: &Macros,
-    budget: u32,
-) -> Result<Prepared, AllocError>
-    ensures { IfOk result (T.lent checked macros.now.text.now budget) }
-{
-    checked.prepare(alloc, macros, budget)
 }

@@ -13,7 +13,6 @@ ghost use Rattle.snl_watch.specs.Extra.{shown};
 ghost use Rattle.snl_watch.specs.Folding.{IsFolded};
 ghost use Rattle.snl_views.specs.Runs.{IsRun, RunsLike};
 
-use crate::preparing::Prepared;
 use crate::staging::{Stage, Staged, staged_of};
 use crate::starting::names_of;
 use crate::summaries::summary_of;
@@ -22,9 +21,10 @@ use snc::Status;
 use snc_args::Job;
 use snl_machine::{Machine, Sink};
 use snl_trace::{End, Source, run};
-use snl_watch::{ByLine, Folder, Follower, Heard, Legend, Listener, Moment, Notes, Teller};
+use snl_watch::{ByLine, Folder, Follower, HeardTrace, Legend, Moment, Notes, Teller};
 use std::alloc::{AllocError, Global};
 use std::cell::Cell;
+use std::mem;
 
 /// What `run` answers.
 #[derive(Drop)]
@@ -43,7 +43,7 @@ pub struct RunAnswer<K> {
 #[derive(Drop)]
 struct Ran {
     end: End,
-    heard: Heard,
+    heard: HeardTrace,
 }
 
 /// Runs a machine over a trace, line by line. Fails only where memory ran out.
@@ -66,12 +66,11 @@ fn ran_over<R: Source + Drop, S: Sink>(
         ≡ counted (sink_failed ran.end) (S.failures sink.old)) }
 {
     let names = names_of(alloc, machine)?;
-    let heard = Heard::new(alloc, names)?;
+    let heard = HeardTrace::new(alloc, names)?;
     let lines = ByLine::new(alloc, trace)?;
-    let listener = Listener::new(lines, heard);
-    let mut follower = Follower::new(listener, moment);
+    let mut follower = Follower::new(lines, heard, moment);
     let end = run(machine, &mut follower, sink);
-    let heard = follower.into_inner().into_heard();
+    let heard = follower.into_heard();
     if heard.ran_out() {
         return Err(AllocError);
     }
@@ -127,11 +126,34 @@ struct Told<K> {
     sink: K,
 }
 
+/// What is noted of the run of a program that is staged. The names of its states go from the stage to the notes.
+fn notes_of<'c>(
+    alloc: Global,
+    stage: &mut Stage,
+    moment: &'c Cell<Moment>,
+) -> Result<Notes<'c>, AllocError>
+    ensures { stage.new.prepared ≡ stage.old.prepared }
+{
+    let channels = names_of(alloc, &stage.prepared.machine)?;
+    let sets = mem::replace(&mut stage.sets, Vec::new(alloc));
+    Notes::new(alloc, Legend { sets, channels }, moment)
+}
+
+/// What is known of a program that is staged, and of its run.
+fn scene_of<'s>(source: &'s [u8], stage: &'s Stage) -> Scene<'s> {
+    Scene {
+        source,
+        links: stage.prepared.links.as_slice(),
+        machine: &stage.prepared.machine,
+        waits: stage.prepared.waits,
+    }
+}
+
 /// Runs a program that is staged over a trace, each line of the run as it is. Fails only where memory ran out.
 fn whole_of<R: Source + Drop, K: Sink + Drop>(
     alloc: Global,
     source: &[u8],
-    stage: Stage,
+    stage: &mut Stage,
     trace: R,
     sink: K,
 ) -> Result<Told<K>, AllocError>
@@ -139,28 +161,23 @@ fn whole_of<R: Source + Drop, K: Sink + Drop>(
     requires sink { K.failures sink < 2 ^ 64 - 1 }
     requires fresh { (text : List ℕ) → K.told sink ≡ Some text → text ≡ [] }
     ensures { IfOk result (λ told. (p : ProgramTree) (ls : List Link) (budget : ℕ) →
-        IsMachineOf p ls stage.prepared.waits budget stage.prepared.machine →
-        RunsLike R.rest p ls stage.prepared.waits budget (world_held stage.prepared.machine)
-        trace (shown (K.told sink)) (shown (K.told told.sink)) told.end) }
+        IsMachineOf p ls stage.old.prepared.waits budget stage.old.prepared.machine →
+        RunsLike R.rest p ls stage.old.prepared.waits budget
+        (world_held stage.old.prepared.machine) trace (shown (K.told sink))
+        (shown (K.told told.sink)) told.end) }
 {
-    let Stage { prepared, sets } = stage;
-    let Prepared {
-        links,
-        mut machine,
-        waits,
-    } = prepared;
-    let channels = names_of(alloc, &machine)?;
     let moment = Cell::new(Moment::new());
-    let notes = Notes::new(alloc, Legend { sets, channels }, &moment)?;
+    let notes = notes_of(alloc, stage, &moment)?;
     let mut teller = Teller::new(sink, notes);
-    let ran = ran_over(alloc, &mut machine, trace, &mut teller, &moment)?;
+    let ran = ran_over(
+        alloc,
+        &mut stage.prepared.machine,
+        trace,
+        &mut teller,
+        &moment,
+    )?;
     let Ran { end, heard } = ran;
-    let scene = Scene {
-        source,
-        links: links.as_slice(),
-        machine: &machine,
-        waits,
-    };
+    let scene = scene_of(source, stage);
     let summary = summary_of(alloc, scene, end, heard, teller.notes())?;
     let is_whole = summed(&mut teller, end, summary.as_slice());
     Ok(Told {
@@ -174,7 +191,7 @@ fn whole_of<R: Source + Drop, K: Sink + Drop>(
 fn folded_of<R: Source + Drop, K: Sink + Drop, W: Sink + Drop>(
     alloc: Global,
     source: &[u8],
-    stage: Stage,
+    stage: &mut Stage,
     trace: R,
     sink: K,
     witness: W,
@@ -184,34 +201,29 @@ fn folded_of<R: Source + Drop, K: Sink + Drop, W: Sink + Drop>(
     requires fresh { (text : List ℕ) → K.told sink ≡ Some text → text ≡ [] }
     requires unused { (text : List ℕ) → W.told witness ≡ Some text → text ≡ [] }
     ensures runs { IfOk result (λ told. (p : ProgramTree) (ls : List Link) (budget : ℕ) →
-        IsMachineOf p ls stage.prepared.waits budget stage.prepared.machine →
-        RunsLike R.rest p ls stage.prepared.waits budget (world_held stage.prepared.machine)
-        trace (W.told witness) (W.told told.sink.1) told.end) }
+        IsMachineOf p ls stage.old.prepared.waits budget stage.old.prepared.machine →
+        RunsLike R.rest p ls stage.old.prepared.waits budget
+        (world_held stage.old.prepared.machine) trace (W.told witness) (W.told told.sink.1)
+        told.end) }
     ensures folded { IfOk result (λ told. told.is_whole ≡ true → (run output : List ℕ) →
         W.told told.sink.1 ≡ Some run → K.told told.sink.0 ≡ Some output →
         ∥ IsFolded run output ∥₁) }
 {
-    let Stage { prepared, sets } = stage;
-    let Prepared {
-        links,
-        mut machine,
-        waits,
-    } = prepared;
-    let channels = names_of(alloc, &machine)?;
     let moment = Cell::new(Moment::new());
-    let notes = Notes::new(alloc, Legend { sets, channels }, &moment)?;
+    let notes = notes_of(alloc, stage, &moment)?;
     let mut folder = Folder::new(alloc, sink, witness, notes)?;
-    let ran = ran_over(alloc, &mut machine, trace, &mut folder, &moment)?;
+    let ran = ran_over(
+        alloc,
+        &mut stage.prepared.machine,
+        trace,
+        &mut folder,
+        &moment,
+    )?;
     let Ran { end, heard } = ran;
     if folder.ran_out() {
         return Err(AllocError);
     }
-    let scene = Scene {
-        source,
-        links: links.as_slice(),
-        machine: &machine,
-        waits,
-    };
+    let scene = scene_of(source, stage);
     let summary = summary_of(alloc, scene, end, heard, folder.notes())?;
     let is_whole = finished(&mut folder, end, summary.as_slice());
     Ok(Told {
@@ -241,7 +253,7 @@ pub fn run_whole<R: Source + Drop, K: Sink + Drop>(
         (shown (K.told sink)) (shown (K.told answer.sink)) answer.messages.items answer.end) }
 {
     let Staged { messages, stage } = staged_of(alloc, source, job)?;
-    let Some(stage) = stage else {
+    let Some(mut stage) = stage else {
         return Ok(RunAnswer {
             messages,
             end: None,
@@ -249,7 +261,7 @@ pub fn run_whole<R: Source + Drop, K: Sink + Drop>(
             sink,
         });
     };
-    let told = whole_of(alloc, source, stage, trace, sink)?;
+    let told = whole_of(alloc, source, stage.as_mut(), trace, sink)?;
     Ok(RunAnswer {
         messages,
         end: Some(told.end),
@@ -281,7 +293,7 @@ pub fn run_folded<R: Source + Drop, K: Sink + Drop, W: Sink + Drop>(
         K.told answer.sink.0 ≡ Some output → ∥ IsFolded run output ∥₁)) }
 {
     let Staged { messages, stage } = staged_of(alloc, source, job)?;
-    let Some(stage) = stage else {
+    let Some(mut stage) = stage else {
         return Ok(RunAnswer {
             messages,
             end: None,
@@ -289,7 +301,7 @@ pub fn run_folded<R: Source + Drop, K: Sink + Drop, W: Sink + Drop>(
             sink: (sink, witness),
         });
     };
-    let told = folded_of(alloc, source, stage, trace, sink, witness)?;
+    let told = folded_of(alloc, source, stage.as_mut(), trace, sink, witness)?;
     Ok(RunAnswer {
         messages,
         end: Some(told.end),

@@ -14,7 +14,7 @@ use crate::awaited::{Awaited, awaited_of};
 use indexmap::IndexSet;
 use snl_machine::Machine;
 use snl_trace::{End, Source, run};
-use snl_watch::{ByLine, Heard, Listener, Refuser};
+use snl_watch::{ByLine, HeardTrace, Listener, Refuser};
 use std::alloc::{AllocError, Global};
 
 /// What came of a run up to the start of its program.
@@ -25,7 +25,7 @@ pub(crate) struct Start {
     /// What the program waits for; nothing where it began.
     pub awaited: Vec<Awaited>,
     /// What was heard of the trace.
-    pub heard: Heard,
+    pub heard: HeardTrace,
 }
 
 /// The names of a machine's channels, by their numbers.
@@ -75,7 +75,7 @@ pub(crate) fn start_of<R: Source + Drop>(
         s.awaited.items) }
 {
     let names = names_of(alloc, machine)?;
-    let heard = Heard::new(alloc, names)?;
+    let heard = HeardTrace::new(alloc, names)?;
     let source = ByLine::new(alloc, trace)?;
     let mut lines = Listener::new(source, heard);
     let mut refuser = Refuser::new();

@@ -3,9 +3,9 @@
 use crate::awaited::awaited_of;
 use crate::pieces::{push_all, push_count, push_number};
 use crate::starting::Start;
-use crate::telling::{Scene, text_of};
+use crate::telling::{Scene, start_text};
 use snl_trace::End;
-use snl_watch::{Heard, Notes, Standing};
+use snl_watch::{HeardTrace, Notes, Standing};
 use std::alloc::{AllocError, Global};
 
 /// Adds how a run ended, the time then in milliseconds, and the line of the trace.
@@ -54,14 +54,11 @@ fn push_sets(out: &mut Vec<u8>, notes: &Notes) -> Result<(), AllocError> {
     let legend = notes.legend();
     let count = legend.sets.len() as u64;
     for (number, standing) in notes.standing().sets().iter().enumerate() {
-        let (Some(set), Some(state)) = (
-            legend.sets.get(number),
-            legend.state(number, standing.state),
-        ) else {
+        let Some(set) = legend.sets.get(number) else {
             return Ok(());
         };
         push_all(out, &[b"# ", set.name.as_slice()])?;
-        push_all(out, &[b" in ", state.name.as_slice()])?;
+        push_all(out, &[b" in ", standing.state.as_slice()])?;
         push_since(out, standing.since, number as u64, count)?;
     }
     Ok(())
@@ -84,7 +81,7 @@ fn push_waits(
     out: &mut Vec<u8>,
     scene: Scene,
     end: End,
-    heard: Heard,
+    heard: HeardTrace,
 ) -> Result<(), AllocError> {
     let awaited = awaited_of(alloc, scene.machine, scene.waits)?;
     let start = Start {
@@ -92,7 +89,7 @@ fn push_waits(
         awaited,
         heard,
     };
-    let text = text_of(alloc, scene, &start)?;
+    let text = start_text(alloc, scene, &start)?;
     push_noted(out, text.as_slice())
 }
 
@@ -114,7 +111,7 @@ pub(crate) fn summary_of(
     alloc: Global,
     scene: Scene,
     end: End,
-    heard: Heard,
+    heard: HeardTrace,
     notes: &Notes,
 ) -> Result<Vec<u8>, AllocError> {
     let mut out = Vec::new(alloc);
@@ -122,7 +119,7 @@ pub(crate) fn summary_of(
     if standing.ran_out() {
         return Err(AllocError);
     }
-    push_how(&mut out, end, scene.machine.time(), heard.lines())?;
+    push_how(&mut out, end, scene.machine.time(), notes.lines())?;
     if standing.has_begun() {
         push_sets(&mut out, notes)?;
     } else if end != End::SinkFailed {

@@ -8,7 +8,7 @@ use crate::variables::variable_of;
 use snl_links::Link;
 use snl_machine::Machine;
 use snl_trace::End;
-use snl_watch::{Events, Heard, Named};
+use snl_watch::{EventCount, HeardTrace, NameCount};
 use std::alloc::{AllocError, Global};
 
 /// How many pairs of names are compared by their distance at most; where there are more, none is.
@@ -26,7 +26,7 @@ pub(crate) struct Scene<'s> {
 }
 
 /// Adds when the program began.
-fn push_began(out: &mut Vec<u8>, scene: Scene, heard: &Heard) -> Result<(), AllocError> {
+fn push_began(out: &mut Vec<u8>, scene: Scene, heard: &HeardTrace) -> Result<(), AllocError> {
     out.extend_from_slice(b"began at ")?;
     push_number(out, scene.machine.time())?;
     out.extend_from_slice(b" (line ")?;
@@ -40,7 +40,7 @@ fn push_began(out: &mut Vec<u8>, scene: Scene, heard: &Heard) -> Result<(), Allo
 }
 
 /// Adds how many events came.
-fn push_events(out: &mut Vec<u8>, events: Events, time: u64) -> Result<(), AllocError> {
+fn push_events(out: &mut Vec<u8>, events: EventCount, time: u64) -> Result<(), AllocError> {
     if events.count == 0 {
         return out.extend_from_slice(b"never began: no event\n");
     }
@@ -87,7 +87,7 @@ fn push_down(out: &mut Vec<u8>, since: Option<u64>) -> Result<(), AllocError> {
 fn push_awaited(
     out: &mut Vec<u8>,
     scene: Scene,
-    heard: &Heard,
+    heard: &HeardTrace,
     awaited: Awaited,
 ) -> Result<(), AllocError> {
     let (number, is_value) = match awaited {
@@ -107,13 +107,13 @@ fn push_awaited(
 }
 
 /// Since when the channel of a link is down again, in milliseconds.
-fn since_of(scene: Scene, heard: &Heard, number: usize) -> Option<u64> {
+fn since_of(scene: Scene, heard: &HeardTrace, number: usize) -> Option<u64> {
     let channel = scene.machine.link(number)?.channel?;
     heard.down_since(channel)
 }
 
 /// Adds in which lines a name stands.
-fn push_named(out: &mut Vec<u8>, named: Named) -> Result<(), AllocError> {
+fn push_named(out: &mut Vec<u8>, named: NameCount) -> Result<(), AllocError> {
     if named.lines == 1 {
         out.extend_from_slice(b" (line ")?;
     } else {
@@ -129,7 +129,7 @@ fn push_named(out: &mut Vec<u8>, named: Named) -> Result<(), AllocError> {
 fn push_other(
     out: &mut Vec<u8>,
     name: &[u8],
-    named: Named,
+    named: NameCount,
     hint: Option<Hint>,
 ) -> Result<(), AllocError> {
     push_all(out, &[name, b" is no channel of the program"])?;
@@ -147,7 +147,7 @@ fn push_others(
     alloc: Global,
     out: &mut Vec<u8>,
     links: &[Link],
-    heard: &Heard,
+    heard: &HeardTrace,
 ) -> Result<(), AllocError> {
     let pairs = links.len().saturating_mul(heard.others().len());
     let compares = pairs <= PAIRS_COMPARED;
@@ -164,7 +164,7 @@ fn push_others(
 }
 
 /// The events that came to the program: not the bad line at which the trace ended.
-fn events_of(start: &Start) -> Events {
+fn events_of(start: &Start) -> EventCount {
     match start.end {
         End::TraceFault(_, _) => start.heard.events_before(),
         _ => start.heard.events(),
@@ -173,7 +173,11 @@ fn events_of(start: &Start) -> Events {
 
 /// The answer as text: when the program began; or how much of the trace came, what the program waits for, and which names of
 /// the trace it does not have. Fails only where memory ran out.
-pub(crate) fn text_of(alloc: Global, scene: Scene, start: &Start) -> Result<Vec<u8>, AllocError> {
+pub(crate) fn start_text(
+    alloc: Global,
+    scene: Scene,
+    start: &Start,
+) -> Result<Vec<u8>, AllocError> {
     let mut out = Vec::new(alloc);
     if start.end == End::SinkFailed {
         push_began(&mut out, scene, &start.heard)?;

@@ -13,17 +13,18 @@ ghost use Rattle.snl_views.specs.Answers.{IsWaits};
 ghost use Rattle.snl_views.specs.Awaits.{Awaits};
 
 use crate::awaited::Awaited;
-use crate::preparing::{Prepared, prepared_by};
+use crate::lending::lent_by;
+use crate::preparing::Prepared;
 use crate::starting::start_of;
-use crate::telling::{Scene, text_of};
-use snc::{Findings, Status, judged, macros_of};
+use crate::telling::{Scene, start_text};
+use snc::{Judgement, Status, judged, macros_of};
 use snc_args::Job;
 use snl_trace::{End, Source};
 use std::alloc::{AllocError, Global};
 
 /// What came of the trace, where the source has no error.
 #[derive(Drop)]
-pub struct Outcome {
+pub struct WaitsOutcome {
     /// How the run up to the start ended: `SinkFailed` where the program began, since nothing takes its first byte.
     pub end: End,
     /// What the program waits for, in the order of its links; nothing where it began.
@@ -38,7 +39,7 @@ pub struct Answer {
     /// A line for each message about the source.
     pub messages: Vec<u8>,
     /// None where a message is an error: then the trace was not read.
-    pub outcome: Option<Outcome>,
+    pub outcome: Option<WaitsOutcome>,
 }
 
 /// The outcome of a program that is loaded, and a trace.
@@ -47,7 +48,7 @@ fn outcome_of<R: Source + Drop>(
     source: &[u8],
     prepared: Prepared,
     trace: R,
-) -> Result<Outcome, AllocError>
+) -> Result<WaitsOutcome, AllocError>
     requires waiting { (world_held prepared.machine).phase ≡ Waiting }
     requires trace { R.failures trace < 2 ^ 64 - 1 }
     ensures { IfOk result (λ o. (p : ProgramTree) (ls : List Link) (budget : ℕ) →
@@ -68,8 +69,8 @@ fn outcome_of<R: Source + Drop>(
         machine: &machine,
         waits,
     };
-    let text = text_of(alloc, scene, &start)?;
-    Ok(Outcome {
+    let text = start_text(alloc, scene, &start)?;
+    Ok(WaitsOutcome {
         end: start.end,
         awaited: start.awaited,
         text,
@@ -90,7 +91,7 @@ pub fn waits<R: Source + Drop>(
     ensures { IfOk result (IsWaits R.rest job.now.options (string_bytes job.now.file)
         (unwrap_or (option_map string_bytes job.now.macros) []) source.now job.now.budget trace) }
 {
-    let Findings { messages, checked } = judged(alloc, source, job.file.as_bytes(), job.options)?;
+    let Judgement { messages, checked } = judged(alloc, source, job.file.as_bytes(), job.options)?;
     let Some(checked) = checked else {
         return Ok(Answer {
             messages,
@@ -98,7 +99,7 @@ pub fn waits<R: Source + Drop>(
         });
     };
     let macros = macros_of(job);
-    let prepared = prepared_by(alloc, checked, &macros, job.budget)?;
+    let prepared = lent_by(alloc, checked, source, &macros, job.budget)?;
     let outcome = outcome_of(alloc, source, prepared, trace)?;
     Ok(Answer {
         messages,

@@ -14,6 +14,17 @@ copy_changed (c ∷ cs) zero x new words within is changed =
     ap (λ k. k ∷ map copy_view cs) (changed ∙ ap (λ (y : SetMemory). record (copy_view y) { words = words y.words.items }) is)
 copy_changed (c ∷ cs) (suc i) x new words within is changed = ap (λ ks. copy_view c ∷ ks) (copy_changed cs i x new words (omega (arith, within)) is changed)
 
+-- the words of a copy
+pub copy_words : (cs : List SetMemory) (i : ℕ) (x : SetMemory) → i < length cs → x ≡ get_or cs i x → x.words.items ≡ (slice_index_or (map copy_view cs) i no_copy).words
+copy_words [] i x within is = absurd (omega (arith, within))
+copy_words (c ∷ cs) zero x within is = ap (λ (y : SetMemory). y.words.items) is
+copy_words (c ∷ cs) (suc i) x within is = copy_words cs i x (omega (arith, within)) is
+
+-- they are those of a variable that is not shared
+pub words-unshared : (set : ℕ) (is_shared : Bool) (w : World) → is_shared ≡ false → (copy_of set w).words ≡ words_for set is_shared w
+words-unshared set false w is = refl
+words-unshared set true w is = absurd (cc)
+
 -- one word more is 0
 pub zeroed_more : (words : List ℤ) (place n count : ℕ) → n < count →
     zeroed (slice_set words (place + n) (pos 0)) (place + (n + 1)) (count - (n + 1)) ≡ zeroed words (place + n) (count - n)

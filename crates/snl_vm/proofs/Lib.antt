@@ -16,3 +16,7 @@ pub mod Items
 pub mod Taking
 pub mod Footprint
 pub mod Adding
+pub mod Adjusting
+pub mod Pictured
+pub mod Framed
+pub mod PicturesApart

@@ -6,7 +6,9 @@ pub mod Views
 pub mod Running
 pub mod Steps
 pub mod Homes
+pub mod Lending
 pub mod Asking
 pub mod Footprint
 pub mod Counting
 pub mod Memory
+pub mod Pictures

@@ -17,6 +17,10 @@ items_of q = items_in q.held q.width q.ring.items
 abbrev pub queue_view : Queue → world.Queue
 queue_view q = record { size = q.size; width = q.width; items = items_of q }
 
+-- How many items it can hold, and of how many words each is.
+abbrev pub room_of_queue : Queue → ℕ × ℕ
+room_of_queue q = (q.size, q.width)
+
 -- Whether there is an item.
 abbrev pub is_there : List (List ℤ) → Bool
 is_there [] = false

@@ -5,12 +5,13 @@ ghost use Rattle.snl_meaning.specs.declared.instrs.Instr.TheVariants as instr;
 ghost use Rattle.snl_meaning.specs.Run.{done_by};
 ghost use Rattle.snl_meaning.specs.Words as spec;
 ghost use Rattle.snl_vm.specs.Running.{context_of};
-ghost use Rattle.snl_vm.specs.Stack.{stack_of, room_of, at_rest};
+ghost use Rattle.snl_vm.specs.Stack.{stack_of, places_of, slots_of};
 ghost use Rattle.snl_vm.specs.Steps.{CanStep, crossed};
 ghost use Rattle.snl_vm.specs.Views.{gave, world_of};
 
+use crate::calls::Calls;
 use crate::contexts::PieceContext;
-use crate::operands::Operands;
+use crate::stacks::Stack;
 use crate::stores::Store;
 use crate::words::{Charge, put_number, spend};
 use snl_meaning::Variable;
@@ -68,36 +69,38 @@ pub fn call(
     pc: usize,
     context: &PieceContext,
     store: &mut Store,
-    operands: &mut Operands,
+    calls: &mut Calls,
+    operands: &mut Stack,
 ) -> Result<usize, Charge>
     requires after { pc + 1 < 2 ^ 64 }
-    requires places { (room_of operands.old).places ≡ length context.now.functions.now }
-    requires possible { CanStep (done_by (context_of context.now operands.old)
+    requires places { places_of calls.old ≡ length context.now.functions.now }
+    requires possible { CanStep (done_by (context_of context.now calls.old operands.old)
         (instr.Call site.function site.count site.line) pc (stack_of operands.old)
         (world_of store.old)) }
-    ensures does { done_by (context_of context.now operands.old)
+    ensures does { done_by (context_of context.now calls.old operands.old)
         (instr.Call site.function site.count site.line) pc (stack_of operands.old)
-        (world_of store.old) ≡ crossed result operands.new (world_of store.new) }
-    ensures room { at_rest (room_of operands.new) ≡ at_rest (room_of operands.old) }
+        (world_of store.old) ≡ crossed result calls.new operands.new (world_of store.new) }
+    ensures room { slots_of operands.new ≡ slots_of operands.old }
+    ensures places { places_of calls.new ≡ places_of calls.old }
 {
     let entry = &context.functions[site.function];
     let parameters = entry.parameters.as_slice();
     let values = operands.topmost(site.count);
     enter(parameters, site.line, values, context.set, store)?;
     operands.take_away(site.count);
-    operands.keep(pc + 1);
+    calls.keep(pc + 1);
     Ok(entry.start)
 }
 
 /// The end of the innermost call: answers where it goes on.
-pub fn go_back(context: &PieceContext, store: &Store, operands: &mut Operands) -> usize
+pub fn go_back(context: &PieceContext, store: &Store, calls: &mut Calls, operands: &Stack) -> usize
     ghost pc: { ℕ }
-    requires { CanStep (done_by (context_of context.now operands.old) instr.Return pc
-        (stack_of operands.old) (world_of store.now)) }
-    ensures does { done_by (context_of context.now operands.old) instr.Return pc
-        (stack_of operands.old) (world_of store.now)
-        ≡ crossed (Ok result) operands.new (world_of store.now) }
-    ensures room { at_rest (room_of operands.new) ≡ at_rest (room_of operands.old) }
+    requires { CanStep (done_by (context_of context.now calls.old operands.now)
+        instr.Return pc (stack_of operands.now) (world_of store.now)) }
+    ensures does { done_by (context_of context.now calls.old operands.now)
+        instr.Return pc (stack_of operands.now) (world_of store.now)
+        ≡ crossed (Ok result) calls.new operands.now (world_of store.now) }
+    ensures places { places_of calls.new ≡ places_of calls.old }
 {
-    operands.back()
+    calls.back()
 }

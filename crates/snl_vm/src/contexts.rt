@@ -20,12 +20,12 @@ pub struct PieceContext<'t> {
 }
 
 impl<'t> PieceContext<'t> {
-    ghost use Rattle.snl_meaning.specs.Names.{text_of};
-    ghost use Rattle.snl_vm.specs.Running.{names_of};
+    ghost use Rattle.snl_meaning.specs.Names.{format_text};
+    ghost use Rattle.snl_vm.specs.Running.{formats_of};
 
     /// The string of a number; empty where there is none.
     pub fn format(self, number: usize) -> &'t [u8]
-        ensures { result.now ≡ text_of (names_of self.entry).formats number }
+        ensures { result.now ≡ format_text (formats_of self.entry) number }
     {
         match self.formats.get(number) {
             Some(text) => text.as_slice(),

@@ -3,6 +3,7 @@
 
 mod asking;
 mod calling;
+mod calls;
 mod contexts;
 mod counting;
 mod elements;
@@ -12,12 +13,14 @@ mod linking;
 mod marks;
 mod memory;
 mod operands;
+mod picturing;
 mod queues;
 mod reckoning;
 mod room;
 mod rows;
 mod running;
 mod single;
+mod stacks;
 mod steps;
 mod stores;
 mod telling;

@@ -1,6 +1,6 @@
 //! Marks of places, 64 to a word, the lowest bit first.
 
-ghost use Rattle.std.specs.Prelude.{◌≡◌, ◌*◌, ◌≤◌, ◌<◌, true, false, length, replicate, slice_set, IfOk};
+ghost use Rattle.std.specs.Prelude.{◌≡◌, ◌+◌, ◌*◌, ◌≤◌, ◌<◌, ◌++◌, true, false, length, replicate, slice_set, IfOk, OnOk};
 
 use std::alloc::{AllocError, Global};
 
@@ -11,10 +11,12 @@ pub struct Marks {
     count: usize,
     ghost held: { count ≤ 64 * length words.items },
     ghost few: { length words.items ≤ count },
+    ghost tight: { 64 * length words.items < count + 64 },
 }
 
 impl Marks {
     ghost use Rattle.snl_vm.specs.Marks.{marks_of, has, if_within, IsFirst};
+    ghost use Rattle.snl_vm.specs.Pictures.{IsReadFrom, MarksFit, marks_picture, marks_size};
 
     /// So many places, none of them marked. The only error is that memory ends.
     pub fn new(alloc: Global, count: usize) -> Result<Self, AllocError>
@@ -31,6 +33,13 @@ impl Marks {
         ensures { result ≡ self.now.count }
     {
         self.count
+    }
+
+    /// How many words it has.
+    pub fn size(&self) -> usize
+        ensures { result ≡ marks_size self.now }
+    {
+        self.words.len()
     }
 
     /// Whether a place is marked; one that is not there is not.
@@ -55,6 +64,35 @@ impl Marks {
     {
         if place < self.count {
             self.words[place / 64] &= !(1u64 << (place % 64));
+        }
+    }
+
+    /// Writes its words behind others. The only error is that memory ends.
+    pub fn write(&self, words: &mut Vec<i64>) -> Result<(), AllocError>
+        ensures words { OnOk result (words.new.items
+            ≡ words.old.items ++ marks_picture self.now) }
+        ensures fit { OnOk result (MarksFit self.now) }
+    {
+        for word in self.words.as_slice() {
+            words.push(word.cast_signed())?;
+        }
+        Ok(())
+    }
+
+    /// Takes its words from the front of others, as `write` leaves them for as many places. Gives the words that are left.
+    pub fn read<'a>(&mut self, from: &'a [i64]) -> &'a [i64]
+        ensures read { IsReadFrom marks_picture (λ of. (of.count ≡ self.old.count) × MarksFit of)
+            (λ of. marks_of self.new ≡ marks_of of) from.now result.now }
+        ensures count { self.new.count ≡ self.old.count }
+    {
+        match from.split_at_checked(self.words.len()) {
+            Some((own, left)) => {
+                for (number, word) in own.iter().enumerate() {
+                    self.words[number] = word.cast_unsigned();
+                }
+                left
+            }
+            None => from,
         }
     }
 

@@ -1,6 +1,6 @@
 //! The queue of a link: what came to the link and was not taken yet, the oldest first, in room that was made before.
 
-ghost use Rattle.std.specs.Prelude.{◌≡◌, ◌+◌, ◌*◌, ◌<◌, ◌≤◌, ◌++◌, ◌∷◌, [], drop, length, not, pos, slice_index_or, IfOk};
+ghost use Rattle.std.specs.Prelude.{◌≡◌, ◌+◌, ◌*◌, ◌<◌, ◌≤◌, ◌++◌, ◌∷◌, [], drop, length, not, pos, slice_index_or, IfOk, OnOk};
 ghost use Rattle.snl_meaning.specs.Queues.{kept, put_in};
 ghost use Rattle.snl_meaning.specs.World.{words_at, overwritten};
 
@@ -61,7 +61,8 @@ fn copy_front(ring: &HeapCircularBuffer<i64>, words: &mut Vec<i64>, place: usize
 }
 
 impl Queue {
-    ghost use Rattle.snl_vm.specs.Queues.{items_of, is_there, oldest_to};
+    ghost use Rattle.snl_vm.specs.Pictures.{IsReadFrom, QueueFits, queue_picture};
+    ghost use Rattle.snl_vm.specs.Queues.{items_of, is_there, oldest_to, queue_view, room_of_queue};
 
     /// Room for so many items of so many words. The only error is that memory ends.
     pub fn new(alloc: Global, size: usize, width: usize) -> Result<Self, AllocError>
@@ -91,6 +92,13 @@ impl Queue {
         ensures { result ≡ self.now.ring.capacity }
     {
         self.ring.capacity()
+    }
+
+    /// How many words its items have.
+    pub fn held_words(&self) -> usize
+        ensures { result ≡ length self.now.ring.items }
+    {
+        self.ring.len()
     }
 
     /// Whether it holds no item.
@@ -170,6 +178,54 @@ impl Queue {
         }
         copy_front(&self.ring, words, place, self.width);
         self.skip()
+    }
+
+    /// Writes how many items it holds behind words, and then their words. The only error is that memory ends.
+    pub fn write(&self, words: &mut Vec<i64>) -> Result<(), AllocError>
+        ensures words { OnOk result (words.new.items
+            ≡ words.old.items ++ queue_picture self.now) }
+        ensures fit { OnOk result (QueueFits self.now) }
+    {
+        let (front, back) = self.ring.as_slices();
+        words.push((self.held as u64).cast_signed())?;
+        words.extend_from_slice(front)?;
+        words.extend_from_slice(back)
+    }
+
+    /// Takes so many items from the front of words, where they are there and it can hold so many. Gives the words that are left.
+    fn refill<'a>(&mut self, held: usize, from: &'a [i64]) -> &'a [i64]
+        ensures read { IsReadFrom (λ of. of.ring.items)
+            (λ of. (of.held ≡ held) × (room_of_queue of ≡ room_of_queue self.old))
+            (λ of. queue_view self.new ≡ queue_view of) from.now result.now }
+        ensures room { room_of_queue self.new ≡ room_of_queue self.old }
+    {
+        let _room = self.ring.capacity();
+        if self.size < held {
+            return from;
+        }
+        match from.split_at_checked(held * self.width) {
+            Some((own, left)) => {
+                self.ring.clear();
+                self.ring.extend_from_slice(own);
+                self.held = held;
+                left
+            }
+            None => from,
+        }
+    }
+
+    /// Takes its items from the front of words, as `write` leaves them for a queue of the same room. Gives the words that are
+    /// left.
+    pub fn read<'a>(&mut self, from: &'a [i64]) -> &'a [i64]
+        ensures read { IsReadFrom queue_picture
+            (λ of. (room_of_queue of ≡ room_of_queue self.old) × QueueFits of)
+            (λ of. queue_view self.new ≡ queue_view of) from.now result.now }
+        ensures room { room_of_queue self.new ≡ room_of_queue self.old }
+    {
+        match from.split_first() {
+            Some((held, left)) => self.refill(held.cast_unsigned() as usize, left),
+            None => from,
+        }
     }
 
     /// Drops all items.

@@ -1,6 +1,8 @@
 //! The store: all that a run reads and changes.
 
-ghost use Rattle.std.specs.Prelude.{◌≡◌, ◌+◌, [], false, pos, slice_get, slice_index_or};
+ghost use Rattle.std.specs.Borrow.{sem};
+ghost use Rattle.std.specs.Prelude.{◌≡◌, ◌+◌, [], false, pos, slice_get, slice_index_or, IfSome};
+ghost use Rattle.snl_vm.specs.Lending.{LendsWords};
 
 use crate::elements::{put_after, word_after, zero_from};
 use crate::homes::Homes;
@@ -64,7 +66,7 @@ pub struct Store {
 impl Store {
     ghost use Rattle.snl_vm.specs.Views.{world_of};
     ghost use Rattle.snl_meaning.specs.Links.{home_of, link_at};
-    ghost use Rattle.snl_meaning.specs.World.{copy_of, element_of, is_set, is_waiting, with_element, with_flag, with_waiting, with_zeros};
+    ghost use Rattle.snl_meaning.specs.World.{copy_of, element_of, is_set, is_waiting, with_element, with_flag, with_waiting, with_zeros, words_for};
 
     /// A word of a state set's copy that stands so many words after a place; 0 where there is none.
     pub fn word(&self, set: usize, place: usize, after: usize) -> i64
@@ -81,6 +83,24 @@ impl Store {
         match self.copies.get(set) {
             Some(copy) => copy.words.as_slice(),
             None => &[],
+        }
+    }
+
+    /// The words among which a variable stands, to be read and changed: those of a state set's copy, or those that functions
+    /// share. None where there is no such copy.
+    #[inline(always)]
+    pub fn words_mut(&mut self, set: usize, is_shared: bool) -> Option<&mut Vec<i64>>
+        ensures* writes_back { sem 𝓛 (LendsWords self.entry set is_shared result) }
+        ensures value { IfSome result (λ words. words.now.items
+            ≡ words_for set is_shared (world_of self.old)) }
+    {
+        if is_shared {
+            Some(&mut self.shared)
+        } else {
+            match self.copies.get_mut(set) {
+                Some(copy) => Some(&mut copy.words),
+                None => None,
+            }
         }
     }
 

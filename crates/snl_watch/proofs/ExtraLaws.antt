@@ -1,10 +1,11 @@
 -- Laws of texts with extra lines.
-use Rattle.std.proofs.Common.{◌≡◌, ◌==◌, ◌&&◌, ℕ, zero, suc, Bool, true, false, not, List, [], ◌∷◌, ◌++◌, inl, inr, Option, None, Some, take, refl, sym, ap, ◌∙◌, if◌then◌else◌, Result, Ok, Err, ◌≤◌, length, min, arith}
-use Rattle.std.proofs.lemmas.Bool.{and_parts, and_from, cases_Bool, not-true}
+use Rattle.std.proofs.Common.{◌≡◌, ◌==◌, ◌&&◌, ℕ, zero, suc, Bool, true, false, not, List, [], ◌∷◌, ◌++◌, get_or, inl, inr, Option, None, Some, take, refl, sym, ap, ◌∙◌, if◌then◌else◌, Result, Ok, Err, ◌≤◌, length, min, arith}
+use Rattle.std.proofs.lemmas.Bool.{and_parts, and_from, cases_Bool, ne_eqb, not-true}
 use Rattle.std.proofs.lemmas.List.{length-take-le, take-take}
 use Rattle.std.specs.Result.{IfOk}
 use Rattle.snl_output.specs.Devices.{told_more}
 use Rattle.snl_output.specs.declared.sinks.SinkFault.{SinkFault}
+use Rattle.snl_watch.specs.Folds.{ends_line, is_in_line}
 use Rattle.snl_watch.specs.Extra.{At, are_dropped, are_kept, is_kept, kept_from, moved, place_after, shown, start}
 
 -- where a text stands that goes on
@@ -87,3 +88,54 @@ taken-pass at old new piece front (Ok n) within kept few is =
     let same : take n (take front piece) ≡ take n piece = take-take n front piece (omega (arith, few, size)) in
     is ∙ ap (told_more old) (kept-all at (take n (take front piece)) (kept-front n at (take front piece) kept) ∙ same)
 taken-pass at old new piece front (Err e) within kept few is = is
+
+-- behind a newline no line has begun
+pub place-ended : (at : At) (xs : List ℕ) → ends_line xs ≡ true → place_after at xs ≡ start
+place-ended at [] ends = absurd (cc)
+place-ended at (x ∷ []) ends = rw ends refl
+place-ended at (x ∷ y ∷ xs) ends = place-ended (moved at x) (y ∷ xs) ends
+
+-- the rest of a line that is no extra one is kept
+kept-within : (xs : List ℕ) → is_in_line xs ≡ true → are_kept (true, false) xs ≡ true
+kept-within [] all = refl
+kept-within (x ∷ []) all = refl
+kept-within (x ∷ y ∷ xs) all =
+    let parts = and_parts (not (x == 10)) (is_in_line (y ∷ xs)) all in
+    rw (not-true (x == 10) parts.0) (kept-within (y ∷ xs) parts.1)
+
+-- a line that is no extra one is kept
+pub kept-line : (x : ℕ) (xs : List ℕ) → (x == 35) ≡ false → is_in_line (x ∷ xs) ≡ true → are_kept start (x ∷ xs) ≡ true
+kept-line x [] other all = rw other refl
+kept-line x (y ∷ xs) other all =
+    let parts = and_parts (not (x == 10)) (is_in_line (y ∷ xs)) all in
+    rw other (rw (not-true (x == 10) parts.0) (kept-within (y ∷ xs) parts.1))
+
+-- the rest of an extra line is left out
+dropped-within : (xs : List ℕ) → is_in_line xs ≡ true → are_dropped (true, true) xs ≡ true
+dropped-within [] all = refl
+dropped-within (x ∷ []) all = refl
+dropped-within (x ∷ y ∷ xs) all =
+    let parts = and_parts (not (x == 10)) (is_in_line (y ∷ xs)) all in
+    rw (not-true (x == 10) parts.0) (dropped-within (y ∷ xs) parts.1)
+
+-- an extra line is left out
+pub dropped-line : (x : ℕ) (xs : List ℕ) → (x == 35) ≡ true → is_in_line (x ∷ xs) ≡ true → are_dropped start (x ∷ xs) ≡ true
+dropped-line x [] hash all = rw hash refl
+dropped-line x (y ∷ xs) hash all =
+    let parts = and_parts (not (x == 10)) (is_in_line (y ∷ xs)) all in
+    rw hash (rw (not-true (x == 10) parts.0) (dropped-within (y ∷ xs) parts.1))
+
+-- a text that is a line, or the front of one, is kept or left out by its first byte
+pub kept-line-of : (xs : List ℕ) → (get_or xs 0 0 ≡ 35 → ⊥) → is_in_line xs ≡ true → are_kept start xs ≡ true
+kept-line-of [] other all = refl
+kept-line-of (x ∷ xs) other all = kept-line x xs (ne_eqb x 35 other) all
+
+-- the same of an extra one
+pub dropped-line-of : (xs : List ℕ) → get_or xs 0 0 ≡ 35 → is_in_line xs ≡ true → are_dropped start xs ≡ true
+dropped-line-of [] hash all = refl
+dropped-line-of (x ∷ xs) hash all = dropped-line x xs (ap (λ n. n == 35) hash) all
+
+-- where no line has begun, it does not count what the last one was
+pub dropped-outside : (within extra : Bool) (xs : List ℕ) → within ≡ false → are_dropped start xs ≡ true → true ≡ are_dropped (within, extra) xs
+dropped-outside within extra [] out all = refl
+dropped-outside within extra (x ∷ xs) out all = rw out (sym all)

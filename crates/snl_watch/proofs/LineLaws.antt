@@ -1,16 +1,44 @@
 -- Laws of texts and their lines.
-use Rattle.std.proofs.Common.{◌≡◌, ◌==◌, ◌&&◌, ◌≤◌, ◌<◌, ◌+◌, ◌-◌, ℕ, suc, zero, Bool, true, false, not, List, [], ◌∷◌, ◌++◌, length, take, get_or, refl, sym, ap, ◌∙◌, arith, append_assoc, append-nil, inl, inr, if◌then◌else◌}
+use Rattle.std.proofs.Common.{◌≡◌, ◌==◌, ◌&&◌, ◌≤◌, ◌<◌, ◌+◌, ◌-◌, ℕ, suc, zero, Bool, true, false, not, List, [], ◌∷◌, ◌++◌, length, take, get_or, Option, None, Some, refl, sym, ap, ◌∙◌, arith, append_assoc, append-nil, inl, inr, if◌then◌else◌}
+use Rattle.std.specs.List.{list_all}
 use Rattle.std.proofs.lemmas.Bool.{and_from, and_parts, cases_Bool, not-true}
+use Rattle.memchr.specs.Find.{IsFirstByte, Nowhere, Passes, is_byte}
 use Rattle.snl_watch.specs.Folding.{lines_behind, lines_of}
-use Rattle.snl_watch.specs.Folds.{ends_line, is_in_line, lines_on}
+use Rattle.snl_watch.specs.Folds.{ends_line, is_in_line, is_other, lines_on}
 
--- behind bytes without a newline any byte may stand
-pub in-line-more : (xs : List ℕ) (x y : ℕ) → is_in_line (xs ++ x ∷ []) ≡ true → (x == 10) ≡ false → is_in_line ((xs ++ x ∷ []) ++ y ∷ []) ≡ true
-in-line-more [] x y all other = rw other refl
-in-line-more (a ∷ []) x y all other = let parts = and_parts (not (a == 10)) true all in rw (not-true (a == 10) parts.0) (rw other refl)
-in-line-more (a ∷ b ∷ xs) x y all other =
-    let parts = and_parts (not (a == 10)) (is_in_line (b ∷ (xs ++ x ∷ []))) all in
-    and_from (not (a == 10)) (is_in_line (b ∷ ((xs ++ x ∷ []) ++ y ∷ []))) parts.0 (in-line-more (b ∷ xs) x y parts.1 other)
+-- the front of a text up to a byte before which no newline stands
+in-line-within : (text : List ℕ) (k : ℕ) → ((j : ℕ) → suc j < k → (get_or text j 0 == 10) ≡ false) → is_in_line (take k text) ≡ true
+in-line-within text zero none = refl
+in-line-within [] (suc k) none = refl
+in-line-within (x ∷ xs) (suc zero) none = refl
+in-line-within (x ∷ []) (suc (suc k)) none = refl
+in-line-within (x ∷ y ∷ xs) (suc (suc k)) none =
+    and_from (not (x == 10)) (is_in_line (y ∷ take k xs)) (rw (none 0 (omega arith)) refl) (in-line-within (y ∷ xs) (suc k) (λ j below. none (suc j) (omega (arith, below))))
+
+-- where no newline stands in front of a place, none is there
+none-newline : (text : List ℕ) (k j : ℕ) → Nowhere (Passes (is_byte 10) text) 0 k → j < k → (get_or text j 0 == 10) ≡ false
+none-newline text k j nowhere below = elim (cases_Bool (get_or text j 0 == 10)) [
+  | inl newline ↦ absurd (nowhere j (omega arith) below newline)
+  | inr other ↦ other
+]
+
+-- the front of a text up to its first newline,
+pub in-line-first : (text : List ℕ) (k : ℕ) → IsFirstByte (is_byte 10) text (Some k) → is_in_line (take (k + 1) text) ≡ true
+in-line-first text k first = in-line-within text (k + 1) (λ j below. none-newline text k j first.0.before (omega (arith, below)))
+
+-- and all of it where it has none
+pub in-line-none : (text : List ℕ) → IsFirstByte (is_byte 10) text None → is_in_line (take (length text) text) ≡ true
+in-line-none text none = in-line-within text (length text) (λ j below. none-newline text (length text) j none (omega (arith, below)))
+
+-- a text whose bytes but the last are no newlines
+pub in-line-all : (text : List ℕ) → list_all is_other (take (length text - 1) text) ≡ true → is_in_line text ≡ true
+in-line-all [] all = refl
+in-line-all (x ∷ []) all = refl
+in-line-all (x ∷ y ∷ xs) all =
+    let size : length (x ∷ y ∷ xs) - 1 ≡ suc (length (y ∷ xs) - 1) = omega arith in
+    let front = ap (λ k. list_all is_other (take k (x ∷ y ∷ xs))) (sym size) ∙ all in
+    let parts = and_parts (not (x == 10)) (list_all is_other (take (length (y ∷ xs) - 1) (y ∷ xs))) front in
+    and_from (not (x == 10)) (is_in_line (y ∷ xs)) parts.0 (in-line-all (y ∷ xs) parts.1)
 
 -- the front of a text with a newline at its end at most
 pub in-line-front : (n : ℕ) (xs : List ℕ) → is_in_line xs ≡ true → is_in_line (take n xs) ≡ true
@@ -21,14 +49,6 @@ in-line-front (suc (suc n)) (a ∷ []) all = refl
 in-line-front (suc (suc n)) (a ∷ b ∷ xs) all =
     let parts = and_parts (not (a == 10)) (is_in_line (b ∷ xs)) all in
     and_from (not (a == 10)) (is_in_line (b ∷ take n xs)) parts.0 (in-line-front (suc n) (b ∷ xs) parts.1)
-
--- a text without its last byte
-pub in-line-but-last : (xs : List ℕ) (y : ℕ) → is_in_line (xs ++ y ∷ []) ≡ true → is_in_line xs ≡ true
-in-line-but-last [] y all = refl
-in-line-but-last (a ∷ []) y all = refl
-in-line-but-last (a ∷ b ∷ xs) y all =
-    let parts = and_parts (not (a == 10)) (is_in_line (b ∷ (xs ++ y ∷ []))) all in
-    and_from (not (a == 10)) (is_in_line (b ∷ xs)) parts.0 (in-line-but-last (b ∷ xs) y parts.1)
 
 -- the last byte says whether a text ends with a newline
 pub ends-last : (xs : List ℕ) → 0 < length xs → (get_or xs (length xs - 1) 0 == 10) ≡ ends_line xs

@@ -15,6 +15,10 @@ ends_line [] = false
 ends_line (byte ∷ []) = byte == 10
 ends_line (byte ∷ next ∷ bytes) = ends_line (next ∷ bytes)
 
+-- Whether a byte is no newline.
+abbrev pub is_other : ℕ → Bool
+is_other byte = not (byte == 10)
+
 -- Whether a text has a newline at its end at most.
 abbrev pub is_in_line : List ℕ → Bool
 is_in_line [] = true

@@ -6,3 +6,7 @@ pub mod Places
 pub mod Recents
 pub mod Turning
 pub mod Window
+pub mod Counts
+pub mod Sets
+pub mod Seen
+pub mod Laws

@@ -164,6 +164,9 @@ impl Block {
             ≡ told_more (S.told sink.old) (told_again self.now ++ self.now.held.items)) }
         ensures failures { S.failures sink.new ≡ counted (is_err result) (S.failures sink.old) }
     {
+        if self.times == 0 && self.held.is_empty() {
+            return Ok(());
+        }
         self.write_again(sink)?;
         write_pieces(sink, &[self.held.as_slice()])
     }

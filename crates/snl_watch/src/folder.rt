@@ -8,11 +8,11 @@ ghost use Rattle.snl_watch.specs.Folding.{IsFolded};
 ghost use Rattle.snl_watch.specs.Folds.{Folds, ends_line, is_in_line};
 
 use crate::block::Block;
-use crate::folding::{end_line, ends_line, first_line, noted};
-use crate::notes::{Notes, Waiting};
+use crate::folding::{end_line, noted};
+use crate::line_ends::{ends_line, first_line};
+use crate::notes::{Notes, ROOM};
 use crate::recent::Recent;
 use crate::writing::write_pieces;
-use arrayvec::ArrayVec;
 use snl_output::{Fired, Refused, Sink, SinkFault};
 use std::alloc::{AllocError, Global};
 
@@ -27,7 +27,7 @@ pub struct Folder<'c, K: Sink, W: Sink> {
     /// The line that has begun, with its newline once it is whole.
     line: Vec<u8>,
     /// The notes in front of it.
-    note: Waiting,
+    note: Vec<u8>,
     recent: Recent,
     block: Block,
     notes: Notes<'c>,
@@ -60,7 +60,7 @@ impl<'c, K: Sink, W: Sink> Folder<'c, K, W> {
             inner,
             witness,
             line: Vec::new(alloc),
-            note: ArrayVec::new(),
+            note: Vec::with_capacity(alloc, ROOM)?,
             recent,
             block: Block::none(),
             notes,
@@ -109,7 +109,7 @@ impl<'c, K: Sink, W: Sink> Folder<'c, K, W> {
             + self.old.refused) }
     {
         if self.line.is_empty() {
-            self.note = self.notes.take_noted();
+            self.notes.put_noted(&mut self.note);
         }
     }
 
@@ -146,7 +146,8 @@ impl<'c, K: Sink, W: Sink> Folder<'c, K, W> {
         }
     }
 
-    /// Ends a run, with the notes that wait and others behind it, where they are extra lines and nothing else. What is held of a block goes to the sink.
+    /// Ends a run, with the notes that wait and others behind it, where they are extra lines and nothing else. What is held of
+    /// a block goes to the sink.
     ///
     /// Fails where the sink fails, and where a line has begun that no newline ended: each line of a run has one.
     pub fn finish(&mut self, notes: &[u8]) -> Result<(), SinkFault>
@@ -161,9 +162,9 @@ impl<'c, K: Sink, W: Sink> Folder<'c, K, W> {
             return Err(SinkFault);
         }
         self.is_over = true;
-        let waiting = self.notes.take_noted();
+        self.notes.put_noted(&mut self.note);
         self.block.write(&mut self.inner)?;
-        write_last(waiting.as_slice(), noted(notes), &mut self.inner)
+        write_last(self.note.as_slice(), noted(notes), &mut self.inner)
     }
 
     /// What is noted, and what is known of the run.

@@ -8,43 +8,17 @@ ghost use Rattle.snl_watch.specs.Folding.{without_time};
 ghost use Rattle.snl_watch.specs.Folds.{Folds, TellsMore, ends_line, is_in_line};
 
 use crate::block::Block;
-use crate::places::Place;
+use crate::places::LinePlace;
 use crate::recent::{Recent, Text};
 use crate::writing::write_pieces;
 use arrayvec::ArrayVec;
 use snl_output::{Sink, SinkFault};
 
-/// Whether a text ends with a newline.
-pub(crate) fn ends_line(text: &[u8]) -> bool
-    ensures { result ≡ ends_line text.now }
-{
-    match text {
-        [.., last] => *last == b'\n',
-        [] => false,
-    }
-}
-
-/// How many bytes the first line of a text has, with its newline; where none ends it, all.
-pub(crate) fn first_line(text: &[u8]) -> usize
-    ensures within { result ≤ length text.now }
-    ensures line { is_in_line (take result text.now) ≡ true }
-    ensures some { 0 < length text.now → 0 < result }
-{
-    let mut count = 0;
-    for byte in text {
-        count += 1;
-        if *byte == b'\n' {
-            return count;
-        }
-    }
-    count
-}
-
 /// Notes, where they are extra lines and nothing else; else none.
 pub(crate) fn noted<'t>(notes: &'t [u8]) -> &'t [u8]
     ensures { are_dropped start result.now ≡ true }
 {
-    if Place::start().drops_all(notes) {
+    if LinePlace::start().drops_all(notes) {
         notes
     } else {
         b""
@@ -67,7 +41,7 @@ fn digits_of(line: &[u8]) -> usize
 }
 
 /// A line without its time; None where it is too long for a block.
-fn text_of(line: &[u8]) -> Option<Text>
+fn text_without_time(line: &[u8]) -> Option<Text>
     ensures { IfSome result (λ text. text.items ≡ without_time line.now) }
 {
     let mut text = ArrayVec::new();
@@ -166,7 +140,7 @@ pub(crate) fn end_line<'t, S: Sink>(
         Folds run output' [] recent.new block.new) }
     ensures failures { S.failures sink.new ≡ counted (is_err result) (S.failures sink.old) }
 {
-    match text_of(line) {
+    match text_without_time(line) {
         Some(text) => end_text(text, line, note, recent, block, sink),
         None => end_long(line, note, recent, block, sink),
     }

@@ -13,7 +13,7 @@ const NAME_KEPT: usize = 256;
 
 /// In how many lines a name stands, and in which first, from 1.
 #[derive(Clone, Copy, Debug, PartialEq, Eq)]
-pub struct Named {
+pub struct NameCount {
     /// How many lines have the name.
     pub lines: u64,
     /// The first of them, from 1.
@@ -22,7 +22,7 @@ pub struct Named {
 
 /// The events of some lines: how many there are, and the line of the last, from 1; 0 where there is none.
 #[derive(Clone, Copy, Debug, PartialEq, Eq)]
-pub struct Events {
+pub struct EventCount {
     /// How many there are.
     pub count: u64,
     /// The line of the last, from 1; 0 where there is none.
@@ -39,32 +39,32 @@ struct Channel {
 /// What was heard of a trace. Its size does not grow with the trace: of names that are no channels of the program 1,000 are
 /// kept, of at most 256 bytes each.
 #[derive(Drop)]
-pub struct Heard {
+pub struct HeardTrace {
     alloc: Global,
     /// The names of the program's channels, by their numbers.
     channels: IndexSet<Vec<u8>>,
     /// By channel.
     states: Vec<Channel>,
     lines: u64,
-    events: Events,
+    events: EventCount,
     /// Those without the last line.
-    before: Events,
-    others: IndexMap<Vec<u8>, Named>,
+    before: EventCount,
+    others: IndexMap<Vec<u8>, NameCount>,
     /// How many lines have a name that is not kept.
     unkept: u64,
     /// Whether memory was refused while the lines passed.
     ran_out: bool,
 }
 
-impl Heard {
+impl HeardTrace {
     /// Nothing was heard yet, of a program with channels of these names. Fails only where memory ran out.
     pub fn new(alloc: Global, channels: IndexSet<Vec<u8>>) -> Result<Self, AllocError> {
         let none = Channel {
             is_up: false,
             down_since: None,
         };
-        let nothing = Events { count: 0, last: 0 };
-        Ok(Heard {
+        let nothing = EventCount { count: 0, last: 0 };
+        Ok(HeardTrace {
             alloc,
             states: vec![in alloc; none; channels.len()]?,
             channels,
@@ -88,7 +88,7 @@ impl Heard {
         let Some(time) = fields.next() else {
             return;
         };
-        self.events = Events {
+        self.events = EventCount {
             count: self.events.count.saturating_add(1),
             last: self.lines,
         };
@@ -143,7 +143,7 @@ impl Heard {
     /// Keeps a name that was heard for the first time.
     fn keep(&mut self, name: &[u8]) -> Result<(), AllocError> {
         let name = Vec::from_slice(self.alloc, name)?;
-        let named = Named {
+        let named = NameCount {
             lines: 1,
             first: self.lines,
         };
@@ -157,12 +157,12 @@ impl Heard {
     }
 
     /// The events of all lines. A line that is no comment and not blank counts as one, whether or not it is a good one.
-    pub fn events(&self) -> Events {
+    pub fn events(&self) -> EventCount {
         self.events
     }
 
     /// The events of all lines but the last.
-    pub fn events_before(&self) -> Events {
+    pub fn events_before(&self) -> EventCount {
         self.before
     }
 
@@ -176,7 +176,7 @@ impl Heard {
     }
 
     /// The names that are no channels of the program, in the order in which they came.
-    pub fn others(&self) -> &IndexMap<Vec<u8>, Named> {
+    pub fn others(&self) -> &IndexMap<Vec<u8>, NameCount> {
         &self.others
     }
 

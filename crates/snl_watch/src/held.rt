@@ -2,7 +2,7 @@
 
 ghost use Rattle.std.specs.Prelude.{◌≡◌, ◌+◌, ◌-◌, ◌^◌, ◌<◌, ◌≤◌, ◌++◌, ◌⊎◌, [], false, length, take, slice_range, IfOk, IfSome, IsTrue, IsFalse, is_err, OnErr, ℕ, List, Some};
 
-use memchr::memchr;
+use memchr::{memchr, memrchr};
 use snl_trace::{Source, SourceFault};
 use std::alloc::{AllocError, Global};
 
@@ -16,9 +16,22 @@ pub(crate) struct Held {
     /// Where those begin and end that were not given on.
     from: usize,
     to: usize,
+    /// Where the last whole line ends that came; 0 where none did.
+    lines_end: usize,
     ghost room: { length bytes.items ≡ 65536 },
     ghost within: { from ≤ to },
     ghost ends: { to ≤ 65536 },
+    ghost lines: { lines_end ≤ to },
+}
+
+/// Where the last line ends that a text has whole; 0 where it has none.
+fn last_end(text: &[u8]) -> usize
+    ensures { result ≤ length text.now }
+{
+    match memrchr(b'\n', text) {
+        Some(at) => at + 1,
+        None => 0,
+    }
 }
 
 impl Held {
@@ -34,6 +47,7 @@ impl Held {
             bytes: vec![in alloc; 0u8; ROOM]?,
             from: 0,
             to: 0,
+            lines_end: 0,
         })
     }
 
@@ -49,7 +63,7 @@ impl Held {
         ensures some { IsTrue result → 0 < length (window self.now) }
         ensures none { IsFalse result → length (window self.now) < 65536 }
     {
-        self.len() == ROOM || memchr(b'\n', &self.bytes[self.from..self.to]).is_some()
+        self.len() == ROOM || self.from < self.lines_end
     }
 
     /// How long the first line is, with its newline; where that did not come yet, how many bytes are held.
@@ -85,6 +99,7 @@ impl Held {
         self.bytes.copy_within(self.from..self.to, 0);
         self.from = 0;
         self.to = count;
+        self.lines_end = 0;
     }
 
     /// Asks a source once for more, and holds that behind what is held; answers how many bytes came.
@@ -105,6 +120,7 @@ impl Held {
         self.compact();
         let count = source.read(&mut self.bytes[self.to..])?;
         self.to += count;
+        self.lines_end = last_end(&self.bytes[..self.to]);
         Ok(count)
     }
 }

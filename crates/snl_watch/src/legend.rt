@@ -1,12 +1,13 @@
 //! What notes about a run say of a program: the names of its state sets, states and channels, and its clauses.
 
 use indexmap::IndexSet;
+use snl_output::Fired;
 
 /// A variable, or an element of one, whose value a condition sees.
 #[derive(Drop)]
-pub struct Seen {
-    /// As a note names it: `limit`, `pos[0]`.
-    pub name: Vec<u8>,
+pub struct SeenValue {
+    /// What stands in front of the value in a note: ` limit=`, ` pos[0]=`.
+    pub front: Vec<u8>,
     /// The number of its word in the copy of its state set, from 0 on.
     pub word: usize,
 }
@@ -14,10 +15,10 @@ pub struct Seen {
 /// A clause of a state.
 #[derive(Drop)]
 pub struct ClauseLegend {
-    /// The line of its `when`, from 1, as markers count it.
-    pub line: usize,
+    /// What its note begins with: `# clause 2 of moving, line 61:`, without the colon where its condition names nothing.
+    pub front: Vec<u8>,
     /// What its condition names, in its order.
-    pub seen: Vec<Seen>,
+    pub seen: Vec<SeenValue>,
 }
 
 /// A state of a state set.
@@ -53,11 +54,10 @@ impl Legend {
         self.sets.get(set)?.states.get(state)
     }
 
-    /// The number of the state of a state set that has this name; the first state is the initial one.
-    pub fn state_number(&self, set: usize, name: &[u8]) -> Option<usize> {
-        let states = &self.sets.get(set)?.states;
-        states
-            .iter()
-            .position(|state| state.name.as_slice() == name)
+    /// A clause that fired.
+    pub(crate) fn clause(&self, fired: Fired) -> Option<&ClauseLegend> {
+        self.state(fired.set, fired.state)?
+            .clauses
+            .get(fired.clause)
     }
 }

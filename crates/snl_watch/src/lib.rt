@@ -3,18 +3,23 @@
 //! `Refuser` is a sink that refuses its first byte, so that a run ends where it would begin to write. `ByLine` gives a trace
 //! to a run one line a call, `Listener` hears each line that passes, and `Follower` tells which one passed last. None of them
 //! changes what the run reads. `Teller` writes notes between the lines of a run, and `Folder` also folds blocks that repeat.
+//! `Watch` counts lines that are known before, and hears what becomes of clauses.
 #![tactic(auto)]
 
 mod block;
 mod by_line;
+mod counter;
 mod folder;
 mod folding;
 mod follower;
 mod heard;
 mod held;
+pub mod laws;
 mod legend;
+mod line_ends;
 mod lines;
 mod listener;
+mod marks;
 mod notes;
 mod nowhere;
 mod places;
@@ -23,13 +28,16 @@ mod refuser;
 mod standing;
 mod tally;
 mod teller;
+mod trail;
+mod watch;
 mod writing;
 
 pub use by_line::ByLine;
+pub use counter::Counter;
 pub use folder::Folder;
 pub use follower::Follower;
-pub use heard::{Events, Heard, Named};
-pub use legend::{ClauseLegend, Legend, Seen, SetLegend, StateLegend};
+pub use heard::{EventCount, HeardTrace, NameCount};
+pub use legend::{ClauseLegend, Legend, SeenValue, SetLegend, StateLegend};
 pub use listener::Listener;
 pub use notes::{Moment, Notes};
 pub use nowhere::Nowhere;
@@ -37,3 +45,5 @@ pub use refuser::Refuser;
 pub use standing::{SetStanding, Standing};
 pub use tally::Tally;
 pub use teller::Teller;
+pub use trail::{ClauseTrail, SetTrail, StateTrail, Trail};
+pub use watch::Watch;

@@ -2,19 +2,19 @@
 
 ghost use Rattle.std.specs.Prelude.{◌≡◌};
 
-use crate::heard::Heard;
+use crate::heard::HeardTrace;
 use snl_trace::{Source, SourceFault};
 
 /// Hands on what another source gives, one line a call, and hears each line.
 #[derive(Drop)]
 pub struct Listener<R: Source> {
     inner: R,
-    heard: Heard,
+    heard: HeardTrace,
 }
 
 impl<R: Source> Listener<R> {
     /// Listens to a source that gives at most one line a call, as `ByLine` does.
-    pub fn new(inner: R, heard: Heard) -> Self
+    pub fn new(inner: R, heard: HeardTrace) -> Self
         ensures inner { result.inner ≡ inner }
         ensures heard { result.heard ≡ heard }
     {
@@ -22,7 +22,7 @@ impl<R: Source> Listener<R> {
     }
 
     /// What was heard.
-    pub fn into_heard(self) -> Heard
+    pub fn into_heard(self) -> HeardTrace
     where
         R: Drop,
         ensures { result ≡ self.heard }

@@ -1,25 +1,47 @@
 //! Where in a line a text stands, and whether that line is an extra one.
 
-ghost use Rattle.std.specs.Prelude.{◌≡◌, ◌≤◌, length, take, true};
+ghost use Rattle.std.specs.Prelude.{◌≡◌, ◌≤◌, length, take, true, IsTrue};
 ghost use Rattle.snl_watch.specs.Extra as spec;
+
+use crate::line_ends::{ends_line, is_one_line};
 
 /// Where a text stands that was written so far.
 #[derive(Clone, Copy)]
-pub struct Place {
+pub struct LinePlace {
     /// Whether a line has begun.
     pub within: bool,
     /// Whether that is an extra one.
     pub extra: bool,
 }
 
-impl Place {
+/// Whether a text is a line, or the front of one, that is no extra one. Most pieces of a run are.
+fn is_kept_line(text: &[u8]) -> bool
+    ensures { IsTrue result → spec.are_kept spec.start text.now ≡ true }
+{
+    match text {
+        [first, ..] => *first != b'#' && is_one_line(text),
+        [] => false,
+    }
+}
+
+/// Whether a text is an extra line, or the front of one. Most notes are.
+fn is_dropped_line(text: &[u8]) -> bool
+    ensures { IsTrue result → spec.are_dropped spec.start text.now ≡ true }
+{
+    match text {
+        [first, ..] => *first == b'#' && is_one_line(text),
+        [] => false,
+    }
+}
+
+impl LinePlace {
     ghost use Rattle.snl_watch.specs.Places.{place_of};
 
     /// Where nothing was written.
     pub fn start() -> Self
         ensures { place_of result ≡ spec.start }
     {
-        Place {
+        LinePlace {
             within: false,
             extra: false,
         }
@@ -30,9 +52,9 @@ impl Place {
         ensures { place_of result ≡ spec.moved (place_of self) byte }
     {
         if byte == b'\n' {
-            return Place::start();
+            return LinePlace::start();
         }
-        Place {
+        LinePlace {
             within: true,
             extra: if self.within {
                 self.extra
@@ -57,6 +79,16 @@ impl Place {
     pub fn after(self, bytes: &[u8]) -> Self
         ensures { place_of result ≡ spec.place_after (place_of self) bytes.now }
     {
+        if ends_line(bytes) {
+            return LinePlace::start();
+        }
+        self.after_each(bytes)
+    }
+
+    /// The same, byte by byte.
+    fn after_each(self, bytes: &[u8]) -> Self
+        ensures { place_of result ≡ spec.place_after (place_of self) bytes.now }
+    {
         let mut place = self;
         for byte in bytes {
             place = place.moved(*byte);
@@ -65,8 +97,19 @@ impl Place {
     }
 
     /// How many bytes belong to lines that are no extra ones, before the first that does not.
-    #[tactic(auto, using(crate::proofs::ExtraLaws::kept_snoc, crate::proofs::ExtraLaws::place_snoc))]
     pub fn kept_front(self, bytes: &[u8]) -> usize
+        ensures within { result ≤ length bytes.now }
+        ensures kept { spec.are_kept (place_of self) (take result bytes.now) ≡ true }
+    {
+        if !self.within && is_kept_line(bytes) {
+            return bytes.len();
+        }
+        self.kept_each(bytes)
+    }
+
+    /// The same, byte by byte.
+    #[tactic(auto, using(crate::proofs::ExtraLaws::kept_snoc, crate::proofs::ExtraLaws::place_snoc))]
+    fn kept_each(self, bytes: &[u8]) -> usize
         ensures within { result ≤ length bytes.now }
         ensures kept { spec.are_kept (place_of self) (take result bytes.now) ≡ true }
     {
@@ -84,6 +127,16 @@ impl Place {
 
     /// Whether all bytes belong to extra lines.
     pub fn drops_all(self, bytes: &[u8]) -> bool
+        ensures { result ≡ spec.are_dropped (place_of self) bytes.now }
+    {
+        if !self.within && is_dropped_line(bytes) {
+            return true;
+        }
+        self.drops_each(bytes)
+    }
+
+    /// The same, byte by byte.
+    fn drops_each(self, bytes: &[u8]) -> bool
         ensures { result ≡ spec.are_dropped (place_of self) bytes.now }
     {
         let mut place = self;

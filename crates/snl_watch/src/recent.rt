@@ -3,6 +3,7 @@
 ghost use Rattle.std.specs.Prelude.{◌≡◌, ◌≤◌, ◌<◌, ◌-◌, [], ◌∷◌, ◌++◌, length, slice_get, IfOk, IsTrue, Some};
 ghost use Rattle.circular_buffer.specs.Buffer.{keep_last};
 
+use crate::marks::{Marks, TOGETHER};
 use arrayvec::ArrayVec;
 use circular_buffer::HeapCircularBuffer;
 use std::alloc::{AllocError, Global};
@@ -23,20 +24,8 @@ pub(crate) type Text = ArrayVec<u8, TEXT>;
 #[derive(Drop)]
 pub(crate) struct Recent {
     texts: HeapCircularBuffer<Text>,
-    /// A number of each, by which most lines differ: a line is compared with many.
-    marks: HeapCircularBuffer<u64>,
-}
-
-/// How many bytes at the end of a line make its number.
-const MARKED: usize = 8;
-
-/// The number of a line, made of its length and its end.
-fn mark_of(text: &[u8]) -> u64 {
-    let mut mark = text.len() as u64;
-    for byte in &text[text.len().saturating_sub(MARKED)..] {
-        mark = mark.rotate_left(8) ^ (*byte as u64);
-    }
-    mark
+    /// A number of each, by which most lines differ.
+    marks: Marks,
 }
 
 impl Recent {
@@ -47,7 +36,7 @@ impl Recent {
         ensures { IfOk result (λ recent. recent_texts recent ≡ []) }
     {
         let texts = HeapCircularBuffer::with_capacity(alloc, KEPT)?;
-        let marks = HeapCircularBuffer::with_capacity(alloc, KEPT)?;
+        let marks = Marks::new(alloc)?;
         Ok(Recent { texts, marks })
     }
 
@@ -56,16 +45,14 @@ impl Recent {
         ensures { recent_texts self.new
             ≡ keep_last self.old.texts.capacity (recent_texts self.old ++ text.items ∷ []) }
     {
-        let mark = mark_of(text.as_slice());
+        self.marks.push(text.as_slice());
         self.texts.push_back(text);
-        self.marks.push_back(mark);
     }
 
     /// Forgets all lines.
     pub(crate) fn clear(&mut self)
         ensures { recent_texts self.new ≡ [] }
     {
-        self.marks.clear();
         self.texts.clear();
     }
 
@@ -96,6 +83,9 @@ impl Recent {
 
     /// Whether the last lines, so many, equal those before them.
     fn repeats(&self, size: usize) -> bool {
+        if !self.marks.are_like(size) {
+            return false;
+        }
         for number in 0..size {
             if !self.are_equal(number, number.saturating_add(size)) {
                 return false;
@@ -104,17 +94,42 @@ impl Recent {
         true
     }
 
+    /// The size of the shortest block below four lines that came twice, now; None where there is none.
+    fn short_block(&self, most: usize) -> Option<usize> {
+        for size in 1..TOGETHER {
+            if size <= most && self.marks.is_like(size) && self.repeats(size) {
+                return Some(size);
+            }
+        }
+        None
+    }
+
+    /// The size of the shortest block from four lines on that came twice, now; None where there is none. The last four lines
+    /// stand at the end of both, so only sizes are tried at which lines like them stand.
+    fn long_block(&self, most: usize) -> Option<usize> {
+        let mut size = self.marks.step(0);
+        for _step in 0..BLOCK {
+            if size > most || size == 0 {
+                return None;
+            }
+            if size >= TOGETHER && self.repeats(size) {
+                return Some(size);
+            }
+            let step = self.marks.step(size);
+            if step == 0 {
+                return None;
+            }
+            size = size.saturating_add(step);
+        }
+        None
+    }
+
     /// How many lines the shortest block has that came twice, now; 0 where there is none.
     pub(crate) fn block(&self) -> usize
         ensures { result ≤ length (recent_texts self.now) }
     {
         let most = BLOCK.min(self.texts.len() / 2);
-        let last = self.marks.nth_back(0);
-        for size in 1..=most {
-            if self.marks.nth_back(size) == last && self.repeats(size) {
-                return size;
-            }
-        }
-        0
+        let size = self.short_block(most).or_else(|| self.long_block(most));
+        size.unwrap_or(0).min(most)
     }
 }

@@ -1,14 +1,16 @@
 //! Where the state sets of a run stand, and how much has happened, by the lines of the run.
 
 use crate::legend::Legend;
-use bstr::ByteSlice;
+use memchr::{memchr, memrchr};
+use snl_output::Fired;
 use std::alloc::{AllocError, Global};
+use std::mem;
 
 /// Where a state set stands.
-#[derive(Clone, Copy, Debug, PartialEq, Eq)]
+#[derive(Drop)]
 pub struct SetStanding {
-    /// The number of its state.
-    pub state: usize,
+    /// The name of its state, as it stands in the source.
+    pub state: Vec<u8>,
     /// Since when, in milliseconds.
     pub since: u64,
 }
@@ -16,13 +18,14 @@ pub struct SetStanding {
 /// Where the state sets of a run stand, and counts of its lines. It takes the text of the run in whatever pieces.
 #[derive(Drop)]
 pub struct Standing {
-    /// The line that has begun.
+    alloc: Global,
+    /// The line that has begun, where its piece did not end it.
     line: Vec<u8>,
     /// By state set.
     sets: Vec<SetStanding>,
     has_begun: bool,
-    /// The state set of the clause that fired last, whose line did not come yet.
-    fired: Option<usize>,
+    /// The clause that fired last, whose line did not come yet.
+    fired: Option<Fired>,
     transitions: u64,
     puts: u64,
     refused: u64,
@@ -31,8 +34,8 @@ pub struct Standing {
     ran_out: bool,
 }
 
-/// The number that the digits of a text spell; one beyond 64 bits counts as the greatest there.
-fn number_of(text: &[u8]) -> u64 {
+/// The number that stands at the front of a text; one beyond 64 bits counts as the greatest there.
+fn number_in_front(text: &[u8]) -> u64 {
     let mut number = 0u64;
     for byte in text {
         if !byte.is_ascii_digit() {
@@ -45,49 +48,60 @@ fn number_of(text: &[u8]) -> u64 {
     number
 }
 
-/// What a line of a run tells.
-#[derive(Clone, Copy)]
-enum Told {
-    /// The program began, in milliseconds.
-    Start(u64),
-    /// A state set went to another state, where that is known.
-    Go(Option<SetStanding>),
-    Put,
-    Print,
-    Else,
-}
-
-/// Where a state set stands once it went to a state of this name.
-fn moved(set: Option<usize>, since: u64, to: &[u8], legend: &Legend) -> Option<SetStanding> {
-    let state = legend.state_number(set?, to)?;
-    Some(SetStanding { state, since })
-}
-
-/// What a line of a run tells, by the state set whose clause fired last.
-fn told_of(line: &[u8], fired: Option<usize>, legend: &Legend) -> Told {
-    let mut fields = line.fields();
-    let (Some(time), Some(word)) = (fields.next(), fields.next()) else {
-        return Told::Else;
-    };
-    match word {
-        b"go" => {
-            let to = fields.nth(2).unwrap_or(b"");
-            Told::Go(moved(fired, number_of(time), to, legend))
-        }
-        b"put" => Told::Put,
-        b"print" => Told::Print,
-        b"start" => Told::Start(number_of(time)),
-        _ => Told::Else,
+/// What stands in a line behind its time; nothing where no blank stands there.
+fn behind_time(line: &[u8]) -> &[u8] {
+    match memchr(b' ', line) {
+        Some(blank) => &line[blank + 1..],
+        None => b"",
     }
+}
+
+/// The last word of a line, without its newline.
+fn last_word(line: &[u8]) -> &[u8] {
+    let text = line.strip_suffix(b"\n").unwrap_or(line);
+    match memrchr(b' ', text) {
+        Some(blank) => &text[blank + 1..],
+        None => text,
+    }
+}
+
+/// Nothing was written yet, of so many state sets.
+fn standings(alloc: Global, sets: usize) -> Result<Vec<SetStanding>, AllocError> {
+    let mut standings = Vec::with_capacity(alloc, sets)?;
+    for _set in 0..sets {
+        standings.push(SetStanding {
+            state: Vec::new(alloc),
+            since: 0,
+        })?;
+    }
+    Ok(standings)
+}
+
+/// A state set stands in a state of this name from now on.
+fn move_to(standing: &mut SetStanding, state: &[u8], since: u64) -> Result<(), AllocError> {
+    standing.state.clear();
+    standing.state.extend_from_slice(state)?;
+    standing.since = since;
+    Ok(())
+}
+
+/// All state sets stand in their first states.
+fn begin(standings: &mut Vec<SetStanding>, legend: &Legend, since: u64) -> Result<(), AllocError> {
+    for (number, standing) in standings.iter_mut().enumerate() {
+        if let Some(first) = legend.state(number, 0) {
+            move_to(standing, first.name.as_slice(), since)?;
+        }
+    }
+    Ok(())
 }
 
 impl Standing {
     /// Nothing was written yet, of a run with so many state sets. Fails only where memory ran out.
     pub fn new(alloc: Global, sets: usize) -> Result<Self, AllocError> {
-        let first = SetStanding { state: 0, since: 0 };
         Ok(Standing {
+            alloc,
             line: Vec::new(alloc),
-            sets: vec![in alloc; first; sets]?,
+            sets: standings(alloc, sets)?,
             has_begun: false,
             fired: None,
             transitions: 0,
@@ -98,51 +112,67 @@ impl Standing {
         })
     }
 
-    /// Takes the next bytes of the run.
+    /// Takes the next bytes of the run. Most pieces are whole lines.
     pub(crate) fn take(&mut self, piece: &[u8], legend: &Legend) {
+        let ends = piece.last() == Some(&b'\n');
+        if ends && self.line.is_empty() {
+            self.note(piece, legend);
+            return;
+        }
+        self.take_part(piece);
+        if ends {
+            let line = mem::replace(&mut self.line, Vec::new(self.alloc));
+            self.note(line.as_slice(), legend);
+        }
+    }
+
+    /// Takes a piece behind the line that has begun.
+    fn take_part(&mut self, piece: &[u8]) {
         if self.line.extend_from_slice(piece).is_err() {
             self.ran_out = true;
         }
-        if piece.last() == Some(&b'\n') {
-            let told = told_of(self.line.as_slice(), self.fired, legend);
-            self.note(told);
-            self.line.clear();
+    }
+
+    /// Takes a line that has ended.
+    fn note(&mut self, line: &[u8], legend: &Legend) {
+        match behind_time(line) {
+            [b'g', b'o', b' ', ..] => self.go(line),
+            [b'p', b'u', b't', b' ', ..] => self.puts = self.puts.saturating_add(1),
+            [b'p', b'r', b'i', b'n', b't', ..] => self.prints = self.prints.saturating_add(1),
+            [b's', b't', b'a', b'r', b't', b' ', ..] => self.begin(line, legend),
+            _ => {}
         }
     }
 
-    /// Takes what a line told that has ended.
-    fn note(&mut self, told: Told) {
-        match told {
-            Told::Start(ms) => {
-                self.has_begun = true;
-                self.sets.fill(SetStanding {
-                    state: 0,
-                    since: ms,
-                });
-            }
-            Told::Go(moved) => {
-                self.transitions = self.transitions.saturating_add(1);
-                self.move_to(moved);
-                self.fired = None;
-            }
-            Told::Put => self.puts = self.puts.saturating_add(1),
-            Told::Print => self.prints = self.prints.saturating_add(1),
-            Told::Else => {}
+    /// The program began.
+    fn begin(&mut self, line: &[u8], legend: &Legend) {
+        self.has_begun = true;
+        if begin(&mut self.sets, legend, number_in_front(line)).is_err() {
+            self.ran_out = true;
         }
     }
 
-    /// Notes where the state set of the last clause stands.
-    fn move_to(&mut self, moved: Option<SetStanding>) {
-        if let (Some(set), Some(standing)) = (self.fired, moved) {
-            if let Some(place) = self.sets.get_mut(set) {
-                *place = standing;
+    /// The state set whose clause fired last goes to the state that a line names. Where that is `exit`, which no state can be
+    /// called, the program ends, and it stays where it is.
+    fn go(&mut self, line: &[u8]) {
+        self.transitions = self.transitions.saturating_add(1);
+        let state = last_word(line);
+        if state == b"exit".as_slice() {
+            return;
+        }
+        if let Some(fired) = self.fired {
+            if let Some(standing) = self.sets.get_mut(fired.set) {
+                if move_to(standing, state, fired.ms).is_err() {
+                    self.ran_out = true;
+                }
             }
         }
+        self.fired = None;
     }
 
-    /// Hears that a clause of a state set fired.
-    pub(crate) fn fired(&mut self, set: usize) {
-        self.fired = Some(set);
+    /// Hears that a clause fired.
+    pub(crate) fn fired(&mut self, fired: Fired) {
+        self.fired = Some(fired);
     }
 
     /// Hears that a put was refused.

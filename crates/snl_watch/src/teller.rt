@@ -7,14 +7,14 @@ ghost use Rattle.snl_watch.specs.Extra.{kept_from, place_after, shown, start};
 ghost use Rattle.snl_watch.specs.Places.{place_of};
 
 use crate::notes::Notes;
-use crate::places::Place;
+use crate::places::LinePlace;
 use snl_output::{Fired, Refused, Sink, SinkFault};
 
 /// Hands lines on, with extra ones between them. What it tells is what the sink behind it tells, without the extra lines.
 #[derive(Drop)]
 pub struct Teller<'c, K: Sink> {
     inner: K,
-    place: Place,
+    place: LinePlace,
     notes: Notes<'c>,
     /// How often it refused a piece by itself.
     refused: u64,
@@ -31,7 +31,7 @@ impl<'c, K: Sink> Teller<'c, K> {
     {
         Teller {
             inner,
-            place: Place::start(),
+            place: LinePlace::start(),
             notes,
             refused: 0,
         }
@@ -93,7 +93,9 @@ impl<'c, K: Sink> Teller<'c, K> {
             return Ok(());
         }
         let lines = self.notes.take_waiting();
-        self.send(lines.as_slice())
+        let sent = self.send(lines.as_slice());
+        self.notes.put_back(lines);
+        sent
     }
 
     /// Hands on the extra lines that wait and, behind them, others, where they are extra lines and nothing else.

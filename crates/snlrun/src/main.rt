@@ -3,11 +3,11 @@
 //! The lines of the run go to standard output, messages to standard error.
 #![tactic(auto)]
 
-mod devices;
+mod input;
 
-use devices::{Lines, Output, Trace};
+use input::Trace;
 use snc::{Job, Status, Tool, session};
-use snc_cli::{job_of, source_of, tell};
+use snc_cli::{Lines, Output, job_of, source_of, tell};
 use snl_trace::End;
 use std::cell::RefCell;
 use std::io::BufWriter;

@@ -25,8 +25,8 @@ emission::emit_expression-returns-in-Postfix t c =
 pub emission::emit_expression-returns-in-None : goal.emission::emit_expression-returns-in-None
 emission::emit_expression-returns-in-None t c =
     on_ok_weaker c.emit_sign-in-None.result
-    (prefix-made (here_of c.args.known.now) c.args.expression.now c.deref-in-None.result.now c.in-Prefix.operand c.in-Prefix.operator c.number_of.result
-    (reverse c.args.code.now.items) (reverse c.emit_sign-in-None.new.code.items) c.in-Prefix.is c.deref-in-None.ensures c.number_of.ensures (none-is c.number_of.result c.in-None.is))
+    (prefix-made (here_of c.args.known.now) c.args.expression.now c.deref-in-None.result.now c.in-Prefix.operand c.in-Prefix.operator c.constant_number.result
+    (reverse c.args.code.now.items) (reverse c.emit_sign-in-None.new.code.items) c.in-Prefix.is c.deref-in-None.ensures c.constant_number.ensures (none-is c.constant_number.result c.in-None.is))
     c.emit_sign-in-None.ensures
 
 pub emission::emit_expression-returns-in_ok-emit_terms-in-Chain : goal.emission::emit_expression-returns-in_ok-emit_terms-in-Chain
@@ -43,9 +43,9 @@ pub emission::emit_expression-returns-in_ok-emit_held-in-Conditional : goal.emis
 emission::emit_expression-returns-in_ok-emit_held-in-Conditional t c =
     on_ok_weaker c.emit_expression-in-Conditional.result
     (conditional-made (here_of c.args.known.now) c.args.expression.now c.deref-in-Conditional.result.now c.deref-in-Conditional-2.result.now c.deref-in-Conditional-3.result.now
-    c.in-Conditional.condition c.in-Conditional.yes c.in-Conditional.no c.number_of-in-Conditional.result
+    c.in-Conditional.condition c.in-Conditional.yes c.in-Conditional.no c.constant_number-in-Conditional.result
     (reverse c.args.code.now.items) (reverse c.emit_failed.new.code.items) (reverse c.emit_held.new.code.items) (reverse c.emit_expression-in-Conditional.new.code.items)
-    c.in-Conditional.is c.deref-in-Conditional.ensures c.deref-in-Conditional-2.ensures c.deref-in-Conditional-3.ensures c.number_of-in-Conditional.ensures c.in_default.not-Some
+    c.in-Conditional.is c.deref-in-Conditional.ensures c.deref-in-Conditional-2.ensures c.deref-in-Conditional-3.ensures c.constant_number-in-Conditional.ensures c.in_default.not-Some
     c.in_ok-emit_failed-in-Conditional.ensures c.in_ok-emit_held-in-Conditional.ensures)
     c.emit_expression-in-Conditional.ensures
 

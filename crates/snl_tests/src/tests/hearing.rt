@@ -4,7 +4,7 @@ ghost use Rattle.std.specs.Prelude.{◌≡◌};
 
 use crate::tests::calls::loaded;
 use itoa::Buffer;
-use snl_machine::{Fired, Refusal, Refused, Sink, SinkFault};
+use snl_machine::{Fired, RefusalCause, Refused, Sink, SinkFault};
 use snl_trace::{End, Feed, run};
 use std::alloc::Global;
 use std::test::Fail;
@@ -140,9 +140,9 @@ impl Sink for Notes {
         self.add(b" refused");
         self.add_number(put.set);
         self.add(match put.why {
-            Refusal::NoLink => b" unlinked",
-            Refusal::Down => b" down",
-            Refusal::Waiting => b" waiting",
+            RefusalCause::NoLink => b" unlinked",
+            RefusalCause::Down => b" down",
+            RefusalCause::Waiting => b" waiting",
         });
         if let Some(channel) = put.channel {
             self.add_number(channel);

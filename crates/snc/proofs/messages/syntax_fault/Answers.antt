@@ -1,19 +1,19 @@
 use Rattle.std.proofs.Common.{◌∙◌, ap, sym, map, [], ◌∷◌}
 use Rattle.snl_messages.specs.declared.refusals.Refusal.TheVariants.{EndOfFile}
-use Rattle.snl_messages.specs.Refusals.{number_of}
+use Rattle.snl_messages.specs.Refusals.{refusal_number}
 use Rattle.snc.specs.Judging.{error_at, syntax_error}
-use Rattle.snc.specs.Texts.{text_of}
+use Rattle.snc.specs.Texts.{messages_text}
 use Rattle.snc.proofs.messages.syntax_fault.Goals as goal
 
 pub returns-in_ok-found-in-None-clause-text : goal.returns-in_ok-found-in-None-clause-text
 returns-in_ok-found-in-None-clause-text c =
     let names = map (λ name. name.now) c.args.names.marked.now in
     c.in_ok-found-in-None.ensures.text
-    ∙ ap (λ t. text_of c.args.names.read.now names (error_at c.args.lexed.now.eof (number_of EndOfFile) t ∷ [])) c.words.ensures
-    ∙ ap (λ o. text_of c.args.names.read.now names (syntax_error c.args.lexed.now o ∷ [])) (sym c.in-None.is ∙ c.token_at.ensures)
+    ∙ ap (λ t. messages_text c.args.names.read.now names (error_at c.args.lexed.now.eof (refusal_number EndOfFile) t ∷ [])) c.words.ensures
+    ∙ ap (λ o. messages_text c.args.names.read.now names (syntax_error c.args.lexed.now o ∷ [])) (sym c.in-None.is ∙ c.token_at.ensures)
 
 pub returns-in_ok-found-in-Some-clause-text : goal.returns-in_ok-found-in-Some-clause-text
 returns-in_ok-found-in-Some-clause-text c =
     let names = map (λ name. name.now) c.args.names.marked.now in
     c.in_ok-found-in-Some.ensures.text
-    ∙ ap (λ o. text_of c.args.names.read.now names (syntax_error c.args.lexed.now o ∷ [])) (sym c.in-Some.is ∙ c.token_at.ensures)
+    ∙ ap (λ o. messages_text c.args.names.read.now names (syntax_error c.args.lexed.now o ∷ [])) (sym c.in-Some.is ∙ c.token_at.ensures)

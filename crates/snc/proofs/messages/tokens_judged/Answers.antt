@@ -1,7 +1,7 @@
 use Rattle.std.proofs.Common.{◌≡◌, ◌<◌, ap, sym, subst, map, length, slice_get, Some, [], ◌∷◌}
 use Rattle.snl_syntax.specs.view.Programs.{program_view}
 use Rattle.snc.specs.Judging.{syntax_error}
-use Rattle.snc.specs.Texts.{text_of}
+use Rattle.snc.specs.Texts.{messages_text}
 use Rattle.snc.proofs.Answering.{told_deep, told_program, told_stuck, tree_of}
 use Rattle.snc.proofs.messages.tokens_judged.Goals as goal
 
@@ -20,7 +20,7 @@ returns-in_ok-found-in-Err-Unexpected-clause-told c =
     told_stuck c.args.given c.args.file.now found.messages.items (map (λ name. name.now) c.as_slice.result.now) c.args.lexed.now c.in-Err-Unexpected.k found.checked
     (ap (map (λ name. name.now)) c.as_slice.ensures.value)
     (c.parse.ensures.unexpected c.in-Err-Unexpected.k cc)
-    (subst (λ k. found.messages.items ≡ text_of c.args.file.now (map (λ name. name.now) c.as_slice.result.now) (syntax_error c.args.lexed.now (slice_get c.args.lexed.now.tokens.items k) ∷ []))
+    (subst (λ k. found.messages.items ≡ messages_text c.args.file.now (map (λ name. name.now) c.as_slice.result.now) (syntax_error c.args.lexed.now (slice_get c.args.lexed.now.tokens.items k) ∷ []))
     c.in-Err-Unexpected.k-is c.in_ok-found-in-Err-Unexpected.ensures.text)
     c.in_ok-found-in-Err-Unexpected.ensures.none
 

@@ -1,6 +1,6 @@
 use Rattle.std.proofs.Common.{◌≡◌, ◌∙◌, ◌++◌, map}
 use Rattle.snl_messages.specs.Messages.{said}
-use Rattle.snc.specs.Texts.{text_of}
+use Rattle.snc.specs.Texts.{messages_text}
 use Rattle.snc.proofs.Answering.{checked_options, told_checked}
 use Rattle.snc.proofs.messages.tree_judged.Goals as goal
 
@@ -9,8 +9,8 @@ returns-clause-told c =
     let word = c.args.names.read.now in
     let names = map (λ name. name.now) c.args.names.marked.now in
     let found = c.in_ok-said.field-0 in
-    let is : c.push_lines.new.out.items ≡ text_of word names (map said found.messages.items) =
-    c.in_ok-push_lines.ensures ∙ (λ i. c.new-messages.ensures.items i ++ text_of word names (map said (c.as_slice.ensures.value i))) in
+    let is : c.push_lines.new.out.items ≡ messages_text word names (map said found.messages.items) =
+    c.in_ok-push_lines.ensures ∙ (λ i. c.new-messages.ensures.items i ++ messages_text word names (map said (c.as_slice.ensures.value i))) in
     told_checked c.args.given word c.push_lines.new.out.items names c.args.program (map said found.messages.items) found.checked
     c.in_ok-said.ensures.exactly c.in_ok-said.ensures.in_order c.in_ok-said.ensures.accepted c.in_ok-said.ensures.same is
 

@@ -19,8 +19,8 @@ use Rattle.snl_code.proofs.Placed.{routines-are, entries-are, code-is, table-is,
 use Rattle.snl_code.proofs.compiling.code_of.Goals as goal
 
 -- the names are those of the functions among the definitions
-pub place_functions-requires : goal.place_functions-requires
-place_functions-requires c =
+pub lay_functions-requires : goal.lay_functions-requires
+lay_functions-requires c =
     let p = program_view c.args.program.now in
     c.requires.names ∙ names-same p (functions_of p) ∙ ap (λ l. map (λ (f : FunctionTree). f.name) (flat_map function_by (map definition_view l))) (sym c.as_slice-definitions.ensures.value)
 
@@ -29,7 +29,7 @@ returns-clause-is c =
     let p = program_view c.args.program.now in
     let reached = table_by c.args.marks.now in
     let code : Code = record {
-      instrs = c.place_own-2.new.code;
+      instrs = c.lay_own-2.new.code;
       texts = c.in_ok-texts.texts;
       functions = c.in_ok-functions.functions;
       depth = c.in_ok-depth.depth;
@@ -41,7 +41,7 @@ returns-clause-is c =
     let are = ap (map state_set_view) c.as_slice-sets.ensures.value in
     let definitions = map definition_view c.as_slice-definitions.result.now in
     let before = c.new-instrs.result.items in
-    let placed = c.place_functions.new.code.items in
+    let placed = c.lay_functions.new.code.items in
     let front : placed ≡ routines_code p =
     routines-are p before placed c.args.common.now.sites.now c.args.common.now.bodies.now definitions c.new-instrs.ensures.items c.requires.sites c.requires.bodies
     (ap (map definition_view) c.as_slice-definitions.ensures.value) c.in_ok-functions.ensures.code in
@@ -49,9 +49,9 @@ returns-clause-is c =
     entries-are p before (entries_of code) c.args.common.now.sites.now c.args.common.now.bodies.now definitions c.new-instrs.ensures.items c.requires.sites c.requires.bodies
     (ap (map definition_view) c.as_slice-definitions.ensures.value) c.in_ok-functions.ensures.entries in
     code-made p reached code (tells-reached p c.args.marks.now c.requires.marks) (conditions-apart p reached)
-    (code-is p reached placed c.place_own.new.code.items c.place_sets.new.code.items c.place_own-2.new.code.items sets are front
+    (code-is p reached placed c.lay_own.new.code.items c.lay_sets.new.code.items c.lay_own-2.new.code.items sets are front
     c.in_ok-entry.ensures.code c.in_ok-sets.ensures.code c.in_ok-exit.ensures.code)
-    (table-is p reached code placed c.place_own.new.code.items c.place_sets.new.code.items sets are front
+    (table-is p reached code placed c.lay_own.new.code.items c.lay_sets.new.code.items sets are front
     c.in_ok-entry.ensures.code c.in_ok-entry.ensures.start c.in_ok-sets.ensures.code c.in_ok-sets.ensures.starts c.in_ok-exit.ensures.start)
     found (c.in_ok-texts.ensures ∙ ap (flat_map format_at) (c.as_slice.ensures ∙ c.requires.sites)) c.in_ok-depth.ensures
 
@@ -60,7 +60,7 @@ returns-clause-inside c =
     let p = program_view c.args.program.now in
     let reached = table_by c.args.marks.now in
     let code : Code = record {
-      instrs = c.place_own-2.new.code;
+      instrs = c.lay_own-2.new.code;
       texts = c.in_ok-texts.texts;
       functions = c.in_ok-functions.functions;
       depth = c.in_ok-depth.depth;
@@ -72,7 +72,7 @@ returns-clause-inside c =
     let are = ap (map state_set_view) c.as_slice-sets.ensures.value in
     let definitions = map definition_view c.as_slice-definitions.result.now in
     let before = c.new-instrs.result.items in
-    let placed = c.place_functions.new.code.items in
+    let placed = c.lay_functions.new.code.items in
     let front : placed ≡ routines_code p =
     routines-are p before placed c.args.common.now.sites.now c.args.common.now.bodies.now definitions c.new-instrs.ensures.items c.requires.sites c.requires.bodies
     (ap (map definition_view) c.as_slice-definitions.ensures.value) c.in_ok-functions.ensures.code in
@@ -80,9 +80,9 @@ returns-clause-inside c =
     entries-are p before (entries_of code) c.args.common.now.sites.now c.args.common.now.bodies.now definitions c.new-instrs.ensures.items c.requires.sites c.requires.bodies
     (ap (map definition_view) c.as_slice-definitions.ensures.value) c.in_ok-functions.ensures.entries in
     code-inside p reached code
-    (code-is p reached placed c.place_own.new.code.items c.place_sets.new.code.items c.place_own-2.new.code.items sets are front
+    (code-is p reached placed c.lay_own.new.code.items c.lay_sets.new.code.items c.lay_own-2.new.code.items sets are front
     c.in_ok-entry.ensures.code c.in_ok-sets.ensures.code c.in_ok-exit.ensures.code)
-    (table-is p reached code placed c.place_own.new.code.items c.place_sets.new.code.items sets are front
+    (table-is p reached code placed c.lay_own.new.code.items c.lay_sets.new.code.items sets are front
     c.in_ok-entry.ensures.code c.in_ok-entry.ensures.start c.in_ok-sets.ensures.code c.in_ok-sets.ensures.starts c.in_ok-exit.ensures.start)
     found
 
@@ -91,7 +91,7 @@ returns-clause-short c =
     let p = program_view c.args.program.now in
     let reached = table_by c.args.marks.now in
     let code : Code = record {
-      instrs = c.place_own-2.new.code;
+      instrs = c.lay_own-2.new.code;
       texts = c.in_ok-texts.texts;
       functions = c.in_ok-functions.functions;
       depth = c.in_ok-depth.depth;
@@ -103,12 +103,12 @@ returns-clause-short c =
     let are = ap (map state_set_view) c.as_slice-sets.ensures.value in
     let definitions = map definition_view c.as_slice-definitions.result.now in
     let before = c.new-instrs.result.items in
-    let placed = c.place_functions.new.code.items in
+    let placed = c.lay_functions.new.code.items in
     let front : placed ≡ routines_code p =
     routines-are p before placed c.args.common.now.sites.now c.args.common.now.bodies.now definitions c.new-instrs.ensures.items c.requires.sites c.requires.bodies
     (ap (map definition_view) c.as_slice-definitions.ensures.value) c.in_ok-functions.ensures.code in
     short p reached code
-    (code-is p reached placed c.place_own.new.code.items c.place_sets.new.code.items c.place_own-2.new.code.items sets are front
+    (code-is p reached placed c.lay_own.new.code.items c.lay_sets.new.code.items c.lay_own-2.new.code.items sets are front
     c.in_ok-entry.ensures.code c.in_ok-sets.ensures.code c.in_ok-exit.ensures.code)
-    (table-is p reached code placed c.place_own.new.code.items c.place_sets.new.code.items sets are front
+    (table-is p reached code placed c.lay_own.new.code.items c.lay_sets.new.code.items sets are front
     c.in_ok-entry.ensures.code c.in_ok-entry.ensures.start c.in_ok-sets.ensures.code c.in_ok-sets.ensures.starts c.in_ok-exit.ensures.start)

@@ -3,7 +3,7 @@ use Rattle.snl_syntax.specs.view.Definitions.{definition_view}
 use Rattle.snl_syntax.specs.view.Programs.{state_set_view}
 use Rattle.snl_syntax.specs.view.Shown.{shown, held}
 use Rattle.snl_syntax.specs.view.Statements.{block_view}
-use Rattle.snl_resolve.specs.Held.{held_view}
+use Rattle.snl_resolve.specs.CopyVariables.{variable_view}
 use Rattle.snl_resolve.specs.Scopes.{scope_of}
 use Rattle.snl_resolve.specs.Variables.{by_parts}
 use Rattle.snl_resolve.proofs.VariableLaws.{program_held}
@@ -17,7 +17,7 @@ returns c =
     let entry = shown (held block_view) p.entry in
     let exit = shown (held block_view) p.exit in
     program_held p c.args.set p.definitions.items sets (scope_of [] (map definition_view p.definitions.items)) []
-    (map held_view c.in_ok-held.held.items) (map held_view c.push_parts.new.kept.items)
-    refl c.as_slice.ensures.value refl (ap (map held_view) c.in_ok-held.ensures.items ∙ c.requires.own)
+    (map variable_view c.in_ok-held.held.items) (map variable_view c.push_parts.new.kept.items)
+    refl c.as_slice.ensures.value refl (ap (map variable_view) c.in_ok-held.ensures.items ∙ c.requires.own)
     (c.in_ok-push_parts.ensures
-    ∙ (λ j. map held_view c.in_ok-held.held.items ++ by_parts (c.requires.scopes j) c.args.set entry (map state_set_view sets) exit))
+    ∙ (λ j. map variable_view c.in_ok-held.held.items ++ by_parts (c.requires.scopes j) c.args.set entry (map state_set_view sets) exit))

@@ -1,7 +1,7 @@
 use Rattle.std.proofs.Common.{refl}
-use Rattle.snl_text.specs.Numbers.{decimal_value, whole_value, value_in, value_of, without_suffix}
+use Rattle.snl_text.specs.Numbers.{decimal_value, whole_value, value_in, numeral_value, without_suffix}
 use Rattle.snl_emit.proofs.laws.examples_of_call_code.Goals as goal
 
 pub returns : goal.returns
-unfolding decimal_value whole_value value_in value_of without_suffix
+unfolding decimal_value whole_value value_in numeral_value without_suffix
 returns c = (refl, refl, refl, refl, refl, refl, refl, refl)

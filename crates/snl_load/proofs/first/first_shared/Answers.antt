@@ -1,7 +1,7 @@
 use Rattle.std.proofs.Common.{◌≡◌, ◌∙◌, ◌++◌, ◌∷◌, ◌+◌, suc, ap, arith, drop, get_or, map, pos, rules, sym, append_assoc}
 use Rattle.std.specs.Prelude.{replicate}
 use Rattle.std.proofs.Math.Seq.{drop-cons}
-use Rattle.snl_resolve.specs.Held.{held_view}
+use Rattle.snl_resolve.specs.CopyVariables.{variable_view}
 use Rattle.snl_resolve.specs.Scopes.{elements}
 use Rattle.snl_load.specs.First.{first_shared}
 use Rattle.snl_load.proofs.Listed.{shared_more}
@@ -21,7 +21,7 @@ loop-number-preserved c =
     let many : c.elements.result ≡ elements v.size = search rules in
     let added : c.push_zeros.new.words.items ≡ words ++ replicate (elements v.size) (pos 0) =
     c.in_ok-push_zeros.ensures ∙ ap (λ n. words ++ replicate n (pos 0)) many in
-    ap (λ l. l ++ first_shared (map held_view rest)) added
-    ∙ append_assoc words (replicate (elements v.size) (pos 0)) (first_shared (map held_view rest))
-    ∙ ap (λ l. words ++ l) (sym (shared_more (held_view v) (map held_view rest)))
-    ∙ ap (λ l. words ++ first_shared (map held_view l)) (sym here) ∙ c.loop-number.invariant
+    ap (λ l. l ++ first_shared (map variable_view rest)) added
+    ∙ append_assoc words (replicate (elements v.size) (pos 0)) (first_shared (map variable_view rest))
+    ∙ ap (λ l. words ++ l) (sym (shared_more (variable_view v) (map variable_view rest)))
+    ∙ ap (λ l. words ++ first_shared (map variable_view l)) (sym here) ∙ c.loop-number.invariant

@@ -1,8 +1,8 @@
 use Rattle.std.proofs.Common.{◌≡◌, ◌++◌, drop, map}
-use Rattle.snl_resolve.specs.Held.{held_view}
+use Rattle.snl_resolve.specs.CopyVariables.{variable_view}
 use Rattle.snl_load.specs.First.{first_shared}
 use Rattle.snl_load.proofs.first.first_shared.Given as goal
 
 -- the words of variables so far, and of those that are left
 abbrev pub invariant-loop-number : goal.invariant-loop-number
-invariant-loop-number l = l.words.items ++ first_shared (map held_view (drop l.number l.shared)) ≡ first_shared (map held_view l.shared)
+invariant-loop-number l = l.words.items ++ first_shared (map variable_view (drop l.number l.shared)) ≡ first_shared (map variable_view l.shared)

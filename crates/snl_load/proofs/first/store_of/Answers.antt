@@ -3,7 +3,7 @@ use Rattle.std.specs.List.{flat_map}
 use Rattle.std.proofs.lemmas.List.{length-map}
 use Rattle.snl_links.specs.LinkViews.{link_view}
 use Rattle.snl_meaning.specs.declared.live.Live.TheVariants.{Waiting}
-use Rattle.snl_resolve.specs.Held.{held_view}
+use Rattle.snl_resolve.specs.CopyVariables.{variable_view}
 use Rattle.snl_code.specs.Copies.{sets_of}
 use Rattle.snl_load.specs.First.{first_copy, first_shared}
 use Rattle.snl_load.specs.Initials.{first_buffer}
@@ -16,7 +16,7 @@ returns c =
     let names = names_in c.args.names.now in
     let ls = map link_view c.args.links.now in
     let sets = ap sets_of c.as_slice-sets.ensures.value in
-    let shared = ap (λ vs. first_shared (map held_view vs)) c.as_slice-shared.ensures.value in
+    let shared = ap (λ vs. first_shared (map variable_view vs)) c.as_slice-shared.ensures.value in
     let places = ap (λ copies. homes_in copies ls) c.as_slice-places.ensures.value in
     let flags : c.in_ok-vec.field-0.items ≡ replicate c.args.flags false = search rules in
     let ups : c.in_ok-vec-2.field-0.items ≡ replicate (length names) false = search (rules, length-map) in

@@ -1,8 +1,8 @@
 use Rattle.std.proofs.Common.{refl}
 use Rattle.std.specs.Fmt.{digits}
-use Rattle.snl_text.specs.Numbers.{decimal_value, whole_value, value_in, value_of, without_suffix}
+use Rattle.snl_text.specs.Numbers.{decimal_value, whole_value, value_in, numeral_value, without_suffix}
 use Rattle.snl_load.proofs.laws.examples_of_functions.Goals as goal
 
 pub returns : goal.returns
-unfolding digits decimal_value whole_value value_in value_of without_suffix
+unfolding digits decimal_value whole_value value_in numeral_value without_suffix
 returns c = (refl, refl, refl, refl, refl, refl, refl)

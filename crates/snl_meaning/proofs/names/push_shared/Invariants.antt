@@ -1,8 +1,8 @@
 use Rattle.std.proofs.Common.{◌≡◌, ◌++◌, map, drop}
-use Rattle.snl_resolve.specs.Held.{held_view}
+use Rattle.snl_resolve.specs.CopyVariables.{variable_view}
 use Rattle.snl_meaning.specs.Names.{placed_shared}
 use Rattle.snl_meaning.proofs.names.push_shared.Given as goal
 
 abbrev pub invariant-loop-number : goal.invariant-loop-number
 invariant-loop-number l =
-    l.places.items ++ placed_shared l.place (map held_view (drop l.number l.variables)) ≡ l.initial.places.items ++ placed_shared 0 (map held_view l.variables)
+    l.places.items ++ placed_shared l.place (map variable_view (drop l.number l.variables)) ≡ l.initial.places.items ++ placed_shared 0 (map variable_view l.variables)

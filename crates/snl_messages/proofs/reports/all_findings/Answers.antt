@@ -15,7 +15,7 @@ returns c =
     let embedded = c.args.program.now.embedded.items in
     let beyond = c.args.program.now.beyond in
     let old = map finding_in c.in_ok-entries.entries.items in
-    let listed : c.has_error.result ≡ has_error old = c.has_error.ensures ∙ ap (λ l. has_error (map finding_in l)) c.as_slice-2.ensures.value in
+    let listed : c.has_error.result ≡ has_error old = c.has_error.ensures ∙ ap (λ l. has_error (map finding_in l)) c.as_slice.ensures.value in
     elim c.if-not-has_error.branch [
       | then-not-has_error+in_ok-note_limits w ↦
           subst (λ e. (f : Finding) → Contains (map finding_in e.items) f ↔ IsFoundAtAll o p embedded beyond f) (sym w.entries-is)

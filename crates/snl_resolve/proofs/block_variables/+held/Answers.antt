@@ -1,7 +1,7 @@
 use Rattle.std.proofs.Common.{map}
 use Rattle.std.proofs.lemmas.Result.{on_ok_weaker}
 use Rattle.snl_resolve.specs.Chains.{scopes_of}
-use Rattle.snl_resolve.specs.Held.{held_view}
+use Rattle.snl_resolve.specs.CopyVariables.{variable_view}
 use Rattle.snl_resolve.proofs.VariableLaws.{block_held, nested_held}
 use Rattle.snl_resolve.proofs.block_variables.+held.Goals as goal
 
@@ -9,7 +9,7 @@ pub push_block-returns : goal.push_block-returns
 push_block-returns t c =
     on_ok_weaker c.push_statements.result
     (block_held (scopes_of c.args.outer.now) c.args.block.now c.as_slice.result.now c.as_slice-2.result.now c.as_slice-3.result.now c.in_ok-names.names.items c.in_ok-scope.scope
-    (map held_view c.args.kept.now.items) (map held_view c.push_declarations.new.kept.items) (map held_view c.push_statements.new.kept.items)
+    (map variable_view c.args.kept.now.items) (map variable_view c.push_declarations.new.kept.items) (map variable_view c.push_statements.new.kept.items)
     c.as_slice.ensures.value c.as_slice-2.ensures.value c.as_slice-3.ensures.value
     c.in_ok-names.ensures c.in_ok-scope.ensures c.in_ok-push_declarations.ensures)
     c.push_statements.ensures
@@ -18,5 +18,5 @@ pub push_statement-returns-in-Block : goal.push_statement-returns-in-Block
 push_statement-returns-in-Block t c =
     on_ok_weaker c.push_block.result
     (nested_held (scopes_of c.args.scopes.now) c.args.statement.now c.in-Block.block
-    (map held_view c.args.kept.now.items) (map held_view c.push_block.new.kept.items) c.in-Block.is)
+    (map variable_view c.args.kept.now.items) (map variable_view c.push_block.new.kept.items) c.in-Block.is)
     c.push_block.ensures

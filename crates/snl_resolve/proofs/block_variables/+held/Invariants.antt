@@ -3,10 +3,10 @@ use Rattle.snl_syntax.specs.view.Lists.{statement_list}
 use Rattle.snl_syntax.specs.view.Statements.{statement_view}
 use Rattle.snl_resolve.specs.Variables.{by_statements}
 use Rattle.snl_resolve.specs.Chains.{scopes_of}
-use Rattle.snl_resolve.specs.Held.{held_view}
+use Rattle.snl_resolve.specs.CopyVariables.{variable_view}
 use Rattle.snl_resolve.proofs.block_variables.+held.Given as goal
 
 abbrev pub invariant-push_statements-loop-statement : goal.invariant-push_statements-loop-statement
 invariant-push_statements-loop-statement l =
-    map held_view l.kept.items ++ by_statements (scopes_of l.scopes) (statement_list (map statement_view (drop l.statement-index l.statements)))
-    ≡ map held_view l.initial.kept.items ++ by_statements (scopes_of l.scopes) (statement_list (map statement_view l.statements))
+    map variable_view l.kept.items ++ by_statements (scopes_of l.scopes) (statement_list (map statement_view (drop l.statement-index l.statements)))
+    ≡ map variable_view l.initial.kept.items ++ by_statements (scopes_of l.scopes) (statement_list (map statement_view l.statements))

@@ -1,10 +1,10 @@
 use Rattle.std.proofs.Common.{◌≡◌, ◌++◌, map, drop}
 use Rattle.snl_syntax.specs.view.Functions.{parameter_view}
-use Rattle.snl_resolve.specs.Held.{held_view}
+use Rattle.snl_resolve.specs.CopyVariables.{variable_view}
 use Rattle.snl_resolve.specs.Variables.{held_parameter}
 use Rattle.snl_resolve.proofs.function_variables.push_parameters.Given as goal
 
 abbrev pub invariant-loop-parameter : goal.invariant-loop-parameter
 invariant-loop-parameter l =
-    map held_view l.kept.items ++ map held_parameter (map parameter_view (drop l.parameter-index l.parameters))
-    ≡ map held_view l.initial.kept.items ++ map held_parameter (map parameter_view l.parameters)
+    map variable_view l.kept.items ++ map held_parameter (map parameter_view (drop l.parameter-index l.parameters))
+    ≡ map variable_view l.initial.kept.items ++ map held_parameter (map parameter_view l.parameters)

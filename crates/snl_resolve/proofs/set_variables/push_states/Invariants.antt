@@ -3,10 +3,10 @@ use Rattle.std.specs.List.{flat_map}
 use Rattle.snl_syntax.specs.view.Programs.{state_view}
 use Rattle.snl_resolve.specs.Variables.{by_state}
 use Rattle.snl_resolve.specs.Chains.{scopes_of}
-use Rattle.snl_resolve.specs.Held.{held_view}
+use Rattle.snl_resolve.specs.CopyVariables.{variable_view}
 use Rattle.snl_resolve.proofs.set_variables.push_states.Given as goal
 
 abbrev pub invariant-loop-state : goal.invariant-loop-state
 invariant-loop-state l =
-    map held_view l.kept.items ++ flat_map (by_state (scopes_of l.outer)) (map state_view (drop l.state-index l.states))
-    ≡ map held_view l.initial.kept.items ++ flat_map (by_state (scopes_of l.outer)) (map state_view l.states)
+    map variable_view l.kept.items ++ flat_map (by_state (scopes_of l.outer)) (map state_view (drop l.state-index l.states))
+    ≡ map variable_view l.initial.kept.items ++ flat_map (by_state (scopes_of l.outer)) (map state_view l.states)

@@ -1,5 +1,5 @@
 use Rattle.std.proofs.Common.{◌≡◌, ℕ, Option, Some, refl, arith}
-use Rattle.snl_text.specs.Numbers.{decimal_value, value_in, value_of, whole_value, without_suffix}
+use Rattle.snl_text.specs.Numbers.{decimal_value, value_in, numeral_value, whole_value, without_suffix}
 use Rattle.snl_text.specs.Signs.{sign_at}
 use Rattle.snl_text.proofs.laws.examples_of_texts.Goals as goal
 
@@ -7,7 +7,7 @@ some_nat : {a b : ℕ} → ◌≡◌ {A = Option ℕ} (Some a) (Some b) → a �
 some_nat e = cc
 
 pub returns : goal.returns
-unfolding whole_value value_in value_of without_suffix decimal_value sign_at
+unfolding whole_value value_in numeral_value without_suffix decimal_value sign_at
 returns c = (
   refl,
   (refl, refl),

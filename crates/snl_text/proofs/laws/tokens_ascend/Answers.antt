@@ -3,4 +3,4 @@ use Rattle.snl_text.proofs.Ascending.{ascend, none_yet}
 use Rattle.snl_text.proofs.laws.tokens_ascend.Goals as goal
 
 pub returns : goal.returns
-returns c = λ source pieces end rest cut. (ascend nothing_read source pieces end rest none_yet cut).rises
+returns c = λ source lexemes end rest cut. (ascend nothing_read source lexemes end rest none_yet cut).rises

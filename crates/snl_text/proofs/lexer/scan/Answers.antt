@@ -27,5 +27,5 @@ loop-scanner-preserved c =
     let source = c.args.source.now in
     let r = reading c.loop-scanner.scanner in
     let rest = take (length source - r.pos.offset) (drop r.pos.offset source) in
-    let next = step source r rest c.in-Some.piece c.loop-scanner.invariant (rest_is source r.pos.offset) c.loop-scanner-test.true c.in-Some.ensures.value c.in-Some.ensures.fits in
+    let next = step source r rest c.in-Some.lexeme c.loop-scanner.invariant (rest_is source r.pos.offset) c.loop-scanner-test.true c.in-Some.ensures.value c.in-Some.ensures.fits in
     subst (λ (s : Reading). Reached source s) (sym c.in_ok-take.ensures) next

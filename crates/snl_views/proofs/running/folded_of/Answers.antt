@@ -1,14 +1,14 @@
 use Rattle.std.proofs.Common.{◌≡◌, ◌∙◌, ap, sym}
 use Rattle.snl_machine.specs.MachineOf.{world_held}
-use Rattle.snl_views.proofs.RunAnswers.{runs-like}
+use Rattle.snl_views.proofs.RunAnswers.{runs-like-as}
 use Rattle.snl_views.proofs.running.folded_of.Goals as goal
 
 pub returns-clause-runs : goal.returns-clause-runs
-returns-clause-runs g c = λ p ls budget is.
+returns-clause-runs g c =
     let first = ap g.W.Sink.told c.in_ok-folder.ensures.witness in
     let last = sym (ap g.W.Sink.told c.into_parts.ensures.witness ∙ c.finished-is_whole.ensures.told) in
-    runs-like g.R.Source.rest p ls c.args.stage.prepared.waits budget (world_held c.args.stage.prepared.machine) (world_held c.ran_over.new.machine) c.args.trace _ _ _ _ c.in_ok-ran.ran.end first last
-    (c.in_ok-ran.ensures.means p ls c.args.stage.prepared.waits budget is)
+    runs-like-as g.R.Source.rest c.args.stage.now.prepared c.notes_of.new.stage.prepared (world_held c.ran_over.new.machine) c.args.trace _ _ _ _ c.in_ok-ran.ran.end
+    c.in_ok-notes.ensures first last c.in_ok-ran.ensures.means
 
 pub returns-clause-folded : goal.returns-clause-folded
 returns-clause-folded g c = λ whole run output was now.

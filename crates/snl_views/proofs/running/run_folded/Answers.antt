@@ -6,17 +6,21 @@ use Rattle.snl_views.proofs.running.run_folded.Goals as goal
 -- the program was run
 pub returns-clause-run : goal.returns-clause-run
 returns-clause-run g c =
-    let macros : List ℕ = unwrap_or (option_map string_bytes c.args.job.now.macros) [] in
+    let job = c.args.job.now in
+    let macros : List ℕ = unwrap_or (option_map string_bytes job.macros) [] in
     let staged = c.in_ok-messages.field-0 in
     let some : staged.stage ≡ Some c.in-Some.stage = cc in
-    accepted-run g.R.Source.rest c.args.job.now.options (string_bytes c.args.job.now.file) macros c.args.source.now c.args.job.now.budget c.args.trace (g.W.Sink.told c.args.witness) (g.W.Sink.told c.in_ok-told.told.sink.1) staged
-    c.in-Some.stage c.in_ok-told.told.end some c.in_ok-messages.ensures c.in_ok-told.ensures.runs
+    accepted-run g.R.Source.rest job.options (string_bytes job.file) macros c.args.source.now job.budget c.args.trace
+    (g.W.Sink.told c.args.witness) (g.W.Sink.told c.in_ok-told.told.sink.1) staged
+    c.in-Some.stage c.as_mut.result.now c.in_ok-told.told.end some c.as_mut.ensures.value c.in_ok-messages.ensures c.in_ok-told.ensures.runs
 
 -- it has an error
 pub returns-in_default-clause-run : goal.returns-in_default-clause-run
 returns-in_default-clause-run g c =
-    let macros : List ℕ = unwrap_or (option_map string_bytes c.args.job.now.macros) [] in
+    let job = c.args.job.now in
+    let macros : List ℕ = unwrap_or (option_map string_bytes job.macros) [] in
     let staged = c.in_ok-messages.field-0 in
     let none : staged.stage ≡ None = cc in
-    refused-run g.R.Source.rest c.args.job.now.options (string_bytes c.args.job.now.file) macros c.args.source.now c.args.job.now.budget c.args.trace (g.W.Sink.told c.args.witness) (g.W.Sink.told c.args.witness) staged
+    refused-run g.R.Source.rest job.options (string_bytes job.file) macros c.args.source.now job.budget c.args.trace
+    (g.W.Sink.told c.args.witness) (g.W.Sink.told c.args.witness) staged
     none c.in_ok-messages.ensures refl

@@ -7,17 +7,21 @@ use Rattle.snl_views.proofs.running.run_whole.Goals as goal
 -- the program was run
 pub returns : goal.returns
 returns g c =
-    let macros : List ℕ = unwrap_or (option_map string_bytes c.args.job.now.macros) [] in
+    let job = c.args.job.now in
+    let macros : List ℕ = unwrap_or (option_map string_bytes job.macros) [] in
     let staged = c.in_ok-messages.field-0 in
     let some : staged.stage ≡ Some c.in-Some.stage = cc in
-    accepted-run g.R.Source.rest c.args.job.now.options (string_bytes c.args.job.now.file) macros c.args.source.now c.args.job.now.budget c.args.trace (shown (g.K.Sink.told c.args.sink)) (shown (g.K.Sink.told c.in_ok-told.told.sink)) staged
-    c.in-Some.stage c.in_ok-told.told.end some c.in_ok-messages.ensures c.in_ok-told.ensures
+    accepted-run g.R.Source.rest job.options (string_bytes job.file) macros c.args.source.now job.budget c.args.trace
+    (shown (g.K.Sink.told c.args.sink)) (shown (g.K.Sink.told c.in_ok-told.told.sink)) staged
+    c.in-Some.stage c.as_mut.result.now c.in_ok-told.told.end some c.as_mut.ensures.value c.in_ok-messages.ensures c.in_ok-told.ensures
 
 -- it has an error
 pub returns-in_default : goal.returns-in_default
 returns-in_default g c =
-    let macros : List ℕ = unwrap_or (option_map string_bytes c.args.job.now.macros) [] in
+    let job = c.args.job.now in
+    let macros : List ℕ = unwrap_or (option_map string_bytes job.macros) [] in
     let staged = c.in_ok-messages.field-0 in
     let none : staged.stage ≡ None = cc in
-    refused-run g.R.Source.rest c.args.job.now.options (string_bytes c.args.job.now.file) macros c.args.source.now c.args.job.now.budget c.args.trace (shown (g.K.Sink.told c.args.sink)) (shown (g.K.Sink.told c.args.sink)) staged
+    refused-run g.R.Source.rest job.options (string_bytes job.file) macros c.args.source.now job.budget c.args.trace
+    (shown (g.K.Sink.told c.args.sink)) (shown (g.K.Sink.told c.args.sink)) staged
     none c.in_ok-messages.ensures refl

@@ -32,10 +32,10 @@ returns c =
     let under = subst (λ (o : Option Checked). IfSome o (λ k. k.options ≡ options_in_force (program_view k.program) given)) some c.in_ok-messages.ensures.options in
     let whole = program_view first.program in
     let ls = links whole macros in
-    let prepared = c.in_ok-stage.stage.prepared in
+    let prepared = c.in_ok-stage.stage.value.prepared in
     let machine = prepared.machine in
     let made : IsPrepared first macros budget prepared = subst (λ (t : List ℕ). IsPrepared first t budget prepared) c.macros_of-macros.ensures c.in_ok-stage.ensures in
-    let stage = c.in_ok-stage.stage in
+    let stage = c.in_ok-stage.stage.value in
     let as_machine = subst (λ (b : Bool). IsMachineOf whole ls b budget machine) (sym made.waits) made.machine.made in
     let staged : IsStage whole ls (waits first.options) budget stage = record { machine = as_machine; waits = made.waits; first = made.machine.first } in
     let v = subst (λ o. IsJudged given word source found.messages.items (tree_of o)) some judged in

@@ -3,6 +3,7 @@ use Rattle.snl_output.specs.Does.{Does}
 use Rattle.snl_meaning.specs.declared.functions.FunctionEntry.{FunctionEntry}
 use Rattle.snl_meaning.specs.declared.instrs.Instr.{Instr}
 use Rattle.snl_meaning.specs.declared.live.Live.{Live}
+use Rattle.snl_meaning.specs.Frames.{at_time}
 use Rattle.snl_meaning.specs.Known.{entries}
 use Rattle.snl_code.specs.Pieces.{texts_of}
 use Rattle.snl_vm.specs.Stack.{Room}
@@ -69,6 +70,10 @@ returns-clause-fixed g c =
     let words = words-stay m.memory.store new (world_of new).time c.take.ensures.keeps.frame in
     let room = c.take.ensures.keeps.room in
     λ j. record { plan = m.plan; code = m.code; channels = names_in m.names; budget = m.budget; words = words j + words-by (room j) }
+
+-- where the parts of its world stand, and how large they are
+pub returns-clause-frame : goal.returns-clause-frame
+returns-clause-frame g c = ap (at_time 0) c.take.ensures.keeps.frame
 
 pub returns-clause-means : goal.returns-clause-means
 returns-clause-means g c = means-its-program c.args.ms c.args.event.now c.args.self.now c.take.result (world_of c.take.new.memory.store) _ _ (returns-clause-does g c)

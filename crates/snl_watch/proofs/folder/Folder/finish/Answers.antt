@@ -9,5 +9,5 @@ returns-clause-folded g c =
     let empty : length settled.line.items ≡ 0 = grind arith in
     finished-by c.write_last.result settled.line.items c.as_slice.result.now c.noted.result.now settled.recent settled.block (g.W.Sink.told settled.witness) (g.K.Sink.told settled.inner)
     (g.K.Sink.told c.write.new.sink) (g.K.Sink.told c.write_last.new.sink) (settled.folds c.if-self.false) (none-of settled.line.items empty)
-    (ap (are_dropped start) c.as_slice.ensures.value ∙ c.take_noted-waiting.ensures) c.noted.ensures
+    (ap (are_dropped start) c.as_slice.ensures.value ∙ c.put_noted.ensures) c.noted.ensures
     c.in_ok-write.ensures.told c.write_last.ensures.told

@@ -26,6 +26,8 @@ loop-sent-preserved g c =
       told = c.in_ok-taken.ensures.taken ∙ ap (told_more (shown (g.K.Sink.told c.loop-sent.self.inner))) none
           ∙ told_more-nil (shown (g.K.Sink.told c.loop-sent.self.inner)) ∙ c.loop-sent.invariant.told;
       failures = c.in_ok-taken.ensures.failures
-          ∙ ap (λ b. counted b (g.K.Sink.failures c.loop-sent.self.inner)) (ap (λ b. b && nat_lt 0 (length (take (length c.args.lines.now - c.loop-sent.sent) rest))) (ne_eqb n 0 c.if-taken-eq0.false)) ∙ c.loop-sent.invariant.failures;
+          ∙ ap (λ b. counted b (g.K.Sink.failures c.loop-sent.self.inner))
+          (ap (λ b. b && nat_lt 0 (length (take (length c.args.lines.now - c.loop-sent.sent) rest))) (ne_eqb n 0 c.if-taken-eq0.false))
+          ∙ c.loop-sent.invariant.failures;
       refused = c.hand_on.ensures.refused ∙ c.loop-sent.invariant.refused;
     }

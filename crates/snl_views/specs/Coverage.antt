@@ -1,0 +1,20 @@
+-- What of a program was seen in the lines of runs.
+use Rattle.std.specs.Prelude.{◌≡◌, ◌↔◌, ◌+◌, ◌-◌, ◌^◌, ℕ, List, [], ◌∷◌, ◌++◌, min}
+use Rattle.snl_watch.specs.Counts.{NoneShows}
+
+-- Counts of texts are right for some lines: each is 0 exactly if no line shows its text.
+abbrev pub AreCounts : List (List ℕ) → List ℕ → List (List ℕ) → Type 0
+AreCounts [] [] lines = Unit {0}
+AreCounts (text ∷ texts) (n ∷ counts) lines = ((n ≡ 0) ↔ NoneShows text lines) × AreCounts texts counts lines
+AreCounts [] (n ∷ counts) lines = ⊥
+AreCounts (text ∷ texts) [] lines = ⊥
+
+-- Counts of two runs together, one by one. A count stops at the largest number of 64 bits.
+abbrev pub both : List ℕ → List ℕ → List ℕ
+both (n ∷ ns) (m ∷ ms) = min (n + m) (2 ^ 64 - 1) ∷ both ns ms
+both ns [] = ns
+both [] ms = []
+
+-- Counts that are right for the lines of two runs are right together for the lines of both.
+abbrev pub CountsAddUp : Type 0
+CountsAddUp = (texts : List (List ℕ)) (ns ms : List ℕ) (xs ys : List (List ℕ)) → AreCounts texts ns xs → AreCounts texts ms ys → AreCounts texts (both ns ms) (xs ++ ys)

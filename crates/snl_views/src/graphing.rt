@@ -1,0 +1,125 @@
+//! `graph`: a picture of a program, with what a run showed of it.
+
+ghost use Rattle.std.specs.Prelude.{◌≡◌, ◌-◌, ◌^◌, ◌<◌, ℕ, List, [], Some, IfOk, IfSome, string_bytes};
+ghost use Rattle.snl_views.specs.Graphs.{IsGraph};
+ghost use Rattle.snl_views.specs.Pictures.{drawn, pictured};
+ghost use Rattle.snl_views.specs.Shapes.{charted};
+
+use crate::charting::Charted;
+use crate::drawing::drawn;
+use crate::observing::{Covered, covered_by};
+use crate::pictures::Picture;
+use crate::picturing::picture_of;
+use crate::readying::{Ready, ready_of};
+use snc_args::Job;
+use snl_machine::Sink;
+use snl_trace::{End, Source};
+use std::alloc::{AllocError, Global};
+
+/// A picture of a program.
+#[derive(Drop)]
+pub struct Drawing {
+    /// How the run ended, where there was one.
+    pub end: Option<End>,
+    /// What the picture shows.
+    pub picture: Picture,
+    /// Its text, for `dot` of Graphviz.
+    pub text: Vec<u8>,
+}
+
+/// What `graph` answers.
+#[derive(Drop)]
+pub struct GraphAnswer {
+    /// A line for each message about the source.
+    pub messages: Vec<u8>,
+    /// None where a message is an error: then the trace was not read.
+    pub drawing: Option<Drawing>,
+}
+
+/// The picture of a program that is not run.
+fn plain(alloc: Global, program: Charted) -> Result<Drawing, AllocError>
+    ensures shape { IfOk result (λ d. pictured d.picture ≡ charted program.chart) }
+    ensures text { IfOk result (λ d. d.text.items ≡ drawn d.picture) }
+{
+    let picture = picture_of(alloc, &program.chart, None)?;
+    let text = drawn(alloc, &picture)?;
+    Ok(Drawing {
+        end: None,
+        picture,
+        text,
+    })
+}
+
+/// The picture of a program with what a run over a trace shows.
+fn shown<R: Source + Drop, S: Sink + Drop>(
+    alloc: Global,
+    program: Charted,
+    trace: R,
+    sink: S,
+) -> Result<Drawing, AllocError>
+    requires trace { R.failures trace < 2 ^ 64 - 1 }
+    requires sink { S.failures sink < 2 ^ 64 - 1 }
+    requires untold { (text : List ℕ) → S.told sink ≡ Some text → text ≡ [] }
+    ensures shape { IfOk result (λ d. pictured d.picture ≡ charted program.chart) }
+    ensures text { IfOk result (λ d. d.text.items ≡ drawn d.picture) }
+{
+    let Covered { end, coverage } = covered_by(alloc, program, trace, sink)?;
+    let picture = picture_of(alloc, &coverage.chart, Some(&coverage))?;
+    let text = drawn(alloc, &picture)?;
+    Ok(Drawing {
+        end: Some(end),
+        picture,
+        text,
+    })
+}
+
+/// The picture of a program, with what a run over a trace shows, where there is one.
+fn drawing_of<R: Source + Drop, S: Sink + Drop>(
+    alloc: Global,
+    program: Charted,
+    trace: Option<R>,
+    sink: S,
+) -> Result<Drawing, AllocError>
+    requires trace { IfSome trace (λ t. R.failures t < 2 ^ 64 - 1) }
+    requires sink { S.failures sink < 2 ^ 64 - 1 }
+    requires untold { (text : List ℕ) → S.told sink ≡ Some text → text ≡ [] }
+    ensures shape { IfOk result (λ d. pictured d.picture ≡ charted program.chart) }
+    ensures text { IfOk result (λ d. d.text.items ≡ drawn d.picture) }
+{
+    match trace {
+        Some(trace) => shown(alloc, program, trace, sink),
+        None => plain(alloc, program),
+    }
+}
+
+/// Reads and checks a program and, if it has no error, draws it: a node for each state, and an arrow for each clause, in order,
+/// from its state to where it leads. Over a trace, if there is one, the program runs from its start, and each arrow tells how
+/// often it was taken.
+///
+/// `job` has the options, the macros and the budget, as `snlrun` has them. The lines of the run go to `sink`, which was told
+/// nothing yet. Fails only where memory ran out.
+pub fn graph<R: Source + Drop, S: Sink + Drop>(
+    alloc: Global,
+    source: &[u8],
+    job: &Job,
+    trace: Option<R>,
+    sink: S,
+) -> Result<GraphAnswer, AllocError>
+    requires trace { IfSome trace (λ t. R.failures t < 2 ^ 64 - 1) }
+    requires sink { S.failures sink < 2 ^ 64 - 1 }
+    requires untold { (text : List ℕ) → S.told sink ≡ Some text → text ≡ [] }
+    ensures { IfOk result (IsGraph job.now.options (string_bytes job.now.file) source.now) }
+{
+    let Ready { messages, program } = ready_of(alloc, source, job)?;
+    let Some(program) = program else {
+        return Ok(GraphAnswer {
+            messages,
+            drawing: None,
+        });
+    };
+    let drawing = drawing_of(alloc, program, trace, sink)?;
+    Ok(GraphAnswer {
+        messages,
+        drawing: Some(drawing),
+    })
+}

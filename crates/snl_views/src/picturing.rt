@@ -1,0 +1,175 @@
+//! From the chart of a program, and what was seen of it in a run, to its picture.
+
+ghost use Rattle.std.specs.Prelude.{◌≡◌, map, IfOk};
+ghost use Rattle.snl_views.specs.Pictures.{pictured, pictured_arrows, pictured_set, pictured_state};
+ghost use Rattle.snl_views.specs.Shapes.{charted, charted_arrows, charted_set, charted_state};
+
+use crate::charts::{ArrowChart, Chart, SetChart, StateChart};
+use crate::coverage::Coverage;
+use crate::pictures::{Arrow, Cluster, Node, Picture};
+use crate::pieces::{push_all, push_number};
+use std::alloc::{AllocError, Global};
+
+/// A place in a program: the numbers of a state set and of a state of it, and the number of the state's first clause among all
+/// clauses of the program.
+#[derive(Clone, Copy)]
+struct Place {
+    set: usize,
+    state: usize,
+    first: usize,
+}
+
+/// How often a clause was taken, as its label tells it.
+fn push_taken(label: &mut Vec<u8>, taken: u64, left: u64) -> Result<(), AllocError> {
+    label.extend_from_slice(b"\n")?;
+    push_number(label, taken)?;
+    label.extend_from_slice(b"x")?;
+    if left > 0 {
+        label.extend_from_slice(b", ")?;
+        push_number(label, left)?;
+        label.extend_from_slice(b"x elsewhere")?;
+    }
+    Ok(())
+}
+
+/// The number of a clause, from 1 on, and its condition.
+fn label_of(alloc: Global, clause: usize, condition: &[u8]) -> Result<Vec<u8>, AllocError> {
+    let mut label = Vec::new(alloc);
+    push_number(&mut label, (clause as u64).saturating_add(1))?;
+    let condition: &[u8] = if condition.is_empty() {
+        b"()"
+    } else {
+        condition
+    };
+    push_all(&mut label, &[b": ", condition])?;
+    Ok(label)
+}
+
+/// The arrow of a clause of a number.
+fn arrow_of(
+    alloc: Global,
+    chart: &ArrowChart,
+    coverage: Option<&Coverage>,
+    place: Place,
+    clause: usize,
+) -> Result<Arrow, AllocError>
+    ensures { IfOk result (λ arrow. arrow.target.items ≡ chart.now.target.items) }
+{
+    let target = Vec::from_slice(alloc, chart.target.as_slice())?;
+    let mut label = label_of(alloc, clause, chart.condition.as_slice())?;
+    let mut is_missed = false;
+    if let Some(coverage) = coverage {
+        let taken = coverage.taken(place.set, place.state, clause);
+        let left = coverage.left(place.set, place.state, clause);
+        push_taken(&mut label, taken, left)?;
+        is_missed = coverage.is_missed(place.first.saturating_add(clause), taken);
+    }
+    Ok(Arrow {
+        target,
+        label,
+        is_missed,
+    })
+}
+
+/// The arrows of clauses.
+fn arrows_of(
+    alloc: Global,
+    charts: &[ArrowChart],
+    coverage: Option<&Coverage>,
+    place: Place,
+) -> Result<Vec<Arrow>, AllocError>
+    ensures { IfOk result (λ arrows. pictured_arrows arrows.items ≡ charted_arrows charts.now) }
+{
+    let mut arrows = Vec::new(alloc);
+    for (clause, chart) in charts.iter().enumerate() {
+        let arrow = arrow_of(alloc, chart, coverage, place, clause)?;
+        arrows.push(arrow)?;
+    }
+    Ok(arrows)
+}
+
+/// The node of a state.
+fn node_of(
+    alloc: Global,
+    chart: &StateChart,
+    coverage: Option<&Coverage>,
+    place: Place,
+) -> Result<Node, AllocError>
+    ensures { IfOk result (λ node. pictured_state node ≡ charted_state chart.now) }
+{
+    let name = Vec::from_slice(alloc, chart.name.as_slice())?;
+    let arrows = arrows_of(alloc, chart.arrows.as_slice(), coverage, place)?;
+    Ok(Node { name, arrows })
+}
+
+/// The nodes of states. `next` is the number of their first clause among all, and then that behind their last.
+fn nodes_of(
+    alloc: Global,
+    charts: &[StateChart],
+    coverage: Option<&Coverage>,
+    set: usize,
+    next: &mut usize,
+) -> Result<Vec<Node>, AllocError>
+    ensures { IfOk result (λ nodes. map pictured_state nodes.items
+        ≡ map charted_state charts.now) }
+{
+    let mut nodes = Vec::new(alloc);
+    for (state, chart) in charts.iter().enumerate() {
+        let place = Place {
+            set,
+            state,
+            first: *next,
+        };
+        let node = node_of(alloc, chart, coverage, place)?;
+        nodes.push(node)?;
+        *next = next.saturating_add(chart.arrows.len());
+    }
+    Ok(nodes)
+}
+
+/// The cluster of a state set.
+fn cluster_of(
+    alloc: Global,
+    chart: &SetChart,
+    coverage: Option<&Coverage>,
+    set: usize,
+    next: &mut usize,
+) -> Result<Cluster, AllocError>
+    ensures { IfOk result (λ cluster. pictured_set cluster ≡ charted_set chart.now) }
+{
+    let name = Vec::from_slice(alloc, chart.name.as_slice())?;
+    let nodes = nodes_of(alloc, chart.states.as_slice(), coverage, set, next)?;
+    Ok(Cluster { name, nodes })
+}
+
+/// The clusters of state sets.
+fn clusters_of(
+    alloc: Global,
+    charts: &[SetChart],
+    coverage: Option<&Coverage>,
+) -> Result<Vec<Cluster>, AllocError>
+    ensures { IfOk result (λ clusters. map pictured_set clusters.items
+        ≡ map charted_set charts.now) }
+{
+    let mut clusters = Vec::new(alloc);
+    let mut next = 0usize;
+    for (set, chart) in charts.iter().enumerate() {
+        let cluster = cluster_of(alloc, chart, coverage, set, &mut next)?;
+        clusters.push(cluster)?;
+    }
+    Ok(clusters)
+}
+
+/// The picture of a program: an arrow for each clause, with counts where the program was seen in runs. The only error is that
+/// memory ends.
+pub(crate) fn picture_of(
+    alloc: Global,
+    chart: &Chart,
+    coverage: Option<&Coverage>,
+) -> Result<Picture, AllocError>
+    ensures { IfOk result (λ picture. pictured picture ≡ charted chart.now) }
+{
+    let name = Vec::from_slice(alloc, chart.name.as_slice())?;
+    let clusters = clusters_of(alloc, chart.sets.as_slice(), coverage)?;
+    Ok(Picture { name, clusters })
+}
