@@ -1,8 +1,11 @@
-"""Cases of `snl` that no file of cases can have: a trace that comes slowly, a terminal, much memory, a version, a pipe as FILE."""
+"""Cases of `snl` that no file of cases can have: a trace that comes slowly, a terminal, much memory, a version, a pipe as FILE, suites."""
+import contextlib
 import os
 import pty
+import re
 import subprocess
 import tempfile
+import time
 from dataclasses import dataclass
 from pathlib import Path
 from typing import Callable
@@ -40,6 +43,10 @@ def cases(root):
     yield Tool("snl waits: FILE is a pipe", piped)
     yield Tool("snl waits: more names than are kept", many_names)
     yield Tool("snl waits: memory over many lines as over a few", memory)
+    for name, lines in ("light", 4), ("motor", 3), ("shutter", 2):
+        yield Tool(f"snl search --cover: {name}, as snl cover says of the traces", lambda *it, of=(name, lines): suite(root, *of, *it))
+    yield Tool("snl search --seconds: it stops, and says how much is certain", seconds)
+    yield Tool("snl search: on a terminal it tells how far it has come", far)
 
 
 def called(program, folder, *words, **how):
@@ -118,3 +125,52 @@ def taken(program, folder, count):
         status, kilobytes = peak([program, "waits", "p.st"], folder, stdin)
     assert status == 1, status
     return kilobytes
+
+
+def suite(root, name, lines, program, folder):
+    """The traces that a search leaves take as many clauses as it says, and none is the beginning of another one."""
+    source = str(root / f"examples/{name}.st")
+    status, answer, said = called(program, folder, "search", "--lines", str(lines), "--cover", "traces", source)
+    traces = sorted(Path(folder, "traces").iterdir())
+    words = [it for trace in traces for it in ("--trace", str(trace))]
+    covered = called(program, folder, "cover", *words, source)[1]
+    count = re.search(r"(\d+ of \d+ clauses)\)\n$", answer)
+    if (status, said) != (0, "") or not count or f"{count[1]} taken" not in covered:
+        return f"status {status}, {answer!r}, {said!r}; {covered!r}"
+    texts = [it.read_text() for it in traces]
+    begun = [one for one in texts for other in texts if one is not other and other.startswith(one)]
+    return f"beginnings of others: {begun}" if begun else ""
+
+
+# A program with ever more worlds, each of which takes some time; how many seconds a search of it has, and how much later it may end.
+ENDLESS = """program endless option +s; int x; assign x to "X"; monitor x; int i; int sum;
+ss s { state a { when (x) { for (i = 0; i < 200; i++) {} sum = (sum * 7 + x) % 1000003; x = 0; } state a } }
+"""
+LONG, GIVEN, LATE = ("search", "--values", "X=0,1,2,3,4,5", "--lines", "30", "--seconds", "4", "endless.st"), 4, 20
+
+
+def seconds(program, folder):
+    (folder / "endless.st").write_text(ENDLESS)
+    begun = time.monotonic()
+    status, answer, said = called(program, folder, *LONG)
+    took = time.monotonic() - begun
+    ends = re.fullmatch(r"not all was seen: none up to \d+ lines? \(\d+ worlds; 1 of 1 clause\)", answer.splitlines()[-1])
+    if (status, said) != (7, "") or not ends or took > GIVEN + LATE:
+        return f"status {status}, {answer!r}, {said!r}, {took:.1f} s"
+    return ""
+
+
+def far(program, folder):
+    (folder / "endless.st").write_text(ENDLESS)
+    ours, theirs = pty.openpty()
+    os.set_blocking(ours, False)
+    told = b""
+    with open(theirs, "wb") as stderr:
+        how = {"cwd": folder, "stdin": subprocess.DEVNULL, "stdout": subprocess.PIPE, "stderr": stderr}
+        subprocess.Popen([program, *LONG], **how).communicate(timeout=SECONDS)
+        with contextlib.suppress(BlockingIOError):
+            told = os.read(ours, 4096)
+    os.close(ours)
+    lines = told.decode().splitlines()
+    wrong = [it for it in lines if not re.fullmatch(r"snl: \d+ worlds, \d+ whole levels?", it)]
+    return f"{told!r}" if wrong or not lines else ""

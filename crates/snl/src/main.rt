@@ -7,12 +7,14 @@ mod covering;
 mod graphing;
 mod input;
 mod run;
+mod searching;
 mod traces;
 
 use covering::answered_cover;
 use graphing::answered_graph;
 use input::Input;
 use run::answered_run;
+use searching::answered_search;
 use snc::Status;
 use snc_cli::{source_in, tell, words_of, write};
 use snl_args::{Call, CallFault, Word, read_call};
@@ -24,11 +26,11 @@ use std::process::ExitCode;
 const VERSION: &str = "0.9.0";
 
 fn main(rt: HostRuntime) -> ExitCode {
-    let status = match call_of(&rt) {
+    let code = match call_of(&rt) {
         Ok(call) => answered(&rt, &call),
-        Err(status) => status,
+        Err(status) => status.code(),
     };
-    ExitCode::from(status.code())
+    ExitCode::from(code)
 }
 
 /// What the words of this call ask for. Where they ask for nothing that can be done, the user is told why, and the answer is
@@ -60,16 +62,26 @@ fn told(rt: &HostRuntime, fault: &CallFault) -> Status {
     }
 }
 
-/// Does what a call asks for.
-fn answered(rt: &HostRuntime, call: &Call) -> Status {
-    match source_in(rt, "snl", call.job.file.as_str()) {
-        Ok(source) => match call.word {
-            Word::Waits => answered_waits(rt, source.as_slice(), call),
-            Word::Run => answered_run(rt, source.as_slice(), call),
-            Word::Cover => answered_cover(rt, source.as_slice(), call),
-            Word::Graph => answered_graph(rt, source.as_slice(), call),
-        },
-        Err(status) => status,
+/// Does what a call asks for. Answers the exit status.
+fn answered(rt: &HostRuntime, call: &Call) -> u8 {
+    let source = match source_in(rt, "snl", call.job.file.as_str()) {
+        Ok(source) => source,
+        Err(status) => return status.code(),
+    };
+    let source = source.as_slice();
+    match &call.search {
+        Some(words) => answered_search(rt, source, call, words),
+        None => answered_word(rt, source, call).code(),
+    }
+}
+
+/// Does what a word asks for that is not a search.
+fn answered_word(rt: &HostRuntime, source: &[u8], call: &Call) -> Status {
+    match call.word {
+        Word::Waits => answered_waits(rt, source, call),
+        Word::Run => answered_run(rt, source, call),
+        Word::Cover => answered_cover(rt, source, call),
+        Word::Graph | Word::Search => answered_graph(rt, source, call),
     }
 }
 

@@ -1,13 +1,15 @@
 //! What the words of a call ask for, and what may be wrong with them.
 
 use crate::commands::{for_cover, for_graph, for_run, over_trace};
+use crate::searches::{SearchWords, for_search, search_words};
 use crate::texts::{
     COVER_ABOUT, COVER_MORE, COVER_USAGE, GRAPH_ABOUT, GRAPH_MORE, GRAPH_USAGE, HELP, RUN_ABOUT,
-    RUN_MORE, RUN_USAGE, WAITS_ABOUT, WAITS_MORE, WAITS_USAGE, WORDS,
+    RUN_MORE, RUN_USAGE, SEARCH_ABOUT, SEARCH_MORE, SEARCH_USAGE, WAITS_ABOUT, WAITS_MORE,
+    WAITS_USAGE, WORDS,
 };
 use clap::error::ErrorKind;
 use clap::{ArgMatches, Command, Error};
-use snc_args::{Job, first_refused, options_in_force, rest_of};
+use snc_args::{DEFAULT_BUDGET, Job, first_refused, options_in_force, rest_of};
 use snl_resolve::Options;
 use std::alloc::{AllocError, Global};
 use strsim::levenshtein;
@@ -24,10 +26,12 @@ pub enum Word {
     Cover,
     /// A picture of a program: `snl graph [--no-trace] FILE [MACROS]`.
     Graph,
+    /// Every trace over a small alphabet, the shortest first: `snl search [--never LINE].. FILE [MACROS]`.
+    Search,
 }
 
 /// The names of the words.
-const NAMES: [&str; 4] = ["waits", "run", "cover", "graph"];
+const NAMES: [&str; 5] = ["waits", "run", "cover", "graph", "search"];
 
 /// What a call asks for.
 #[derive(Drop)]
@@ -46,6 +50,8 @@ pub struct Call {
     pub fail_under: u32,
     /// Whether the program is drawn without a run, where a picture is asked for.
     pub no_trace: bool,
+    /// What a search is asked for, where one is.
+    pub search: Option<SearchWords>,
 }
 
 /// Why words ask for nothing that is to be done. `Display` gives the text for the user.
@@ -78,6 +84,7 @@ fn word_of(name: &str) -> Option<Word> {
         "run" => Some(Word::Run),
         "cover" => Some(Word::Cover),
         "graph" => Some(Word::Graph),
+        "search" => Some(Word::Search),
         _ => None,
     }
 }
@@ -141,6 +148,7 @@ fn call_in(
         traces: Vec::new(alloc),
         fail_under: 0,
         no_trace: false,
+        search: None,
     })
 }
 
@@ -190,6 +198,16 @@ fn read_graph(alloc: Global, words: &[&str], options: Options) -> Result<Call, C
     Ok(call)
 }
 
+/// What follows `search`. What is found is run again with the budget that `snlrun` has where nothing is said.
+fn read_search(alloc: Global, words: &[&str], options: Options) -> Result<Call, CallFault> {
+    let command = for_search(alloc, SEARCH_USAGE, SEARCH_ABOUT, SEARCH_MORE)?;
+    let matches = matches_in(alloc, command, words)?;
+    let mut call = call_in(alloc, &matches, Word::Search, options)?;
+    call.job.budget = DEFAULT_BUDGET;
+    call.search = Some(search_words(alloc, &matches)?);
+    Ok(call)
+}
+
 /// What follows a word.
 fn read_word(
     alloc: Global,
@@ -202,6 +220,7 @@ fn read_word(
         Word::Run => read_run(alloc, words, options),
         Word::Cover => read_cover(alloc, words, options),
         Word::Graph => read_graph(alloc, words, options),
+        Word::Search => read_search(alloc, words, options),
     }
 }
 

@@ -4,7 +4,7 @@ use clap::{Arg, ArgAction, Command};
 use std::alloc::{AllocError, Global};
 
 /// FILE.
-fn file_argument<'a>(alloc: Global) -> Arg<'a> {
+pub(crate) fn file_argument<'a>(alloc: Global) -> Arg<'a> {
     Arg::new(alloc, "FILE")
         .required(true)
         .action(ArgAction::Set)
@@ -12,7 +12,7 @@ fn file_argument<'a>(alloc: Global) -> Arg<'a> {
 }
 
 /// MACROS.
-fn macros_argument<'a>(alloc: Global) -> Arg<'a> {
+pub(crate) fn macros_argument<'a>(alloc: Global) -> Arg<'a> {
     Arg::new(alloc, "MACROS")
         .action(ArgAction::Set)
         .help("The macros in the names of channels")
@@ -76,7 +76,7 @@ fn no_trace_argument<'a>(alloc: Global) -> Arg<'a> {
 }
 
 /// `--help`. `clap` would add `-h` beside it, but that is an option of the language.
-fn help_argument<'a>(alloc: Global) -> Arg<'a> {
+pub(crate) fn help_argument<'a>(alloc: Global) -> Arg<'a> {
     Arg::new(alloc, "help")
         .long("help")
         .action(ArgAction::Help)

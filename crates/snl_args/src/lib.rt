@@ -6,6 +6,8 @@
 
 mod calls;
 mod commands;
+mod searches;
 mod texts;
 
 pub use calls::{Call, CallFault, Word, read_call};
+pub use searches::{ChannelValues, SearchWords};

@@ -11,6 +11,7 @@ Words:
   run    A run with notes on what fired and why, blocks that repeat folded, and a summary
   cover  What of a program no run showed: clauses, states, channels
   graph  A picture of a program, for Graphviz
+  search Traces over a small alphabet, the shortest first, for what must not happen
 
 snl WORD --help tells what a word takes, with an example, and snl --version the version.
 
@@ -18,7 +19,7 @@ Options of the language: a sign and letters, as +u (more warnings) or -w (no war
 
 Status: 0 done, 1 no: the program has errors, or the answer of the word is no, 2 the words of
 the call are wrong, 3 the file, the input or the output failed, 4 memory ran out,
-5 the program faulted, 6 a line of the trace is bad.
+5 the program faulted, 6 a line of the trace is bad, 7 a bound stopped a search.
 ";
 
 /// What is told behind words that begin with none that is known.
@@ -30,6 +31,7 @@ Words:
   run    A run with notes on what fired and why, blocks that repeat folded, and a summary
   cover  What of a program no run showed: clauses, states, channels
   graph  A picture of a program, for Graphviz
+  search Traces over a small alphabet, the shortest first, for what must not happen
 
 For more information, try 'snl --help'.
 ";
@@ -100,3 +102,22 @@ Example: snl graph light.st < light.trace | dot -Tsvg > light.svg
 
 Status: 0 done, 1 the program has errors, 2 the words of the call are wrong, 3 the file, the input or
 the output failed, 4 memory ran out, 5 the program faulted, 6 a line of the trace is bad.";
+
+/// What `snl search --help` tells.
+pub(crate) const SEARCH_USAGE: &str =
+    "snl search [±X..] [--never LINE|SS.STATE].. [--like TRACE] [--values NAME=V,V..].. [--first NAME=V].. [--gaps MS,MS..] \
+     [--down NAME].. [--lines K] [--worlds N] [--memory MB] [--seconds S] [--budget N] [--out FILE] [--cover DIR] \
+     FILE [MACROS]";
+
+pub(crate) const SEARCH_ABOUT: &str = "\
+Every trace over a small alphabet, the shortest first, for a fault of the program and for output lines that must
+not come. The values come from the constants of the source. A note tells of each channel that is put twice at one
+time with other values.";
+
+pub(crate) const SEARCH_MORE: &str = "\
+The first line of the answer tells the alphabet, and the lines of a trace stand behind what was found.
+
+Example: snl search --never 'put LAB:LAMP 1' light.st
+
+Status: 0 no such trace does what must not happen, 1 something was found, or the program has errors, 2 the words of
+the call are wrong, 3 a file or the output failed, 4 memory ran out, 6 a line of TRACE is bad, 7 a bound stopped it.";

@@ -5,3 +5,4 @@ pub mod Pieces
 pub mod Clauses
 pub mod Sets
 pub mod Meant
+pub mod Declared

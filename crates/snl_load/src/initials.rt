@@ -1,6 +1,6 @@
 //! What variables, and the buffers of their links, begin with.
 
-ghost use Rattle.std.specs.Prelude.{◌≡◌, ◌++◌, ◌+◌, map, option_map, pos, replicate, slice_get, OnOk, IfOk};
+ghost use Rattle.std.specs.Prelude.{◌≡◌, ◌++◌, ◌+◌, drop, map, option_map, pos, replicate, slice_get, OnOk, IfOk};
 ghost use Rattle.std.specs.List.{flat_map};
 ghost use Rattle.snl_links.specs.LinkViews.{link_view};
 ghost use Rattle.snl_meaning.specs.Effect.{values_of};
@@ -12,6 +12,7 @@ ghost use Rattle.snl_code.specs.Copies.{sets_of};
 ghost use Rattle.snl_load.specs.Initials as spec;
 
 use snl_links::Link;
+use snl_meaning::Offsets;
 use snl_resolve::{Constant, CopyVariable, Scopes, constant_of};
 use snl_syntax::{Expr, Initialiser};
 use std::alloc::{AllocError, Global};
@@ -130,6 +131,60 @@ fn held_among<'p, 'a>(
     None
 }
 
+/// Where variables are declared, each found by its number. The only error is that memory ends.
+fn offsets_of(alloc: Global, variables: &[CopyVariable]) -> Result<Offsets, AllocError>
+    ensures { IfOk result (λ offsets. offsets
+        ≡ spec.offsets_of (map variable_view variables.now)) }
+{
+    let mut offsets = Vec::new(alloc);
+    for number in 0..variables.len() {
+        offsets.push(variables[number].name.pos.offset)?;
+    }
+    Offsets::of(alloc, offsets)
+}
+
+/// The copies after the first.
+fn after_first<'s, 'p, 'a>(sets: &'s [Vec<CopyVariable<'p, 'a>>]) -> &'s [Vec<CopyVariable<'p, 'a>>]
+    ensures { result.now ≡ drop 1 sets.now }
+{
+    if sets.is_empty() {
+        return sets;
+    }
+    &sets[1..]
+}
+
+/// The same of the variables of the first copy. The only error is that memory ends.
+fn first_offsets(alloc: Global, sets: &[Vec<CopyVariable>]) -> Result<Offsets, AllocError>
+    ensures { IfOk result (λ offsets. offsets
+        ≡ spec.offsets_of (spec.first_of (sets_of sets.now))) }
+{
+    if sets.is_empty() {
+        return Offsets::of(alloc, Vec::new(alloc));
+    }
+    offsets_of(alloc, sets[0].as_slice())
+}
+
+/// The variable that is declared at an offset, in the first copy that has it. Those of the first copy, which has most of
+/// them, are found by their offsets, as fast among many as among few.
+fn held_by<'p, 'a>(
+    sets: &[Vec<CopyVariable<'p, 'a>>],
+    offsets: &Offsets,
+    offset: usize,
+) -> Option<CopyVariable<'p, 'a>>
+    requires { offsets.now ≡ spec.offsets_of (spec.first_of (sets_of sets.now)) }
+    ensures { option_map variable_view result ≡ spec.held_among (sets_of sets.now) offset }
+{
+    if sets.is_empty() {
+        return None;
+    }
+    let first = sets[0].as_slice();
+    let number = offsets.number(offset);
+    if number < first.len() {
+        return Some(first[number]);
+    }
+    held_among(after_first(sets), offset)
+}
+
 /// Adds so many zeros. The only error is that memory ends.
 pub fn push_zeros(count: usize, words: &mut Vec<i64>) -> Result<(), AllocError>
     ensures { OnOk result (words.new.items ≡ words.old.items ++ replicate count (pos 0)) }
@@ -150,9 +205,10 @@ pub fn first_buffers(
     ensures { IfOk result (λ words. words.items
         ≡ flat_map (spec.first_buffer (sets_of sets.now)) (map link_view links.now)) }
 {
+    let offsets = first_offsets(alloc, sets)?;
     let mut words = Vec::new(alloc);
     for link in links {
-        match held_among(sets, link.variable.offset) {
+        match held_by(sets, &offsets, link.variable.offset) {
             Some(held) => push_elements(&held, link.first, link.count, &mut words)?,
             None => push_zeros(link.count, &mut words)?,
         }

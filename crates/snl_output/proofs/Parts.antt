@@ -5,7 +5,7 @@ use Rattle.std.specs.Option.{unwrap_or}
 use Rattle.snl_resolve.specs.declared.formats.FormatState.{FormatState}
 use Rattle.snl_resolve.specs.declared.formats.FormatState.TheVariants.{Plain}
 use Rattle.snl_resolve.specs.Formats.{next, converts}
-use Rattle.snl_meaning.specs.Printing.{shown_byte, or_plain, shown, spaced, print_line, put_line}
+use Rattle.snl_meaning.specs.Printing.{first_shown, shown_byte, or_plain, shown, spaced, print_line, put_line}
 use Rattle.snl_output.specs.Held.{IsHeldBack}
 use Rattle.snl_output.specs.Lines.{joined, newline, print_front, put_front}
 use Rattle.snl_output.proofs.Adding.{IsAdded, added-as, added-more}
@@ -48,6 +48,23 @@ pub run-more : (whole : List ℕ) (place : FormatState) (zs : List ℤ) (text : 
     → IsAdded whole (shown place zs (drop (i + n) text)) before held' old new
 run-more whole place zs text i n before held held' old mid new run so_far more =
     added-more whole (slice_range text i (i + n)) _ before held held' old mid new (added-as whole _ _ before held old mid (run-here place zs text i n run) so_far) more
+
+-- what a format writes from a conversion on: the first number, and then what the others write
+pub number-here : (place : FormatState) (zs : List ℤ) (text : List ℕ) (i : ℕ)
+    → (let left = slice_range text i (length text) in shown place zs left ≡ first_shown zs ++ shown place (drop 1 zs) (drop 2 left))
+    → shown place zs (drop i text) ≡ first_shown zs ++ shown place (drop 1 zs) (drop (i + 2) text)
+number-here place zs text i number =
+    let all : slice_range text i (length text) ≡ drop i text = take_all (length text - i) (drop i text) (omega (arith, length-drop i text)) in
+    ap (shown place zs) (sym all) ∙ number ∙ ap (λ left. first_shown zs ++ shown place (drop 1 zs) left) (ap (drop 2) all ∙ drop-drop 2 i text)
+
+-- the number of a conversion was added
+pub number-more : (whole : List ℕ) (place : FormatState) (zs zs' : List ℤ) (text : List ℕ) (i : ℕ) (before held held' : List ℕ) (old mid new : Option (List ℕ))
+    → (let left = slice_range text i (length text) in shown place zs left ≡ first_shown zs ++ shown place (drop 1 zs) (drop 2 left)) → zs' ≡ drop 1 zs
+    → IsAdded whole (shown place zs (drop i text)) before held old mid → IsHeldBack (held ++ first_shown zs) held' mid new
+    → IsAdded whole (shown place zs' (drop (i + 2) text)) before held' old new
+number-more whole place zs zs' text i before held held' old mid new number rest so_far more =
+    added-as whole _ _ before held' old new (ap (λ (l : List ℤ). shown place l (drop (i + 2) text)) (sym rest))
+    (added-more whole (first_shown zs) _ before held held' old mid new (added-as whole _ _ before held old mid (number-here place zs text i number) so_far) more)
 
 -- three pieces
 joined-three : (a b c : List ℕ) → joined (a ∷ b ∷ c ∷ []) ≡ a ++ b ++ c

@@ -1,6 +1,6 @@
 //! A line on its way to a sink.
 
-ghost use Rattle.std.specs.Prelude.{◌≡◌, ◌-◌, ◌^◌, ◌<◌, ◌++◌, [], is_err, map};
+ghost use Rattle.std.specs.Prelude.{◌≡◌, ◌-◌, ◌^◌, ◌<◌, ◌∷◌, ◌++◌, [], is_err, map};
 ghost use Rattle.snl_output.specs.Devices.{counted, Wrote};
 ghost use Rattle.snl_output.specs.Held.{Adds};
 ghost use Rattle.snl_output.specs.Lines.{joined};
@@ -41,6 +41,20 @@ impl Line {
             return Ok(());
         }
         self.pass_on(piece, sink)
+    }
+
+    /// Adds a byte. It goes to its place without a copy of a slice.
+    #[inline(always)]
+    pub fn push<S: Sink>(&mut self, byte: u8, sink: &mut S) -> Result<(), SinkFault>
+        requires { S.failures sink.old < 2 ^ 64 - 1 }
+        ensures told { Adds result (self.old.held.items ++ byte ∷ []) self.new.held.items
+            (S.told sink.old) (S.told sink.new) }
+        ensures failures { S.failures sink.new ≡ counted (is_err result) (S.failures sink.old) }
+    {
+        if self.held.try_push(byte).is_ok() {
+            return Ok(());
+        }
+        self.pass_on(&[byte], sink)
     }
 
     /// Hands on what is held back, and then a piece for which there was no room.

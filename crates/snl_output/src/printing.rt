@@ -1,6 +1,6 @@
 //! The line of a `printf`: its format with the numbers in it.
 
-ghost use Rattle.std.specs.Prelude.{◌≡◌, ◌-◌, ◌^◌, ◌<◌, ◌≤◌, ◌++◌, [], ℤ, List, drop, take, length, is_err};
+ghost use Rattle.std.specs.Prelude.{◌≡◌, ◌==◌, ◌||◌, ◌-◌, ◌^◌, ◌<◌, ◌≤◌, ◌++◌, [], ℤ, List, drop, take, length, not, is_err, IfOk, IsTrue};
 ghost use Rattle.snl_output.specs.Devices.{counted, Wrote};
 ghost use Rattle.snl_output.specs.Held.{Adds};
 ghost use Rattle.snl_output.specs.Lines.{print_front};
@@ -59,6 +59,14 @@ fn after_first(numbers: &[i64]) -> &[i64]
     &numbers[1..]
 }
 
+/// Whether a byte of a format writes itself. Small letters, which most are, are told by one comparison.
+#[inline(always)]
+fn writes_itself(byte: u8) -> bool
+    ensures { result ≡ not (byte == 92 || byte == 37 || byte == 9) }
+{
+    byte > b'\\' || (byte != b'%' && byte != b'\\' && byte != b'\t')
+}
+
 /// How many bytes from the front on write themselves: up to the first that does not; 0 within an escape or a conversion.
 #[inline(always)]
 fn plain_run(state: FormatState, text: &[u8]) -> usize
@@ -70,14 +78,41 @@ fn plain_run(state: FormatState, text: &[u8]) -> usize
         return 0;
     };
     for (run, byte) in text.iter().enumerate() {
-        if *byte == b'%' || *byte == b'\\' || *byte == b'\t' {
+        if !writes_itself(*byte) {
             return run;
         }
     }
     text.len()
 }
 
-/// What the bytes of a format write. Bytes that write themselves are added as one piece.
+/// Adds bytes that write themselves. Between two conversions there is often one alone.
+#[inline(always)]
+fn add_run<S: Sink>(line: &mut Line, run: &[u8], sink: &mut S) -> Result<(), SinkFault>
+    requires { S.failures sink.old < 2 ^ 64 - 1 }
+    ensures told { Adds result (line.old.held.items ++ run.now) line.new.held.items
+        (S.told sink.old) (S.told sink.new) }
+    ensures failures { S.failures sink.new ≡ counted (is_err result) (S.failures sink.old) }
+{
+    match run {
+        [byte] => line.push(*byte, sink),
+        _ => line.add(run, sink),
+    }
+}
+
+/// Whether a conversion `%d` stands there.
+#[inline(always)]
+fn is_conversion(state: FormatState, text: &[u8]) -> bool
+    ensures within { IsTrue result → 2 ≤ length text.now }
+    ensures shown { IsTrue result → (numbers : List ℤ) → spec.shown state numbers text.now
+        ≡ spec.first_shown numbers ++ spec.shown state (drop 1 numbers) (drop 2 text.now) }
+{
+    let FormatState::Plain = state else {
+        return false;
+    };
+    matches!(text, [b'%', b'd', ..])
+}
+
+/// What the bytes of a format write. Bytes that write themselves are added as one piece, and a number by one step.
 fn add_text<S: Sink>(
     line: &mut Line,
     text: &[u8],
@@ -94,9 +129,14 @@ fn add_text<S: Sink>(
     let mut left = numbers;
     let mut at = 0;
     while at < text.len() {
+        if is_conversion(state, &text[at..]) {
+            left = add_next(line, left, sink)?;
+            at += 2;
+            continue;
+        }
         let run = plain_run(state, &text[at..]);
         if run > 0 {
-            line.add(&text[at..at + run], sink)?;
+            add_run(line, &text[at..at + run], sink)?;
             at += run;
             continue;
         }
@@ -173,6 +213,29 @@ fn add_plain<S: Sink>(line: &mut Line, byte: u8, sink: &mut S) -> Result<(), Sin
     }
 }
 
+/// The first of some numbers, in decimals; nothing where there is none. The answer is those behind it.
+#[inline(always)]
+fn add_next<'n, S: Sink>(
+    line: &mut Line,
+    numbers: &'n [i64],
+    sink: &mut S,
+) -> Result<&'n [i64], SinkFault>
+    requires { S.failures sink.old < 2 ^ 64 - 1 }
+    ensures told { Adds result (line.old.held.items ++ spec.first_shown numbers.now)
+        line.new.held.items (S.told sink.old) (S.told sink.new) }
+    ensures failures { S.failures sink.new ≡ counted (is_err result) (S.failures sink.old) }
+    ensures behind { IfOk result (λ behind. behind.now ≡ drop 1 numbers.now) }
+{
+    match numbers {
+        [first, behind @ ..] => {
+            let mut digits = Buffer::new();
+            line.add(digits.format(*first).as_bytes(), sink)?;
+            Ok(behind)
+        }
+        [] => Ok(numbers),
+    }
+}
+
 /// The first of some numbers, in decimals; nothing where there is none.
 fn add_first<S: Sink>(line: &mut Line, numbers: &[i64], sink: &mut S) -> Result<(), SinkFault>
     requires { S.failures sink.old < 2 ^ 64 - 1 }
@@ -180,11 +243,8 @@ fn add_first<S: Sink>(line: &mut Line, numbers: &[i64], sink: &mut S) -> Result<
         line.new.held.items (S.told sink.old) (S.told sink.new) }
     ensures failures { S.failures sink.new ≡ counted (is_err result) (S.failures sink.old) }
 {
-    match numbers {
-        [first, ..] => {
-            let mut digits = Buffer::new();
-            line.add(digits.format(*first).as_bytes(), sink)
-        }
-        [] => add_nothing(line, sink),
+    match add_next(line, numbers, sink) {
+        Ok(_) => Ok(()),
+        Err(fault) => Err(fault),
     }
 }

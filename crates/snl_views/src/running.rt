@@ -21,9 +21,9 @@ use snc::Status;
 use snc_args::Job;
 use snl_machine::{Machine, Sink};
 use snl_trace::{End, Source, run};
-use snl_watch::{ByLine, Folder, Follower, HeardTrace, Legend, Moment, Notes, Teller};
+use snl_watch::{ByLine, Folder, Follower, HeardTrace, Legend, Moments, Notes, Teller};
 use std::alloc::{AllocError, Global};
-use std::cell::Cell;
+use std::cell::RefCell;
 use std::mem;
 
 /// What `run` answers.
@@ -52,7 +52,7 @@ fn ran_over<R: Source + Drop, S: Sink>(
     machine: &mut Machine,
     trace: R,
     sink: &mut S,
-    moment: &Cell<Moment>,
+    moments: &RefCell<Moments>,
 ) -> Result<Ran, AllocError>
     requires trace { R.failures trace < 2 ^ 64 - 1 }
     requires sink { S.failures sink.old < 2 ^ 64 - 1 }
@@ -68,7 +68,7 @@ fn ran_over<R: Source + Drop, S: Sink>(
     let names = names_of(alloc, machine)?;
     let heard = HeardTrace::new(alloc, names)?;
     let lines = ByLine::new(alloc, trace)?;
-    let mut follower = Follower::new(lines, heard, moment);
+    let mut follower = Follower::new(lines, heard, moments);
     let end = run(machine, &mut follower, sink);
     let heard = follower.into_heard();
     if heard.ran_out() {
@@ -130,13 +130,13 @@ struct Told<K> {
 fn notes_of<'c>(
     alloc: Global,
     stage: &mut Stage,
-    moment: &'c Cell<Moment>,
+    moments: &'c RefCell<Moments>,
 ) -> Result<Notes<'c>, AllocError>
     ensures { stage.new.prepared ≡ stage.old.prepared }
 {
     let channels = names_of(alloc, &stage.prepared.machine)?;
     let sets = mem::replace(&mut stage.sets, Vec::new(alloc));
-    Notes::new(alloc, Legend { sets, channels }, moment)
+    Notes::new(alloc, Legend { sets, channels }, moments)
 }
 
 /// What is known of a program that is staged, and of its run.
@@ -166,15 +166,15 @@ fn whole_of<R: Source + Drop, K: Sink + Drop>(
         (world_held stage.old.prepared.machine) trace (shown (K.told sink))
         (shown (K.told told.sink)) told.end) }
 {
-    let moment = Cell::new(Moment::new());
-    let notes = notes_of(alloc, stage, &moment)?;
+    let moments = RefCell::new(Moments::new(alloc)?);
+    let notes = notes_of(alloc, stage, &moments)?;
     let mut teller = Teller::new(sink, notes);
     let ran = ran_over(
         alloc,
         &mut stage.prepared.machine,
         trace,
         &mut teller,
-        &moment,
+        &moments,
     )?;
     let Ran { end, heard } = ran;
     let scene = scene_of(source, stage);
@@ -209,15 +209,15 @@ fn folded_of<R: Source + Drop, K: Sink + Drop, W: Sink + Drop>(
         W.told told.sink.1 ≡ Some run → K.told told.sink.0 ≡ Some output →
         ∥ IsFolded run output ∥₁) }
 {
-    let moment = Cell::new(Moment::new());
-    let notes = notes_of(alloc, stage, &moment)?;
+    let moments = RefCell::new(Moments::new(alloc)?);
+    let notes = notes_of(alloc, stage, &moments)?;
     let mut folder = Folder::new(alloc, sink, witness, notes)?;
     let ran = ran_over(
         alloc,
         &mut stage.prepared.machine,
         trace,
         &mut folder,
-        &moment,
+        &moments,
     )?;
     let Ran { end, heard } = ran;
     if folder.ran_out() {

@@ -17,6 +17,15 @@ fn push_end(out: &mut Vec<u8>, what: &[u8], ms: u64, line: u64) -> Result<(), Al
     out.extend_from_slice(b"\n")
 }
 
+/// The line of the trace at which a run ended, and its time then in milliseconds. Several lines are given to it at once, and it
+/// may end at one of them; where they ran out, it is the last.
+fn line_of(end: End, notes: &Notes, ms: u64) -> u64 {
+    match end {
+        End::ProgramEnded | End::Fault(_, _) => notes.line_reached(ms),
+        _ => notes.lines(),
+    }
+}
+
 /// Adds which line of the trace is bad.
 fn push_bad_line(out: &mut Vec<u8>, number: u128) -> Result<(), AllocError> {
     out.extend_from_slice(b"# bad line ")?;
@@ -58,7 +67,7 @@ fn push_sets(out: &mut Vec<u8>, notes: &Notes) -> Result<(), AllocError> {
             return Ok(());
         };
         push_all(out, &[b"# ", set.name.as_slice()])?;
-        push_all(out, &[b" in ", standing.state.as_slice()])?;
+        push_all(out, &[b" in ", standing.state()])?;
         push_since(out, standing.since, number as u64, count)?;
     }
     Ok(())
@@ -119,7 +128,8 @@ pub(crate) fn summary_of(
     if standing.ran_out() {
         return Err(AllocError);
     }
-    push_how(&mut out, end, scene.machine.time(), notes.lines())?;
+    let time = scene.machine.time();
+    push_how(&mut out, end, time, line_of(end, notes, time))?;
     if standing.has_begun() {
         push_sets(&mut out, notes)?;
     } else if end != End::SinkFailed {

@@ -7,6 +7,7 @@ pub mod OperandLaws
 pub mod Spaced
 pub mod Silence
 pub mod Frames
+pub mod Usual
 pub mod UnderWay
 pub mod Onward
 pub mod Binding

@@ -5,6 +5,7 @@ pub mod Queues
 pub mod Views
 pub mod Running
 pub mod Steps
+pub mod Usual
 pub mod Homes
 pub mod Lending
 pub mod Asking

@@ -93,6 +93,7 @@ pub fn call(
 }
 
 /// The end of the innermost call: answers where it goes on.
+#[inline(always)]
 pub fn go_back(context: &PieceContext, store: &Store, calls: &mut Calls, operands: &Stack) -> usize
     ghost pc: { ℕ }
     requires { CanStep (done_by (context_of context.now calls.old operands.now)

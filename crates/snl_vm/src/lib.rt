@@ -8,7 +8,6 @@ mod contexts;
 mod counting;
 mod elements;
 mod homes;
-mod leads;
 mod linking;
 mod marks;
 mod memory;

@@ -7,6 +7,7 @@ use Rattle.std.proofs.lemmas.List.Elements.{All-append, All-cons, All-nil, All-p
 use Rattle.circular_buffer.proofs.Places.{slice_get-append_right}
 use Rattle.circular_buffer.specs.Buffer.{keep_last}
 use Rattle.std.proofs.lemmas.Option.{none-some, same_Some}
+use Rattle.snl_output.proofs.Writing.{told_more-told_more}
 use Rattle.snl_output.specs.Devices.{told_more, Wrote}
 use Rattle.snl_output.specs.declared.sinks.SinkFault.{SinkFault}
 use Rattle.std.specs.Result.{OnOk}
@@ -354,3 +355,32 @@ finished-by (Ok done) line waiting notes recent block witness told mid new folds
 pub none-of : (xs : List ℕ) → length xs ≡ 0 → xs ≡ []
 none-of [] none = refl
 none-of (x ∷ xs) none = absurd (omega (arith, none))
+
+-- what is folded stays where the same lines are kept
+pub recents-as : (run output line : List ℕ) (recent recent' : Recent) (block : Block) → recent'.texts ≡ recent.texts → Folds run output line recent block →
+    Folds run output line recent' block
+recents-as run output line recent recent' block same f = record {
+  lines = f.lines;
+  pieces = f.pieces;
+  held = f.held;
+  older = f.older;
+  cut = f.cut;
+  output_is = f.output_is;
+  noted = f.noted;
+  held_noted = f.held_noted;
+  held_is = f.held_is;
+  count_is = f.count_is;
+  turning = f.turning;
+  known = f.known ∙ ap (λ t. f.older ++ map (λ text. text.items) t.items) (sym same);
+}
+
+-- what holds after a call that went well, where something that follows from it is asked for
+pub on-ok : {A E : Type 0} (r : Result A E) (P Q : Type 0) → (P → Q) → OnOk r P → OnOk r Q
+on-ok (Ok x) P Q f p = f p
+on-ok (Err e) P Q f p = p
+
+-- a text and another behind it were written
+pub wrote-both : {A : Type 0} (r : Result A SinkFault) (first second : List ℕ) (old mid new : Option (List ℕ)) → mid ≡ told_more old first → Wrote r second mid new →
+    OnOk r (new ≡ told_more old (first ++ second))
+wrote-both (Ok x) first second old mid new one two = two ∙ ap (λ t. told_more t second) one ∙ told_more-told_more old first second
+wrote-both (Err e) first second old mid new one two = tt

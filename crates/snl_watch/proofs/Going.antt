@@ -1,10 +1,10 @@
 -- Counts while a text goes on.
-use Rattle.std.proofs.Common.{◌≡◌, ◌==◌, ◌&&◌, ◌+◌, ◌-◌, ◌<◌, ◌≤◌, ◌^◌, ◌↔◌, ◌⊎◌, ℕ, zero, suc, Bool, true, false, cond, if◌then◌else◌, nat_lt, min, inl, inr, List, [], ◌∷◌, ◌++◌, Option, None, Some, length, take, refl, sym, ap, ◌∙◌, subst, arith, length-append, append-nil, replicate, get_or, option_map, slice_index_or, slice_set}
+use Rattle.std.proofs.Common.{◌≡◌, ◌==◌, ◌&&◌, ◌+◌, ◌-◌, ◌<◌, ◌≤◌, ◌^◌, ◌↔◌, ◌⊎◌, ℕ, zero, suc, Bool, true, false, cond, if◌then◌else◌, nat_lt, min, inl, inr, List, [], ◌∷◌, ◌++◌, Option, None, Some, length, take, refl, sym, ap, ◌∙◌, subst, arith, length-append, append-nil, append_assoc, not, replicate, get_or, option_map, slice_index_or, slice_set}
 use Rattle.std.specs.Char.{is_ascii_digit}
 use Rattle.std.specs.List.{All, fold, list_all}
 use Rattle.std.proofs.Math.Seq.{take-nil}
 use Rattle.std.specs.Str.{bytes_eq}
-use Rattle.std.proofs.lemmas.Bool.{cases_Bool, cases_lt, cases_eq, and_parts, lt-ltb, le-ltb}
+use Rattle.std.proofs.lemmas.Bool.{cases_Bool, cases_lt, cases_eq, and_parts, lt-ltb, le-ltb, not-true}
 use Rattle.std.proofs.lemmas.List.{length-take-le, take_all, take-append-le, length-set, get_or-set_same, get_or-set_other, get_or-replicate, length-replicate}
 use Rattle.std.proofs.lemmas.List.Quantifiers.{position-Some}
 use Rattle.std.proofs.lemmas.Slice.Eq.{bytes_eq-Decides}
@@ -12,6 +12,8 @@ use Rattle.std.proofs.lemmas.List.Sums.{fold-append}
 use Rattle.std.proofs.lemmas.List.Folds.{list_all-append}
 use Rattle.snl_watch.specs.Counts.{Cut, Reading, after, NoneShows, behind_digits, count_at, count_in, counted, counted_at, counts_of, cut, cut_on, kept, no_cut, place_of, reading_of, step, with_byte, zeros}
 use Rattle.snl_output.specs.Devices.{told_more}
+use Rattle.snl_watch.specs.Folding.{without_time}
+use Rattle.snl_watch.specs.Folds.{ends_line, is_in_line}
 use Rattle.snl_watch.specs.Laws.{CountsGoOn, UncountedIsUnseen, ZeroIsNone}
 
 -- what follows the digits, once a byte came that is behind a byte which is no digit
@@ -239,3 +241,32 @@ uncounted-is-unseen keys room lines key n is =
       λ zero j d below same. both.0 (c.count ∙ zero) j d below (shows-left keys room c.place _ key c.few c.found same),
       λ none. sym c.count ∙ both.1 (λ j d below place. none j d below (shows-right keys room c.place _ key c.few c.found place)),
     )
+
+-- ---- a line that comes whole
+
+-- a line that ends, of which some has begun
+line-ends : (keys : List (List ℕ)) (room : ℕ) (begun line counts : List ℕ) → ends_line line ≡ true → is_in_line line ≡ true →
+    after keys room (list_all is_ascii_digit begun, take room (behind_digits begun), counts) line
+    ≡ (true, [], counted keys counts (take room (behind_digits (begun ++ take (length line - 1) line))))
+line-ends keys room begun [] counts ends one = absurd (cc)
+line-ends keys room begun (b ∷ []) counts ends one = rw ends (λ j. (true, [], counted keys counts (take room (behind_digits (sym (append-nil begun) j)))))
+line-ends keys room begun (b ∷ c ∷ bs) counts ends one =
+    let parts = and_parts (not (b == 10)) (is_in_line (c ∷ bs)) one in
+    let other : (b == 10) ≡ false = not-true (b == 10) parts.0 in
+    let first : step keys room (list_all is_ascii_digit begun, take room (behind_digits begun), counts) b
+    ≡ (list_all is_ascii_digit (begun ++ b ∷ []), take room (behind_digits (begun ++ b ∷ [])), counts) = rw other (step-line room begun counts b) in
+    let size : length (b ∷ c ∷ bs) - 1 ≡ suc (length (c ∷ bs) - 1) = omega arith in
+    let front : (begun ++ b ∷ []) ++ take (length (c ∷ bs) - 1) (c ∷ bs) ≡ begun ++ take (length (b ∷ c ∷ bs) - 1) (b ∷ c ∷ bs) =
+    append_assoc begun (b ∷ []) (take (length (c ∷ bs) - 1) (c ∷ bs)) ∙ ap (λ k. begun ++ take k (b ∷ c ∷ bs)) (sym size) in
+    ap (λ r. after keys room r (c ∷ bs)) first ∙ line-ends keys room (begun ++ b ∷ []) (c ∷ bs) counts ends parts.1
+    ∙ (λ j. (true, [], counted keys counts (take room (behind_digits (front j)))))
+
+-- a line is counted by what follows its digits
+pub line-counted : (keys : List (List ℕ)) (room : ℕ) (line counts : List ℕ) → ends_line line ≡ true → is_in_line line ≡ true →
+    after keys room (true, [], counts) line ≡ (true, [], counted keys counts (take room (behind_digits (take (length line - 1) line))))
+line-counted keys room line counts ends one = (λ j. after keys room (true, sym (take-nil room) j, counts) line) ∙ line-ends keys room [] line counts ends one
+
+-- the two names of what follows digits
+pub without-digits : (xs : List ℕ) → without_time xs ≡ behind_digits xs
+without-digits [] = refl
+without-digits (x ∷ xs) = ap (λ rest. if is_ascii_digit x then rest else x ∷ xs) (without-digits xs)

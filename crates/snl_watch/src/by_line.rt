@@ -7,6 +7,7 @@ ghost use Rattle.snl_trace.specs.Sources.{IsGiven, IsShort};
 ghost use Rattle.snl_watch.specs.Window.{window, behind};
 
 use crate::held::Held;
+use crate::line_ends::front_line;
 use snl_trace::{Source, SourceFault};
 use std::alloc::{AllocError, Global};
 
@@ -74,7 +75,7 @@ impl<R: Source> ByLine<R> {
     }
 
     /// Asks the source until a line is there.
-    fn fill(&mut self) -> Result<(), SourceFault>
+    pub(crate) fn fill(&mut self) -> Result<(), SourceFault>
         requires { R.failures self.old.inner < 2 ^ 64 - 1 }
         ensures same { behind (window self.new.held) (R.rest self.new.inner)
             ≡ behind (window self.old.held) (R.rest self.old.inner) }
@@ -90,15 +91,24 @@ impl<R: Source> ByLine<R> {
         Ok(())
     }
 
-    /// Gives the first line, as far as a room takes it.
-    fn give(&mut self, room: &mut [u8]) -> usize
-        requires { (self.old.ended ≡ true) ⊎ (0 < length (window self.old.held)) }
+    /// What came and was not given on.
+    pub(crate) fn text(&self) -> &[u8]
+        ensures { result.now ≡ window self.now.held }
+    {
+        self.held.text()
+    }
+
+    /// Gives the first bytes of that, so many, or as many of them as a room takes.
+    pub(crate) fn give(&mut self, most: usize, room: &mut [u8]) -> usize
+        requires filled { (self.old.ended ≡ true) ⊎ (0 < length (window self.old.held)) }
+        requires within { most ≤ length (window self.old.held) }
+        requires some { most ≡ 0 → window self.old.held ≡ [] }
         ensures count { result ≤ length room.old }
         ensures given { IsGiven (behind (window self.old.held) (R.rest self.old.inner)) result
             room.new (behind (window self.new.held) (R.rest self.new.inner)) }
         ensures failures { R.failures self.new.inner ≡ R.failures self.old.inner }
     {
-        self.held.give(room)
+        self.held.give(most, room)
     }
 }
 
@@ -109,6 +119,7 @@ impl<R: Source> Source for ByLine<R> {
 
     fn read(&mut self, room: &mut [u8]) -> Result<usize, SourceFault> {
         self.fill()?;
-        Ok(self.give(room))
+        let most = front_line(self.text());
+        Ok(self.give(most, room))
     }
 }

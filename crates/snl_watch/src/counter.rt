@@ -1,9 +1,11 @@
 //! Counts of lines that are known before, while they come in pieces. It takes no memory while it counts.
 
-ghost use Rattle.std.specs.Prelude.{◌≡◌, ◌≤◌, length, vec_capacity, IfOk};
+ghost use Rattle.std.specs.Prelude.{◌≡◌, ◌≤◌, ◌-◌, [], Some, length, take, true, vec_capacity, IfOk, IsTrue};
 ghost use Rattle.snl_watch.specs.Counts as spec;
+ghost use Rattle.snl_watch.specs.Folds.{ends_line, is_in_line};
 ghost use Rattle.snl_watch.specs.Sets.{names_in};
 
+use crate::line_ends::{digits_of, ends_line, is_one_line};
 use crate::trail::Trail;
 use indexmap::IndexSet;
 use snl_output::Fired;
@@ -61,9 +63,39 @@ impl Counter {
         ensures keys { self.new.keys ≡ self.old.keys }
         ensures room { self.new.room ≡ self.old.room }
     {
+        if self.timed && self.rest.is_empty() && ends_line(piece) && is_one_line(piece) {
+            self.take_line(piece);
+        } else {
+            self.take_each(piece);
+        }
+    }
+
+    /// The same, byte by byte.
+    fn take_each(&mut self, piece: &[u8])
+        ensures seen { seen self.new ≡ spec.after (names_in self.old.keys) self.old.room
+            (seen self.old) piece.now }
+        ensures keys { self.new.keys ≡ self.old.keys }
+        ensures room { self.new.room ≡ self.old.room }
+    {
         for byte in piece {
             self.step(*byte);
         }
+    }
+
+    /// Takes a line, of which nothing but digits came before. Most pieces of a run are lines.
+    #[inline(always)]
+    fn take_line(&mut self, line: &[u8])
+        requires timed { self.old.timed ≡ true }
+        requires begun { self.old.rest.items ≡ [] }
+        requires ends { ends_line line.now ≡ true }
+        requires one { is_in_line line.now ≡ true }
+        ensures seen { seen self.new ≡ spec.after (names_in self.old.keys) self.old.room
+            (seen self.old) line.now }
+        ensures keys { self.new.keys ≡ self.old.keys }
+        ensures room { self.new.room ≡ self.old.room }
+    {
+        let text = text_of(line, self.room);
+        count(text, &self.keys, &mut self.counts, &mut self.trail);
     }
 
     /// Takes a byte.
@@ -74,28 +106,17 @@ impl Counter {
         ensures room { self.new.room ≡ self.old.room }
     {
         if byte == b'\n' {
-            self.count();
+            count(
+                self.rest.as_slice(),
+                &self.keys,
+                &mut self.counts,
+                &mut self.trail,
+            );
             self.rest.clear();
             self.timed = true;
         } else if !(self.timed && byte.is_ascii_digit()) {
             self.timed = false;
             self.keep(byte);
-        }
-    }
-
-    /// Counts the line that has come.
-    fn count(&mut self)
-        ensures seen { seen self.new ≡ spec.with_counts (seen self.old)
-            (spec.counted (names_in self.old.keys) self.old.counts.items self.old.rest.items) }
-        ensures keys { self.new.keys ≡ self.old.keys }
-        ensures room { self.new.room ≡ self.old.room }
-    {
-        let key = place(&self.keys, self.rest.as_slice());
-        self.trail.hear(key, self.rest.as_slice());
-        if let Some(key) = key {
-            if let Some(count) = self.counts.get_mut(key) {
-                *count = count.saturating_add(1);
-            }
         }
     }
 
@@ -140,6 +161,54 @@ impl Counter {
     /// What became of clauses, states and channels.
     pub fn into_trail(self) -> Trail {
         self.trail
+    }
+}
+
+/// What follows the digits of a line, without its newline, as far as it is looked at.
+#[inline(always)]
+fn text_of(line: &[u8], room: usize) -> &[u8]
+    requires { ends_line line.now ≡ true }
+    ensures { result.now ≡ take room (spec.behind_digits
+        (take (length line.now - 1) line.now)) }
+{
+    let front = &line[..line.len() - 1];
+    let text = &front[digits_of(front)..];
+    &text[..text.len().min(room)]
+}
+
+/// Counts a line that has come, by what follows its digits.
+fn count(text: &[u8], keys: &IndexSet<Vec<u8>>, counts: &mut Vec<u64>, trail: &mut Trail)
+    ensures { counts.new.items ≡ spec.counted (names_in keys.now) counts.old.items text.now }
+{
+    let key = likely_place(keys, trail.expected(), text);
+    trail.hear(key, text);
+    if let Some(key) = key {
+        if let Some(count) = counts.get_mut(key) {
+            *count = count.saturating_add(1);
+        }
+    }
+}
+
+/// The number of a key that is likely to have a certain one.
+#[inline(always)]
+fn likely_place(keys: &IndexSet<Vec<u8>>, likely: Option<usize>, name: &[u8]) -> Option<usize>
+    ensures { result ≡ spec.place_of (names_in keys.now) name.now }
+{
+    match likely {
+        Some(number) if is_at(keys, number, name) => Some(number),
+        _ => place(keys, name),
+    }
+}
+
+/// Whether the key of a number has a name. No two keys have the same one.
+#[inline(always)]
+fn is_at(keys: &IndexSet<Vec<u8>>, number: usize, name: &[u8]) -> bool
+    ensures { IsTrue result → spec.place_of (names_in keys.now) name.now ≡ Some number }
+{
+    let _unique = keys.iter();
+    match keys.get_index(number) {
+        Some(key) => key.as_slice() == name,
+        None => false,
     }
 }
 

@@ -8,10 +8,10 @@ ghost use Rattle.snl_watch.specs.Folding.{without_time};
 ghost use Rattle.snl_watch.specs.Folds.{Folds, TellsMore, ends_line, is_in_line};
 
 use crate::block::Block;
+use crate::line_ends::digits_of;
 use crate::places::LinePlace;
-use crate::recent::{Recent, Text};
-use crate::writing::write_pieces;
-use arrayvec::ArrayVec;
+use crate::recent::Recent;
+use crate::writing::write_whole;
 use snl_output::{Sink, SinkFault};
 
 /// Notes, where they are extra lines and nothing else; else none.
@@ -25,36 +25,20 @@ pub(crate) fn noted<'t>(notes: &'t [u8]) -> &'t [u8]
     }
 }
 
-/// How many digits a line begins with.
-fn digits_of(line: &[u8]) -> usize
-    ensures within { result ≤ length line.now }
-    ensures left { drop result line.now ≡ without_time line.now }
-{
-    let mut count = 0;
-    for byte in line {
-        if !byte.is_ascii_digit() {
-            return count;
-        }
-        count += 1;
-    }
-    count
-}
+/// How many bytes a line of a block has at most, without its time.
+const TEXT: usize = 256;
 
-/// A line without its time; None where it is too long for a block.
-fn text_without_time(line: &[u8]) -> Option<Text>
-    ensures { IfSome result (λ text. text.items ≡ without_time line.now) }
+/// Holds a line without its time; answers whether it may be in a block: whether it is not too long, and memory was found.
+fn holds(line: &[u8], recent: &mut Recent) -> bool
+    ensures next { result ≡ true → recent.new.next.items ≡ without_time line.now }
+    ensures texts { recent.new.texts ≡ recent.old.texts }
 {
-    let mut text = ArrayVec::new();
-    if text
-        .try_extend_from_slice(&line[digits_of(line)..])
-        .is_err()
-    {
-        return None;
-    }
-    Some(text)
+    let text = &line[digits_of(line)..];
+    text.len() <= TEXT && recent.hold(text).is_ok()
 }
 
 /// Writes what is left of a block, and behind it a line with the notes in front.
+#[inline(always)]
 fn print<'t, S: Sink>(
     line: &'t [u8],
     note: &'t [u8],
@@ -67,12 +51,13 @@ fn print<'t, S: Sink>(
     ensures failures { S.failures sink.new ≡ counted (is_err result) (S.failures sink.old) }
 {
     block.write(sink)?;
-    write_pieces(sink, &[note, line])
+    write_whole(sink, note)?;
+    write_whole(sink, line)
 }
 
-/// Ends a line that may be in a block.
+/// Ends a line that may be in a block, and is held without its time.
+#[inline(always)]
 fn end_text<'t, S: Sink>(
-    text: Text,
     line: &'t [u8],
     note: &'t [u8],
     recent: &mut Recent,
@@ -80,7 +65,7 @@ fn end_text<'t, S: Sink>(
     sink: &mut S,
 ) -> Result<(), SinkFault>
     requires failures { S.failures sink.old < 2 ^ 64 - 1 }
-    requires text { text.items ≡ without_time line.now }
+    requires next { recent.old.next.items ≡ without_time line.now }
     requires line { ends_line line.now ≡ true }
     requires note { are_dropped start note.now ≡ true }
     ensures told { OnOk result (TellsMore (S.told sink.old) (S.told sink.new)) }
@@ -89,13 +74,13 @@ fn end_text<'t, S: Sink>(
         Folds run output' [] recent.new block.new) }
     ensures failures { S.failures sink.new ≡ counted (is_err result) (S.failures sink.old) }
 {
-    if recent.is_again(block.size(), text.as_slice()) && block.has_room(note, line) {
+    if recent.is_again(block.size()) && block.has_room(note, line) {
         block.take(note, line);
-        recent.push(text);
+        recent.push();
         return Ok(());
     }
     print(line, note, block, sink)?;
-    recent.push(text);
+    recent.push();
     block.begin(recent.block());
     Ok(())
 }
@@ -124,6 +109,7 @@ fn end_long<'t, S: Sink>(
 }
 
 /// Ends a line, with the notes in front of it: it is held, where it comes again in a block that does, or written.
+#[inline(always)]
 pub(crate) fn end_line<'t, S: Sink>(
     line: &'t [u8],
     note: &'t [u8],
@@ -140,8 +126,8 @@ pub(crate) fn end_line<'t, S: Sink>(
         Folds run output' [] recent.new block.new) }
     ensures failures { S.failures sink.new ≡ counted (is_err result) (S.failures sink.old) }
 {
-    match text_without_time(line) {
-        Some(text) => end_text(text, line, note, recent, block, sink),
-        None => end_long(line, note, recent, block, sink),
+    if holds(line, recent) {
+        return end_text(line, note, recent, block, sink);
     }
+    end_long(line, note, recent, block, sink)
 }

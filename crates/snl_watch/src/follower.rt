@@ -1,54 +1,72 @@
-//! A source that tells which line of a trace it gave last.
+//! A source that tells which lines of a trace it gave last.
 
-ghost use Rattle.std.specs.Prelude.{◌≡◌};
+ghost use Rattle.std.specs.Prelude.{◌≡◌, ◌≤◌, [], length};
+ghost use Rattle.snl_watch.specs.Window.{window, behind};
 
+use crate::by_line::ByLine;
 use crate::heard::HeardTrace;
-use crate::lines::ms_of;
-use crate::notes::Moment;
-use bstr::ByteSlice;
+use crate::line_ends::front_line;
+use crate::moments::Moments;
 use snl_trace::{Source, SourceFault};
-use std::cell::Cell;
+use std::cell::RefCell;
 
-/// Hands on what another source gives, one line a call, and tells which line that was, with its time. Up to the line at which
-/// the program begins it also hears what the lines tell.
+/// Hands on the lines of a source, and tells which they were, with their times. Up to the line at which the program begins it
+/// gives one line a call, and hears what that tells. Behind it, it gives as many as came, as long as the time of each is later
+/// than that of the one before: so the time of a run says which of them it is at.
+///
+/// The room is one of 65,536 bytes.
 #[derive(Drop)]
 pub struct Follower<'c, R: Source> {
-    inner: R,
+    lines: ByLine<R>,
     heard: HeardTrace,
-    moment: &'c Cell<Moment>,
+    moments: &'c RefCell<Moments>,
 }
 
-/// The time of a line; None where it is blank or a comment.
-fn time_of(line: &[u8]) -> Option<u64> {
-    match line {
-        [b'0'..=b'9', ..] => Some(ms_of(line)),
-        [b' ' | b'\t', ..] => {
-            let time = line.fields().next()?;
-            Some(ms_of(time))
-        }
-        _ => None,
+/// How many bytes of a text are given at once behind the begin of the program: those of the first line, so many, and of the lines
+/// behind it that may come with it.
+fn lines_at_once(text: &[u8], first: usize, moments: &mut Moments) -> usize
+    requires { first ≤ length text.now }
+    ensures within { result ≤ length text.now }
+    ensures some { first ≤ result }
+{
+    let mut end = first;
+    moments.begin(&text[..end]);
+    while let Some(count) = moments.go_on(&text[end..]) {
+        end += count;
     }
+    end
 }
 
-/// What is known once one line more was given.
-fn moved(moment: Moment, line: &[u8]) -> Moment {
-    Moment {
-        line: moment.line.saturating_add(1),
-        ms: time_of(line),
-        has_begun: moment.has_begun,
+/// How many bytes of a text are given next. It is told which lines they are, and heard what they tell before the program begins.
+fn next(text: &[u8], heard: &mut HeardTrace, moments: &RefCell<Moments>) -> usize
+    ensures within { result ≤ length text.now }
+    ensures some { result ≡ 0 → text.now ≡ [] }
+{
+    let first = front_line(text);
+    if first == 0 {
+        return 0;
     }
+    let Ok(mut moments) = moments.try_borrow_mut() else {
+        return first;
+    };
+    if moments.has_begun() {
+        return lines_at_once(text, first, &mut moments);
+    }
+    heard.note(&text[..first]);
+    moments.begin(&text[..first]);
+    first
 }
 
 impl<'c, R: Source> Follower<'c, R> {
-    /// Follows a source that gives at most one line a call, as `ByLine` does.
-    pub fn new(inner: R, heard: HeardTrace, moment: &'c Cell<Moment>) -> Self
-        ensures inner { result.inner ≡ inner }
+    /// Follows the lines of a source, of which none was given yet.
+    pub fn new(lines: ByLine<R>, heard: HeardTrace, moments: &'c RefCell<Moments>) -> Self
+        ensures lines { result.lines ≡ lines }
         ensures heard { result.heard ≡ heard }
     {
         Follower {
-            inner,
+            lines,
             heard,
-            moment,
+            moments,
         }
     }
 
@@ -63,19 +81,13 @@ impl<'c, R: Source> Follower<'c, R> {
 }
 
 impl<R: Source> Source for Follower<'_, R> {
-    ghost rest = { λ follower. R.rest follower.inner };
+    ghost rest = { λ f. behind (window f.lines.held) (R.rest f.lines.inner) };
 
-    ghost failures = { λ follower. R.failures follower.inner };
+    ghost failures = { λ f. R.failures f.lines.inner };
 
     fn read(&mut self, room: &mut [u8]) -> Result<usize, SourceFault> {
-        let count = self.inner.read(room)?;
-        if count > 0 {
-            let moment = self.moment.get();
-            if !moment.has_begun {
-                self.heard.note(&room[..count]);
-            }
-            self.moment.set(moved(moment, &room[..count]));
-        }
-        Ok(count)
+        self.lines.fill()?;
+        let most = next(self.lines.text(), &mut self.heard, self.moments);
+        Ok(self.lines.give(most, room))
     }
 }

@@ -2,7 +2,7 @@
 
 ghost use Rattle.std.specs.Prelude.{◌≡◌, ◌+◌, ◌-◌, ◌^◌, ◌<◌, ◌≤◌, ◌++◌, ◌⊎◌, [], false, length, take, slice_range, IfOk, IfSome, IsTrue, IsFalse, is_err, OnErr, ℕ, List, Some};
 
-use memchr::{memchr, memrchr};
+use memchr::memrchr;
 use snl_trace::{Source, SourceFault};
 use std::alloc::{AllocError, Global};
 
@@ -66,24 +66,22 @@ impl Held {
         self.len() == ROOM || self.from < self.lines_end
     }
 
-    /// How long the first line is, with its newline; where that did not come yet, how many bytes are held.
-    fn first_line(&self) -> usize
-        ensures within { result ≤ length (window self.now) }
-        ensures some { result ≡ 0 → window self.now ≡ [] }
+    /// The bytes that are held.
+    pub(crate) fn text(&self) -> &[u8]
+        ensures { result.now ≡ window self.now }
     {
-        match memchr(b'\n', &self.bytes[self.from..self.to]) {
-            Some(at) => at + 1,
-            None => self.to - self.from,
-        }
+        &self.bytes[self.from..self.to]
     }
 
-    /// Gives the first line, or as much of it as a room takes; answers how many bytes.
-    pub(crate) fn give(&mut self, room: &mut [u8]) -> usize
+    /// Gives the first bytes, so many, or as many of them as a room takes; answers how many.
+    pub(crate) fn give(&mut self, most: usize, room: &mut [u8]) -> usize
+        requires within { most ≤ length (window self.old) }
+        requires some { most ≡ 0 → window self.old ≡ [] }
         ensures count { result ≤ length room.old }
         ensures given { window self.old ≡ take result room.new ++ window self.new }
         ensures none { result ≡ 0 → 0 < length room.old → window self.old ≡ [] }
     {
-        let count = self.first_line().min(room.len());
+        let count = most.min(room.len());
         let end = self.from + count;
         room[..count].copy_from_slice(&self.bytes[self.from..end]);
         self.from = end;

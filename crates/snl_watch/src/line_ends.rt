@@ -1,12 +1,14 @@
 //! Where the lines of a text end.
 
-ghost use Rattle.std.specs.Prelude.{◌≡◌, ◌≤◌, ◌<◌, length, take, true, IsTrue};
+ghost use Rattle.std.specs.Prelude.{◌≡◌, ◌≤◌, ◌<◌, [], drop, length, take, true, IsTrue};
 ghost use Rattle.std.specs.List.{list_all};
+ghost use Rattle.snl_watch.specs.Folding.{without_time};
 ghost use Rattle.snl_watch.specs.Folds.{ends_line, is_in_line, is_other};
 
 use memchr::memchr;
 
 /// Whether a text ends with a newline.
+#[inline(always)]
 pub(crate) fn ends_line(text: &[u8]) -> bool
     ensures { result ≡ ends_line text.now }
 {
@@ -30,6 +32,7 @@ fn has_none(text: &[u8]) -> bool
 
 /// Whether a text is one line, or the front of one: it has a byte, and no newline but at its end. Most texts that are asked
 /// for are.
+#[inline(always)]
 pub(crate) fn is_one_line(text: &[u8]) -> bool
     ensures { IsTrue result → is_in_line text.now ≡ true }
 {
@@ -52,4 +55,31 @@ pub(crate) fn first_line(text: &[u8]) -> usize
         Some(at) => at + 1,
         None => text.len(),
     }
+}
+
+/// The same of a text that may have many lines.
+pub(crate) fn front_line(text: &[u8]) -> usize
+    ensures within { result ≤ length text.now }
+    ensures some { result ≡ 0 → text.now ≡ [] }
+{
+    match memchr(b'\n', text) {
+        Some(at) => at + 1,
+        None => text.len(),
+    }
+}
+
+/// How many digits a line begins with.
+#[inline(always)]
+pub(crate) fn digits_of(line: &[u8]) -> usize
+    ensures within { result ≤ length line.now }
+    ensures left { drop result line.now ≡ without_time line.now }
+{
+    let mut count = 0;
+    for byte in line {
+        if !byte.is_ascii_digit() {
+            return count;
+        }
+        count += 1;
+    }
+    count
 }

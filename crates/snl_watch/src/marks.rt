@@ -17,9 +17,6 @@ const SHIFT: u32 = 56;
 /// Spreads a number over its upper bits: an odd one, 2^64 over the golden ratio.
 const SPREAD: u64 = 0x9e37_79b9_7f4a_7c15;
 
-/// How many bytes at the end of a line make its number.
-const MARKED: usize = 8;
-
 /// How many lines make the number by which lines are found.
 pub(crate) const TOGETHER: usize = 4;
 
@@ -38,8 +35,17 @@ pub(crate) struct Marks {
 
 /// The number of a line, made of its length and its end.
 fn mark_of(text: &[u8]) -> u64 {
-    let mut mark = text.len() as u64;
-    for byte in &text[text.len().saturating_sub(MARKED)..] {
+    let size = (text.len() as u64).wrapping_mul(SPREAD);
+    match text {
+        [.., a, b, c, d, e, f, g, h] => size ^ u64::from_be_bytes([*a, *b, *c, *d, *e, *f, *g, *h]),
+        _ => size ^ short_mark(text),
+    }
+}
+
+/// The number that the bytes of a short text make.
+fn short_mark(text: &[u8]) -> u64 {
+    let mut mark = 0u64;
+    for byte in text {
         mark = mark.rotate_left(8) ^ (*byte as u64);
     }
     mark

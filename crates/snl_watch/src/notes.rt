@@ -4,96 +4,68 @@ ghost use Rattle.std.specs.Prelude.{◌≡◌, true};
 ghost use Rattle.snl_watch.specs.Extra.{are_dropped, start};
 
 use crate::legend::{ClauseLegend, Legend};
+use crate::moments::Moments;
 use crate::places::LinePlace;
 use crate::standing::Standing;
+use crate::waiting::Waiting;
 use itoa::Buffer;
 use snl_output::{Fired, RefusalCause, Refused};
 use std::alloc::{AllocError, Global};
-use std::cell::Cell;
-use std::mem;
-
-/// How many bytes of notes wait for a line at most.
-const WAITING: usize = 512;
-
-/// How many bytes the room for them has: also for the line that says that there are more.
-pub(crate) const ROOM: usize = 523;
-
-/// What stands where notes were left out.
-const MORE: &[u8] = b"# and more\n";
-
-/// A line of a trace, by its number from 1, and its time, where it has one, in milliseconds.
-#[derive(Clone, Copy, Debug, PartialEq, Eq)]
-pub struct Moment {
-    /// Its number; 0 before the first line.
-    pub line: u64,
-    /// Its time; None where it is blank or a comment.
-    pub ms: Option<u64>,
-    /// Whether the program began at an earlier line.
-    pub has_begun: bool,
-}
-
-impl Moment {
-    /// Before the first line.
-    pub fn new() -> Self {
-        Moment {
-            line: 0,
-            ms: None,
-            has_begun: false,
-        }
-    }
-
-    /// The line, if it came at a time.
-    fn line_at(&self, ms: u64) -> Option<u64> {
-        if self.ms == Some(ms) {
-            Some(self.line)
-        } else {
-            None
-        }
-    }
-}
+use std::cell::RefCell;
 
 /// What is noted of a run, and what is known of it.
 #[derive(Drop)]
 pub struct Notes<'c> {
-    alloc: Global,
     legend: Legend,
-    /// The line of the trace that was given last.
-    moment: &'c Cell<Moment>,
+    /// The lines of the trace that were given last.
+    moments: &'c RefCell<Moments>,
     standing: Standing,
-    /// Notes that wait for the next line, one behind the other, each with its newline.
-    waiting: Vec<u8>,
-    /// Whether some were left out.
-    is_full: bool,
+    /// Whether it was told there that the program began.
+    has_told: bool,
+    /// Notes that wait for the next line.
+    waiting: Waiting,
 }
 
 /// Adds a number.
-fn add_number(out: &mut Vec<u8>, number: i64) -> Result<(), AllocError> {
+fn add_number(out: &mut Waiting, number: i64) -> Option<()> {
     let mut digits = Buffer::new();
-    out.extend_from_slice(digits.format(number).as_bytes())
+    out.add(digits.format(number).as_bytes())
 }
 
 /// Adds the end of a note: the line of the trace, where one came then.
-fn add_end(out: &mut Vec<u8>, line: Option<u64>) -> Result<(), AllocError> {
+fn add_end(out: &mut Waiting, line: Option<u64>) -> Option<()> {
     let Some(line) = line else {
-        return out.extend_from_slice(b"\n");
+        return out.add(b"\n");
     };
     let mut digits = Buffer::new();
-    out.extend_from_slice(b" (trace line ")?;
-    out.extend_from_slice(digits.format(line).as_bytes())?;
-    out.extend_from_slice(b")\n")
+    out.add(b" (trace line ")?;
+    out.add(digits.format(line).as_bytes())?;
+    out.add(b")\n")
+}
+
+/// The line of the trace that came at a time to which the run has come; None where none did.
+fn line_at(moments: &RefCell<Moments>, ms: u64) -> Option<u64> {
+    moments.try_borrow_mut().ok()?.line_at(ms)
+}
+
+/// Tells that the program has begun.
+fn tell_begin(moments: &RefCell<Moments>) {
+    if let Ok(mut moments) = moments.try_borrow_mut() {
+        moments.note_begin();
+    }
 }
 
 /// Adds the note that a clause fired: what stands in front, each name with its word, and the line of the trace.
 fn add_clause(
-    out: &mut Vec<u8>,
+    out: &mut Waiting,
     clause: &ClauseLegend,
     words: &[i64],
     line: Option<u64>,
-) -> Result<(), AllocError> {
-    out.extend_from_slice(clause.front.as_slice())?;
+) -> Option<()> {
+    out.add(clause.front.as_slice())?;
     for seen in &clause.seen {
         if let Some(word) = words.get(seen.word) {
-            out.extend_from_slice(seen.front.as_slice())?;
+            out.add(seen.front.as_slice())?;
             add_number(out, *word)?;
         }
     }
@@ -110,16 +82,16 @@ fn why(refusal: RefusalCause) -> &'static [u8] {
 }
 
 /// Adds the note that a put was refused.
-fn add_refused(out: &mut Vec<u8>, legend: &Legend, put: Refused) -> Result<(), AllocError> {
-    out.extend_from_slice(b"# put ")?;
+fn add_refused(out: &mut Waiting, legend: &Legend, put: Refused) -> Option<()> {
+    out.add(b"# put ")?;
     if let Some(number) = put.channel {
         if let Some(name) = legend.channels.get_index(number) {
-            out.extend_from_slice(b"to ")?;
-            out.extend_from_slice(name.as_slice())?;
-            out.extend_from_slice(b" ")?;
+            out.add(b"to ")?;
+            out.add(name.as_slice())?;
+            out.add(b" ")?;
         }
     }
-    out.extend_from_slice(why(put.why))
+    out.add(why(put.why))
 }
 
 impl<'c> Notes<'c> {
@@ -127,64 +99,49 @@ impl<'c> Notes<'c> {
     pub fn new(
         alloc: Global,
         legend: Legend,
-        moment: &'c Cell<Moment>,
+        moments: &'c RefCell<Moments>,
     ) -> Result<Self, AllocError> {
         Ok(Notes {
             standing: Standing::new(alloc, legend.sets.len())?,
             legend,
-            moment,
-            waiting: Vec::with_capacity(alloc, ROOM)?,
-            alloc,
-            is_full: false,
+            moments,
+            has_told: false,
+            waiting: Waiting::new(alloc)?,
         })
-    }
-
-    /// Leaves out the note that was added last, where it was not added whole or there is no room for it, and says that there
-    /// are more.
-    fn settle(&mut self, before: usize, added: Result<(), AllocError>) {
-        if added.is_ok() && self.waiting.len() <= WAITING {
-            return;
-        }
-        self.is_full = true;
-        self.waiting.truncate(before);
-        let _more = self.waiting.extend_from_slice(MORE);
     }
 
     /// Notes that a clause fired.
     pub(crate) fn fired(&mut self, fired: Fired, words: &[i64]) {
         self.standing.fired(fired);
-        if self.is_full {
+        if self.waiting.is_full() {
             return;
         }
         let Some(clause) = self.legend.clause(fired) else {
             return;
         };
         let before = self.waiting.len();
-        let line = self.moment.get().line_at(fired.ms);
+        let line = line_at(self.moments, fired.ms);
         let added = add_clause(&mut self.waiting, clause, words, line);
-        self.settle(before, added);
+        self.waiting.settle(before, added);
     }
 
     /// Notes that a put was refused.
     pub(crate) fn refused(&mut self, put: Refused) {
         self.standing.refused_one();
-        if self.is_full {
+        if self.waiting.is_full() {
             return;
         }
         let before = self.waiting.len();
         let added = add_refused(&mut self.waiting, &self.legend, put);
-        self.settle(before, added);
+        self.waiting.settle(before, added);
     }
 
     /// Takes the next bytes of the run.
     pub(crate) fn pass(&mut self, piece: &[u8]) {
         self.standing.take(piece, &self.legend);
-        let moment = self.moment.get();
-        if !moment.has_begun && self.standing.has_begun() {
-            self.moment.set(Moment {
-                has_begun: true,
-                ..moment
-            });
+        if !self.has_told && self.standing.has_begun() {
+            self.has_told = true;
+            tell_begin(self.moments);
         }
     }
 
@@ -193,26 +150,25 @@ impl<'c> Notes<'c> {
         self.waiting.is_empty()
     }
 
-    /// Takes the notes that wait, with their room, which `put_back` gives back.
-    pub(crate) fn take_waiting(&mut self) -> Vec<u8> {
-        self.is_full = false;
-        mem::replace(&mut self.waiting, Vec::new(self.alloc))
+    /// Takes the notes that wait, with their room, of which so much is taken; `put_back` gives it back.
+    pub(crate) fn take_waiting(&mut self) -> (Vec<u8>, usize) {
+        self.waiting.take()
     }
 
     /// Gives room back for the next notes.
     pub(crate) fn put_back(&mut self, room: Vec<u8>) {
-        let mut room = room;
-        room.clear();
-        self.waiting = room;
+        self.waiting.put_back(room);
     }
 
     /// Puts the notes that wait into a room, where they are extra lines and nothing else; else none. What stood there is gone.
     pub(crate) fn put_noted(&mut self, room: &mut Vec<u8>)
         ensures { are_dropped start room.new.items ≡ true }
     {
-        self.is_full = false;
-        mem::swap(&mut self.waiting, room);
-        self.waiting.clear();
+        if self.waiting.is_empty() {
+            room.clear();
+            return;
+        }
+        self.waiting.move_to(room);
         if !LinePlace::start().drops_all(room.as_slice()) {
             room.clear();
         }
@@ -230,6 +186,17 @@ impl<'c> Notes<'c> {
 
     /// How many lines of the trace were given.
     pub fn lines(&self) -> u64 {
-        self.moment.get().line
+        match self.moments.try_borrow() {
+            Ok(moments) => moments.lines(),
+            Err(_) => 0,
+        }
+    }
+
+    /// The line of the trace at which the run ended, by its time.
+    pub fn line_reached(&self, ms: u64) -> u64 {
+        match self.moments.try_borrow_mut() {
+            Ok(mut moments) => moments.line_reached(ms),
+            Err(_) => 0,
+        }
     }
 }

@@ -15,6 +15,7 @@ pub struct LinePlace {
 }
 
 /// Whether a text is a line, or the front of one, that is no extra one. Most pieces of a run are.
+#[inline(always)]
 fn is_kept_line(text: &[u8]) -> bool
     ensures { IsTrue result → spec.are_kept spec.start text.now ≡ true }
 {
@@ -25,6 +26,7 @@ fn is_kept_line(text: &[u8]) -> bool
 }
 
 /// Whether a text is an extra line, or the front of one. Most notes are.
+#[inline(always)]
 fn is_dropped_line(text: &[u8]) -> bool
     ensures { IsTrue result → spec.are_dropped spec.start text.now ≡ true }
 {
@@ -76,6 +78,7 @@ impl LinePlace {
     }
 
     /// Behind more bytes.
+    #[inline(always)]
     pub fn after(self, bytes: &[u8]) -> Self
         ensures { place_of result ≡ spec.place_after (place_of self) bytes.now }
     {
@@ -97,6 +100,7 @@ impl LinePlace {
     }
 
     /// How many bytes belong to lines that are no extra ones, before the first that does not.
+    #[inline(always)]
     pub fn kept_front(self, bytes: &[u8]) -> usize
         ensures within { result ≤ length bytes.now }
         ensures kept { spec.are_kept (place_of self) (take result bytes.now) ≡ true }
@@ -126,6 +130,7 @@ impl LinePlace {
     }
 
     /// Whether all bytes belong to extra lines.
+    #[inline(always)]
     pub fn drops_all(self, bytes: &[u8]) -> bool
         ensures { result ≡ spec.are_dropped (place_of self) bytes.now }
     {

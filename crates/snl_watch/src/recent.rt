@@ -1,12 +1,12 @@
 //! The last lines of a run, without their times, and whether the last of them repeat.
 
-ghost use Rattle.std.specs.Prelude.{◌≡◌, ◌≤◌, ◌<◌, ◌-◌, [], ◌∷◌, ◌++◌, length, slice_get, IfOk, IsTrue, Some};
+ghost use Rattle.std.specs.Prelude.{◌≡◌, ◌≤◌, ◌<◌, ◌-◌, [], ◌∷◌, ◌++◌, length, slice_get, IfOk, IsTrue, OnOk, Some};
 ghost use Rattle.circular_buffer.specs.Buffer.{keep_last};
 
 use crate::marks::{Marks, TOGETHER};
-use arrayvec::ArrayVec;
 use circular_buffer::HeapCircularBuffer;
 use std::alloc::{AllocError, Global};
+use std::mem;
 
 /// How many lines a block has at most.
 const BLOCK: usize = 60;
@@ -14,18 +14,15 @@ const BLOCK: usize = 60;
 /// How many lines are kept.
 const KEPT: usize = 120;
 
-/// How many bytes a line of a block has at most, without its time.
-const TEXT: usize = 256;
-
-/// A line without its time.
-pub(crate) type Text = ArrayVec<u8, TEXT>;
-
 /// The last lines of a run, without their times.
 #[derive(Drop)]
 pub(crate) struct Recent {
-    texts: HeapCircularBuffer<Text>,
+    alloc: Global,
+    texts: HeapCircularBuffer<Vec<u8>>,
     /// A number of each, by which most lines differ.
     marks: Marks,
+    /// A line that comes, without its time. Its room is that of the line that was forgotten last.
+    next: Vec<u8>,
 }
 
 impl Recent {
@@ -37,16 +34,33 @@ impl Recent {
     {
         let texts = HeapCircularBuffer::with_capacity(alloc, KEPT)?;
         let marks = Marks::new(alloc)?;
-        Ok(Recent { texts, marks })
+        Ok(Recent {
+            alloc,
+            texts,
+            marks,
+            next: Vec::new(alloc),
+        })
     }
 
-    /// Adds a line, in the place of the oldest where there is no room.
-    pub(crate) fn push(&mut self, text: Text)
-        ensures { recent_texts self.new
-            ≡ keep_last self.old.texts.capacity (recent_texts self.old ++ text.items ∷ []) }
+    /// Takes a line that comes, without its time. Fails only where memory ran out.
+    pub(crate) fn hold(&mut self, text: &[u8]) -> Result<(), AllocError>
+        ensures next { OnOk result (self.new.next.items ≡ text.now) }
+        ensures texts { self.new.texts ≡ self.old.texts }
     {
-        self.marks.push(text.as_slice());
-        self.texts.push_back(text);
+        self.next.clear();
+        self.next.extend_from_slice(text)
+    }
+
+    /// Adds the line that came, in the place of the oldest where there is no room.
+    pub(crate) fn push(&mut self)
+        ensures { recent_texts self.new ≡ keep_last self.old.texts.capacity
+            (recent_texts self.old ++ self.old.next.items ∷ []) }
+    {
+        self.marks.push(self.next.as_slice());
+        let text = mem::replace(&mut self.next, Vec::new(self.alloc));
+        if let Some(oldest) = self.texts.push_back(text) {
+            self.next = oldest;
+        }
     }
 
     /// Forgets all lines.
@@ -56,19 +70,20 @@ impl Recent {
         self.texts.clear();
     }
 
-    /// Whether a line that comes equals the one that many lines before it.
-    pub(crate) fn is_again(&self, size: usize, text: &[u8]) -> bool
+    /// Whether the line that came equals the one that many lines before it.
+    #[inline(always)]
+    pub(crate) fn is_again(&self, size: usize) -> bool
         ensures some { IsTrue result → 0 < size }
         ensures within { IsTrue result → size ≤ length (recent_texts self.now) }
         ensures same { IsTrue result → slice_get (recent_texts self.now)
-            (length (recent_texts self.now) - size) ≡ Some text.now }
+            (length (recent_texts self.now) - size) ≡ Some self.now.next.items }
     {
         let count = self.texts.len();
         if size == 0 || size > count {
             return false;
         }
         match self.texts.get(count - size) {
-            Some(before) => before.as_slice() == text,
+            Some(before) => before.as_slice() == self.next.as_slice(),
             None => false,
         }
     }

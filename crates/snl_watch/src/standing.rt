@@ -1,18 +1,29 @@
 //! Where the state sets of a run stand, and how much has happened, by the lines of the run.
 
 use crate::legend::Legend;
-use memchr::{memchr, memrchr};
+use crate::line_ends::digits_of;
+use memchr::memrchr;
 use snl_output::Fired;
 use std::alloc::{AllocError, Global};
 use std::mem;
 
+/// For how many bytes of a line there is room before more memory is asked for.
+const LINE: usize = 64;
+
 /// Where a state set stands.
 #[derive(Drop)]
 pub struct SetStanding {
-    /// The name of its state, as it stands in the source.
-    pub state: Vec<u8>,
+    /// A line whose last word is the name of its state, as it stands in the source.
+    line: Vec<u8>,
     /// Since when, in milliseconds.
     pub since: u64,
+}
+
+impl SetStanding {
+    /// The name of its state, as it stands in the source.
+    pub fn state(&self) -> &[u8] {
+        last_word(self.line.as_slice())
+    }
 }
 
 /// Where the state sets of a run stand, and counts of its lines. It takes the text of the run in whatever pieces.
@@ -21,6 +32,8 @@ pub struct Standing {
     alloc: Global,
     /// The line that has begun, where its piece did not end it.
     line: Vec<u8>,
+    /// How many digits the time of the last line has. Times do not go back, so that of the next one has no fewer.
+    digits: usize,
     /// By state set.
     sets: Vec<SetStanding>,
     has_begun: bool,
@@ -48,14 +61,6 @@ fn number_in_front(text: &[u8]) -> u64 {
     number
 }
 
-/// What stands in a line behind its time; nothing where no blank stands there.
-fn behind_time(line: &[u8]) -> &[u8] {
-    match memchr(b' ', line) {
-        Some(blank) => &line[blank + 1..],
-        None => b"",
-    }
-}
-
 /// The last word of a line, without its newline.
 fn last_word(line: &[u8]) -> &[u8] {
     let text = line.strip_suffix(b"\n").unwrap_or(line);
@@ -70,17 +75,17 @@ fn standings(alloc: Global, sets: usize) -> Result<Vec<SetStanding>, AllocError>
     let mut standings = Vec::with_capacity(alloc, sets)?;
     for _set in 0..sets {
         standings.push(SetStanding {
-            state: Vec::new(alloc),
+            line: Vec::with_capacity(alloc, LINE)?,
             since: 0,
         })?;
     }
     Ok(standings)
 }
 
-/// A state set stands in a state of this name from now on.
-fn move_to(standing: &mut SetStanding, state: &[u8], since: u64) -> Result<(), AllocError> {
-    standing.state.clear();
-    standing.state.extend_from_slice(state)?;
+/// A state set stands from now on in the state whose name is the last word of a line.
+fn move_to(standing: &mut SetStanding, line: &[u8], since: u64) -> Result<(), AllocError> {
+    standing.line.clear();
+    standing.line.extend_from_slice(line)?;
     standing.since = since;
     Ok(())
 }
@@ -101,6 +106,7 @@ impl Standing {
         Ok(Standing {
             alloc,
             line: Vec::new(alloc),
+            digits: 0,
             sets: standings(alloc, sets)?,
             has_begun: false,
             fired: None,
@@ -133,13 +139,26 @@ impl Standing {
         }
     }
 
+    /// What stands in a line behind the digits of its time. Most have as many as the line before.
+    fn behind_time<'l>(&mut self, line: &'l [u8]) -> &'l [u8] {
+        if self.digits > 0 {
+            if let Some([b'0'..=b'9', rest @ ..]) = line.get(self.digits - 1..) {
+                if rest.first() == Some(&b' ') {
+                    return rest;
+                }
+            }
+        }
+        self.digits = digits_of(line);
+        &line[self.digits..]
+    }
+
     /// Takes a line that has ended.
     fn note(&mut self, line: &[u8], legend: &Legend) {
-        match behind_time(line) {
-            [b'g', b'o', b' ', ..] => self.go(line),
-            [b'p', b'u', b't', b' ', ..] => self.puts = self.puts.saturating_add(1),
-            [b'p', b'r', b'i', b'n', b't', ..] => self.prints = self.prints.saturating_add(1),
-            [b's', b't', b'a', b'r', b't', b' ', ..] => self.begin(line, legend),
+        match self.behind_time(line) {
+            [b' ', b'g', b'o', b' ', ..] => self.go(line),
+            [b' ', b'p', b'u', b't', b' ', ..] => self.puts = self.puts.saturating_add(1),
+            [b' ', b'p', b'r', b'i', b'n', b't', ..] => self.prints = self.prints.saturating_add(1),
+            [b' ', b's', b't', b'a', b'r', b't', b' ', ..] => self.begin(line, legend),
             _ => {}
         }
     }
@@ -156,13 +175,12 @@ impl Standing {
     /// called, the program ends, and it stays where it is.
     fn go(&mut self, line: &[u8]) {
         self.transitions = self.transitions.saturating_add(1);
-        let state = last_word(line);
-        if state == b"exit".as_slice() {
+        if line.ends_with(b" exit\n") {
             return;
         }
         if let Some(fired) = self.fired {
             if let Some(standing) = self.sets.get_mut(fired.set) {
-                if move_to(standing, state, fired.ms).is_err() {
+                if move_to(standing, line, fired.ms).is_err() {
                     self.ran_out = true;
                 }
             }

@@ -8,6 +8,7 @@ ghost use Rattle.snl_watch.specs.Places.{place_of};
 
 use crate::notes::Notes;
 use crate::places::LinePlace;
+use crate::waiting::taken;
 use snl_output::{Fired, Refused, Sink, SinkFault};
 
 /// Hands lines on, with extra ones between them. What it tells is what the sink behind it tells, without the extra lines.
@@ -92,9 +93,9 @@ impl<'c, K: Sink> Teller<'c, K> {
         if self.place.within || self.notes.is_empty() {
             return Ok(());
         }
-        let lines = self.notes.take_waiting();
-        let sent = self.send(lines.as_slice());
-        self.notes.put_back(lines);
+        let (room, used) = self.notes.take_waiting();
+        let sent = self.send(taken(&room, used));
+        self.notes.put_back(room);
         sent
     }
 

@@ -43,6 +43,8 @@ pub struct Trail {
     begun: u64,
     /// The clause that fired last, until its line comes.
     fired: Option<Fired>,
+    /// The number of the channel that was put to last.
+    last_put: usize,
 }
 
 /// One more.
@@ -135,12 +137,20 @@ impl Trail {
             channels,
             begun: 0,
             fired: None,
+            last_put: 0,
         }
     }
 
     /// Hears that a clause fired.
     pub(crate) fn fire(&mut self, fired: Fired) {
         self.fired = Some(fired);
+    }
+
+    /// The number of the line of the clause that fired last, until it comes.
+    pub(crate) fn expected(&self) -> Option<usize> {
+        let fired = self.fired?;
+        let clause = self.clause(fired.set, fired.state, fired.clause)?;
+        Some(clause.line)
     }
 
     /// Hears a line: what follows its time, and its number, if it is one of those that are counted.
@@ -198,8 +208,20 @@ impl Trail {
 
     /// Hears that a value was put to a channel.
     fn put(&mut self, channel: &[u8]) {
-        if let Some(puts) = self.channels.get_mut(channel) {
+        let Some(number) = self.channel_of(channel) else {
+            return;
+        };
+        self.last_put = number;
+        if let Some(puts) = self.channels.get_index_mut(number) {
             count(puts);
+        }
+    }
+
+    /// The number of the channel of a name. It is often the one that was put to last.
+    fn channel_of(&self, name: &[u8]) -> Option<usize> {
+        match self.channels.get_index(self.last_put) {
+            Some((last, _)) if last.as_slice() == name => Some(self.last_put),
+            _ => self.channels.get_index_of(name),
         }
     }
 

@@ -17,3 +17,20 @@ pub(crate) fn write_pieces<S: Sink>(sink: &mut S, pieces: &[&[u8]]) -> Result<()
     line.add_all(pieces, sink)?;
     line.send(sink)
 }
+
+/// Hands a piece to a sink until it has taken all of it, however few bytes it takes a call.
+pub(crate) fn write_whole<S: Sink>(sink: &mut S, piece: &[u8]) -> Result<(), SinkFault>
+    requires { S.failures sink.old < 2 ^ 64 - 1 }
+    ensures told { Wrote result piece.now (S.told sink.old) (S.told sink.new) }
+    ensures failures { S.failures sink.new ≡ counted (is_err result) (S.failures sink.old) }
+{
+    let mut written = 0;
+    while written < piece.len() {
+        let taken = sink.write(&piece[written..])?;
+        if taken == 0 {
+            return Err(SinkFault);
+        }
+        written += taken;
+    }
+    Ok(())
+}

@@ -37,27 +37,34 @@ all-plain p plain (x ∷ xs) all (suc j) d below = all-plain p plain xs (and_par
 joins : (p : ℕ → Bool) (xs ys : List ℕ) → list_all p xs ≡ true → list_all p ys ≡ true → list_all p (xs ++ ys) ≡ true
 joins p xs ys first second = list_all-append p xs ys ∙ and_from (list_all p xs) (list_all p ys) first second
 
+-- a digit is no blank
 digit-plain : (b : ℕ) → is_ascii_digit b ≡ true → is_blank b ≡ false
 digit-plain b digit = grind arith
 
+-- a digit is a byte of text
 digit-text : (b : ℕ) → is_ascii_digit b ≡ true → is_text b ≡ true
 digit-text b digit = grind arith
 
+-- a byte of a name is no blank
 name-plain : (b : ℕ) → is_name_byte b ≡ true → is_blank b ≡ false
 name-plain b good = grind arith
 
+-- a byte of a name is a byte of text
 name-text : (b : ℕ) → is_name_byte b ≡ true → is_text b ≡ true
 name-text b good = grind arith
 
+-- what has a byte is filled
 filled : (xs : List ℕ) → 0 < length xs → is_filled xs ≡ true
 filled [] some = absurd (omega arith)
 filled (x ∷ xs) some = refl
 
 -- ---- numbers
 
+-- digits are numerals of their value
 own : IsNumeralModel (λ ds. list_all is_ascii_digit ds ≡ true) (digits_value 10)
 own = numerals_by_value (λ ds. list_all is_ascii_digit ds ≡ true) (search rules)
 
+-- a number is written in digits
 are-digits : (n : ℕ) → n < 2 ^ 64 → list_all is_ascii_digit (decimal n) ≡ true
 are-digits n small = digits_decimal own n small
 
@@ -67,6 +74,7 @@ all-digits : (number most : ℕ) (field : List ℕ) → 0 < length field → len
 unfolding spelled_number
 all-digits number most field some few digits is = rw (le-leb 1 (length field) some, le-leb (length field) most few, digits, is) refl
 
+-- a number that has few enough digits is read as it was written
 numeral : (n most : ℕ) → 0 < most → n < 10 ^ most → n < 2 ^ 64 → spelled_number most (decimal n) ≡ Some n
 numeral n most some few small =
     all-digits n most (decimal n) (decimal_nonempty n small) (length-decimal-le most n some few small) (are-digits n small) (digits_value-decimal own n small)
@@ -94,6 +102,7 @@ value-reads (negsuc n) small =
 not-return : (b : ℕ) → is_text b ≡ true → (b == 13) ≡ false
 not-return b text = ne_eqb b 13 (λ e. true≢false (sym text ∙ ap is_text e))
 
+-- so a text is a line as it stands
 without-return : (line : List ℕ) → list_all is_text line ≡ true → without_return line ≡ line
 unfolding without_return
 without-return [] text = refl
@@ -141,6 +150,7 @@ AreWords (word ∷ words) = IsWord word × AreWords words
 good-name : (name : List ℕ) → is_name name ≡ true → IsWord name
 good-name name good = let parts = and_parts (is_filled name) (list_all is_name_byte name) good in record { some = parts.0; bytes = parts.1 }
 
+-- a word has no blank
 word-plain : (word : List ℕ) → IsWord word → All (λ x. is_blank x ≡ false) word
 word-plain word good = all-plain is_name_byte name-plain word good.bytes
 
@@ -176,6 +186,7 @@ line-event ms words told early good short tells =
 
 -- ---- the lines without values
 
+-- a time has at most 16 digits
 short-time : (ms : ℕ) → ms ≤ 10 ^ 15 → length (decimal ms) ≤ 16
 short-time ms early = length-decimal-le 16 ms (omega arith) (omega arith) (omega arith)
 
@@ -185,18 +196,22 @@ named-short word ms name few early short =
     let time : length (decimal ms) ≤ 16 = short-time ms early in
     omega (arith, length-append (decimal ms) (flat_map spaced (word ∷ name ∷ [])), length-append word (spaced name ++ []), length-append name [])
 
+-- what `up` and a name tell
 up-spoken : (last ms : ℕ) (name : List ℕ) → last ≤ ms → ms ≤ 10 ^ 15 → spoken last (decimal ms ∷ codes "up" ∷ name ∷ []) ≡ Ok (Some (ms, Up name))
 unfolding spoken timed told_by word_of up_with name_alone
 up-spoken last ms name order early = rw (time-reads ms early, le-ltb ms last order) refl
 
+-- what `down` and a name tell
 down-spoken : (last ms : ℕ) (name : List ℕ) → last ≤ ms → ms ≤ 10 ^ 15 → spoken last (decimal ms ∷ codes "down" ∷ name ∷ []) ≡ Ok (Some (ms, Down name))
 unfolding spoken timed told_by word_of down_with name_alone
 down-spoken last ms name order early = rw (time-reads ms early, le-ltb ms last order) refl
 
+-- what `done` and a name tell
 done-spoken : (last ms : ℕ) (name : List ℕ) → last ≤ ms → ms ≤ 10 ^ 15 → spoken last (decimal ms ∷ codes "done" ∷ name ∷ []) ≡ Ok (Some (ms, Done name))
 unfolding spoken timed told_by word_of done_with name_alone
 done-spoken last ms name order early = rw (time-reads ms early, le-ltb ms last order) refl
 
+-- what `tick` tells
 tick-spoken : (last ms : ℕ) → last ≤ ms → ms ≤ 10 ^ 15 → spoken last (decimal ms ∷ codes "tick" ∷ []) ≡ Ok (Some (ms, Tick))
 unfolding spoken timed told_by word_of tick_with
 tick-spoken last ms order early = rw (time-reads ms early, le-ltb ms last order) refl
@@ -207,6 +222,7 @@ named-event : (word : List ℕ) (ms : ℕ) (name : List ℕ) (told : Told) → I
 named-event word ms name told good few early named short tells =
     line-event ms (word ∷ name ∷ []) told early (good, (named, tt)) (named-short word ms name few early short) tells
 
+-- the three lines that a name ends are events
 are-named : (ms : ℕ) → ms ≤ 10 ^ 15 → (name : List ℕ) → is_name name ≡ true → length name ≤ 32000 → AreNamed ms name
 are-named ms early name good short =
     let named : IsWord name = good-name name good in
@@ -216,6 +232,7 @@ are-named ms early name good short =
       done = named-event (codes "done") ms name (Done name) (record { some = refl; bytes = refl }) (omega arith) early named short (λ last order. done-spoken last ms name order early);
     }
 
+-- a tick is an event
 tick-event : (ms : ℕ) → ms ≤ 10 ^ 15 → IsEventLine (tick_line ms) ms Tick
 tick-event ms early =
     let time : length (decimal ms) ≤ 16 = short-time ms early in
@@ -224,6 +241,7 @@ tick-event ms early =
 
 -- ---- the lines with values
 
+-- a digit is a byte that a name may have
 digit-name : (b : ℕ) → is_ascii_digit b ≡ true → is_name_byte b ≡ true
 digit-name b digit = grind arith
 
@@ -232,6 +250,7 @@ value-bytes : (z : ℤ) → IsValue z → list_all is_name_byte (signed_decimal 
 value-bytes (pos n) small = all-weaker is_ascii_digit is_name_byte digit-name (decimal n) (are-digits n (omega arith))
 value-bytes (negsuc n) small = all-weaker is_ascii_digit is_name_byte digit-name (decimal (suc n)) (are-digits (suc n) (omega arith))
 
+-- a value has a byte
 value-filled : (z : ℤ) → IsValue z → is_filled (signed_decimal z) ≡ true
 value-filled (pos n) small = filled (decimal n) (decimal_nonempty n (omega arith))
 value-filled (negsuc n) small = refl
@@ -250,11 +269,13 @@ values-read [] small = refl
 values-read (z ∷ zs) small =
     rw (value-reads z (small 0 z (omega arith)), values-read zs (λ j d below. small (suc j) d (omega (arith, below)))) refl
 
+-- what `val`, a name and values tell
 values-spoken : (last ms : ℕ) (name : List ℕ) (z : ℤ) (zs : List ℤ) → last ≤ ms → ms ≤ 10 ^ 15 → values_of (map signed_decimal (z ∷ zs)) ≡ Some (z ∷ zs) →
     spoken last (decimal ms ∷ codes "val" ∷ name ∷ map signed_decimal (z ∷ zs)) ≡ Ok (Some (ms, Val name (take 1024 (z ∷ zs))))
 unfolding spoken timed told_by word_of val_with
 values-spoken last ms name z zs order early read = rw (time-reads ms early, le-ltb ms last order, read) refl
 
+-- a line with values is an event
 are-told : (ms : ℕ) → ms ≤ 10 ^ 15 → (name : List ℕ) → is_name name ≡ true → AreTold ms name
 are-told ms early name good z zs small short =
     line-event ms (codes "val" ∷ name ∷ map signed_decimal (z ∷ zs)) (Val name (take 1024 (z ∷ zs))) early

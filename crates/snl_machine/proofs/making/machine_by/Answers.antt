@@ -28,7 +28,7 @@ invariant_of-result c =
     let calls = ap (length {A = FunctionEntry}) c.functions-calls.ensures in
     let room : room_of c.in_ok-operands.operands ≡ room_for code.depth (length code.functions.items) = c.in_ok-operands.ensures.room ∙ (λ j. room_for (c.depth-depth.ensures j) (calls j)) in
     let deep = ap (λ (r : Room). r.operands) room in
-    let counted : code.depth < 2 ^ 64 - 1 = omega (arith, deep, c.in_ok-operands.operands.stack.items.small) in
+    let counted : code.depth < 2 ^ 64 - 1 = omega (arith, deep, c.in_ok-operands.operands.items.small) in
     let is = loaded-is p ls ls c.args.waits code plan refl c.in_ok-plan.ensures c.requires.code c.requires.inside c.requires.short counted in
     let words = c.in_ok-footprint.ensures ∙ ap (λ (r : Room). store_words c.in_ok-store.store + (r.operands + r.places)) (sym c.in_ok-operands.ensures.room) in
     record { words = words; room = room; runs = (plans_are_right p ls c.args.waits code (loaded_by plan code) is).1 }
@@ -41,7 +41,7 @@ returns-clause-made c =
     let plan = c.in_ok-plan.plan in
     let names = names_in c.in_ok-names.names in
     let deep = ap (λ (r : Room). r.operands) c.in_ok-operands.ensures.room ∙ c.depth-depth.ensures in
-    let counted : code.depth < 2 ^ 64 - 1 = omega (arith, deep, c.in_ok-operands.operands.stack.items.small) in
+    let counted : code.depth < 2 ^ 64 - 1 = omega (arith, deep, c.in_ok-operands.operands.items.small) in
     let flags = c.len.ensures ∙ ap length c.requires.flags in
     let ties = c.as_slice-ties.result.now in
     let store = c.in_ok-store.ensures ∙ (λ j. first_world (c.requires.held j) (c.requires.shared j) (flags j) names ties (homes_in c.args.copies.now.places.items ls) ls) in

@@ -1,4 +1,4 @@
-use Rattle.std.proofs.Common.{◌≡◌, ◌∙◌, ◌≤◌, ◌<◌, ◌-◌, ◌+◌, ◌∷◌, ℕ, List, [], ◌++◌, Some, length, sym, ap, subst, arith, slice_get, inl, inr}
+use Rattle.std.proofs.Common.{◌≡◌, ◌∙◌, ◌≤◌, ◌<◌, ◌-◌, ◌+◌, ◌∷◌, ℕ, List, [], ◌++◌, Some, length, refl, sym, ap, subst, arith, slice_get, inl, inr}
 use Rattle.std.proofs.lemmas.Bool.Decides.{eqb_tells}
 use Rattle.circular_buffer.specs.Buffer.{keep_last}
 use Rattle.snl_watch.specs.Blocks.{told_again}
@@ -21,7 +21,7 @@ stands-of texts asked text line size size' s a is at = ap (λ n. slice_get texts
 pub returns-clause-folds : goal.returns-clause-folds
 returns-clause-folds g c run output output' was is f =
     let block = c.args.block.now in
-    let kept = kept-of (recent_texts c.args.recent.now) (recent_texts c.push-2.new.self) c.args.text.items c.args.line.now c.args.recent.now.texts.capacity c.requires.text c.push-2.ensures in
+    let kept = kept-of (recent_texts c.args.recent.now) (recent_texts c.push-2.new.self) c.args.recent.now.next.items c.args.line.now c.args.recent.now.texts.capacity c.requires.next c.push-2.ensures in
     let few : c.begin.new.self.size ≤ length (recent_texts c.push-2.new.self) = omega (arith, c.begin.ensures.size, c.block.ensures) in
     subst (λ o. Folds run o [] c.push-2.new.self c.begin.new.self)
     (told-both _ _ output output' (told_again block ++ block.held.items) (c.args.note.now ++ c.args.line.now) c.in_ok-print.ensures.told was is)
@@ -35,10 +35,10 @@ returns-then-has_room-clause-folds g c run output output' was is f =
     let recent = c.args.recent.now in
     let line = c.args.line.now in
     let n : ℕ = c.args.recent.now.texts.capacity in
-    let kept = kept-of (recent_texts recent) (recent_texts c.push.new.self) c.args.text.items line n c.requires.text c.push.ensures in
+    let kept = kept-of (recent_texts recent) (recent_texts c.push.new.self) recent.next.items line n c.requires.next c.push.ensures in
     let some : 0 < block.size = omega (arith, c.size.ensures, c.is_again.ensures.some c.if-is_again.true) in
     let within : block.size ≤ length (recent_texts recent) = omega (arith, c.size.ensures, c.is_again.ensures.within c.if-is_again.true) in
-    let at = stands-of (recent_texts recent) c.as_slice.result.now c.args.text.items line c.size.result block.size c.size.ensures c.as_slice.ensures.value c.requires.text
+    let at = stands-of (recent_texts recent) recent.next.items recent.next.items line c.size.result block.size c.size.ensures refl c.requires.next
     (c.is_again.ensures.same c.if-is_again.true) in
     let few : block.count < block.size = c.has_room.ensures.count c.if-has_room.true in
     subst (λ o. Folds run o [] c.push.new.self c.take.new.self) (told-none _ output output' was is)

@@ -7,6 +7,6 @@ pub returns-clause-given : goal.returns-clause-given
 returns-clause-given c =
     let h = c.args.self.now in
     let n = c.min-count.result in
-    given-rest h.bytes.items c.copy_from_slice.new.self c.args.room.now h.from h.to n (grind (arith, h.within, c.min-count.ensures, c.first_line.ensures.within))
+    given-rest h.bytes.items c.copy_from_slice.new.self c.args.room.now h.from h.to n (grind (arith, h.within, c.min-count.ensures, c.requires.within))
     (c.copy_from_slice.ensures.len ∙ length-take-le n c.args.room.now (grind (arith, c.min-count.ensures)))
     (c.copy_from_slice.ensures.after ∙ ap (λ l. slice_range l h.from (h.from + n)) c.deref.ensures.value)

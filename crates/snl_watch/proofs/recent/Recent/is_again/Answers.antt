@@ -15,5 +15,5 @@ text-at view xs size x text at same =
 
 pub returns-in-Some-clause-same : goal.returns-in-Some-clause-same
 returns-in-Some-clause-same c is =
-    text-at _ c.args.self.now.texts.items c.args.size c.in-Some.before.now c.args.text.now (search rules)
-    (sym c.as_slice.ensures.value ∙ (slice_eq-Decides Decides-eqb c.as_slice.result.now c.args.text.now c.eq.result c.eq.ensures).0 is)
+    text-at _ c.args.self.now.texts.items c.args.size c.in-Some.before.now c.args.self.now.next.items (search rules)
+    (sym c.as_slice.ensures.value ∙ (slice_eq-Decides Decides-eqb c.as_slice.result.now c.as_slice-in-Some.result.now c.eq.result c.eq.ensures).0 is ∙ c.as_slice-in-Some.ensures.value)

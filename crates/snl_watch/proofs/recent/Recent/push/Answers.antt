@@ -10,5 +10,16 @@ last-seen {A = A} view xs x n =
     let all : List A = xs ++ x ∷ [] in
     sym (drop-map view (length all - n) all) ∙ ap (λ k. drop (k - n) (map view all)) (sym (length-map all view)) ∙ ap (keep_last n) (map-append view xs (x ∷ []))
 
-pub returns : goal.returns
-returns c = ap (λ b. map (λ text. text.items) b.items) c.push_back.ensures.items ∙ last-seen _ c.args.self.now.texts.items c.args.text c.args.self.now.texts.capacity
+pub returns-in-Some : goal.returns-in-Some
+returns-in-Some c =
+    let r = c.args.self.now in
+    let text : c.replace-text.result ≡ r.next = search rules in
+    ap (λ b. map (λ text. text.items) b.items) c.push_back.ensures.items ∙ last-seen _ r.texts.items c.replace-text.result r.texts.capacity
+    ∙ ap (λ t. keep_last r.texts.capacity (recent_texts r ++ t.items ∷ [])) text
+
+pub returns-in_default : goal.returns-in_default
+returns-in_default c =
+    let r = c.args.self.now in
+    let text : c.replace-text.result ≡ r.next = search rules in
+    ap (λ b. map (λ text. text.items) b.items) c.push_back.ensures.items ∙ last-seen _ r.texts.items c.replace-text.result r.texts.capacity
+    ∙ ap (λ t. keep_last r.texts.capacity (recent_texts r ++ t.items ∷ [])) text

@@ -2,7 +2,7 @@ use Rattle.std.proofs.Common.{◌≡◌, drop}
 use Rattle.snl_watch.specs.Counts as spec
 use Rattle.snl_watch.specs.Sets.{names_in}
 use Rattle.snl_watch.specs.Seen.{seen}
-use Rattle.snl_watch.proofs.counter.Counter.take.Given as goal
+use Rattle.snl_watch.proofs.counter.Counter.take_each.Given as goal
 
 abbrev pub invariant-loop-byte : goal.invariant-loop-byte
 invariant-loop-byte l = record {

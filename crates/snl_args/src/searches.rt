@@ -1,0 +1,299 @@
+//! What follows the word `search`: what is looked for, over which values, and where the search stops.
+
+use crate::calls::CallFault;
+use crate::commands::{file_argument, help_argument, macros_argument};
+use clap::{Arg, ArgAction, ArgMatches, Command};
+use std::alloc::{AllocError, Global};
+
+/// Values for a channel, by its name.
+#[derive(Drop)]
+pub struct ChannelValues {
+    /// The channel's name.
+    pub name: String,
+    /// As they were given; none behind `NAME=`.
+    pub values: Vec<i64>,
+}
+
+/// What a search is asked for.
+#[derive(Drop)]
+pub struct SearchWords {
+    /// What no line may end with, or a state that may not be entered.
+    pub never: Vec<String>,
+    /// The file of a recorded trace, whose values take the place of those of the source.
+    pub like: Option<String>,
+    /// Values of channels, in the place of those of the source or the trace.
+    pub values: Vec<ChannelValues>,
+    /// Values at the start.
+    pub firsts: Vec<ChannelValues>,
+    /// Times between lines in milliseconds, in the place of 0.
+    pub gaps: Vec<u64>,
+    /// Channels that may go down and up.
+    pub down: Vec<String>,
+    /// How many lines a trace has at most behind the start.
+    pub lines: u32,
+    /// How many worlds are kept at most.
+    pub worlds: u32,
+    /// How many million bytes these may take.
+    pub memory: u32,
+    /// How many seconds the search may take.
+    pub seconds: u32,
+    /// How many ticks an instant may take while it is searched.
+    pub budget: u32,
+    /// The file that the trace of what was found goes to.
+    pub out: Option<String>,
+    /// The folder that traces go to which take the clauses of the program.
+    pub cover: Option<String>,
+}
+
+/// An option with a text.
+fn text_argument<'a>(
+    alloc: Global,
+    name: &'static str,
+    value: &'static str,
+    help: &'static str,
+) -> Arg<'a> {
+    Arg::new(alloc, name)
+        .long(name)
+        .value_name(value)
+        .action(ArgAction::Append)
+        .help(help)
+}
+
+/// An option with a number from 1 on.
+fn number_argument<'a>(
+    alloc: Global,
+    name: &'static str,
+    value: &'static str,
+    usual: &'static str,
+    help: &'static str,
+) -> Arg<'a> {
+    Arg::new(alloc, name)
+        .long(name)
+        .value_name(value)
+        .action(ArgAction::Set)
+        .value_parser(clap::value_parser!(u32).range(1..=1_000_000_000))
+        .default_value(usual)
+        .help(help)
+}
+
+/// Adds the options that say what is looked for, and over which values.
+fn with_alphabet<'a>(alloc: Global, command: Command<'a>) -> Result<Command<'a>, AllocError> {
+    command
+        .arg(text_argument(
+            alloc,
+            "never",
+            "LINE|SS.STATE",
+            "What no output line may end with, or a state that may not be entered",
+        ))?
+        .arg(
+            Arg::new(alloc, "like")
+                .long("like")
+                .value_name("TRACE")
+                .action(ArgAction::Set)
+                .help("A recorded trace, whose values take the place of those of the source"),
+        )?
+        .arg(text_argument(
+            alloc,
+            "values",
+            "NAME=V,V..",
+            "The values of a channel, in the place of those of the source",
+        ))?
+        .arg(text_argument(alloc, "first", "NAME=V", "Its value at the start"))?
+        .arg(text_argument(
+            alloc,
+            "gaps",
+            "MS,MS..",
+            "Times between lines, in the place of 0; the next wake is always one",
+        ))?
+        .arg(text_argument(alloc, "down", "NAME", "A channel that can go down and up"))
+}
+
+/// Adds the options that say where the search stops.
+fn with_bounds<'a>(alloc: Global, command: Command<'a>) -> Result<Command<'a>, AllocError> {
+    command
+        .arg(number_argument(alloc, "lines", "K", "4", "How many lines behind the start"))?
+        .arg(number_argument(alloc, "worlds", "N", "1000000", "How many worlds are kept"))?
+        .arg(number_argument(
+            alloc,
+            "memory",
+            "MB",
+            "2000",
+            "How many million bytes they take",
+        ))?
+        .arg(number_argument(
+            alloc,
+            "seconds",
+            "S",
+            "60",
+            "How many seconds the search takes",
+        ))?
+        .arg(number_argument(
+            alloc,
+            "budget",
+            "N",
+            "300",
+            "The ticks of an instant in the search",
+        ))?
+        .arg(
+            Arg::new(alloc, "out")
+                .long("out")
+                .value_name("FILE")
+                .action(ArgAction::Set)
+                .help("Where the trace of what was found goes"),
+        )?
+        .arg(
+            Arg::new(alloc, "cover")
+                .long("cover")
+                .value_name("DIR")
+                .action(ArgAction::Set)
+                .help("The folder of traces that take the clauses, each a shortest one"),
+        )
+}
+
+/// The command of `search`.
+pub(crate) fn for_search<'a>(
+    alloc: Global,
+    usage: &'a str,
+    about: &'a str,
+    more: &'a str,
+) -> Result<Command<'a>, AllocError> {
+    let command = Command::new(alloc, "snl")
+        .no_binary_name(true)
+        .disable_help_flag(true)
+        .override_usage(usage)
+        .about(about)
+        .after_help(more)
+        .arg(file_argument(alloc))?
+        .arg(macros_argument(alloc))?
+        .arg(help_argument(alloc))?;
+    with_bounds(alloc, with_alphabet(alloc, command)?)
+}
+
+/// The error of an option whose text is none.
+fn bad_text(alloc: Global, option: &str, text: &str, form: &str) -> CallFault {
+    match format!(in alloc; "error: '--{option} {text}' is not {form}\n") {
+        Ok(text) => CallFault::Usage(text),
+        Err(_) => CallFault::Memory,
+    }
+}
+
+/// Whole numbers with commas between them; none in an empty text. None where one is no number.
+fn numbers_in(alloc: Global, text: &str) -> Result<Option<Vec<i64>>, AllocError> {
+    let mut numbers = Vec::new(alloc);
+    if text.is_empty() {
+        return Ok(Some(numbers));
+    }
+    for word in text.split(',') {
+        match word.parse::<i64>() {
+            Ok(number) => numbers.push(number)?,
+            Err(_) => return Ok(None),
+        }
+    }
+    Ok(Some(numbers))
+}
+
+/// A name and numbers, of `NAME=V,V..`.
+fn named_in(alloc: Global, option: &str, text: &str) -> Result<ChannelValues, CallFault> {
+    let form = "NAME=V,V..";
+    let Some((name, numbers)) = text.rsplit_once('=') else {
+        return Err(bad_text(alloc, option, text, form));
+    };
+    match numbers_in(alloc, numbers)? {
+        Some(values) => Ok(ChannelValues {
+            name: String::from_str(alloc, name)?,
+            values,
+        }),
+        None => Err(bad_text(alloc, option, text, form)),
+    }
+}
+
+/// The channels with numbers of an option.
+fn all_named(
+    alloc: Global,
+    matches: &ArgMatches,
+    option: &str,
+) -> Result<Vec<ChannelValues>, CallFault> {
+    let mut all = Vec::new(alloc);
+    if let Some(texts) = matches.get_strs(option) {
+        for text in texts {
+            let named = named_in(alloc, option, text)?;
+            all.push(named).map_err(|_| AllocError)?;
+        }
+    }
+    Ok(all)
+}
+
+/// The texts of an option.
+fn all_texts(alloc: Global, matches: &ArgMatches, option: &str) -> Result<Vec<String>, AllocError> {
+    let mut all = Vec::new(alloc);
+    if let Some(texts) = matches.get_strs(option) {
+        for text in texts {
+            all.push(String::from_str(alloc, text)?)?;
+        }
+    }
+    Ok(all)
+}
+
+/// Adds times in milliseconds. Answers whether all are some.
+fn push_times(numbers: &[i64], times: &mut Vec<u64>) -> Result<bool, AllocError> {
+    for number in numbers {
+        match u64::try_from(*number) {
+            Ok(ms) => times.push(ms)?,
+            Err(_) => return Ok(false),
+        }
+    }
+    Ok(true)
+}
+
+/// The times of `--gaps`.
+fn gaps_in(alloc: Global, matches: &ArgMatches) -> Result<Vec<u64>, CallFault> {
+    let mut times = Vec::new(alloc);
+    if let Some(texts) = matches.get_strs("gaps") {
+        for text in texts {
+            let is_good = match numbers_in(alloc, text)? {
+                Some(numbers) => push_times(numbers.as_slice(), &mut times)?,
+                None => false,
+            };
+            if !is_good {
+                return Err(bad_text(alloc, "gaps", text, "MS,MS.."));
+            }
+        }
+    }
+    Ok(times)
+}
+
+/// A number of an option.
+fn number_in(matches: &ArgMatches, option: &str) -> u32 {
+    matches.get_one::<u32>(option).unwrap_or(1)
+}
+
+/// The text of an option that may be missing.
+fn maybe_text(
+    alloc: Global,
+    matches: &ArgMatches,
+    option: &str,
+) -> Result<Option<String>, AllocError> {
+    match matches.get_str(option) {
+        Some(text) => Ok(Some(String::from_str(alloc, text)?)),
+        None => Ok(None),
+    }
+}
+
+/// What a search is asked for, as a command found it.
+pub(crate) fn search_words(alloc: Global, matches: &ArgMatches) -> Result<SearchWords, CallFault> {
+    Ok(SearchWords {
+        never: all_texts(alloc, matches, "never")?,
+        like: maybe_text(alloc, matches, "like")?,
+        values: all_named(alloc, matches, "values")?,
+        firsts: all_named(alloc, matches, "first")?,
+        gaps: gaps_in(alloc, matches)?,
+        down: all_texts(alloc, matches, "down")?,
+        lines: number_in(matches, "lines"),
+        worlds: number_in(matches, "worlds"),
+        memory: number_in(matches, "memory"),
+        seconds: number_in(matches, "seconds"),
+        budget: number_in(matches, "budget"),
+        out: maybe_text(alloc, matches, "out")?,
+        cover: maybe_text(alloc, matches, "cover")?,
+    })
+}
