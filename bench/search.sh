@@ -15,7 +15,7 @@ work=$(mktemp -d)
 trap 'rm -rf "$work"' EXIT
 
 # runs a search, and leaves its seconds and its memory in kilobytes in $work/took
-timed() { /usr/bin/time -o "$work/took" -f '%e %M' "$snl" search --memory 8000 --worlds 100000000 --seconds "$seconds" "$@" > "$work/out" || true; }
+timed() { /usr/bin/time -q -o "$work/took" -f '%e %M' "$snl" search --memory 8000 --worlds 100000000 --seconds "$seconds" "$@" > "$work/out" || true; }
 
 # measure FILE LINES INPUTS: a search of so many lines, with so many inputs in a world
 measure() {
@@ -36,5 +36,5 @@ measure() {
     tail -n 1 "$work/out" | sed 's/^/  /'
 }
 
-measure examples/interlock.st "${INTERLOCK:-8}" 25
-measure examples/ramp.st "${RAMP:-5}" 25
+measure examples/interlock.st "${INTERLOCK:-40}" 25
+measure examples/ramp.st "${RAMP:-12}" 25
