@@ -47,21 +47,31 @@ pub fn judged<'a>(
             Ok(found)
         }
         Err(fault) => {
-            let found = fault_judged(alloc, source, fault, file)?;
-            Ok(found)
+            let messages = fault_messages(alloc, source, fault, file)?;
+            Ok(refused(messages))
         }
     }
 }
 
+/// What is said of a source that is refused as a whole.
+fn refused<'a>(messages: Vec<u8>) -> Judgement<'a>
+    ensures messages { result.messages ≡ messages }
+    ensures none { result.checked ≡ None }
+{
+    Judgement {
+        messages,
+        checked: None,
+    }
+}
+
 /// The one message of a source that is no list of tokens.
-fn fault_judged<'a>(
+fn fault_messages(
     alloc: Global,
     source: &[u8],
     fault: LexFault,
     file: &[u8],
-) -> Result<Judgement<'a>, AllocError>
-    ensures told { IfOk result (λ f. IsFaultTold file.now source.now fault f.messages.items) }
-    ensures none { IfOk result (λ f. f.checked ≡ None) }
+) -> Result<Vec<u8>, AllocError>
+    ensures { IfOk result (λ messages. IsFaultTold file.now source.now fault messages.items) }
 {
     let (Some(text), Some(pos)) = (fault.text(), fault.pos()) else {
         return Err(AllocError);
@@ -71,8 +81,8 @@ fn fault_judged<'a>(
         read: file,
         marked: marked.as_slice(),
     };
-    let found = refused(alloc, names, pos, Refusal::NoTokens, text.as_bytes())?;
-    Ok(found)
+    let messages = error_alone(alloc, names, pos, Refusal::NoTokens, text.as_bytes())?;
+    Ok(messages)
 }
 
 /// At most so many of the first bytes.
@@ -120,13 +130,13 @@ fn tokens_judged<'a>(
         }
         Err(ParseFault::Memory) => Err(AllocError),
         Err(ParseFault::Unexpected(k)) => {
-            let found = syntax_fault(alloc, lexed, k, names)?;
-            Ok(found)
+            let messages = syntax_messages(alloc, lexed, k, names)?;
+            Ok(refused(messages))
         }
         Err(ParseFault::TooDeep(k)) => {
             let token = token_of(lexed.tokens.as_slice(), k);
-            let found = nesting_fault(alloc, token, names)?;
-            Ok(found)
+            let messages = token_messages(alloc, token, names, Refusal::TooDeep)?;
+            Ok(refused(messages))
         }
     }
 }
@@ -155,61 +165,43 @@ fn tree_judged<'a>(
 }
 
 /// The one message of tokens that are no program, at the first that can't stand where it does.
-fn syntax_fault<'a>(
+fn syntax_messages(
     alloc: Global,
     lexed: &Lexed,
     k: usize,
     names: Names,
-) -> Result<Judgement<'a>, AllocError>
-    ensures text { IfOk result (λ f. f.messages.items
+) -> Result<Vec<u8>, AllocError>
+    ensures { IfOk result (λ messages. messages.items
         ≡ messages_text names.entry.read.now (map (λ name. name.now) names.entry.marked.now)
         (syntax_error lexed.now (slice_get lexed.now.tokens.items k) ∷ [])) }
-    ensures none { IfOk result (λ f. f.checked ≡ None) }
 {
     match token_at(lexed, k) {
         Some(token) => {
-            let found = token_fault(alloc, token, names, Refusal::Unexpected)?;
-            Ok(found)
+            let messages = token_messages(alloc, token, names, Refusal::Unexpected)?;
+            Ok(messages)
         }
         None => {
-            let found = refused(
-                alloc,
-                names,
-                lexed.eof,
-                Refusal::EndOfFile,
-                Refusal::EndOfFile.words(),
-            )?;
-            Ok(found)
+            let end = Refusal::EndOfFile;
+            let messages = error_alone(alloc, names, lexed.eof, end, end.words())?;
+            Ok(messages)
         }
     }
 }
 
-/// The one message of tokens with which only programs go on that are nested too deep.
-fn nesting_fault<'a>(alloc: Global, token: Token, names: Names) -> Result<Judgement<'a>, AllocError>
-    ensures text { IfOk result (λ f. f.messages.items
-        ≡ messages_text names.entry.read.now (map (λ name. name.now) names.entry.marked.now)
-        (nesting_error token.entry ∷ [])) }
-    ensures none { IfOk result (λ f. f.checked ≡ None) }
-{
-    let found = token_fault(alloc, token, names, Refusal::TooDeep)?;
-    Ok(found)
-}
-
-/// An error that quotes its token.
-fn token_fault<'a>(
+/// An error that quotes its token, as the one message of its source.
+fn token_messages(
     alloc: Global,
     token: Token,
     names: Names,
     why: Refusal,
-) -> Result<Judgement<'a>, AllocError>
-    ensures text { IfOk result (λ f. f.messages.items
+) -> Result<Vec<u8>, AllocError>
+    ensures { IfOk result (λ messages. messages.items
         ≡ messages_text names.entry.read.now (map (λ name. name.now) names.entry.marked.now)
         (token_error why token.entry ∷ [])) }
-    ensures none { IfOk result (λ f. f.checked ≡ None) }
 {
     let text = words_at(alloc, why.words(), token.text)?;
-    let found = refused(alloc, names, token.pos, why, text.as_slice())?;
-    Ok(found)
+    let messages = error_alone(alloc, names, token.pos, why, text.as_slice())?;
+    Ok(messages)
 }
 
 /// A token by its number, of which there are more.
@@ -238,17 +230,16 @@ fn words_at(alloc: Global, words: &[u8], token: &[u8]) -> Result<Vec<u8>, AllocE
 }
 
 /// An error that is the one message of its source.
-fn refused<'a>(
+fn error_alone(
     alloc: Global,
     names: Names,
     pos: Pos,
     why: Refusal,
     text: &[u8],
-) -> Result<Judgement<'a>, AllocError>
-    ensures text { IfOk result (λ f. f.messages.items
+) -> Result<Vec<u8>, AllocError>
+    ensures { IfOk result (λ messages. messages.items
         ≡ messages_text names.entry.read.now (map (λ name. name.now) names.entry.marked.now)
         (error_at pos (refusal_number why) text.now ∷ [])) }
-    ensures none { IfOk result (λ f. f.checked ≡ None) }
 {
     let mut messages = Vec::new(alloc);
     push_line(
@@ -259,8 +250,5 @@ fn refused<'a>(
         why.number(),
         text,
     )?;
-    Ok(Judgement {
-        messages,
-        checked: None,
-    })
+    Ok(messages)
 }

@@ -1,6 +1,6 @@
 //! Arithmetic over -2^63 .. 2^63-1, with its faults.
 
-ghost use Rattle.std.specs.Prelude.{◌≡◌, ◌<◌, ◌^◌, pos, ◌*ℤ◌, ok_or, Err};
+ghost use Rattle.std.specs.Prelude.{◌≡◌, ◌<◌, ◌^◌, pos, ◌*ℤ◌, ok_or};
 ghost use Rattle.snl_arithmetic.specs.Arithmetic as spec;
 
 use snl_text::Kind;
@@ -16,13 +16,13 @@ pub enum ArithmeticFault {
     Shift,
 }
 
-/// What leaves the range. It is not put in place: a sum that stays in the range then costs one test, and no choice between two
-/// answers.
+/// The fault of what leaves the range. It is not put in place: a sum that stays in the range then costs one test, and no choice
+/// between two answers.
 #[inline(never)]
-fn overflowed() -> Result<i64, ArithmeticFault>
-    ensures { result ≡ Err ArithmeticFault.Overflow }
+fn overflowed() -> ArithmeticFault
+    ensures { result ≡ ArithmeticFault.Overflow }
 {
-    Err(ArithmeticFault::Overflow)
+    ArithmeticFault::Overflow
 }
 
 /// What a checked operation gave, if it stays in the range.
@@ -32,7 +32,7 @@ fn checked(number: Option<i64>) -> Result<i64, ArithmeticFault>
 {
     match number {
         Some(number) => Ok(number),
-        None => overflowed(),
+        None => Err(overflowed()),
     }
 }
 

@@ -5,7 +5,8 @@ use Rattle.snl_resolve.specs.Variables.{CopyVariable}
 use Rattle.snl_resolve.specs.declared.variables.CopyVariable as declared
 use Rattle.snl_code.specs.Copies.{sets_of}
 use Rattle.snl_meaning.specs.Names.{number_at}
-use Rattle.snl_load.specs.Initials.{held_in, held_among, first_of, offsets_of}
+use Rattle.snl_load.specs.Initials.{held_in, held_among}
+use Rattle.snl_load.specs.Offsets.{first_of, offsets_of}
 
 -- the variable that is declared at an offset stands at the number of that offset
 found-in : (vs : List CopyVariable) (q : ℕ) → held_in vs q ≡ slice_get vs (number_at (offsets_of vs) q)

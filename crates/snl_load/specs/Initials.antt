@@ -1,5 +1,5 @@
 -- What variables, and the buffers of their links, begin with.
-use Rattle.std.specs.Prelude.{ℕ, zero, suc, ◌+◌, ℤ, pos, int_le, ◌&&◌, ◌==◌, List, [], ◌∷◌, Option, None, Some, map, slice_get, replicate, if◌then◌else◌}
+use Rattle.std.specs.Prelude.{ℕ, zero, suc, ◌+◌, ℤ, pos, int_le, ◌&&◌, ◌==◌, List, [], ◌∷◌, Option, None, Some, slice_get, replicate, if◌then◌else◌}
 use Rattle.snl_syntax.specs.Expressions.{ExprTree}
 use Rattle.snl_links.specs.Links.{Link}
 use Rattle.snl_meaning.specs.Effect.{values_of}
@@ -45,15 +45,6 @@ held_in (v ∷ vs) offset = if v.name.pos.offset == offset then Some v else held
 abbrev pub held_among : List (List CopyVariable) → ℕ → Option CopyVariable
 held_among [] offset = None
 held_among (vs ∷ more) offset = elim (held_in vs offset) [ Some v ↦ Some v | None ↦ held_among more offset ]
-
--- The variables of the first copy.
-abbrev pub first_of : List (List CopyVariable) → List CopyVariable
-first_of [] = []
-first_of (vs ∷ more) = vs
-
--- Where variables are declared, in bytes.
-abbrev pub offsets_of : List CopyVariable → List ℕ
-offsets_of vs = map (λ v. v.name.pos.offset) vs
 
 -- The buffer of a link begins as its elements of the variable do; where there is no variable, with 0.
 abbrev pub buffer_by : Option CopyVariable → Link → List ℤ

@@ -5,6 +5,7 @@ pub mod Places
 pub mod Sets
 pub mod Plans
 pub mod Initials
+pub mod Offsets
 pub mod First
 pub mod Right
 pub mod Examples

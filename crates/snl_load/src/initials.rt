@@ -10,6 +10,7 @@ ghost use Rattle.snl_resolve.specs.Scopes.{is_hidden};
 ghost use Rattle.snl_syntax.specs.view.Expressions.{boxed, view};
 ghost use Rattle.snl_code.specs.Copies.{sets_of};
 ghost use Rattle.snl_load.specs.Initials as spec;
+ghost use Rattle.snl_load.specs.Offsets.{first_of, offsets_of};
 
 use snl_links::Link;
 use snl_meaning::Offsets;
@@ -134,7 +135,7 @@ fn held_among<'p, 'a>(
 /// Where variables are declared, each found by its number. The only error is that memory ends.
 fn offsets_of(alloc: Global, variables: &[CopyVariable]) -> Result<Offsets, AllocError>
     ensures { IfOk result (λ offsets. offsets
-        ≡ spec.offsets_of (map variable_view variables.now)) }
+        ≡ offsets_of (map variable_view variables.now)) }
 {
     let mut offsets = Vec::new(alloc);
     for number in 0..variables.len() {
@@ -156,7 +157,7 @@ fn after_first<'s, 'p, 'a>(sets: &'s [Vec<CopyVariable<'p, 'a>>]) -> &'s [Vec<Co
 /// The same of the variables of the first copy. The only error is that memory ends.
 fn first_offsets(alloc: Global, sets: &[Vec<CopyVariable>]) -> Result<Offsets, AllocError>
     ensures { IfOk result (λ offsets. offsets
-        ≡ spec.offsets_of (spec.first_of (sets_of sets.now))) }
+        ≡ offsets_of (first_of (sets_of sets.now))) }
 {
     if sets.is_empty() {
         return Offsets::of(alloc, Vec::new(alloc));
@@ -171,7 +172,7 @@ fn held_by<'p, 'a>(
     offsets: &Offsets,
     offset: usize,
 ) -> Option<CopyVariable<'p, 'a>>
-    requires { offsets.now ≡ spec.offsets_of (spec.first_of (sets_of sets.now)) }
+    requires { offsets.now ≡ offsets_of (first_of (sets_of sets.now)) }
     ensures { option_map variable_view result ≡ spec.held_among (sets_of sets.now) offset }
 {
     if sets.is_empty() {

@@ -36,6 +36,10 @@ module _ (words : List ℕ) (count : ℕ) where
         | inr beyond ↦ has-beyond place beyond
       ]
 
+  -- nor has one whose word is 0
+  pub zero-word : (place : ℕ) → slice_index_or words (place / 64) 0 ≡ 0 → has (marks_in words count) place ≡ false
+  zero-word place is = no-mark place (ap (λ w. bit_at w (place % 64)) is ∙ bit_at-zero (place % 64))
+
 -- a word that was read
 pub word-read : (words : List ℕ) (k word : ℕ) → k < length words → word ≡ slice_index_or words k word → slice_index_or words k 0 ≡ word
 word-read words k word within read = sym (get_or_default_zero words k word within) ∙ sym read

@@ -13,3 +13,4 @@ pub mod Footprint
 pub mod Counting
 pub mod Memory
 pub mod Pictures
+pub mod Zeros

@@ -2,10 +2,9 @@
 
 ghost use Rattle.std.specs.Prelude.{◌≡◌, ◌+◌, ◌<◌, ◌^◌, ℕ, Ok, length};
 ghost use Rattle.snl_meaning.specs.declared.instrs.Instr.TheVariants as instr;
-ghost use Rattle.snl_meaning.specs.Run.{done_by};
 ghost use Rattle.snl_meaning.specs.Words as spec;
-ghost use Rattle.snl_vm.specs.Running.{context_of};
-ghost use Rattle.snl_vm.specs.Stack.{stack_of, places_of, slots_of};
+ghost use Rattle.snl_vm.specs.Running.{done_in};
+ghost use Rattle.snl_vm.specs.Stack.{places_of, slots_of};
 ghost use Rattle.snl_vm.specs.Steps.{CanStep, crossed};
 ghost use Rattle.snl_vm.specs.Views.{gave, world_of};
 
@@ -74,12 +73,11 @@ pub fn call(
 ) -> Result<usize, Charge>
     requires after { pc + 1 < 2 ^ 64 }
     requires places { places_of calls.old ≡ length context.now.functions.now }
-    requires possible { CanStep (done_by (context_of context.now calls.old operands.old)
-        (instr.Call site.function site.count site.line) pc (stack_of operands.old)
-        (world_of store.old)) }
-    ensures does { done_by (context_of context.now calls.old operands.old)
-        (instr.Call site.function site.count site.line) pc (stack_of operands.old)
-        (world_of store.old) ≡ crossed result calls.new operands.new (world_of store.new) }
+    requires possible { CanStep (done_in context.now calls.old operands.old store.old
+        (instr.Call site.function site.count site.line) pc) }
+    ensures does { done_in context.now calls.old operands.old store.old
+        (instr.Call site.function site.count site.line) pc
+        ≡ crossed result calls.new operands.new (world_of store.new) }
     ensures room { slots_of operands.new ≡ slots_of operands.old }
     ensures places { places_of calls.new ≡ places_of calls.old }
 {
@@ -96,10 +94,8 @@ pub fn call(
 #[inline(always)]
 pub fn go_back(context: &PieceContext, store: &Store, calls: &mut Calls, operands: &Stack) -> usize
     ghost pc: { ℕ }
-    requires { CanStep (done_by (context_of context.now calls.old operands.now)
-        instr.Return pc (stack_of operands.now) (world_of store.now)) }
-    ensures does { done_by (context_of context.now calls.old operands.now)
-        instr.Return pc (stack_of operands.now) (world_of store.now)
+    requires { CanStep (done_in context.now calls.old operands.now store.now instr.Return pc) }
+    ensures does { done_in context.now calls.old operands.now store.now instr.Return pc
         ≡ crossed (Ok result) calls.new operands.now (world_of store.now) }
     ensures places { places_of calls.new ≡ places_of calls.old }
 {

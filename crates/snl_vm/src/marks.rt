@@ -1,17 +1,26 @@
 //! Marks of places, 64 to a word, the lowest bit first.
 
-ghost use Rattle.std.specs.Prelude.{◌≡◌, ◌+◌, ◌*◌, ◌≤◌, ◌<◌, ◌++◌, true, false, length, replicate, slice_set, IfOk, OnOk};
+ghost use Rattle.std.specs.Prelude.{◌≡◌, ◌+◌, ◌*◌, ◌≤◌, ◌<◌, ◌++◌, true, false, length, replicate, slice_index_or, slice_set, IfOk, OnOk};
+ghost use Rattle.std.proofs.Props.{props};
+ghost use Rattle.snl_vm.specs.Zeros.{AreZeroOutside};
 
 use std::alloc::{AllocError, Global};
 
-/// Which of some places are marked.
+/// Which of some places are marked. Where there are many places, few are marked at a time: so it is known between which words
+/// the marks are, and no others are looked at.
 #[derive(Drop)]
 pub struct Marks {
     words: Vec<u64>,
     count: usize,
+    /// No word before this one has a mark,
+    start: usize,
+    /// and none from this one on.
+    end: usize,
     ghost held: { count ≤ 64 * length words.items },
     ghost few: { length words.items ≤ count },
     ghost tight: { 64 * length words.items < count + 64 },
+    ghost inside: { end ≤ length words.items },
+    ghost outside: { AreZeroOutside words.items start end } by { Prim.hlevel props },
 }
 
 impl Marks {
@@ -25,6 +34,8 @@ impl Marks {
         Ok(Marks {
             words: vec![in alloc; 0u64; count.div_ceil(64)]?,
             count,
+            start: 0,
+            end: 0,
         })
     }
 
@@ -54,7 +65,27 @@ impl Marks {
         ensures { marks_of self.new ≡ slice_set (marks_of self.old) place true }
     {
         if place < self.count {
-            self.words[place / 64] |= 1u64 << (place % 64);
+            let word = place / 64;
+            self.reach(word);
+            self.words[word] |= 1u64 << (place % 64);
+        }
+    }
+
+    /// Lets marks be in a word, too.
+    fn reach(&mut self, word: usize)
+        requires within { word < length self.old.words.items }
+        ensures start { self.new.start ≤ word }
+        ensures end { word < self.new.end }
+        ensures words { self.new.words ≡ self.old.words }
+        ensures count { self.new.count ≡ self.old.count }
+    {
+        if self.end <= self.start {
+            self.start = word;
+            self.end = word + 1;
+        } else if word < self.start {
+            self.start = word;
+        } else if self.end <= word {
+            self.end = word + 1;
         }
     }
 
@@ -63,7 +94,24 @@ impl Marks {
         ensures { marks_of self.new ≡ slice_set (marks_of self.old) place false }
     {
         if place < self.count {
-            self.words[place / 64] &= !(1u64 << (place % 64));
+            let word = place / 64;
+            let left = self.words[word] & !(1u64 << (place % 64));
+            self.words[word] = left;
+            if left == 0 {
+                self.leave(word);
+            }
+        }
+    }
+
+    /// Lets no more marks be in a word that has none, if it is the first in which they may be.
+    fn leave(&mut self, word: usize)
+        requires within { word < length self.old.words.items }
+        requires none { slice_index_or self.old.words.items word 0 ≡ 0 }
+        ensures words { self.new.words ≡ self.old.words }
+        ensures count { self.new.count ≡ self.old.count }
+    {
+        if self.start == word {
+            self.start = word + 1;
         }
     }
 
@@ -87,6 +135,8 @@ impl Marks {
     {
         match from.split_at_checked(self.words.len()) {
             Some((own, left)) => {
+                self.start = 0;
+                self.end = self.words.len();
                 for (number, word) in own.iter().enumerate() {
                     self.words[number] = word.cast_unsigned();
                 }
@@ -96,25 +146,29 @@ impl Marks {
         }
     }
 
-    /// The first marked place from one on. It looks at a word for 64 places.
+    /// The first marked place from one on. It looks at one word for 64 places.
     pub fn first_from(&self, from: usize) -> Option<usize>
         ensures { IsFirst (marks_of self.now) from result }
     {
-        if self.count <= from {
+        let word = from / 64;
+        if word < self.start {
+            return self.first_in(self.start);
+        }
+        if self.end <= word {
             return None;
         }
-        let left = self.words[from / 64] >> (from % 64);
+        let left = self.words[word] >> (from % 64);
         if left != 0 {
             return self.within(from + left.trailing_zeros() as usize);
         }
-        self.first_in(from / 64 + 1)
+        self.first_in(word + 1)
     }
 
     /// The first marked place of the words from one on.
     fn first_in(&self, word: usize) -> Option<usize>
         ensures { IsFirst (marks_of self.now) (64 * word) result }
     {
-        for number in word..self.count.div_ceil(64) {
+        for number in word..self.end {
             let left = self.words[number];
             if left != 0 {
                 return self.within(number * 64 + left.trailing_zeros() as usize);

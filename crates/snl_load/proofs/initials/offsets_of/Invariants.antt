@@ -1,6 +1,6 @@
 use Rattle.std.proofs.Common.{◌≡◌, ◌++◌, drop, map}
 use Rattle.snl_resolve.specs.CopyVariables.{variable_view}
-use Rattle.snl_load.specs.Initials as spec
+use Rattle.snl_load.specs.Offsets as spec
 use Rattle.snl_load.proofs.initials.offsets_of.Given as goal
 
 -- offsets so far, and those that are left

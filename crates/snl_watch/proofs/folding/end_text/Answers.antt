@@ -21,7 +21,8 @@ stands-of texts asked text line size size' s a is at = ap (λ n. slice_get texts
 pub returns-clause-folds : goal.returns-clause-folds
 returns-clause-folds g c run output output' was is f =
     let block = c.args.block.now in
-    let kept = kept-of (recent_texts c.args.recent.now) (recent_texts c.push-2.new.self) c.args.recent.now.next.items c.args.line.now c.args.recent.now.texts.capacity c.requires.next c.push-2.ensures in
+    let before = recent_texts c.args.recent.now in
+    let kept = kept-of before (recent_texts c.push-2.new.self) c.args.recent.now.next.items c.args.line.now c.args.recent.now.texts.capacity c.requires.next c.push-2.ensures in
     let few : c.begin.new.self.size ≤ length (recent_texts c.push-2.new.self) = omega (arith, c.begin.ensures.size, c.block.ensures) in
     subst (λ o. Folds run o [] c.push-2.new.self c.begin.new.self)
     (told-both _ _ output output' (told_again block ++ block.held.items) (c.args.note.now ++ c.args.line.now) c.in_ok-print.ensures.told was is)

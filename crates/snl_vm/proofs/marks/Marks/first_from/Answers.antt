@@ -2,11 +2,18 @@ use Rattle.std.proofs.Common.{rules, ◌≡◌, ◌+◌, ◌*◌, ◌/◌, ◌%�
 use Rattle.std.proofs.lemmas.Nat.{shr_le}
 use Rattle.std.specs.Int.{trailing_zeros}
 use Rattle.snl_vm.specs.Marks.{marks_of, IsFirst, if_within}
-use Rattle.snl_vm.proofs.Bits.{first-left, none-left, left-inside, first-later, has-beyond, word-read}
+use Rattle.snl_vm.proofs.Bits.{first-left, none-left, left-inside, first-later, zero-word, word-read}
 use Rattle.snl_vm.proofs.marks.Marks.first_from.Goals as goal
 
-pub returns-then-self-from : goal.returns-then-self-from
-returns-then-self-from c k after = has-beyond c.args.self.now.words.items c.args.self.now.count k (omega (arith, c.if-self-from.true, after))
+pub returns-then-word-self : goal.returns-then-word-self
+returns-then-word-self c =
+    let m = c.args.self.now in
+    first-later (marks_of m) c.args.from (64 * m.start) c.first_in.result (omega (arith, c.if-word-self.true))
+    (λ k after before. zero-word m.words.items m.count k (m.outside.before (k / 64) (omega (arith, before)))) c.first_in.ensures
+
+pub returns-then-self-word : goal.returns-then-self-word
+returns-then-self-word c k after =
+    let m = c.args.self.now in zero-word m.words.items m.count k (m.outside.after (k / 64) (omega (arith, c.if-self-word.true, after)))
 
 pub overflow_add-from : goal.overflow_add-from
 overflow_add-from c =
@@ -42,6 +49,6 @@ returns c =
     let word = c.index.result.now in
     let at = word-read words _ word (search rules) c.index.ensures in
     let fits : word < 2 ^ 64 = search rules in
-    first-later (marks_of c.args.self.now) from (64 * (from / 64 + 1)) c.first_in.result (omega arith)
+    first-later (marks_of c.args.self.now) from (64 * (from / 64 + 1)) c.first_in-2.result (omega arith)
     (λ k after before. none-left words c.args.self.now.count (from / 64) (from % 64) (word / 2 ^ (from % 64)) (omega arith) (omega (arith, at, fits))
-    (ap (λ w. w / 2 ^ (from % 64)) at) c.if-left-ne0.false k (omega (arith, after)) before) c.first_in.ensures
+    (ap (λ w. w / 2 ^ (from % 64)) at) c.if-left-ne0.false k (omega (arith, after)) before) c.first_in-2.ensures

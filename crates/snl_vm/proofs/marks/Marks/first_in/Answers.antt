@@ -1,7 +1,7 @@
-use Rattle.std.proofs.Common.{rules, ◌*◌, ◌<◌, ◌^◌, ◌∙◌, ℕ, Option, subst, sym, inl, inr, arith}
+use Rattle.std.proofs.Common.{rules, ◌*◌, ◌/◌, ◌<◌, ◌^◌, ◌∙◌, ℕ, Option, subst, sym, inl, inr, arith}
 use Rattle.std.proofs.lemmas.Bool.{cases_lt}
 use Rattle.snl_vm.specs.Marks.{marks_of, IsFirst}
-use Rattle.snl_vm.proofs.Bits.{first-word, none-word, first-later, has-beyond, word-read}
+use Rattle.snl_vm.proofs.Bits.{first-word, none-word, first-later, zero-word, word-read}
 use Rattle.snl_vm.proofs.marks.Marks.first_in.Goals as goal
 
 pub returns-then-left-ne0 : goal.returns-then-left-ne0
@@ -27,5 +27,5 @@ pub returns : goal.returns
 returns c k from =
     elim (cases_lt k (64 * c.loop-number.number)) [
       | inl before ↦ c.loop-number.invariant k from before
-      | inr beyond ↦ has-beyond c.args.self.now.words.items c.args.self.now.count k (omega (arith, c.div_ceil-number-end.ensures, c.loop-number-test.false, beyond))
+      | inr beyond ↦ zero-word c.args.self.now.words.items c.args.self.now.count k (c.args.self.now.outside.after (k / 64) (omega (arith, c.loop-number-test.false, beyond)))
     ]

@@ -1,6 +1,6 @@
-use Rattle.std.proofs.Common.{◌≡◌, ◌∙◌, ◌<◌, ◌^◌, ap, arith, rules, sym, length, pos, get_or, FitsSigned, w64}
+use Rattle.std.proofs.Common.{◌≡◌, ◌∙◌, ◌<◌, ◌≤◌, slice_set, ◌^◌, ap, arith, rules, sym, length, pos, get_or, FitsSigned, w64}
 use Rattle.std.proofs.lemmas.Int.{to_z-of_z, of_z-to_z}
-use Rattle.std.proofs.lemmas.List.{get_or_default}
+use Rattle.std.proofs.lemmas.List.{get_or_default, get_or_past, length-set}
 use Rattle.std.specs.Int.{cast_unsigned}
 use Rattle.snl_vm.specs.Marks.{marks_in}
 use Rattle.snl_vm.specs.Pictures.{number_word}
@@ -21,6 +21,29 @@ loop-number-preserved c =
       words = words-more number_word (λ n. n < 2 ^ 64) many own l.number l.self.words.items z c.cast_unsigned.result l.invariant.words all within
           (get_or_default own l.number (pos 0) z c.loop-number-test.true) (λ x small is. did ∙ ap (cast_unsigned w64) is ∙ of_z-to_z w64 x small);
       count = l.invariant.count;
+      start = l.invariant.start;
+      end = l.invariant.end ∙ sym (length-set l.self.words.items l.number c.cast_unsigned.result);
+    }
+
+pub invariant_of-self-in-loop-number-clause-few : goal.invariant_of-self-in-loop-number-clause-few
+invariant_of-self-in-loop-number-clause-few c =
+    let l = c.loop-number in omega (arith, length-set l.self.words.items l.number c.cast_unsigned.result, l.self.few)
+
+pub invariant_of-self-in-loop-number-clause-tight : goal.invariant_of-self-in-loop-number-clause-tight
+invariant_of-self-in-loop-number-clause-tight c =
+    let l = c.loop-number in omega (arith, length-set l.self.words.items l.number c.cast_unsigned.result, l.self.tight)
+
+pub invariant_of-self-in-loop-number-clause-inside : goal.invariant_of-self-in-loop-number-clause-inside
+invariant_of-self-in-loop-number-clause-inside c =
+    let l = c.loop-number in omega (arith, length-set l.self.words.items l.number c.cast_unsigned.result, l.self.inside)
+
+pub invariant_of-self-in-loop-number-clause-outside : goal.invariant_of-self-in-loop-number-clause-outside
+invariant_of-self-in-loop-number-clause-outside c =
+    let l = c.loop-number in
+    record {
+      before = λ k less. absurd (omega (arith, l.invariant.start, less));
+      after = λ k beyond. get_or_past (slice_set l.self.words.items l.number c.cast_unsigned.result) k 0
+          (omega (arith, length-set l.self.words.items l.number c.cast_unsigned.result, l.invariant.end, beyond));
     }
 
 pub returns-after-loop-number-clause-read : goal.returns-after-loop-number-clause-read

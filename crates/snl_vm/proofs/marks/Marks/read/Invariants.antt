@@ -8,4 +8,6 @@ abbrev pub invariant-loop-number : goal.invariant-loop-number
 invariant-loop-number l = record {
   words : AreRead number_word (λ (n : ℕ). n < 2 ^ 64) (length l.fn.self.words.items) l.own l.number l.self.words.items;
   count : l.self.count ≡ l.fn.self.count;
+  start : l.self.start ≡ 0;
+  end : l.self.end ≡ length l.self.words.items;
 }
