@@ -39,4 +39,5 @@ returns-in_ok-messages-in-Err-TooDeep-clause-told c =
     let at : slice_get c.args.lexed.now.tokens.items k ≡ Some token = subst (λ ts. slice_get ts k ≡ Some token) c.as_slice-in-Err-TooDeep.ensures.value
     (subst (λ n. slice_get c.as_slice-in-Err-TooDeep.result.now n ≡ Some token) c.in-Err-TooDeep.k-is c.token_of-token.ensures) in
     told_deep c.args.given c.args.file.now found.messages.items (map (λ name. name.now) c.as_slice.result.now) c.args.lexed.now k token found.checked
-    (ap (map (λ name. name.now)) c.as_slice.ensures.value) (c.parse.ensures.too_deep k cc) at (rw c.refused-in-Err-TooDeep.ensures.messages c.in_ok-messages-in-Err-TooDeep.ensures) c.refused-in-Err-TooDeep.ensures.none
+    (ap (map (λ name. name.now)) c.as_slice.ensures.value) (c.parse.ensures.too_deep k cc) at
+    (rw c.refused-in-Err-TooDeep.ensures.messages c.in_ok-messages-in-Err-TooDeep.ensures) c.refused-in-Err-TooDeep.ensures.none
