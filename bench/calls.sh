@@ -4,10 +4,9 @@
 #
 #   bench/calls.sh [CALLS]         10,000,000 calls where none are given
 #
-# All three have to come to the same sum. Each time is the best of five, less that of a start.
+# All three have to come to the same sum. The time of a start is taken off each.
 . "$(dirname "$0")/timing.sh"
 calls=${1:-10000000}
-times=5
 
 # a program whose loop adds up a value, with functions in front or none
 program_of() {
@@ -38,23 +37,19 @@ def count():
 print("0 start calls\\n0 print all %d\\n0 go all count done" % count())
 PROGRAM
 
-# SECONDS of one of the programs over one tick, less the time of a start
-taken() {
-    local run start
-    run=$(best "$work/tick.trace" "$program" --budget 1000000000 "$1")
-    cmp -s "$work/out" "$work/sum" || { echo "$1: not what python3 prints" >&2; exit 1; }
-    start=$(best "$work/empty" "$program" --budget 1000000000 "$1")
-    awk -v run="$run" -v start="$start" 'BEGIN { print run - start }'
-}
-
-python=$(best "$work/empty" python3 "$work/p.py")
-cp "$work/out" "$work/sum"
-empty=$(best "$work/empty" python3 "$work/empty")
-called=$(taken "$work/called.st")
-written=$(taken "$work/written.st")
-awk -v calls="$calls" -v called="$called" -v written="$written" -v python="$python" -v empty="$empty" 'BEGIN {
-    theirs = python - empty
+for name in called written; do
+    enter "$name" "$work/tick.trace" "$snlrun" --budget 1000000000 "$work/$name.st"
+    enter "$name-start" "$work/empty" "$snlrun" --budget 1000000000 "$work/$name.st"
+done
+enter python "$work/empty" python3 "$work/p.py"
+enter nothing "$work/empty" python3 "$work/empty"
+race
+for name in called written; do
+    cmp -s "$work/$name.out" "$work/python.out" || { echo "$name.st: not what python3 prints" >&2; exit 1; }
+done
+awk -v calls="$calls" -v called=$((milliseconds[called] - milliseconds[called-start])) \
+    -v written=$((milliseconds[written] - milliseconds[written-start])) -v python=$((milliseconds[python] - milliseconds[nothing])) 'BEGIN {
     printf "calls: %d times, %.3f s, %.2f million a second; python3 %.3f s, %.1f times as long\n",
-        calls, called, calls / called / 1e6, theirs, theirs / called
-    printf "written out: %.3f s; with the calls %.2f times as long\n", written, called / written
+        calls, called / 1e3, calls / called / 1e3, python / 1e3, python / called
+    printf "written out: %.3f s; with the calls %.2f times as long\n", written / 1e3, called / written
 }'

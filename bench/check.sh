@@ -1,20 +1,15 @@
 #!/usr/bin/env bash
 # How fast a program is checked: tokens a second from its bytes to its messages, and whether the time grows with the source.
 #
-#   bench/check.sh [RUNS]          30 runs where none are given
+#   bench/check.sh [RUNS]          so many runs for each time that is taken, 10 where none are given
 #
 # The source has some 60,000 tokens, 1,000 states, 64 state sets and 1,000 links, and no error. The one it is compared with is
 # half of it: half the tokens, states, state sets and links. The whole has to take at most 2.2 times the time of the half. A third
 # source has 250 functions, each of which calls the one above it 49 times.
-# Each time is the best of all runs, less the time for an empty file, for what else the machine does only adds to it.
-set -eu
-cd "$(dirname "$0")/.."
-runs=${1:-30}
-program=$PWD/crates/snc_main/out/snc
-[ -x "$program" ] || program=$PWD/crates/snc_main/out/snc_main
-[ -x "$program" ] || { echo "bench/check.sh: build snc first, by rt run in crates/snc_main" >&2; exit 2; }
-work=$(mktemp -d)
-trap 'rm -rf "$work"' EXIT
+# Each time is less that for an empty file.
+. "$(dirname "$0")/timing.sh"
+runs=${1:-10}
+snc=${SNC:-$(built snc_main snc examples/ramp.st)}
 
 # a source with so many state sets, states, links
 source_of() {
@@ -60,37 +55,28 @@ tokens_of() {
     grep -oE '"[^"]*"|[A-Za-z_0-9]+|&&|-=|[^ ]' "$1" | wc -l
 }
 
-# runs the program on a source, and keeps the microseconds where no run before took fewer
-time_run() {
-    local -n best=$1
-    local from=$EPOCHREALTIME to
-    "$program" "$2" > /dev/null 2>&1 < /dev/null || true
-    to=$EPOCHREALTIME
-    local took=$((${to/[.,]/} - ${from/[.,]/}))
-    if ((took < best)); then best=$took; fi
-}
-
 source_of 64 1000 1000 "$work/whole.st"
 source_of 32 500 500 "$work/half.st"
 functions_of 250 49 "$work/chain.st"
-: > "$work/empty.st"
-for source in whole half chain; do
-    said=$("$program" "$work/$source.st" 2>&1 < /dev/null) || { echo "$source.st has an error: $said" >&2; exit 1; }
-    [ -z "$said" ] || { echo "$source.st has a warning: $said" >&2; exit 1; }
+: > "$work/none.st"
+for source in whole half chain none; do
+    enter "$source" "$work/empty" repeat "$runs" "$snc" "$work/$source.st"
 done
-whole=999999999 half=$((whole)) chain=$((whole)) empty=$((whole))
-for ((turn = 0; turn < runs; turn++)); do
-    time_run whole "$work/whole.st"
-    time_run half "$work/half.st"
-    time_run chain "$work/chain.st"
-    time_run empty "$work/empty.st"
+race
+for source in whole half chain; do
+    [ ! -s "$work/$source.err" ] || { echo "$source.st has a message: $(head -n 1 "$work/$source.err")" >&2; exit 1; }
 done
 awk -v runs="$runs" -v tokens="$(tokens_of "$work/whole.st")" -v halved="$(tokens_of "$work/half.st")" \
-    -v chained="$(tokens_of "$work/chain.st")" -v whole=$((whole - empty)) -v half=$((half - empty)) -v chain=$((chain - empty)) 'BEGIN {
-    printf "sources: %d and %d tokens, the best of %d runs\n", tokens, halved, runs
-    printf "check:   %.2f million tokens a second (%.2f ms a source)\n", tokens / whole, whole / 1e3
-    printf "half:    %.2f million tokens a second (%.2f ms a source)\n", halved / half, half / 1e3
+    -v chained="$(tokens_of "$work/chain.st")" -v whole=$((milliseconds[whole] - milliseconds[none])) \
+    -v half=$((milliseconds[half] - milliseconds[none])) -v chain=$((milliseconds[chain] - milliseconds[none])) '
+function told(what, tokens, took) {
+    printf "%s %.2f million tokens a second (%.2f ms a source)", what, tokens * runs / took / 1e3, took / runs
+}
+BEGIN {
+    printf "sources: %d and %d tokens, %d runs for each time\n", tokens, halved, runs
+    told("check:  ", tokens, whole); print ""
+    told("half:   ", halved, half); print ""
     printf "ratio:   %.2f times the time for %.2f times the tokens\n", whole / half, tokens / halved
-    printf "calls:   %.2f million tokens a second (%.2f ms a source), %.2f of the speed of the first\n", chained / chain, chain / 1e3, (chained / chain) / (tokens / whole)
+    told("calls:  ", chained, chain); printf ", %.2f of the speed of the first\n", (chained / chain) / (tokens / whole)
     exit whole > 2.2 * half
 }'

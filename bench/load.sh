@@ -2,26 +2,18 @@
 # How fast a program is loaded: the time of `snlrun` over an empty trace, beside that of `snc` on the same source, and whether it grows
 # with the source.
 #
-#   bench/load.sh [RUNS]           30 runs where none are given
+#   bench/load.sh [RUNS]           so many runs for each time that is taken, 10 where none are given
 #
 # The source has four state sets with 1,000 states, and 1,000 links; each state has a condition on a link of its own, and a block that
 # names it four times. The one it is compared with is half of it: half the states and half the links, in as many state sets. The whole
 # has to take at most 2.2 times the time of the half, and at most 1.5 times that of `snc`, which judges it and loads nothing.
 #
 # Then 1,000 links with 15,000 `monitor` definitions, which has to take less than 0.1 s; and a sum of 28,000 names inside 60
-# parentheses, each of them behind an operator of every level, which has to take no more than 3 times `snc`. Each time is the processor's, the best
-# of all runs, less the time for an empty file, for what else the machine does only adds to it.
-set -eu
-cd "$(dirname "$0")/.."
-runs=${1:-30}
-judge=$PWD/crates/snc_main/out/snc
-[ -x "$judge" ] || judge=$PWD/crates/snc_main/out/snc_main
-runner=$PWD/crates/snlrun/out/snlrun
-for program in "$judge" "$runner"; do
-    [ -x "$program" ] || { echo "bench/load.sh: build snc and snlrun first, by rt run in crates/snc_main and crates/snlrun" >&2; exit 2; }
-done
-work=$(mktemp -d)
-trap 'rm -rf "$work"' EXIT
+# parentheses, each of them behind an operator of every level, which has to take no more than 3 times `snc`. Each time is less that for an
+# empty file.
+. "$(dirname "$0")/timing.sh"
+runs=${1:-10}
+snc=${SNC:-$(built snc_main snc examples/ramp.st)}
 
 # a source with four state sets, so many states, and as many links
 source_of() {
@@ -48,15 +40,6 @@ source_of() {
     }' > "$2"
 }
 
-# runs a program on a source over an empty trace, and keeps the microseconds of processor time where no run before took fewer
-time_run() {
-    local -n best=$1
-    local TIMEFORMAT='%U %S' user system
-    read -r user system < <({ time "$2" "$3" > /dev/null 2>&1 < /dev/null || true; } 2>&1)
-    local took=$((1000 * (10#${user/[.,]/} + 10#${system/[.,]/})))
-    if ((took < best)); then best=$took; fi
-}
-
 source_of 1000 "$work/whole.st"
 source_of 500 "$work/half.st"
 awk 'BEGIN {
@@ -77,29 +60,28 @@ awk 'BEGIN {
     for (i = 0; i < 60; i++) printf ")"
     print ") {} exit } }"
 }' > "$work/deep.st"
-: > "$work/empty.st"
+: > "$work/none.st"
+for source in whole half monitors deep none; do
+    enter "$source" "$work/empty" repeat "$runs" "$snlrun" "$work/$source.st"
+    enter "$source-checked" "$work/empty" repeat "$runs" "$snc" "$work/$source.st"
+done
+race
 for source in whole half monitors deep; do
-    said=$("$judge" "$work/$source.st" 2>&1 < /dev/null) || { echo "$source.st has an error: $said" >&2; exit 1; }
+    [ ! -s "$work/$source.err" ] || { echo "$source.st has a message: $(head -n 1 "$work/$source.err")" >&2; exit 1; }
 done
-whole=999999999 half=$((whole)) judged=$((whole)) monitors=$((whole)) deep=$((whole)) sound=$((whole)) empty=$((whole)) none=$((whole))
-for ((turn = 0; turn < runs; turn++)); do
-    time_run whole "$runner" "$work/whole.st"
-    time_run half "$runner" "$work/half.st"
-    time_run judged "$judge" "$work/whole.st"
-    time_run monitors "$runner" "$work/monitors.st"
-    time_run deep "$runner" "$work/deep.st"
-    time_run sound "$judge" "$work/deep.st"
-    time_run empty "$runner" "$work/empty.st"
-    time_run none "$judge" "$work/empty.st"
-done
-awk -v runs="$runs" -v whole=$((whole - empty)) -v half=$((half - empty)) -v judged=$((judged - none)) \
-    -v monitors=$((monitors - empty)) -v deep=$((deep - empty)) -v sound=$((sound - none)) 'BEGIN {
-    printf "sources: 1,000 and 500 states, each with a link; the best of %d runs\n", runs
-    printf "load:     %.2f ms\n", whole / 1e3
-    printf "half:     %.2f ms\n", half / 1e3
+
+# milliseconds that a source took to load, and to check
+loaded() { echo $((milliseconds[$1] - milliseconds[none])); }
+checked() { echo $((milliseconds[$1-checked] - milliseconds[none-checked])); }
+
+awk -v runs="$runs" -v whole="$(loaded whole)" -v half="$(loaded half)" -v judged="$(checked whole)" \
+    -v monitors="$(loaded monitors)" -v deep="$(loaded deep)" -v sound="$(checked deep)" 'BEGIN {
+    printf "sources: 1,000 and 500 states, each with a link; %d runs for each time\n", runs
+    printf "load:     %.2f ms\n", whole / runs
+    printf "half:     %.2f ms\n", half / runs
     printf "ratio:    %.2f times the time for twice the states and links\n", whole / half
-    printf "snc:      %.2f ms; the load takes %.2f times as long\n", judged / 1e3, whole / judged
-    printf "monitors: %.2f ms for 1,000 links with 15,000 of them\n", monitors / 1e3
-    printf "deep:     %.2f ms for 28,000 names inside 60 parentheses; %.2f times as long as snc\n", deep / 1e3, deep / sound
-    exit whole > 2.2 * half || whole > 1.5 * judged || monitors > 100000 || deep > 3 * sound
+    printf "snc:      %.2f ms; the load takes %.2f times as long\n", judged / runs, whole / judged
+    printf "monitors: %.2f ms for 1,000 links with 15,000 of them\n", monitors / runs
+    printf "deep:     %.2f ms for 28,000 names inside 60 parentheses; %.2f times as long as snc\n", deep / runs, deep / sound
+    exit whole > 2.2 * half || whole > 1.5 * judged || monitors / runs > 100 || deep > 3 * sound
 }'

@@ -24,7 +24,7 @@ def count():
     return x
 count()
 PROGRAM
-compare "products" "$turns" "0 go all count done"
+compare "products" "$turns" "0 go all count done" "$work/tick.trace"
 
 cat > "$work/p.st" <<PROGRAM
 program loop
@@ -45,4 +45,4 @@ def count():
     return t
 count()
 PROGRAM
-compare "remainders" "$turns" "0 go all count done"
+compare "remainders" "$turns" "0 go all count done" "$work/tick.trace"

@@ -21,5 +21,5 @@ def lines():
     write("0 go all write exit\n0 exit lines\n")
 lines()
 PROGRAM
-compare "lines" "$lines" "0 exit lines"
-cmp -s <("$program" --budget 1000000000 "$work/p.st" < "$work/tick.trace") <(python3 "$work/p.py") || { echo "the two differ" >&2; exit 1; }
+compare "lines" "$lines" "0 exit lines" "$work/tick.trace"
+expect_same

@@ -34,23 +34,21 @@ trace() {
     }'
 }
 
-# the seconds of a run over a trace
-run() {
-    local whole empty
-    whole=$(best "$1" "$program" "$2")
-    empty=$(best "$work/empty" "$program" "$2")
-    awk -v whole="$whole" -v empty="$empty" 'BEGIN { printf "%.4f\n", whole - empty }'
-}
-
 sets 1 own > "$work/one.st"
+sets 64 own > "$work/own.st"
+sets 64 shared > "$work/shared.st"
 trace 1 > "$work/one.trace"
 trace 64 > "$work/many.trace"
-one=$(run "$work/one.trace" "$work/one.st")
+for name in one own shared; do
+    if [ "$name" = one ]; then traced=$work/one.trace; else traced=$work/many.trace; fi
+    enter "$name" "$traced" "$snlrun" "$work/$name.st"
+    enter "$name-start" "$work/empty" "$snlrun" "$work/$name.st"
+done
+race
+one=$((milliseconds[one] - milliseconds[one-start]))
 for where in own shared; do
-    sets 64 "$where" > "$work/many.st"
-    many=$(run "$work/many.trace" "$work/many.st")
-    awk -v where="$where" -v lines="$lines" -v one="$one" -v many="$many" 'BEGIN {
+    awk -v where="$where" -v lines="$lines" -v one="$one" -v many=$((milliseconds[$where] - milliseconds[$where-start])) 'BEGIN {
         printf "%s: %.2f million values a second with one state set, %.3f with 64: %.1f times as long\n",
-            where, lines / one / 1e6, lines / many / 1e6, many / one
+            where, lines / one / 1e3, lines / many / 1e3, many / one
     }'
 done

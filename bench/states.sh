@@ -36,5 +36,5 @@ def many():
     write("0 go all s0 exit\n0 exit many\n")
 many()
 PROGRAM
-compare "transitions" "$((rounds * 1000))" "0 exit many"
-cmp -s <("$program" --budget 1000000000 "$work/p.st" < "$work/tick.trace") <(python3 "$work/p.py") || { echo "the two differ" >&2; exit 1; }
+compare "transitions" "$((rounds * 1000))" "0 exit many" "$work/tick.trace"
+expect_same

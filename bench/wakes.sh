@@ -20,15 +20,5 @@ for time in range(1, $wakes + 1):
 PROGRAM
 printf '0 tick\n%s tick\n' "$wakes" > "$work/wakes.trace"
 
-run=$(best "$work/wakes.trace" "$program" "$work/p.st")
-mv "$work/out" "$work/ours"
-start=$(best "$work/empty" "$program" "$work/p.st")
-python=$(best "$work/empty" python3 "$work/p.py")
-cmp "$work/out" "$work/ours"
-empty=$(best "$work/empty" python3 "$work/empty")
-awk -v wakes="$wakes" -v run="$run" -v start="$start" -v python="$python" -v empty="$empty" 'BEGIN {
-    ours = run - start
-    theirs = python - empty
-    printf "%d wakes, %.3f s, %.2f million a second; python3 %.3f s, %.1f times as long\n",
-        wakes, ours, wakes / ours / 1e6, theirs, theirs / ours
-}'
+compare "wakes" "$wakes" "$wakes go s a a" "$work/wakes.trace"
+expect_same

@@ -27,31 +27,31 @@ trace() {
     }'
 }
 
-# the seconds of a run over a trace
-run() {
-    local whole empty
-    whole=$(best "$1" "$program" "$2")
-    empty=$(best "$work/empty" "$program" "$2")
-    awk -v whole="$whole" -v empty="$empty" 'BEGIN { printf "%.4f\n", whole - empty }'
-}
-
 wide 1 > "$work/one.st"
 wide 1000 > "$work/wide.st"
 for kind in values ticks both; do
-    trace 1 "$kind" "$lines" > "$work/one.trace"
-    trace 1000 "$kind" "$lines" > "$work/wide.trace"
-    one=$(run "$work/one.trace" "$work/one.st")
-    many=$(run "$work/wide.trace" "$work/wide.st")
-    [ "$kind" = values ] && values=$many
-    awk -v kind="$kind" -v lines="$lines" -v one="$one" -v many="$many" -v values="$values" 'BEGIN {
+    trace 1 "$kind" "$lines" > "$work/one-$kind.trace"
+    trace 1000 "$kind" "$lines" > "$work/wide-$kind.trace"
+done
+# all channels but the last are there
+grep -v 'up CHANNEL:999$' "$work/wide-values.trace" > "$work/wide-waiting.trace"
+for name in one-values one-ticks one-both wide-values wide-ticks wide-both wide-waiting; do
+    enter "$name" "$work/$name.trace" "$snlrun" "$work/${name%-*}.st"
+done
+enter one "$work/empty" "$snlrun" "$work/one.st"
+enter wide "$work/empty" "$snlrun" "$work/wide.st"
+race
+
+# milliseconds of a run, less those of its start
+taken() { echo $((milliseconds[$1] - milliseconds[${1%-*}])); }
+
+values=$(taken wide-values)
+for kind in values ticks both; do
+    awk -v kind="$kind" -v lines="$lines" -v one="$(taken "one-$kind")" -v many="$(taken "wide-$kind")" -v values="$values" 'BEGIN {
         printf "%s: %.2f million lines a second with one channel, %.2f with 1,000: %.2f times as long; %.2f of a value\n",
-            kind, lines / one / 1e6, lines / many / 1e6, many / one, many / values
+            kind, lines / one / 1e3, lines / many / 1e3, many / one, many / values
     }'
 done
-
-# all channels but the last are there
-trace 1000 values "$lines" | grep -v 'up CHANNEL:999$' > "$work/wide.trace"
-many=$(run "$work/wide.trace" "$work/wide.st")
-awk -v lines="$lines" -v many="$many" -v values="$values" 'BEGIN {
-    printf "waiting: %.2f million lines a second with 1,000: %.2f of a value\n", lines / many / 1e6, many / values
+awk -v lines="$lines" -v many="$(taken wide-waiting)" -v values="$values" 'BEGIN {
+    printf "waiting: %.2f million lines a second with 1,000: %.2f of a value\n", lines / many / 1e3, many / values
 }'
