@@ -20,7 +20,7 @@ use snl_load::channel_number;
 use snl_meaning::Live;
 use snl_output::{Sink, Stop};
 use snl_schedule::{Event, ProgramContext, fits, take};
-use snl_vm::Steps;
+use snl_vm::{CodeContext, Steps};
 use std::sync::ledger::Ledger;
 
 impl Machine {
@@ -116,9 +116,11 @@ impl Machine {
         let program = ProgramContext {
             plan: &self.plan,
             code: self.code.instrs(),
-            formats: self.code.texts(),
-            functions: self.code.functions(),
-            room: self.code.depth(),
+            context: CodeContext {
+                formats: self.code.texts(),
+                functions: self.code.functions(),
+                room: self.code.depth(),
+            },
             budget: self.budget,
         };
         take(ms, event, &program, &mut self.memory, sink, steps)

@@ -4,7 +4,8 @@ use Rattle.snl_meaning.specs.declared.instrs.Instr.{Instr}
 use Rattle.snl_meaning.specs.Known.{entries}
 use Rattle.snl_meaning.specs.Run as run
 use Rattle.snl_meaning.specs.Run.{Entry}
-use Rattle.snl_vm.specs.Stack.{Room, room_for}
+use Rattle.snl_vm.specs.Running.{formats_of, room_by}
+use Rattle.snl_vm.specs.Stack.{Room}
 use Rattle.snl_schedule.specs.declared.plans.Plan.{Plan}
 use Rattle.snl_schedule.specs.declared.plans.SetPlan.{SetPlan}
 use Rattle.snl_schedule.specs.declared.plans.ProgramContext.{ProgramContext}
@@ -25,14 +26,14 @@ abbrev pub loaded : ProgramContext → Loaded
 loaded t = record {
   plan = t.plan.now;
   code = t.code.now;
-  formats = map (λ text. text.items) t.formats.now;
-  functions = entries t.functions.now;
-  room = t.room;
+  formats = formats_of t.context;
+  functions = entries t.context.functions.now;
+  room = t.context.room;
 }
 
--- The room that its code wants: so many operands, and a return place for each function.
+-- The room that its code wants.
 abbrev pub wanted_in : ProgramContext → Room
-wanted_in t = room_for t.room (length t.functions.now)
+wanted_in t = room_by t.context
 
 -- What code runs with on the copy of a state set of this number and name: no call is under way.
 abbrev pub context_for : Loaded → ℕ → List ℕ → run.PieceContext

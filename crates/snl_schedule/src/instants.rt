@@ -58,9 +58,7 @@ fn round<S: Sink, L: Ledger>(
         let context = PieceContext {
             set,
             name: plan.name.as_slice(),
-            formats: program.formats,
-            functions: program.functions,
-            room: program.room,
+            program: &program.context,
         };
         let state_set = SetContext {
             plan,

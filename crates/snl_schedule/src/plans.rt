@@ -8,8 +8,8 @@ ghost use Rattle.snl_schedule.specs.Linked.{HasRows};
 ghost use Rattle.std.proofs.Props.{props};
 
 use crate::goes::Goes;
-use snl_meaning::{FunctionEntry, Instr, Tied};
-use snl_vm::{PieceContext, Rows};
+use snl_meaning::{Instr, Tied};
+use snl_vm::{CodeContext, PieceContext, Rows};
 use std::alloc::{AllocError, Global};
 
 /// Where a clause leads (SNL Reference, "State Transitions").
@@ -108,7 +108,7 @@ pub struct SetContext<'t> {
     pub plan: &'t SetPlan,
     /// The code of the program.
     pub code: &'t [Instr],
-    /// The number and the name of the state set, the strings and the functions of the program, and the room for operands.
+    /// The number and the name of the state set, and what all code of the program runs with.
     pub context: PieceContext<'t>,
     ghost named: { context.name.now ≡ plan.now.name.items } by { Prim.hlevel props },
 }
@@ -182,12 +182,8 @@ pub struct ProgramContext<'t> {
     pub plan: &'t Plan,
     /// The code of the program.
     pub code: &'t [Instr],
-    /// The strings of the program, by their numbers.
-    pub formats: &'t [Vec<u8>],
-    /// The functions of the program, by their numbers.
-    pub functions: &'t [FunctionEntry],
-    /// How many operands there is room for. It stands in what is promised of a run, and no code reads it.
-    pub room: usize,
+    /// What all its code runs with.
+    pub context: CodeContext<'t>,
     /// How many ticks an instant may take.
     pub budget: u32,
 }

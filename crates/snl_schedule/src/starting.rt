@@ -148,9 +148,7 @@ fn begin_sets<S: Sink, L: Ledger>(
         let context = PieceContext {
             set,
             name: plan.name.as_slice(),
-            formats: program.formats,
-            functions: program.functions,
-            room: program.room,
+            program: &program.context,
         };
         let state_set = SetContext {
             plan,
@@ -176,16 +174,14 @@ fn first_name<'t>(program: &ProgramContext<'t>) -> &'t [u8]
 }
 
 /// What the program's own blocks run with: the copy and the name of the first state set.
-fn own_context<'t>(program: &ProgramContext<'t>) -> PieceContext<'t>
+fn own_context<'t>(program: &'t ProgramContext<'t>) -> PieceContext<'t>
     ensures means { context_by result ≡ own_context (loaded program.now) }
     ensures room { wanted_by result ≡ wanted_in program.now }
 {
     PieceContext {
         set: 0,
         name: first_name(program),
-        formats: program.formats,
-        functions: program.functions,
-        room: program.room,
+        program: &program.context,
     }
 }
 

@@ -72,7 +72,7 @@ pub fn call(
     operands: &mut Stack,
 ) -> Result<usize, Charge>
     requires after { pc + 1 < 2 ^ 64 }
-    requires places { places_of calls.old ≡ length context.now.functions.now }
+    requires places { places_of calls.old ≡ length context.now.program.now.functions.now }
     requires possible { CanStep (done_in context.now calls.old operands.old store.old
         (instr.Call site.function site.count site.line) pc) }
     ensures does { done_in context.now calls.old operands.old store.old
@@ -81,7 +81,7 @@ pub fn call(
     ensures room { slots_of operands.new ≡ slots_of operands.old }
     ensures places { places_of calls.new ≡ places_of calls.old }
 {
-    let entry = &context.functions[site.function];
+    let entry = &context.program.functions[site.function];
     let parameters = entry.parameters.as_slice();
     let values = operands.topmost(site.count);
     enter(parameters, site.line, values, context.set, store)?;

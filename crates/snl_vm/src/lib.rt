@@ -25,7 +25,7 @@ mod stores;
 mod telling;
 mod words;
 
-pub use contexts::PieceContext;
+pub use contexts::{CodeContext, PieceContext};
 pub use counting::Steps;
 pub use homes::Homes;
 pub use linking::{fetch, fill, notice};
