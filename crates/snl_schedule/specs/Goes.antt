@@ -1,5 +1,5 @@
 -- The lines of transitions, but for their times: they are made before a run.
-use Rattle.std.specs.Prelude.{ℕ, Bool, not, ◌&&◌, nat_lt, List, [], length, Option, Some, None, map, option_map, codes, slice_get, if◌then◌else◌}
+use Rattle.std.specs.Prelude.{ℕ, Bool, not, ◌&&◌, nat_lt, List, [], length, Option, Some, None, map, option_map, codes, slice_get, slice_index_or, if◌then◌else◌}
 use Rattle.snl_output.specs.Lines.{go_rest}
 use Rattle.snl_schedule.specs.declared.goes.Go.{Go}
 use Rattle.snl_schedule.specs.declared.goes.Goes.{Goes}
@@ -48,3 +48,7 @@ kept_view g = (g.target, option_map (λ text. text.items) g.text)
 -- and of all lines.
 abbrev pub kept_views : Goes → List (List Kept)
 kept_views gs = map (λ row. map kept_view row.items) gs.rows.items
+
+-- What is kept of the line of a clause, by the numbers of its state and of the clause.
+abbrev pub kept_at : Goes → ℕ → ℕ → Option Kept
+kept_at gs state clause = slice_get (slice_index_or (kept_views gs) state []) clause

@@ -1,6 +1,6 @@
 //! The lines of transitions, but for their times: they are made when a program is loaded.
 
-ghost use Rattle.std.specs.Prelude.{◌≡◌, [], map, option_map, slice_get, slice_index_or, IfOk, IfSome, Some};
+ghost use Rattle.std.specs.Prelude.{◌≡◌, map, option_map, IfOk, IfSome, Some};
 ghost use Rattle.std.specs.Bool.{OnTrue};
 ghost use Rattle.snl_schedule.specs.Goes as spec;
 
@@ -132,15 +132,13 @@ impl Goes {
     }
 
     /// What follows the time in the line of the clause of a number, if that clause of the state leads there and its line is kept.
-    pub fn text(&self, from: usize, clause: usize, target: Destination) -> Option<&[u8]>
-        ensures { IfSome result (λ text. slice_get
-            (slice_index_or (spec.kept_views self.now) from []) clause
-            ≡ Some (target, Some text.now)) }
+    pub fn text(&self, from: usize, clause: usize, to: Destination) -> Option<&[u8]>
+        ensures { IfSome result (λ t. spec.kept_at self.now from clause ≡ Some (to, Some t.now)) }
     {
         match self.rows.get(from) {
             None => None,
             Some(row) => match row.get(clause) {
-                Some(go) if is_same(go.target, target) => match &go.text {
+                Some(go) if is_same(go.target, to) => match &go.text {
                     Some(text) => Some(text.as_slice()),
                     None => None,
                 },
