@@ -9,7 +9,7 @@
 # Each time is less that for an empty file.
 . "$(dirname "$0")/timing.sh"
 runs=${1:-10}
-snc=${SNC:-$(built snc_main snc examples/ramp.st)}
+snc=$(program "${SNC:-}" snc_main snc examples/ramp.st)
 
 # a source with so many state sets, states, links
 source_of() {

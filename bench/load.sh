@@ -13,7 +13,7 @@
 # empty file.
 . "$(dirname "$0")/timing.sh"
 runs=${1:-10}
-snc=${SNC:-$(built snc_main snc examples/ramp.st)}
+snc=$(program "${SNC:-}" snc_main snc examples/ramp.st)
 
 # a source with four state sets, so many states, and as many links
 source_of() {

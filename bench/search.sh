@@ -8,7 +8,7 @@
 # those at the next wake where there is none are counted too, and take no time. Needs GNU time.
 . "$(dirname "$0")/timing.sh"
 seconds=${1:-20}
-snl=${SNL:-$(built snl snl run examples/ramp.st)}
+snl=$(program "${SNL:-}" snl snl run examples/ramp.st)
 search=("$snl" search --memory 8000 --worlds 100000000 --seconds "$seconds")
 
 # measure FILE LINES INPUTS: a search of so many lines, with so many inputs in a world

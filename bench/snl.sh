@@ -7,7 +7,7 @@
 # Each is to take at most 1.6 times as long as `snlrun`. Needs GNU time.
 . "$(dirname "$0")/timing.sh"
 lines=${1:-5000000}
-snl=${SNL:-$(built snl snl run examples/ramp.st)}
+snl=$(program "${SNL:-}" snl snl run examples/ramp.st)
 
 limit_trace "$lines" > "$work/long.trace"
 limit_trace 10 > "$work/short.trace"

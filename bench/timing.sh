@@ -2,19 +2,24 @@
 #
 # SNLRUN, SNC and SNL name other programs than those of this tree, such as older builds to compare with.
 set -eu
+for name in SNLRUN SNC SNL; do
+    [ -z "${!name:-}" ] || printf -v "$name" %s "$(realpath -- "${!name}")"
+done
 cd "$(dirname "${BASH_SOURCE[0]}")/.."
 work=$(mktemp -d)
 trap 'rm -rf "$work"' EXIT
 echo "0 tick" > "$work/tick.trace"
 : > "$work/empty"
 
-# The program of a crate; a call of it by bin/ proves and builds it first, where it is not there: CRATE NAME WORD..
-built() {
-    local path=$PWD/crates/$1/out/$1
-    [ -x "$path" ] || "bin/$2" "${@:3}" < examples/ramp.trace > /dev/null
+# The program that is named, or that of a crate; a call of it by bin/ proves and builds it first, where it is not there:
+# NAMED CRATE NAME WORD..
+program() {
+    local path=${1:-$PWD/crates/$2/out/$2}
+    [ -x "$path" ] || [ -n "$1" ] || "bin/$3" "${@:4}" < examples/ramp.trace > /dev/null
+    [ -x "$path" ] || { echo "bench: $path: no such program" >&2; return 1; }
     echo "$path"
 }
-snlrun=${SNLRUN:-$(built snlrun snlrun examples/ramp.st)}
+snlrun=$(program "${SNLRUN:-}" snlrun snlrun examples/ramp.st)
 
 # What ran in a race, in order; of each its input, its command and the least milliseconds of processor time that it took.
 entered=()
