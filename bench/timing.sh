@@ -33,19 +33,23 @@ enter() {
     milliseconds[$1]=999999999
 }
 
-# Runs a command so often: TIMES WORD..
+# Runs a command so often, unless it can't be run or is ended by a signal: TIMES WORD..
 repeat() {
     local turn
-    for ((turn = 0; turn < $1; turn++)); do "${@:2}" || true; done
+    for ((turn = 0; turn < $1; turn++)); do "${@:2}" || [ $? -lt 126 ] || return 126; done
 }
 
 # Runs what was entered in turn, five times where no number is given. `milliseconds` then has the least of each, and $work/NAME.out what
-# it wrote in its last run. What else the machine does only adds to a time. The status of a command is not looked at.
+# it wrote in its last run. What else the machine does only adds to a time. Fails where a command can't be run or is ended by a signal; no
+# other status is looked at.
 race() {
     local turn name took user system TIMEFORMAT='%3U %3S'
     for ((turn = 0; turn < ${1:-5}; turn++)); do
         for name in "${entered[@]}"; do
-            read -r user system < <({ time eval "${commands[$name]}" < "${inputs[$name]}" > "$work/$name.out" 2> "$work/$name.err" || true; } 2>&1)
+            echo 0 > "$work/status"
+            read -r user system < <({ time { eval "${commands[$name]}" < "${inputs[$name]}" > "$work/$name.out" 2> "$work/$name.err" ||
+                echo $? > "$work/status"; }; } 2>&1)
+            [ "$(< "$work/status")" -lt 126 ] || { echo "bench: not measured: ${commands[$name]}" >&2; exit 1; }
             took=$((10#${user/[.,]/} + 10#${system/[.,]/}))
             if ((took < milliseconds[$name])); then milliseconds[$name]=$took; fi
         done
