@@ -26,11 +26,11 @@ invariant_of-result c =
     let code = c.args.code in
     let plan = c.in_ok-plan.plan in
     let calls = ap (length {A = FunctionEntry}) c.functions-calls.ensures in
-    let room : room_of c.in_ok-operands.operands ≡ room_for code.depth (length code.functions.items) = c.in_ok-operands.ensures.room ∙ (λ j. room_for (c.depth-depth.ensures j) (calls j)) in
+    let room : room_of c.in_ok-made.made.memory.operands ≡ room_for code.depth (length code.functions.items) = c.in_ok-made.ensures.room ∙ (λ j. room_for (c.depth-depth.ensures j) (calls j)) in
     let deep = ap (λ (r : Room). r.operands) room in
-    let counted : code.depth < 2 ^ 64 - 1 = omega (arith, deep, c.in_ok-operands.operands.items.small) in
+    let counted : code.depth < 2 ^ 64 - 1 = omega (arith, deep, c.in_ok-made.made.memory.operands.items.small) in
     let is = loaded-is p ls ls c.args.waits code plan refl c.in_ok-plan.ensures c.requires.code c.requires.inside c.requires.short counted in
-    let words = c.in_ok-footprint.ensures ∙ ap (λ (r : Room). store_words c.in_ok-store.store + (r.operands + r.places)) (sym c.in_ok-operands.ensures.room) in
+    let words = c.in_ok-made.ensures.words ∙ ap (λ (r : Room). store_words c.in_ok-made.made.memory.store + (r.operands + r.places)) (sym c.in_ok-made.ensures.room) in
     record { words = words; room = room; runs = (plans_are_right p ls c.args.waits code (loaded_by plan code) is).1 }
 
 pub returns-clause-made : goal.returns-clause-made
@@ -40,11 +40,11 @@ returns-clause-made c =
     let code = c.args.code in
     let plan = c.in_ok-plan.plan in
     let names = names_in c.in_ok-names.names in
-    let deep = ap (λ (r : Room). r.operands) c.in_ok-operands.ensures.room ∙ c.depth-depth.ensures in
-    let counted : code.depth < 2 ^ 64 - 1 = omega (arith, deep, c.in_ok-operands.operands.items.small) in
+    let deep = ap (λ (r : Room). r.operands) c.in_ok-made.ensures.room ∙ c.depth-depth.ensures in
+    let counted : code.depth < 2 ^ 64 - 1 = omega (arith, deep, c.in_ok-made.made.memory.operands.items.small) in
     let flags = c.len.ensures ∙ ap length c.requires.flags in
     let ties = c.as_slice-ties.result.now in
-    let store = c.in_ok-store.ensures ∙ (λ j. first_world (c.requires.held j) (c.requires.shared j) (flags j) names ties (homes_in c.args.copies.now.places.items ls) ls) in
+    let store = c.in_ok-made.ensures.store ∙ (λ j. first_world (c.requires.held j) (c.requires.shared j) (flags j) names ties (homes_in c.args.copies.now.places.items ls) ls) in
     let first = first-is p ls ls c.args.waits code plan refl c.in_ok-plan.ensures _ _ _ _ c.in_ok-names.ensures c.as_slice-ties.ensures.value c.requires.places store in
     record {
       links_are = c.requires.links;
@@ -63,5 +63,5 @@ returns-clause-first c =
     let names = names_in c.in_ok-names.names in
     let flags = c.len.ensures ∙ ap length c.requires.flags in
     let ties = c.as_slice-ties.result.now in
-    let store = c.in_ok-store.ensures ∙ (λ j. first_world (c.requires.held j) (c.requires.shared j) (flags j) names ties (homes_in c.args.copies.now.places.items ls) ls) in
+    let store = c.in_ok-made.ensures.store ∙ (λ j. first_world (c.requires.held j) (c.requires.shared j) (flags j) names ties (homes_in c.args.copies.now.places.items ls) ls) in
     first-is p ls ls c.args.waits c.args.code c.in_ok-plan.plan refl c.in_ok-plan.ensures _ _ _ _ c.in_ok-names.ensures c.as_slice-ties.ensures.value c.requires.places store
