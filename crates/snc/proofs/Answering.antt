@@ -1,5 +1,5 @@
 -- What the steps answer is what the source means.
-use Rattle.std.proofs.Common.{◌≡◌, ◌<◌, ◌≤◌, ◌↔◌, inl, inr, ℕ, Bool, List, [], ◌∷◌, Option, None, Some, IsSome, IfSome, is_some, if◌then◌else◌, Contains, Result, Ok, Err, length, take, drop, slice_get, true, false, refl, sym, ap, subst, ◌∙◌, arith, zero, suc, lit≤}
+use Rattle.std.proofs.Common.{◌≡◌, ◌<◌, ◌≤◌, ◌↔◌, inl, inr, ℕ, Bool, List, [], ◌∷◌, Option, None, Some, IsSome, IfSome, Box, Global, is_some, if◌then◌else◌, Contains, Result, Ok, Err, length, take, drop, slice_get, true, false, refl, sym, ap, subst, ◌∙◌, arith, zero, suc, lit≤}
 use Rattle.std.specs.Option.{option_map}
 use Rattle.std.proofs.lemmas.Bool.{false≢true}
 use Rattle.std.proofs.lemmas.List.Elements.{Contains-push}
@@ -48,8 +48,21 @@ lone_error messages pos number text is none =
     none (error_at pos number text) (subst (λ l. Contains l (error_at pos number text)) (sym is) (Contains-push [] (error_at pos number text))) refl
 
 -- the tree of a checked program
-abbrev pub tree_of : Option Checked → Option ProgramTree
-tree_of checked = option_map (λ c. program_view c.program) checked
+abbrev pub checked_tree : Option Checked → Option ProgramTree
+checked_tree checked = option_map (λ c. program_view c.program) checked
+
+-- the same of one in a box
+abbrev pub tree_of : Option (Box Checked Global) → Option ProgramTree
+tree_of checked = option_map (λ c. program_view c.value.program) checked
+
+-- what is in a box
+abbrev unboxed : Option (Box Checked Global) → Option Checked
+unboxed checked = option_map (λ b. b.value) checked
+
+-- a box changes no tree
+unboxed_tree : (held : Option (Box Checked Global)) → checked_tree (unboxed held) ≡ tree_of held
+unboxed_tree None = refl
+unboxed_tree (Some b) = refl
 
 -- two results that are one fault have one fault
 same_err : (a b : LexFault) → ◌≡◌ {A = Result Lexed LexFault} (Err a) (Err b) → a ≡ b
@@ -138,7 +151,7 @@ names_before source (faults.SourceTooLong p) pos names has at given =
 names_before source faults.Memory pos names has at given = tt
 
 -- a source without tokens
-pub judged_fault : (given : Options) (word source text : List ℕ) (fault : LexFault) (checked : Option Checked) → HasFault source fault → IsFaultTold word source fault text → checked ≡ None
+pub judged_fault : (given : Options) (word source text : List ℕ) (fault : LexFault) (checked : Option (Box Checked Global)) → HasFault source fault → IsFaultTold word source fault text → checked ≡ None
     → IsJudged given word source text (tree_of checked)
 judged_fault given word source text fault checked has w none = subst (λ o. IsJudged given word source text (tree_of o)) (sym none) record {
   names = w.names;
@@ -173,7 +186,7 @@ error_alone : (message : Said) → message.severity ≡ Error → NoErrors (mess
 error_alone message is none = none message (Contains-push [] message) is
 
 -- tokens with one message, which is an error
-told_alone : (given : Options) (word text : List ℕ) (names : List (List ℕ)) (lexed : Lexed) (message : Said) (checked : Option Checked) → names ≡ names_of lexed
+told_alone : (given : Options) (word text : List ℕ) (names : List (List ℕ)) (lexed : Lexed) (message : Said) (checked : Option (Box Checked Global)) → names ≡ names_of lexed
     → message.severity ≡ Error → IsSaidOf given lexed (message ∷ []) None → text ≡ messages_text word names (message ∷ []) → checked ≡ None
     → AreTokensTold given word lexed text (tree_of checked)
 told_alone given word text names lexed message checked named error said is none = subst (λ o. AreTokensTold given word lexed text (tree_of o)) (sym none) record {
@@ -186,7 +199,7 @@ told_alone given word text names lexed message checked named error said is none 
 }
 
 -- tokens that are no program
-pub told_stuck : (given : Options) (word text : List ℕ) (names : List (List ℕ)) (lexed : Lexed) (k : ℕ) (checked : Option Checked) → names ≡ names_of lexed
+pub told_stuck : (given : Options) (word text : List ℕ) (names : List (List ℕ)) (lexed : Lexed) (k : ℕ) (checked : Option (Box Checked Global)) → names ≡ names_of lexed
     → IsUnexpected programs 64 lexed.tokens.items k → text ≡ messages_text word names (syntax_error lexed (slice_get lexed.tokens.items k) ∷ []) → checked ≡ None
     → AreTokensTold given word lexed text (tree_of checked)
 told_stuck given word text names lexed k checked named read is none =
@@ -194,7 +207,7 @@ told_stuck given word text names lexed k checked named read is none =
     (inr (inl record { k = k; read = read; messages_are = refl; tree_is = refl })) is none
 
 -- tokens that are nested too deep
-pub told_deep : (given : Options) (word text : List ℕ) (names : List (List ℕ)) (lexed : Lexed) (k : ℕ) (token : Token) (checked : Option Checked) → names ≡ names_of lexed
+pub told_deep : (given : Options) (word text : List ℕ) (names : List (List ℕ)) (lexed : Lexed) (k : ℕ) (token : Token) (checked : Option (Box Checked Global)) → names ≡ names_of lexed
     → IsTooDeep programs 64 lexed.tokens.items k → slice_get lexed.tokens.items k ≡ Some token → text ≡ messages_text word names (nesting_error token ∷ []) → checked ≡ None
     → AreTokensTold given word lexed text (tree_of checked)
 told_deep given word text names lexed k token checked named read at is none =
@@ -227,26 +240,26 @@ told_program given word text names lexed whole embedded beyond checked named pie
 }
 
 -- a tree is there where a checked program is
-is_some_tree : (o : Option Checked) → IsSome (tree_of o) ↔ IsSome o
+is_some_tree : (o : Option Checked) → IsSome (checked_tree o) ↔ IsSome o
 is_some_tree None = (λ h. h, λ h. h)
 is_some_tree (Some c) = (λ h. h, λ h. h)
 
 -- the tree of a checked program is its own
-if_some_tree : (o : Option Checked) (p : Program) → IfSome o (λ c. c.program ≡ p) → IfSome (tree_of o) (λ q. q ≡ program_view p)
+if_some_tree : (o : Option Checked) (p : Program) → IfSome o (λ c. c.program ≡ p) → IfSome (checked_tree o) (λ q. q ≡ program_view p)
 if_some_tree None p h = tt
 if_some_tree (Some c) p h = ap program_view h
 
 -- the options in force are those of the program's own tree
-pub checked_options : (given : Options) (p : Program) (o : Option Checked) → IfSome o (λ c. c.program ≡ p) → IfSome o (λ c. c.options ≡ options_in_force (program_view p) given)
+checked_options : (given : Options) (p : Program) (o : Option Checked) → IfSome o (λ c. c.program ≡ p) → IfSome o (λ c. c.options ≡ options_in_force (program_view p) given)
     → IfSome o (λ c. c.options ≡ options_in_force (program_view c.program) given)
 checked_options given p None same are = tt
 checked_options given p (Some c) same are = are ∙ ap (λ q. options_in_force (program_view q) given) (sym same)
 
 -- what is said of a program, by the messages of its check
-pub told_checked : (given : Options) (word text : List ℕ) (names : List (List ℕ)) (p : Program) (messages : List Said) (checked : Option Checked)
+told_checked : (given : Options) (word text : List ℕ) (names : List (List ℕ)) (p : Program) (messages : List Said) (checked : Option Checked)
     → ((m : Said) → Contains messages m ↔ IsSaid given (program_view p) p.embedded.items p.beyond m) → IsInOrder messages
     → (IsSome checked ↔ IsAccepted (options_in_force (program_view p) given) p) → IfSome checked (λ c. c.program ≡ p)
-    → text ≡ messages_text word names messages → IsTreeTold given word names (program_view p) p.embedded.items p.beyond text (tree_of checked)
+    → text ≡ messages_text word names messages → IsTreeTold given word names (program_view p) p.embedded.items p.beyond text (checked_tree checked)
 told_checked given word text names p messages checked exactly in_order accepted same is =
     let some = is_some_tree checked in
     record {
@@ -257,13 +270,37 @@ told_checked given word text names p messages checked exactly in_order accepted 
       same = if_some_tree checked p same;
     }
 
+-- the same in a box
+pub told_held : (given : Options) (word text : List ℕ) (names : List (List ℕ)) (p : Program) (messages : List Said) (checked : Option Checked) (held : Option (Box Checked Global))
+    → unboxed held ≡ checked
+    → ((m : Said) → Contains messages m ↔ IsSaid given (program_view p) p.embedded.items p.beyond m) → IsInOrder messages
+    → (IsSome checked ↔ IsAccepted (options_in_force (program_view p) given) p) → IfSome checked (λ c. c.program ≡ p)
+    → text ≡ messages_text word names messages → IsTreeTold given word names (program_view p) p.embedded.items p.beyond text (tree_of held)
+told_held given word text names p messages checked held in_box exactly in_order accepted same is =
+    subst (λ (t : Option ProgramTree). IsTreeTold given word names (program_view p) p.embedded.items p.beyond text t) (ap checked_tree (sym in_box) ∙ unboxed_tree held)
+    (told_checked given word text names p messages checked exactly in_order accepted same is)
+
+-- the options of what is in a box
+held_options : (given : Options) (held : Option (Box Checked Global)) → IfSome (unboxed held) (λ c. c.options ≡ options_in_force (program_view c.program) given)
+    → IfSome held (λ b. b.value.options ≡ options_in_force (program_view b.value.program) given)
+held_options given None are = tt
+held_options given (Some b) are = are
+
+-- the options of a checked program, in a box
+pub boxed_options : (given : Options) (p : Program) (checked : Option Checked) (held : Option (Box Checked Global)) → unboxed held ≡ checked
+    → IfSome checked (λ c. c.program ≡ p) → IfSome checked (λ c. c.options ≡ options_in_force (program_view p) given)
+    → IfSome held (λ b. b.value.options ≡ options_in_force (program_view b.value.program) given)
+boxed_options given p checked held in_box same are =
+    held_options given held (subst (λ (o : Option Checked). IfSome o (λ c. c.options ≡ options_in_force (program_view c.program) given)) (sym in_box)
+    (checked_options given p checked same are))
+
 -- a tree that is given is the one that was found
 same_some : (tree : Option ProgramTree) (p : ProgramTree) (asked : Bool) → tree ≡ Some p → asked_tables asked (Some p) ≡ tables_text asked Well tree
 same_some tree p true e = ap (λ t. tables_text true Well t) (sym e)
 same_some tree p false e = refl
 
 -- the tables that are asked for, of a checked program that is there
-pub asked_are : (asked : Bool) (checked : Option Checked) (c : Checked) (text : List ℕ) → asked ≡ true → checked ≡ Some c → text ≡ tables (program_view c.program)
+pub asked_are : (asked : Bool) (checked : Option (Box Checked Global)) (c : Box Checked Global) (text : List ℕ) → asked ≡ true → checked ≡ Some c → text ≡ tables (program_view c.value.program)
     → text ≡ asked_tables asked (tree_of checked)
 asked_are asked checked c text ea ec et = et ∙ (λ i. asked_tables (sym ea i) (tree_of (sym ec i)))
 
@@ -274,7 +311,7 @@ no_tables true (Some p) = refl
 no_tables false tree = refl
 
 -- what `report` answers
-pub reported : (given : Options) (asked : Bool) (word source text shown : List ℕ) (checked : Option Checked) → IsJudged given word source text (tree_of checked)
+pub reported : (given : Options) (asked : Bool) (word source text shown : List ℕ) (checked : Option (Box Checked Global)) → IsJudged given word source text (tree_of checked)
     → shown ≡ asked_tables asked (tree_of checked) → IsReport given asked word source text shown (if is_some checked then Well else SourceErrors)
 reported given asked word source text shown None w e = record {
   names = w.names;
@@ -292,7 +329,7 @@ reported given asked word source text shown (Some c) w e = record {
   finds = w.finds;
   text_is = w.text_is;
   status_is = w.accepted.0 refl;
-  shown_is = e ∙ same_some w.tree (program_view c.program) asked w.same;
+  shown_is = e ∙ same_some w.tree (program_view c.value.program) asked w.same;
 }
 
 -- a machine that was loaded begins in the first world of its program
@@ -304,7 +341,7 @@ ran_first m task first budget end bytes left told told' w is ran = subst (λ (v 
 module _ {R S : Type 0} (source_rest : R → Option (List ℕ)) (source_failures : R → ℕ) (sink_told : S → Option (List ℕ)) (sink_failures : S → ℕ)
     (given : Options) (word macros source text : List ℕ) (budget : ℕ) (trace trace' : R) (sink sink' : S) where
   -- a session on a source with an error
-  pub session_refused : (checked : Option Checked) → checked ≡ None → IsJudged given word source text (tree_of checked) → trace' ≡ trace → sink' ≡ sink
+  pub session_refused : (checked : Option (Box Checked Global)) → checked ≡ None → IsJudged given word source text (tree_of checked) → trace' ≡ trace → sink' ≡ sink
       → IsSession source_rest source_failures sink_told sink_failures given word macros source budget trace trace' sink sink' text None SourceErrors
   session_refused checked none w unread unwritten = record {
     names = w.names;
@@ -316,13 +353,13 @@ module _ {R S : Type 0} (source_rest : R → Option (List ℕ)) (source_failures
   }
 
   -- a session that ran the program
-  pub session_ran : (checked : Option Checked) (c : Checked) (end : End) → checked ≡ Some c → IsJudged given word source text (tree_of checked)
-      → c.options ≡ options_in_force (program_view c.program) given
-      → IsRunOf source_rest source_failures sink_told sink_failures (program_view c.program) (links (program_view c.program) macros) (waits c.options) budget trace trace' sink sink' end
+  pub session_ran : (checked : Option (Box Checked Global)) (c : Box Checked Global) (end : End) → checked ≡ Some c → IsJudged given word source text (tree_of checked)
+      → c.value.options ≡ options_in_force (program_view c.value.program) given
+      → IsRunOf source_rest source_failures sink_told sink_failures (program_view c.value.program) (links (program_view c.value.program) macros) (waits c.value.options) budget trace trace' sink sink' end
       → IsSession source_rest source_failures sink_told sink_failures given word macros source budget trace trace' sink sink' text (Some end) (status_of end)
   session_ran checked c end some w are run =
       let v = subst (λ o. IsJudged given word source text (tree_of o)) some w in
-      let whole = program_view c.program in
+      let whole = program_view c.value.program in
       let under = subst (λ o.
       IsRunOf source_rest source_failures sink_told sink_failures whole (links whole macros) (waits o) budget trace trace' sink sink' end) are run in
       record {

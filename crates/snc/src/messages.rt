@@ -22,8 +22,8 @@ use std::alloc::{AllocError, Global};
 pub struct Judgement<'a> {
     /// A line for each message, in the order of the source.
     pub messages: Vec<u8>,
-    /// The program, if no message is an error.
-    pub checked: Option<Checked<'a>>,
+    /// The program, if no message is an error. It is in a box since what owns a tree by value is dear to prove.
+    pub checked: Option<Box<Checked<'a>>>,
 }
 
 /// Reads and checks a source, whose file is called by a word, under the options of a call. A lexical fault has its one
@@ -37,9 +37,9 @@ pub fn judged<'a>(
     given: Options,
 ) -> Result<Judgement<'a>, AllocError>
     ensures judged { IfOk result (λ f. IsJudged given file.now source.now f.messages.items
-        (option_map (λ c. program_view c.program) f.checked)) }
-    ensures options { IfOk result (λ f. IfSome f.checked (λ c. c.options
-        ≡ options_in_force (program_view c.program) given)) }
+        (option_map (λ c. program_view c.value.program) f.checked)) }
+    ensures options { IfOk result (λ f. IfSome f.checked (λ c. c.value.options
+        ≡ options_in_force (program_view c.value.program) given)) }
 {
     match lex(alloc, source) {
         Ok(lexed) => {
@@ -115,9 +115,9 @@ fn tokens_judged<'a>(
     given: Options,
 ) -> Result<Judgement<'a>, AllocError>
     ensures told { IfOk result (λ f. AreTokensTold given file.now lexed.now f.messages.items
-        (option_map (λ c. program_view c.program) f.checked)) }
-    ensures options { IfOk result (λ f. IfSome f.checked (λ c. c.options
-        ≡ options_in_force (program_view c.program) given)) }
+        (option_map (λ c. program_view c.value.program) f.checked)) }
+    ensures options { IfOk result (λ f. IfSome f.checked (λ c. c.value.options
+        ≡ options_in_force (program_view c.value.program) given)) }
 {
     let names = Names {
         read: file,
@@ -151,17 +151,31 @@ fn tree_judged<'a>(
     ensures told { IfOk result (λ f. IsTreeTold given names.entry.read.now
         (map (λ name. name.now) names.entry.marked.now) (program_view program.entry)
         program.entry.embedded.items program.entry.beyond f.messages.items
-        (option_map (λ c. program_view c.program) f.checked)) }
-    ensures options { IfOk result (λ f. IfSome f.checked (λ c. c.options
-        ≡ options_in_force (program_view c.program) given)) }
+        (option_map (λ c. program_view c.value.program) f.checked)) }
+    ensures options { IfOk result (λ f. IfSome f.checked (λ c. c.value.options
+        ≡ options_in_force (program_view c.value.program) given)) }
 {
     let Outcome {
         messages: said,
         checked,
     } = check(alloc, program, given)?;
+    let checked = boxed(alloc, checked)?;
     let mut messages = Vec::new(alloc);
     push_lines(&mut messages, names, said.as_slice())?;
     Ok(Judgement { messages, checked })
+}
+
+/// What is there, in a box.
+fn boxed<T: Drop>(alloc: Global, value: Option<T>) -> Result<Option<Box<T>>, AllocError>
+    ensures { IfOk result (λ held. option_map (λ b. b.value) held ≡ value) }
+{
+    match value {
+        Some(value) => {
+            let held = Box::new(alloc, value)?;
+            Ok(Some(held))
+        }
+        None => Ok(None),
+    }
 }
 
 /// The one message of tokens that are no program, at the first that can't stand where it does.

@@ -37,10 +37,10 @@ pub fn report(alloc: Global, source: &[u8], job: &Job) -> Result<Report, AllocEr
 fn tables_if_asked(
     alloc: Global,
     asked: bool,
-    checked: &Option<Checked>,
+    checked: &Option<Box<Checked>>,
 ) -> Result<Vec<u8>, AllocError>
     ensures { IfOk result (λ text. text.items
-        ≡ asked_tables asked (option_map (λ c. program_view c.program) checked.now)) }
+        ≡ asked_tables asked (option_map (λ c. program_view c.value.program) checked.now)) }
 {
     match checked {
         Some(checked) if asked => {

@@ -8,7 +8,7 @@ use crate::jobs::Status;
 use crate::messages::{Judgement, judged};
 use snc_args::Job;
 use snl_links::Macros;
-use snl_machine::{Machine, Sink};
+use snl_machine::{Loads, Machine, Sink};
 use snl_trace::{End, Source, run};
 use std::alloc::{AllocError, Global};
 
@@ -38,9 +38,21 @@ pub fn session<R: Source, S: Sink>(
         return Ok((messages, None, Status::SourceErrors));
     };
     let macros = macros_of(job);
-    let mut machine = Machine::load(alloc, checked, &macros, job.budget)?;
+    let mut machine = loaded_from(alloc, checked, &macros, job.budget)?;
     let end = run(&mut machine, trace, sink);
     Ok((messages, Some(end), status(end)))
+}
+
+/// The machine of what is in a box, which is dropped then.
+fn loaded_from<T: Loads + Drop>(
+    alloc: Global,
+    checked: Box<T>,
+    macros: &Macros,
+    budget: u32,
+) -> Result<Machine, AllocError>
+    ensures { IfOk result (T.loaded checked.value macros.now.text.now budget) }
+{
+    checked.machine(alloc, macros, budget)
 }
 
 /// The macros of a call; none where they were left out.

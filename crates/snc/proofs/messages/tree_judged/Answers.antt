@@ -1,7 +1,7 @@
 use Rattle.std.proofs.Common.{◌≡◌, ◌∙◌, ◌++◌, map}
 use Rattle.snl_messages.specs.Messages.{said}
 use Rattle.snc.specs.Texts.{messages_text}
-use Rattle.snc.proofs.Answering.{checked_options, told_checked}
+use Rattle.snc.proofs.Answering.{boxed_options, told_held}
 use Rattle.snc.proofs.messages.tree_judged.Goals as goal
 
 pub returns-clause-told : goal.returns-clause-told
@@ -11,9 +11,11 @@ returns-clause-told c =
     let found = c.in_ok-said.field-0 in
     let is : c.push_lines.new.out.items ≡ messages_text word names (map said found.messages.items) =
     c.in_ok-push_lines.ensures ∙ (λ i. c.new-messages.ensures.items i ++ messages_text word names (map said (c.as_slice.ensures.value i))) in
-    told_checked c.args.given word c.push_lines.new.out.items names c.args.program (map said found.messages.items) found.checked
+    told_held c.args.given word c.push_lines.new.out.items names c.args.program (map said found.messages.items) found.checked
+    c.in_ok-checked.checked c.in_ok-checked.ensures
     c.in_ok-said.ensures.exactly c.in_ok-said.ensures.in_order c.in_ok-said.ensures.accepted c.in_ok-said.ensures.same is
 
 pub returns-clause-options : goal.returns-clause-options
 returns-clause-options c =
-    checked_options c.args.given c.args.program c.in_ok-said.field-0.checked c.in_ok-said.ensures.same c.in_ok-said.ensures.options
+    boxed_options c.args.given c.args.program c.in_ok-said.field-0.checked c.in_ok-checked.checked c.in_ok-checked.ensures c.in_ok-said.ensures.same
+    c.in_ok-said.ensures.options

@@ -27,8 +27,8 @@ returns-clause-answer g c =
     let judged : IsJudged given word source text (tree_of checked) = subst (λ (w : List ℕ). IsJudged given w source text (tree_of checked)) c.as_bytes.ensures.value c.in_ok-messages.ensures.judged in
     let first = c.in-Some.checked in
     let some : checked ≡ Some first = cc in
-    let whole = program_view first.program in
-    let waiting = waits first.options in
+    let whole = program_view first.value.program in
+    let waiting = waits first.value.options in
     let machine = c.in_ok-machine.machine in
     let ls = links whole macros in
     let made : IsLoaded whole macros waiting budget machine =
@@ -48,7 +48,7 @@ returns-clause-answer g c =
     } in
     let session = session_ran g.R.Source.rest g.R.Source.failures g.S.Sink.told g.S.Sink.failures given word macros source text budget
     c.args.trace.now c.run-end.new.source c.args.sink.now c.run-end.new.sink checked first end some judged
-    (subst (λ o. IfSome o (λ k. k.options ≡ options_in_force (program_view k.program) given)) some c.in_ok-messages.ensures.options)
+    (subst (λ o. IfSome o (λ k. k.value.options ≡ options_in_force (program_view k.value.program) given)) some c.in_ok-messages.ensures.options)
     run in
     subst (λ (s : Status).
     IsSession g.R.Source.rest g.R.Source.failures g.S.Sink.told g.S.Sink.failures given word macros source budget
