@@ -7,11 +7,11 @@ use crate::charts::{Chart, chart_of};
 use crate::conditions::Conditions;
 use crate::coverage::PutChart;
 use crate::lending::Lends;
-use crate::preparing::{Prepared, prepared_of};
+use crate::preparing::{Prepared, prepared_with};
 use crate::puts::{put_charts, put_names};
 use indexmap::IndexSet;
 use snl_check::Checked;
-use snl_links::Macros;
+use snl_links::{Link, Macros, links};
 use snl_text::lex;
 use std::alloc::{AllocError, Global};
 
@@ -75,7 +75,29 @@ pub struct Charted {
     pub puts: Vec<PutChart>,
 }
 
-/// A checked program that is lent, as it can run, with its chart.
+/// A chart, and the channels that a `pvPut` names.
+#[derive(Drop)]
+struct Outline {
+    chart: Chart,
+    puts: Vec<PutChart>,
+}
+
+/// The chart of a checked program that is lent, and the channels that it puts, by its links.
+fn outline_of<'a>(
+    alloc: Global,
+    checked: &Checked<'a>,
+    source: &[u8],
+    links: &[Link],
+) -> Result<Outline, AllocError>
+    ensures { IfOk result (λ o. IsCharted checked.now o.chart) }
+{
+    let marks = marks_of(alloc, source)?;
+    let (chart, declared) = chart_by(alloc, checked, &marks)?;
+    let puts = put_charts(alloc, source, links, &declared)?;
+    Ok(Outline { chart, puts })
+}
+
+/// A checked program that is lent, as it can run, with its chart. The machine is made last: nothing fails while it is owned.
 fn charted_of<'a>(
     alloc: Global,
     checked: &Checked<'a>,
@@ -85,10 +107,9 @@ fn charted_of<'a>(
 ) -> Result<Charted, AllocError>
     ensures { IfOk result (IsChartedProgram checked.now macros.now.text.now budget) }
 {
-    let marks = marks_of(alloc, source)?;
-    let (chart, declared) = chart_by(alloc, checked, &marks)?;
-    let prepared = prepared_of(alloc, checked, macros, budget)?;
-    let puts = put_charts(alloc, source, prepared.links.as_slice(), &declared)?;
+    let links = links(alloc, checked, macros)?;
+    let Outline { chart, puts } = outline_of(alloc, checked, source, links.as_slice())?;
+    let prepared = prepared_with(alloc, checked, links, macros, budget)?;
     Ok(Charted {
         prepared,
         chart,

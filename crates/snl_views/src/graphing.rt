@@ -6,6 +6,7 @@ ghost use Rattle.snl_views.specs.Pictures.{drawn, pictured};
 ghost use Rattle.snl_views.specs.Shapes.{charted};
 
 use crate::charting::Charted;
+use crate::charts::Chart;
 use crate::drawing::drawn;
 use crate::observing::{Covered, covered_by};
 use crate::pictures::Picture;
@@ -37,11 +38,11 @@ pub struct GraphAnswer {
 }
 
 /// The picture of a program that is not run.
-fn plain(alloc: Global, program: Charted) -> Result<Drawing, AllocError>
-    ensures shape { IfOk result (λ d. pictured d.picture ≡ charted program.chart) }
+fn plain(alloc: Global, chart: &Chart) -> Result<Drawing, AllocError>
+    ensures shape { IfOk result (λ d. pictured d.picture ≡ charted chart.now) }
     ensures text { IfOk result (λ d. d.text.items ≡ drawn d.picture) }
 {
-    let picture = picture_of(alloc, &program.chart, None)?;
+    let picture = picture_of(alloc, chart, None)?;
     let text = drawn(alloc, &picture)?;
     Ok(Drawing {
         end: None,
@@ -88,7 +89,7 @@ fn drawing_of<R: Source + Drop, S: Sink + Drop>(
 {
     match trace {
         Some(trace) => shown(alloc, program, trace, sink),
-        None => plain(alloc, program),
+        None => plain(alloc, &program.chart),
     }
 }
 

@@ -20,6 +20,24 @@ pub struct Prepared {
     pub waits: bool,
 }
 
+/// What the run of a checked program needs that is lent, with its links.
+pub(crate) fn prepared_with<'a>(
+    alloc: Global,
+    checked: &Checked<'a>,
+    links: Vec<Link>,
+    macros: &Macros,
+    budget: u32,
+) -> Result<Prepared, AllocError>
+    ensures { IfOk result (IsPrepared checked.now macros.now.text.now budget) }
+{
+    let machine = checked.machine(alloc, macros, budget)?;
+    Ok(Prepared {
+        links,
+        machine,
+        waits: checked.waits(),
+    })
+}
+
 /// What the run of a checked program needs that is lent.
 pub(crate) fn prepared_of<'a>(
     alloc: Global,
@@ -30,12 +48,7 @@ pub(crate) fn prepared_of<'a>(
     ensures { IfOk result (IsPrepared checked.now macros.now.text.now budget) }
 {
     let links = links(alloc, checked, macros)?;
-    let machine = checked.machine(alloc, macros, budget)?;
-    Ok(Prepared {
-        links,
-        machine,
-        waits: checked.waits(),
-    })
+    prepared_with(alloc, checked, links, macros, budget)
 }
 
 impl<'a> Lends<Prepared> for Checked<'a> {

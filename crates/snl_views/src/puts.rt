@@ -37,6 +37,23 @@ fn text_of(alloc: Global, variable: &Variable) -> Result<Vec<u8>, AllocError> {
     Ok(text)
 }
 
+/// The channel of a link, with its variable. The only error is that memory ends.
+fn put_chart(
+    alloc: Global,
+    source: &[u8],
+    links: &[Link],
+    link: &Link,
+) -> Result<PutChart, AllocError> {
+    let variable = variable_of(source, links, link);
+    let channel = Vec::from_slice(alloc, link.name.as_slice())?;
+    let text = text_of(alloc, &variable)?;
+    Ok(PutChart {
+        channel,
+        variable: text,
+        line: variable.line,
+    })
+}
+
 /// The channels of variables that are declared at these offsets of a source, each once, by its first link. The only error is
 /// that memory ends.
 pub(crate) fn put_charts(
@@ -53,12 +70,7 @@ pub(crate) fn put_charts(
             continue;
         }
         seen.insert(name)?;
-        let variable = variable_of(source, links, link);
-        puts.push(PutChart {
-            channel: Vec::from_slice(alloc, name)?,
-            variable: text_of(alloc, &variable)?,
-            line: variable.line,
-        })?;
+        puts.push(put_chart(alloc, source, links, link)?)?;
     }
     Ok(puts)
 }

@@ -1,13 +1,14 @@
 //! A run up to the start of a program.
 
-ghost use Rattle.std.specs.Prelude.{◌≡◌, ◌-◌, ◌^◌, ◌<◌, ℕ, List, [], Some, IfOk};
+ghost use Rattle.std.specs.Prelude.{◌≡◌, ◌-◌, ◌^◌, ◌<◌, ℕ, Bool, List, Option, [], Some, IfOk};
 ghost use Rattle.snl_syntax.specs.Programs.{ProgramTree};
 ghost use Rattle.snl_links.specs.Links.{Link};
 ghost use Rattle.snl_load.specs.Meaning.{program_meaning};
 ghost use Rattle.snl_meaning.specs.declared.live.Live.TheVariants.{Waiting};
-ghost use Rattle.snl_machine.specs.MachineOf.{IsMachineOf, task_held, task_of, world_held};
+ghost use Rattle.snl_machine.specs.MachineOf.{IsMachineOf, StaysMachineOf, task_held, task_of, world_held};
 ghost use Rattle.snl_trace.specs.Lines.{lines_from};
 ghost use Rattle.snl_trace.specs.Run.{rules_by};
+ghost use Rattle.snl_trace.specs.RunOver.{RunsOver, standing};
 ghost use Rattle.snl_views.specs.Awaits.{Awaits, awaited_in, left_in};
 
 use crate::awaited::{Awaited, awaited_of};
@@ -56,6 +57,40 @@ fn left_of(
     }
 }
 
+/// How a run ended that could write nothing, and what was heard of its trace.
+#[derive(Drop)]
+struct Heard {
+    end: End,
+    heard: HeardTrace,
+}
+
+/// Runs a machine over a trace, line by line, up to the first byte that it writes. Fails only where memory ran out.
+fn heard_of<R: Source + Drop>(
+    alloc: Global,
+    machine: &mut Machine,
+    trace: R,
+) -> Result<Heard, AllocError>
+    requires trace { R.failures trace < 2 ^ 64 - 1 }
+    ensures stays { IfOk result (λ _. StaysMachineOf machine.old machine.new) }
+    ensures means { IfOk result (λ ran. (p : ProgramTree) (ls : List Link) (waits : Bool)
+        (budget : ℕ) → IsMachineOf p ls waits budget machine.old → (bytes : List ℕ) →
+        R.rest trace ≡ Some bytes → (left : Option (List ℕ)) ×
+        RunsOver (rules_by (task_of p ls waits) budget) ran.end bytes left
+        (standing [] 1 machine.old (Some [])) (world_held machine.new) (Some [])) }
+{
+    let names = names_of(alloc, machine)?;
+    let heard = HeardTrace::new(alloc, names)?;
+    let source = ByLine::new(alloc, trace)?;
+    let mut lines = Listener::new(source, heard);
+    let mut refuser = Refuser::new();
+    let end = run(machine, &mut lines, &mut refuser);
+    let heard = lines.into_heard();
+    if heard.ran_out() {
+        return Err(AllocError);
+    }
+    Ok(Heard { end, heard })
+}
+
 /// Runs a machine that has not started over a trace, up to the line at which its program begins, or to the end of the trace.
 ///
 /// The trace is read line by line, and no more of it is asked for than is needed: where the program began, the last line that
@@ -74,20 +109,11 @@ pub(crate) fn start_of<R: Source + Drop>(
         (program_meaning p ls waits) s.end (world_held machine.old) (lines_from [] bytes)
         s.awaited.items) }
 {
-    let names = names_of(alloc, machine)?;
-    let heard = HeardTrace::new(alloc, names)?;
-    let source = ByLine::new(alloc, trace)?;
-    let mut lines = Listener::new(source, heard);
-    let mut refuser = Refuser::new();
-    let end = run(machine, &mut lines, &mut refuser);
-    let heard = lines.into_heard();
-    if heard.ran_out() {
-        return Err(AllocError);
-    }
-    let awaited = left_of(alloc, machine, waits, end)?;
+    let ran = heard_of(alloc, machine, trace)?;
+    let awaited = left_of(alloc, machine, waits, ran.end)?;
     Ok(Start {
-        end,
+        end: ran.end,
         awaited,
-        heard,
+        heard: ran.heard,
     })
 }

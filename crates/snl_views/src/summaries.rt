@@ -115,6 +115,30 @@ fn push_counts(out: &mut Vec<u8>, standing: &Standing) -> Result<(), AllocError>
     out.extend_from_slice(b"\n")
 }
 
+/// Adds how a run ended, and where.
+fn push_ending(out: &mut Vec<u8>, scene: Scene, end: End, notes: &Notes) -> Result<(), AllocError> {
+    let time = scene.machine.time();
+    push_how(out, end, time, line_of(end, notes, time))
+}
+
+/// Adds where the state sets stand or, where the program never began, what it waits for.
+fn push_standing(
+    alloc: Global,
+    out: &mut Vec<u8>,
+    scene: Scene,
+    end: End,
+    heard: HeardTrace,
+    notes: &Notes,
+) -> Result<(), AllocError> {
+    if notes.standing().has_begun() {
+        push_sets(out, notes)
+    } else if end != End::SinkFailed {
+        push_waits(alloc, out, scene, end, heard)
+    } else {
+        Ok(())
+    }
+}
+
 /// The summary of a run, each line with `# ` in front. Fails only where memory ran out.
 pub(crate) fn summary_of(
     alloc: Global,
@@ -123,18 +147,12 @@ pub(crate) fn summary_of(
     heard: HeardTrace,
     notes: &Notes,
 ) -> Result<Vec<u8>, AllocError> {
-    let mut out = Vec::new(alloc);
-    let standing = notes.standing();
-    if standing.ran_out() {
+    if notes.standing().ran_out() {
         return Err(AllocError);
     }
-    let time = scene.machine.time();
-    push_how(&mut out, end, time, line_of(end, notes, time))?;
-    if standing.has_begun() {
-        push_sets(&mut out, notes)?;
-    } else if end != End::SinkFailed {
-        push_waits(alloc, &mut out, scene, end, heard)?;
-    }
-    push_counts(&mut out, standing)?;
+    let mut out = Vec::new(alloc);
+    push_ending(&mut out, scene, end, notes)?;
+    push_standing(alloc, &mut out, scene, end, heard, notes)?;
+    push_counts(&mut out, notes.standing())?;
     Ok(out)
 }

@@ -13,7 +13,7 @@ ghost use Rattle.snl_views.specs.Answers.{IsWaits};
 ghost use Rattle.snl_views.specs.Awaits.{Awaits};
 
 use crate::awaited::Awaited;
-use crate::lending::lent_by;
+use crate::lending::lent_boxed;
 use crate::preparing::Prepared;
 use crate::starting::start_of;
 use crate::telling::{Scene, start_text};
@@ -46,28 +46,23 @@ pub struct Answer {
 fn outcome_of<R: Source + Drop>(
     alloc: Global,
     source: &[u8],
-    prepared: Prepared,
+    prepared: &mut Prepared,
     trace: R,
 ) -> Result<WaitsOutcome, AllocError>
-    requires waiting { (world_held prepared.machine).phase ≡ Waiting }
+    requires waiting { (world_held prepared.old.machine).phase ≡ Waiting }
     requires trace { R.failures trace < 2 ^ 64 - 1 }
     ensures { IfOk result (λ o. (p : ProgramTree) (ls : List Link) (budget : ℕ) →
-        IsMachineOf p ls prepared.waits budget prepared.machine → (bytes : List ℕ) →
-        R.rest trace ≡ Some bytes → Awaits (rules_by (task_of p ls prepared.waits) budget)
-        (program_meaning p ls prepared.waits) o.end (world_held prepared.machine)
+        IsMachineOf p ls prepared.old.waits budget prepared.old.machine → (bytes : List ℕ) →
+        R.rest trace ≡ Some bytes → Awaits (rules_by (task_of p ls prepared.old.waits) budget)
+        (program_meaning p ls prepared.old.waits) o.end (world_held prepared.old.machine)
         (lines_from [] bytes) o.awaited.items) }
 {
-    let Prepared {
-        links,
-        mut machine,
-        waits,
-    } = prepared;
-    let start = start_of(alloc, &mut machine, waits, trace)?;
+    let start = start_of(alloc, &mut prepared.machine, prepared.waits, trace)?;
     let scene = Scene {
         source,
-        links: links.as_slice(),
-        machine: &machine,
-        waits,
+        links: prepared.links.as_slice(),
+        machine: &prepared.machine,
+        waits: prepared.waits,
     };
     let text = start_text(alloc, scene, &start)?;
     Ok(WaitsOutcome {
@@ -99,8 +94,8 @@ pub fn waits<R: Source + Drop>(
         });
     };
     let macros = macros_of(job);
-    let prepared = lent_by(alloc, checked, source, &macros, job.budget)?;
-    let outcome = outcome_of(alloc, source, prepared, trace)?;
+    let mut prepared: Box<Prepared> = lent_boxed(alloc, checked, source, &macros, job.budget)?;
+    let outcome = outcome_of(alloc, source, prepared.as_mut(), trace)?;
     Ok(Answer {
         messages,
         outcome: Some(outcome),

@@ -2,7 +2,6 @@ use Rattle.std.proofs.Common.{◌≡◌, ◌∙◌, ap, ℕ, List, Some}
 use Rattle.snl_load.specs.Meaning.{program_meaning}
 use Rattle.snl_machine.specs.MachineOf.{IsMachineOf, task_of, world_held}
 use Rattle.snl_meaning.specs.declared.ties.Tied.{Tied}
-use Rattle.snl_watch.specs.Window.{behind, window}
 use Rattle.snl_views.specs.Awaits.{awaited_in, left_in}
 use Rattle.snl_views.proofs.Ending.{awaits-by, links-are}
 use Rattle.snl_views.proofs.starting.start_of.Goals as goal
@@ -12,11 +11,10 @@ pub returns : goal.returns
 returns g c = λ p ls budget is bytes rest.
     let waits = c.args.waits in
     let old = c.args.machine.now in
-    let new = c.run-end.new.machine in
-    let e = c.run-end.result in
-    let tells = ap (λ b. behind (window b.held) (g.R.Source.rest b.inner)) c.new-lines.ensures.inner ∙ c.in_ok-source.ensures.rest ∙ rest in
-    let stays : IsMachineOf p ls waits budget new = c.run-end.ensures.stays p ls waits budget is in
+    let new = c.heard_of.new.machine in
+    let e = c.in_ok-ran.ran.end in
+    let stays : IsMachineOf p ls waits budget new = c.in_ok-ran.ensures.stays p ls waits budget is in
     let links = links-are p ls waits budget new stays in
     let named = c.in_ok-awaited.ensures ∙ ap (λ (xs : List Tied). left_in e (awaited_in waits xs (world_held new))) links in
     awaits-by (task_of p ls waits) budget e bytes _ (world_held old) (world_held new) c.in_ok-awaited.awaited.items c.requires.waiting named
-    (c.run-end.ensures.means p ls waits budget is bytes tells)
+    (c.in_ok-ran.ensures.means p ls waits budget is bytes rest).1
