@@ -21,7 +21,7 @@ use Rattle.snl_syntax.specs.declared.programs.Program.{Program}
 use Rattle.snl_syntax.specs.Begins.{Spells, IsUnexpected, IsTooDeep}
 use Rattle.snl_syntax.specs.Programs.{ProgramTree, IsProgram, programs}
 use Rattle.snl_syntax.specs.view.Programs.{first_place, program_view}
-use Rattle.snl_resolve.specs.declared.options.Options.{Options}
+use Rattle.snl_names.specs.declared.options.Options.{Options}
 use Rattle.snl_messages.specs.Messages.{Said, IsInOrder}
 use Rattle.snl_messages.specs.Says.{IsSaid}
 use Rattle.snl_messages.specs.Silence.{options_in_force}

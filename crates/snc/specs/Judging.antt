@@ -14,7 +14,7 @@ use Rattle.snl_text.specs.declared.tokens.Token.{Token}
 use Rattle.snl_syntax.specs.Begins.{Spells, IsUnexpected, IsTooDeep}
 use Rattle.snl_syntax.specs.Programs.{ProgramTree, IsProgram, programs}
 use Rattle.snl_syntax.specs.view.Programs.{first_place}
-use Rattle.snl_resolve.specs.declared.options.Options.{Options}
+use Rattle.snl_names.specs.declared.options.Options.{Options}
 use Rattle.snl_messages.specs.declared.messages.Severity.TheVariants.{Error}
 use Rattle.snl_messages.specs.declared.refusals.Refusal.{Refusal}
 use Rattle.snl_messages.specs.declared.refusals.Refusal.TheVariants.{Unexpected, EndOfFile, TooDeep, NoTokens}

@@ -2,7 +2,7 @@
 use Rattle.std.proofs.Common.{◌≡◌, ◌∙◌, List, [], None, subst}
 use Rattle.std.specs.Prelude.{Err, IfOk, Ok, Result}
 use Rattle.clap.specs.Words.{Text, fault_of, matches_of}
-use Rattle.snl_resolve.specs.declared.options.Options.{Options}
+use Rattle.snl_names.specs.declared.options.Options.{Options}
 use Rattle.snc_args.specs.Commands.{command_of}
 use Rattle.snc_args.specs.Options.{first_refused, options_among, options_in_force, rest_words}
 use Rattle.snc_args.specs.Reads.{ReadsMatches, ReadsTo}

@@ -4,8 +4,8 @@ use Rattle.std.specs.List.{filter_map}
 use Rattle.std.specs.Option.{option_or}
 use Rattle.std.specs.Str.{chars}
 use Rattle.clap.specs.Words.{Text}
-use Rattle.snl_resolve.specs.Options.{is_program_letter, last_sign, no_options, options_by, sign_said}
-use Rattle.snl_resolve.specs.declared.options.Options.{Options}
+use Rattle.snl_names.specs.Options.{is_program_letter, last_sign, no_options, options_by, sign_said}
+use Rattle.snl_names.specs.declared.options.Options.{Options}
 use Rattle.snc_args.specs.declared.options.OptionWord.{OptionWord}
 
 -- An option: its sign, true for a plus, and the letters that follow it.

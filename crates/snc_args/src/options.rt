@@ -2,10 +2,10 @@
 
 ghost use Rattle.std.specs.Prelude.{◌≡◌, IfOk, map, option_map};
 ghost use Rattle.std.specs.String.{string_bytes};
-ghost use Rattle.snl_resolve.specs.Options as letter;
+ghost use Rattle.snl_names.specs.Options as letter;
 ghost use Rattle.snc_args.specs.Options as spec;
 
-use snl_resolve::{Options, is_program_letter};
+use snl_names::{Options, is_program_letter};
 use std::alloc::{AllocError, Global};
 
 /// An option: its sign, `true` for `+`, and the letters that follow it, of which there is at least one.

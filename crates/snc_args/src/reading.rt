@@ -12,7 +12,7 @@ use crate::commands::{snc_command, snlrun_command};
 use crate::words::{DEFAULT_BUDGET, Job, WordsFault};
 use clap::error::ErrorKind;
 use clap::{ArgMatches, Command, Error};
-use snl_resolve::Options;
+use snl_names::Options;
 use std::alloc::{AllocError, Global};
 
 /// What an error of `clap` says.

@@ -6,7 +6,7 @@ ghost use Rattle.snc_args.specs.Reads.{FailsOn, IsBudget, IsMemory, ReadsTo};
 
 use crate::options::{first_refused, options_in_force, rest_of};
 use crate::reading::{read_snc, read_snlrun};
-use snl_resolve::Options;
+use snl_names::Options;
 use std::alloc::{AllocError, Global};
 use thiserror::Error;
 

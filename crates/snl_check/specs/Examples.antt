@@ -2,15 +2,15 @@
 use Rattle.std.specs.Prelude.{◌≡◌, ℕ, true, false, List, [], ◌∷◌, None, Some}
 use Rattle.snl_text.specs.declared.kinds.Kind.TheVariants.{Name}
 use Rattle.snl_text.specs.declared.tokens.Pos.{Pos}
-use Rattle.snl_resolve.specs.declared.sites.Meaning.{Meaning}
-use Rattle.snl_resolve.specs.declared.sites.Meaning.TheVariants.{Variable, Flag, Number, Nothing}
-use Rattle.snl_resolve.specs.declared.sites.Purpose.TheVariants.{Read}
-use Rattle.snl_resolve.specs.declared.sites.Site.{Site}
-use Rattle.snl_resolve.specs.declared.sites.Site.TheVariants.{Use}
-use Rattle.snl_resolve.specs.declared.sites.Size.TheVariants.{Scalar}
-use Rattle.snl_resolve.specs.Options.{no_options, after_option}
-use Rattle.snl_resolve.specs.Uses.{declared_in}
-use Rattle.snl_resolve.specs.UseTables.{or_later}
+use Rattle.snl_names.specs.declared.sites.Meaning.{Meaning}
+use Rattle.snl_names.specs.declared.sites.Meaning.TheVariants.{Variable, Flag, Number, Nothing}
+use Rattle.snl_names.specs.declared.sites.Purpose.TheVariants.{Read}
+use Rattle.snl_names.specs.declared.sites.Site.{Site}
+use Rattle.snl_names.specs.declared.sites.Site.TheVariants.{Use}
+use Rattle.snl_names.specs.declared.sites.Size.TheVariants.{Scalar}
+use Rattle.snl_names.specs.Options.{no_options, after_option}
+use Rattle.snl_names.specs.Uses.{declared_in}
+use Rattle.snl_names.specs.UseTables.{or_later}
 use Rattle.snl_check.specs.Waits.{waits}
 
 -- A place at an offset.

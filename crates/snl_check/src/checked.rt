@@ -3,8 +3,8 @@
 ghost use Rattle.std.specs.Prelude.{◌≡◌, ◌↔◌, map, Contains, IfOk, IfSome, IsSome};
 ghost use Rattle.std.proofs.Props.{props};
 ghost use Rattle.snl_syntax.specs.view.Programs.{program_view};
-ghost use Rattle.snl_resolve.specs.UseTables.{IsTableOf};
-ghost use Rattle.snl_resolve.specs.Uses.{declared_of};
+ghost use Rattle.snl_names.specs.UseTables.{IsTableOf};
+ghost use Rattle.snl_names.specs.Uses.{declared_of};
 ghost use Rattle.snl_messages.specs.Messages.{Said, IsInOrder, said};
 ghost use Rattle.snl_messages.specs.Says.{IsSaid};
 ghost use Rattle.snl_messages.specs.Silence as silence;

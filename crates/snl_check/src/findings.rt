@@ -5,7 +5,7 @@ ghost use Rattle.snl_messages.specs.Messages.{said};
 ghost use Rattle.snl_check.specs.Accepted.{has_no_error};
 ghost use Rattle.snl_check.specs.Findings.{AreFindings};
 ghost use Rattle.snl_check.specs.declared.findings.Findings as declared;
-ghost use Rattle.snl_resolve.specs.declared.options.Options as sites;
+ghost use Rattle.snl_names.specs.declared.options.Options as sites;
 
 use snl_messages::{Message, Severity, messages_and_uses, options_in_force};
 use snl_resolve::{Options, UseTable};

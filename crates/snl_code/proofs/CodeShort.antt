@@ -7,8 +7,8 @@ use Rattle.std.specs.List.{flat_map}
 use Rattle.snl_text.specs.declared.tokens.Token.{Token}
 use Rattle.snl_syntax.specs.Definitions.{DefinitionTree, declaration, assign, monitor, sync, sync_queue, event_flags, setting, function}
 use Rattle.snl_syntax.specs.Programs.{ClauseTree, StateTree, StateSetTree, ProgramTree}
-use Rattle.snl_resolve.specs.Programs.{sites}
-use Rattle.snl_resolve.specs.Variables.{function_by}
+use Rattle.snl_names.specs.Programs.{sites}
+use Rattle.snl_names.specs.Variables.{function_by}
 use Rattle.snl_meaning.specs.Functions.{here_below}
 use Rattle.snl_meaning.specs.declared.instrs.Instr.{Instr}
 use Rattle.snl_meaning.specs.Names.{Here}

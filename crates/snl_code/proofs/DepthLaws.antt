@@ -9,8 +9,8 @@ use Rattle.snl_syntax.specs.Expressions.{ExprTree, constant, parenthesized, name
 use Rattle.snl_syntax.specs.view.Expressions.{list_before}
 use Rattle.snl_syntax.specs.Declarations.{DeclaratorTree}
 use Rattle.snl_syntax.specs.view.Declarations.{value_list, declarator_view, declaration_view}
-use Rattle.snl_resolve.specs.Types.{listed_values}
-use Rattle.snl_resolve.proofs.ListLaws.{listed_of}
+use Rattle.snl_names.specs.Types.{listed_values}
+use Rattle.snl_names.proofs.ListLaws.{listed_of}
 use Rattle.snl_meaning.specs.Names.{Outline}
 use Rattle.snl_emit.specs.Depths.{entered_depth, target_depth, routine_depth, arguments_depth as deepest}
 use Rattle.snl_meaning.specs.Effect.{names_of}

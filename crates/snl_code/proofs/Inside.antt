@@ -9,15 +9,15 @@ use Rattle.snl_syntax.specs.Definitions.{DefinitionTree, declaration, assign, mo
 use Rattle.snl_syntax.specs.Functions.{ParameterTree, FunctionTree}
 use Rattle.snl_syntax.specs.Programs.{ClauseTree, StateTree, StateSetTree, ProgramTree}
 use Rattle.snl_syntax.specs.Statements.{BlockTree}
-use Rattle.snl_resolve.specs.declared.sites.Purpose.TheVariants.{Read}
-use Rattle.snl_resolve.specs.Programs.{in_definitions, in_type, in_function, in_program_part, in_target, is_always_true, in_clause, in_clauses, in_plain_block, in_state, in_numbered, in_states, in_all_states, in_numbered_set, in_state_sets, in_all_sets, in_program_parts, program_sight}
-use Rattle.snl_resolve.specs.declared.calls.Heading.{Heading}
-use Rattle.snl_resolve.specs.declared.sites.Room.{Room}
-use Rattle.snl_resolve.specs.declared.sites.Room.TheVariants as room
-use Rattle.snl_resolve.specs.Scopes.{Scope, scope_of}
-use Rattle.snl_resolve.specs.Sights.{Sight, within, headings_by, parameter_scope}
-use Rattle.snl_resolve.specs.Variables.{function_by, functions_of}
-use Rattle.snl_resolve.specs.Sites.{at_type, in_expression, in_block, declares, maybe}
+use Rattle.snl_names.specs.declared.sites.Purpose.TheVariants.{Read}
+use Rattle.snl_names.specs.Programs.{in_definitions, in_type, in_function, in_program_part, in_target, is_always_true, in_clause, in_clauses, in_plain_block, in_state, in_numbered, in_states, in_all_states, in_numbered_set, in_state_sets, in_all_sets, in_program_parts, program_sight}
+use Rattle.snl_names.specs.declared.calls.Heading.{Heading}
+use Rattle.snl_names.specs.declared.sites.Room.{Room}
+use Rattle.snl_names.specs.declared.sites.Room.TheVariants as room
+use Rattle.snl_names.specs.Scopes.{Scope, scope_of}
+use Rattle.snl_names.specs.Sights.{Sight, within, headings_by, parameter_scope}
+use Rattle.snl_names.specs.Variables.{function_by, functions_of}
+use Rattle.snl_names.specs.Sites.{at_type, in_expression, in_block, declares, maybe}
 use Rattle.snl_meaning.specs.declared.instrs.Instr.{Instr}
 use Rattle.snl_meaning.specs.declared.instrs.Instr.TheVariants.{Push, Return, End}
 use Rattle.snl_meaning.specs.declared.instrs.Variable.{Variable}

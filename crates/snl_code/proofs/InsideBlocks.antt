@@ -8,14 +8,14 @@ use Rattle.snl_syntax.specs.Definitions.{declaration}
 use Rattle.snl_syntax.specs.Expressions.{ExprTree, constant, parenthesized, named, element, call, postfix, prefix, chain, conditional, assignment}
 use Rattle.snl_syntax.specs.Programs.{ProgramTree}
 use Rattle.snl_syntax.specs.Statements.{StatementTree, StatementList, BlockTree, nested, empty, expression, break_loop, continue_loop, change_state, return_with, if_then, if_else, while_loop, for_loop, no_statements, statement, block}
-use Rattle.snl_resolve.specs.declared.sites.Purpose.{Purpose}
-use Rattle.snl_resolve.specs.declared.sites.Purpose.TheVariants.{Read, Dropped}
-use Rattle.snl_resolve.specs.declared.sites.Room.{Room}
-use Rattle.snl_resolve.specs.Purposes.{inner, in_parentheses, target}
-use Rattle.snl_resolve.specs.Sights.{Sight, within}
-use Rattle.snl_resolve.specs.Scopes.{scope_of}
-use Rattle.snl_resolve.specs.Sites.{in_expression, in_value, maybe, declares, in_values, in_initialiser, in_declarator, in_declaration, in_header, in_statement, in_statements, in_block}
-use Rattle.snl_resolve.specs.Types.{listed_values}
+use Rattle.snl_names.specs.declared.sites.Purpose.{Purpose}
+use Rattle.snl_names.specs.declared.sites.Purpose.TheVariants.{Read, Dropped}
+use Rattle.snl_names.specs.declared.sites.Room.{Room}
+use Rattle.snl_names.specs.Purposes.{inner, in_parentheses, target}
+use Rattle.snl_names.specs.Sights.{Sight, within}
+use Rattle.snl_names.specs.Scopes.{scope_of}
+use Rattle.snl_names.specs.Sites.{in_expression, in_value, maybe, declares, in_values, in_initialiser, in_declarator, in_declaration, in_header, in_statement, in_statements, in_block}
+use Rattle.snl_names.specs.Types.{listed_values}
 use Rattle.snl_meaning.specs.declared.instrs.Instr.{Instr}
 use Rattle.snl_meaning.specs.declared.instrs.Instr.TheVariants as instr
 use Rattle.snl_meaning.specs.declared.instrs.Variable.{Variable}

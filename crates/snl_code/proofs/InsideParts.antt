@@ -8,14 +8,14 @@ use Rattle.snl_text.specs.declared.tokens.Pos.{Pos}
 use Rattle.snl_text.specs.declared.tokens.Token.{Token}
 use Rattle.snl_syntax.specs.Functions.{FunctionTree}
 use Rattle.snl_syntax.specs.Programs.{ProgramTree}
-use Rattle.snl_resolve.specs.declared.sites.Site.{Site}
-use Rattle.snl_resolve.specs.declared.sites.Site.TheVariants.{Format}
-use Rattle.snl_resolve.specs.Constants.{predefined}
-use Rattle.snl_resolve.specs.Numbered.{number_from, number_of}
-use Rattle.snl_resolve.specs.Programs.{program_scopes, sites}
-use Rattle.snl_resolve.specs.Scopes.{is_spelled}
-use Rattle.snl_resolve.specs.Uses.{declared_in}
-use Rattle.snl_resolve.specs.Variables.{CopyVariable, by_definitions, by_numbered, for_first, functions_of, shared_variables, variables_of}
+use Rattle.snl_names.specs.declared.sites.Site.{Site}
+use Rattle.snl_names.specs.declared.sites.Site.TheVariants.{Format}
+use Rattle.snl_names.specs.Constants.{predefined}
+use Rattle.snl_names.specs.Numbered.{number_from, number_of}
+use Rattle.snl_names.specs.Programs.{program_scopes, sites}
+use Rattle.snl_names.specs.Scopes.{is_spelled}
+use Rattle.snl_names.specs.Uses.{declared_in}
+use Rattle.snl_names.specs.Variables.{CopyVariable, by_definitions, by_numbered, for_first, functions_of, shared_variables, variables_of}
 use Rattle.snl_meaning.specs.declared.instrs.Instr.{Instr}
 use Rattle.snl_meaning.specs.declared.instrs.Instr.TheVariants.{Jump, JumpIfZero, Tick, Return, Leave, End}
 use Rattle.snl_meaning.specs.declared.instrs.Variable.{Variable}

@@ -6,13 +6,13 @@ use Rattle.snl_text.specs.declared.tokens.Token.{Token}
 use Rattle.snl_syntax.specs.Expressions.{ExprTree}
 use Rattle.snl_syntax.specs.Programs.{ClauseTree, StateTree, StateSetTree, ProgramTree}
 use Rattle.snl_syntax.specs.Statements.{BlockTree}
-use Rattle.snl_resolve.specs.declared.sites.Purpose.TheVariants.{Read}
-use Rattle.snl_resolve.specs.Programs.{in_definitions, in_target, is_always_true, in_clause, in_clauses, in_plain_block, in_state, in_numbered, in_states, in_all_states, in_state_set, in_numbered_set, in_state_sets, in_all_sets, in_program_parts, program_sight}
-use Rattle.snl_resolve.specs.declared.sites.Room.{Room}
-use Rattle.snl_resolve.specs.declared.sites.Room.TheVariants as room
-use Rattle.snl_resolve.specs.Scopes.{scope_of}
-use Rattle.snl_resolve.specs.Sights.{Sight, within}
-use Rattle.snl_resolve.specs.Sites.{in_expression, in_block, declares, maybe}
+use Rattle.snl_names.specs.declared.sites.Purpose.TheVariants.{Read}
+use Rattle.snl_names.specs.Programs.{in_definitions, in_target, is_always_true, in_clause, in_clauses, in_plain_block, in_state, in_numbered, in_states, in_all_states, in_state_set, in_numbered_set, in_state_sets, in_all_sets, in_program_parts, program_sight}
+use Rattle.snl_names.specs.declared.sites.Room.{Room}
+use Rattle.snl_names.specs.declared.sites.Room.TheVariants as room
+use Rattle.snl_names.specs.Scopes.{scope_of}
+use Rattle.snl_names.specs.Sights.{Sight, within}
+use Rattle.snl_names.specs.Sites.{in_expression, in_block, declares, maybe}
 use Rattle.snl_meaning.specs.declared.instrs.Instr.{Instr}
 use Rattle.snl_meaning.specs.declared.instrs.Instr.TheVariants.{End}
 use Rattle.snl_emit.specs.BlockCode.{block_code}

@@ -3,19 +3,19 @@ use Rattle.std.proofs.Common.{◌≡◌, ◌-◌, ap, refl, subst, sym, true≢f
 use Rattle.snl_text.specs.declared.tokens.Token.{Token}
 use Rattle.snl_syntax.specs.Expressions.{ExprTree, TermList, ArgumentList, constant, parenthesized, named, element, call, postfix, prefix, chain, conditional, assignment, no_terms, term, no_arguments, value, text}
 use Rattle.snl_syntax.specs.Programs.{ProgramTree}
-use Rattle.snl_resolve.specs.declared.builtins.Builtin.{Builtin}
-use Rattle.snl_resolve.specs.declared.builtins.Query.{Query}
-use Rattle.snl_resolve.specs.declared.constants.Constant.{Constant}
-use Rattle.snl_resolve.specs.declared.constants.Constant.TheVariants.{Worth}
-use Rattle.snl_resolve.specs.declared.sites.Purpose.{Purpose}
-use Rattle.snl_resolve.specs.declared.sites.Site.{Site}
-use Rattle.snl_resolve.specs.Constants.{joined}
-use Rattle.snl_resolve.specs.Builtins.{builtin_of}
-use Rattle.snl_resolve.specs.Calls.{is_fitting, or_defined, heading_in, is_async, has_async, word_at, is_word, unless}
-use Rattle.snl_resolve.specs.Purposes.{inner, in_parentheses, target, argument, is_step}
-use Rattle.snl_resolve.specs.Programs.{sites}
-use Rattle.snl_resolve.specs.Sights.{Sight, called}
-use Rattle.snl_resolve.specs.Sites.{in_expression, in_terms, in_arguments}
+use Rattle.snl_names.specs.declared.builtins.Builtin.{Builtin}
+use Rattle.snl_names.specs.declared.builtins.Query.{Query}
+use Rattle.snl_names.specs.declared.constants.Constant.{Constant}
+use Rattle.snl_names.specs.declared.constants.Constant.TheVariants.{Worth}
+use Rattle.snl_names.specs.declared.sites.Purpose.{Purpose}
+use Rattle.snl_names.specs.declared.sites.Site.{Site}
+use Rattle.snl_names.specs.Constants.{joined}
+use Rattle.snl_names.specs.Builtins.{builtin_of}
+use Rattle.snl_names.specs.Calls.{is_fitting, or_defined, heading_in, is_async, has_async, word_at, is_word, unless}
+use Rattle.snl_names.specs.Purposes.{inner, in_parentheses, target, argument, is_step}
+use Rattle.snl_names.specs.Programs.{sites}
+use Rattle.snl_names.specs.Sights.{Sight, called}
+use Rattle.snl_names.specs.Sites.{in_expression, in_terms, in_arguments}
 use Rattle.snl_meaning.specs.declared.instrs.Instr.{Instr}
 use Rattle.snl_meaning.specs.declared.instrs.Instr.TheVariants as instr
 use Rattle.snl_meaning.specs.declared.instrs.Variable.{Variable}

@@ -6,28 +6,28 @@ use Rattle.snl_text.specs.declared.tokens.Pos.{Pos}
 use Rattle.snl_text.specs.declared.tokens.Token.{Token}
 use Rattle.snl_syntax.specs.Expressions.{ExprTree, ArgumentList, constant, parenthesized, named, element, call, postfix, prefix, chain, conditional, assignment, no_arguments, value, text}
 use Rattle.snl_syntax.specs.Programs.{ProgramTree}
-use Rattle.snl_resolve.specs.declared.builtins.Builtin.{Builtin}
-use Rattle.snl_resolve.specs.declared.builtins.Builtin.TheVariants.{Delay, Printf, PvPut, Ask}
-use Rattle.snl_resolve.specs.declared.builtins.Query.{Query}
-use Rattle.snl_resolve.specs.declared.calls.Form.{Form}
-use Rattle.snl_resolve.specs.declared.calls.Form.TheVariants.{ChannelPlace, PutPlace, QueueName, FlagName, Seconds}
-use Rattle.snl_resolve.specs.declared.constants.Constant.{Constant}
-use Rattle.snl_resolve.specs.declared.constants.Constant.TheVariants as worth
-use Rattle.snl_resolve.specs.declared.sites.Meaning.{Meaning}
-use Rattle.snl_resolve.specs.declared.sites.Purpose.{Purpose}
-use Rattle.snl_resolve.specs.declared.sites.Purpose.TheVariants.{Flagged, Ignored}
-use Rattle.snl_resolve.specs.declared.sites.Site.TheVariants.{Use}
-use Rattle.snl_resolve.specs.Builtins.{form_of}
-use Rattle.snl_resolve.specs.declared.calls.CallKind.{CallKind}
-use Rattle.snl_resolve.specs.declared.calls.CallKind.TheVariants.{Unknown, BuiltIn, Defined}
-use Rattle.snl_resolve.specs.Calls.{is_name, fits, is_fitting, is_known}
-use Rattle.snl_resolve.specs.Purposes.{inner, in_parentheses, target, argument_of, argument, is_ignored, at_call, at_change}
-use Rattle.snl_resolve.specs.Programs.{sites}
-use Rattle.snl_resolve.specs.Scopes.{meaning}
-use Rattle.snl_resolve.specs.Uses.{declared_in}
-use Rattle.snl_resolve.specs.Variables.{functions_of}
-use Rattle.snl_resolve.specs.Sights.{Sight}
-use Rattle.snl_resolve.specs.Sites.{in_expression}
+use Rattle.snl_names.specs.declared.builtins.Builtin.{Builtin}
+use Rattle.snl_names.specs.declared.builtins.Builtin.TheVariants.{Delay, Printf, PvPut, Ask}
+use Rattle.snl_names.specs.declared.builtins.Query.{Query}
+use Rattle.snl_names.specs.declared.calls.Form.{Form}
+use Rattle.snl_names.specs.declared.calls.Form.TheVariants.{ChannelPlace, PutPlace, QueueName, FlagName, Seconds}
+use Rattle.snl_names.specs.declared.constants.Constant.{Constant}
+use Rattle.snl_names.specs.declared.constants.Constant.TheVariants as worth
+use Rattle.snl_names.specs.declared.sites.Meaning.{Meaning}
+use Rattle.snl_names.specs.declared.sites.Purpose.{Purpose}
+use Rattle.snl_names.specs.declared.sites.Purpose.TheVariants.{Flagged, Ignored}
+use Rattle.snl_names.specs.declared.sites.Site.TheVariants.{Use}
+use Rattle.snl_names.specs.Builtins.{form_of}
+use Rattle.snl_names.specs.declared.calls.CallKind.{CallKind}
+use Rattle.snl_names.specs.declared.calls.CallKind.TheVariants.{Unknown, BuiltIn, Defined}
+use Rattle.snl_names.specs.Calls.{is_name, fits, is_fitting, is_known}
+use Rattle.snl_names.specs.Purposes.{inner, in_parentheses, target, argument_of, argument, is_ignored, at_call, at_change}
+use Rattle.snl_names.specs.Programs.{sites}
+use Rattle.snl_names.specs.Scopes.{meaning}
+use Rattle.snl_names.specs.Uses.{declared_in}
+use Rattle.snl_names.specs.Variables.{functions_of}
+use Rattle.snl_names.specs.Sights.{Sight}
+use Rattle.snl_names.specs.Sites.{in_expression}
 use Rattle.snl_meaning.specs.declared.instrs.Instr.{Instr}
 use Rattle.snl_meaning.specs.declared.instrs.Instr.TheVariants as instr
 use Rattle.snl_meaning.specs.declared.instrs.Variable.{Variable}

@@ -14,9 +14,9 @@ use Rattle.std.proofs.lemmas.Option.{slice_get_within}
 use Rattle.snl_rules.specs.Reach.{IsReached}
 use Rattle.snl_code.specs.Depths.{capped, program_depth}
 use Rattle.snl_code.specs.Heres.{entries_in, function_places, here_in, routine_by, routine_of, routines_in, scene_in, states_by}
-use Rattle.snl_resolve.specs.Programs.{sites}
-use Rattle.snl_resolve.specs.declared.sites.Site.{Site}
-use Rattle.snl_resolve.specs.Variables.{function_by, functions_of}
+use Rattle.snl_names.specs.Programs.{sites}
+use Rattle.snl_names.specs.declared.sites.Site.{Site}
+use Rattle.snl_names.specs.Variables.{function_by, functions_of}
 use Rattle.snl_meaning.specs.declared.names.Placed.{Placed}
 use Rattle.snl_emit.specs.FunctionCode.{entries_from, functions_code}
 use Rattle.std.specs.List.{flat_map}

@@ -2,9 +2,9 @@
 use Rattle.std.specs.Prelude.{ℕ, List, Vec, map}
 use Rattle.std.proofs.Common.{Global}
 use Rattle.snl_syntax.specs.Programs.{StateSetTree, ProgramTree}
-use Rattle.snl_resolve.specs.declared.variables.CopyVariable as declared
-use Rattle.snl_resolve.specs.CopyVariables.{variable_view}
-use Rattle.snl_resolve.specs.Variables.{CopyVariable, variables_of}
+use Rattle.snl_names.specs.declared.copy_variables.CopyVariable as declared
+use Rattle.snl_names.specs.CopyVariables.{variable_view}
+use Rattle.snl_names.specs.Variables.{CopyVariable, variables_of}
 use Rattle.snl_code.specs.Heres.{for_each_set}
 
 -- The variables of the copies of state sets with numbers from k on.

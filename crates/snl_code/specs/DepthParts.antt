@@ -8,7 +8,7 @@ use Rattle.snl_syntax.specs.Expressions.{ExprTree, ArgumentList}
 use Rattle.snl_emit.specs.Depths.{expression_depth, target_depth, signed_depth, joint_depth, called_depth, print_depth, wait_depth, put_depth, routine_depth, arguments_depth}
 use Rattle.snl_meaning.specs.Names.{Outline, outline_named}
 use Rattle.snl_meaning.specs.Value.{sign_of, joint_of}
-use Rattle.snl_resolve.specs.Builtins.{builtin_of}
+use Rattle.snl_names.specs.Builtins.{builtin_of}
 
 -- A sign with its operand.
 abbrev pub sign_depth : List Outline → Kind → ExprTree → ℕ

@@ -5,10 +5,10 @@ use Rattle.snl_text.specs.declared.tokens.Token.{Token}
 use Rattle.snl_syntax.specs.Declarations.{TypeTree}
 use Rattle.snl_syntax.specs.Functions.{ParameterTree, FunctionTree}
 use Rattle.snl_syntax.specs.Programs.{ProgramTree, StateSetTree}
-use Rattle.snl_resolve.specs.declared.sites.Site.{Site}
-use Rattle.snl_resolve.specs.Programs.{sites}
-use Rattle.snl_resolve.specs.Types.{range_of, range_or_long}
-use Rattle.snl_resolve.specs.Variables.{by_definitions, functions_of, shared_variables, variables_of}
+use Rattle.snl_names.specs.declared.sites.Site.{Site}
+use Rattle.snl_names.specs.Programs.{sites}
+use Rattle.snl_names.specs.Types.{range_of, range_or_long}
+use Rattle.snl_names.specs.Variables.{by_definitions, functions_of, shared_variables, variables_of}
 use Rattle.snl_meaning.specs.declared.instrs.Variable.{Variable}
 use Rattle.snl_meaning.specs.declared.names.Placed.{Placed}
 use Rattle.snl_meaning.specs.Functions.{Routine, callables_after}

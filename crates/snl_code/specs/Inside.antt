@@ -3,16 +3,16 @@ use Rattle.std.specs.Prelude.{◌≡◌, ◌<◌, ◌≤◌, ◌⊎◌, ◌+◌,
 use Rattle.snl_text.specs.declared.tokens.Pos.{Pos}
 use Rattle.snl_text.specs.declared.tokens.Token.{Token}
 use Rattle.snl_syntax.specs.Programs.{ProgramTree}
-use Rattle.snl_resolve.specs.declared.builtins.Builtin.TheVariants as call
-use Rattle.snl_resolve.specs.declared.calls.Form.TheVariants.{FlagName}
-use Rattle.snl_resolve.specs.declared.sites.Meaning.{Meaning}
-use Rattle.snl_resolve.specs.declared.sites.Purpose.TheVariants.{Flagged}
-use Rattle.snl_resolve.specs.declared.sites.Site.TheVariants as site
-use Rattle.snl_resolve.specs.declared.sites.Site.TheVariants.{Use}
-use Rattle.snl_resolve.specs.Builtins.{form_of}
-use Rattle.snl_resolve.specs.Programs.{sites}
-use Rattle.snl_resolve.specs.Uses.{declared_of}
-use Rattle.snl_resolve.specs.Variables.{CopyVariable, functions_of, shared_variables, variables_of}
+use Rattle.snl_names.specs.declared.builtins.Builtin.TheVariants as call
+use Rattle.snl_names.specs.declared.calls.Form.TheVariants.{FlagName}
+use Rattle.snl_names.specs.declared.sites.Meaning.{Meaning}
+use Rattle.snl_names.specs.declared.sites.Purpose.TheVariants.{Flagged}
+use Rattle.snl_names.specs.declared.sites.Site.TheVariants as site
+use Rattle.snl_names.specs.declared.sites.Site.TheVariants.{Use}
+use Rattle.snl_names.specs.Builtins.{form_of}
+use Rattle.snl_names.specs.Programs.{sites}
+use Rattle.snl_names.specs.Uses.{declared_of}
+use Rattle.snl_names.specs.Variables.{CopyVariable, functions_of, shared_variables, variables_of}
 use Rattle.snl_meaning.specs.declared.instrs.Instr.{Instr}
 use Rattle.snl_meaning.specs.declared.instrs.Instr.TheVariants.{Load, Check, Get, Peek, Store, StoreAt, Adjust, Increment, AdjustAt, Jump, JumpIfZero, Tick, Print, Put, PutAt, Ask, AskLink, AskElement, Clear, Assign, Call, Return, Leave, End}
 use Rattle.snl_meaning.specs.declared.instrs.Variable.{Variable}

@@ -4,7 +4,7 @@ use Rattle.std.specs.List.{flat_map}
 use Rattle.snl_syntax.specs.Expressions.{ExprTree}
 use Rattle.snl_syntax.specs.Programs.{ClauseTree, StateTree, ProgramTree}
 use Rattle.snl_syntax.specs.Statements.{BlockTree}
-use Rattle.snl_resolve.specs.Programs.{sites}
+use Rattle.snl_names.specs.Programs.{sites}
 use Rattle.snl_meaning.specs.declared.instrs.Instr.{Instr}
 use Rattle.snl_meaning.specs.Names.{format_at}
 use Rattle.snl_meaning.specs.Run as run

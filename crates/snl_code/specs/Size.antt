@@ -4,8 +4,8 @@ use Rattle.snl_text.specs.declared.tokens.Token.{Token}
 use Rattle.snl_syntax.specs.Functions.{ParameterTree}
 use Rattle.snl_syntax.specs.Definitions.{PlaceTree, NamesTree, DefinitionTree, one_name, name_list, declaration, assign, monitor, sync, sync_queue, event_flags, setting, function}
 use Rattle.snl_syntax.specs.Programs.{TargetTree, to_state, to_exit, ClauseTree, StateTree, StateSetTree, ProgramTree}
-use Rattle.snl_resolve.specs.declared.sites.Site.{Site}
-use Rattle.snl_resolve.specs.Programs.{sites}
+use Rattle.snl_names.specs.declared.sites.Site.{Site}
+use Rattle.snl_names.specs.Programs.{sites}
 use Rattle.snl_code.specs.Reached.{Table}
 use Rattle.snl_emit.specs.Size.{maybe_size, expression_size, subscript_size, declaration_size, block_size}
 

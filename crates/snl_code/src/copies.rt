@@ -2,10 +2,10 @@
 
 ghost use Rattle.std.specs.Prelude.{◌≡◌, [], map, IfOk};
 ghost use Rattle.snl_syntax.specs.view.Programs.{program_view};
-ghost use Rattle.snl_resolve.specs.Chains.{scopes_of};
-ghost use Rattle.snl_resolve.specs.CopyVariables.{variable_view};
-ghost use Rattle.snl_resolve.specs.Programs.{program_scopes};
-ghost use Rattle.snl_resolve.specs.Variables.{by_definitions, shared_variables, variables_of};
+ghost use Rattle.snl_names.specs.Chains.{scopes_of};
+ghost use Rattle.snl_names.specs.CopyVariables.{variable_view};
+ghost use Rattle.snl_names.specs.Programs.{program_scopes};
+ghost use Rattle.snl_names.specs.Variables.{by_definitions, shared_variables, variables_of};
 ghost use Rattle.snl_meaning.specs.Names.{placed_from};
 ghost use Rattle.snl_code.specs.Copies.{held_sets, sets_of, variables_in};
 ghost use Rattle.snl_code.specs.Heres as heres;

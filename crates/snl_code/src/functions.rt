@@ -5,7 +5,7 @@ ghost use Rattle.std.specs.List.{flat_map};
 ghost use Rattle.snl_syntax.specs.view.Definitions.{definition_view};
 ghost use Rattle.snl_syntax.specs.view.Functions.{function_view, parameter_view};
 ghost use Rattle.snl_syntax.specs.view.Statements.{block_view};
-ghost use Rattle.snl_resolve.specs.Variables.{function_by};
+ghost use Rattle.snl_names.specs.Variables.{function_by};
 ghost use Rattle.snl_emit.specs.FunctionCode as spec;
 ghost use Rattle.snl_meaning.specs.Known.{entries, here_of, within_view};
 ghost use Rattle.snl_code.specs.Heres as heres;

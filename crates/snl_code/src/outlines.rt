@@ -3,7 +3,7 @@
 ghost use Rattle.std.specs.Prelude.{[], map, IfOk};
 ghost use Rattle.std.specs.List.{flat_map};
 ghost use Rattle.snl_syntax.specs.view.Definitions.{definition_view};
-ghost use Rattle.snl_resolve.specs.Variables.{function_by};
+ghost use Rattle.snl_names.specs.Variables.{function_by};
 ghost use Rattle.snl_emit.specs.Depths.{outlines_after};
 ghost use Rattle.snl_meaning.specs.Known.{outlines};
 ghost use Rattle.snl_code.specs.Heres.{routine_by};

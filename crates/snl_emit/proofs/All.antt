@@ -3,7 +3,7 @@ use Rattle.std.proofs.Common.{◌≡◌, ◌∙◌, ◌+◌, ◌≤◌, ℕ, Lis
 use Rattle.std.specs.List.{flat_map}
 use Rattle.std.proofs.lemmas.Option.{slice_get_within}
 use Rattle.snl_text.specs.declared.tokens.Token.{Token}
-use Rattle.snl_resolve.specs.declared.sites.Site.{Site}
+use Rattle.snl_names.specs.declared.sites.Site.{Site}
 use Rattle.snl_meaning.specs.declared.instrs.Instr.{Instr}
 use Rattle.snl_meaning.specs.Endings.{HasAt}
 use Rattle.snl_meaning.specs.Functions.{Routine, callee_names, callable_of, callables_after}

@@ -3,8 +3,8 @@ use Rattle.std.proofs.Common.{◌≡◌, ◌∙◌, ◌+◌, ◌<◌, ◌≤◌,
 use Rattle.std.specs.Prelude.{bytes_eq, nat_le, take, drop}
 use Rattle.std.proofs.lemmas.Bool.{lt-ltb, le-leb}
 use Rattle.std.proofs.lemmas.Cmp.{nat_list_eq_equiv}
-use Rattle.snl_resolve.specs.Numbered.{number_from}
-use Rattle.snl_resolve.specs.Scopes.{is_spelled}
+use Rattle.snl_names.specs.Numbered.{number_from}
+use Rattle.snl_names.specs.Scopes.{is_spelled}
 use Rattle.snl_meaning.specs.declared.instrs.Instr.{Instr}
 use Rattle.snl_meaning.specs.declared.instrs.Instr.TheVariants.{Call}
 use Rattle.snl_meaning.specs.declared.instrs.Variable.{Variable}

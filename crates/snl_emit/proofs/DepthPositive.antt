@@ -2,12 +2,12 @@
 use Rattle.std.proofs.Common.{Option, None, Some, ◌≤◌, ◌+◌, ℕ, List, arith}
 use Rattle.snl_syntax.specs.Expressions.{ExprTree, ArgumentList, constant, parenthesized, named, element, call, postfix, prefix, chain, conditional, assignment, no_arguments, value, text}
 use Rattle.snl_emit.specs.Depths.{expression_depth, target_depth, print_depth, wait_depth, put_depth, arguments_depth, called_depth, routine_depth, signed_depth, held_depth}
-use Rattle.snl_resolve.specs.Builtins.{builtin_of}
+use Rattle.snl_names.specs.Builtins.{builtin_of}
 use Rattle.snl_meaning.specs.Names.{Outline, outline_named}
 use Rattle.snl_meaning.specs.declared.operators.Unary.{Unary}
 use Rattle.snl_meaning.specs.declared.operators.Unary.TheVariants.{ByOne, OfValue}
-use Rattle.snl_resolve.specs.declared.builtins.Builtin.{Builtin}
-use Rattle.snl_resolve.specs.declared.builtins.Builtin.TheVariants.{Delay, Printf, PvPut, Ask}
+use Rattle.snl_names.specs.declared.builtins.Builtin.{Builtin}
+use Rattle.snl_names.specs.declared.builtins.Builtin.TheVariants.{Delay, Printf, PvPut, Ask}
 use Rattle.snl_meaning.specs.Value.{compound_of, sign_of}
 
 -- a sign

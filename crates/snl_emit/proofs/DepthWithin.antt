@@ -7,14 +7,14 @@ use Rattle.snl_syntax.specs.Slots.{The}
 use Rattle.snl_syntax.specs.Slots.{Sign as Mark}
 use Rattle.snl_syntax.specs.Expressions.{ExprTree, TermList, ArgumentList, constant, parenthesized, named, element, call, postfix, prefix, chain, conditional, assignment, no_terms, term, no_arguments, value, text, slots, term_slots, argument_slots, more_slots}
 use Rattle.snl_emit.specs.Depths.{expression_depth, terms_depth, target_depth, print_depth, arguments_depth, wait_depth, put_depth, called_depth, routine_depth, joint_depth, signed_depth, held_depth, deepest}
-use Rattle.snl_resolve.specs.Builtins.{builtin_of}
+use Rattle.snl_names.specs.Builtins.{builtin_of}
 use Rattle.snl_meaning.specs.Names.{Outline, outline_named}
 use Rattle.snl_meaning.specs.declared.operators.Unary.{Unary}
 use Rattle.snl_meaning.specs.declared.operators.Unary.TheVariants.{ByOne, OfValue}
 use Rattle.snl_meaning.specs.declared.operators.Joint.{Joint}
 use Rattle.snl_meaning.specs.declared.operators.Joint.TheVariants.{And, Or, Sequel, Operation}
-use Rattle.snl_resolve.specs.declared.builtins.Builtin.{Builtin}
-use Rattle.snl_resolve.specs.declared.builtins.Builtin.TheVariants.{Delay, Printf, PvPut, Ask}
+use Rattle.snl_names.specs.declared.builtins.Builtin.{Builtin}
+use Rattle.snl_names.specs.declared.builtins.Builtin.TheVariants.{Delay, Printf, PvPut, Ask}
 use Rattle.snl_meaning.specs.Value.{joint_of, compound_of, sign_of}
 
 -- an assignment holds one number at most

@@ -12,12 +12,12 @@ use Rattle.snl_syntax.proofs.Rows.{view_chain, view_call}
 use Rattle.snl_meaning.specs.declared.instrs.Instr.{Instr}
 use Rattle.snl_meaning.specs.declared.instrs.Instr.TheVariants.{Adjust, AdjustAt, Push, Jump, JumpIfZero}
 use Rattle.std.specs.Prelude.{pos}
-use Rattle.snl_resolve.specs.declared.builtins.Query.{Query}
+use Rattle.snl_names.specs.declared.builtins.Query.{Query}
 use Rattle.snl_meaning.specs.Names.{Here}
 use Rattle.snl_emit.specs.ExpressionCode.{expression_code, folded, if_code, lead_code, terms_code, target_code, signed_code}
 use Rattle.snl_emit.specs.Emission.{front_code, sign_code, call_code, put_target_code, ask_target_code}
-use Rattle.snl_resolve.specs.declared.constants.Constant.{Constant}
-use Rattle.snl_resolve.specs.declared.constants.Constant.TheVariants.{Varies, Faults, Worth}
+use Rattle.snl_names.specs.declared.constants.Constant.{Constant}
+use Rattle.snl_names.specs.declared.constants.Constant.TheVariants.{Varies, Faults, Worth}
 use Rattle.snl_emit.specs.Worth.{worth_of, worth_or, constant_number}
 use Rattle.snl_emit.specs.Targets.{place_code, stored_code, adjust_code, put_instr, ask_instr}
 use Rattle.snl_meaning.specs.declared.operators.Unary.{Unary}

@@ -7,8 +7,8 @@ use Rattle.snl_meaning.specs.declared.instrs.Instr.{Instr}
 use Rattle.snl_syntax.specs.view.Declarations.{value_list, declarator_view, declaration_view}
 use Rattle.snl_syntax.specs.Expressions.{ExprTree}
 use Rattle.snl_syntax.specs.Declarations.{DeclaratorTree}
-use Rattle.snl_resolve.specs.Types.{listed_values}
-use Rattle.snl_resolve.proofs.ListLaws.{listed_of}
+use Rattle.snl_names.specs.Types.{listed_values}
+use Rattle.snl_names.proofs.ListLaws.{listed_of}
 use Rattle.snl_emit.specs.BlockCode.{cleared_code, all_cleared_code, begun_with_code, all_begun_code}
 use Rattle.snl_meaning.specs.Effect.{variable_for, values_of, names_of}
 use Rattle.snl_meaning.specs.Names.{Here}

@@ -1,7 +1,7 @@
 -- The push of a number does what the constant expression means that is worth it.
 use Rattle.std.proofs.Common.{◌≡◌, ◌+◌, ◌≤◌, ℕ, ℤ, List, [], ◌∷◌, refl, sym, subst, length}
-use Rattle.snl_resolve.specs.declared.constants.Constant.{Constant}
-use Rattle.snl_resolve.specs.declared.constants.Constant.TheVariants.{Varies, Faults, Worth}
+use Rattle.snl_names.specs.declared.constants.Constant.{Constant}
+use Rattle.snl_names.specs.declared.constants.Constant.TheVariants.{Varies, Faults, Worth}
 use Rattle.snl_meaning.specs.declared.instrs.Instr.{Instr}
 use Rattle.snl_meaning.specs.declared.instrs.Instr.TheVariants.{Push}
 use Rattle.snl_meaning.specs.Ran.{Ran, Gives}

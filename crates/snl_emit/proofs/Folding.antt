@@ -10,10 +10,10 @@ use Rattle.snl_text.specs.Quotes.{character_value}
 use Rattle.snl_syntax.specs.Expressions.{ExprTree, TermList, constant, parenthesized, named, element, call, postfix, prefix, chain, conditional, assignment, no_terms, term}
 use Rattle.snl_arithmetic.specs.Arithmetic.{is_zero, truth, computed, computed_prefix}
 use Rattle.snl_arithmetic.specs.declared.arithmetic.ArithmeticFault.{ArithmeticFault}
-use Rattle.snl_resolve.specs.declared.constants.Constant.{Constant}
-use Rattle.snl_resolve.specs.declared.constants.Constant.TheVariants.{Varies, Faults, Worth}
-use Rattle.snl_resolve.specs.Constants.{predefined, worth, outcome, of_token, then_with, applied, as_truth, joined, chosen, prefixed}
-use Rattle.snl_resolve.specs.Uses.{declared_in}
+use Rattle.snl_names.specs.declared.constants.Constant.{Constant}
+use Rattle.snl_names.specs.declared.constants.Constant.TheVariants.{Varies, Faults, Worth}
+use Rattle.snl_names.specs.Constants.{predefined, worth, outcome, of_token, then_with, applied, as_truth, joined, chosen, prefixed}
+use Rattle.snl_names.specs.Uses.{declared_in}
 use Rattle.snl_meaning.specs.Names.{variable_by, or_zero, sense_by}
 use Rattle.snl_meaning.specs.Ran.{Ran, Gives, also, then_do}
 use Rattle.snl_meaning.specs.Ran as ran

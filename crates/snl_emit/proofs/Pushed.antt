@@ -8,11 +8,11 @@ use Rattle.snl_text.specs.Numbers.{whole_value}
 use Rattle.snl_text.specs.Quotes.{character_value}
 use Rattle.snl_syntax.specs.Expressions.{ExprTree, TermList, constant, parenthesized, named, element, call, postfix, prefix, chain, conditional, assignment, no_terms, term}
 use Rattle.snl_arithmetic.specs.Arithmetic.{is_zero, computed}
-use Rattle.snl_resolve.specs.declared.constants.Constant.{Constant}
-use Rattle.snl_resolve.specs.declared.constants.Constant.TheVariants.{Varies, Faults, Worth}
-use Rattle.snl_resolve.specs.declared.sites.Site.{Site}
-use Rattle.snl_resolve.specs.Constants.{predefined, worth, outcome, of_token, applied, as_truth, joined}
-use Rattle.snl_resolve.specs.Uses.{declared_in}
+use Rattle.snl_names.specs.declared.constants.Constant.{Constant}
+use Rattle.snl_names.specs.declared.constants.Constant.TheVariants.{Varies, Faults, Worth}
+use Rattle.snl_names.specs.declared.sites.Site.{Site}
+use Rattle.snl_names.specs.Constants.{predefined, worth, outcome, of_token, applied, as_truth, joined}
+use Rattle.snl_names.specs.Uses.{declared_in}
 use Rattle.snl_meaning.specs.declared.instrs.Instr.{Instr}
 use Rattle.snl_meaning.specs.declared.instrs.Instr.TheVariants.{Push}
 use Rattle.snl_meaning.specs.Names.{Here, variable_by, sense_by}

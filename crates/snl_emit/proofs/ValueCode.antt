@@ -7,24 +7,24 @@ use Rattle.snl_syntax.specs.Expressions.{ExprTree, TermList, ArgumentList, const
 use Rattle.snl_meaning.specs.declared.instrs.Instr.{Instr}
 use Rattle.snl_meaning.specs.declared.instrs.Instr.TheVariants.{Push, Get, Adjust, AdjustAt, Print, Wait, Put, PutAt, Ask, AskLink, AskElement, Call}
 use Rattle.snl_meaning.specs.declared.instrs.Variable.{Variable}
-use Rattle.snl_resolve.specs.Calls.{has_async}
+use Rattle.snl_names.specs.Calls.{has_async}
 use Rattle.snl_emit.specs.Depths.{expression_depth, terms_depth, target_depth, arguments_depth, print_depth, wait_depth, put_depth, routine_depth, joint_depth, held_depth}
 use Rattle.snl_emit.specs.ExpressionCode.{CodeOn, expression_code, lead_code, terms_code, target_code, values_code, print_code, wait_code, put_call_code, routine_code, ask_flag_code, ask_code, joint_code, at_code, get_code, put_code, put_at_code, count_values}
 use Rattle.snl_meaning.specs.Names.{sense_of, format_number, flag_number, function_number, Outline, outline_named}
 use Rattle.snl_meaning.specs.Ran.{Ran, Gives, then_do}
 use Rattle.snl_meaning.specs.Endings.{HasAt}
 use Rattle.snl_meaning.specs.Run.{PieceContext}
-use Rattle.snl_resolve.specs.Builtins.{builtin_of}
-use Rattle.snl_resolve.specs.Numbered.{number_from}
-use Rattle.snl_resolve.specs.declared.builtins.Query.{Query}
+use Rattle.snl_names.specs.Builtins.{builtin_of}
+use Rattle.snl_names.specs.Numbered.{number_from}
+use Rattle.snl_names.specs.declared.builtins.Query.{Query}
 use Rattle.snl_meaning.specs.Value.{OnTarget, constant_of, joint_of, compound_of, sign_of, is_decimal, joined_by, put_at, at_subscript, value_of, chained, at_target, if_callable, performed, print_of, printing_with, calling, wait_of, put_of, ask_flag, ask_of}
 use Rattle.snl_meaning.specs.Words.{gives, read, adjusted, put_element, waited}
 use Rattle.snl_meaning.specs.Asking.{asked, ask_element}
 use Rattle.snl_meaning.specs.Scenes.{Callable, Scene, callee_named}
 use Rattle.snl_meaning.specs.World.{World}
-use Rattle.snl_resolve.specs.declared.constants.Constant.{Constant}
-use Rattle.snl_resolve.specs.declared.constants.Constant.TheVariants.{Worth}
-use Rattle.snl_resolve.specs.Constants.{joined}
+use Rattle.snl_names.specs.declared.constants.Constant.{Constant}
+use Rattle.snl_names.specs.declared.constants.Constant.TheVariants.{Worth}
+use Rattle.snl_names.specs.Constants.{joined}
 use Rattle.snl_emit.specs.Worth.{worth_of, constant_number}
 use Rattle.snl_emit.proofs.DepthPositive.{depth-positive}
 use Rattle.snl_emit.proofs.Folding.{then_do-gives, same-number, folding, front-right, number-right}

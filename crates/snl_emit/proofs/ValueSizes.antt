@@ -4,13 +4,13 @@ use Rattle.std.specs.Prelude.{not}
 use Rattle.snl_text.specs.declared.kinds.Kind.{Kind}
 use Rattle.snl_text.specs.declared.tokens.Token.{Token}
 use Rattle.snl_syntax.specs.Expressions.{ExprTree, TermList, ArgumentList, constant, parenthesized, named, element, call, postfix, prefix, chain, conditional, assignment, no_terms, term, no_arguments, value, text}
-use Rattle.snl_resolve.specs.declared.builtins.Builtin.{Builtin}
-use Rattle.snl_resolve.specs.declared.builtins.Builtin.TheVariants.{Delay, Printf, PvPut, Ask}
-use Rattle.snl_resolve.specs.declared.builtins.Query.{Query}
-use Rattle.snl_resolve.specs.declared.constants.Constant.{Constant}
-use Rattle.snl_resolve.specs.declared.constants.Constant.TheVariants as worth
-use Rattle.snl_resolve.specs.Builtins.{builtin_of}
-use Rattle.snl_resolve.specs.Constants.{of_token, joined}
+use Rattle.snl_names.specs.declared.builtins.Builtin.{Builtin}
+use Rattle.snl_names.specs.declared.builtins.Builtin.TheVariants.{Delay, Printf, PvPut, Ask}
+use Rattle.snl_names.specs.declared.builtins.Query.{Query}
+use Rattle.snl_names.specs.declared.constants.Constant.{Constant}
+use Rattle.snl_names.specs.declared.constants.Constant.TheVariants as worth
+use Rattle.snl_names.specs.Builtins.{builtin_of}
+use Rattle.snl_names.specs.Constants.{of_token, joined}
 use Rattle.snl_meaning.specs.declared.instrs.Instr.{Instr}
 use Rattle.snl_meaning.specs.declared.instrs.Instr.TheVariants as instr
 use Rattle.snl_meaning.specs.declared.instrs.Variable.{Variable}
@@ -22,7 +22,7 @@ use Rattle.snl_meaning.specs.declared.operators.Unary.{Unary}
 use Rattle.snl_meaning.specs.declared.operators.Unary.TheVariants.{ByOne, OfValue}
 use Rattle.snl_meaning.specs.Names.{Here, sense_of, format_number, function_number}
 use Rattle.snl_meaning.specs.Value.{joint_of, compound_of, sign_of, is_decimal}
-use Rattle.snl_resolve.specs.Calls.{has_async}
+use Rattle.snl_names.specs.Calls.{has_async}
 use Rattle.snl_emit.specs.Worth.{of_use, worth_of, worth_or, constant_number}
 use Rattle.snl_emit.specs.ExpressionCode.{folded, joint_code, if_code, at_code, get_code, renewed_code, put_code, put_at_code, CodeOn, at_name_code, signed_code, called_code, routine_code, ask_flag_code, count_values, expression_code, lead_code, terms_code, target_code, print_code, values_code, wait_code, put_call_code, ask_code}
 use Rattle.snl_emit.specs.Size.{sized, expression_size, lead_size, terms_size, arguments_size}

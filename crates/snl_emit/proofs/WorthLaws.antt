@@ -8,10 +8,10 @@ use Rattle.snl_syntax.specs.declared.expressions.Term.{Term}
 use Rattle.snl_syntax.specs.view.Lists.{term_list}
 use Rattle.snl_syntax.specs.view.Expressions.{view, pair_of}
 use Rattle.snl_syntax.proofs.Rows.{view_chain}
-use Rattle.snl_resolve.specs.declared.constants.Constant.{Constant}
-use Rattle.snl_resolve.specs.declared.constants.Constant.TheVariants.{Varies}
-use Rattle.snl_resolve.specs.Constants.{joined}
-use Rattle.snl_resolve.specs.declared.sites.Site.{Site}
+use Rattle.snl_names.specs.declared.constants.Constant.{Constant}
+use Rattle.snl_names.specs.declared.constants.Constant.TheVariants.{Varies}
+use Rattle.snl_names.specs.Constants.{joined}
+use Rattle.snl_names.specs.declared.sites.Site.{Site}
 use Rattle.snl_emit.specs.Worth.{worth_of, worth_chain}
 
 -- a chain is worth what its operators make of its first operand

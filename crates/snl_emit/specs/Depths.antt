@@ -4,9 +4,9 @@ use Rattle.snl_text.specs.declared.kinds.Kind.{Kind}
 use Rattle.snl_syntax.specs.Expressions.{ExprTree, TermList, ArgumentList, constant, parenthesized, named, element, call, postfix, prefix, chain, conditional, assignment, no_terms, term, no_arguments, value, text}
 use Rattle.snl_syntax.specs.Declarations.{DeclaratorTree}
 use Rattle.snl_syntax.specs.Statements.{StatementTree, StatementList, BlockTree, nested, empty, expression, break_loop, continue_loop, change_state, return_with, if_then, if_else, while_loop, for_loop, no_statements, statement, block}
-use Rattle.snl_resolve.specs.declared.builtins.Builtin.{Builtin}
-use Rattle.snl_resolve.specs.declared.builtins.Builtin.TheVariants.{Delay, Printf, PvPut, Ask}
-use Rattle.snl_resolve.specs.Builtins.{builtin_of}
+use Rattle.snl_names.specs.declared.builtins.Builtin.{Builtin}
+use Rattle.snl_names.specs.declared.builtins.Builtin.TheVariants.{Delay, Printf, PvPut, Ask}
+use Rattle.snl_names.specs.Builtins.{builtin_of}
 use Rattle.snl_meaning.specs.declared.operators.Joint.{Joint}
 use Rattle.snl_meaning.specs.declared.operators.Joint.TheVariants.{Operation}
 use Rattle.snl_meaning.specs.declared.operators.Unary.{Unary}

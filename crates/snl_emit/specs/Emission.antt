@@ -15,8 +15,8 @@ use Rattle.snl_meaning.specs.Names.{Here, function_number}
 use Rattle.snl_meaning.specs.declared.names.Sense.{Sense}
 use Rattle.snl_emit.specs.Targets.{place_code, adjust_code}
 use Rattle.snl_meaning.specs.Value.{joint_of, sign_of}
-use Rattle.snl_resolve.specs.Builtins.{builtin_of}
-use Rattle.snl_resolve.specs.declared.builtins.Query.{Query}
+use Rattle.snl_names.specs.Builtins.{builtin_of}
+use Rattle.snl_names.specs.declared.builtins.Query.{Query}
 
 -- The read of an element, after its subscript.
 abbrev pub element_code : Sense → ℕ → List Instr

@@ -5,7 +5,7 @@ use Rattle.snl_syntax.specs.Expressions.{ExprTree, slots}
 use Rattle.snl_syntax.specs.Statements.{BlockTree}
 use Rattle.snl_meaning.specs.declared.instrs.Instr.{Instr}
 use Rattle.snl_meaning.specs.declared.instrs.Instr.TheVariants.{Push}
-use Rattle.snl_resolve.specs.declared.sites.Site.{Site}
+use Rattle.snl_names.specs.declared.sites.Site.{Site}
 use Rattle.snl_meaning.specs.Functions.{IsBelow, Routine}
 use Rattle.snl_emit.specs.Depths.{block_depth, deepest, expression_depth, outlines_after}
 use Rattle.snl_emit.specs.BlockCode.{condition_piece, block_piece}
@@ -14,7 +14,7 @@ use Rattle.snl_meaning.specs.Endings.{IsNotStuck, HasAt}
 use Rattle.snl_meaning.specs.Effect.{Way, Left, block_effect}
 use Rattle.snl_emit.specs.ExpressionCode.{expression_code}
 use Rattle.snl_emit.specs.Worth.{worth_of}
-use Rattle.snl_resolve.specs.declared.constants.Constant.TheVariants.{Worth}
+use Rattle.snl_names.specs.declared.constants.Constant.TheVariants.{Worth}
 use Rattle.snl_meaning.specs.Names.{Here, Outline, Within, Piece, Body}
 use Rattle.snl_meaning.specs.Ran.{Ran, Gives, then_do}
 use Rattle.snl_meaning.specs.Run.{Entry, context_of, Exit, Over, LeftFor, exec, run_of}

@@ -4,7 +4,7 @@ use Rattle.snl_text.specs.declared.kinds.Kind.{Kind}
 use Rattle.snl_syntax.specs.Expressions.{ExprTree, parenthesized, named, element}
 use Rattle.snl_meaning.specs.declared.instrs.Instr.{Instr}
 use Rattle.snl_meaning.specs.declared.instrs.Instr.TheVariants.{Push, Load, Check, Peek, Store, StoreAt, Adjust, AdjustAt, Apply, Drop, Put, PutAt, Ask, AskLink, AskElement}
-use Rattle.snl_resolve.specs.declared.builtins.Query.{Query}
+use Rattle.snl_names.specs.declared.builtins.Query.{Query}
 use Rattle.snl_meaning.specs.Names.{Here, sense_of, flag_number}
 use Rattle.snl_meaning.specs.declared.names.Sense.{Sense}
 use Rattle.snl_meaning.specs.declared.names.Sense.TheVariants.{Varies, Stands}

@@ -3,11 +3,11 @@ use Rattle.std.specs.Prelude.{ℤ, List, Option, None, Some}
 use Rattle.snl_text.specs.declared.tokens.Pos.{Pos}
 use Rattle.snl_text.specs.declared.tokens.Token.{Token}
 use Rattle.snl_syntax.specs.Expressions.{ExprTree, TermList, constant, parenthesized, named, element, call, postfix, prefix, chain, conditional, assignment, no_terms, term}
-use Rattle.snl_resolve.specs.declared.sites.Site.{Site}
-use Rattle.snl_resolve.specs.declared.constants.Constant.{Constant}
-use Rattle.snl_resolve.specs.declared.constants.Constant.TheVariants.{Varies, Faults, Worth}
-use Rattle.snl_resolve.specs.Constants.{predefined, worth, of_token, joined, chosen, prefixed}
-use Rattle.snl_resolve.specs.Uses.{declared_in}
+use Rattle.snl_names.specs.declared.sites.Site.{Site}
+use Rattle.snl_names.specs.declared.constants.Constant.{Constant}
+use Rattle.snl_names.specs.declared.constants.Constant.TheVariants.{Varies, Faults, Worth}
+use Rattle.snl_names.specs.Constants.{predefined, worth, of_token, joined, chosen, prefixed}
+use Rattle.snl_names.specs.Uses.{declared_in}
 
 -- A number that a name is predefined to be, unless the name has a declaration.
 abbrev pub unless_declared : Option Pos → Option ℤ → Constant

@@ -12,7 +12,7 @@ use crate::parts::count_values;
 use crate::rows::put;
 use crate::targets::{ask_instr, put_instr};
 use snl_meaning::{Instr, Known, is_decimal};
-use snl_resolve::{Builtin, Query, builtin_of, has_async};
+use snl_names::{Builtin, Query, builtin_of, has_async};
 use snl_syntax::{Argument, Expr};
 use snl_text::Token;
 use std::alloc::AllocError;

@@ -7,7 +7,7 @@ ghost use Rattle.snl_emit.specs.Targets as spec;
 
 use crate::rows::put;
 use snl_meaning::{Instr, Known, Sense};
-use snl_resolve::Query;
+use snl_names::Query;
 use snl_syntax::Expr;
 use snl_text::Kind;
 use std::alloc::AllocError;

@@ -10,8 +10,8 @@ ghost use Rattle.snl_meaning.specs.Known.{here_of};
 ghost use Rattle.snl_meaning.specs.declared.instrs.Instr.{Instr};
 
 use snl_meaning::{Known, Sites};
-use snl_resolve::constants::{chosen, joined, of_token, prefixed, worth};
-use snl_resolve::{Constant, predefined};
+use snl_names::constants::{chosen, joined, of_token, prefixed, worth};
+use snl_names::{Constant, predefined};
 use snl_syntax::{Expr, Term};
 use snl_text::Token;
 

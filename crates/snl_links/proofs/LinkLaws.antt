@@ -7,7 +7,7 @@ use Rattle.snl_syntax.specs.declared.programs.State.{State}
 use Rattle.snl_syntax.specs.declared.programs.StateSet.{StateSet}
 use Rattle.snl_syntax.specs.view.Definitions.{definition_view}
 use Rattle.snl_syntax.specs.view.Programs.{state_view, state_set_view, program_view}
-use Rattle.snl_resolve.specs.Scopes.{Scope, scope_of}
+use Rattle.snl_names.specs.Scopes.{Scope, scope_of}
 use Rattle.snl_links.specs.declared.ties.Tie.{Tie}
 use Rattle.snl_links.specs.Links.{Said, said_in, said_in_state, said_in_set, said_in_program, link_by}
 

@@ -6,15 +6,15 @@ use Rattle.snl_text.specs.declared.tokens.Pos.{Pos}
 use Rattle.snl_text.specs.declared.tokens.Token.{Token}
 use Rattle.snl_syntax.specs.Definitions.{PlaceTree, one_name, name_list, ChannelsTree, FlagTree, DefinitionTree, assign, monitor, sync, sync_queue}
 use Rattle.snl_syntax.specs.Programs.{StateTree, StateSetTree, ProgramTree}
-use Rattle.snl_resolve.specs.Formats.{unquoted}
-use Rattle.snl_resolve.specs.declared.sites.Extent.{Extent}
-use Rattle.snl_resolve.specs.declared.sites.Extent.TheVariants.{Whole, Front, Element}
-use Rattle.snl_resolve.specs.declared.sites.Meaning.{Meaning}
-use Rattle.snl_resolve.specs.declared.sites.Meaning.TheVariants.{Flag}
-use Rattle.snl_resolve.specs.declared.sites.Part.{Part}
-use Rattle.snl_resolve.specs.Parts.{part_of}
-use Rattle.snl_resolve.specs.Programs.{queue_size, program_scopes}
-use Rattle.snl_resolve.specs.Scopes.{Scope, scope_of, meaning, is_hidden}
+use Rattle.snl_names.specs.Formats.{unquoted}
+use Rattle.snl_names.specs.declared.sites.Extent.{Extent}
+use Rattle.snl_names.specs.declared.sites.Extent.TheVariants.{Whole, Front, Element}
+use Rattle.snl_names.specs.declared.sites.Meaning.{Meaning}
+use Rattle.snl_names.specs.declared.sites.Meaning.TheVariants.{Flag}
+use Rattle.snl_names.specs.declared.sites.Part.{Part}
+use Rattle.snl_names.specs.Parts.{part_of}
+use Rattle.snl_names.specs.Programs.{queue_size, program_scopes}
+use Rattle.snl_names.specs.Scopes.{Scope, scope_of, meaning, is_hidden}
 use Rattle.snl_links.specs.declared.ties.Named.{Named}
 use Rattle.snl_links.specs.declared.ties.Tie.{Tie}
 use Rattle.snl_links.specs.Macros.{macros_of, macro_value, replaced}

@@ -3,7 +3,7 @@ use Rattle.std.specs.Prelude.{ℕ, suc, Bool, List, [], ◌∷◌, ◌++◌, cod
 use Rattle.std.specs.List.{flat_map}
 use Rattle.std.specs.Fmt.{decimal}
 use Rattle.snl_syntax.specs.Programs.{TargetTree, to_state, to_exit, ClauseTree, StateTree, StateSetTree, ProgramTree}
-use Rattle.snl_resolve.specs.Options.{sign_in_force}
+use Rattle.snl_names.specs.Options.{sign_in_force}
 use Rattle.snl_links.specs.declared.ties.Named.{Named}
 use Rattle.snl_links.specs.declared.ties.Tie.{Tie}
 use Rattle.snl_links.specs.Links.{spelled, ties}

@@ -8,7 +8,7 @@ ghost use Rattle.snl_links.specs.MacroTables.{value_in};
 
 use crate::macros::MacroTable;
 use crate::ties::{Named, Tie, ties_of};
-use snl_resolve::formats::unquoted;
+use snl_names::formats::unquoted;
 use snl_syntax::Program;
 use snl_text::{Pos, Token};
 use std::alloc::{AllocError, Global};

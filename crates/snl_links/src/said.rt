@@ -5,10 +5,10 @@ ghost use Rattle.std.specs.List.{flat_map};
 ghost use Rattle.snl_syntax.specs.view.Shown.{shown};
 ghost use Rattle.snl_syntax.specs.view.Definitions.{place_view, flag_view, definition_view};
 ghost use Rattle.snl_syntax.specs.view.Programs.{state_view, state_set_view, program_view};
-ghost use Rattle.snl_resolve.specs.Chains.{scopes_of};
-ghost use Rattle.snl_resolve.specs.Parts.{element_by};
-ghost use Rattle.snl_resolve.specs.Scopes as scopes;
-ghost use Rattle.snl_resolve.specs.Programs as programs;
+ghost use Rattle.snl_names.specs.Chains.{scopes_of};
+ghost use Rattle.snl_names.specs.Parts.{element_by};
+ghost use Rattle.snl_names.specs.Scopes as scopes;
+ghost use Rattle.snl_names.specs.Programs as programs;
 ghost use Rattle.snl_links.specs.Links as spec;
 ghost use Rattle.snl_links.specs.LinkViews.{said_view, said_views};
 

@@ -1,8 +1,8 @@
 -- Variables, found by the offsets of their declarations.
 use Rattle.std.proofs.Common.{◌≡◌, ◌∙◌, ◌<◌, ◌==◌, ℕ, zero, suc, List, [], ◌∷◌, Vec, Global, true, false, Option, None, Some, refl, sym, ap, drop, get_or, length, map, slice_get, slice_index_or, cond, arith}
-use Rattle.snl_resolve.specs.CopyVariables.{variable_view}
-use Rattle.snl_resolve.specs.Variables.{CopyVariable}
-use Rattle.snl_resolve.specs.declared.variables.CopyVariable as declared
+use Rattle.snl_names.specs.CopyVariables.{variable_view}
+use Rattle.snl_names.specs.Variables.{CopyVariable}
+use Rattle.snl_names.specs.declared.copy_variables.CopyVariable as declared
 use Rattle.snl_code.specs.Copies.{sets_of}
 use Rattle.snl_meaning.specs.Names.{number_at}
 use Rattle.snl_load.specs.Initials.{held_in, held_among}

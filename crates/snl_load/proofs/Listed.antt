@@ -3,11 +3,11 @@ use Rattle.std.proofs.Common.{◌≡◌, ◌∙◌, ◌+◌, ◌-◌, ◌<◌, s
 use Rattle.std.specs.Prelude.{replicate}
 use Rattle.snl_syntax.specs.Expressions.{ExprTree}
 use Rattle.snl_syntax.specs.view.Declarations.{value_list}
-use Rattle.snl_resolve.specs.Types.{listed_values}
+use Rattle.snl_names.specs.Types.{listed_values}
 use Rattle.snl_meaning.specs.Laws.{words_of}
-use Rattle.snl_resolve.specs.Variables.{CopyVariable}
-use Rattle.snl_resolve.proofs.ListLaws.{listed_of}
-use Rattle.snl_resolve.specs.Scopes.{elements}
+use Rattle.snl_names.specs.Variables.{CopyVariable}
+use Rattle.snl_names.proofs.ListLaws.{listed_of}
+use Rattle.snl_names.specs.Scopes.{elements}
 use Rattle.snl_load.specs.First.{first_shared}
 use Rattle.snl_load.specs.Initials.{first_element, first_elements}
 

@@ -6,7 +6,7 @@ use Rattle.snl_links.specs.Links.{Link}
 use Rattle.snl_meaning.specs.declared.live.Live.TheVariants.{Waiting}
 use Rattle.snl_meaning.specs.Laws.{words_of}
 use Rattle.snl_meaning.specs.World.{Queue, SetMemory, World}
-use Rattle.snl_resolve.specs.Variables.{CopyVariable, shared_variables}
+use Rattle.snl_names.specs.Variables.{CopyVariable, shared_variables}
 use Rattle.snl_code.specs.Copies.{held_sets}
 use Rattle.snl_load.specs.Initials.{all_elements, first_buffer}
 use Rattle.snl_meaning.specs.declared.ties.Tied.{Tied}

@@ -3,11 +3,11 @@ use Rattle.std.specs.Prelude.{ℕ, zero, suc, ◌+◌, ℤ, pos, int_le, ◌&&�
 use Rattle.snl_syntax.specs.Expressions.{ExprTree}
 use Rattle.snl_links.specs.Links.{Link}
 use Rattle.snl_meaning.specs.Effect.{values_of}
-use Rattle.snl_resolve.specs.declared.constants.Constant.{Constant}
-use Rattle.snl_resolve.specs.declared.constants.Constant.TheVariants.{Worth}
-use Rattle.snl_resolve.specs.Constants.{constant_of}
-use Rattle.snl_resolve.specs.Scopes.{elements, is_hidden}
-use Rattle.snl_resolve.specs.Variables.{CopyVariable}
+use Rattle.snl_names.specs.declared.constants.Constant.{Constant}
+use Rattle.snl_names.specs.declared.constants.Constant.TheVariants.{Worth}
+use Rattle.snl_names.specs.Constants.{constant_of}
+use Rattle.snl_names.specs.Scopes.{elements, is_hidden}
+use Rattle.snl_names.specs.Variables.{CopyVariable}
 
 -- What a constant is worth in a range, and 0 where it has no place there. The rules refuse a first value that is none,
 -- but for a variable of a block: that begins anew whenever the block is entered.

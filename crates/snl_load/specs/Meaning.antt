@@ -8,8 +8,8 @@ use Rattle.snl_code.specs.Heres.{scene_in}
 use Rattle.snl_links.specs.Links.{Link}
 use Rattle.snl_meaning.specs.Effect.{Way, Left, held_by, block_effect}
 use Rattle.snl_meaning.specs.Names.{or_first}
-use Rattle.snl_resolve.specs.Numbered.{number_of}
-use Rattle.snl_resolve.specs.Options.{sign_in_force}
+use Rattle.snl_names.specs.Numbered.{number_of}
+use Rattle.snl_names.specs.Options.{sign_in_force}
 use Rattle.snl_meaning.specs.Ran.{Ran, Gives, then_do}
 use Rattle.snl_meaning.specs.Scenes.{Scene}
 use Rattle.snl_meaning.specs.World.{World}

@@ -1,6 +1,6 @@
 -- Where the variables of the first copy are declared: by that the code finds one, and not by a walk.
 use Rattle.std.specs.Prelude.{ℕ, List, [], ◌∷◌, map}
-use Rattle.snl_resolve.specs.Variables.{CopyVariable}
+use Rattle.snl_names.specs.Variables.{CopyVariable}
 
 -- The variables of the first copy.
 abbrev pub first_of : List (List CopyVariable) → List CopyVariable

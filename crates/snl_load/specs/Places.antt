@@ -2,7 +2,7 @@
 use Rattle.std.specs.Prelude.{ℕ, ◌+◌, ◌-◌, ◌^◌, min, ℤ, pos, List, [], ◌∷◌, map, Option, None, Some, option_map}
 use Rattle.std.specs.List.{flat_map}
 use Rattle.snl_syntax.specs.Programs.{ProgramTree}
-use Rattle.snl_resolve.specs.Programs.{sites}
+use Rattle.snl_names.specs.Programs.{sites}
 use Rattle.snl_links.specs.Links.{Link}
 use Rattle.snl_meaning.specs.declared.instrs.Variable.{Variable}
 use Rattle.snl_meaning.specs.declared.names.Placed.{Placed}

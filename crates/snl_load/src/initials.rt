@@ -4,9 +4,9 @@ ghost use Rattle.std.specs.Prelude.{◌≡◌, ◌++◌, ◌+◌, drop, map, opt
 ghost use Rattle.std.specs.List.{flat_map};
 ghost use Rattle.snl_links.specs.LinkViews.{link_view};
 ghost use Rattle.snl_meaning.specs.Effect.{values_of};
-ghost use Rattle.snl_resolve.specs.Constants.{constant_of};
-ghost use Rattle.snl_resolve.specs.CopyVariables.{begun, variable_view};
-ghost use Rattle.snl_resolve.specs.Scopes.{is_hidden};
+ghost use Rattle.snl_names.specs.Constants.{constant_of};
+ghost use Rattle.snl_names.specs.CopyVariables.{begun, variable_view};
+ghost use Rattle.snl_names.specs.Scopes.{is_hidden};
 ghost use Rattle.snl_syntax.specs.view.Expressions.{boxed, view};
 ghost use Rattle.snl_code.specs.Copies.{sets_of};
 ghost use Rattle.snl_load.specs.Initials as spec;

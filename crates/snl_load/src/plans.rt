@@ -7,7 +7,7 @@ ghost use Rattle.snl_syntax.specs.view.Programs as view;
 ghost use Rattle.snl_code.specs.Heres.{here_in};
 ghost use Rattle.snl_code.specs.Starts.{table_of, holds_in};
 ghost use Rattle.snl_links.specs.LinkViews.{link_view};
-ghost use Rattle.snl_resolve.specs.Numbered.{number_of};
+ghost use Rattle.snl_names.specs.Numbered.{number_of};
 ghost use Rattle.snl_load.specs.Meaning as meaning;
 ghost use Rattle.snl_load.specs.Places.{channels, flags_in, placed_sets};
 ghost use Rattle.snl_load.specs.Plans as spec;

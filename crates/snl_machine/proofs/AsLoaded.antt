@@ -11,7 +11,7 @@ use Rattle.snl_meaning.specs.World.{World}
 use Rattle.snl_meaning.specs.declared.ties.Tied.{Tied}
 use Rattle.snl_schedule.specs.declared.plans.Plan.{Plan}
 use Rattle.snl_code.specs.Copies.{held_sets}
-use Rattle.snl_resolve.specs.Variables.{shared_variables}
+use Rattle.snl_names.specs.Variables.{shared_variables}
 use Rattle.snl_load.specs.First.{first_world, first_world_of}
 use Rattle.snl_meaning.specs.declared.names.Placed.{Placed}
 use Rattle.snl_load.specs.Places.{channels, flags_in, placed_sets, homes_in}

@@ -18,11 +18,11 @@ use Rattle.snl_code.specs.Heres.{shared_in}
 use Rattle.snl_load.specs.First.{first_copy, first_queue, first_shared, first_world_of}
 use Rattle.snl_load.specs.Initials.{worth_in, first_by, first_element, first_elements, all_elements, held_among, buffer_by, first_buffer}
 use Rattle.snl_load.specs.Places.{place_after, channels, flags_in, placed_sets, for_each_set, tie_of, ties_from}
-use Rattle.snl_resolve.specs.declared.constants.Constant.{Constant}
-use Rattle.snl_resolve.specs.declared.constants.Constant.TheVariants.{Varies, Faults, Worth}
-use Rattle.snl_resolve.specs.Constants.{constant_of}
-use Rattle.snl_resolve.specs.Scopes.{elements, is_hidden}
-use Rattle.snl_resolve.specs.Variables.{CopyVariable, variables_of, shared_variables}
+use Rattle.snl_names.specs.declared.constants.Constant.{Constant}
+use Rattle.snl_names.specs.declared.constants.Constant.TheVariants.{Varies, Faults, Worth}
+use Rattle.snl_names.specs.Constants.{constant_of}
+use Rattle.snl_names.specs.Scopes.{elements, is_hidden}
+use Rattle.snl_names.specs.Variables.{CopyVariable, variables_of, shared_variables}
 use Rattle.snl_meaning.specs.declared.ties.Tied.{Tied}
 use Rattle.snl_schedule.specs.Arrivals.{is_in}
 

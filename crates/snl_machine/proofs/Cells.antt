@@ -21,7 +21,7 @@ use Rattle.snl_meaning.specs.Names.{placed_from}
 use Rattle.snl_meaning.specs.World.{SetMemory, World, no_copy, copy_of, words_for, with_words, element_of, words_at, overwritten, zeroed, with_element, with_zeros}
 use Rattle.snl_meaning.proofs.Apart.{variables_lie_within, variables_are_apart}
 use Rattle.snl_meaning.proofs.Sizes.{set-many}
-use Rattle.snl_resolve.specs.Variables.{CopyVariable, variables_of}
+use Rattle.snl_names.specs.Variables.{CopyVariable, variables_of}
 
 -- ---- words
 

@@ -11,9 +11,9 @@ use Rattle.snl_syntax.specs.Definitions.{DefinitionTree, declaration, assign, mo
 use Rattle.snl_syntax.specs.Statements.{StatementTree, StatementList, BlockTree, nested, empty, expression, break_loop, continue_loop, change_state, return_with, if_then, if_else, while_loop, for_loop, no_statements, statement, block, condition_slots, header_slots, statement_slots, statement_list_slots, block_slots}
 use Rattle.snl_syntax.specs.Programs.{ClauseTree, StateTree, StateSetTree, ProgramTree, clause_slots, entry_slots, exit_slots, state_slots, state_set_slots, macros_slots, program_slots, target_slots}
 use Rattle.snl_syntax.specs.Expressions.{slots}
-use Rattle.snl_resolve.specs.Programs.{program_scopes}
-use Rattle.snl_resolve.specs.Scopes.{Scope, scope_of}
-use Rattle.snl_resolve.specs.Variables.{CopyVariable, held_for, by_declaration, by_definition, by_definitions, by_statement, by_statements, by_block, by_maybe, by_clause, by_state, by_state_set, by_numbered, for_first, variables_of}
+use Rattle.snl_names.specs.Programs.{program_scopes}
+use Rattle.snl_names.specs.Scopes.{Scope, scope_of}
+use Rattle.snl_names.specs.Variables.{CopyVariable, held_for, by_declaration, by_definition, by_definitions, by_statement, by_statements, by_block, by_maybe, by_clause, by_state, by_state_set, by_numbered, for_first, variables_of}
 
 -- all variables of a program
 abbrev pub declared : ProgramTree → List CopyVariable

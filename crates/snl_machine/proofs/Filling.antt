@@ -16,7 +16,7 @@ use Rattle.snl_meaning.specs.Links.{home_of, elements_at, with_elements, buffer_
 use Rattle.snl_meaning.specs.World.{World, copy_of, words_at, overwritten}
 use Rattle.snl_meaning.proofs.Apart.{variables_lie_within}
 use Rattle.snl_load.specs.Places.{place_after, channels, flags_in, placed_in, placed_sets, tie_of, ties_from, ties_in}
-use Rattle.snl_resolve.specs.Variables.{variables_of}
+use Rattle.snl_names.specs.Variables.{variables_of}
 use Rattle.snl_meaning.specs.declared.ties.Tied.{Tied}
 use Rattle.snl_schedule.specs.Arrivals.{is_of, is_in, is_link_fit, are_fit, received_link, received_from}
 use Rattle.snl_schedule.specs.Refresh.{is_marked, with_mark, copied_to, refreshed_link, refreshed_from, refreshed}

@@ -15,9 +15,9 @@ use Rattle.snl_meaning.specs.Words.{natural, is_subscript}
 use Rattle.snl_meaning.specs.World.{SetMemory, World, no_copy, copy_of, with_element, with_zeros, zeroed}
 use Rattle.snl_meaning.proofs.Apart.{variables_are_apart, shared_are_apart}
 use Rattle.snl_load.specs.Places.{placed_in}
-use Rattle.snl_resolve.specs.Programs.{program_scopes}
-use Rattle.snl_resolve.specs.Scopes.{Scope}
-use Rattle.snl_resolve.specs.Variables.{CopyVariable, by_definitions, by_numbered, for_first, variables_of, shared_variables}
+use Rattle.snl_names.specs.Programs.{program_scopes}
+use Rattle.snl_names.specs.Scopes.{Scope}
+use Rattle.snl_names.specs.Variables.{CopyVariable, by_definitions, by_numbered, for_first, variables_of, shared_variables}
 
 -- ---- lists
 

@@ -16,24 +16,24 @@ use Rattle.snl_syntax.specs.Definitions.{PlaceTree, FlagTree, DefinitionTree, de
 use Rattle.snl_syntax.specs.Functions.{ParameterTree, FunctionTree, answer_slots, parameters_slots, function_slots}
 use Rattle.snl_syntax.specs.Statements.{BlockTree, block_slots}
 use Rattle.snl_syntax.specs.Programs.{TargetTree, to_state, to_exit, ClauseTree, StateTree, StateSetTree, ProgramTree, target_slots, clause_slots, entry_slots, exit_slots, state_slots, state_set_slots, macros_slots, program_slots}
-use Rattle.snl_resolve.specs.declared.calls.Heading.{Heading}
-use Rattle.snl_resolve.specs.declared.options.Options.{Options}
-use Rattle.snl_resolve.specs.declared.scopes.Declared.{Declared}
-use Rattle.snl_resolve.specs.declared.sites.Meaning.{Meaning}
-use Rattle.snl_resolve.specs.declared.sites.Meaning.TheVariants.{Variable, Flag, Number, Nothing}
-use Rattle.snl_resolve.specs.declared.sites.Purpose.TheVariants.{Read, Flagged}
-use Rattle.snl_resolve.specs.declared.sites.Room.TheVariants as room
-use Rattle.snl_resolve.specs.declared.sites.Site.{Site}
-use Rattle.snl_resolve.specs.declared.sites.Site.TheVariants.{Declaration, Use, Call}
-use Rattle.snl_resolve.specs.declared.sites.Size.{Size}
-use Rattle.snl_resolve.specs.declared.sites.Sort.{Sort}
-use Rattle.snl_resolve.specs.declared.sites.Sort.TheVariants as sorts
-use Rattle.snl_resolve.specs.Parts.{listed_names}
-use Rattle.snl_resolve.specs.Programs.{at_defined, defined, in_flag, in_size, queue_size, in_definition, in_definitions, in_type, in_function, in_program_part, in_program_parts, program_sight, in_target, is_always_true, in_clause, in_clauses, in_plain_block, in_state, in_numbered, in_states, in_all_states, in_state_set, in_numbered_set, in_state_sets, in_all_sets, sites}
-use Rattle.snl_resolve.specs.Scopes.{Scope, first_of, scope_of, meaning, declared_as}
-use Rattle.snl_resolve.specs.Sights.{Sight, within, headings_by, parameters_of, parameter_scope}
-use Rattle.snl_resolve.specs.Sites.{in_expression, in_value, at_type, maybe, declares, words_of, in_block}
-use Rattle.snl_resolve.specs.Uses.{declared_pos, use_at, declared_by, declared_in}
+use Rattle.snl_names.specs.declared.calls.Heading.{Heading}
+use Rattle.snl_names.specs.declared.options.Options.{Options}
+use Rattle.snl_names.specs.declared.scopes.Declared.{Declared}
+use Rattle.snl_names.specs.declared.sites.Meaning.{Meaning}
+use Rattle.snl_names.specs.declared.sites.Meaning.TheVariants.{Variable, Flag, Number, Nothing}
+use Rattle.snl_names.specs.declared.sites.Purpose.TheVariants.{Read, Flagged}
+use Rattle.snl_names.specs.declared.sites.Room.TheVariants as room
+use Rattle.snl_names.specs.declared.sites.Site.{Site}
+use Rattle.snl_names.specs.declared.sites.Site.TheVariants.{Declaration, Use, Call}
+use Rattle.snl_names.specs.declared.sites.Size.{Size}
+use Rattle.snl_names.specs.declared.sites.Sort.{Sort}
+use Rattle.snl_names.specs.declared.sites.Sort.TheVariants as sorts
+use Rattle.snl_names.specs.Parts.{listed_names}
+use Rattle.snl_names.specs.Programs.{at_defined, defined, in_flag, in_size, queue_size, in_definition, in_definitions, in_type, in_function, in_program_part, in_program_parts, program_sight, in_target, is_always_true, in_clause, in_clauses, in_plain_block, in_state, in_numbered, in_states, in_all_states, in_state_set, in_numbered_set, in_state_sets, in_all_sets, sites}
+use Rattle.snl_names.specs.Scopes.{Scope, first_of, scope_of, meaning, declared_as}
+use Rattle.snl_names.specs.Sights.{Sight, within, headings_by, parameters_of, parameter_scope}
+use Rattle.snl_names.specs.Sites.{in_expression, in_value, at_type, maybe, declares, words_of, in_block}
+use Rattle.snl_names.specs.Uses.{declared_pos, use_at, declared_by, declared_in}
 use Rattle.snl_rules.specs.declared.rules.Rule.{Rule}
 use Rattle.snl_rules.specs.declared.rules.Rule.TheVariants.{Undeclared, NoFlag, UnknownFunction, WrongArguments, DelayElsewhere, NoValue}
 use Rattle.snl_rules.specs.Rules.{when, alone}

@@ -11,7 +11,7 @@ use Rattle.snl_links.specs.Links.{Link}
 use Rattle.snl_machine.specs.Footprint.{MachinesHoldTheFootprint}
 use Rattle.snl_machine.proofs.LaidOut.{sets-many}
 use Rattle.snl_meaning.specs.Laws.{words_of}
-use Rattle.snl_resolve.specs.Variables.{CopyVariable, variables_of, shared_variables}
+use Rattle.snl_names.specs.Variables.{CopyVariable, variables_of, shared_variables}
 use Rattle.snl_machine.proofs.Sized.{same-words}
 use Rattle.snl_vm.specs.Footprint.{frame_words}
 use Rattle.snl_vm.proofs.Footprint.{words_are_of_the_frame}

@@ -22,8 +22,8 @@ use Rattle.snl_meaning.specs.Keeping.{world_after}
 use Rattle.snl_meaning.specs.Laws.{words_of}
 use Rattle.snl_meaning.specs.World.{SetMemory}
 use Rattle.snl_meaning.proofs.Frames.{pieces_keep_the_frame}
-use Rattle.snl_resolve.specs.Scopes.{elements}
-use Rattle.snl_resolve.specs.Variables.{CopyVariable, shared_variables}
+use Rattle.snl_names.specs.Scopes.{elements}
+use Rattle.snl_names.specs.Variables.{CopyVariable, shared_variables}
 use Rattle.snl_schedule.specs.Event.{applied}
 use Rattle.snl_schedule.specs.Refresh.{refreshed}
 use Rattle.snl_schedule.specs.Turn.{entered_in}

@@ -9,7 +9,7 @@ use Rattle.snl_machine.specs.Layout.{WorldsAreLaidOut}
 use Rattle.snl_meaning.specs.Frames.{Frame}
 use Rattle.snl_meaning.specs.Laws.{words_of}
 use Rattle.snl_meaning.specs.World.{SetMemory, no_copy}
-use Rattle.snl_resolve.specs.Variables.{variables_of}
+use Rattle.snl_names.specs.Variables.{variables_of}
 
 -- as many as there are state sets
 pub sets-many : {A : Type 0} (f : ℕ → A) (k : ℕ) (gs : List StateSetTree) → length (for_each_set f k gs) ≡ length gs

@@ -9,8 +9,8 @@ use Rattle.std.proofs.lemmas.Cmp.{tied_itself, nat_cmp_total, nat_list_cmp_total
 use Rattle.std.proofs.lemmas.List.Elements.{All-from_recursion, All-contains, Contains-append_left, Contains-append_right}
 use Rattle.snl_text.specs.declared.tokens.Pos.{Pos}
 use Rattle.snl_syntax.specs.Programs.{StateSetTree, ProgramTree}
-use Rattle.snl_resolve.specs.declared.options.Options.{Options}
-use Rattle.snl_resolve.specs.Programs.{sites}
+use Rattle.snl_names.specs.declared.options.Options.{Options}
+use Rattle.snl_names.specs.Programs.{sites}
 use Rattle.snl_rules.specs.declared.rules.Broken.{Broken}
 use Rattle.snl_rules.specs.Counts.{overfull_from}
 use Rattle.snl_rules.specs.Rules.{IsBroken}

@@ -10,7 +10,7 @@ use Rattle.snl_text.specs.declared.tokens.Token.{Token}
 use Rattle.snl_text.proofs.Ascending.{ascend, none_yet}
 use Rattle.snl_syntax.specs.Slots.{Slot, The, Sign, Spelled}
 use Rattle.snl_syntax.specs.Programs.{ProgramTree, program_slots}
-use Rattle.snl_resolve.specs.Variables.{CopyVariable}
+use Rattle.snl_names.specs.Variables.{CopyVariable}
 use Rattle.snl_machine.specs.Accepted.{IsRead, ParsedAreRead}
 use Rattle.snl_machine.proofs.Declared.{declared, programs, In}
 

@@ -10,7 +10,7 @@ use Rattle.snl_meaning.specs.Names.{Here, variable_in}
 use Rattle.snl_meaning.specs.World.{World}
 use Rattle.snl_meaning.proofs.Keeping.{pieces-keep, pieces-keep-any}
 use Rattle.snl_meaning.proofs.Ticks.{Any}
-use Rattle.snl_resolve.specs.Variables.{functions_of}
+use Rattle.snl_names.specs.Variables.{functions_of}
 
 -- where any element may be stored to
 pub keeps-any : (p : ProgramTree) (set : ℕ) (R : World → World → Type 0) → IsKept set Any R → PiecesKeep (scene_in p set) R

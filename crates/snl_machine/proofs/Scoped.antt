@@ -6,13 +6,13 @@ use Rattle.std.proofs.lemmas.List.{map-append}
 use Rattle.snl_text.specs.declared.tokens.Token.{Token}
 use Rattle.snl_syntax.specs.Declarations.{DeclaratorTree}
 use Rattle.snl_syntax.specs.Definitions.{DefinitionTree, declaration, assign, monitor, sync, sync_queue, event_flags, setting, function}
-use Rattle.snl_resolve.specs.declared.scopes.Declared.{Declared}
-use Rattle.snl_resolve.specs.declared.sites.Meaning.{Meaning}
-use Rattle.snl_resolve.specs.declared.sites.Meaning.TheVariants.{Number, Nothing}
-use Rattle.snl_resolve.specs.declared.sites.Size.{Size}
-use Rattle.snl_resolve.specs.Constants.{predefined}
-use Rattle.snl_resolve.specs.Scopes.{Scope, is_spelled, first_of, or_in, bound, is_hidden, declared_as, meaning_by, meaning, size_of, names_by, bare, declared_name, declared_names, declared_by, bare_names, scope_of}
-use Rattle.snl_resolve.specs.Variables.{CopyVariable, held_for, by_definition, by_definitions}
+use Rattle.snl_names.specs.declared.scopes.Declared.{Declared}
+use Rattle.snl_names.specs.declared.sites.Meaning.{Meaning}
+use Rattle.snl_names.specs.declared.sites.Meaning.TheVariants.{Number, Nothing}
+use Rattle.snl_names.specs.declared.sites.Size.{Size}
+use Rattle.snl_names.specs.Constants.{predefined}
+use Rattle.snl_names.specs.Scopes.{Scope, is_spelled, first_of, or_in, bound, is_hidden, declared_as, meaning_by, meaning, size_of, names_by, bare, declared_name, declared_names, declared_by, bare_names, scope_of}
+use Rattle.snl_names.specs.Variables.{CopyVariable, held_for, by_definition, by_definitions}
 use Rattle.snl_machine.proofs.Declared.{In, in-left, in-right, in-either}
 
 -- ---- what a name is bound to

@@ -5,7 +5,7 @@ use Rattle.snl_meaning.specs.declared.instrs.Variable.{Variable}
 use Rattle.snl_meaning.specs.declared.names.Placed.{Placed}
 use Rattle.snl_meaning.specs.Names.{behind, placed_from, placed_shared, shared_from, variable_from}
 use Rattle.snl_meaning.specs.World.{World, copy_of, words_for, with_words, with_words_for, with_element, with_zeros, zeroed}
-use Rattle.snl_resolve.specs.Variables.{CopyVariable}
+use Rattle.snl_names.specs.Variables.{CopyVariable}
 
 -- ---- variables
 

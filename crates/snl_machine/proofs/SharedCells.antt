@@ -16,7 +16,7 @@ use Rattle.snl_meaning.specs.declared.names.Placed.{Placed}
 use Rattle.snl_meaning.specs.Laws.{words_of}
 use Rattle.snl_meaning.specs.Names.{placed_shared}
 use Rattle.snl_meaning.specs.World.{World, words_for, element_of, words_at, overwritten, with_element, with_zeros}
-use Rattle.snl_resolve.specs.Variables.{CopyVariable, shared_variables}
+use Rattle.snl_names.specs.Variables.{CopyVariable, shared_variables}
 
 -- ---- the words of functions
 

@@ -14,16 +14,16 @@ use Rattle.snl_syntax.specs.Expressions.{ExprTree}
 use Rattle.snl_syntax.specs.Functions.{ParameterTree, FunctionTree}
 use Rattle.snl_syntax.specs.Sequences.{EachOfSome}
 use Rattle.snl_syntax.specs.Programs.{StateSetTree, ProgramTree, IsStateSet}
-use Rattle.snl_resolve.specs.declared.constants.Constant.{Constant}
-use Rattle.snl_resolve.specs.declared.constants.Constant.TheVariants.{Varies, Faults, Worth}
-use Rattle.snl_resolve.specs.declared.options.Options.{Options}
-use Rattle.snl_resolve.specs.declared.sites.Size.TheVariants.{Array, TooLong, Wrong}
-use Rattle.snl_resolve.specs.Constants.{constant_of}
-use Rattle.snl_resolve.specs.Programs.{program_scopes}
-use Rattle.snl_resolve.specs.Scopes.{Scope, elements, size_by, size_of, is_hidden}
-use Rattle.snl_resolve.specs.Types.{unsigned_range, range_by, range_or_long}
-use Rattle.snl_resolve.specs.Sights.{parameter_scope}
-use Rattle.snl_resolve.specs.Variables.{CopyVariable, held_for, held_parameter, by_block, by_definitions, by_function, by_maybe, by_numbered, functions_of, shared_variables, variables_of}
+use Rattle.snl_names.specs.declared.constants.Constant.{Constant}
+use Rattle.snl_names.specs.declared.constants.Constant.TheVariants.{Varies, Faults, Worth}
+use Rattle.snl_names.specs.declared.options.Options.{Options}
+use Rattle.snl_names.specs.declared.sites.Size.TheVariants.{Array, TooLong, Wrong}
+use Rattle.snl_names.specs.Constants.{constant_of}
+use Rattle.snl_names.specs.Programs.{program_scopes}
+use Rattle.snl_names.specs.Scopes.{Scope, elements, size_by, size_of, is_hidden}
+use Rattle.snl_names.specs.Types.{unsigned_range, range_by, range_or_long}
+use Rattle.snl_names.specs.Sights.{parameter_scope}
+use Rattle.snl_names.specs.Variables.{CopyVariable, held_for, held_parameter, by_block, by_definitions, by_function, by_maybe, by_numbered, functions_of, shared_variables, variables_of}
 use Rattle.snl_rules.specs.Words.{variable_words}
 use Rattle.snl_meaning.specs.declared.names.Placed.{Placed}
 use Rattle.snl_meaning.specs.Laws.{words_of}

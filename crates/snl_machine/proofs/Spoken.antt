@@ -10,27 +10,27 @@ use Rattle.snl_text.specs.declared.tokens.Token.{Token}
 use Rattle.snl_syntax.specs.Expressions.{ExprTree}
 use Rattle.snl_syntax.specs.Definitions.{NamesTree, one_name, name_list, ChannelsTree, DefinitionTree, declaration, assign, monitor, sync, sync_queue, event_flags, setting, function}
 use Rattle.snl_syntax.specs.Programs.{StateTree, StateSetTree, ProgramTree}
-use Rattle.snl_resolve.specs.declared.calls.Heading.{Heading}
-use Rattle.snl_resolve.specs.declared.constants.Constant.{Constant}
-use Rattle.snl_resolve.specs.declared.constants.Constant.TheVariants.{Varies, Faults, Worth}
-use Rattle.snl_resolve.specs.declared.options.Options.{Options}
-use Rattle.snl_resolve.specs.declared.sites.Extent.{Extent}
-use Rattle.snl_resolve.specs.declared.sites.Extent.TheVariants.{Whole, Element}
-use Rattle.snl_resolve.specs.declared.sites.Meaning.{Meaning}
-use Rattle.snl_resolve.specs.declared.sites.Meaning.TheVariants.{Variable, Flag, Number, Nothing}
-use Rattle.snl_resolve.specs.declared.sites.Part.{Part}
-use Rattle.snl_resolve.specs.declared.sites.Site.{Site}
-use Rattle.snl_resolve.specs.declared.sites.Site.TheVariants.{Defined, StateSet}
-use Rattle.snl_resolve.specs.declared.sites.Size.{Size}
-use Rattle.snl_resolve.specs.declared.sites.Sort.TheVariants.{Assign}
-use Rattle.snl_resolve.specs.Constants.{constant_of}
-use Rattle.snl_resolve.specs.Numbered.{is_later}
-use Rattle.snl_resolve.specs.Parts.{listed_names, element_by, element_at, one_element, part_of, is_wrong_subscript, is_wrong_part}
-use Rattle.snl_resolve.specs.Programs.{queue_size, in_definition, in_definitions, in_function, in_program_part, in_program_parts, program_sight, at_state, in_state, in_numbered, in_states, in_all_states, in_state_set, in_numbered_set, in_state_sets, in_all_sets, in_plain_block, in_clauses, sites}
-use Rattle.snl_resolve.specs.Scopes.{Scope, elements, is_array, is_hidden, meaning, declared_as, scope_of}
-use Rattle.snl_resolve.specs.Sights.{Sight, within, headings_by}
-use Rattle.snl_resolve.specs.Sites.{declares, in_value, maybe}
-use Rattle.snl_resolve.specs.Variables.{CopyVariable, by_definitions, by_maybe, by_clause, by_state, by_state_set}
+use Rattle.snl_names.specs.declared.calls.Heading.{Heading}
+use Rattle.snl_names.specs.declared.constants.Constant.{Constant}
+use Rattle.snl_names.specs.declared.constants.Constant.TheVariants.{Varies, Faults, Worth}
+use Rattle.snl_names.specs.declared.options.Options.{Options}
+use Rattle.snl_names.specs.declared.sites.Extent.{Extent}
+use Rattle.snl_names.specs.declared.sites.Extent.TheVariants.{Whole, Element}
+use Rattle.snl_names.specs.declared.sites.Meaning.{Meaning}
+use Rattle.snl_names.specs.declared.sites.Meaning.TheVariants.{Variable, Flag, Number, Nothing}
+use Rattle.snl_names.specs.declared.sites.Part.{Part}
+use Rattle.snl_names.specs.declared.sites.Site.{Site}
+use Rattle.snl_names.specs.declared.sites.Site.TheVariants.{Defined, StateSet}
+use Rattle.snl_names.specs.declared.sites.Size.{Size}
+use Rattle.snl_names.specs.declared.sites.Sort.TheVariants.{Assign}
+use Rattle.snl_names.specs.Constants.{constant_of}
+use Rattle.snl_names.specs.Numbered.{is_later}
+use Rattle.snl_names.specs.Parts.{listed_names, element_by, element_at, one_element, part_of, is_wrong_subscript, is_wrong_part}
+use Rattle.snl_names.specs.Programs.{queue_size, in_definition, in_definitions, in_function, in_program_part, in_program_parts, program_sight, at_state, in_state, in_numbered, in_states, in_all_states, in_state_set, in_numbered_set, in_state_sets, in_all_sets, in_plain_block, in_clauses, sites}
+use Rattle.snl_names.specs.Scopes.{Scope, elements, is_array, is_hidden, meaning, declared_as, scope_of}
+use Rattle.snl_names.specs.Sights.{Sight, within, headings_by}
+use Rattle.snl_names.specs.Sites.{declares, in_value, maybe}
+use Rattle.snl_names.specs.Variables.{CopyVariable, by_definitions, by_maybe, by_clause, by_state, by_state_set}
 use Rattle.snl_rules.specs.declared.rules.Rule.TheVariants.{WrongArray}
 use Rattle.snl_rules.specs.Words.{assigned_by, link_words}
 use Rattle.snl_links.specs.Links.{Said, assigned, monitored, synced, place_part, of_part, flag_at, flag_if_there, first_in, count_in, said_by, said_in, said_in_state, said_in_set, said_in_program}

@@ -9,11 +9,11 @@ use Rattle.snl_text.specs.declared.tokens.Pos.{Pos}
 use Rattle.snl_text.specs.declared.tokens.Token.{Token}
 use Rattle.snl_syntax.specs.Definitions.{NamesTree, one_name, name_list, ChannelsTree}
 use Rattle.snl_syntax.specs.Programs.{StateSetTree, ProgramTree}
-use Rattle.snl_resolve.specs.declared.options.Options.{Options}
-use Rattle.snl_resolve.specs.declared.sites.Part.{Part}
-use Rattle.snl_resolve.specs.Programs.{program_scopes, sites}
-use Rattle.snl_resolve.specs.Scopes.{Scope, elements}
-use Rattle.snl_resolve.specs.Variables.{CopyVariable, by_definitions, by_maybe, by_numbered, by_state_set, for_first, variables_of}
+use Rattle.snl_names.specs.declared.options.Options.{Options}
+use Rattle.snl_names.specs.declared.sites.Part.{Part}
+use Rattle.snl_names.specs.Programs.{program_scopes, sites}
+use Rattle.snl_names.specs.Scopes.{Scope, elements}
+use Rattle.snl_names.specs.Variables.{CopyVariable, by_definitions, by_maybe, by_numbered, by_state_set, for_first, variables_of}
 use Rattle.snl_rules.specs.Words.{queue_size, links_words}
 use Rattle.snl_links.specs.Links.{Said, assigned, monitored, synced, ties_from, ties_by_channels, ties_by, said_in_program, spelled, Link, link_by, links}
 use Rattle.snl_links.specs.declared.ties.Tie.{Tie}

@@ -12,21 +12,21 @@ use Rattle.snl_syntax.specs.Expressions.{ExprTree, TermList, ArgumentList, const
 use Rattle.snl_syntax.specs.Declarations.{TypeTree, ValueList, InitialiserTree, DeclaratorTree, DeclarationTree, no_values, last_value, value_before, single, listed, type_slots, bracket_slots, value_slots, initialiser_slots, declarator_slots, declaration_slots}
 use Rattle.snl_syntax.specs.Definitions.{declaration}
 use Rattle.snl_syntax.specs.Statements.{StatementTree, StatementList, BlockTree, Header, nested, empty, expression, break_loop, continue_loop, change_state, return_with, if_then, if_else, while_loop, for_loop, no_statements, statement, block, condition_slots, ended_slots, header_slots, statement_slots, statement_list_slots, block_slots}
-use Rattle.snl_resolve.specs.declared.scopes.Declared.{Declared}
-use Rattle.snl_resolve.specs.declared.sites.Meaning.{Meaning}
-use Rattle.snl_resolve.specs.declared.sites.Meaning.TheVariants.{Flag}
-use Rattle.snl_resolve.specs.declared.sites.Purpose.{Purpose}
-use Rattle.snl_resolve.specs.declared.sites.Purpose.TheVariants.{Read, Dropped}
-use Rattle.snl_resolve.specs.declared.sites.Room.{Room}
-use Rattle.snl_resolve.specs.declared.sites.Site.{Site}
-use Rattle.snl_resolve.specs.declared.sites.Site.TheVariants.{Use}
-use Rattle.snl_resolve.specs.Builtins.{builtin_of}
-use Rattle.snl_resolve.specs.Calls.{is_fitting, count_of, word_at, is_word, unless}
-use Rattle.snl_resolve.specs.Purposes.{inner, in_parentheses, target, argument, at_constant, at_call, at_change, at_format, is_step}
-use Rattle.snl_resolve.specs.Scopes.{Scope, scope_of, meaning, declared_as, declared_names, declared_by, is_hidden, bare_names}
-use Rattle.snl_resolve.specs.Sights.{Sight, called, within}
-use Rattle.snl_resolve.specs.Sites.{in_expression, in_terms, in_arguments, in_value, maybe, declares, in_values, in_initialiser, in_declarator, in_declaration, in_header, in_statement, in_statements, in_block}
-use Rattle.snl_resolve.specs.Uses.{use_at}
+use Rattle.snl_names.specs.declared.scopes.Declared.{Declared}
+use Rattle.snl_names.specs.declared.sites.Meaning.{Meaning}
+use Rattle.snl_names.specs.declared.sites.Meaning.TheVariants.{Flag}
+use Rattle.snl_names.specs.declared.sites.Purpose.{Purpose}
+use Rattle.snl_names.specs.declared.sites.Purpose.TheVariants.{Read, Dropped}
+use Rattle.snl_names.specs.declared.sites.Room.{Room}
+use Rattle.snl_names.specs.declared.sites.Site.{Site}
+use Rattle.snl_names.specs.declared.sites.Site.TheVariants.{Use}
+use Rattle.snl_names.specs.Builtins.{builtin_of}
+use Rattle.snl_names.specs.Calls.{is_fitting, count_of, word_at, is_word, unless}
+use Rattle.snl_names.specs.Purposes.{inner, in_parentheses, target, argument, at_constant, at_call, at_change, at_format, is_step}
+use Rattle.snl_names.specs.Scopes.{Scope, scope_of, meaning, declared_as, declared_names, declared_by, is_hidden, bare_names}
+use Rattle.snl_names.specs.Sights.{Sight, called, within}
+use Rattle.snl_names.specs.Sites.{in_expression, in_terms, in_arguments, in_value, maybe, declares, in_values, in_initialiser, in_declarator, in_declaration, in_header, in_statement, in_statements, in_block}
+use Rattle.snl_names.specs.Uses.{use_at}
 use Rattle.snl_machine.proofs.Declared.{In, in-either}
 use Rattle.snl_machine.proofs.Ordered.{Sub, sub-both, kept, kept-both}
 use Rattle.snl_machine.proofs.Scoped.{Good, good-more}

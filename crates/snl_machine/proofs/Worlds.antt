@@ -16,7 +16,7 @@ use Rattle.snl_meaning.specs.declared.live.Live.TheVariants.{Ended}
 use Rattle.snl_meaning.specs.Frames.{at_time}
 use Rattle.snl_meaning.specs.Keeping.{world_after}
 use Rattle.snl_meaning.specs.World.{World, no_copy}
-use Rattle.snl_resolve.specs.Variables.{CopyVariable}
+use Rattle.snl_names.specs.Variables.{CopyVariable}
 use Rattle.snl_schedule.specs.declared.events.Event.{Event}
 use Rattle.snl_schedule.specs.Event.{line_by, line_of}
 

@@ -10,7 +10,7 @@ use Rattle.snl_syntax.specs.Begins.{Spells}
 use Rattle.snl_syntax.specs.Programs.{ProgramTree, IsProgram, programs}
 use Rattle.snl_syntax.specs.declared.programs.Program.{Program}
 use Rattle.snl_syntax.specs.view.Programs.{program_view}
-use Rattle.snl_resolve.specs.declared.options.Options.{Options}
+use Rattle.snl_names.specs.declared.options.Options.{Options}
 use Rattle.snl_check.specs.Accepted.{IsAccepted}
 use Rattle.snl_code.specs.Inside.{FlagsAreDeclared}
 use Rattle.snl_links.specs.Links.{links}

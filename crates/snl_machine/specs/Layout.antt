@@ -16,7 +16,7 @@ use Rattle.snl_meaning.specs.Links.{home_of, elements_at, with_elements, buffer_
 use Rattle.snl_meaning.specs.Names.{placed_from, placed_shared, variable_in}
 use Rattle.snl_meaning.specs.Queues.{put_in}
 use Rattle.snl_meaning.specs.World.{World, copy_of, is_set, element_of, words_at, with_element, with_zeros}
-use Rattle.snl_resolve.specs.Variables.{CopyVariable, variables_of, shared_variables}
+use Rattle.snl_names.specs.Variables.{CopyVariable, variables_of, shared_variables}
 use Rattle.snl_schedule.specs.Arrivals.{is_of, received}
 use Rattle.snl_schedule.specs.Refresh.{is_marked, refreshed}
 

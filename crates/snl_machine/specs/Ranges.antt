@@ -17,7 +17,7 @@ use Rattle.snl_load.specs.First.{first_world_of}
 use Rattle.snl_load.specs.Initials.{held_among}
 use Rattle.snl_load.specs.Meaning.{program_meaning}
 use Rattle.snl_load.specs.Places.{placed_in, placed_sets, channels, ties_in, homes_in}
-use Rattle.snl_resolve.specs.Variables.{CopyVariable, variables_of, shared_variables}
+use Rattle.snl_names.specs.Variables.{CopyVariable, variables_of, shared_variables}
 use Rattle.snl_meaning.specs.declared.ties.Tied.{Tied}
 use Rattle.snl_schedule.specs.Arrivals.{is_in}
 

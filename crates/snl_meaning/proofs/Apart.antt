@@ -1,8 +1,8 @@
 -- The variables of a copy have words of their own.
 use Rattle.std.proofs.Common.{◌≡◌, ◌+◌, ◌<◌, ◌≤◌, true, ℕ, zero, suc, List, [], ◌∷◌, Option, None, Some, refl, sym, ap, subst, arith, slice_get}
 use Rattle.std.specs.Prelude.{◌-◌, ◌^◌}
-use Rattle.snl_resolve.specs.Scopes.{elements}
-use Rattle.snl_resolve.specs.Variables.{CopyVariable}
+use Rattle.snl_names.specs.Scopes.{elements}
+use Rattle.snl_names.specs.Variables.{CopyVariable}
 use Rattle.snl_meaning.specs.declared.names.Placed.{Placed}
 use Rattle.snl_meaning.specs.Laws.{words_of, VariablesLieWithin, VariablesAreApart, SharedLieWithin, SharedAreApart}
 use Rattle.snl_meaning.specs.Names.{placed_from, placed_shared, behind, variable_from, shared_from}

@@ -1,8 +1,8 @@
 -- The number of a state is one of its state set.
 use Rattle.std.proofs.Common.{◌≡◌, ◌≤◌, ◌-◌, ◌+◌, refl, arith, ℕ, suc, Bool, true, false, List, [], ◌∷◌, Option, None, Some, length}
 use Rattle.snl_text.specs.declared.tokens.Token.{Token}
-use Rattle.snl_resolve.specs.Numbered.{number_from, number_of}
-use Rattle.snl_resolve.specs.Scopes.{is_spelled}
+use Rattle.snl_names.specs.Numbered.{number_from, number_of}
+use Rattle.snl_names.specs.Scopes.{is_spelled}
 use Rattle.snl_meaning.specs.Names.{or_first}
 
 -- a number among some lies below their end

@@ -1,8 +1,8 @@
 -- Names among the first of some: the number of a name there.
 use Rattle.std.proofs.Common.{◌≡◌, ◌+◌, ◌<◌, ◌≤◌, ℕ, zero, suc, Bool, true, false, List, [], ◌∷◌, None, Some, refl, arith, take, if◌then◌else◌}
 use Rattle.snl_text.specs.declared.tokens.Token.{Token}
-use Rattle.snl_resolve.specs.Numbered.{number_from}
-use Rattle.snl_resolve.specs.Scopes.{is_spelled}
+use Rattle.snl_names.specs.Numbered.{number_from}
+use Rattle.snl_names.specs.Scopes.{is_spelled}
 
 -- numbers go up
 least : (k : ℕ) (ts : List Token) (name : List ℕ) (j : ℕ) → number_from k ts name ≡ Some j → k ≤ j

@@ -3,7 +3,7 @@ use Rattle.std.proofs.Common.{◌<◌, ◌≤◌, ℕ, zero, suc, ℤ, Bool, Lis
 use Rattle.snl_text.specs.declared.kinds.Kind.{Kind}
 use Rattle.snl_syntax.specs.Expressions.{ExprTree}
 use Rattle.snl_syntax.specs.Statements.{StatementTree}
-use Rattle.snl_resolve.specs.declared.builtins.Query.{Query}
+use Rattle.snl_names.specs.declared.builtins.Query.{Query}
 use Rattle.snl_meaning.specs.declared.instrs.Variable.{Variable}
 use Rattle.snl_meaning.specs.Effect.{held_by, evaluated, effect_of}
 use Rattle.snl_meaning.specs.Functions.{Routine, IsBelow, callables_after}

@@ -6,14 +6,14 @@ use Rattle.snl_text.specs.declared.tokens.Token.{Token}
 use Rattle.snl_syntax.specs.Expressions.{ExprTree, TermList, ArgumentList, constant, parenthesized, named, element, call, postfix, prefix, chain, conditional, assignment, no_terms, term, no_arguments, value, text}
 use Rattle.snl_arithmetic.specs.Arithmetic.{is_zero}
 use Rattle.snl_meaning.specs.declared.instrs.Variable.{Variable}
-use Rattle.snl_resolve.specs.Constants.{predefined}
-use Rattle.snl_resolve.specs.Uses.{declared_in}
+use Rattle.snl_names.specs.Constants.{predefined}
+use Rattle.snl_names.specs.Uses.{declared_in}
 use Rattle.snl_meaning.specs.Names.{Varies, variable_at, variable_by, sense_by, sense_of, format_number, flag_number}
 use Rattle.snl_meaning.specs.Ran.{Ran}
-use Rattle.snl_resolve.specs.Builtins.{builtin_of}
-use Rattle.snl_resolve.specs.declared.builtins.Query.{Query}
+use Rattle.snl_names.specs.Builtins.{builtin_of}
+use Rattle.snl_names.specs.declared.builtins.Query.{Query}
 use Rattle.snl_meaning.specs.Value.{OnTarget, joint_of, compound_of, sign_of, is_decimal, joined_by, either, value_of, chained, at_target, print_of, printing_with, calling, if_callable, wait_of, put_of, ask_flag, ask_of}
-use Rattle.snl_resolve.specs.Calls.{has_async}
+use Rattle.snl_names.specs.Calls.{has_async}
 use Rattle.snl_meaning.specs.Scenes.{Callable, Scene, callee_named}
 use Rattle.snl_meaning.specs.Words.{gives, is_subscript, read}
 use Rattle.snl_meaning.specs.World.{World}

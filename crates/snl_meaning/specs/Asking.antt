@@ -1,8 +1,8 @@
 -- What calls ask and tell of event flags, of links, and of how many links there are.
 use Rattle.std.specs.Prelude.{ℕ, ℤ, pos, negsuc, ◌&&◌, Bool, true, false, not, List, [], ◌∷◌, Option, None, Some, is_some, count_by, slice_index_or, if◌then◌else◌}
 use Rattle.snl_arithmetic.specs.Arithmetic.{truth}
-use Rattle.snl_resolve.specs.declared.builtins.Query.{Query}
-use Rattle.snl_resolve.specs.declared.builtins.Query.TheVariants.{EfClear, EfSet, EfTest, EfTestAndClear, PvChannelCount, PvConnectCount, PvConnected, PvFlushQ, PvGet, PvGetQ, PvPutComplete}
+use Rattle.snl_names.specs.declared.builtins.Query.{Query}
+use Rattle.snl_names.specs.declared.builtins.Query.TheVariants.{EfClear, EfSet, EfTest, EfTestAndClear, PvChannelCount, PvConnectCount, PvConnected, PvFlushQ, PvGet, PvGetQ, PvPutComplete}
 use Rattle.snl_meaning.specs.declared.instrs.Variable.{Variable}
 use Rattle.snl_meaning.specs.declared.ties.Tied.{Tied}
 use Rattle.snl_meaning.specs.Links.{with_elements, buffer_of, queue_of, with_items, unflagged}

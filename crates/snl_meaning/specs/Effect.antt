@@ -5,7 +5,7 @@ use Rattle.snl_syntax.specs.Expressions.{ExprTree}
 use Rattle.snl_syntax.specs.Declarations.{InitialiserTree, DeclaratorTree, DeclarationTree, single, listed}
 use Rattle.snl_syntax.specs.Statements.{StatementTree, StatementList, BlockTree, nested, empty, expression, break_loop, continue_loop, change_state, return_with, if_then, if_else, while_loop, for_loop, no_statements, statement, block}
 use Rattle.snl_arithmetic.specs.Arithmetic.{is_zero}
-use Rattle.snl_resolve.specs.Types.{listed_values}
+use Rattle.snl_names.specs.Types.{listed_values}
 use Rattle.snl_meaning.specs.declared.faults.Fault.TheVariants.{BudgetSpent}
 use Rattle.snl_meaning.specs.declared.instrs.Variable.{Variable}
 use Rattle.snl_meaning.specs.Names.{Here, Within, Piece, Body, variable_at, state_number}

@@ -6,16 +6,16 @@ use Rattle.snl_text.specs.declared.kinds.Kind.TheVariants as kind
 use Rattle.snl_text.specs.declared.tokens.Token.{Token}
 use Rattle.snl_syntax.specs.Expressions.{ExprTree, constant, named, element, call, postfix, chain, assignment, no_terms, term, no_arguments, value, text}
 use Rattle.snl_syntax.specs.Statements.{StatementTree, StatementList, nested, expression, break_loop, continue_loop, change_state, if_then, while_loop, for_loop, no_statements, statement, block}
-use Rattle.snl_resolve.specs.declared.sites.Meaning.TheVariants.{Variable, Flag}
-use Rattle.snl_resolve.specs.declared.sites.Purpose.TheVariants.{Read, Flagged}
-use Rattle.snl_resolve.specs.declared.sites.Site.TheVariants.{Declaration, Use, Format}
-use Rattle.snl_resolve.specs.declared.sites.Size.{Size}
-use Rattle.snl_resolve.specs.declared.sites.Size.TheVariants.{Scalar, Array}
+use Rattle.snl_names.specs.declared.sites.Meaning.TheVariants.{Variable, Flag}
+use Rattle.snl_names.specs.declared.sites.Purpose.TheVariants.{Read, Flagged}
+use Rattle.snl_names.specs.declared.sites.Site.TheVariants.{Declaration, Use, Format}
+use Rattle.snl_names.specs.declared.sites.Size.{Size}
+use Rattle.snl_names.specs.declared.sites.Size.TheVariants.{Scalar, Array}
 use Rattle.snl_meaning.specs.declared.faults.Fault.TheVariants.{OutOfRange, DoesNotFit, BudgetSpent, DivisionByZero}
 use Rattle.snl_meaning.specs.declared.live.Live.TheVariants.{Running}
 use Rattle.snl_meaning.specs.declared.ties.Tied.{Tied}
 use Rattle.snl_meaning.specs.Effect.{Done, Left, effect_of}
-use Rattle.snl_resolve.specs.Variables.{CopyVariable}
+use Rattle.snl_names.specs.Variables.{CopyVariable}
 use Rattle.snl_meaning.specs.Names.{Here, Piece, variable_in, placed_from}
 use Rattle.snl_meaning.specs.Printing.{print_line, put_line}
 use Rattle.snl_meaning.specs.Ran.{Gives, Faults}

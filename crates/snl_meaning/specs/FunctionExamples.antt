@@ -5,11 +5,11 @@ use Rattle.snl_text.specs.declared.tokens.Token.{Token}
 use Rattle.snl_syntax.specs.Expressions.{ExprTree, ArgumentList, named, call, assignment, no_arguments, value}
 use Rattle.snl_syntax.specs.Declarations.{DeclarationTree}
 use Rattle.snl_syntax.specs.Statements.{StatementTree, BlockTree, empty, expression, return_with, while_loop, block}
-use Rattle.snl_resolve.specs.declared.sites.Meaning.TheVariants as meaning
-use Rattle.snl_resolve.specs.declared.sites.Purpose.TheVariants.{Read}
-use Rattle.snl_resolve.specs.declared.sites.Site.{Site}
-use Rattle.snl_resolve.specs.declared.sites.Site.TheVariants.{Use}
-use Rattle.snl_resolve.specs.declared.sites.Size.TheVariants.{Scalar}
+use Rattle.snl_names.specs.declared.sites.Meaning.TheVariants as meaning
+use Rattle.snl_names.specs.declared.sites.Purpose.TheVariants.{Read}
+use Rattle.snl_names.specs.declared.sites.Site.{Site}
+use Rattle.snl_names.specs.declared.sites.Site.TheVariants.{Use}
+use Rattle.snl_names.specs.declared.sites.Size.TheVariants.{Scalar}
 use Rattle.snl_meaning.specs.declared.faults.Fault.TheVariants.{DoesNotFit, BudgetSpent}
 use Rattle.snl_meaning.specs.declared.instrs.Variable.{Variable}
 use Rattle.snl_meaning.specs.declared.names.Placed.{Placed}

@@ -4,8 +4,8 @@ use Rattle.snl_syntax.specs.Expressions.{ExprTree}
 use Rattle.snl_syntax.specs.Declarations.{DeclaratorTree, DeclarationTree}
 use Rattle.snl_syntax.specs.Statements.{StatementTree, StatementList, block}
 use Rattle.snl_meaning.specs.Effect.{held_by, evaluated, turns, looped, effect_of, variable_for, names_of, block_effect}
-use Rattle.snl_resolve.specs.Scopes.{elements}
-use Rattle.snl_resolve.specs.Variables.{CopyVariable}
+use Rattle.snl_names.specs.Scopes.{elements}
+use Rattle.snl_names.specs.Variables.{CopyVariable}
 use Rattle.snl_meaning.specs.Functions.{Routine, IsBelow, callable_of}
 use Rattle.snl_meaning.specs.declared.instrs.Variable.{Variable}
 use Rattle.snl_meaning.specs.declared.names.Placed.{Placed}

@@ -3,13 +3,13 @@ use Rattle.std.specs.Prelude.{ℕ, true, false, suc, ◌+◌, ◌-◌, ◌^◌, 
 use Rattle.std.specs.List.{flat_map}
 use Rattle.snl_text.specs.declared.tokens.Pos.{Pos}
 use Rattle.snl_text.specs.declared.tokens.Token.{Token}
-use Rattle.snl_resolve.specs.declared.sites.Site.{Site}
-use Rattle.snl_resolve.specs.declared.sites.Site.TheVariants.{Declaration, Format}
-use Rattle.snl_resolve.specs.Constants.{predefined}
-use Rattle.snl_resolve.specs.Numbered.{number_of}
-use Rattle.snl_resolve.specs.Scopes.{elements}
-use Rattle.snl_resolve.specs.Uses.{declared_in}
-use Rattle.snl_resolve.specs.Variables.{CopyVariable}
+use Rattle.snl_names.specs.declared.sites.Site.{Site}
+use Rattle.snl_names.specs.declared.sites.Site.TheVariants.{Declaration, Format}
+use Rattle.snl_names.specs.Constants.{predefined}
+use Rattle.snl_names.specs.Numbered.{number_of}
+use Rattle.snl_names.specs.Scopes.{elements}
+use Rattle.snl_names.specs.Uses.{declared_in}
+use Rattle.snl_names.specs.Variables.{CopyVariable}
 use Rattle.snl_meaning.specs.declared.instrs.Variable.{Variable}
 use Rattle.snl_meaning.specs.declared.names.Placed.{Placed}
 pub use Rattle.snl_meaning.specs.declared.names.Sense.{Sense}

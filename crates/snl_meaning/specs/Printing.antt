@@ -1,9 +1,9 @@
 -- The lines that `printf` and `pvPut` write.
 use Rattle.std.specs.Prelude.{ℕ, ℤ, ◌==◌, ◌||◌, List, [], ◌∷◌, ◌++◌, drop, codes, decimal, Option, None, Some, if◌then◌else◌}
 use Rattle.std.specs.Fmt.{signed_decimal}
-use Rattle.snl_resolve.specs.declared.formats.FormatState.{FormatState}
-use Rattle.snl_resolve.specs.declared.formats.FormatState.TheVariants.{Plain, Escaped, Percent, Long}
-use Rattle.snl_resolve.specs.Formats.{next, converts, unquoted}
+use Rattle.snl_names.specs.declared.formats.FormatState.{FormatState}
+use Rattle.snl_names.specs.declared.formats.FormatState.TheVariants.{Plain, Escaped, Percent, Long}
+use Rattle.snl_names.specs.Formats.{next, converts, unquoted}
 
 -- The first of some numbers, in decimals.
 abbrev pub first_shown : List ℤ → List ℕ

@@ -9,10 +9,10 @@ use Rattle.snl_syntax.specs.Expressions.{ExprTree, TermList, ArgumentList, const
 use Rattle.snl_syntax.specs.Kinds.{is}
 use Rattle.snl_arithmetic.specs.Arithmetic.{is_zero}
 use Rattle.snl_meaning.specs.declared.instrs.Variable.{Variable}
-use Rattle.snl_resolve.specs.declared.builtins.Builtin.{Builtin}
-use Rattle.snl_resolve.specs.declared.builtins.Builtin.TheVariants.{Delay, Printf, PvPut, Ask}
-use Rattle.snl_resolve.specs.declared.builtins.Query.{Query}
-use Rattle.snl_resolve.specs.Builtins.{builtin_of}
+use Rattle.snl_names.specs.declared.builtins.Builtin.{Builtin}
+use Rattle.snl_names.specs.declared.builtins.Builtin.TheVariants.{Delay, Printf, PvPut, Ask}
+use Rattle.snl_names.specs.declared.builtins.Query.{Query}
+use Rattle.snl_names.specs.Builtins.{builtin_of}
 pub use Rattle.snl_meaning.specs.declared.operators.Joint.{Joint}
 pub use Rattle.snl_meaning.specs.declared.operators.Joint.TheVariants.{And, Or, Sequel, Operation}
 pub use Rattle.snl_meaning.specs.declared.operators.Unary.{Unary}
@@ -20,7 +20,7 @@ pub use Rattle.snl_meaning.specs.declared.operators.Unary.TheVariants.{ByOne, Of
 use Rattle.snl_meaning.specs.Names.{Sense, Varies, Stands, sense_of, flag_number, formats_of, format_number, format_text}
 use Rattle.snl_meaning.specs.Ran.{Ran, Gives, then_do}
 use Rattle.snl_meaning.specs.Scenes.{Callable, Scene, callee_named}
-use Rattle.snl_resolve.specs.Calls.{has_async}
+use Rattle.snl_names.specs.Calls.{has_async}
 use Rattle.snl_meaning.specs.Asking.{asked, ask_element}
 use Rattle.snl_meaning.specs.Words.{called_with, gives, operated, operated_prefix, settled, subscript, read, stored, adjusted, printed, put_element, waited}
 use Rattle.snl_meaning.specs.World.{World}

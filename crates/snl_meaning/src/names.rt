@@ -1,14 +1,14 @@
 //! What the names in a piece of code mean.
 
 ghost use Rattle.std.specs.Prelude.{◌≡◌, ◌++◌, map, IfOk, OnOk};
-ghost use Rattle.snl_resolve.specs.CopyVariables.{variable_view};
+ghost use Rattle.snl_names.specs.CopyVariables.{variable_view};
 ghost use Rattle.snl_meaning.specs.Names as spec;
 ghost use Rattle.snl_meaning.specs.Known.{here_of};
 
 use crate::instrs::Variable;
 use crate::places::Places;
 use crate::sites::Sites;
-use snl_resolve::{CopyVariable, Numbered, predefined};
+use snl_names::{CopyVariable, Numbered, predefined};
 use snl_text::Token;
 use std::alloc::{AllocError, Global};
 

@@ -1,13 +1,13 @@
 //! The variables of a copy, found by their declarations.
 
 ghost use Rattle.std.specs.Prelude.{◌≡◌, ◌++◌, map, IfOk};
-ghost use Rattle.snl_resolve.specs.CopyVariables.{variable_view};
+ghost use Rattle.snl_names.specs.CopyVariables.{variable_view};
 ghost use Rattle.snl_meaning.specs.Names as spec;
 
 use crate::instrs::Variable;
 use crate::names::{Placed, places_of, push_shared};
 use crate::offsets::Offsets;
-use snl_resolve::CopyVariable;
+use snl_names::CopyVariable;
 use std::alloc::{AllocError, Global};
 use std::marker::Model;
 

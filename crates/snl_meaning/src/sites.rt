@@ -2,13 +2,13 @@
 
 ghost use Rattle.std.specs.Prelude.{◌≡◌, map, IfOk};
 ghost use Rattle.std.specs.List.{flat_map};
-ghost use Rattle.snl_resolve.specs.Uses.{declared_in};
-ghost use Rattle.snl_resolve.specs.UseTables.{IsUseTable};
+ghost use Rattle.snl_names.specs.Uses.{declared_in};
+ghost use Rattle.snl_names.specs.UseTables.{IsUseTable};
 ghost use Rattle.snl_meaning.specs.Names as spec;
 
 use crate::offsets::Offsets;
 use crate::strings::Strings;
-use snl_resolve::{Site, UseTable};
+use snl_names::{Site, UseTable};
 use snl_text::{Pos, Token};
 use std::alloc::{AllocError, Global};
 use std::marker::Model;
@@ -27,7 +27,7 @@ pub struct Sites<'s, 'a> {
 
 impl<'s, 'a> Model for Sites<'s, 'a> {
     ghost use Rattle.std.specs.Prelude.{List};
-    ghost use Rattle.snl_resolve.specs.declared.sites.Site.{Site};
+    ghost use Rattle.snl_names.specs.declared.sites.Site.{Site};
 
     ghost Value = { List Site };
 
@@ -35,7 +35,7 @@ impl<'s, 'a> Model for Sites<'s, 'a> {
 
     ghost use Rattle.std.specs.Prelude.{◌≡◌};
     ghost use Rattle.std.specs.List.{flat_map};
-    ghost use Rattle.snl_resolve.specs.UseTables.{IsUseTable};
+    ghost use Rattle.snl_names.specs.UseTables.{IsUseTable};
     ghost use Rattle.snl_meaning.specs.Names.{flags_of, format_at};
 
     ghost invariant = { λ s. IsUseTable s.uses.now s.all.now × (s.flags ≡ flags_of s.all.now)

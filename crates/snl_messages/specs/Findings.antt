@@ -2,8 +2,8 @@
 use Rattle.std.specs.Prelude.{ℕ, List, [], ◌∷◌, ◌++◌, Option, None, Some, codes}
 use Rattle.snl_text.specs.declared.tokens.Pos.{Pos}
 use Rattle.snl_text.specs.declared.tokens.Token.{Token}
-use Rattle.snl_resolve.specs.declared.sites.Site.{Site}
-use Rattle.snl_resolve.specs.declared.sites.Site.TheVariants.{Declaration, Typed, Declarator, Defined, QueueSize, Setting, Use, Decimal, Call, Format, Change, LoopExit, StateChange, Target, Clause, State, StateSet, Function, Return}
+use Rattle.snl_names.specs.declared.sites.Site.{Site}
+use Rattle.snl_names.specs.declared.sites.Site.TheVariants.{Declaration, Typed, Declarator, Defined, QueueSize, Setting, Use, Decimal, Call, Format, Change, LoopExit, StateChange, Target, Clause, State, StateSet, Function, Return}
 use Rattle.snl_rules.specs.declared.rules.Broken.{Broken}
 use Rattle.snl_rules.specs.declared.rules.Rule.{Rule}
 use Rattle.snl_rules.specs.declared.rules.Rule.TheVariants.{TooManySets, TooManyStates, TooManyChannels}

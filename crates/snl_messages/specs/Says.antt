@@ -3,8 +3,8 @@ use Rattle.std.specs.Prelude.{◌≡◌, ◌⊎◌, true, false, List, [], Optio
 use Rattle.snl_text.specs.declared.tokens.Pos.{Pos}
 use Rattle.snl_text.specs.declared.tokens.Token.{Token}
 use Rattle.snl_syntax.specs.Programs.{ProgramTree}
-use Rattle.snl_resolve.specs.declared.options.Options.{Options}
-use Rattle.snl_resolve.specs.Programs.{sites}
+use Rattle.snl_names.specs.declared.options.Options.{Options}
+use Rattle.snl_names.specs.Programs.{sites}
 use Rattle.snl_rules.specs.declared.rules.Broken.{Broken}
 use Rattle.snl_rules.specs.Rules.{IsBroken}
 use Rattle.snl_rules.specs.Reach.{IsUnreached}

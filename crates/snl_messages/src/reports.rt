@@ -2,8 +2,8 @@
 
 ghost use Rattle.std.specs.Prelude.{◌≡◌, ◌↔◌, ◌⊎◌, true, map, Contains, OnOk, IfOk};
 ghost use Rattle.snl_syntax.specs.view.Programs.{program_view};
-ghost use Rattle.snl_resolve.specs.Programs as spec;
-ghost use Rattle.snl_resolve.specs.UseTables.{IsTableOf};
+ghost use Rattle.snl_names.specs.Programs as spec;
+ghost use Rattle.snl_names.specs.UseTables.{IsTableOf};
 ghost use Rattle.snl_messages.specs.Findings.{Finding};
 ghost use Rattle.snl_messages.specs.Entries.{finding_in};
 ghost use Rattle.snl_messages.specs.Given.{IsGiven};

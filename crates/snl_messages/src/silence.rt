@@ -3,7 +3,7 @@
 ghost use Rattle.std.specs.Prelude.{◌≡◌, filter};
 ghost use Rattle.snl_syntax.specs.view.Definitions.{definition_view};
 ghost use Rattle.snl_syntax.specs.view.Programs.{program_view};
-ghost use Rattle.snl_resolve.specs.Options.{options_by, sign_by};
+ghost use Rattle.snl_names.specs.Options.{options_by, sign_by};
 ghost use Rattle.snl_messages.specs.Entries.{finding_in, severity_by};
 ghost use Rattle.snl_messages.specs.Silence as spec;
 

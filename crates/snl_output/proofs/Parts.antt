@@ -2,9 +2,9 @@
 use Rattle.std.proofs.Common.{◌≡◌, ℕ, ℤ, List, [], ◌∷◌, ◌++◌, Option, None, Some, refl, ap, sym, ◌∙◌, append_assoc, append-nil, arith, ◌+◌, ◌-◌, ◌<◌, drop, take, slice_range, length, length-drop, get_or, codes, decimal, if◌then◌else◌}
 use Rattle.std.proofs.lemmas.List.{drop_more, drop-drop, take_all}
 use Rattle.std.specs.Option.{unwrap_or}
-use Rattle.snl_resolve.specs.declared.formats.FormatState.{FormatState}
-use Rattle.snl_resolve.specs.declared.formats.FormatState.TheVariants.{Plain}
-use Rattle.snl_resolve.specs.Formats.{next, converts}
+use Rattle.snl_names.specs.declared.formats.FormatState.{FormatState}
+use Rattle.snl_names.specs.declared.formats.FormatState.TheVariants.{Plain}
+use Rattle.snl_names.specs.Formats.{next, converts}
 use Rattle.snl_meaning.specs.Printing.{first_shown, shown_byte, or_plain, shown, spaced, print_line, put_line}
 use Rattle.snl_output.specs.Held.{IsHeldBack}
 use Rattle.snl_output.specs.Lines.{joined, newline, print_front, put_front}

@@ -9,7 +9,7 @@ ghost use Rattle.snl_meaning.specs.Printing as spec;
 use crate::held::Line;
 use crate::sinks::{Sink, SinkFault};
 use itoa::Buffer;
-use snl_resolve::formats::{FormatState, converts, next, unquoted};
+use snl_names::formats::{FormatState, converts, next, unquoted};
 
 /// `MS print STATE-SET TEXT`, where the text is that of a format, as spelled with its quotes, and of the numbers of
 /// its conversions in their order.

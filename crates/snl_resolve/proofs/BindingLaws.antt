@@ -6,11 +6,11 @@ use Rattle.std.proofs.lemmas.Bool.{false_from_ne_true}
 use Rattle.std.proofs.lemmas.Cmp.{nat_list_eq_equiv}
 use Rattle.snl_text.specs.declared.tokens.Pos.{Pos}
 use Rattle.snl_text.specs.declared.tokens.Token.{Token}
-use Rattle.snl_resolve.specs.declared.scopes.Declared.{Declared}
-use Rattle.snl_resolve.specs.declared.sites.Size.{Size}
-use Rattle.snl_resolve.specs.Constants.{predefined}
-use Rattle.snl_resolve.specs.Scopes.{Scope, is_spelled, first_of, or_in, bound, declared_as, meaning_by, meaning, IsOther, Means}
-use Rattle.snl_resolve.specs.Uses.{declared_pos}
+use Rattle.snl_names.specs.declared.scopes.Declared.{Declared}
+use Rattle.snl_names.specs.declared.sites.Size.{Size}
+use Rattle.snl_names.specs.Constants.{predefined}
+use Rattle.snl_names.specs.Scopes.{Scope, is_spelled, first_of, or_in, bound, declared_as, meaning_by, meaning, IsOther, Means}
+use Rattle.snl_names.specs.Uses.{declared_pos}
 
 -- nothing is not something
 pub none_some : {A : Type 0} → (x : A) → ◌≡◌ {A = Option A} None (Some x) → ⊥

@@ -9,11 +9,11 @@ use Rattle.snl_syntax.specs.view.Declarations.{declaration_view}
 use Rattle.snl_syntax.specs.Definitions.{declaration}
 use Rattle.snl_syntax.specs.view.Lists.{statement_list}
 use Rattle.snl_syntax.specs.view.Statements.{statement_view, block_view}
-use Rattle.snl_resolve.specs.declared.sites.Site.{Site}
-use Rattle.snl_resolve.specs.declared.sites.Room.{Room}
-use Rattle.snl_resolve.specs.Scopes.{Scope, scope_of}
-use Rattle.snl_resolve.specs.Sights.{Sight, within}
-use Rattle.snl_resolve.specs.Sites.{declares, in_declaration, in_statement, in_statements, in_block}
+use Rattle.snl_names.specs.declared.sites.Site.{Site}
+use Rattle.snl_names.specs.declared.sites.Room.{Room}
+use Rattle.snl_names.specs.Scopes.{Scope, scope_of}
+use Rattle.snl_names.specs.Sights.{Sight, within}
+use Rattle.snl_names.specs.Sites.{declares, in_declaration, in_statement, in_statements, in_block}
 use Rattle.snl_syntax.proofs.StatementRows.{view_block}
 
 -- a block: its names, its declarations, its statements

@@ -5,10 +5,10 @@ use Rattle.std.specs.HashMap.{HashMap, get_by}
 use Rattle.std.specs.Map.{lookup}
 use Rattle.indexmap.specs.IndexMap.{insert_entry}
 use Rattle.indexmap.proofs.CallerLemmas.{insert_entry-new}
-use Rattle.snl_resolve.specs.declared.calls.Heading.{Heading}
-use Rattle.snl_resolve.specs.Calls.{heading_in}
+use Rattle.snl_names.specs.declared.calls.Heading.{Heading}
+use Rattle.snl_names.specs.Calls.{heading_in}
 use Rattle.snl_resolve.specs.FunctionTables.{function_in, only_function}
-use Rattle.snl_resolve.specs.Scopes.{is_spelled, or_in}
+use Rattle.snl_names.specs.Scopes.{is_spelled, or_in}
 
 -- an entry at the end is found where none before it is
 lookup_last : (q : List ℕ) (f : Heading) (es : List (Bor (List ℕ) × Heading)) → lookup (λ key. pointwise nat_eq q key.now) (es ++ (f.name.text, f) ∷ [])

@@ -1,14 +1,8 @@
-pub mod FormLaws
-pub mod ConstantLaws
 pub mod WalkLaws
-pub mod TableLaws
-pub mod NumberLaws
 pub mod FunctionLaws
-pub mod ListLaws
 pub mod BlockLaws
 pub mod ProgramLaws
 pub mod VariableLaws
 pub mod Steps
 pub mod BindingLaws
 pub mod NameLaws
-pub mod SignLaws

@@ -11,22 +11,22 @@ use Rattle.snl_syntax.specs.Statements.{StatementTree, StatementList, BlockTree,
 use Rattle.snl_syntax.specs.Definitions.{PlaceTree, FlagTree, DefinitionTree, declaration, assign, monitor, sync, sync_queue, event_flags, setting, function}
 use Rattle.snl_syntax.specs.Functions.{ParameterTree, FunctionTree}
 use Rattle.snl_syntax.specs.Programs.{TargetTree, to_state, to_exit, ClauseTree, StateTree, StateSetTree, ProgramTree}
-use Rattle.snl_resolve.specs.declared.sites.Purpose.{Purpose}
-use Rattle.snl_resolve.specs.declared.sites.Sort.{Sort}
-use Rattle.snl_resolve.specs.declared.sites.Sort.TheVariants as sorts
-use Rattle.snl_resolve.specs.declared.sites.Site.{Site}
-use Rattle.snl_resolve.specs.Builtins.{builtin_of}
-use Rattle.snl_resolve.specs.Calls.{is_fitting, word_at, is_word, unless}
-use Rattle.snl_resolve.specs.Sights.{Sight, called, within, headings_by, parameter_scope}
-use Rattle.snl_resolve.specs.declared.calls.Heading.{Heading}
-use Rattle.snl_resolve.specs.declared.sites.Room.{Room}
-use Rattle.snl_resolve.specs.declared.sites.Room.TheVariants as room
-use Rattle.snl_resolve.specs.Purposes.{inner, in_parentheses, target, argument, at_constant, at_change, is_step}
-use Rattle.snl_resolve.specs.Scopes.{Scope, scope_of, meaning}
-use Rattle.snl_resolve.specs.Parts.{listed_names}
-use Rattle.snl_resolve.specs.Uses.{use_at, declared_by, declared_in}
-use Rattle.snl_resolve.specs.Sites as s
-use Rattle.snl_resolve.specs.Programs as p
+use Rattle.snl_names.specs.declared.sites.Purpose.{Purpose}
+use Rattle.snl_names.specs.declared.sites.Sort.{Sort}
+use Rattle.snl_names.specs.declared.sites.Sort.TheVariants as sorts
+use Rattle.snl_names.specs.declared.sites.Site.{Site}
+use Rattle.snl_names.specs.Builtins.{builtin_of}
+use Rattle.snl_names.specs.Calls.{is_fitting, word_at, is_word, unless}
+use Rattle.snl_names.specs.Sights.{Sight, called, within, headings_by, parameter_scope}
+use Rattle.snl_names.specs.declared.calls.Heading.{Heading}
+use Rattle.snl_names.specs.declared.sites.Room.{Room}
+use Rattle.snl_names.specs.declared.sites.Room.TheVariants as room
+use Rattle.snl_names.specs.Purposes.{inner, in_parentheses, target, argument, at_constant, at_change, is_step}
+use Rattle.snl_names.specs.Scopes.{Scope, scope_of, meaning}
+use Rattle.snl_names.specs.Parts.{listed_names}
+use Rattle.snl_names.specs.Uses.{use_at, declared_by, declared_in}
+use Rattle.snl_names.specs.Sites as s
+use Rattle.snl_names.specs.Programs as p
 use Rattle.snl_resolve.specs.Names as n
 use Rattle.snl_resolve.specs.Names.{Placed, if_there, meant_at}
 

@@ -22,15 +22,15 @@ use Rattle.snl_syntax.specs.view.Definitions.{definition_view}
 use Rattle.snl_syntax.specs.view.Functions.{parameter_view, function_view}
 use Rattle.snl_syntax.specs.view.Expressions.{boxed}
 use Rattle.snl_syntax.specs.view.Programs.{target_view, clause_view, state_view, state_set_view, program_view}
-use Rattle.snl_resolve.specs.declared.sites.Purpose.TheVariants.{Read}
-use Rattle.snl_resolve.specs.declared.sites.Site.{Site}
-use Rattle.snl_resolve.specs.declared.sites.Site.TheVariants.{Clause as ClauseSite, Function as FunctionSite}
-use Rattle.snl_resolve.specs.Scopes.{Scope, scope_of}
-use Rattle.snl_resolve.specs.Sights.{Sight, within, headings_by, parameters_of}
-use Rattle.snl_resolve.specs.declared.calls.Heading.{Heading}
-use Rattle.snl_resolve.specs.declared.sites.Room.TheVariants as room
-use Rattle.snl_resolve.specs.Sites.{declares, at_type, maybe, in_expression, in_block}
-use Rattle.snl_resolve.specs.Programs.{in_definition, in_definitions, is_taken, in_type, in_function, in_program_part, in_program_parts, program_sight, in_plain_block, in_target, is_always_true, in_clause, in_clauses, in_blocks, in_state, in_all_states, in_state_set, in_all_sets, in_parts, sites}
+use Rattle.snl_names.specs.declared.sites.Purpose.TheVariants.{Read}
+use Rattle.snl_names.specs.declared.sites.Site.{Site}
+use Rattle.snl_names.specs.declared.sites.Site.TheVariants.{Clause as ClauseSite, Function as FunctionSite}
+use Rattle.snl_names.specs.Scopes.{Scope, scope_of}
+use Rattle.snl_names.specs.Sights.{Sight, within, headings_by, parameters_of}
+use Rattle.snl_names.specs.declared.calls.Heading.{Heading}
+use Rattle.snl_names.specs.declared.sites.Room.TheVariants as room
+use Rattle.snl_names.specs.Sites.{declares, at_type, maybe, in_expression, in_block}
+use Rattle.snl_names.specs.Programs.{in_definition, in_definitions, is_taken, in_type, in_function, in_program_part, in_program_parts, program_sight, in_plain_block, in_target, is_always_true, in_clause, in_clauses, in_blocks, in_state, in_all_states, in_state_set, in_all_sets, in_parts, sites}
 
 -- four parts in a row
 four_parts : (old a b c d : List Site) → (((old ++ a) ++ b) ++ c) ++ d ≡ old ++ (((a ++ b) ++ c) ++ d)

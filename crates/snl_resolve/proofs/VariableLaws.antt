@@ -24,9 +24,9 @@ use Rattle.snl_syntax.specs.view.Functions.{parameter_view, function_view}
 use Rattle.snl_syntax.specs.view.Statements.{statement_view, block_view}
 use Rattle.snl_syntax.specs.view.Programs.{clause_view, state_view, state_set_view, program_view}
 use Rattle.snl_syntax.proofs.StatementRows.{view_block}
-use Rattle.snl_resolve.specs.Scopes.{Scope, scope_of}
-use Rattle.snl_resolve.specs.Sights.{parameters_of}
-use Rattle.snl_resolve.specs.Variables.{CopyVariable, by_declaration, by_definition, by_definitions, by_statement, by_statements, by_block, by_maybe, held_parameter, by_function, function_by, by_clause, by_blocks, by_state, by_state_set, by_numbered, for_first, by_parts, variables_of}
+use Rattle.snl_names.specs.Scopes.{Scope, scope_of}
+use Rattle.snl_names.specs.Sights.{parameters_of}
+use Rattle.snl_names.specs.Variables.{CopyVariable, by_declaration, by_definition, by_definitions, by_statement, by_statements, by_block, by_maybe, held_parameter, by_function, function_by, by_clause, by_blocks, by_state, by_state_set, by_numbered, for_first, by_parts, variables_of}
 
 -- three parts in a row
 three_parts : (old a b c : List CopyVariable) → ((old ++ a) ++ b) ++ c ≡ old ++ ((a ++ b) ++ c)

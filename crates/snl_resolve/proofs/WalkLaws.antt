@@ -8,15 +8,15 @@ use Rattle.snl_syntax.specs.declared.expressions.Argument.{Argument, Value', Tex
 use Rattle.snl_syntax.specs.Expressions.{ExprTree, no_arguments}
 use Rattle.snl_syntax.specs.view.Lists.{term_list}
 use Rattle.snl_syntax.specs.view.Expressions.{view, pair_of, argument_of, list_before}
-use Rattle.snl_resolve.specs.declared.sites.Purpose.{Purpose}
-use Rattle.snl_resolve.specs.declared.sites.Site.{Site}
-use Rattle.snl_resolve.specs.Builtins.{builtin_of}
-use Rattle.snl_resolve.specs.Calls.{is_fitting, count_of, word_at, is_word, unless}
-use Rattle.snl_resolve.specs.Sights.{Sight, called}
-use Rattle.snl_resolve.specs.Purposes.{inner, argument, at_call, at_format}
-use Rattle.snl_resolve.specs.Sites.{in_expression, in_terms, in_arguments}
+use Rattle.snl_names.specs.declared.sites.Purpose.{Purpose}
+use Rattle.snl_names.specs.declared.sites.Site.{Site}
+use Rattle.snl_names.specs.Builtins.{builtin_of}
+use Rattle.snl_names.specs.Calls.{is_fitting, count_of, word_at, is_word, unless}
+use Rattle.snl_names.specs.Sights.{Sight, called}
+use Rattle.snl_names.specs.Purposes.{inner, argument, at_call, at_format}
+use Rattle.snl_names.specs.Sites.{in_expression, in_terms, in_arguments}
 use Rattle.snl_syntax.proofs.Rows.{view_chain, view_call}
-use Rattle.snl_resolve.proofs.FormLaws.{count_list}
+use Rattle.snl_names.proofs.FormLaws.{count_list}
 
 -- A call: its site, then those of its arguments.
 pub call_noted : (w : Bool) (s : Sight) (p q : Purpose) (k : ℕ) (e : Expr) (f : Token) (v : Vec Argument Global) (items : List Argument) (old mid new : List Site)

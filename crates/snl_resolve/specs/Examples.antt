@@ -7,17 +7,17 @@ use Rattle.snl_syntax.specs.Expressions.{ExprTree, constant, parenthesized, name
 use Rattle.snl_syntax.specs.Declarations.{DeclaratorTree}
 use Rattle.snl_syntax.specs.Statements.{while_loop, break_loop}
 use Rattle.snl_syntax.specs.Definitions.{DefinitionTree, declaration, event_flags}
-use Rattle.snl_resolve.specs.declared.constants.Constant.TheVariants.{Varies, Faults, Worth}
-use Rattle.snl_resolve.specs.declared.sites.Meaning.TheVariants.{Variable, Flag, Number, Nothing}
-use Rattle.snl_resolve.specs.declared.sites.Purpose.TheVariants.{Read, Channel, Ignored}
-use Rattle.snl_resolve.specs.declared.sites.Size.TheVariants.{Scalar, Array, Wrong}
-use Rattle.snl_resolve.specs.declared.sites.Site.TheVariants.{Use, Decimal, Call, Format, LoopExit}
-use Rattle.snl_resolve.specs.Constants.{constant_of}
-use Rattle.snl_resolve.specs.Numbered.{number_of}
-use Rattle.snl_resolve.specs.Scopes.{scope_of, meaning}
-use Rattle.snl_resolve.specs.Sites.{in_expression, in_statement}
-use Rattle.snl_resolve.specs.Sights.{Sight}
-use Rattle.snl_resolve.specs.declared.sites.Room.TheVariants as room
+use Rattle.snl_names.specs.declared.constants.Constant.TheVariants.{Varies, Faults, Worth}
+use Rattle.snl_names.specs.declared.sites.Meaning.TheVariants.{Variable, Flag, Number, Nothing}
+use Rattle.snl_names.specs.declared.sites.Purpose.TheVariants.{Read, Channel, Ignored}
+use Rattle.snl_names.specs.declared.sites.Size.TheVariants.{Scalar, Array, Wrong}
+use Rattle.snl_names.specs.declared.sites.Site.TheVariants.{Use, Decimal, Call, Format, LoopExit}
+use Rattle.snl_names.specs.Constants.{constant_of}
+use Rattle.snl_names.specs.Numbered.{number_of}
+use Rattle.snl_names.specs.Scopes.{scope_of, meaning}
+use Rattle.snl_names.specs.Sites.{in_expression, in_statement}
+use Rattle.snl_names.specs.Sights.{Sight}
+use Rattle.snl_names.specs.declared.sites.Room.TheVariants as room
 
 -- a token at an offset
 abbrev pub token : Kind → ℕ → List ℕ → Token

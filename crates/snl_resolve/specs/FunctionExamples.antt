@@ -7,17 +7,17 @@ use Rattle.snl_syntax.specs.Expressions.{ExprTree, parenthesized, prefix, call, 
 use Rattle.snl_syntax.specs.Statements.{StatementTree, BlockTree, empty, change_state, expression, return_with, no_statements, statement, block}
 use Rattle.snl_syntax.specs.Definitions.{DefinitionTree, function}
 use Rattle.snl_syntax.specs.Programs.{ProgramTree}
-use Rattle.snl_resolve.specs.declared.calls.Heading.{Heading}
-use Rattle.snl_resolve.specs.declared.sites.Purpose.TheVariants.{Read}
-use Rattle.snl_resolve.specs.declared.sites.Room.TheVariants as room
-use Rattle.snl_resolve.specs.declared.sites.Site.{Site}
-use Rattle.snl_resolve.specs.declared.sites.Site.TheVariants.{Declaration, Typed, Declarator, Call, Format, StateChange, Target, Function, Return}
-use Rattle.snl_resolve.specs.declared.sites.Size.TheVariants.{Scalar}
+use Rattle.snl_names.specs.declared.calls.Heading.{Heading}
+use Rattle.snl_names.specs.declared.sites.Purpose.TheVariants.{Read}
+use Rattle.snl_names.specs.declared.sites.Room.TheVariants as room
+use Rattle.snl_names.specs.declared.sites.Site.{Site}
+use Rattle.snl_names.specs.declared.sites.Site.TheVariants.{Declaration, Typed, Declarator, Call, Format, StateChange, Target, Function, Return}
+use Rattle.snl_names.specs.declared.sites.Size.TheVariants.{Scalar}
 use Rattle.snl_resolve.specs.Examples.{token, name, sign, whole, bare}
-use Rattle.snl_resolve.specs.Programs.{sites}
-use Rattle.snl_resolve.specs.Sights.{Sight}
-use Rattle.snl_resolve.specs.Sites.{in_expression, in_statement}
-use Rattle.snl_resolve.specs.Variables.{CopyVariable, shared_variables}
+use Rattle.snl_names.specs.Programs.{sites}
+use Rattle.snl_names.specs.Sights.{Sight}
+use Rattle.snl_names.specs.Sites.{in_expression, in_statement}
+use Rattle.snl_names.specs.Variables.{CopyVariable, shared_variables}
 
 -- a function with parameters of type `char`, of type `int` or without a value
 abbrev pub of_names : Token → Bool → List Token → BlockTree → DefinitionTree

@@ -3,9 +3,9 @@ use Rattle.std.specs.Prelude.{◌≡◌, ℕ, List, nat_eq, Option, Some, None, 
 use Rattle.std.specs.Borrow.{Bor}
 use Rattle.std.specs.Cmp.Lexicographic.{pointwise}
 use Rattle.std.specs.HashMap.{HashMap, get_by}
-use Rattle.snl_resolve.specs.declared.calls.Heading.{Heading}
-use Rattle.snl_resolve.specs.Calls.{heading_in}
-use Rattle.snl_resolve.specs.Scopes.{is_spelled}
+use Rattle.snl_names.specs.declared.calls.Heading.{Heading}
+use Rattle.snl_names.specs.Calls.{heading_in}
+use Rattle.snl_names.specs.Scopes.{is_spelled}
 
 -- What a table has at a name.
 abbrev pub function_in : {S : Type 0} → HashMap (Bor (List ℕ)) Heading S → List ℕ → Option Heading

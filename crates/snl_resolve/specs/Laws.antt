@@ -2,11 +2,11 @@
 use Rattle.std.specs.Prelude.{◌≡◌, ℕ, List, Some, ◌↔◌}
 use Rattle.snl_text.specs.declared.tokens.Pos.{Pos}
 use Rattle.snl_text.specs.declared.tokens.Token.{Token}
-use Rattle.snl_resolve.specs.declared.scopes.Declared.{Declared}
-use Rattle.snl_resolve.specs.Scopes.{Scope, bound, meaning, Means}
+use Rattle.snl_names.specs.declared.scopes.Declared.{Declared}
+use Rattle.snl_names.specs.Scopes.{Scope, bound, meaning, Means}
 use Rattle.snl_syntax.specs.Programs.{ProgramTree}
 use Rattle.snl_resolve.specs.Names.{names_of, meant_at}
-use Rattle.snl_resolve.specs.Uses.{declared_pos, declared_of}
+use Rattle.snl_names.specs.Uses.{declared_pos, declared_of}
 
 -- What a name means by the relation is what it is bound to.
 abbrev pub BindingIsOne : Type 0

@@ -8,12 +8,12 @@ use Rattle.snl_syntax.specs.Declarations.{ValueList, no_values, last_value, valu
 use Rattle.snl_syntax.specs.Statements.{StatementTree, StatementList, BlockTree, Header, nested, empty, expression, break_loop, continue_loop, change_state, return_with, if_then, if_else, while_loop, for_loop, no_statements, statement, block}
 use Rattle.snl_syntax.specs.Definitions.{PlaceTree, FlagTree, DefinitionTree, declaration, assign, monitor, sync, sync_queue, event_flags, setting, function}
 use Rattle.snl_syntax.specs.Programs.{ClauseTree, StateTree, StateSetTree, ProgramTree}
-use Rattle.snl_resolve.specs.Builtins.{builtin_of}
-use Rattle.snl_resolve.specs.Calls.{word_at, is_word, unless}
-use Rattle.snl_resolve.specs.Scopes.{Scope, scope_of, meaning}
-use Rattle.snl_resolve.specs.Sights.{parameter_scope}
-use Rattle.snl_resolve.specs.Programs.{program_scopes}
-use Rattle.snl_resolve.specs.Uses.{declared_pos}
+use Rattle.snl_names.specs.Builtins.{builtin_of}
+use Rattle.snl_names.specs.Calls.{word_at, is_word, unless}
+use Rattle.snl_names.specs.Scopes.{Scope, scope_of, meaning}
+use Rattle.snl_names.specs.Sights.{parameter_scope}
+use Rattle.snl_names.specs.Programs.{program_scopes}
+use Rattle.snl_names.specs.Uses.{declared_pos}
 
 -- A name, with the scopes round it.
 abbrev pub Placed : Type 0

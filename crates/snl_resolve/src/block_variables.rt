@@ -6,13 +6,13 @@ ghost use Rattle.snl_syntax.specs.view.Shown.{shown, held};
 ghost use Rattle.snl_syntax.specs.view.Declarations.{declaration_view};
 ghost use Rattle.snl_syntax.specs.view.Statements.{statement_view, block_view};
 ghost use Rattle.snl_syntax.specs.view.Lists.{statement_list};
-ghost use Rattle.snl_resolve.specs.Chains.{scopes_of};
-ghost use Rattle.snl_resolve.specs.Variables as spec;
-ghost use Rattle.snl_resolve.specs.CopyVariables.{variable_view};
+ghost use Rattle.snl_names.specs.Chains.{scopes_of};
+ghost use Rattle.snl_names.specs.Variables as spec;
+ghost use Rattle.snl_names.specs.CopyVariables.{variable_view};
 
-use crate::scopes::{Scope, Scopes};
 use crate::scoping::block_names;
-use crate::variables::{CopyVariable, push_held};
+use crate::variables::push_held;
+use snl_names::{CopyVariable, Scope, Scopes};
 use snl_syntax::{Block, Declaration, Stmt};
 use std::alloc::{AllocError, Global};
 

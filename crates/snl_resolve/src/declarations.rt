@@ -5,15 +5,13 @@ ghost use Rattle.std.specs.List.{flat_map};
 ghost use Rattle.snl_syntax.specs.view.Expressions.{boxed, view};
 ghost use Rattle.snl_syntax.specs.view.Declarations.{type_view, declarator_view, declaration_view, initialiser_view};
 ghost use Rattle.snl_syntax.specs.view.Shown.{shown};
-ghost use Rattle.snl_resolve.specs.Chains.{sight_of};
-ghost use Rattle.snl_resolve.specs.Sites as spec;
+ghost use Rattle.snl_resolve.specs.Seen.{sight_of};
+ghost use Rattle.snl_names.specs.Sites as spec;
 
 use crate::expressions::note_expression;
 use crate::initialisers::{is_good_initialiser, range_of};
-use crate::rows::pushed;
 use crate::sights::Sight;
-use crate::sites::{Purpose, Site};
-use crate::sizes::size_of;
+use snl_names::{Purpose, Site, pushed, size_of};
 use snl_syntax::{Declaration, Declarator, Expr, Initialiser, TypeName};
 use std::alloc::AllocError;
 
@@ -60,7 +58,7 @@ fn note_values<'a>(
 }
 
 /// Notes the sites in an initialiser.
-#[tactic(auto, using(crate::proofs::ListLaws::sites_of_list))]
+#[tactic(auto, using(snl_names::proofs::ListLaws::sites_of_list))]
 fn note_initialiser<'a>(
     initial: &Option<Initialiser<'a>>,
     sight: &Sight<'_, 'a>,

@@ -3,14 +3,12 @@
 ghost use Rattle.std.specs.Prelude.{◌≡◌, [], ◌∷◌, ◌++◌, map, OnOk, IfOk};
 ghost use Rattle.std.specs.List.{flat_map};
 ghost use Rattle.snl_syntax.specs.view.Definitions.{definition_view};
-ghost use Rattle.snl_resolve.specs.Chains.{scopes_of};
-ghost use Rattle.snl_resolve.specs.Scopes as spec;
-ghost use Rattle.snl_resolve.specs.Sites.{declares};
+ghost use Rattle.snl_names.specs.Chains.{scopes_of};
+ghost use Rattle.snl_names.specs.Scopes as spec;
+ghost use Rattle.snl_names.specs.Sites.{declares};
 
-use crate::rows::pushed;
-use crate::scopes::{Declared, Scope, Scopes, scope_with};
 use crate::scoping::{push_declared, push_names};
-use crate::sites::Site;
+use snl_names::{Declared, Scope, Scopes, Site, pushed, scope_with};
 use snl_syntax::Def;
 use snl_text::Token;
 use std::alloc::{AllocError, Global};

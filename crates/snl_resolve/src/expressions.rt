@@ -4,16 +4,14 @@ ghost use Rattle.std.specs.Prelude.{◌≡◌, ◌++◌, map, OnOk};
 ghost use Rattle.snl_syntax.specs.view.Expressions.{view, pair_of, list_before};
 ghost use Rattle.snl_syntax.specs.view.Lists.{term_list};
 ghost use Rattle.snl_syntax.specs.Expressions.{no_arguments};
-ghost use Rattle.snl_resolve.specs.Calls as calls;
-ghost use Rattle.snl_resolve.specs.Calls.{unless};
-ghost use Rattle.snl_resolve.specs.Chains.{sight_of};
-ghost use Rattle.snl_resolve.specs.Sites as spec;
+ghost use Rattle.snl_names.specs.Calls as calls;
+ghost use Rattle.snl_names.specs.Calls.{unless};
+ghost use Rattle.snl_resolve.specs.Seen.{sight_of};
+ghost use Rattle.snl_names.specs.Sites as spec;
 
-use crate::builtins::builtin_of;
-use crate::calls::{is_word, word_at};
 use crate::sights::Sight;
-use crate::sites::{Purpose, Site};
 use crate::tokens::{note_call, note_change, note_constant, note_format, note_prefix, note_use};
+use snl_names::{Purpose, Site, builtin_of, is_word, word_at};
 use snl_syntax::{Argument, Expr, Term};
 use std::alloc::AllocError;
 

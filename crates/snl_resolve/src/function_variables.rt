@@ -4,18 +4,15 @@ ghost use Rattle.std.specs.Prelude.{◌≡◌, ◌++◌, map, OnOk, IfOk};
 ghost use Rattle.std.specs.List.{flat_map};
 ghost use Rattle.snl_syntax.specs.view.Definitions.{definition_view};
 ghost use Rattle.snl_syntax.specs.view.Functions.{function_view, parameter_view};
-ghost use Rattle.snl_resolve.specs.Chains.{scopes_of};
-ghost use Rattle.snl_resolve.specs.Sights.{parameters_of};
-ghost use Rattle.snl_resolve.specs.Variables as spec;
-ghost use Rattle.snl_resolve.specs.CopyVariables.{variable_view};
+ghost use Rattle.snl_names.specs.Chains.{scopes_of};
+ghost use Rattle.snl_names.specs.Sights.{parameters_of};
+ghost use Rattle.snl_names.specs.Variables as spec;
+ghost use Rattle.snl_names.specs.CopyVariables.{variable_view};
 
 use crate::block_variables::push_block;
 use crate::functions::parameter_names;
 use crate::initialisers::range_of;
-use crate::rows::pushed;
-use crate::scopes::{Scope, Scopes};
-use crate::sites::Size;
-use crate::variables::CopyVariable;
+use snl_names::{CopyVariable, Scope, Scopes, Size, pushed};
 use snl_syntax::{Def, Function, Parameter};
 use std::alloc::{AllocError, Global};
 

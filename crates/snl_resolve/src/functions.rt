@@ -7,21 +7,19 @@ ghost use Rattle.snl_syntax.specs.view.Declarations.{type_view};
 ghost use Rattle.snl_syntax.specs.view.Definitions.{definition_view};
 ghost use Rattle.snl_syntax.specs.view.Functions.{function_view, parameter_view};
 ghost use Rattle.snl_syntax.specs.view.Statements.{block_view};
-ghost use Rattle.snl_resolve.specs.Chains.{scopes_of, sight_of};
-ghost use Rattle.snl_resolve.specs.Programs as spec;
-ghost use Rattle.snl_resolve.specs.Sights.{headings_by, heading_of, parameters_of, with_functions};
-ghost use Rattle.snl_resolve.specs.Sites.{declares, at_type, in_block, maybe};
+ghost use Rattle.snl_names.specs.Chains.{scopes_of};
+ghost use Rattle.snl_resolve.specs.Seen.{sight_of};
+ghost use Rattle.snl_names.specs.Programs as spec;
+ghost use Rattle.snl_names.specs.Sights.{headings_by, heading_of, parameters_of, with_functions};
+ghost use Rattle.snl_names.specs.Sites.{declares, at_type, in_block, maybe};
 
-use crate::builtins::builtin_of;
-use crate::calls::Heading;
 use crate::declarations::note_type;
 use crate::definitions::note_definition;
-use crate::numbered::Numbered;
-use crate::rows::pushed;
-use crate::scopes::{Declared, Scope, Scopes, scope_with};
 use crate::sights::{Functions, Sight};
-use crate::sites::{Room, Site, Size};
 use crate::statements::{Around, note_block};
+use snl_names::{
+    Declared, Heading, Numbered, Room, Scope, Scopes, Site, Size, builtin_of, pushed, scope_with,
+};
 use snl_syntax::{Block, Def, Function, Parameter, TypeName};
 use snl_text::Token;
 use std::alloc::{AllocError, Global};

@@ -4,15 +4,13 @@ ghost use Rattle.std.specs.Prelude.{◌≡◌, map, is_some};
 ghost use Rattle.snl_syntax.specs.view.Expressions.{boxed, view};
 ghost use Rattle.snl_syntax.specs.view.Declarations.{type_view, initialiser_view};
 ghost use Rattle.snl_syntax.specs.view.Shown.{shown};
-ghost use Rattle.snl_resolve.specs.Chains.{scopes_of};
+ghost use Rattle.snl_names.specs.Chains.{scopes_of};
 ghost use Rattle.std.specs.List.{list_all};
-ghost use Rattle.snl_resolve.specs.Constants.{constant_of};
-ghost use Rattle.snl_resolve.specs.Scopes.{is_hidden};
-ghost use Rattle.snl_resolve.specs.Types as spec;
+ghost use Rattle.snl_names.specs.Constants.{constant_of};
+ghost use Rattle.snl_names.specs.Scopes.{is_hidden};
+ghost use Rattle.snl_names.specs.Types as spec;
 
-use crate::constants::{Constant, constant_of};
-use crate::scopes::Scopes;
-use crate::sites::Size;
+use snl_names::{Constant, Scopes, Size, constant_of};
 use snl_syntax::{Expr, Initialiser, TypeName};
 use snl_text::Kind;
 
@@ -112,7 +110,7 @@ fn is_good_value<'a>(
 }
 
 /// Whether an initialiser is good for a variable of this type and size, in a block or not.
-#[tactic(auto, using(crate::proofs::ListLaws::listed_of))]
+#[tactic(auto, using(snl_names::proofs::ListLaws::listed_of))]
 pub fn is_good_initialiser<'a>(
     initial: &Option<Initialiser<'a>>,
     scopes: &Scopes<'_, 'a>,

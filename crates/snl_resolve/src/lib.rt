@@ -2,49 +2,32 @@
 #![tactic(auto)]
 
 mod block_variables;
-mod builtins;
-mod calls;
-pub mod constants;
 mod declarations;
 mod definition_scopes;
 mod definitions;
 mod expressions;
-pub mod formats;
 mod function_variables;
 mod functions;
 mod initialisers;
 pub mod laws;
-mod numbered;
-mod options;
 mod parts;
 mod programs;
-mod purposes;
-mod rows;
-mod scopes;
 mod scoping;
 mod set_variables;
 mod sights;
-mod sites;
-mod sizes;
 mod statements;
 mod states;
 mod tokens;
-mod use_table;
-mod uses;
 mod variables;
 
-pub use builtins::{Builtin, Query, builtin_of};
-pub use calls::has_async;
-pub use constants::{Constant, constant_of, predefined};
 pub use definition_scopes::scope_of;
 pub use function_variables::push_functions;
 pub use initialisers::range_of;
-pub use numbered::Numbered;
-pub use options::{Options, is_program_letter, sign_in_force};
 pub use programs::sites_of;
-pub use scopes::{Declared, Scope, Scopes};
 pub use set_variables::{push_parts, variables_of};
-pub use sites::{Extent, Meaning, Part, Purpose, Site, Size, Sort};
-pub use snl_arithmetic::{ArithmeticFault, computed, computed_prefix};
-pub use use_table::UseTable;
-pub use variables::{CopyVariable, push_definitions};
+pub use snl_names::{
+    ArithmeticFault, Builtin, Constant, CopyVariable, Declared, Extent, Meaning, Numbered, Options,
+    Part, Purpose, Query, Scope, Scopes, Site, Size, Sort, UseTable, builtin_of, computed,
+    computed_prefix, constant_of, has_async, is_program_letter, predefined, sign_in_force,
+};
+pub use variables::push_definitions;

@@ -4,13 +4,11 @@ ghost use Rattle.std.specs.Prelude.{◌≡◌};
 ghost use Rattle.snl_syntax.specs.view.Shown.{shown};
 ghost use Rattle.snl_syntax.specs.view.Expressions.{boxed, view};
 ghost use Rattle.snl_syntax.specs.view.Definitions.{channels_view};
-ghost use Rattle.snl_resolve.specs.Chains.{scopes_of};
-ghost use Rattle.snl_resolve.specs.Scopes.{is_hidden};
-ghost use Rattle.snl_resolve.specs.Parts as spec;
+ghost use Rattle.snl_names.specs.Chains.{scopes_of};
+ghost use Rattle.snl_names.specs.Scopes.{is_hidden};
+ghost use Rattle.snl_names.specs.Parts as spec;
 
-use crate::constants::{Constant, constant_of};
-use crate::scopes::Scopes;
-use crate::sites::{Extent, Meaning, Part, Size};
+use snl_names::{Constant, Extent, Meaning, Part, Scopes, Size, constant_of};
 use snl_syntax::{ChannelNames, Channels, Expr};
 use snl_text::Pos;
 

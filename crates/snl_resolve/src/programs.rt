@@ -4,19 +4,16 @@ ghost use Rattle.std.specs.Prelude.{◌≡◌, [], ◌++◌, map, OnOk, IfOk};
 ghost use Rattle.snl_syntax.specs.view.Shown.{shown, held};
 ghost use Rattle.snl_syntax.specs.view.Statements.{block_view};
 ghost use Rattle.snl_syntax.specs.view.Programs.{state_view, state_set_view, program_view};
-ghost use Rattle.snl_resolve.specs.Chains.{sight_of};
-ghost use Rattle.snl_resolve.specs.Programs as spec;
-ghost use Rattle.snl_resolve.specs.Sites.{maybe};
+ghost use Rattle.snl_resolve.specs.Seen.{sight_of};
+ghost use Rattle.snl_names.specs.Programs as spec;
+ghost use Rattle.snl_names.specs.Sites.{maybe};
 
 use crate::definition_scopes::definition_scope;
 use crate::definitions::note_definitions;
 use crate::functions::note_program_parts;
-use crate::numbered::Numbered;
-use crate::rows::pushed;
-use crate::scopes::Scopes;
 use crate::sights::Sight;
-use crate::sites::Site;
 use crate::states::{note_plain_block, note_state};
+use snl_names::{Numbered, Scopes, Site, pushed};
 use snl_syntax::{Block, Program, State, StateSet};
 use std::alloc::{AllocError, Global};
 

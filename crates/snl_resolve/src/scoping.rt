@@ -4,14 +4,11 @@ ghost use Rattle.std.specs.Prelude.{◌≡◌, [], ◌∷◌, ◌++◌, map, OnO
 ghost use Rattle.std.specs.List.{flat_map};
 ghost use Rattle.snl_syntax.specs.view.Declarations.{declaration_view, declarator_view};
 ghost use Rattle.snl_syntax.specs.Definitions.{declaration};
-ghost use Rattle.snl_resolve.specs.Chains.{scopes_of};
-ghost use Rattle.snl_resolve.specs.Scopes as spec;
-ghost use Rattle.snl_resolve.specs.Sites.{declares};
+ghost use Rattle.snl_names.specs.Chains.{scopes_of};
+ghost use Rattle.snl_names.specs.Scopes as spec;
+ghost use Rattle.snl_names.specs.Sites.{declares};
 
-use crate::rows::pushed;
-use crate::scopes::{Declared, Scope, Scopes, scope_with};
-use crate::sites::Site;
-use crate::sizes::size_of;
+use snl_names::{Declared, Scope, Scopes, Site, pushed, scope_with, size_of};
 use snl_syntax::{Declaration, Declarator};
 use std::alloc::{AllocError, Global};
 

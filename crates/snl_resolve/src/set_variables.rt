@@ -5,13 +5,13 @@ ghost use Rattle.std.specs.List.{flat_map};
 ghost use Rattle.snl_syntax.specs.view.Shown.{shown, held};
 ghost use Rattle.snl_syntax.specs.view.Statements.{block_view};
 ghost use Rattle.snl_syntax.specs.view.Programs.{clause_view, state_view, state_set_view, program_view};
-ghost use Rattle.snl_resolve.specs.Chains.{scopes_of};
-ghost use Rattle.snl_resolve.specs.Variables as spec;
-ghost use Rattle.snl_resolve.specs.CopyVariables.{variable_view};
+ghost use Rattle.snl_names.specs.Chains.{scopes_of};
+ghost use Rattle.snl_names.specs.Variables as spec;
+ghost use Rattle.snl_names.specs.CopyVariables.{variable_view};
 
 use crate::block_variables::{push_block, push_if_there};
-use crate::scopes::Scopes;
-use crate::variables::{CopyVariable, push_definitions};
+use crate::variables::push_definitions;
+use snl_names::{CopyVariable, Scopes};
 use snl_syntax::{Block, Clause, Program, State, StateSet};
 use std::alloc::{AllocError, Global};
 

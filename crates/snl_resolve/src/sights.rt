@@ -1,18 +1,15 @@
 //! What is in sight at a place: the scopes round it, and the functions that may be called there.
 
 ghost use Rattle.std.specs.Prelude.{◌≡◌, ℕ, List, [], ◌∷◌, ◌++◌, OnOk, IfOk};
-ghost use Rattle.snl_resolve.specs.declared.calls.Heading.{Heading};
-ghost use Rattle.snl_resolve.specs.Calls.{heading_in};
-ghost use Rattle.snl_resolve.specs.Chains.{sight_of};
+ghost use Rattle.snl_names.specs.declared.calls.Heading.{Heading};
+ghost use Rattle.snl_names.specs.Calls.{heading_in};
+ghost use Rattle.snl_resolve.specs.Seen.{sight_of};
 ghost use Rattle.snl_resolve.specs.FunctionTables.{function_in, only_function};
-ghost use Rattle.snl_resolve.specs.Scopes.{or_in};
-ghost use Rattle.snl_resolve.specs.Sights as spec;
+ghost use Rattle.snl_names.specs.Scopes.{or_in};
+ghost use Rattle.snl_names.specs.Sights as spec;
 
-use crate::builtins::builtin_of;
-use crate::calls::{CallKind, Heading};
-use crate::rows::pushed;
-use crate::scopes::{Scope, Scopes};
 use indexmap::IndexMap;
+use snl_names::{CallKind, Heading, Scope, Scopes, builtin_of, pushed};
 use snl_text::Token;
 use std::alloc::{AllocError, Global};
 use std::marker::Model;
@@ -28,7 +25,7 @@ pub struct Functions<'a> {
 
 impl<'a> Model for Functions<'a> {
     ghost use Rattle.std.specs.Prelude.{List};
-    ghost use Rattle.snl_resolve.specs.declared.calls.Heading.{Heading};
+    ghost use Rattle.snl_names.specs.declared.calls.Heading.{Heading};
 
     ghost Value = { List Heading };
 

@@ -7,17 +7,15 @@ ghost use Rattle.snl_syntax.specs.view.Declarations.{declaration_view};
 ghost use Rattle.snl_syntax.specs.view.Lists.{statement_list};
 ghost use Rattle.snl_syntax.specs.view.Statements.{statement_view, header_view, block_view};
 ghost use Rattle.snl_syntax.specs.view.Shown.{shown};
-ghost use Rattle.snl_resolve.specs.Chains.{sight_of};
-ghost use Rattle.snl_resolve.specs.Numbered.{number_of};
-ghost use Rattle.snl_resolve.specs.Sites as spec;
+ghost use Rattle.snl_resolve.specs.Seen.{sight_of};
+ghost use Rattle.snl_names.specs.Numbered.{number_of};
+ghost use Rattle.snl_names.specs.Sites as spec;
 
 use crate::declarations::{note_declaration, note_if_there, note_value};
 use crate::expressions::note_expression;
-use crate::numbered::Numbered;
-use crate::rows::pushed;
 use crate::scoping::block_scope;
 use crate::sights::Sight;
-use crate::sites::{Purpose, Room, Site};
+use snl_names::{Numbered, Purpose, Room, Site, pushed};
 use snl_syntax::{Block, Declaration, Expr, Header, Stmt};
 use snl_text::Token;
 use std::alloc::{AllocError, Global};
@@ -29,15 +27,6 @@ pub struct Around<'n, 'a> {
     pub room: Room,
     /// The names of the states of their state set.
     pub states: &'n Numbered<'a>,
-}
-
-impl Room {
-    /// Whether a state may be changed: in a clause's block alone.
-    fn is_clause(self) -> bool
-        ensures { result ≡ spec.is_clause self }
-    {
-        matches!(self, Room::Clause)
-    }
 }
 
 /// Notes the sites between the parentheses of a `for`.

@@ -5,19 +5,16 @@ ghost use Rattle.snl_syntax.specs.view.Shown.{shown, held};
 ghost use Rattle.snl_syntax.specs.view.Expressions.{boxed};
 ghost use Rattle.snl_syntax.specs.view.Statements.{block_view};
 ghost use Rattle.snl_syntax.specs.view.Programs.{target_view, clause_view, state_view};
-ghost use Rattle.snl_resolve.specs.declared.sites.Purpose.{Purpose};
-ghost use Rattle.snl_resolve.specs.Chains.{sight_of};
-ghost use Rattle.snl_resolve.specs.Sites.{in_expression, maybe};
-ghost use Rattle.snl_resolve.specs.Programs as spec;
+ghost use Rattle.snl_names.specs.declared.sites.Purpose.{Purpose};
+ghost use Rattle.snl_resolve.specs.Seen.{sight_of};
+ghost use Rattle.snl_names.specs.Sites.{in_expression, maybe};
+ghost use Rattle.snl_names.specs.Programs as spec;
 
-use crate::constants::{Constant, constant_of};
 use crate::definitions::note_definitions;
 use crate::expressions::note_expression;
-use crate::numbered::Numbered;
-use crate::rows::pushed;
 use crate::sights::Sight;
-use crate::sites::{Purpose, Room, Site};
 use crate::statements::{Around, note_block, note_target};
+use snl_names::{Constant, Numbered, Purpose, Room, Site, constant_of, pushed};
 use snl_syntax::{Block, Clause, Expr, State, Target};
 use std::alloc::{AllocError, Global};
 

@@ -3,18 +3,18 @@
 ghost use Rattle.std.specs.Prelude.{◌≡◌, [], ◌∷◌, ◌++◌, OnOk, IfOk};
 ghost use Rattle.snl_syntax.specs.view.Expressions.{view, list_before};
 ghost use Rattle.snl_syntax.specs.Expressions.{no_arguments};
-ghost use Rattle.snl_resolve.specs.Calls as calls;
-ghost use Rattle.snl_resolve.specs.Chains.{scopes_of, sight_of};
-ghost use Rattle.snl_resolve.specs.Scopes.{meaning};
-ghost use Rattle.snl_resolve.specs.Sights.{called};
-ghost use Rattle.snl_resolve.specs.Purposes as spec;
+ghost use Rattle.snl_names.specs.Calls as calls;
+ghost use Rattle.snl_names.specs.Chains.{scopes_of};
+ghost use Rattle.snl_resolve.specs.Seen.{sight_of};
+ghost use Rattle.snl_names.specs.Scopes.{meaning};
+ghost use Rattle.snl_names.specs.Sights.{called};
+ghost use Rattle.snl_names.specs.Purposes as spec;
 
-use crate::calls::is_fitting;
-use crate::purposes::{call_site, change_site, format_site, is_good_decimal, is_step};
-use crate::rows::pushed;
-use crate::scopes::Scopes;
 use crate::sights::Sight;
-use crate::sites::{Purpose, Site};
+use snl_names::{
+    Purpose, Scopes, Site, call_site, change_site, format_site, is_fitting, is_good_decimal,
+    is_step, pushed,
+};
 use snl_syntax::{Argument, Expr};
 use snl_text::{Kind, Token};
 use std::alloc::AllocError;

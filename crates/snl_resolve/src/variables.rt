@@ -5,35 +5,17 @@ ghost use Rattle.std.specs.List.{flat_map};
 ghost use Rattle.snl_syntax.specs.view.Declarations.{declaration_view, declarator_view, initialiser_view, type_view};
 ghost use Rattle.snl_syntax.specs.view.Shown.{shown};
 ghost use Rattle.snl_syntax.specs.view.Definitions.{definition_view};
-ghost use Rattle.snl_resolve.specs.Chains.{scopes_of};
-ghost use Rattle.snl_resolve.specs.Scopes.{scope_of};
-ghost use Rattle.snl_resolve.specs.Variables as spec;
-ghost use Rattle.snl_resolve.specs.CopyVariables as held;
-ghost use Rattle.snl_resolve.specs.CopyVariables.{variable_view};
+ghost use Rattle.snl_names.specs.Chains.{scopes_of};
+ghost use Rattle.snl_names.specs.Scopes.{scope_of};
+ghost use Rattle.snl_names.specs.Variables as spec;
+ghost use Rattle.snl_names.specs.CopyVariables as held;
+ghost use Rattle.snl_names.specs.CopyVariables.{variable_view};
 
 use crate::definition_scopes::definition_names;
 use crate::initialisers::range_of;
-use crate::rows::pushed;
-use crate::scopes::{Scope, Scopes};
-use crate::sites::Size;
-use crate::sizes::size_of;
+use snl_names::{CopyVariable, Scope, Scopes, pushed, size_of};
 use snl_syntax::{Declaration, Declarator, Def, Initialiser, TypeName};
-use snl_text::Token;
 use std::alloc::{AllocError, Global};
-
-/// A variable of a state set's copy, or of a function.
-#[derive(Clone, Copy)]
-pub struct CopyVariable<'p, 'a> {
-    /// Its name, with the place of its declaration.
-    pub name: Token<'a>,
-    /// The least and the greatest number of its type; those of `long` where the type is not
-    /// supported.
-    pub range: (i64, i64),
-    /// What its declaration says of its size.
-    pub size: Size,
-    /// What it begins with, if anything is written.
-    pub initial: Option<&'p Initialiser<'a>>,
-}
 
 /// What a variable begins with, if anything is written.
 fn begun<'p, 'a>(initial: &'p Option<Initialiser<'a>>) -> Option<&'p Initialiser<'a>>

@@ -5,8 +5,8 @@ use Rattle.std.proofs.lemmas.Bool.{false≢true, leb-true, leb-false}
 use Rattle.std.proofs.lemmas.Bool.Decides.{nat_tests}
 use Rattle.std.proofs.lemmas.List.{take_more}
 use Rattle.std.proofs.lemmas.List.Sums.{sum_by_more}
-use Rattle.snl_resolve.specs.declared.sites.Part.{Part}
-use Rattle.snl_resolve.specs.declared.sites.Site.{Site}
+use Rattle.snl_names.specs.declared.sites.Part.{Part}
+use Rattle.snl_names.specs.declared.sites.Site.{Site}
 use Rattle.snl_rules.specs.Elements.{part_at, is_assign, is_sync}
 use Rattle.snl_rules.specs.Rules.{sets_at, states_at, functions_at, channels_at}
 use Rattle.snl_rules.specs.Tests.{first_or, first_whole, whole_by, room, room_after, SeenFacts, seen_facts, seen_after}

@@ -4,11 +4,11 @@ use Rattle.std.specs.List.{list_any}
 use Rattle.std.proofs.Math.Bool.{or-false}
 use Rattle.std.proofs.lemmas.Bool.Decides.{nat_tests}
 use Rattle.std.proofs.lemmas.List.Folds.{list_any_more}
-use Rattle.snl_resolve.specs.declared.sites.Extent.{Extent}
-use Rattle.snl_resolve.specs.declared.sites.Extent.TheVariants.{Whole, Front, Element}
-use Rattle.snl_resolve.specs.declared.sites.Part.{Part}
-use Rattle.snl_resolve.specs.declared.sites.Sort.{Sort}
-use Rattle.snl_resolve.specs.declared.sites.Site.{Site}
+use Rattle.snl_names.specs.declared.sites.Extent.{Extent}
+use Rattle.snl_names.specs.declared.sites.Extent.TheVariants.{Whole, Front, Element}
+use Rattle.snl_names.specs.declared.sites.Part.{Part}
+use Rattle.snl_names.specs.declared.sites.Sort.{Sort}
+use Rattle.snl_names.specs.declared.sites.Site.{Site}
 use Rattle.snl_rules.specs.Elements.{part_at}
 use Rattle.snl_rules.specs.Tests.{Named, is_in, names_element, names_variable, named_of, some_below, with_part}
 

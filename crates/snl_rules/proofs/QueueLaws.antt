@@ -2,8 +2,8 @@
 use Rattle.std.proofs.Common.{◌≡◌, ℕ, ◌+◌, ◌<◌, ◌≤◌, ◌==◌, Bool, true, false, cond, List, length, get_or, drop, Option, None, Some, is_some, nat_eq, if◌then◌else◌, refl, sym, ap, ◌∙◌, drop_of_length-le}
 use Rattle.std.proofs.lemmas.Bool.{eqb-true}
 use Rattle.std.proofs.lemmas.List.{get_or_default}
-use Rattle.snl_resolve.specs.declared.sites.Site.{Site}
-use Rattle.snl_resolve.specs.Scopes.{or_in}
+use Rattle.snl_names.specs.declared.sites.Site.{Site}
+use Rattle.snl_names.specs.Scopes.{or_in}
 use Rattle.snl_rules.specs.Words.{queue_at, queue_by, first_queue}
 use Rattle.snl_rules.proofs.CountLaws.{row_from}
 

@@ -8,20 +8,20 @@ use Rattle.std.proofs.lemmas.List.Folds.{Any-from_list_any, list_any-from_Any}
 use Rattle.std.proofs.lemmas.List.Elements.{All-nil, All-cons, All-head, All-tail}
 use Rattle.snl_text.specs.declared.tokens.Pos.{Pos}
 use Rattle.snl_text.specs.declared.tokens.Token.{Token}
-use Rattle.snl_resolve.specs.declared.sites.Extent.{Extent}
-use Rattle.snl_resolve.specs.declared.sites.Extent.TheVariants.{Whole, Front, Element}
-use Rattle.snl_resolve.specs.declared.sites.Meaning.{Meaning}
-use Rattle.snl_resolve.specs.declared.sites.Meaning.TheVariants.{Variable, Flag, Number}
-use Rattle.snl_resolve.specs.declared.sites.Part.{Part}
-use Rattle.snl_resolve.specs.declared.sites.Purpose.{Purpose}
-use Rattle.snl_resolve.specs.declared.sites.Purpose.TheVariants.{Read, Channel, Queued, Flagged, Delayed, Dropped, Ignored}
-use Rattle.snl_resolve.specs.declared.sites.Size.{Size}
-use Rattle.snl_resolve.specs.declared.sites.Size.TheVariants.{Scalar}
-use Rattle.snl_resolve.specs.declared.sites.Sort.{Sort}
-use Rattle.snl_resolve.specs.declared.sites.Sort.TheVariants.{Assign, Queue}
-use Rattle.snl_resolve.specs.declared.sites.Site.{Site}
-use Rattle.snl_resolve.specs.declared.sites.Site.TheVariants.{Defined, Use, Call}
-use Rattle.snl_resolve.specs.Scopes.{is_array}
+use Rattle.snl_names.specs.declared.sites.Extent.{Extent}
+use Rattle.snl_names.specs.declared.sites.Extent.TheVariants.{Whole, Front, Element}
+use Rattle.snl_names.specs.declared.sites.Meaning.{Meaning}
+use Rattle.snl_names.specs.declared.sites.Meaning.TheVariants.{Variable, Flag, Number}
+use Rattle.snl_names.specs.declared.sites.Part.{Part}
+use Rattle.snl_names.specs.declared.sites.Purpose.{Purpose}
+use Rattle.snl_names.specs.declared.sites.Purpose.TheVariants.{Read, Channel, Queued, Flagged, Delayed, Dropped, Ignored}
+use Rattle.snl_names.specs.declared.sites.Size.{Size}
+use Rattle.snl_names.specs.declared.sites.Size.TheVariants.{Scalar}
+use Rattle.snl_names.specs.declared.sites.Sort.{Sort}
+use Rattle.snl_names.specs.declared.sites.Sort.TheVariants.{Assign, Queue}
+use Rattle.snl_names.specs.declared.sites.Site.{Site}
+use Rattle.snl_names.specs.declared.sites.Site.TheVariants.{Defined, Use, Call}
+use Rattle.snl_names.specs.Scopes.{is_array}
 use Rattle.snl_rules.specs.Elements.{is_assign, is_monitor, is_queue, part_at, IsIn, HasElement, IsOf, HasExtent, NamesElement, NamesVariable, SomeElement, FirstAssign, is_whole, AssignedWhole, AssignedByElements}
 use Rattle.snl_rules.specs.Rules.{WrongDefinition, NamedTwice, UnassignedExtent, Unassigned, NotMonitored, WrongChannel, WrongUse, UnassignedUse, WithoutQueue, IsMeant, IsPlace, UsesDeclared, Unused}
 use Rattle.snl_rules.specs.Tests.{is_in, has_element, is_of, names_element, names_variable, some_below, named_of, overlaps, names_again, lacks, lacks_some, whole_by, first_or, first_whole, is_yes, is_no, is_meant, is_place, uses_declared, room, is_over, all_facts, is_wrong_definition, is_unassigned_extent, is_unassigned, is_wrong_channel, is_wrong_use, is_unassigned_use, is_without_queue}

@@ -7,9 +7,9 @@ use Rattle.snl_syntax.specs.declared.programs.Program.{Program}
 use Rattle.snl_syntax.specs.Programs.{ProgramTree}
 use Rattle.snl_syntax.specs.view.Definitions.{definition_view}
 use Rattle.snl_syntax.specs.view.Programs.{program_view}
-use Rattle.snl_resolve.specs.Programs.{program_scopes}
-use Rattle.snl_resolve.specs.Scopes.{Scope, scope_of}
-use Rattle.snl_resolve.specs.Variables.{CopyVariable, by_definitions, by_parts, by_function, function_by, shared_variables}
+use Rattle.snl_names.specs.Programs.{program_scopes}
+use Rattle.snl_names.specs.Scopes.{Scope, scope_of}
+use Rattle.snl_names.specs.Variables.{CopyVariable, by_definitions, by_parts, by_function, function_by, shared_variables}
 use Rattle.snl_rules.specs.declared.words.Shared.{Shared}
 use Rattle.snl_rules.specs.Words.{variable_words, set_words}
 use Rattle.snl_rules.specs.Counts.{IsSharedIn, capped, own_words_in}

@@ -2,10 +2,10 @@
 use Rattle.std.proofs.Common.{◌≡◌, ℕ, ◌+◌, ◌<◌, suc, zero, List, [], ◌∷◌, length, get_or, take, map, Option, refl, sym, ap, ◌∙◌, arith}
 use Rattle.snl_syntax.specs.declared.programs.State.{State}
 use Rattle.snl_syntax.specs.view.Programs.{state_view}
-use Rattle.snl_resolve.specs.Numbered.{number_of}
-use Rattle.snl_resolve.specs.NumberTables.{only_number}
-use Rattle.snl_resolve.specs.Scopes.{or_in}
-use Rattle.snl_resolve.proofs.NumberLaws.{number_step}
+use Rattle.snl_names.specs.Numbered.{number_of}
+use Rattle.snl_names.specs.NumberTables.{only_number}
+use Rattle.snl_names.specs.Scopes.{or_in}
+use Rattle.snl_names.proofs.NumberLaws.{number_step}
 use Rattle.snl_rules.specs.Reach.{state_names}
 
 -- the name of the state at a number

@@ -5,9 +5,9 @@ use Rattle.std.specs.List.{sum_by}
 use Rattle.std.specs.Option.{unwrap_or}
 use Rattle.snl_text.specs.declared.tokens.Token.{Token}
 use Rattle.snl_syntax.specs.Programs.{StateSetTree, ProgramTree}
-use Rattle.snl_resolve.specs.declared.sites.Site.{Site}
-use Rattle.snl_resolve.specs.Scopes.{Scope, scope_of}
-use Rattle.snl_resolve.specs.Variables.{by_definitions, by_parts}
+use Rattle.snl_names.specs.declared.sites.Site.{Site}
+use Rattle.snl_names.specs.Scopes.{Scope, scope_of}
+use Rattle.snl_names.specs.Variables.{by_definitions, by_parts}
 use Rattle.snl_rules.specs.declared.words.Shared.{Shared}
 use Rattle.snl_rules.specs.Words.{variable_words, set_words, first_queue}
 

@@ -2,7 +2,7 @@
 use Rattle.std.specs.Prelude.{◌≡◌, ℕ, Bool, false, ◌&&◌, ◌||◌, nat_eq, nat_lt, is_some, Option, Some, None}
 use Rattle.std.specs.HashMap.{HashMap, get}
 use Rattle.std.specs.HashSet.{contains}
-use Rattle.snl_resolve.specs.declared.sites.Sort.{Sort}
+use Rattle.snl_names.specs.declared.sites.Sort.{Sort}
 use Rattle.snl_rules.specs.declared.elements.Elements.{Elements}
 use Rattle.snl_rules.specs.declared.elements.Naming.{Naming}
 use Rattle.snl_rules.specs.declared.elements.Naming.TheVariants.{Assigning, Monitoring, Syncing, Queueing}

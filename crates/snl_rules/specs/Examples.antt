@@ -3,17 +3,17 @@ use Rattle.std.specs.Prelude.{◌≡◌, ℕ, zero, suc, Bool, true, false, List
 use Rattle.snl_text.specs.declared.tokens.Pos.{Pos}
 use Rattle.snl_text.specs.declared.tokens.Token.{Token}
 use Rattle.snl_text.specs.declared.kinds.Kind.TheVariants as kind
-use Rattle.snl_resolve.specs.declared.sites.Extent.{Extent}
-use Rattle.snl_resolve.specs.declared.sites.Extent.TheVariants.{Whole, Front, Element}
-use Rattle.snl_resolve.specs.declared.sites.Meaning.{Meaning}
-use Rattle.snl_resolve.specs.declared.sites.Meaning.TheVariants.{Variable, Flag, Number, Nothing}
-use Rattle.snl_resolve.specs.declared.sites.Purpose.{Purpose}
-use Rattle.snl_resolve.specs.declared.sites.Purpose.TheVariants.{Read, Changed, Channel, Queued, Flagged, Ignored}
-use Rattle.snl_resolve.specs.declared.sites.Size.TheVariants.{Array}
-use Rattle.snl_resolve.specs.declared.sites.Sort.{Sort}
-use Rattle.snl_resolve.specs.declared.sites.Sort.TheVariants.{Assign, Monitor, Sync, Queue}
-use Rattle.snl_resolve.specs.declared.sites.Site.{Site}
-use Rattle.snl_resolve.specs.declared.sites.Site.TheVariants.{Declaration, Defined, Use, State, StateSet}
+use Rattle.snl_names.specs.declared.sites.Extent.{Extent}
+use Rattle.snl_names.specs.declared.sites.Extent.TheVariants.{Whole, Front, Element}
+use Rattle.snl_names.specs.declared.sites.Meaning.{Meaning}
+use Rattle.snl_names.specs.declared.sites.Meaning.TheVariants.{Variable, Flag, Number, Nothing}
+use Rattle.snl_names.specs.declared.sites.Purpose.{Purpose}
+use Rattle.snl_names.specs.declared.sites.Purpose.TheVariants.{Read, Changed, Channel, Queued, Flagged, Ignored}
+use Rattle.snl_names.specs.declared.sites.Size.TheVariants.{Array}
+use Rattle.snl_names.specs.declared.sites.Sort.{Sort}
+use Rattle.snl_names.specs.declared.sites.Sort.TheVariants.{Assign, Monitor, Sync, Queue}
+use Rattle.snl_names.specs.declared.sites.Site.{Site}
+use Rattle.snl_names.specs.declared.sites.Site.TheVariants.{Declaration, Defined, Use, State, StateSet}
 use Rattle.snl_rules.specs.declared.rules.Rule.{Rule}
 use Rattle.snl_rules.specs.declared.rules.Rule.TheVariants as r
 use Rattle.snl_rules.specs.Tests.{all_broken, all_facts, seen_facts, together}

@@ -3,10 +3,10 @@ use Rattle.std.specs.Prelude.{◌≡◌, true, false, [], ◌∷◌, Some, codes
 use Rattle.snl_syntax.specs.Statements.{empty, no_statements, block}
 use Rattle.snl_resolve.specs.FunctionExamples.{of_one, of_names, defining}
 use Rattle.snl_resolve.specs.Examples as tokens
-use Rattle.snl_resolve.specs.declared.sites.Meaning.TheVariants.{Number, Nothing}
-use Rattle.snl_resolve.specs.declared.sites.Purpose.TheVariants.{Dropped}
-use Rattle.snl_resolve.specs.declared.sites.Site.{Site}
-use Rattle.snl_resolve.specs.declared.sites.Site.TheVariants.{Call, Function, Return}
+use Rattle.snl_names.specs.declared.sites.Meaning.TheVariants.{Number, Nothing}
+use Rattle.snl_names.specs.declared.sites.Purpose.TheVariants.{Dropped}
+use Rattle.snl_names.specs.declared.sites.Site.{Site}
+use Rattle.snl_names.specs.declared.sites.Site.TheVariants.{Call, Function, Return}
 use Rattle.snl_rules.specs.declared.rules.Rule.TheVariants as r
 use Rattle.snl_rules.specs.Examples.{at, name, array, named_for, rules_in, copies, after}
 use Rattle.snl_rules.specs.Words.{function_words}

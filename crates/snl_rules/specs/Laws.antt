@@ -1,7 +1,7 @@
 -- A law of the rules.
 use Rattle.std.specs.Prelude.{List, ◌↔◌}
 use Rattle.std.specs.List.{Contains}
-use Rattle.snl_resolve.specs.declared.sites.Site.{Site}
+use Rattle.snl_names.specs.declared.sites.Site.{Site}
 use Rattle.snl_rules.specs.declared.rules.Broken.{Broken}
 use Rattle.snl_rules.specs.Rules.{IsBroken}
 use Rattle.snl_rules.specs.Tests.{all_broken}

@@ -4,7 +4,7 @@ use Rattle.std.specs.List.{Contains, flat_map}
 use Rattle.snl_text.specs.declared.tokens.Token.{Token}
 use Rattle.snl_syntax.specs.Statements.{StatementTree, StatementList, BlockTree, nested, change_state, if_then, if_else, while_loop, for_loop, no_statements, statement, block}
 use Rattle.snl_syntax.specs.Programs.{TargetTree, to_state, to_exit, ClauseTree, StateTree, StateSetTree, ProgramTree}
-use Rattle.snl_resolve.specs.Numbered.{number_of}
+use Rattle.snl_names.specs.Numbered.{number_of}
 
 -- ---- the names that stand as targets
 

@@ -6,15 +6,15 @@ use Rattle.snl_syntax.specs.Declarations.{DeclaratorTree, DeclarationTree}
 use Rattle.snl_syntax.specs.Definitions.{DefinitionTree}
 use Rattle.snl_syntax.specs.Statements.{StatementTree, BlockTree, nested, change_state, if_then, while_loop, no_statements, statement, block}
 use Rattle.snl_syntax.specs.Programs.{TargetTree, to_state, to_exit, ClauseTree, StateTree, StateSetTree, ProgramTree}
-use Rattle.snl_resolve.specs.declared.sites.Extent.{Extent}
-use Rattle.snl_resolve.specs.declared.sites.Extent.TheVariants.{Whole, Front, Element}
-use Rattle.snl_resolve.specs.declared.sites.Meaning.TheVariants.{Nothing}
-use Rattle.snl_resolve.specs.declared.sites.Sort.{Sort}
-use Rattle.snl_resolve.specs.declared.sites.Sort.TheVariants.{Assign, Queue}
-use Rattle.snl_resolve.specs.declared.sites.Site.{Site}
-use Rattle.snl_resolve.specs.declared.sites.Site.TheVariants.{Defined}
+use Rattle.snl_names.specs.declared.sites.Extent.{Extent}
+use Rattle.snl_names.specs.declared.sites.Extent.TheVariants.{Whole, Front, Element}
+use Rattle.snl_names.specs.declared.sites.Meaning.TheVariants.{Nothing}
+use Rattle.snl_names.specs.declared.sites.Sort.{Sort}
+use Rattle.snl_names.specs.declared.sites.Sort.TheVariants.{Assign, Queue}
+use Rattle.snl_names.specs.declared.sites.Site.{Site}
+use Rattle.snl_names.specs.declared.sites.Site.TheVariants.{Defined}
 use Rattle.snl_resolve.specs.Examples.{name, whole, sign, ints, sized}
-use Rattle.snl_resolve.specs.Numbered.{number_of}
+use Rattle.snl_names.specs.Numbered.{number_of}
 use Rattle.snl_rules.specs.Reach.{targets_in_state, state_names, IsReached, IsUnreachedIn}
 use Rattle.snl_rules.specs.Words.{set_words, sets_words, links_words}
 

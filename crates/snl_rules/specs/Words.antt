@@ -4,16 +4,16 @@ use Rattle.std.specs.List.{sum_by}
 use Rattle.std.specs.Option.{unwrap_or}
 use Rattle.snl_text.specs.declared.tokens.Token.{Token}
 use Rattle.snl_syntax.specs.Programs.{StateSetTree, ProgramTree}
-use Rattle.snl_resolve.specs.declared.sites.Extent.{Extent}
-use Rattle.snl_resolve.specs.declared.sites.Extent.TheVariants.{Whole, Front, Element}
-use Rattle.snl_resolve.specs.declared.sites.Part.{Part}
-use Rattle.snl_resolve.specs.declared.sites.Sort.{Sort}
-use Rattle.snl_resolve.specs.declared.sites.Sort.TheVariants.{Assign, Queue}
-use Rattle.snl_resolve.specs.declared.sites.Site.{Site}
-use Rattle.snl_resolve.specs.declared.sites.Site.TheVariants.{Defined}
-use Rattle.snl_resolve.specs.Programs.{sites}
-use Rattle.snl_resolve.specs.Scopes.{elements, or_in}
-use Rattle.snl_resolve.specs.Variables.{CopyVariable, variables_of, functions_of, shared_variables}
+use Rattle.snl_names.specs.declared.sites.Extent.{Extent}
+use Rattle.snl_names.specs.declared.sites.Extent.TheVariants.{Whole, Front, Element}
+use Rattle.snl_names.specs.declared.sites.Part.{Part}
+use Rattle.snl_names.specs.declared.sites.Sort.{Sort}
+use Rattle.snl_names.specs.declared.sites.Sort.TheVariants.{Assign, Queue}
+use Rattle.snl_names.specs.declared.sites.Site.{Site}
+use Rattle.snl_names.specs.declared.sites.Site.TheVariants.{Defined}
+use Rattle.snl_names.specs.Programs.{sites}
+use Rattle.snl_names.specs.Scopes.{elements, or_in}
+use Rattle.snl_names.specs.Variables.{CopyVariable, variables_of, functions_of, shared_variables}
 
 -- ---- the stores of state sets
 

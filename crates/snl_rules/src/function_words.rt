@@ -4,7 +4,7 @@ ghost use Rattle.std.specs.Prelude.{◌≡◌, length, map, IfOk};
 ghost use Rattle.std.specs.List.{flat_map, sum_by};
 ghost use Rattle.snl_syntax.specs.view.Definitions.{definition_view};
 ghost use Rattle.snl_syntax.specs.view.Programs.{program_view};
-ghost use Rattle.snl_resolve.specs.Variables.{function_by, shared_variables};
+ghost use Rattle.snl_names.specs.Variables.{function_by, shared_variables};
 ghost use Rattle.snl_rules.specs.Counts.{capped};
 ghost use Rattle.snl_rules.specs.Words.{function_words, variable_words};
 

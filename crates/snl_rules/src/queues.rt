@@ -2,7 +2,7 @@
 
 ghost use Rattle.std.specs.Prelude.{◌≡◌, ℕ, nat_eq, Some, OnOk, IfOk};
 ghost use Rattle.std.specs.HashMap.{get};
-ghost use Rattle.snl_resolve.specs.Scopes.{or_in};
+ghost use Rattle.snl_names.specs.Scopes.{or_in};
 ghost use Rattle.snl_rules.specs.Words as spec;
 ghost use Rattle.snl_rules.specs.Counts.{IsQueueTable};
 

@@ -2,8 +2,8 @@
 
 ghost use Rattle.std.specs.Prelude.{◌≡◌, ℕ, List, map, OnOk, IfOk};
 ghost use Rattle.snl_syntax.specs.view.Programs.{state_view};
-ghost use Rattle.snl_resolve.specs.NumberTables.{number_in, only_number, IsNumberTable};
-ghost use Rattle.snl_resolve.specs.Scopes.{or_in};
+ghost use Rattle.snl_names.specs.NumberTables.{number_in, only_number, IsNumberTable};
+ghost use Rattle.snl_names.specs.Scopes.{or_in};
 ghost use Rattle.snl_rules.specs.Reach.{state_names};
 
 use indexmap::IndexMap;

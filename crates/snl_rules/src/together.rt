@@ -1,7 +1,7 @@
 //! The rules that a site breaks beside the sites before it and all sites.
 
 ghost use Rattle.std.specs.Prelude.{◌≡◌, ◌++◌, not, OnOk, Some};
-ghost use Rattle.snl_resolve.specs.Scopes.{is_array};
+ghost use Rattle.snl_names.specs.Scopes.{is_array};
 ghost use Rattle.snl_rules.specs.Rules.{when};
 ghost use Rattle.snl_rules.specs.Tests as tests;
 ghost use Rattle.snl_rules.specs.ElementTables as spec;

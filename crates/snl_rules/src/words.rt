@@ -4,8 +4,8 @@ ghost use Rattle.std.specs.Prelude.{◌≡◌, ◌++◌, ◌+◌, ◌↔◌, [],
 ghost use Rattle.std.specs.List.{Contains, sum_by};
 ghost use Rattle.snl_text.specs.declared.tokens.Token.{Token};
 ghost use Rattle.snl_syntax.specs.view.Programs.{state_set_view, program_view};
-ghost use Rattle.snl_resolve.specs.CopyVariables.{variable_view};
-ghost use Rattle.snl_resolve.specs.Programs as program_sites;
+ghost use Rattle.snl_names.specs.CopyVariables.{variable_view};
+ghost use Rattle.snl_names.specs.Programs as program_sites;
 ghost use Rattle.snl_rules.specs.Words as spec;
 ghost use Rattle.snl_rules.specs.Counts.{IsSharedIn, capped, own_words_in, overfull_at, overfull_from};
 

@@ -5,7 +5,7 @@ use Rattle.snl_syntax.specs.Programs.{ProgramTree}
 use Rattle.snl_syntax.specs.view.Programs.{program_view}
 use Rattle.snl_check.specs.declared.checked.Checked.{Checked}
 use Rattle.snl_messages.specs.Silence.{options_in_force}
-use Rattle.snl_resolve.specs.declared.options.Options.{Options}
+use Rattle.snl_names.specs.declared.options.Options.{Options}
 use Rattle.snc.specs.Judging.{IsJudged}
 use Rattle.snl_views.specs.Answered.{IsAnswered, SaysIf}
 use Rattle.snl_views.proofs.Answering.{tree_of}

@@ -6,7 +6,7 @@ use Rattle.snl_syntax.specs.Programs.{ProgramTree}
 use Rattle.snl_syntax.specs.view.Programs.{program_view}
 use Rattle.snl_check.specs.declared.checked.Checked.{Checked}
 use Rattle.snl_messages.specs.Silence.{options_in_force}
-use Rattle.snl_resolve.specs.declared.options.Options.{Options}
+use Rattle.snl_names.specs.declared.options.Options.{Options}
 use Rattle.snc.specs.Judging.{IsJudged}
 use Rattle.snl_views.specs.Answers.{AwaitsOn, AwaitsOver, GoesOn, IsWaits}
 use Rattle.snl_views.specs.declared.waiting.WaitsOutcome.{WaitsOutcome}

@@ -3,7 +3,7 @@ use Rattle.std.specs.Prelude.{◌≡◌, ℕ, List, Option, None, Some}
 use Rattle.snl_syntax.specs.Programs.{ProgramTree}
 use Rattle.snl_messages.specs.Messages.{Said}
 use Rattle.snl_messages.specs.Silence.{options_in_force}
-use Rattle.snl_resolve.specs.declared.options.Options.{Options}
+use Rattle.snl_names.specs.declared.options.Options.{Options}
 use Rattle.snc.specs.Judging.{Finds, NoErrors}
 use Rattle.snc.specs.Texts.{messages_text}
 

@@ -1,7 +1,7 @@
 -- What `graph` answers of a source.
 use Rattle.std.specs.Prelude.{◌≡◌, ℕ, List}
 use Rattle.snl_syntax.specs.Programs.{ProgramTree}
-use Rattle.snl_resolve.specs.declared.options.Options.{Options}
+use Rattle.snl_names.specs.declared.options.Options.{Options}
 use Rattle.snl_views.specs.Answered.{IsAnswered}
 use Rattle.snl_views.specs.Pictures.{drawn, pictured}
 use Rattle.snl_views.specs.Shapes.{shape_of}

@@ -3,7 +3,7 @@ use Rattle.std.specs.Prelude.{◌≡◌, ℕ, List, Option, None, Some}
 use Rattle.snl_syntax.specs.Programs.{ProgramTree}
 use Rattle.snl_check.specs.Waits.{waits}
 use Rattle.snl_machine.specs.Loading.{IsLoaded}
-use Rattle.snl_resolve.specs.declared.options.Options.{Options}
+use Rattle.snl_names.specs.declared.options.Options.{Options}
 use Rattle.snl_views.specs.Shapes.{charted, shape_of}
 use Rattle.snl_views.specs.declared.charting.Charted.{Charted}
 

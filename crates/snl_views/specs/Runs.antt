@@ -8,7 +8,7 @@ use Rattle.snl_machine.specs.MachineOf.{task_of}
 use Rattle.snl_meaning.specs.World.{World}
 use Rattle.snl_messages.specs.Messages.{Said}
 use Rattle.snl_messages.specs.Silence.{options_in_force}
-use Rattle.snl_resolve.specs.declared.options.Options.{Options}
+use Rattle.snl_names.specs.declared.options.Options.{Options}
 use Rattle.snl_trace.specs.Run.{rules_by}
 use Rattle.snl_trace.specs.RunOver.{RunsOver}
 use Rattle.snl_trace.specs.declared.runner.End.{End}

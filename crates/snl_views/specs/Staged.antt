@@ -9,7 +9,7 @@ use Rattle.snl_load.specs.First.{first_world_of}
 use Rattle.snl_machine.specs.MachineOf.{IsMachineOf, world_held}
 use Rattle.snl_messages.specs.Messages.{Said}
 use Rattle.snl_messages.specs.Silence.{options_in_force}
-use Rattle.snl_resolve.specs.declared.options.Options.{Options}
+use Rattle.snl_names.specs.declared.options.Options.{Options}
 use Rattle.snc.specs.Judging.{Finds, NoErrors}
 use Rattle.snc.specs.Texts.{messages_text}
 use Rattle.snl_views.specs.Prepared.{IsPrepared}

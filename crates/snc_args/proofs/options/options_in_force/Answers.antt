@@ -1,7 +1,7 @@
 use Rattle.std.proofs.Common.{◌∙◌, map, ap}
 use Rattle.std.specs.String.{string_bytes}
-use Rattle.snl_resolve.specs.Options.{no_options}
-use Rattle.snl_resolve.proofs.SignLaws.{after_all, after_all-last}
+use Rattle.snl_names.specs.Options.{no_options}
+use Rattle.snl_names.proofs.SignLaws.{after_all, after_all-last}
 use Rattle.snc_args.specs.Options.{options_among, sign_given}
 use Rattle.snc_args.proofs.options.options_in_force.Goals as goal
 

@@ -1,6 +1,6 @@
 use Rattle.std.proofs.Common.{◌≡◌, map, drop}
 use Rattle.std.specs.String.{string_bytes}
-use Rattle.snl_resolve.proofs.SignLaws.{after_all}
+use Rattle.snl_names.proofs.SignLaws.{after_all}
 use Rattle.snc_args.specs.Options.{options_among, options_in_force, sign_given}
 use Rattle.snc_args.proofs.options.options_in_force.Given as goal
 

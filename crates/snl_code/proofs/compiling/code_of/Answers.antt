@@ -1,7 +1,7 @@
 use Rattle.std.proofs.Common.{◌≡◌, ◌∙◌, ap, map, sym}
 use Rattle.std.specs.List.{flat_map}
 use Rattle.snl_syntax.specs.Functions.{FunctionTree}
-use Rattle.snl_resolve.specs.Variables.{function_by, functions_of}
+use Rattle.snl_names.specs.Variables.{function_by, functions_of}
 use Rattle.snl_meaning.specs.Names.{format_at}
 use Rattle.snl_syntax.specs.view.Definitions.{definition_view}
 use Rattle.snl_syntax.specs.view.Programs.{state_set_view, program_view}

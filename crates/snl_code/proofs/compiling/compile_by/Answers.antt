@@ -1,12 +1,12 @@
 use Rattle.std.proofs.Common.{◌∙◌, List, Vec, Bool, Global, ap, map, subst, sym}
 use Rattle.std.specs.List.{flat_map}
-use Rattle.snl_resolve.specs.declared.sites.Site.{Site}
-use Rattle.snl_resolve.specs.UseTables.{IsUseTable}
+use Rattle.snl_names.specs.declared.sites.Site.{Site}
+use Rattle.snl_names.specs.UseTables.{IsUseTable}
 use Rattle.snl_syntax.specs.declared.programs.StateSet.{StateSet}
 use Rattle.snl_syntax.specs.view.Definitions.{definition_view}
 use Rattle.snl_syntax.specs.view.Programs.{program_view, state_set_view}
 use Rattle.snl_syntax.specs.Functions.{FunctionTree}
-use Rattle.snl_resolve.specs.Variables.{function_by, functions_of}
+use Rattle.snl_names.specs.Variables.{function_by, functions_of}
 use Rattle.snl_code.proofs.FunctionRows.{names-same}
 use Rattle.snl_code.specs.Reached.{AreMarked}
 use Rattle.snl_code.proofs.compiling.compile_by.Goals as goal

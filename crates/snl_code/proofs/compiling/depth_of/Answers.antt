@@ -2,7 +2,7 @@ use Rattle.std.proofs.Common.{◌∙◌, ap, map}
 use Rattle.std.specs.List.{flat_map}
 use Rattle.snl_syntax.specs.view.Definitions.{definition_view}
 use Rattle.snl_syntax.specs.view.Programs.{program_view}
-use Rattle.snl_resolve.specs.Variables.{function_by}
+use Rattle.snl_names.specs.Variables.{function_by}
 use Rattle.snl_meaning.specs.Known.{outlines}
 use Rattle.snl_code.specs.Depths.{capped, depth_with}
 use Rattle.snl_code.proofs.FunctionRows.{depth-found}

@@ -1,6 +1,6 @@
 use Rattle.std.proofs.Common.{◌∙◌, ap, map}
 use Rattle.snl_syntax.specs.view.Programs.{program_view}
-use Rattle.snl_resolve.specs.Variables.{variables_of}
+use Rattle.snl_names.specs.Variables.{variables_of}
 use Rattle.snl_meaning.specs.Names.{placed_from}
 use Rattle.snl_code.specs.Copies.{sets_of}
 use Rattle.snl_code.proofs.Rows.{row-map}

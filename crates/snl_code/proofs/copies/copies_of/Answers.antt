@@ -1,7 +1,7 @@
 use Rattle.std.proofs.Common.{◌∙◌, ◌++◌, [], ap, map}
 use Rattle.snl_syntax.specs.view.Definitions.{definition_view}
-use Rattle.snl_resolve.specs.CopyVariables.{variable_view}
-use Rattle.snl_resolve.specs.Variables.{by_definitions}
+use Rattle.snl_names.specs.CopyVariables.{variable_view}
+use Rattle.snl_names.specs.Variables.{by_definitions}
 use Rattle.snl_code.proofs.copies.copies_of.Goals as goal
 
 -- the variables of the program's definitions are those of all copies and of functions begin with

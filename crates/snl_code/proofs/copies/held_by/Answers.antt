@@ -1,7 +1,7 @@
 use Rattle.std.proofs.Common.{◌≡◌, ◌<◌, ap, arith, length}
 use Rattle.std.proofs.lemmas.List.{length-map}
 use Rattle.snl_syntax.specs.view.Programs.{program_view, state_set_view}
-use Rattle.snl_resolve.specs.Variables.{variables_of}
+use Rattle.snl_names.specs.Variables.{variables_of}
 use Rattle.snl_code.specs.Copies.{variables_in}
 use Rattle.snl_code.proofs.Rows.{row-more}
 use Rattle.snl_code.proofs.copies.held_by.Goals as goal

@@ -3,9 +3,9 @@ use Rattle.snl_syntax.specs.view.Definitions.{definition_view}
 use Rattle.snl_syntax.specs.view.Programs.{state_set_view}
 use Rattle.snl_syntax.specs.view.Shown.{shown, held}
 use Rattle.snl_syntax.specs.view.Statements.{block_view}
-use Rattle.snl_resolve.specs.CopyVariables.{variable_view}
-use Rattle.snl_resolve.specs.Scopes.{scope_of}
-use Rattle.snl_resolve.specs.Variables.{by_parts}
+use Rattle.snl_names.specs.CopyVariables.{variable_view}
+use Rattle.snl_names.specs.Scopes.{scope_of}
+use Rattle.snl_names.specs.Variables.{by_parts}
 use Rattle.snl_resolve.proofs.VariableLaws.{program_held}
 use Rattle.snl_code.proofs.copies.held_set.Goals as goal
 

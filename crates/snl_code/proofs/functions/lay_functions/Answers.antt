@@ -4,7 +4,7 @@ use Rattle.std.proofs.lemmas.List.{map-append}
 use Rattle.snl_syntax.specs.view.Definitions.{definition_view}
 use Rattle.snl_syntax.specs.view.Functions.{function_view}
 use Rattle.snl_syntax.specs.Functions.{FunctionTree}
-use Rattle.snl_resolve.specs.Variables.{function_by}
+use Rattle.snl_names.specs.Variables.{function_by}
 use Rattle.snl_emit.specs.FunctionCode.{body_code, entries_from, functions_code}
 use Rattle.snl_meaning.specs.Functions.{here_below}
 use Rattle.snl_meaning.specs.Known.{entries, entry_view, within_view}

@@ -1,7 +1,7 @@
 use Rattle.std.proofs.Common.{◌≡◌, ◌++◌, [], drop, length, map, take}
 use Rattle.std.specs.List.{flat_map}
 use Rattle.snl_syntax.specs.view.Definitions.{definition_view}
-use Rattle.snl_resolve.specs.Variables.{function_by}
+use Rattle.snl_names.specs.Variables.{function_by}
 use Rattle.snl_emit.specs.FunctionCode.{entries_from, functions_code}
 use Rattle.snl_meaning.specs.Known.{entries}
 use Rattle.snl_code.specs.Heres.{routine_by}

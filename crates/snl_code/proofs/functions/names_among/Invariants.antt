@@ -1,7 +1,7 @@
 use Rattle.std.proofs.Common.{◌≡◌, ◌++◌, drop, map}
 use Rattle.std.specs.List.{flat_map}
 use Rattle.snl_syntax.specs.view.Definitions.{definition_view}
-use Rattle.snl_resolve.specs.Variables.{function_by}
+use Rattle.snl_names.specs.Variables.{function_by}
 use Rattle.snl_code.proofs.functions.names_among.Given as goal
 
 -- names so far, and those that are left

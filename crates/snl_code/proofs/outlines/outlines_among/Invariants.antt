@@ -1,7 +1,7 @@
 use Rattle.std.proofs.Common.{◌≡◌, List, [], drop, map}
 use Rattle.std.specs.List.{flat_map}
 use Rattle.snl_syntax.specs.view.Definitions.{definition_view}
-use Rattle.snl_resolve.specs.Variables.{function_by}
+use Rattle.snl_names.specs.Variables.{function_by}
 use Rattle.snl_emit.specs.Depths.{outlines_after}
 use Rattle.snl_meaning.specs.Known.{outlines}
 use Rattle.snl_meaning.specs.Names.{Outline}

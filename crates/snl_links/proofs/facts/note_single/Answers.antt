@@ -1,7 +1,7 @@
 use Rattle.std.proofs.Common.{◌≡◌, false, nat_eq, is_some, None, Option}
 use Rattle.std.specs.HashMap.{get}
 use Rattle.snl_links.specs.Facts.{same_pair}
-use Rattle.snl_resolve.proofs.TableLaws.{none_of}
+use Rattle.snl_names.proofs.TableLaws.{none_of}
 use Rattle.snl_links.proofs.FactLaws.{single_noted}
 use Rattle.snl_links.proofs.facts.note_single.Goals as goal
 

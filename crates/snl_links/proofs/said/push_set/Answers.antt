@@ -1,5 +1,5 @@
 use Rattle.std.proofs.Common.{map}
-use Rattle.snl_resolve.specs.Chains.{scopes_of}
+use Rattle.snl_names.specs.Chains.{scopes_of}
 use Rattle.snl_links.specs.LinkViews.{said_view}
 use Rattle.snl_links.proofs.LinkLaws.{set_said}
 use Rattle.snl_links.proofs.said.push_set.Goals as goal

@@ -1,7 +1,7 @@
 use Rattle.std.proofs.Common.{map, refl}
 use Rattle.std.specs.List.{flat_map}
 use Rattle.snl_syntax.specs.view.Programs.{state_set_view}
-use Rattle.snl_resolve.specs.Chains.{scopes_of}
+use Rattle.snl_names.specs.Chains.{scopes_of}
 use Rattle.snl_resolve.proofs.Steps.{row_step}
 use Rattle.snl_links.specs.Links.{said_in_set}
 use Rattle.snl_links.specs.LinkViews.{said_view}

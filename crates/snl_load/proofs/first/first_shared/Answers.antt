@@ -1,8 +1,8 @@
 use Rattle.std.proofs.Common.{◌≡◌, ◌∙◌, ◌++◌, ◌∷◌, ◌+◌, suc, ap, arith, drop, get_or, map, pos, rules, sym, append_assoc}
 use Rattle.std.specs.Prelude.{replicate}
 use Rattle.std.proofs.Math.Seq.{drop-cons}
-use Rattle.snl_resolve.specs.CopyVariables.{variable_view}
-use Rattle.snl_resolve.specs.Scopes.{elements}
+use Rattle.snl_names.specs.CopyVariables.{variable_view}
+use Rattle.snl_names.specs.Scopes.{elements}
 use Rattle.snl_load.specs.First.{first_shared}
 use Rattle.snl_load.proofs.Listed.{shared_more}
 use Rattle.snl_load.proofs.first.first_shared.Goals as goal

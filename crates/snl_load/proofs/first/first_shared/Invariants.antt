@@ -1,5 +1,5 @@
 use Rattle.std.proofs.Common.{◌≡◌, ◌++◌, drop, map}
-use Rattle.snl_resolve.specs.CopyVariables.{variable_view}
+use Rattle.snl_names.specs.CopyVariables.{variable_view}
 use Rattle.snl_load.specs.First.{first_shared}
 use Rattle.snl_load.proofs.first.first_shared.Given as goal
 

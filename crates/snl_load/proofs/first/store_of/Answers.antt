@@ -3,7 +3,7 @@ use Rattle.std.specs.List.{flat_map}
 use Rattle.std.proofs.lemmas.List.{length-map}
 use Rattle.snl_links.specs.LinkViews.{link_view}
 use Rattle.snl_meaning.specs.declared.live.Live.TheVariants.{Waiting}
-use Rattle.snl_resolve.specs.CopyVariables.{variable_view}
+use Rattle.snl_names.specs.CopyVariables.{variable_view}
 use Rattle.snl_code.specs.Copies.{sets_of}
 use Rattle.snl_load.specs.First.{first_copy, first_shared}
 use Rattle.snl_load.specs.Initials.{first_buffer}

@@ -1,6 +1,6 @@
 use Rattle.std.proofs.Common.{◌≡◌, ◌++◌, drop, map}
 use Rattle.std.specs.List.{flat_map}
-use Rattle.snl_resolve.specs.CopyVariables.{variable_view}
+use Rattle.snl_names.specs.CopyVariables.{variable_view}
 use Rattle.snl_load.specs.Initials.{all_elements}
 use Rattle.snl_load.proofs.initials.first_words.Given as goal
 

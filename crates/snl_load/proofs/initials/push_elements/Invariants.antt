@@ -1,5 +1,5 @@
 use Rattle.std.proofs.Common.{◌≡◌, ◌++◌, ◌+◌, ◌-◌}
-use Rattle.snl_resolve.specs.CopyVariables.{variable_view}
+use Rattle.snl_names.specs.CopyVariables.{variable_view}
 use Rattle.snl_load.specs.Initials.{first_elements}
 use Rattle.snl_load.proofs.initials.push_elements.Given as goal
 

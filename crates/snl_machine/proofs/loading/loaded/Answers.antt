@@ -1,7 +1,7 @@
 use Rattle.std.proofs.Common.{Bool, subst, sym}
 use Rattle.snl_syntax.specs.declared.programs.Program.{Program}
 use Rattle.snl_syntax.specs.view.Programs.{program_view}
-use Rattle.snl_resolve.specs.UseTables.{IsTableOf}
+use Rattle.snl_names.specs.UseTables.{IsTableOf}
 use Rattle.snl_machine.specs.Loading.{IsLoaded}
 use Rattle.snl_machine.proofs.AsLoaded.{both-loaded}
 use Rattle.snl_machine.proofs.loading.loaded.Goals as goal

@@ -1,5 +1,5 @@
 use Rattle.std.proofs.Common.{◌≡◌, ◌++◌, map, drop}
-use Rattle.snl_resolve.specs.CopyVariables.{variable_view}
+use Rattle.snl_names.specs.CopyVariables.{variable_view}
 use Rattle.snl_meaning.specs.Names.{placed_from}
 use Rattle.snl_meaning.proofs.names.places_of.Given as goal
 

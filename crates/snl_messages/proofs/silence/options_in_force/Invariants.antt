@@ -1,7 +1,7 @@
 use Rattle.std.proofs.Common.{◌≡◌, map, drop}
 use Rattle.snl_syntax.specs.view.Definitions.{definition_view}
-use Rattle.snl_resolve.specs.Options.{last_sign, options_by, sign_by}
-use Rattle.snl_resolve.proofs.SignLaws.{after_all}
+use Rattle.snl_names.specs.Options.{last_sign, options_by, sign_by}
+use Rattle.snl_names.proofs.SignLaws.{after_all}
 use Rattle.snl_messages.proofs.silence.options_in_force.Given as goal
 
 -- The rest of the definitions, after those so far, give the last signs of all.

@@ -1,7 +1,7 @@
 use Rattle.std.proofs.Common.{◌≡◌, ◌∙◌, ap, drop, get_or, rules, if◌then◌else◌}
 use Rattle.std.specs.Option.{unwrap_or}
-use Rattle.snl_resolve.specs.declared.formats.FormatState.TheVariants.{Plain}
-use Rattle.snl_resolve.specs.Formats.{converts}
+use Rattle.snl_names.specs.declared.formats.FormatState.TheVariants.{Plain}
+use Rattle.snl_names.specs.Formats.{converts}
 use Rattle.snl_output.proofs.Adding.{added-as, added-cut, added-start, failed-adds}
 use Rattle.snl_output.proofs.Parts.{shown-here, byte-more, number-here, number-more, run-here, run-more}
 use Rattle.snl_output.proofs.printing.add_text.Goals as goal

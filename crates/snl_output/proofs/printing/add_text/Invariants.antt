@@ -1,5 +1,5 @@
 use Rattle.std.proofs.Common.{◌≡◌, ◌-◌, drop, length}
-use Rattle.snl_resolve.specs.declared.formats.FormatState.TheVariants.{Plain}
+use Rattle.snl_names.specs.declared.formats.FormatState.TheVariants.{Plain}
 use Rattle.snl_meaning.specs.Printing.{shown}
 use Rattle.snl_output.proofs.Adding.{IsAdded}
 use Rattle.snl_output.proofs.printing.add_text.Given as goal

@@ -1,5 +1,5 @@
 use Rattle.std.proofs.Common.{◌≡◌, ◌++◌, ℤ, List, take, drop}
-use Rattle.snl_resolve.specs.declared.formats.FormatState.TheVariants.{Plain}
+use Rattle.snl_names.specs.declared.formats.FormatState.TheVariants.{Plain}
 use Rattle.snl_meaning.specs.Printing.{shown}
 use Rattle.snl_output.proofs.printing.plain_run.Given as goal
 

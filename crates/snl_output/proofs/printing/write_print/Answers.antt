@@ -1,7 +1,7 @@
 use Rattle.std.proofs.Common.{◌∙◌, ◌++◌, [], ap, sym, append-nil}
 use Rattle.snl_meaning.specs.Printing.{shown, print_line}
-use Rattle.snl_resolve.specs.Formats.{unquoted}
-use Rattle.snl_resolve.specs.declared.formats.FormatState.TheVariants.{Plain}
+use Rattle.snl_names.specs.Formats.{unquoted}
+use Rattle.snl_names.specs.declared.formats.FormatState.TheVariants.{Plain}
 use Rattle.snl_output.specs.Lines.{newline}
 use Rattle.snl_output.proofs.Adding.{added-as, added-begun, added-cut, added-more, added-sent}
 use Rattle.snl_output.proofs.Parts.{print_line-parts}

@@ -1,8 +1,8 @@
 use Rattle.std.proofs.Common.{◌≡◌, ◌++◌, map, drop}
 use Rattle.std.specs.List.{flat_map}
 use Rattle.snl_syntax.specs.view.Declarations.{type_view, declarator_view}
-use Rattle.snl_resolve.specs.Chains.{sight_of}
-use Rattle.snl_resolve.specs.Sites.{in_declarator}
+use Rattle.snl_resolve.specs.Seen.{sight_of}
+use Rattle.snl_names.specs.Sites.{in_declarator}
 use Rattle.snl_resolve.proofs.declarations.note_declarators.Given as goal
 
 abbrev pub invariant-loop-declarator : goal.invariant-loop-declarator

@@ -1,8 +1,8 @@
 use Rattle.std.proofs.Common.{◌≡◌, ◌++◌, map, drop}
 use Rattle.std.specs.List.{flat_map}
 use Rattle.snl_syntax.specs.view.Definitions.{definition_view}
-use Rattle.snl_resolve.specs.Chains.{scopes_of}
-use Rattle.snl_resolve.specs.Scopes.{declared_by, is_hidden}
+use Rattle.snl_names.specs.Chains.{scopes_of}
+use Rattle.snl_names.specs.Scopes.{declared_by, is_hidden}
 use Rattle.snl_resolve.proofs.definition_scopes.declared_of.Given as goal
 
 abbrev pub invariant-loop-definition : goal.invariant-loop-definition

@@ -1,6 +1,6 @@
 use Rattle.std.proofs.Common.{◌≡◌, ◌++◌, map, drop}
 use Rattle.snl_syntax.specs.view.Definitions.{definition_view}
-use Rattle.snl_resolve.specs.Scopes.{bare_names}
+use Rattle.snl_names.specs.Scopes.{bare_names}
 use Rattle.snl_resolve.proofs.definition_scopes.names_of.Given as goal
 
 abbrev pub invariant-loop-definition : goal.invariant-loop-definition

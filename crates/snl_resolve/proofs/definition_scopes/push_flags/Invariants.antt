@@ -1,5 +1,5 @@
 use Rattle.std.proofs.Common.{◌≡◌, ◌++◌, map, drop}
-use Rattle.snl_resolve.specs.Scopes.{bare}
+use Rattle.snl_names.specs.Scopes.{bare}
 use Rattle.snl_resolve.proofs.definition_scopes.push_flags.Given as goal
 
 abbrev pub invariant-loop-flag : goal.invariant-loop-flag

@@ -1,6 +1,6 @@
 use Rattle.std.proofs.Common.{map}
 use Rattle.snl_syntax.specs.view.Definitions.{definition_view}
-use Rattle.snl_resolve.specs.Chains.{sight_of}
+use Rattle.snl_resolve.specs.Seen.{sight_of}
 use Rattle.snl_resolve.proofs.ProgramLaws.{definitions_noted}
 use Rattle.snl_resolve.proofs.definitions.note_definitions.Goals as goal
 

@@ -1,8 +1,8 @@
 use Rattle.std.proofs.Common.{◌≡◌, ◌++◌, map, drop}
 use Rattle.std.specs.List.{flat_map}
 use Rattle.snl_syntax.specs.view.Definitions.{definition_view}
-use Rattle.snl_resolve.specs.Chains.{sight_of}
-use Rattle.snl_resolve.specs.Programs.{in_definition}
+use Rattle.snl_resolve.specs.Seen.{sight_of}
+use Rattle.snl_names.specs.Programs.{in_definition}
 use Rattle.snl_resolve.proofs.definitions.note_each.Given as goal
 
 abbrev pub invariant-loop-definition : goal.invariant-loop-definition

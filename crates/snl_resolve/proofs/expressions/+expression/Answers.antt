@@ -3,11 +3,11 @@ use Rattle.std.proofs.lemmas.List.{length-drop}
 use Rattle.std.proofs.lemmas.Result.{on_ok_weaker}
 use Rattle.snl_syntax.specs.Expressions.{no_arguments}
 use Rattle.snl_syntax.specs.view.Expressions.{view, argument_of, list_before}
-use Rattle.snl_resolve.specs.declared.sites.Site.{Site}
-use Rattle.snl_resolve.specs.Sites.{in_arguments}
-use Rattle.snl_resolve.specs.Builtins.{builtin_of}
-use Rattle.snl_resolve.specs.Calls.{word_at}
-use Rattle.snl_resolve.specs.Chains.{sight_of}
+use Rattle.snl_names.specs.declared.sites.Site.{Site}
+use Rattle.snl_names.specs.Sites.{in_arguments}
+use Rattle.snl_names.specs.Builtins.{builtin_of}
+use Rattle.snl_names.specs.Calls.{word_at}
+use Rattle.snl_resolve.specs.Seen.{sight_of}
 use Rattle.snl_resolve.proofs.WalkLaws.{call_noted, chain_noted, argument_step, value_noted, text_noted}
 use Rattle.snl_resolve.proofs.expressions.+expression.Goals.{note_arguments-in-Value+in_ok-note_argument-in-Value, note_arguments-in-Text+in_ok-note_format-in-Text}
 use Rattle.snl_resolve.proofs.expressions.+expression.Goals as goal

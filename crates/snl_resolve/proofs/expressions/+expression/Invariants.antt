@@ -2,8 +2,8 @@ use Rattle.std.proofs.Common.{◌≡◌, ◌+◌, ◌++◌, length, map, drop}
 use Rattle.snl_syntax.specs.view.Expressions.{pair_of, list_before}
 use Rattle.snl_syntax.specs.view.Lists.{term_list}
 use Rattle.snl_syntax.specs.Expressions.{no_arguments}
-use Rattle.snl_resolve.specs.Chains.{sight_of}
-use Rattle.snl_resolve.specs.Sites.{in_terms, in_arguments}
+use Rattle.snl_resolve.specs.Seen.{sight_of}
+use Rattle.snl_names.specs.Sites.{in_terms, in_arguments}
 use Rattle.snl_resolve.proofs.expressions.+expression.Given as goal
 
 abbrev pub invariant-note_terms-loop-term : goal.invariant-note_terms-loop-term

@@ -1,7 +1,7 @@
 use Rattle.std.proofs.Common.{map}
 use Rattle.std.proofs.lemmas.Result.{on_ok_weaker}
-use Rattle.snl_resolve.specs.Chains.{scopes_of}
-use Rattle.snl_resolve.specs.CopyVariables.{variable_view}
+use Rattle.snl_names.specs.Chains.{scopes_of}
+use Rattle.snl_names.specs.CopyVariables.{variable_view}
 use Rattle.snl_resolve.proofs.VariableLaws.{definition_held}
 use Rattle.snl_resolve.proofs.function_variables.push_if_function.Goals as goal
 

@@ -1,5 +1,5 @@
 use Rattle.std.proofs.lemmas.Result.{on_ok_weaker}
-use Rattle.snl_resolve.specs.Chains.{sight_of}
+use Rattle.snl_resolve.specs.Seen.{sight_of}
 use Rattle.snl_resolve.proofs.ProgramLaws.{function_noted}
 use Rattle.snl_resolve.proofs.functions.note_function.Goals as goal
 

@@ -1,8 +1,8 @@
 use Rattle.std.proofs.Common.{map, refl}
 use Rattle.std.specs.List.{flat_map}
 use Rattle.snl_syntax.specs.view.Definitions.{definition_view}
-use Rattle.snl_resolve.specs.Chains.{scopes_of}
-use Rattle.snl_resolve.specs.Sights.{headings_by}
+use Rattle.snl_names.specs.Chains.{scopes_of}
+use Rattle.snl_names.specs.Sights.{headings_by}
 use Rattle.snl_resolve.proofs.ProgramLaws.{program_parts_step}
 use Rattle.snl_resolve.proofs.Steps.{row_step}
 use Rattle.snl_resolve.proofs.functions.note_program_parts.Goals as goal

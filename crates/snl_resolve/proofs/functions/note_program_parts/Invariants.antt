@@ -1,9 +1,9 @@
 use Rattle.std.proofs.Common.{◌≡◌, ◌++◌, [], map, drop}
 use Rattle.std.specs.List.{flat_map}
 use Rattle.snl_syntax.specs.view.Definitions.{definition_view}
-use Rattle.snl_resolve.specs.Chains.{scopes_of}
-use Rattle.snl_resolve.specs.Programs.{in_program_parts}
-use Rattle.snl_resolve.specs.Sights.{headings_by}
+use Rattle.snl_names.specs.Chains.{scopes_of}
+use Rattle.snl_names.specs.Programs.{in_program_parts}
+use Rattle.snl_names.specs.Sights.{headings_by}
 use Rattle.snl_resolve.proofs.functions.note_program_parts.Given as goal
 
 abbrev pub invariant-loop-definition : goal.invariant-loop-definition

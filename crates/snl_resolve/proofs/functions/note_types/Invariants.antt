@@ -1,6 +1,6 @@
 use Rattle.std.proofs.Common.{◌≡◌, ◌++◌, map, drop}
 use Rattle.snl_syntax.specs.view.Functions.{parameter_view}
-use Rattle.snl_resolve.specs.Sites.{at_type}
+use Rattle.snl_names.specs.Sites.{at_type}
 use Rattle.snl_resolve.proofs.functions.note_types.Given as goal
 
 abbrev pub invariant-loop-parameter : goal.invariant-loop-parameter

@@ -1,10 +1,10 @@
 use Rattle.std.proofs.Common.{◌≡◌, map, drop}
 use Rattle.std.specs.List.{list_all}
 use Rattle.snl_syntax.specs.view.Expressions.{boxed}
-use Rattle.snl_resolve.specs.Chains.{scopes_of}
-use Rattle.snl_resolve.specs.Constants.{constant_of}
-use Rattle.snl_resolve.specs.Types.{is_constant_in}
-use Rattle.snl_resolve.specs.Scopes.{is_hidden}
+use Rattle.snl_names.specs.Chains.{scopes_of}
+use Rattle.snl_names.specs.Constants.{constant_of}
+use Rattle.snl_names.specs.Types.{is_constant_in}
+use Rattle.snl_names.specs.Scopes.{is_hidden}
 use Rattle.snl_resolve.proofs.initialisers.are_constants.Given as goal
 
 abbrev pub invariant-loop-value : goal.invariant-loop-value

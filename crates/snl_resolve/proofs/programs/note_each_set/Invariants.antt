@@ -1,7 +1,7 @@
 use Rattle.std.proofs.Common.{◌≡◌, ◌++◌, map, drop}
 use Rattle.snl_syntax.specs.view.Programs.{state_set_view}
-use Rattle.snl_resolve.specs.Chains.{sight_of}
-use Rattle.snl_resolve.specs.Programs.{in_state_sets}
+use Rattle.snl_resolve.specs.Seen.{sight_of}
+use Rattle.snl_names.specs.Programs.{in_state_sets}
 use Rattle.snl_resolve.proofs.programs.note_each_set.Given as goal
 
 abbrev pub invariant-loop-number : goal.invariant-loop-number

@@ -3,7 +3,7 @@ use Rattle.std.proofs.lemmas.Result.{on_ok_weaker}
 use Rattle.snl_syntax.specs.view.Shown.{shown, held}
 use Rattle.snl_syntax.specs.view.Statements.{block_view}
 use Rattle.snl_syntax.specs.view.Programs.{state_set_view}
-use Rattle.snl_resolve.specs.Chains.{sight_of}
+use Rattle.snl_resolve.specs.Seen.{sight_of}
 use Rattle.snl_resolve.proofs.ProgramLaws.{parts_noted}
 use Rattle.snl_resolve.proofs.programs.note_parts.Goals as goal
 

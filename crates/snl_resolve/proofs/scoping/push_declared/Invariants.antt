@@ -1,7 +1,7 @@
 use Rattle.std.proofs.Common.{◌≡◌, ◌++◌, map, drop}
 use Rattle.snl_syntax.specs.view.Declarations.{declarator_view}
-use Rattle.snl_resolve.specs.Chains.{scopes_of}
-use Rattle.snl_resolve.specs.Scopes.{declared_names, is_hidden}
+use Rattle.snl_names.specs.Chains.{scopes_of}
+use Rattle.snl_names.specs.Scopes.{declared_names, is_hidden}
 use Rattle.snl_resolve.proofs.scoping.push_declared.Given as goal
 
 abbrev pub invariant-loop-declarator : goal.invariant-loop-declarator

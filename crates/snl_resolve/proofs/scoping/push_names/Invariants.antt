@@ -1,6 +1,6 @@
 use Rattle.std.proofs.Common.{◌≡◌, ◌++◌, map, drop}
 use Rattle.snl_syntax.specs.view.Declarations.{declarator_view}
-use Rattle.snl_resolve.specs.Scopes.{bare}
+use Rattle.snl_names.specs.Scopes.{bare}
 use Rattle.snl_resolve.proofs.scoping.push_names.Given as goal
 
 abbrev pub invariant-loop-declarator : goal.invariant-loop-declarator

@@ -3,8 +3,8 @@ use Rattle.std.proofs.lemmas.Result.{on_ok_weaker}
 use Rattle.snl_syntax.specs.view.Shown.{shown, held}
 use Rattle.snl_syntax.specs.view.Statements.{block_view}
 use Rattle.snl_syntax.specs.view.Programs.{clause_view}
-use Rattle.snl_resolve.specs.Chains.{scopes_of}
-use Rattle.snl_resolve.specs.CopyVariables.{variable_view}
+use Rattle.snl_names.specs.Chains.{scopes_of}
+use Rattle.snl_names.specs.CopyVariables.{variable_view}
 use Rattle.snl_resolve.proofs.VariableLaws.{blocks_held}
 use Rattle.snl_resolve.proofs.set_variables.push_blocks.Goals as goal
 

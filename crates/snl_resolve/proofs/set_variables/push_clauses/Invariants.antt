@@ -1,9 +1,9 @@
 use Rattle.std.proofs.Common.{◌≡◌, ◌++◌, map, drop}
 use Rattle.std.specs.List.{flat_map}
 use Rattle.snl_syntax.specs.view.Programs.{clause_view}
-use Rattle.snl_resolve.specs.Variables.{by_clause}
-use Rattle.snl_resolve.specs.Chains.{scopes_of}
-use Rattle.snl_resolve.specs.CopyVariables.{variable_view}
+use Rattle.snl_names.specs.Variables.{by_clause}
+use Rattle.snl_names.specs.Chains.{scopes_of}
+use Rattle.snl_names.specs.CopyVariables.{variable_view}
 use Rattle.snl_resolve.proofs.set_variables.push_clauses.Given as goal
 
 abbrev pub invariant-loop-clause : goal.invariant-loop-clause

@@ -1,8 +1,8 @@
 use Rattle.std.proofs.Common.{◌++◌, map, sym, ap, ◌∙◌, append-nil}
 use Rattle.std.proofs.lemmas.Result.{on_ok_weaker}
-use Rattle.snl_resolve.specs.Chains.{scopes_of}
-use Rattle.snl_resolve.specs.CopyVariables.{variable_view}
-use Rattle.snl_resolve.specs.Variables.{by_numbered}
+use Rattle.snl_names.specs.Chains.{scopes_of}
+use Rattle.snl_names.specs.CopyVariables.{variable_view}
+use Rattle.snl_names.specs.Variables.{by_numbered}
 use Rattle.snl_resolve.proofs.VariableLaws.{some_set, no_set}
 use Rattle.snl_resolve.proofs.set_variables.push_numbered.Goals as goal
 

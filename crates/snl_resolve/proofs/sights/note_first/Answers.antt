@@ -1,7 +1,7 @@
 use Rattle.std.proofs.Common.{◌≡◌, false, nat_eq, is_some}
 use Rattle.std.specs.Cmp.Lexicographic.{pointwise}
 use Rattle.std.specs.HashMap.{get_by}
-use Rattle.snl_resolve.proofs.TableLaws.{none_of}
+use Rattle.snl_names.proofs.TableLaws.{none_of}
 use Rattle.snl_resolve.proofs.FunctionLaws.{function_after}
 use Rattle.snl_resolve.proofs.sights.note_first.Goals as goal
 

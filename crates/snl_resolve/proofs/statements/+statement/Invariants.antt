@@ -1,8 +1,8 @@
 use Rattle.std.proofs.Common.{◌≡◌, ◌++◌, map, drop}
 use Rattle.snl_syntax.specs.view.Lists.{statement_list}
 use Rattle.snl_syntax.specs.view.Statements.{statement_view}
-use Rattle.snl_resolve.specs.Chains.{sight_of}
-use Rattle.snl_resolve.specs.Sites.{in_statements}
+use Rattle.snl_resolve.specs.Seen.{sight_of}
+use Rattle.snl_names.specs.Sites.{in_statements}
 use Rattle.snl_resolve.proofs.statements.+statement.Given as goal
 
 abbrev pub invariant-note_statements-loop-statement : goal.invariant-note_statements-loop-statement

@@ -3,8 +3,8 @@ use Rattle.std.proofs.lemmas.Result.{on_ok_weaker}
 use Rattle.snl_syntax.specs.view.Shown.{shown, held}
 use Rattle.snl_syntax.specs.view.Statements.{block_view}
 use Rattle.snl_syntax.specs.view.Programs.{clause_view}
-use Rattle.snl_resolve.specs.Chains.{sight_of}
-use Rattle.snl_resolve.specs.Programs.{in_clauses}
+use Rattle.snl_resolve.specs.Seen.{sight_of}
+use Rattle.snl_names.specs.Programs.{in_clauses}
 use Rattle.snl_resolve.proofs.ProgramLaws.{blocks_noted}
 use Rattle.snl_resolve.proofs.states.note_blocks.Goals as goal
 

@@ -1,4 +1,4 @@
-use Rattle.snl_resolve.specs.Chains.{sight_of}
+use Rattle.snl_resolve.specs.Seen.{sight_of}
 use Rattle.snl_resolve.proofs.ProgramLaws.{clauses_step}
 use Rattle.snl_resolve.proofs.states.note_clauses.Goals as goal
 

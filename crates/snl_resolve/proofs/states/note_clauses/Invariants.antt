@@ -1,7 +1,7 @@
 use Rattle.std.proofs.Common.{◌≡◌, ◌++◌, map, drop, false}
 use Rattle.snl_syntax.specs.view.Programs.{clause_view}
-use Rattle.snl_resolve.specs.Chains.{sight_of}
-use Rattle.snl_resolve.specs.Programs.{in_clauses}
+use Rattle.snl_resolve.specs.Seen.{sight_of}
+use Rattle.snl_names.specs.Programs.{in_clauses}
 use Rattle.snl_resolve.proofs.states.note_clauses.Given as goal
 
 abbrev pub invariant-loop-clause : goal.invariant-loop-clause

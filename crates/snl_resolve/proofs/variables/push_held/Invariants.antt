@@ -1,8 +1,8 @@
 use Rattle.std.proofs.Common.{◌≡◌, ◌++◌, map, drop}
 use Rattle.snl_syntax.specs.view.Declarations.{declarator_view, type_view}
-use Rattle.snl_resolve.specs.Chains.{scopes_of}
-use Rattle.snl_resolve.specs.CopyVariables.{variable_view}
-use Rattle.snl_resolve.specs.Variables.{held_for}
+use Rattle.snl_names.specs.Chains.{scopes_of}
+use Rattle.snl_names.specs.CopyVariables.{variable_view}
+use Rattle.snl_names.specs.Variables.{held_for}
 use Rattle.snl_resolve.proofs.variables.push_held.Given as goal
 
 abbrev pub invariant-loop-declarator : goal.invariant-loop-declarator

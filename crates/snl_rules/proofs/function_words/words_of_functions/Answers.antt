@@ -2,7 +2,7 @@ use Rattle.std.proofs.Common.{◌-◌, ◌^◌, length, map, sum_by, refl, ap, �
 use Rattle.std.specs.List.{flat_map}
 use Rattle.snl_syntax.specs.view.Definitions.{definition_view}
 use Rattle.snl_syntax.specs.view.Programs.{program_view}
-use Rattle.snl_resolve.specs.Variables.{function_by, functions_of, shared_variables}
+use Rattle.snl_names.specs.Variables.{function_by, functions_of, shared_variables}
 use Rattle.snl_rules.specs.Counts.{capped}
 use Rattle.snl_rules.specs.Words.{variable_words, function_words}
 use Rattle.snl_rules.proofs.SharedLaws.{stopped_sum}

@@ -1,6 +1,6 @@
 use Rattle.std.proofs.Common.{◌-◌, ◌^◌, sum_by, refl, ap, ◌∙◌}
 use Rattle.std.proofs.lemmas.List.Sums.{sum_by-cons}
-use Rattle.snl_resolve.specs.declared.sites.Site.{Site}
+use Rattle.snl_names.specs.declared.sites.Site.{Site}
 use Rattle.snl_rules.specs.Words.{link_words, assigned_by}
 use Rattle.snl_rules.specs.Counts.{capped, size_in}
 use Rattle.snl_rules.proofs.CountLaws.{count_at, count_end, stopped}

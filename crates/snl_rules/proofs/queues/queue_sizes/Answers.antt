@@ -1,6 +1,6 @@
 use Rattle.std.proofs.Common.{nat_eq, ap, ◌∙◌}
 use Rattle.std.specs.HashMap.{get}
-use Rattle.snl_resolve.specs.Scopes.{or_in}
+use Rattle.snl_names.specs.Scopes.{or_in}
 use Rattle.snl_rules.specs.Words.{queue_at}
 use Rattle.snl_rules.proofs.QueueLaws.{queue_step_at, queue_end}
 use Rattle.snl_rules.proofs.queues.queue_sizes.Goals as goal

@@ -1,6 +1,6 @@
 use Rattle.std.proofs.Common.{◌≡◌, ℕ, nat_eq, drop}
 use Rattle.std.specs.HashMap.{get}
-use Rattle.snl_resolve.specs.Scopes.{or_in}
+use Rattle.snl_names.specs.Scopes.{or_in}
 use Rattle.snl_rules.specs.Words.{first_queue}
 use Rattle.snl_rules.proofs.queues.queue_sizes.Given as goal
 

@@ -1,8 +1,8 @@
 use Rattle.std.proofs.Common.{◌≡◌, false, nat_eq, is_some}
 use Rattle.std.specs.Cmp.Lexicographic.{pointwise}
 use Rattle.std.specs.HashMap.{get_by}
-use Rattle.snl_resolve.proofs.TableLaws.{none_of}
-use Rattle.snl_resolve.proofs.NumberLaws.{number_after}
+use Rattle.snl_names.proofs.TableLaws.{none_of}
+use Rattle.snl_names.proofs.NumberLaws.{number_after}
 use Rattle.snl_rules.proofs.state_numbers.note_number.Goals as goal
 
 pub returns : goal.returns

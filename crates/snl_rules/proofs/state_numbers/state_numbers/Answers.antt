@@ -1,4 +1,4 @@
-use Rattle.snl_resolve.specs.NumberTables.{number_in}
+use Rattle.snl_names.specs.NumberTables.{number_in}
 use Rattle.snl_rules.proofs.StateLaws.{state_step}
 use Rattle.snl_rules.proofs.state_numbers.state_numbers.Goals as goal
 

@@ -1,6 +1,6 @@
 use Rattle.std.proofs.Common.{map, take}
 use Rattle.snl_syntax.specs.view.Programs.{state_view}
-use Rattle.snl_resolve.specs.NumberTables.{IsNumberTable}
+use Rattle.snl_names.specs.NumberTables.{IsNumberTable}
 use Rattle.snl_rules.specs.Reach.{state_names}
 use Rattle.snl_rules.proofs.state_numbers.state_numbers.Given as goal
 

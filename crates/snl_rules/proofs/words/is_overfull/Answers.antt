@@ -1,6 +1,6 @@
 use Rattle.std.proofs.Common.{ap, ◌∙◌}
 use Rattle.snl_syntax.specs.view.Programs.{program_view}
-use Rattle.snl_resolve.specs.Programs.{sites}
+use Rattle.snl_names.specs.Programs.{sites}
 use Rattle.snl_rules.specs.Words.{sets_words, links_words, function_words}
 use Rattle.snl_rules.specs.Counts.{capped}
 use Rattle.snl_rules.proofs.OverfullLaws.{is_above_all}

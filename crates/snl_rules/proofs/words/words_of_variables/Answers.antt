@@ -1,6 +1,6 @@
 use Rattle.std.proofs.Common.{◌+◌, ◌-◌, ◌^◌, min, map, sum_by, refl, ap, ◌∙◌}
 use Rattle.std.proofs.lemmas.List.Sums.{sum_by-cons}
-use Rattle.snl_resolve.specs.CopyVariables.{variable_view}
+use Rattle.snl_names.specs.CopyVariables.{variable_view}
 use Rattle.snl_rules.specs.Words.{variable_words}
 use Rattle.snl_rules.proofs.CountLaws.{count_step, count_end}
 use Rattle.snl_rules.proofs.words.words_of_variables.Goals as goal

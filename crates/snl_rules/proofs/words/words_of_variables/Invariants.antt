@@ -1,5 +1,5 @@
 use Rattle.std.proofs.Common.{◌≡◌, ◌+◌, ◌-◌, ◌^◌, ◌≤◌, map, drop, sum_by}
-use Rattle.snl_resolve.specs.CopyVariables.{variable_view}
+use Rattle.snl_names.specs.CopyVariables.{variable_view}
 use Rattle.snl_rules.specs.Words.{variable_words}
 use Rattle.snl_rules.specs.Counts.{capped}
 use Rattle.snl_rules.proofs.words.words_of_variables.Given as goal

@@ -10,7 +10,7 @@ use Rattle.snl_views.specs.declared.charting.Charted.{Charted}
 use Rattle.snl_views.proofs.Answered.{accepted, refused}
 use Rattle.snl_views.proofs.Answering.{tree_of}
 use Rattle.snl_views.specs.Answered.{IsAnswered}
-use Rattle.snl_resolve.specs.declared.options.Options.{Options}
+use Rattle.snl_names.specs.declared.options.Options.{Options}
 use Rattle.snl_views.proofs.readying.ready_of.Goals as goal
 
 -- what is lent of a checked program is ready

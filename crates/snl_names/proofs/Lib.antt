@@ -1,0 +1,6 @@
+pub mod FormLaws
+pub mod ConstantLaws
+pub mod TableLaws
+pub mod NumberLaws
+pub mod ListLaws
+pub mod SignLaws

@@ -1,6 +1,0 @@
-use Rattle.std.proofs.Common.{take}
-use Rattle.snl_resolve.specs.NumberTables.{IsNumberTable}
-use Rattle.snl_resolve.proofs.numbered.Numbered.of.Given as goal
-
-abbrev pub invariant-loop-number : goal.invariant-loop-number
-invariant-loop-number l = IsNumberTable l.numbers (take l.number l.name-items)

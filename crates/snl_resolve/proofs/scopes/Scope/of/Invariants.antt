@@ -1,6 +1,0 @@
-use Rattle.std.proofs.Common.{take}
-use Rattle.snl_resolve.specs.Tables.{IsTable}
-use Rattle.snl_resolve.proofs.scopes.Scope.of.Given as goal
-
-abbrev pub invariant-loop-name : goal.invariant-loop-name
-invariant-loop-name l = IsTable l.firsts (take l.name-index l.name-items)
