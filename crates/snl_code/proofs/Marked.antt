@@ -7,7 +7,7 @@ use Rattle.snl_syntax.specs.Programs.{StateSetTree, ProgramTree}
 use Rattle.snl_syntax.specs.declared.programs.State.{State}
 use Rattle.snl_syntax.specs.declared.programs.StateSet.{StateSet}
 use Rattle.snl_syntax.specs.view.Programs.{state_view, state_set_view}
-use Rattle.snl_rules.specs.Marks.{AreReached}
+use Rattle.snl_reach.specs.Marks.{AreReached}
 use Rattle.snl_code.specs.Reached.{TellsReached, marks_by, marks_in, rows, table_by, AreMarked}
 
 -- a mark is there where it is found

@@ -11,7 +11,7 @@ use Rattle.snl_meaning.specs.Names.{Here, format_at}
 use Rattle.std.proofs.lemmas.Bool.{false≢true}
 use Rattle.std.proofs.lemmas.List.{length-map}
 use Rattle.std.proofs.lemmas.Option.{slice_get_within}
-use Rattle.snl_rules.specs.Reach.{IsReached}
+use Rattle.snl_reach.specs.Reach.{IsReached}
 use Rattle.snl_code.specs.Depths.{capped, program_depth}
 use Rattle.snl_code.specs.Heres.{entries_in, function_places, here_in, routine_by, routine_of, routines_in, scene_in, states_by}
 use Rattle.snl_names.specs.Programs.{sites}

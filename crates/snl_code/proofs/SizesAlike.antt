@@ -4,7 +4,7 @@ use Rattle.std.proofs.lemmas.Bool.{false≢true}
 use Rattle.std.proofs.lemmas.Option.{slice_get_within}
 use Rattle.snl_syntax.specs.Programs.{StateSetTree, ProgramTree}
 use Rattle.snl_names.specs.Programs.{sites}
-use Rattle.snl_rules.specs.Reach.{IsReached}
+use Rattle.snl_reach.specs.Reach.{IsReached}
 use Rattle.snl_code.specs.Reached.{Table, TellsReached}
 use Rattle.snl_code.specs.Size.{kept_size, row_size, set_size, program_size}
 

@@ -2,8 +2,8 @@
 use Rattle.std.specs.Prelude.{◌≡◌, ◌<◌, ◌↔◌, ℕ, Bool, true, false, List, [], Vec, length, map, slice_get, unwrap_or, Option, None, Some}
 use Rattle.std.proofs.Common.{Global}
 use Rattle.snl_syntax.specs.Programs.{StateSetTree, ProgramTree}
-use Rattle.snl_rules.specs.Marks.{AreReached}
-use Rattle.snl_rules.specs.Reach.{IsReached}
+use Rattle.snl_reach.specs.Marks.{AreReached}
+use Rattle.snl_reach.specs.Reach.{IsReached}
 use Rattle.snl_code.specs.Heres.{states_by}
 
 -- For each state set, and each number of a state in it, whether that state is in the table.

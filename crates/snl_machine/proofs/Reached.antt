@@ -7,8 +7,8 @@ use Rattle.std.proofs.lemmas.Option.{slice_get_within}
 use Rattle.snl_syntax.specs.Programs.{TargetTree, to_state, to_exit, ClauseTree, StateTree, StateSetTree, ProgramTree}
 use Rattle.snl_syntax.specs.Statements.{BlockTree}
 use Rattle.snl_names.specs.Numbered.{number_of}
-use Rattle.snl_rules.specs.Reach.{targets_if_there, targets_after, targets_in_block, targets_in_clause, targets_in_state, state_names}
-use Rattle.snl_rules.proofs.WayLaws.{leads_within, reached_more}
+use Rattle.snl_reach.specs.Reach.{targets_if_there, targets_after, targets_in_block, targets_in_clause, targets_in_state, state_names}
+use Rattle.snl_reach.proofs.WayLaws.{leads_within, reached_more}
 use Rattle.snl_links.specs.Links.{Link}
 use Rattle.snl_code.specs.Copies.{held_sets}
 use Rattle.snl_code.specs.Heres.{scene_in, states_by}

@@ -3,7 +3,7 @@ use Rattle.std.proofs.Common.{ℕ, zero, suc, ℤ, Bool, true, false, List, [], 
 use Rattle.std.proofs.lemmas.List.Elements.{Contains-append_left, Contains-append_right, Contains-push}
 use Rattle.snl_text.specs.declared.tokens.Token.{Token}
 use Rattle.snl_syntax.specs.Statements.{StatementTree, StatementList, BlockTree, nested, empty, expression, break_loop, continue_loop, change_state, return_with, if_then, if_else, while_loop, for_loop, no_statements, statement, block}
-use Rattle.snl_rules.specs.Reach.{targets_in_statement, targets_in_statements, targets_in_block}
+use Rattle.snl_reach.specs.Reach.{targets_in_statement, targets_in_statements, targets_in_block}
 use Rattle.snl_meaning.specs.Effect.{Way, Done, Broken, Continued, Left, Returned, ends, done, if_done, unless_broken, held_by, evaluated, turned, turns, looped, names_of, entered, returns, return_by, plain_return, left_by, effect_of, effects_of, block_effect}
 use Rattle.snl_meaning.specs.Names.{Here, Within, Piece, Body, state_number}
 use Rattle.snl_meaning.specs.Scenes.{Scene}

@@ -1,7 +1,7 @@
 -- Which states a run can come to, by a table of them: without the pieces of all others a program does the same.
 use Rattle.std.specs.Prelude.{◌≡◌, ◌↔◌, ℕ, Bool, true, List, slice_get, Some}
 use Rattle.snl_syntax.specs.Programs.{StateSetTree, ProgramTree}
-use Rattle.snl_rules.specs.Reach.{LeadsTo}
+use Rattle.snl_reach.specs.Reach.{LeadsTo}
 use Rattle.snl_links.specs.Links.{Link}
 pub use Rattle.snl_code.specs.Reached.{Table, HasState, TellsReached}
 use Rattle.snl_load.specs.First.{first_world_of}

@@ -7,7 +7,7 @@ use Rattle.snl_names.specs.declared.options.Options.{Options}
 use Rattle.snl_names.specs.Programs.{sites}
 use Rattle.snl_rules.specs.declared.rules.Broken.{Broken}
 use Rattle.snl_rules.specs.Rules.{IsBroken}
-use Rattle.snl_rules.specs.Reach.{IsUnreached}
+use Rattle.snl_reach.specs.Reach.{IsUnreached}
 use Rattle.snl_rules.specs.Words.{IsOverfullSet, IsOverfull}
 use Rattle.snl_messages.specs.declared.matters.Matter.TheVariants.{TooManyWords}
 use Rattle.snl_messages.specs.Findings.{Finding, of_broken, of_unreached, of_embedded, of_overfull, finding}

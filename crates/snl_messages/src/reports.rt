@@ -19,8 +19,9 @@ use crate::gathering::{
 use crate::messages::Message;
 use crate::ordering::in_order;
 use crate::silence::{options_in_force, silence};
+use snl_reach::unreached;
 use snl_resolve::{Options, Site, UseTable, sites_of};
-use snl_rules::{Broken, broken_rules, is_overfull, overfull_sets, unreached};
+use snl_rules::{Broken, broken_rules, is_overfull, overfull_sets};
 use snl_syntax::Program;
 use snl_text::Token;
 use std::alloc::{AllocError, Global};

@@ -3,11 +3,6 @@ pub mod NamedLaws
 pub mod FactLaws
 pub mod RuleLaws
 pub mod BrokenLaws
-pub mod WayLaws
-pub mod MarkLaws
-pub mod UnmarkedLaws
-pub mod TargetLaws
-pub mod StateLaws
 pub mod CountLaws
 pub mod SharedLaws
 pub mod QueueLaws

@@ -5,9 +5,9 @@ use Rattle.snl_syntax.specs.Programs.{to_exit, to_state, StateTree}
 use Rattle.snl_syntax.specs.Statements.{no_statements, block}
 use Rattle.snl_resolve.specs.Examples.{name}
 use Rattle.snl_names.specs.Numbered.{number_of}
-use Rattle.snl_rules.specs.Reach.{state_names, LeadsTo, IsReached}
+use Rattle.snl_reach.specs.Reach.{state_names, LeadsTo, IsReached}
 use Rattle.snl_rules.specs.ReachExamples.{always, state_of, named_by_one_that_is_not_reached, NameExamples}
-use Rattle.snl_rules.proofs.WayLaws.{leads_named, along}
+use Rattle.snl_reach.proofs.WayLaws.{leads_named, along}
 
 -- which state a name means
 abbrev number : Token → Option ℕ

@@ -11,7 +11,7 @@ use Rattle.snl_syntax.specs.Programs.{StateSetTree, ProgramTree}
 use Rattle.snl_rules.specs.Words.{set_words, IsOverfullSet}
 use Rattle.snl_rules.specs.Counts.{capped, overfull_at, overfull_from}
 use Rattle.snl_rules.proofs.CountLaws.{row_from}
-use Rattle.snl_rules.proofs.WayLaws.{none_in}
+use Rattle.snl_reach.proofs.WayLaws.{none_in}
 
 -- a count that was stopped passes the limit of a state set where the count itself does
 pub same_limit : (words all : ℕ) → words ≡ capped all → nat_lt 65536 words ≡ nat_lt 65536 all

@@ -5,9 +5,9 @@ use Rattle.std.proofs.lemmas.Option.{same_Some}
 use Rattle.snl_text.specs.declared.tokens.Token.{Token}
 use Rattle.snl_resolve.specs.Examples.{name}
 use Rattle.snl_names.specs.Numbered.{number_of}
-use Rattle.snl_rules.specs.Reach.{state_names, LeadsTo, IsReached}
+use Rattle.snl_reach.specs.Reach.{state_names, LeadsTo, IsReached}
 use Rattle.snl_rules.specs.ReachExamples.{first_state, second_state, third_state, three_states, WayExamples}
-use Rattle.snl_rules.proofs.WayLaws.{leads_named, along}
+use Rattle.snl_reach.proofs.WayLaws.{leads_named, along}
 
 -- which state a name means
 abbrev number : Token → Option ℕ

@@ -2,8 +2,6 @@ pub mod Elements
 pub mod Rules
 pub mod Tests
 pub mod ElementTables
-pub mod Reach
-pub mod Marks
 pub mod Words
 pub mod Counts
 pub mod ReachExamples

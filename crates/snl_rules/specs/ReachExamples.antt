@@ -15,7 +15,7 @@ use Rattle.snl_names.specs.declared.sites.Site.{Site}
 use Rattle.snl_names.specs.declared.sites.Site.TheVariants.{Defined}
 use Rattle.snl_resolve.specs.Examples.{name, whole, sign, ints, sized}
 use Rattle.snl_names.specs.Numbered.{number_of}
-use Rattle.snl_rules.specs.Reach.{targets_in_state, state_names, IsReached, IsUnreachedIn}
+use Rattle.snl_reach.specs.Reach.{targets_in_state, state_names, IsReached, IsUnreachedIn}
 use Rattle.snl_rules.specs.Words.{set_words, sets_words, links_words}
 
 -- ---- targets

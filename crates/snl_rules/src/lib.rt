@@ -9,15 +9,11 @@ mod function_words;
 pub mod laws;
 mod link_words;
 mod queues;
-mod reach;
 pub mod reach_laws;
 mod rules;
-mod state_numbers;
-mod targets;
 mod together;
 mod words;
 
 pub use breaking::broken_rules;
-pub use reach::{reached_states, unreached};
 pub use rules::{Broken, Rule};
 pub use words::{is_overfull, overfull_sets};

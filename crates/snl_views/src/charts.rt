@@ -5,7 +5,7 @@ ghost use Rattle.snl_syntax.specs.view.Programs.{clause_view, program_view, stat
 ghost use Rattle.snl_views.specs.Shapes as spec;
 
 use crate::conditions::Conditions;
-use snl_rules::reached_states;
+use snl_reach::reached_states;
 use snl_syntax::{Clause, Program, State, StateSet, Target};
 use std::alloc::{AllocError, Global};
 
