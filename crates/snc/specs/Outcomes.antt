@@ -5,8 +5,8 @@ use Rattle.snl_names.specs.declared.options.Options.{Options}
 use Rattle.snl_messages.specs.Messages.{Said}
 use Rattle.snl_messages.specs.Silence.{options_in_force}
 use Rattle.snl_check.specs.Waits.{waits}
-use Rattle.snl_links.specs.Links.{Link, links}
-use Rattle.snl_links.specs.Tables.{tables}
+use Rattle.snl_channels.specs.Links.{Link, links}
+use Rattle.snl_channels.specs.Tables.{tables}
 use Rattle.snl_output.specs.Devices.{counted}
 use Rattle.snl_machine.specs.MachineOf.{task_of}
 use Rattle.snl_meaning.specs.World.{World}

@@ -8,7 +8,7 @@ use Rattle.snl_text.specs.declared.tokens.Pos.{Pos}
 use Rattle.snl_syntax.specs.Programs.{ProgramTree}
 use Rattle.snl_names.specs.declared.options.Options.{Options}
 use Rattle.snl_messages.specs.Messages.{Said}
-use Rattle.snl_links.specs.Tables.{tables}
+use Rattle.snl_channels.specs.Tables.{tables}
 use Rattle.snc.specs.Judging.{IsFaultSaid, IsSaidOf, IsTreeSaid, NoErrors, names_of}
 use Rattle.snc.specs.Texts.{messages_text}
 

@@ -3,7 +3,7 @@
 ghost use Rattle.std.specs.Prelude.{◌≡◌, if◌then◌else◌, IfOk, string_bytes};
 ghost use Rattle.std.specs.Option.{option_map};
 ghost use Rattle.snl_syntax.specs.view.Programs.{program_view};
-ghost use Rattle.snl_links.specs.Tables.{tables};
+ghost use Rattle.snl_channels.specs.Tables.{tables};
 ghost use Rattle.snc.specs.Outcomes.{IsReport};
 ghost use Rattle.snc.specs.ReportSteps.{asked_tables};
 

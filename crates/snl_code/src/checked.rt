@@ -2,15 +2,13 @@
 
 ghost use Rattle.std.specs.Prelude.{◌≤◌, length, IfOk};
 ghost use Rattle.snl_syntax.specs.view.Programs.{program_view};
-ghost use Rattle.snl_code.specs.Inside.{IsInside};
-ghost use Rattle.snl_code.specs.Pieces.{IsCodeOf};
-ghost use Rattle.snl_code.specs.Size.{program_size};
-ghost use Rattle.snl_code.specs.Starts.{holds_in, table_of};
+ghost use Rattle.snl_flat.specs.Inside.{IsInside};
+ghost use Rattle.snl_flat.specs.Pieces.{IsCodeOf};
+ghost use Rattle.snl_flat.specs.Size.{program_size};
+ghost use Rattle.snl_flat.specs.Starts.{holds_in, table_of};
 
-use crate::code::Code;
-use crate::compiling::compile_by;
-use crate::copies::copies_of;
 use snl_check::Checked;
+use snl_flat::{Code, compile_by, copies_of};
 use snl_resolve::sites_of;
 use std::alloc::{AllocError, Global};
 

@@ -1,22 +1,7 @@
-//! The flat code of a whole program.
+//! The flat code of a checked program.
 #![tactic(auto)]
 
-mod block_depths;
 mod checked;
-mod code;
-mod compiling;
-mod copies;
-mod depths;
-mod functions;
-pub mod laws;
-mod laying;
-mod outlines;
-mod program_depths;
-mod starts;
 
 pub use checked::compile;
-pub use code::Code;
-pub use compiling::{compile_by, names_in};
-pub use copies::{Copies, copies_of};
-pub use snl_meaning::Instr;
-pub use starts::Piece;
+pub use snl_flat::{Code, Copies, Instr, Piece, compile_by, copies_of, names_in};

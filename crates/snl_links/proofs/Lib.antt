@@ -1,4 +1,0 @@
-pub mod MacroLaws
-pub mod LinkLaws
-pub mod AppendLaws
-pub mod FactLaws

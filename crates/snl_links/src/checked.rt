@@ -2,13 +2,12 @@
 
 ghost use Rattle.std.specs.Prelude.{◌≡◌, ◌++◌, map, IfOk, OnErr, OnOk};
 ghost use Rattle.snl_syntax.specs.view.Programs.{program_view};
-ghost use Rattle.snl_links.specs.Appended.{Begun};
-ghost use Rattle.snl_links.specs.LinkViews.{link_view};
-ghost use Rattle.snl_links.specs.Links as spec;
-ghost use Rattle.snl_links.specs.Tables as texts;
+ghost use Rattle.snl_channels.specs.Appended.{Begun};
+ghost use Rattle.snl_channels.specs.LinkViews.{link_view};
+ghost use Rattle.snl_channels.specs.Links as spec;
+ghost use Rattle.snl_channels.specs.Tables as texts;
 
-use crate::channels::{Link, Macros, links_of};
-use crate::listing::tables_of;
+use snl_channels::{Link, Macros, links_of, tables_of};
 use snl_check::Checked;
 use std::alloc::{AllocError, Global};
 

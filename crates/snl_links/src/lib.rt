@@ -1,17 +1,7 @@
-//! The links of a program, the macros in the names of its channels, and its tables as text.
+//! The links and the tables of a checked program.
 #![tactic(auto)]
 
-mod appending;
-mod channels;
 mod checked;
-mod facts;
-pub mod laws;
-mod listing;
-mod macros;
-mod said;
-mod texts;
-mod ties;
 
-pub use channels::{Link, Macros, links_of};
 pub use checked::{links, tables};
-pub use listing::tables_of;
+pub use snl_channels::{Link, Macros, links_of, tables_of};

@@ -1,13 +1,13 @@
 -- The clauses of a program, run by their plans.
 use Rattle.std.proofs.Common.{◌≡◌, ◌∙◌, ◌≤◌, ◌+◌, ℕ, zero, suc, Bool, true, if◌then◌else◌, List, [], ◌∷◌, Option, None, Some, refl, ap, subst, arith, map, slice_get, option_map, option_and_then, unwrap_or}
 use Rattle.snl_syntax.specs.Programs.{ClauseTree, ProgramTree}
-use Rattle.snl_code.specs.declared.starts.Piece.{Piece}
-use Rattle.snl_code.specs.declared.starts.Piece.TheVariants.{Condition, Block}
-use Rattle.snl_code.specs.Depths.{program_depth}
-use Rattle.snl_code.specs.Heres.{here_in, scene_in}
-use Rattle.snl_code.specs.Pieces.{IsPlaced, PieceTree, Test, Action, piece_of, kept_piece, clause_at}
-use Rattle.snl_code.specs.Starts.{ProgramTable, holds_in, start_in}
-use Rattle.snl_code.proofs.Deepest.{depth_is_enough}
+use Rattle.snl_flat.specs.declared.starts.Piece.{Piece}
+use Rattle.snl_flat.specs.declared.starts.Piece.TheVariants.{Condition, Block}
+use Rattle.snl_flat.specs.Depths.{program_depth}
+use Rattle.snl_flat.specs.Heres.{here_in, scene_in}
+use Rattle.snl_flat.specs.Pieces.{IsPlaced, PieceTree, Test, Action, piece_of, kept_piece, clause_at}
+use Rattle.snl_flat.specs.Starts.{ProgramTable, holds_in, start_in}
+use Rattle.snl_flat.proofs.Deepest.{depth_is_enough}
 use Rattle.snl_meaning.specs.declared.instrs.Instr.{Instr}
 use Rattle.snl_meaning.specs.Effect.{held_by, block_effect}
 use Rattle.snl_meaning.specs.Ran.{then_do}

@@ -3,7 +3,7 @@ use Rattle.std.proofs.Common.{◌≡◌, ◌∙◌, ◌<◌, ◌==◌, ℕ, zero
 use Rattle.snl_names.specs.CopyVariables.{variable_view}
 use Rattle.snl_names.specs.Variables.{CopyVariable}
 use Rattle.snl_names.specs.declared.copy_variables.CopyVariable as declared
-use Rattle.snl_code.specs.Copies.{sets_of}
+use Rattle.snl_flat.specs.Copies.{sets_of}
 use Rattle.snl_meaning.specs.Names.{number_at}
 use Rattle.snl_load.specs.Initials.{held_in, held_among}
 use Rattle.snl_load.specs.Offsets.{first_of, offsets_of}

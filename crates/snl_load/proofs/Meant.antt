@@ -1,16 +1,16 @@
 -- The state sets of a program, run by their plans.
 use Rattle.std.proofs.Common.{◌≡◌, ◌∙◌, ◌≤◌, ◌+◌, ℕ, Bool, zero, suc, List, [], ◌∷◌, Option, Some, refl, ap, sym, subst, arith, map, slice_get, option_map, option_and_then}
 use Rattle.snl_syntax.specs.Programs.{StateTree, StateSetTree, ProgramTree}
-use Rattle.snl_code.specs.declared.code.Code.{Code}
+use Rattle.snl_flat.specs.declared.code.Code.{Code}
 use Rattle.snl_syntax.specs.Statements.{BlockTree}
-use Rattle.snl_code.specs.declared.starts.Piece.{Piece}
-use Rattle.snl_code.specs.declared.starts.Piece.TheVariants.{ProgramEntry, ProgramExit}
-use Rattle.snl_code.specs.Depths.{program_depth}
-use Rattle.snl_code.specs.Heres.{outlines_in, here_in, scene_in, name_by, states_by}
-use Rattle.snl_code.specs.Pieces.{IsPlaced, PieceTree, Action, piece_of, kept_piece, state_at}
-use Rattle.snl_code.specs.Starts.{entries_of, table_of, holds_in, start_in}
-use Rattle.snl_code.proofs.Deepest.{depth_is_enough}
-use Rattle.snl_links.specs.Links.{Link}
+use Rattle.snl_flat.specs.declared.starts.Piece.{Piece}
+use Rattle.snl_flat.specs.declared.starts.Piece.TheVariants.{ProgramEntry, ProgramExit}
+use Rattle.snl_flat.specs.Depths.{program_depth}
+use Rattle.snl_flat.specs.Heres.{outlines_in, here_in, scene_in, name_by, states_by}
+use Rattle.snl_flat.specs.Pieces.{IsPlaced, PieceTree, Action, piece_of, kept_piece, state_at}
+use Rattle.snl_flat.specs.Starts.{entries_of, table_of, holds_in, start_in}
+use Rattle.snl_flat.proofs.Deepest.{depth_is_enough}
+use Rattle.snl_channels.specs.Links.{Link}
 use Rattle.snl_meaning.specs.declared.instrs.Instr.{Instr}
 use Rattle.snl_emit.specs.Depths.{block_depth}
 use Rattle.snl_meaning.specs.Names.{formats_of}
@@ -24,7 +24,7 @@ use Rattle.snl_load.specs.Meaning.{block_meaning, state_meaning, set_meaning, se
 use Rattle.snl_load.specs.Plans.{PlainPlan, PlainSet, set_view, state_view, state_plans, set_plan, set_plans}
 use Rattle.snl_load.specs.Reached.{set_reached, states_reached}
 use Rattle.snl_load.specs.Right.{IsLoadedOf, PlansAreRight}
-use Rattle.snl_code.specs.Reached.{Table}
+use Rattle.snl_flat.specs.Reached.{Table}
 use Rattle.snl_load.proofs.Pieces.{outer-means}
 use Rattle.snl_load.proofs.Sets.{states-mean, states-run}
 

@@ -3,8 +3,8 @@ use Rattle.std.proofs.Common.{◌≡◌, ◌∙◌, ◌≤◌, ℕ, List, Option
 use Rattle.snl_syntax.specs.Expressions.{ExprTree}
 use Rattle.snl_syntax.specs.Programs.{ProgramTree}
 use Rattle.snl_syntax.specs.Statements.{BlockTree}
-use Rattle.snl_code.specs.Heres.{outlines_in, scene_in}
-use Rattle.snl_code.specs.Pieces.{IsPlaced, Test, Action}
+use Rattle.snl_flat.specs.Heres.{outlines_in, scene_in}
+use Rattle.snl_flat.specs.Pieces.{IsPlaced, Test, Action}
 use Rattle.snl_meaning.specs.declared.instrs.Instr.{Instr}
 use Rattle.snl_meaning.specs.Effect.{held_by, holds, block_effect}
 use Rattle.snl_meaning.specs.Ran.{Ran, then_do}

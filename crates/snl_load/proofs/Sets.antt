@@ -2,13 +2,13 @@
 use Rattle.std.proofs.Common.{◌≡◌, ◌∙◌, ◌≤◌, ◌+◌, ℕ, zero, suc, Bool, true, false, if◌then◌else◌, List, [], ◌∷◌, Option, None, Some, refl, ap, sym, subst, arith, map, slice_get, option_map, option_and_then}
 use Rattle.snl_syntax.specs.Programs.{ClauseTree, StateTree, ProgramTree}
 use Rattle.snl_syntax.specs.Statements.{BlockTree}
-use Rattle.snl_code.specs.declared.starts.Piece.{Piece}
-use Rattle.snl_code.specs.declared.starts.Piece.TheVariants.{Entry, Exit}
-use Rattle.snl_code.specs.Depths.{program_depth}
-use Rattle.snl_code.specs.Heres.{here_in, scene_in}
-use Rattle.snl_code.specs.Pieces.{IsPlaced, PieceTree, Action, piece_of, kept_piece, clause_at, state_at}
-use Rattle.snl_code.specs.Starts.{ProgramTable, holds_in, start_in}
-use Rattle.snl_code.proofs.Deepest.{depth_is_enough}
+use Rattle.snl_flat.specs.declared.starts.Piece.{Piece}
+use Rattle.snl_flat.specs.declared.starts.Piece.TheVariants.{Entry, Exit}
+use Rattle.snl_flat.specs.Depths.{program_depth}
+use Rattle.snl_flat.specs.Heres.{here_in, scene_in}
+use Rattle.snl_flat.specs.Pieces.{IsPlaced, PieceTree, Action, piece_of, kept_piece, clause_at, state_at}
+use Rattle.snl_flat.specs.Starts.{ProgramTable, holds_in, start_in}
+use Rattle.snl_flat.proofs.Deepest.{depth_is_enough}
 use Rattle.snl_meaning.specs.declared.instrs.Instr.{Instr}
 use Rattle.snl_meaning.specs.Run.{PieceContext, context_of}
 use Rattle.snl_meaning.specs.Run as run

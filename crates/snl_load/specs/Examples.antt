@@ -7,8 +7,8 @@ use Rattle.snl_syntax.specs.Definitions.{DefinitionTree, one_name, declaration, 
 use Rattle.snl_syntax.specs.Expressions.{ExprTree, constant, named, call, chain, assignment, no_terms, term, no_arguments, value}
 use Rattle.snl_syntax.specs.Programs.{to_state, ClauseTree, StateTree, ProgramTree}
 use Rattle.snl_syntax.specs.Statements.{expression, no_statements, statement, block}
-use Rattle.snl_code.specs.Size.{program_size}
-use Rattle.snl_links.specs.Links.{links}
+use Rattle.snl_flat.specs.Size.{program_size}
+use Rattle.snl_channels.specs.Links.{links}
 use Rattle.snl_meaning.specs.Ran.{Ran, Gives, Faults}
 use Rattle.snl_meaning.specs.World.{World}
 use Rattle.snl_schedule.specs.Arrivals.{connected, received}

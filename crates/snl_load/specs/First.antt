@@ -2,12 +2,12 @@
 use Rattle.std.specs.Prelude.{ℕ, ℤ, pos, false, List, [], Option, None, map, length, replicate}
 use Rattle.std.specs.List.{flat_map}
 use Rattle.snl_syntax.specs.Programs.{ProgramTree}
-use Rattle.snl_links.specs.Links.{Link}
+use Rattle.snl_channels.specs.Links.{Link}
 use Rattle.snl_meaning.specs.declared.live.Live.TheVariants.{Waiting}
 use Rattle.snl_meaning.specs.Laws.{words_of}
 use Rattle.snl_meaning.specs.World.{Queue, SetMemory, World}
 use Rattle.snl_names.specs.Variables.{CopyVariable, shared_variables}
-use Rattle.snl_code.specs.Copies.{held_sets}
+use Rattle.snl_flat.specs.Copies.{held_sets}
 use Rattle.snl_load.specs.Initials.{all_elements, first_buffer}
 use Rattle.snl_meaning.specs.declared.ties.Tied.{Tied}
 use Rattle.snl_load.specs.Places.{channels, flags_in, placed_sets, ties_in, homes_in}

@@ -6,8 +6,8 @@ use Rattle.snl_syntax.specs.Definitions.{DefinitionTree, function}
 use Rattle.snl_syntax.specs.Expressions.{named, call, no_arguments, value}
 use Rattle.snl_syntax.specs.Programs.{ProgramTree}
 use Rattle.snl_syntax.specs.Statements.{return_with, no_statements, statement, block}
-use Rattle.snl_code.specs.Size.{program_size}
-use Rattle.snl_links.specs.Links.{links}
+use Rattle.snl_flat.specs.Size.{program_size}
+use Rattle.snl_channels.specs.Links.{links}
 use Rattle.snl_load.specs.Examples.{sign, name, with_number, clause_with, program_with, world_left, lines_of, valued_then}
 use Rattle.snl_load.specs.First.{first_world_of}
 

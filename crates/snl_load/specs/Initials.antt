@@ -1,7 +1,7 @@
 -- What variables, and the buffers of their links, begin with.
 use Rattle.std.specs.Prelude.{ℕ, zero, suc, ◌+◌, ℤ, pos, int_le, ◌&&◌, ◌==◌, List, [], ◌∷◌, Option, None, Some, slice_get, replicate, if◌then◌else◌}
 use Rattle.snl_syntax.specs.Expressions.{ExprTree}
-use Rattle.snl_links.specs.Links.{Link}
+use Rattle.snl_channels.specs.Links.{Link}
 use Rattle.snl_meaning.specs.Effect.{values_of}
 use Rattle.snl_names.specs.declared.constants.Constant.{Constant}
 use Rattle.snl_names.specs.declared.constants.Constant.TheVariants.{Worth}

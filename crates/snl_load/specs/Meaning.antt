@@ -4,8 +4,8 @@ use Rattle.snl_text.specs.declared.tokens.Token.{Token}
 use Rattle.snl_syntax.specs.Definitions.{DefinitionTree}
 use Rattle.snl_syntax.specs.Programs.{TargetTree, to_state, to_exit, ClauseTree, StateTree, StateSetTree, ProgramTree}
 use Rattle.snl_syntax.specs.Statements.{BlockTree}
-use Rattle.snl_code.specs.Heres.{scene_in}
-use Rattle.snl_links.specs.Links.{Link}
+use Rattle.snl_flat.specs.Heres.{scene_in}
+use Rattle.snl_channels.specs.Links.{Link}
 use Rattle.snl_meaning.specs.Effect.{Way, Left, held_by, block_effect}
 use Rattle.snl_meaning.specs.Names.{or_first}
 use Rattle.snl_names.specs.Numbered.{number_of}

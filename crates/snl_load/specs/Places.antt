@@ -3,10 +3,10 @@ use Rattle.std.specs.Prelude.{ℕ, ◌+◌, ◌-◌, ◌^◌, min, ℤ, pos, Lis
 use Rattle.std.specs.List.{flat_map}
 use Rattle.snl_syntax.specs.Programs.{ProgramTree}
 use Rattle.snl_names.specs.Programs.{sites}
-use Rattle.snl_links.specs.Links.{Link}
+use Rattle.snl_channels.specs.Links.{Link}
 use Rattle.snl_meaning.specs.declared.instrs.Variable.{Variable}
 use Rattle.snl_meaning.specs.declared.names.Placed.{Placed}
-pub use Rattle.snl_code.specs.Heres.{for_each_set, placed_in, placed_sets}
+pub use Rattle.snl_flat.specs.Heres.{for_each_set, placed_in, placed_sets}
 use Rattle.snl_meaning.specs.Names.{variable_in, number_at, flags_of}
 use Rattle.snl_meaning.specs.declared.ties.Tied.{Tied}
 use Rattle.snl_load.specs.Names.{position_of, once}

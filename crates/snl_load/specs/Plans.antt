@@ -2,9 +2,9 @@
 use Rattle.std.specs.Prelude.{◌+◌, ℕ, Bool, true, false, List, [], ◌∷◌, map, unwrap_or}
 use Rattle.snl_text.specs.declared.tokens.Token.{Token}
 use Rattle.snl_syntax.specs.Programs.{ClauseTree, StateTree, StateSetTree, ProgramTree}
-use Rattle.snl_code.specs.declared.starts.Piece.TheVariants.{ProgramEntry, ProgramExit, Entry, Exit, Condition, Block}
-use Rattle.snl_code.specs.Starts.{ProgramTable, holds_in, start_in}
-use Rattle.snl_links.specs.Links.{Link}
+use Rattle.snl_flat.specs.declared.starts.Piece.TheVariants.{ProgramEntry, ProgramExit, Entry, Exit, Condition, Block}
+use Rattle.snl_flat.specs.Starts.{ProgramTable, holds_in, start_in}
+use Rattle.snl_channels.specs.Links.{Link}
 use Rattle.snl_schedule.specs.declared.plans.Again.{Again}
 use Rattle.snl_schedule.specs.declared.plans.Blocks.{Blocks}
 use Rattle.snl_schedule.specs.declared.plans.ClausePlan.{ClausePlan}

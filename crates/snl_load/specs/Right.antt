@@ -1,12 +1,12 @@
 -- The law of plans: what a plan runs is what its program means, without the states that are not reached.
 use Rattle.std.specs.Prelude.{◌≡◌, ◌<◌, ◌≤◌, ◌-◌, ◌^◌, Bool, List, length}
 use Rattle.snl_syntax.specs.Programs.{ProgramTree}
-use Rattle.snl_code.specs.declared.code.Code.{Code}
-use Rattle.snl_code.specs.Inside.{IsInside}
-use Rattle.snl_code.specs.Pieces.{IsCodeOf, texts_of}
-use Rattle.snl_code.specs.Size.{program_size}
-use Rattle.snl_code.specs.Starts.{entries_of, table_of, holds_in}
-use Rattle.snl_links.specs.Links.{Link}
+use Rattle.snl_flat.specs.declared.code.Code.{Code}
+use Rattle.snl_flat.specs.Inside.{IsInside}
+use Rattle.snl_flat.specs.Pieces.{IsCodeOf, texts_of}
+use Rattle.snl_flat.specs.Size.{program_size}
+use Rattle.snl_flat.specs.Starts.{entries_of, table_of, holds_in}
+use Rattle.snl_channels.specs.Links.{Link}
 use Rattle.snl_schedule.specs.Loaded.{Loaded, program_of, CanRunLoaded}
 use Rattle.snl_load.specs.Meaning.{program_meaning}
 use Rattle.snl_load.specs.Plans.{plan_view, program_plan}

@@ -1,13 +1,13 @@
 //! The channels of a program, by number.
 
 ghost use Rattle.std.specs.Prelude.{◌≡◌, map, IfOk, OnOk};
-ghost use Rattle.snl_links.specs.LinkViews.{link_view};
+ghost use Rattle.snl_channels.specs.LinkViews.{link_view};
 ghost use Rattle.snl_load.specs.Names.{noted_all, position_of};
 ghost use Rattle.snl_load.specs.Places as spec;
 ghost use Rattle.snl_load.specs.Sets.{names_in};
 
 use indexmap::IndexSet;
-use snl_links::Link;
+use snl_channels::Link;
 use std::alloc::{AllocError, Global};
 
 /// Gives the name of a channel the next number, if it has none yet. An empty name is that of no channel.

@@ -1,9 +1,9 @@
 //! The store of a program before the first event.
 
 ghost use Rattle.std.specs.Prelude.{◌≡◌, map, false, replicate, IfOk};
-ghost use Rattle.snl_links.specs.LinkViews.{link_view};
+ghost use Rattle.snl_channels.specs.LinkViews.{link_view};
 ghost use Rattle.snl_vm.specs.Views.{copy_view, world_of};
-ghost use Rattle.snl_code.specs.Copies.{sets_of, variables_in};
+ghost use Rattle.snl_flat.specs.Copies.{sets_of, variables_in};
 ghost use Rattle.snl_names.specs.CopyVariables.{variable_view};
 ghost use Rattle.snl_load.specs.First as spec;
 ghost use Rattle.snl_vm.specs.Marks as tables;
@@ -14,8 +14,8 @@ ghost use Rattle.snl_load.specs.Sets.{names_in};
 use crate::initials::{first_buffers, first_words, push_zeros};
 use crate::links::homes_in;
 use indexmap::IndexSet;
-use snl_code::Copies;
-use snl_links::Link;
+use snl_channels::Link;
+use snl_flat::Copies;
 use snl_meaning::{Live, Tied};
 use snl_resolve::CopyVariable;
 use snl_vm::{Marks, Queue, SetMemory, Store};

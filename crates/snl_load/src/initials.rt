@@ -2,17 +2,17 @@
 
 ghost use Rattle.std.specs.Prelude.{◌≡◌, ◌++◌, ◌+◌, drop, map, option_map, pos, replicate, slice_get, OnOk, IfOk};
 ghost use Rattle.std.specs.List.{flat_map};
-ghost use Rattle.snl_links.specs.LinkViews.{link_view};
+ghost use Rattle.snl_channels.specs.LinkViews.{link_view};
 ghost use Rattle.snl_meaning.specs.Effect.{values_of};
 ghost use Rattle.snl_names.specs.Constants.{constant_of};
 ghost use Rattle.snl_names.specs.CopyVariables.{begun, variable_view};
 ghost use Rattle.snl_names.specs.Scopes.{is_hidden};
 ghost use Rattle.snl_syntax.specs.view.Expressions.{boxed, view};
-ghost use Rattle.snl_code.specs.Copies.{sets_of};
+ghost use Rattle.snl_flat.specs.Copies.{sets_of};
 ghost use Rattle.snl_load.specs.Initials as spec;
 ghost use Rattle.snl_load.specs.Offsets.{first_of, offsets_of};
 
-use snl_links::Link;
+use snl_channels::Link;
 use snl_meaning::Offsets;
 use snl_resolve::{Constant, CopyVariable, Scopes, constant_of};
 use snl_syntax::{Expr, Initialiser};

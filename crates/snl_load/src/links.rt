@@ -1,14 +1,14 @@
 //! Where the values of links stand: in buffers, and in the words of their variables; and which event flags they set.
 
 ghost use Rattle.std.specs.Prelude.{◌≡◌, map, option_map, IfOk};
-ghost use Rattle.snl_links.specs.LinkViews.{link_view};
+ghost use Rattle.snl_channels.specs.LinkViews.{link_view};
 ghost use Rattle.snl_meaning.specs.Names.{number_at};
 ghost use Rattle.snl_load.specs.Places as spec;
 ghost use Rattle.snl_load.specs.Sets.{names_in};
 
 use crate::channels::channel_number;
 use indexmap::IndexSet;
-use snl_links::Link;
+use snl_channels::Link;
 use snl_meaning::{Offsets, Places, Tied, Variable};
 use snl_vm::Homes;
 use std::alloc::{AllocError, Global};

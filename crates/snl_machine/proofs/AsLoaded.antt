@@ -1,16 +1,16 @@
 -- A plan and its code, as they are loaded.
 use Rattle.std.proofs.Common.{◌≡◌, ◌∙◌, ◌<◌, ◌≤◌, ◌-◌, ◌^◌, ℕ, Bool, List, Result, Ok, Err, IfOk, refl, ap, length}
 use Rattle.snl_syntax.specs.Programs.{ProgramTree}
-use Rattle.snl_code.specs.declared.code.Code.{Code}
-use Rattle.snl_code.specs.Inside.{IsInside}
-use Rattle.snl_code.specs.Pieces.{IsCodeOf}
-use Rattle.snl_code.specs.Size.{program_size}
-use Rattle.snl_code.specs.Starts.{table_of, holds_in}
-use Rattle.snl_links.specs.Links.{Link, links}
+use Rattle.snl_flat.specs.declared.code.Code.{Code}
+use Rattle.snl_flat.specs.Inside.{IsInside}
+use Rattle.snl_flat.specs.Pieces.{IsCodeOf}
+use Rattle.snl_flat.specs.Size.{program_size}
+use Rattle.snl_flat.specs.Starts.{table_of, holds_in}
+use Rattle.snl_channels.specs.Links.{Link, links}
 use Rattle.snl_meaning.specs.World.{World}
 use Rattle.snl_meaning.specs.declared.ties.Tied.{Tied}
 use Rattle.snl_schedule.specs.declared.plans.Plan.{Plan}
-use Rattle.snl_code.specs.Copies.{held_sets}
+use Rattle.snl_flat.specs.Copies.{held_sets}
 use Rattle.snl_names.specs.Variables.{shared_variables}
 use Rattle.snl_load.specs.First.{first_world, first_world_of}
 use Rattle.snl_meaning.specs.declared.names.Placed.{Placed}

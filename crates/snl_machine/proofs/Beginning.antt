@@ -4,7 +4,7 @@ use Rattle.std.specs.Prelude.{◌&&◌, ◌-◌, ◌^◌, int_le, replicate, sli
 use Rattle.std.specs.List.{flat_map}
 use Rattle.snl_syntax.specs.Expressions.{ExprTree}
 use Rattle.snl_syntax.specs.Programs.{StateSetTree, ProgramTree}
-use Rattle.snl_links.specs.Links.{Link}
+use Rattle.snl_channels.specs.Links.{Link}
 use Rattle.std.proofs.lemmas.List.Elements.{All-nil}
 use Rattle.snl_machine.specs.Ranges.{Has, Fit, AllFit, IsSized, ItemFits, QueueFits, QueuesFit, counts, FirstHolds}
 use Rattle.snl_meaning.specs.declared.instrs.Variable.{Variable}
@@ -13,8 +13,8 @@ use Rattle.snl_meaning.specs.Effect.{values_of}
 use Rattle.snl_meaning.specs.Laws.{words_of}
 use Rattle.snl_meaning.specs.Names.{behind, variable_from, placed_from}
 use Rattle.snl_meaning.specs.World.{SetMemory, no_copy, copy_of}
-use Rattle.snl_code.specs.Copies.{held_sets}
-use Rattle.snl_code.specs.Heres.{shared_in}
+use Rattle.snl_flat.specs.Copies.{held_sets}
+use Rattle.snl_flat.specs.Heres.{shared_in}
 use Rattle.snl_load.specs.First.{first_copy, first_queue, first_shared, first_world_of}
 use Rattle.snl_load.specs.Initials.{worth_in, first_by, first_element, first_elements, all_elements, held_among, buffer_by, first_buffer}
 use Rattle.snl_load.specs.Places.{place_after, channels, flags_in, placed_sets, for_each_set, tie_of, ties_from}

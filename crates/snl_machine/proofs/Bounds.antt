@@ -1,9 +1,9 @@
 -- The bound of an instant of a machine.
 use Rattle.std.proofs.Common.{◌≤◌, ◌*◌, ℕ, subst, arith, length}
 use Rattle.std.proofs.Math.Nat.{mul-le-mul_left}
-use Rattle.snl_code.proofs.SizesAlike.{sizes-alike}
-use Rattle.snl_code.specs.Size.{program_size}
-use Rattle.snl_code.specs.Starts.{table_of, holds_in}
+use Rattle.snl_flat.proofs.SizesAlike.{sizes-alike}
+use Rattle.snl_flat.specs.Size.{program_size}
+use Rattle.snl_flat.specs.Starts.{table_of, holds_in}
 use Rattle.snl_meaning.proofs.Counts.{steps_are_bounded, stretches_are_bounded}
 use Rattle.snl_schedule.specs.Loaded.{Loaded}
 use Rattle.snl_schedule.specs.Steps.{instant_steps}

@@ -4,7 +4,7 @@ use Rattle.std.specs.Prelude.{◌-◌, ◌^◌, replicate, slice_set, slice_inde
 use Rattle.std.proofs.lemmas.Bool.{cases_lt, cases_order}
 use Rattle.std.proofs.lemmas.List.{length-replicate}
 use Rattle.snl_syntax.specs.Programs.{ProgramTree}
-use Rattle.snl_links.specs.Links.{Link}
+use Rattle.snl_channels.specs.Links.{Link}
 use Rattle.snl_load.specs.Places.{placed_in, ties_in}
 use Rattle.snl_machine.specs.Layout.{HasWords, CopiesStay, IsWritten, IsLaidOut, ElementsStay, IsTiedTo, VariablesAreCells}
 use Rattle.snl_machine.specs.Ranges.{IsSized, IsTied}

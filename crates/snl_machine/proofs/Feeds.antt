@@ -3,7 +3,7 @@ use Rattle.std.proofs.Common.{◌≡◌, ◌∙◌, ◌+◌, ◌<◌, ◌≤◌,
 use Rattle.std.specs.Prelude.{◌-◌, ◌^◌, slice_set, slice_index_or}
 use Rattle.std.proofs.lemmas.Bool.{cond-true, cond-false}
 use Rattle.snl_syntax.specs.Programs.{ProgramTree}
-use Rattle.snl_links.specs.Links.{Link}
+use Rattle.snl_channels.specs.Links.{Link}
 use Rattle.snl_load.specs.Places.{ties_in}
 use Rattle.snl_machine.specs.Ranges.{counts}
 use Rattle.snl_machine.specs.Layout.{IsMonitored, HasMark, QueueAndMarksStay, FeedsFillBuffers}

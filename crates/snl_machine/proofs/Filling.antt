@@ -4,7 +4,7 @@ use Rattle.std.specs.Prelude.{◌&&◌, ◌||◌, not, ◌-◌, ◌^◌, int_le,
 use Rattle.std.specs.List.{list_all}
 use Rattle.std.proofs.lemmas.Bool.{ltb-true, ltb-false}
 use Rattle.snl_syntax.specs.Programs.{ProgramTree}
-use Rattle.snl_links.specs.Links.{Link}
+use Rattle.snl_channels.specs.Links.{Link}
 use Rattle.snl_machine.specs.Ranges.{Has, Fit, IsSized, IsTied, BuffersFit, ItemFits, QueuesFit, Holds, counts}
 use Rattle.snl_machine.proofs.Linked.{at_home}
 use Rattle.snl_machine.proofs.Queued.{length-words, word-at, words-fit, put-fits, oldest-fits, rest-fits}

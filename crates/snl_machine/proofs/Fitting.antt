@@ -3,8 +3,8 @@ use Rattle.std.proofs.Common.{◌≡◌, ◌∙◌, ◌+◌, ◌<◌, ◌≤◌,
 use Rattle.std.specs.Prelude.{◌==◌, slice_set, slice_index_or}
 use Rattle.std.proofs.lemmas.Bool.{ltb-true, ltb-false}
 use Rattle.snl_syntax.specs.Programs.{ProgramTree}
-use Rattle.snl_code.specs.Heres.{here_in, function_places, shared_in}
-use Rattle.snl_links.specs.Links.{Link}
+use Rattle.snl_flat.specs.Heres.{here_in, function_places, shared_in}
+use Rattle.snl_channels.specs.Links.{Link}
 use Rattle.snl_machine.specs.Ranges.{Has, Fit, AllFit, Holds, IsSized}
 use Rattle.snl_machine.proofs.Shared.{placed-own, is-shared, in-parts, placed-front, element-own, element-shared, zeros-own, zeros-shared}
 use Rattle.snl_meaning.specs.declared.instrs.Variable.{Variable}

@@ -41,7 +41,7 @@ use Rattle.snl_messages.specs.declared.messages.Severity.TheVariants.{Error}
 use Rattle.snl_messages.specs.Wordings.{wording_of}
 use Rattle.snl_messages.proofs.MemberLaws.{at_first}
 use Rattle.snl_meaning.specs.Names.{flag_at, flags_of}
-use Rattle.snl_code.specs.Inside.{FlagsAreDeclared}
+use Rattle.snl_flat.specs.Inside.{FlagsAreDeclared}
 use Rattle.snl_machine.specs.Accepted.{IsRead, IsAcceptedTree, AcceptedDeclaresItsFlags}
 use Rattle.snl_machine.proofs.Declared.{In, in-left, in-right}
 use Rattle.snl_machine.proofs.NoErrors.{breaks-none}

@@ -1,13 +1,13 @@
 -- A machine of a program holds the words that the program needs.
-use Rattle.snl_code.specs.Copies.{held_sets}
+use Rattle.snl_flat.specs.Copies.{held_sets}
 use Rattle.std.proofs.Common.{◌≡◌, ◌∙◌, ◌+◌, ◌*◌, ◌-◌, ◌^◌, ◌<◌, refl, sym, ap, arith, ℕ, List, [], ◌∷◌, map, length}
 use Rattle.std.specs.List.{sum_by}
 use Rattle.std.proofs.Math.Nat.{zero-mul, suc-mul}
 use Rattle.std.proofs.lemmas.List.{length-map}
 use Rattle.std.proofs.lemmas.List.Sums.{sum_by-cons}
-use Rattle.snl_code.specs.Depths.{capped, program_depth}
+use Rattle.snl_flat.specs.Depths.{capped, program_depth}
 use Rattle.snl_meaning.specs.Known.{entry_view}
-use Rattle.snl_links.specs.Links.{Link}
+use Rattle.snl_channels.specs.Links.{Link}
 use Rattle.snl_machine.specs.Footprint.{MachinesHoldTheFootprint}
 use Rattle.snl_machine.proofs.LaidOut.{sets-many}
 use Rattle.snl_meaning.specs.Laws.{words_of}

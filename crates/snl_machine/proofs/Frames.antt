@@ -4,9 +4,9 @@ use Rattle.std.specs.Prelude.{replicate}
 use Rattle.std.specs.List.{flat_map}
 use Rattle.std.proofs.lemmas.List.{length-replicate}
 use Rattle.snl_syntax.specs.Programs.{ProgramTree}
-use Rattle.snl_links.specs.Links.{Link}
-use Rattle.snl_code.specs.Copies.{held_sets}
-use Rattle.snl_code.specs.Heres.{routines_in, scene_in}
+use Rattle.snl_channels.specs.Links.{Link}
+use Rattle.snl_flat.specs.Copies.{held_sets}
+use Rattle.snl_flat.specs.Heres.{routines_in, scene_in}
 use Rattle.snl_load.specs.First.{first_copy, first_queue, first_world_of}
 use Rattle.snl_load.specs.Initials.{all_elements, held_among, buffer_by, first_buffer}
 use Rattle.snl_load.specs.Meaning.{program_meaning}

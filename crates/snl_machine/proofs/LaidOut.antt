@@ -3,7 +3,7 @@ use Rattle.std.proofs.Common.{◌≡◌, ◌∙◌, ◌+◌, ◌<◌, refl, sym,
 use Rattle.std.specs.Prelude.{slice_index_or}
 use Rattle.std.proofs.lemmas.List.{length-map}
 use Rattle.snl_syntax.specs.Programs.{StateSetTree}
-use Rattle.snl_code.specs.Copies.{held_sets}
+use Rattle.snl_flat.specs.Copies.{held_sets}
 use Rattle.snl_load.specs.Places.{for_each_set}
 use Rattle.snl_machine.specs.Layout.{WorldsAreLaidOut}
 use Rattle.snl_meaning.specs.Frames.{Frame}

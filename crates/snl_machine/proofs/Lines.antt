@@ -1,11 +1,11 @@
 -- A line of a trace keeps what copies, buffers and queues hold within their types.
 use Rattle.std.proofs.Common.{◌≡◌, ◌∙◌, ◌+◌, ap, sym, subst, arith, ℕ, Bool, true, slice_get, List, Some, length, nat_lt, if◌then◌else◌}
 use Rattle.snl_syntax.specs.Programs.{ProgramTree}
-use Rattle.snl_code.specs.Heres.{scene_in, shared_in}
+use Rattle.snl_flat.specs.Heres.{scene_in, shared_in}
 use Rattle.snl_schedule.specs.declared.events.Event.{Event}
 use Rattle.snl_schedule.specs.declared.events.Event.TheVariants.{Up, Down, Val, Done, Tick, Other}
 use Rattle.snl_schedule.specs.Event.{applied, is_event_fit}
-use Rattle.snl_links.specs.Links.{Link}
+use Rattle.snl_channels.specs.Links.{Link}
 use Rattle.snl_machine.specs.Ranges.{AllFit, Fit, Holds, IsSized, IsTied, PiecesFit, EventsFit, Begins, GoesOn, ReachedHold}
 use Rattle.snl_machine.proofs.Beginning.{first_holds}
 use Rattle.snl_machine.proofs.Filling.{received-fits, received-same, refresh_holds, fetched_holds, taken_holds, queued_holds, filled_holds, both-true}

@@ -2,7 +2,7 @@
 use Rattle.std.proofs.Common.{◌≡◌, ◌∙◌, ◌+◌, ◌≤◌, refl, sym, ap, arith, ℕ, zero, suc, List, [], ◌∷◌, Option, None, Some, map, slice_get, option_map}
 use Rattle.std.specs.Prelude.{slice_index_or}
 use Rattle.snl_syntax.specs.Programs.{StateSetTree, ProgramTree}
-use Rattle.snl_links.specs.Links.{Link}
+use Rattle.snl_channels.specs.Links.{Link}
 use Rattle.snl_machine.specs.Ranges.{IsTied}
 use Rattle.snl_meaning.specs.declared.instrs.Variable.{Variable}
 use Rattle.snl_meaning.specs.declared.names.Placed.{Placed}

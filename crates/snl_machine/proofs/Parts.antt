@@ -2,7 +2,7 @@
 use Rattle.std.proofs.Common.{◌≤◌, ℕ, List, [], ◌∷◌, Option, None, Some, map}
 use Rattle.snl_syntax.specs.Programs.{TargetTree, to_state, to_exit, ClauseTree, StateTree, ProgramTree}
 use Rattle.snl_syntax.specs.Statements.{BlockTree}
-use Rattle.snl_code.specs.Heres.{here_in, scene_in}
+use Rattle.snl_flat.specs.Heres.{here_in, scene_in}
 use Rattle.snl_meaning.specs.Effect.{Way, Done, Broken, Continued, Left, Returned, block_effect}
 use Rattle.snl_meaning.specs.Keeping.{PiecesKeep}
 use Rattle.snl_meaning.specs.World.{World}

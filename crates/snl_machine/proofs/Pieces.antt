@@ -3,7 +3,7 @@ use Rattle.std.proofs.Common.{◌≡◌, refl, ℕ, ℤ, List, [], ◌∷◌, �
 use Rattle.std.specs.List.{flat_map}
 use Rattle.snl_syntax.specs.Functions.{ParameterTree, FunctionTree}
 use Rattle.snl_syntax.specs.Programs.{ProgramTree}
-use Rattle.snl_code.specs.Heres.{function_places, here_in, if_there, parameter_variable, routine_of, routines_in, scene_in}
+use Rattle.snl_flat.specs.Heres.{function_places, here_in, if_there, parameter_variable, routine_of, routines_in, scene_in}
 use Rattle.snl_meaning.specs.declared.instrs.Variable.{Variable}
 use Rattle.snl_meaning.specs.Keeping.{IsKept, MayStore, AllMay, AllStore, PiecesKeep}
 use Rattle.snl_meaning.specs.Names.{Here, variable_in}

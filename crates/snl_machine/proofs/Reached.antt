@@ -9,9 +9,9 @@ use Rattle.snl_syntax.specs.Statements.{BlockTree}
 use Rattle.snl_names.specs.Numbered.{number_of}
 use Rattle.snl_reach.specs.Reach.{targets_if_there, targets_after, targets_in_block, targets_in_clause, targets_in_state, state_names}
 use Rattle.snl_reach.proofs.WayLaws.{leads_within, reached_more}
-use Rattle.snl_links.specs.Links.{Link}
-use Rattle.snl_code.specs.Copies.{held_sets}
-use Rattle.snl_code.specs.Heres.{scene_in, states_by}
+use Rattle.snl_channels.specs.Links.{Link}
+use Rattle.snl_flat.specs.Copies.{held_sets}
+use Rattle.snl_flat.specs.Heres.{scene_in, states_by}
 use Rattle.snl_load.specs.Meaning.{state_left_for, finished, block_meaning, target_of, clause_meaning, state_meaning, set_meaning, set_meanings, program_meaning}
 use Rattle.snl_load.specs.Reached.{if_reached, states_reached}
 use Rattle.snl_machine.specs.Reached.{Table, HasState, IsIn, IsClosed, FirstAreReached, ReachedStay, UnreachedDoNothing, InstantsAreTheSame, ReachedAreClosed}

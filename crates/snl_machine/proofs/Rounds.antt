@@ -1,7 +1,7 @@
 -- Rounds end by themselves, and no tick is given back.
 use Rattle.std.proofs.Common.{◌≡◌, ◌<◌, ◌≤◌, refl, arith, ℕ, zero, suc, Bool, List}
 use Rattle.snl_syntax.specs.Programs.{ProgramTree}
-use Rattle.snl_links.specs.Links.{Link}
+use Rattle.snl_channels.specs.Links.{Link}
 use Rattle.snl_machine.specs.Rounds.{Rounds, Last, Leaves, Stops, Again, RoundsEnd, TicksWithinBudget}
 use Rattle.snl_machine.proofs.Steady.{IsLoose, loosely, round-turns, instant-keeps}
 use Rattle.snl_machine.proofs.Turning.{Turns}

@@ -4,9 +4,9 @@ use Rattle.std.specs.Prelude.{◌-◌, ◌^◌, replicate, slice_index_or}
 use Rattle.std.proofs.lemmas.Bool.{cases_lt, cases_order}
 use Rattle.std.proofs.lemmas.List.{length-replicate}
 use Rattle.snl_syntax.specs.Programs.{ProgramTree}
-use Rattle.snl_links.specs.Links.{Link}
+use Rattle.snl_channels.specs.Links.{Link}
 use Rattle.snl_machine.specs.Layout.{IsWrittenShared, StoresWrite, IsLaidOut, SharedElementsStay, FunctionVariablesAreCells}
-use Rattle.snl_code.specs.Heres.{shared_in}
+use Rattle.snl_flat.specs.Heres.{shared_in}
 use Rattle.snl_machine.specs.Ranges.{IsSized}
 use Rattle.snl_machine.proofs.Cells.{overwritten-away, overwritten-there, zeroed-is, word-of, zero-of, elements-written, element-written, zeros-written}
 use Rattle.snl_machine.proofs.Shared.{is-shared, element-shared, zeros-shared}

@@ -29,7 +29,7 @@ use Rattle.snl_meaning.specs.declared.names.Placed.{Placed}
 use Rattle.snl_meaning.specs.Laws.{words_of}
 use Rattle.snl_meaning.specs.Names.{behind, placed_from, variable_from}
 use Rattle.snl_machine.specs.Ranges.{Has, IsSized}
-use Rattle.snl_code.specs.Heres.{shared_in}
+use Rattle.snl_flat.specs.Heres.{shared_in}
 use Rattle.snl_machine.specs.Accepted.{IsRead, IsAcceptedTree, AcceptedIsSized}
 use Rattle.snl_machine.proofs.Declared.{declared, programs, blocks, In, of-in, in-declared}
 use Rattle.snl_machine.proofs.NoErrors.{set-few, words-few}

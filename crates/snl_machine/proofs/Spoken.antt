@@ -33,7 +33,7 @@ use Rattle.snl_names.specs.Sites.{declares, in_value, maybe}
 use Rattle.snl_names.specs.Variables.{CopyVariable, by_definitions, by_maybe, by_clause, by_state, by_state_set}
 use Rattle.snl_rules.specs.declared.rules.Rule.TheVariants.{WrongArray}
 use Rattle.snl_rules.specs.Words.{assigned_by, link_words}
-use Rattle.snl_links.specs.Links.{Said, assigned, monitored, synced, place_part, of_part, flag_at, flag_if_there, first_in, count_in, said_by, said_in, said_in_state, said_in_set, said_in_program}
+use Rattle.snl_channels.specs.Links.{Said, assigned, monitored, synced, place_part, of_part, flag_at, flag_if_there, first_in, count_in, said_by, said_in, said_in_state, said_in_set, said_in_program}
 use Rattle.snl_machine.specs.Accepted.{IsAcceptedTree}
 use Rattle.snl_machine.proofs.Declared.{declared, In, in-left, in-right}
 use Rattle.snl_machine.proofs.NoErrors.{breaks-none}

@@ -2,8 +2,8 @@
 use Rattle.std.proofs.Common.{◌≡◌, ◌≤◌, ◌+◌, arith, ℕ, zero, suc, ℤ, Bool, true, false, List, [], ◌∷◌, Option, None, Some, sym, subst, if◌then◌else◌}
 use Rattle.std.specs.Prelude.{slice_set, slice_index_or}
 use Rattle.snl_syntax.specs.Programs.{ProgramTree}
-use Rattle.snl_links.specs.Links.{Link}
-use Rattle.snl_code.specs.Heres.{scene_in}
+use Rattle.snl_channels.specs.Links.{Link}
+use Rattle.snl_flat.specs.Heres.{scene_in}
 use Rattle.snl_load.specs.Meaning.{program_meaning}
 use Rattle.snl_schedule.proofs.Answering.{answers_change_no_more}
 use Rattle.snl_machine.specs.Worlds.{last_state}

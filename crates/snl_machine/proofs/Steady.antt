@@ -1,7 +1,7 @@
 -- What every step of a run keeps of the world: turns, rounds, instants.
 use Rattle.std.proofs.Common.{◌≡◌, ◌≤◌, ◌+◌, ℕ, zero, suc, ℤ, pos, Bool, true, false, List, [], ◌∷◌, Option, None, Some, if◌then◌else◌}
 use Rattle.snl_syntax.specs.Programs.{StateSetTree, ProgramTree}
-use Rattle.snl_links.specs.Links.{Link}
+use Rattle.snl_channels.specs.Links.{Link}
 use Rattle.snl_meaning.specs.declared.live.Live.{Live}
 use Rattle.snl_meaning.specs.declared.live.Live.TheVariants.{Waiting, Running, Ended}
 use Rattle.snl_meaning.specs.Keeping.{IsKept, PiecesKeep, world_after}
@@ -11,7 +11,7 @@ use Rattle.snl_meaning.specs.Links.{home_of, with_elements, with_items}
 use Rattle.snl_meaning.specs.Words.{noted}
 use Rattle.snl_meaning.specs.World.{Queue, SetMemory, World, with_words_for}
 use Rattle.snl_meaning.proofs.Ticks.{Any}
-use Rattle.snl_code.specs.Heres.{scene_in}
+use Rattle.snl_flat.specs.Heres.{scene_in}
 use Rattle.snl_load.specs.Meaning.{set_meaning, set_meanings, program_meaning}
 use Rattle.snl_meaning.specs.declared.ties.Tied.{Tied}
 use Rattle.snl_schedule.specs.declared.transitions.Turned.{Turned}

@@ -4,16 +4,16 @@ use Rattle.std.proofs.Math.Nat.{mul-le-mul_right, mul_assoc}
 use Rattle.snl_text.specs.declared.tokens.Token.{Token}
 use Rattle.snl_syntax.specs.Expressions.{ExprTree}
 use Rattle.snl_syntax.specs.Programs.{ClauseTree, StateTree, StateSetTree, ProgramTree}
-use Rattle.snl_code.specs.declared.code.Code.{Code}
-use Rattle.snl_code.specs.declared.starts.ClauseStarts.{ClauseStarts}
-use Rattle.snl_code.specs.declared.starts.Piece.TheVariants.{Condition, Block}
-use Rattle.snl_code.specs.Apart.{IsStretch, IsAlone, AreApart}
-use Rattle.snl_code.specs.Depths.{program_depth}
-use Rattle.snl_code.specs.Heres.{here_in, scene_in, name_by, states_by}
-use Rattle.snl_code.specs.Pieces.{IsPlaced, PieceTree, Test, piece_of, kept_piece, piece_depth, state_at}
-use Rattle.snl_code.specs.Starts.{StateTable, ProgramTable, entries_of, table_of, state_in, is_held, holds_in, start_in}
-use Rattle.snl_code.proofs.Deepest.{depth_is_enough}
-use Rattle.snl_links.specs.Links.{Link}
+use Rattle.snl_flat.specs.declared.code.Code.{Code}
+use Rattle.snl_flat.specs.declared.starts.ClauseStarts.{ClauseStarts}
+use Rattle.snl_flat.specs.declared.starts.Piece.TheVariants.{Condition, Block}
+use Rattle.snl_flat.specs.Apart.{IsStretch, IsAlone, AreApart}
+use Rattle.snl_flat.specs.Depths.{program_depth}
+use Rattle.snl_flat.specs.Heres.{here_in, scene_in, name_by, states_by}
+use Rattle.snl_flat.specs.Pieces.{IsPlaced, PieceTree, Test, piece_of, kept_piece, piece_depth, state_at}
+use Rattle.snl_flat.specs.Starts.{StateTable, ProgramTable, entries_of, table_of, state_in, is_held, holds_in, start_in}
+use Rattle.snl_flat.proofs.Deepest.{depth_is_enough}
+use Rattle.snl_channels.specs.Links.{Link}
 use Rattle.snl_meaning.specs.declared.instrs.Instr.{Instr}
 use Rattle.snl_meaning.specs.Endings.{IsOver}
 use Rattle.snl_meaning.specs.Keeping.{world_after}

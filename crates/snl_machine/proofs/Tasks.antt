@@ -1,8 +1,8 @@
 -- What a machine runs, and that it goes on to run it.
 use Rattle.std.proofs.Common.{◌≡◌, ◌∙◌, ℕ, Bool, List, [], ◌∷◌, map, Option, Result, Ok, Err, OnErr, refl, ap, subst, sym}
 use Rattle.snl_syntax.specs.Programs.{ProgramTree}
-use Rattle.snl_links.specs.Links.{Link, link_by}
-use Rattle.snl_links.specs.declared.ties.Tie.{Tie}
+use Rattle.snl_channels.specs.Links.{Link, link_by}
+use Rattle.snl_channels.specs.declared.ties.Tie.{Tie}
 use Rattle.snl_output.specs.declared.faults.Stop.{Stop}
 use Rattle.snl_output.specs.declared.faults.Stop.TheVariants as stop
 use Rattle.snl_output.specs.Does.{Does}
@@ -20,8 +20,8 @@ use Rattle.snl_machine.specs.Holding.{loaded_by}
 use Rattle.snl_machine.specs.Laws.{states_held, RunsAs, RunsItsProgram}
 use Rattle.snl_machine.specs.Reached.{AreReached, IsClosed}
 use Rattle.snl_machine.proofs.Reached.{reached_stay, unreached_do_nothing, reached_are_closed}
-use Rattle.snl_code.specs.declared.code.Code.{Code}
-use Rattle.snl_code.specs.Starts.{table_of, holds_in}
+use Rattle.snl_flat.specs.declared.code.Code.{Code}
+use Rattle.snl_flat.specs.Starts.{table_of, holds_in}
 use Rattle.snl_schedule.specs.Instant.{Program}
 use Rattle.snl_machine.specs.MachineOf.{Fixed, IsMachineOf, StaysMachineOf, unnamed, fixed_of, task_held, world_held}
 use Rattle.snl_machine.specs.Worlds.{IsWorldOf}

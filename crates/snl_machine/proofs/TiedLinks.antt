@@ -15,14 +15,14 @@ use Rattle.snl_names.specs.Programs.{program_scopes, sites}
 use Rattle.snl_names.specs.Scopes.{Scope, elements}
 use Rattle.snl_names.specs.Variables.{CopyVariable, by_definitions, by_maybe, by_numbered, by_state_set, for_first, variables_of}
 use Rattle.snl_rules.specs.Words.{queue_size, links_words}
-use Rattle.snl_links.specs.Links.{Said, assigned, monitored, synced, ties_from, ties_by_channels, ties_by, said_in_program, spelled, Link, link_by, links}
-use Rattle.snl_links.specs.declared.ties.Tie.{Tie}
-use Rattle.snl_links.specs.Macros.{macros_of, macro_value}
+use Rattle.snl_channels.specs.Links.{Said, assigned, monitored, synced, ties_from, ties_by_channels, ties_by, said_in_program, spelled, Link, link_by, links}
+use Rattle.snl_channels.specs.declared.ties.Tie.{Tie}
+use Rattle.snl_channels.specs.Macros.{macros_of, macro_value}
 use Rattle.snl_meaning.specs.declared.instrs.Variable.{Variable}
 use Rattle.snl_meaning.specs.declared.names.Placed.{Placed}
 use Rattle.snl_meaning.specs.declared.ties.Tied.{Tied}
 use Rattle.snl_meaning.specs.Names.{variable_from, behind, placed_from, variable_in}
-use Rattle.snl_code.specs.Heres.{for_each_set, placed_in, placed_sets}
+use Rattle.snl_flat.specs.Heres.{for_each_set, placed_in, placed_sets}
 use Rattle.snl_load.specs.Initials.{held_in, held_among}
 use Rattle.snl_load.specs.Places as places
 use Rattle.snl_load.specs.Places.{place_after, channels, flags_in, variable_among, range_of, tie_of, ties_in}

@@ -1,7 +1,7 @@
 -- What a line of a trace keeps of the world: its wakes, its event, and what they give to who asked for them.
 use Rattle.std.proofs.Common.{◌≡◌, ℕ, zero, suc, ◌-◌, Bool, List, Option, None, Some}
 use Rattle.snl_syntax.specs.Programs.{ProgramTree}
-use Rattle.snl_links.specs.Links.{Link}
+use Rattle.snl_channels.specs.Links.{Link}
 use Rattle.snl_load.specs.Meaning.{program_meaning}
 use Rattle.snl_machine.proofs.Steady.{IsSteady, instant-keeps}
 use Rattle.snl_machine.proofs.Turning.{Keeps, then-keeps}

@@ -2,8 +2,8 @@
 use Rattle.std.proofs.Common.{◌≡◌, ◌∙◌, refl, ap, ℕ, zero, suc, Bool, List, [], ◌∷◌, map}
 use Rattle.std.specs.Prelude.{slice_index_or}
 use Rattle.snl_syntax.specs.Programs.{ProgramTree}
-use Rattle.snl_links.specs.Links.{Link}
-use Rattle.snl_code.specs.Copies.{held_sets}
+use Rattle.snl_channels.specs.Links.{Link}
+use Rattle.snl_flat.specs.Copies.{held_sets}
 use Rattle.snl_load.specs.First.{first_copy, first_world_of}
 use Rattle.snl_load.specs.Meaning.{program_meaning}
 use Rattle.snl_machine.specs.Ranges.{Begins, GoesOn}

@@ -12,8 +12,8 @@ use Rattle.snl_syntax.specs.declared.programs.Program.{Program}
 use Rattle.snl_syntax.specs.view.Programs.{program_view}
 use Rattle.snl_names.specs.declared.options.Options.{Options}
 use Rattle.snl_check.specs.Accepted.{IsAccepted}
-use Rattle.snl_code.specs.Inside.{FlagsAreDeclared}
-use Rattle.snl_links.specs.Links.{links}
+use Rattle.snl_flat.specs.Inside.{FlagsAreDeclared}
+use Rattle.snl_channels.specs.Links.{links}
 use Rattle.snl_machine.specs.Ranges.{IsSized, IsTied, AreHeld, Holds, Reached}
 use Rattle.snl_meaning.specs.World.{World}
 use Rattle.snl_messages.specs.declared.messages.Severity.TheVariants.{Error}

@@ -1,9 +1,9 @@
 -- A law of whole instants: how many steps one can take.
 use Rattle.std.specs.Prelude.{◌≤◌, ◌+◌, ◌*◌, ℕ, suc, Bool, List, length}
 use Rattle.snl_syntax.specs.Programs.{ProgramTree}
-use Rattle.snl_code.specs.Reached.{Table, TellsReached}
-use Rattle.snl_code.specs.Size.{program_size}
-use Rattle.snl_links.specs.Links.{Link}
+use Rattle.snl_flat.specs.Reached.{Table, TellsReached}
+use Rattle.snl_flat.specs.Size.{program_size}
+use Rattle.snl_channels.specs.Links.{Link}
 use Rattle.snl_machine.specs.Holding.{loaded_by}
 use Rattle.snl_machine.specs.MachineOf.{IsMachineOf}
 use Rattle.snl_machine.specs.declared.machine.Machine.{Machine}

@@ -2,9 +2,9 @@
 use Rattle.std.specs.Prelude.{◌≡◌, ◌+◌, ◌*◌, ℕ, Bool, List, length}
 use Rattle.std.specs.List.{sum_by}
 use Rattle.snl_syntax.specs.Programs.{ProgramTree}
-use Rattle.snl_code.specs.Depths.{program_depth}
-use Rattle.snl_links.specs.Links.{Link}
-use Rattle.snl_code.specs.Copies.{held_sets}
+use Rattle.snl_flat.specs.Depths.{program_depth}
+use Rattle.snl_channels.specs.Links.{Link}
+use Rattle.snl_flat.specs.Copies.{held_sets}
 use Rattle.snl_load.specs.Places.{channels, flags_in}
 use Rattle.snl_machine.specs.declared.machine.Machine.{Machine}
 use Rattle.snl_machine.specs.MachineOf.{IsMachineOf, words_held}

@@ -1,7 +1,7 @@
 -- What a machine has loaded.
-use Rattle.snl_code.specs.declared.code.Code.{Code}
-use Rattle.snl_code.specs.Pieces.{texts_of}
-use Rattle.snl_code.specs.Starts.{entries_of}
+use Rattle.snl_flat.specs.declared.code.Code.{Code}
+use Rattle.snl_flat.specs.Pieces.{texts_of}
+use Rattle.snl_flat.specs.Starts.{entries_of}
 use Rattle.snl_schedule.specs.declared.plans.Plan.{Plan}
 use Rattle.snl_schedule.specs.Loaded.{Loaded}
 

@@ -1,11 +1,11 @@
 -- Laws of machines, and of the state sets that they run.
 use Rattle.std.specs.Prelude.{◌≡◌, ℕ, Bool, List}
 use Rattle.snl_syntax.specs.Programs.{StateSetTree, ProgramTree}
-use Rattle.snl_links.specs.Links.{Link}
+use Rattle.snl_channels.specs.Links.{Link}
 use Rattle.snl_meaning.specs.Keeping.{world_after}
 use Rattle.snl_meaning.specs.World.{World, copy_of}
 use Rattle.snl_schedule.specs.Turn.{turn_of}
-use Rattle.snl_code.specs.Starts.{table_of, holds_in}
+use Rattle.snl_flat.specs.Starts.{table_of, holds_in}
 use Rattle.snl_schedule.specs.declared.events.Event.{Event}
 use Rattle.snl_schedule.specs.Event.{line_of}
 use Rattle.snl_load.specs.Meaning.{set_meaning}

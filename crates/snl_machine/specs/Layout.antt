@@ -2,10 +2,10 @@
 -- What was stored is read where it was stored, and everything else is as before.
 use Rattle.std.specs.Prelude.{◌≡◌, ◌<◌, ◌≤◌, ◌+◌, ◌-◌, ◌^◌, ◌⊎◌, Bool, true, false, ℕ, ℤ, pos, List, [], ◌∷◌, ◌++◌, length, take, drop, replicate, None, Some, slice_get, slice_set, slice_index_or}
 use Rattle.snl_syntax.specs.Programs.{ProgramTree}
-use Rattle.snl_links.specs.Links.{Link}
+use Rattle.snl_channels.specs.Links.{Link}
 use Rattle.snl_load.specs.Meaning.{program_meaning}
 use Rattle.snl_load.specs.Places.{placed_in, placed_sets, ties_in, homes_in}
-use Rattle.snl_code.specs.Heres.{shared_in}
+use Rattle.snl_flat.specs.Heres.{shared_in}
 use Rattle.snl_machine.specs.Ranges.{IsSized, IsTied, counts}
 use Rattle.snl_machine.specs.Worlds.{IsWorldOf}
 use Rattle.snl_meaning.specs.declared.instrs.Variable.{Variable}

@@ -1,14 +1,14 @@
 -- What a machine holds: what it runs, and the world that its run has come to.
 use Rattle.std.specs.Prelude.{◌≡◌, ◌+◌, ℕ, Bool, List, [], map}
 use Rattle.snl_syntax.specs.Programs.{ProgramTree}
-use Rattle.snl_links.specs.Links.{Link, links}
+use Rattle.snl_channels.specs.Links.{Link, links}
 use Rattle.snl_machine.specs.Reached.{AreReached}
 use Rattle.snl_machine.specs.Worlds.{IsWorldOf}
 use Rattle.snl_meaning.specs.World.{World}
 use Rattle.snl_vm.specs.Footprint.{operand_words, store_words}
 use Rattle.snl_vm.specs.Views.{world_of}
-use Rattle.snl_code.specs.declared.code.Code.{Code}
-use Rattle.snl_code.specs.Starts.{table_of, holds_in}
+use Rattle.snl_flat.specs.declared.code.Code.{Code}
+use Rattle.snl_flat.specs.Starts.{table_of, holds_in}
 use Rattle.snl_schedule.specs.declared.plans.Plan.{Plan}
 use Rattle.snl_schedule.specs.Instant.{Program}
 use Rattle.snl_schedule.specs.Loaded.{program_of}

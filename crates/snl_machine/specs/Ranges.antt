@@ -2,11 +2,11 @@
 -- than it can.
 use Rattle.std.specs.Prelude.{◌≡◌, ◌<◌, ◌≤◌, ◌+◌, ◌-◌, ◌^◌, ◌&&◌, int_le, Bool, true, ℕ, ℤ, pos, All, List, [], ◌∷◌, length, Some, slice_get, slice_index_or}
 use Rattle.snl_syntax.specs.Programs.{ProgramTree}
-use Rattle.snl_code.specs.Copies.{held_sets}
-use Rattle.snl_code.specs.Heres.{scene_in, shared_in}
+use Rattle.snl_flat.specs.Copies.{held_sets}
+use Rattle.snl_flat.specs.Heres.{scene_in, shared_in}
 use Rattle.snl_schedule.specs.declared.events.Event.{Event}
 use Rattle.snl_schedule.specs.Event.{line_of, is_event_fit}
-use Rattle.snl_links.specs.Links.{Link}
+use Rattle.snl_channels.specs.Links.{Link}
 use Rattle.snl_meaning.specs.declared.instrs.Variable.{Variable}
 use Rattle.snl_meaning.specs.declared.names.Placed.{Placed}
 use Rattle.snl_meaning.specs.Keeping.{PiecesKeep, world_after}

@@ -2,8 +2,8 @@
 use Rattle.std.specs.Prelude.{◌≡◌, ◌↔◌, ℕ, Bool, true, List, slice_get, Some}
 use Rattle.snl_syntax.specs.Programs.{StateSetTree, ProgramTree}
 use Rattle.snl_reach.specs.Reach.{LeadsTo}
-use Rattle.snl_links.specs.Links.{Link}
-pub use Rattle.snl_code.specs.Reached.{Table, HasState, TellsReached}
+use Rattle.snl_channels.specs.Links.{Link}
+pub use Rattle.snl_flat.specs.Reached.{Table, HasState, TellsReached}
 use Rattle.snl_load.specs.First.{first_world_of}
 use Rattle.snl_load.specs.Meaning.{program_meaning}
 use Rattle.snl_load.specs.Reached.{only_reached}

@@ -1,7 +1,7 @@
 -- Laws of whole instants: their rounds end by themselves, and they spend no more than the budget.
 use Rattle.std.specs.Prelude.{◌≡◌, ◌≤◌, ℕ, Bool, List, []}
 use Rattle.snl_syntax.specs.Programs.{ProgramTree}
-use Rattle.snl_links.specs.Links.{Link}
+use Rattle.snl_channels.specs.Links.{Link}
 use Rattle.snl_meaning.specs.declared.faults.Fault.{Fault}
 use Rattle.snl_meaning.specs.Ran.{Ran, Gives, Faults, also}
 use Rattle.snl_meaning.specs.World.{World}

@@ -1,7 +1,7 @@
 -- Laws of time: wakes ascend and end by themselves, and time never falls.
 use Rattle.std.specs.Prelude.{◌≡◌, ◌≤◌, ◌<◌, ℕ, Bool, List, [], None, Some}
 use Rattle.snl_syntax.specs.Programs.{ProgramTree}
-use Rattle.snl_links.specs.Links.{Link}
+use Rattle.snl_channels.specs.Links.{Link}
 use Rattle.snl_meaning.specs.declared.faults.Fault.{Fault}
 use Rattle.snl_meaning.specs.declared.live.Live.TheVariants.{Running, Ended}
 use Rattle.snl_meaning.specs.Keeping.{world_after}

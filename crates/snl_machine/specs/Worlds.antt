@@ -1,8 +1,8 @@
 -- What it means that a world is one of a program: a run begins in such a world, and comes to no other.
 use Rattle.std.specs.Prelude.{◌≡◌, ◌≤◌, ◌-◌, ℕ, Bool, List, length, slice_get}
 use Rattle.snl_syntax.specs.Programs.{ProgramTree}
-use Rattle.snl_links.specs.Links.{Link}
-use Rattle.snl_code.specs.Heres.{states_by}
+use Rattle.snl_channels.specs.Links.{Link}
+use Rattle.snl_flat.specs.Heres.{states_by}
 use Rattle.snl_load.specs.Meaning.{program_meaning}
 use Rattle.snl_machine.specs.Frames.{frame_in}
 use Rattle.snl_machine.specs.Ranges.{Reached}

@@ -2,7 +2,7 @@
 
 ghost use Rattle.std.specs.Prelude.{◌≡◌, ◌↔◌, ◌-◌, ◌^◌, ◌<◌, ℕ, Bool, List, Some, IsTrue, OnErr};
 ghost use Rattle.snl_syntax.specs.Programs.{ProgramTree};
-ghost use Rattle.snl_links.specs.Links.{Link};
+ghost use Rattle.snl_channels.specs.Links.{Link};
 ghost use Rattle.snl_load.specs.Meaning.{program_meaning};
 ghost use Rattle.snl_meaning.specs.Frames.{at_time, frame_of};
 ghost use Rattle.snl_meaning.specs.Links.{home_of};

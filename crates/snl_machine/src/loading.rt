@@ -6,8 +6,8 @@ ghost use Rattle.snl_machine.specs.Loading.{IsLoadedFrom};
 
 use crate::machine::Machine;
 use crate::making::machine_of;
+use snl_channels::Macros;
 use snl_check::Checked;
-use snl_links::Macros;
 use std::alloc::{AllocError, Global};
 
 /// What is lent while its machine is made. A function that owns a whole checked program and lends it is dear to prove; one

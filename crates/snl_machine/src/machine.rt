@@ -8,7 +8,7 @@ ghost use Rattle.snl_machine.specs.Holding.{loaded_by};
 ghost use Rattle.snl_schedule.proofs.Facts.{loaded-fact};
 
 use indexmap::IndexSet;
-use snl_code::Code;
+use snl_flat::Code;
 use snl_schedule::Plan;
 use snl_vm::Memory;
 

@@ -1,8 +1,8 @@
 -- What a run into a sink that takes nothing says of what a program waits for.
 use Rattle.std.proofs.Common.{◌≡◌, ◌+◌, ◌↔◌, ℕ, Bool, true, false, List, [], ◌∷◌, ◌++◌, Option, None, Some, length, refl, sym, ap, subst, ◌∙◌}
 use Rattle.snl_syntax.specs.Programs.{ProgramTree}
-use Rattle.snl_code.specs.Starts.{holds_in, table_of}
-use Rattle.snl_links.specs.Links.{Link}
+use Rattle.snl_flat.specs.Starts.{holds_in, table_of}
+use Rattle.snl_channels.specs.Links.{Link}
 use Rattle.snl_load.specs.Meaning.{program_meaning}
 use Rattle.snl_load.specs.Reached.{only_reached}
 use Rattle.snl_load.proofs.Meant.{plans_are_right}

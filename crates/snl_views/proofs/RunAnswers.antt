@@ -2,7 +2,7 @@
 use Rattle.std.proofs.Common.{◌≡◌, ℕ, Bool, List, Option, None, Some, Box, Global, subst}
 use Rattle.snl_syntax.specs.Programs.{ProgramTree}
 use Rattle.snl_check.specs.Waits.{waits}
-use Rattle.snl_links.specs.Links.{Link, links}
+use Rattle.snl_channels.specs.Links.{Link, links}
 use Rattle.snl_load.specs.First.{first_world_of}
 use Rattle.snl_machine.specs.MachineOf.{IsMachineOf, task_of, world_held}
 use Rattle.snl_meaning.specs.World.{World}

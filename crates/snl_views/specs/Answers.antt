@@ -4,7 +4,7 @@ use Rattle.snl_syntax.specs.Programs.{ProgramTree}
 use Rattle.snl_syntax.specs.view.Programs.{program_view}
 use Rattle.snl_check.specs.Waits.{waits}
 use Rattle.snl_check.specs.declared.checked.Checked.{Checked}
-use Rattle.snl_links.specs.Links.{links}
+use Rattle.snl_channels.specs.Links.{links}
 use Rattle.snl_load.specs.First.{first_world_of}
 use Rattle.snl_load.specs.Meaning.{program_meaning}
 use Rattle.snl_machine.specs.MachineOf.{task_of}

@@ -2,7 +2,7 @@
 use Rattle.std.specs.Prelude.{◌≡◌, ℕ, List, [], Option, Some}
 use Rattle.snl_syntax.specs.Programs.{ProgramTree}
 use Rattle.snl_check.specs.Waits.{waits}
-use Rattle.snl_links.specs.Links.{links}
+use Rattle.snl_channels.specs.Links.{links}
 use Rattle.snl_load.specs.First.{first_world_of}
 use Rattle.snl_machine.specs.MachineOf.{task_of}
 use Rattle.snl_names.specs.declared.options.Options.{Options}

@@ -4,7 +4,7 @@ use Rattle.std.proofs.Common.{Global}
 use Rattle.snl_syntax.specs.Programs.{ProgramTree}
 use Rattle.snl_check.specs.Waits.{waits}
 use Rattle.snl_check.specs.declared.checked.Checked.{Checked}
-use Rattle.snl_links.specs.Links.{Link, links}
+use Rattle.snl_channels.specs.Links.{Link, links}
 use Rattle.snl_load.specs.First.{first_world_of}
 use Rattle.snl_machine.specs.MachineOf.{IsMachineOf, world_held}
 use Rattle.snl_messages.specs.Messages.{Said}

@@ -2,7 +2,7 @@
 
 ghost use Rattle.std.specs.Prelude.{◌≡◌, ◌-◌, ◌^◌, ◌<◌, ℕ, Bool, List, [], Some, IfOk};
 ghost use Rattle.snl_syntax.specs.Programs.{ProgramTree};
-ghost use Rattle.snl_links.specs.Links.{Link};
+ghost use Rattle.snl_channels.specs.Links.{Link};
 ghost use Rattle.snl_machine.specs.MachineOf.{IsMachineOf, task_of, world_held};
 ghost use Rattle.snl_trace.specs.Lines.{lines_from};
 ghost use Rattle.snl_trace.specs.Run.{rules_by};

@@ -3,7 +3,7 @@
 ghost use Rattle.std.specs.Prelude.{◌≡◌, ◌+◌, ◌-◌, ◌^◌, ◌<◌, ℕ, List, Option, Bool, [], Some, false, true, IfOk, IfSome, string_bytes};
 ghost use Rattle.std.specs.Option.{option_map, unwrap_or};
 ghost use Rattle.snl_syntax.specs.Programs.{ProgramTree};
-ghost use Rattle.snl_links.specs.Links.{Link};
+ghost use Rattle.snl_channels.specs.Links.{Link};
 ghost use Rattle.snl_machine.specs.MachineOf.{IsMachineOf, task_of, world_held};
 ghost use Rattle.snl_output.specs.Devices.{counted};
 ghost use Rattle.snl_trace.specs.Ends.{sink_failed};

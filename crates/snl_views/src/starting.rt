@@ -2,7 +2,7 @@
 
 ghost use Rattle.std.specs.Prelude.{◌≡◌, ◌-◌, ◌^◌, ◌<◌, ℕ, Bool, List, Option, [], Some, IfOk};
 ghost use Rattle.snl_syntax.specs.Programs.{ProgramTree};
-ghost use Rattle.snl_links.specs.Links.{Link};
+ghost use Rattle.snl_channels.specs.Links.{Link};
 ghost use Rattle.snl_load.specs.Meaning.{program_meaning};
 ghost use Rattle.snl_meaning.specs.declared.live.Live.TheVariants.{Waiting};
 ghost use Rattle.snl_machine.specs.MachineOf.{IsMachineOf, StaysMachineOf, task_held, task_of, world_held};

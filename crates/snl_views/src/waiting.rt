@@ -3,7 +3,7 @@
 ghost use Rattle.std.specs.Prelude.{◌≡◌, ◌-◌, ◌^◌, ◌<◌, ℕ, List, [], Some, IfOk, string_bytes};
 ghost use Rattle.std.specs.Option.{option_map, unwrap_or};
 ghost use Rattle.snl_syntax.specs.Programs.{ProgramTree};
-ghost use Rattle.snl_links.specs.Links.{Link};
+ghost use Rattle.snl_channels.specs.Links.{Link};
 ghost use Rattle.snl_load.specs.Meaning.{program_meaning};
 ghost use Rattle.snl_meaning.specs.declared.live.Live.TheVariants.{Waiting};
 ghost use Rattle.snl_machine.specs.MachineOf.{IsMachineOf, task_of, world_held};

@@ -1,6 +1,6 @@
 use Rattle.std.proofs.Common.{ap, ◌∙◌}
 use Rattle.snl_syntax.specs.view.Programs.{program_view}
-use Rattle.snl_links.specs.Tables.{tables}
+use Rattle.snl_channels.specs.Tables.{tables}
 use Rattle.snc.proofs.Answering.{asked_are}
 use Rattle.snc.proofs.reports.tables_if_asked.Goals as goal
 

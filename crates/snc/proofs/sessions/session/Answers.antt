@@ -1,7 +1,7 @@
 use Rattle.std.proofs.Common.{◌≡◌, sym, subst, List, [], ℕ, IfSome, Some, string_bytes}
 use Rattle.std.specs.Option.{option_map, unwrap_or}
 use Rattle.snl_syntax.specs.view.Programs.{program_view}
-use Rattle.snl_links.specs.Links.{links}
+use Rattle.snl_channels.specs.Links.{links}
 use Rattle.snl_messages.specs.Silence.{options_in_force}
 use Rattle.snl_check.specs.Waits.{waits}
 use Rattle.snl_machine.specs.Loading.{IsLoaded}

@@ -2,8 +2,8 @@ use Rattle.std.proofs.Common.{◌≤◌, length, subst, sym}
 use Rattle.std.specs.Prelude.{IfOk}
 use Rattle.snl_syntax.specs.view.Programs.{program_view}
 use Rattle.snl_names.specs.UseTables.{IsTableOf}
-use Rattle.snl_code.specs.Size.{program_size}
-use Rattle.snl_code.specs.Starts.{holds_in, table_of}
+use Rattle.snl_flat.specs.Size.{program_size}
+use Rattle.snl_flat.specs.Starts.{holds_in, table_of}
 use Rattle.snl_code.proofs.checked.compile.Goals as goal
 
 -- the size of the tree that was checked

@@ -1,8 +1,8 @@
 use Rattle.std.proofs.Common.{◌≡◌, map, subst}
 use Rattle.std.specs.Prelude.{IfOk}
 use Rattle.snl_syntax.specs.view.Programs.{program_view}
-use Rattle.snl_links.specs.LinkViews.{link_view}
-use Rattle.snl_links.specs.Links.{links}
+use Rattle.snl_channels.specs.LinkViews.{link_view}
+use Rattle.snl_channels.specs.Links.{links}
 use Rattle.snl_links.proofs.checked.links.Goals as goal
 
 -- the links of the tree that was checked

@@ -1,8 +1,8 @@
 use Rattle.std.proofs.Common.{◌≡◌, ◌++◌, subst}
 use Rattle.std.specs.Prelude.{OnErr, OnOk}
 use Rattle.snl_syntax.specs.view.Programs.{program_view}
-use Rattle.snl_links.specs.Appended.{Begun}
-use Rattle.snl_links.specs.Tables.{tables}
+use Rattle.snl_channels.specs.Appended.{Begun}
+use Rattle.snl_channels.specs.Tables.{tables}
 use Rattle.snl_links.proofs.checked.tables.Goals as goal
 
 -- the tables of the tree that was checked

@@ -1,8 +1,8 @@
 use Rattle.std.proofs.Common.{ap, drop, map}
 use Rattle.std.specs.List.{flat_map}
 use Rattle.std.proofs.Math.ListN.{drop_of_length-le}
-use Rattle.snl_links.specs.LinkViews.{link_view}
-use Rattle.snl_links.specs.Links.{Link}
+use Rattle.snl_channels.specs.LinkViews.{link_view}
+use Rattle.snl_channels.specs.Links.{Link}
 use Rattle.snl_load.specs.Places.{named}
 use Rattle.snl_load.specs.Sets.{names_in}
 use Rattle.snl_load.proofs.Names.{noted_all-ends}

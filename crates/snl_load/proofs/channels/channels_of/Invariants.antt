@@ -1,6 +1,6 @@
 use Rattle.std.proofs.Common.{◌≡◌, [], drop, map}
 use Rattle.std.specs.List.{flat_map}
-use Rattle.snl_links.specs.LinkViews.{link_view}
+use Rattle.snl_channels.specs.LinkViews.{link_view}
 use Rattle.snl_load.specs.Names.{noted_all}
 use Rattle.snl_load.specs.Places.{named}
 use Rattle.snl_load.specs.Sets.{names_in}

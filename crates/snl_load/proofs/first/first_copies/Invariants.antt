@@ -1,6 +1,6 @@
 use Rattle.std.proofs.Common.{◌≡◌, ◌++◌, drop, map}
 use Rattle.snl_vm.specs.Views.{copy_view}
-use Rattle.snl_code.specs.Copies.{sets_of}
+use Rattle.snl_flat.specs.Copies.{sets_of}
 use Rattle.snl_load.specs.First as spec
 use Rattle.snl_load.proofs.first.first_copies.Given as goal
 

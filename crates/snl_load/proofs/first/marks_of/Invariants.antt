@@ -1,6 +1,6 @@
 use Rattle.std.proofs.Common.{◌≡◌, ◌++◌, drop, map, replicate, false}
 use Rattle.snl_vm.specs.Marks as tables
-use Rattle.snl_code.specs.Copies.{sets_of}
+use Rattle.snl_flat.specs.Copies.{sets_of}
 use Rattle.snl_load.proofs.first.marks_of.Given as goal
 
 -- marks so far, and those that are left

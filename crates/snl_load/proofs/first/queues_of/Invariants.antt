@@ -1,5 +1,5 @@
 use Rattle.std.proofs.Common.{◌≡◌, ◌++◌, drop, map}
-use Rattle.snl_links.specs.LinkViews.{link_view}
+use Rattle.snl_channels.specs.LinkViews.{link_view}
 use Rattle.snl_vm.specs.Queues.{queue_view}
 use Rattle.snl_load.specs.First as spec
 use Rattle.snl_load.proofs.first.queues_of.Given as goal

@@ -1,10 +1,10 @@
 use Rattle.std.proofs.Common.{◌≡◌, ◌∙◌, ap, sym, rules, ℕ, None, false, map, length, replicate}
 use Rattle.std.specs.List.{flat_map}
 use Rattle.std.proofs.lemmas.List.{length-map}
-use Rattle.snl_links.specs.LinkViews.{link_view}
+use Rattle.snl_channels.specs.LinkViews.{link_view}
 use Rattle.snl_meaning.specs.declared.live.Live.TheVariants.{Waiting}
 use Rattle.snl_names.specs.CopyVariables.{variable_view}
-use Rattle.snl_code.specs.Copies.{sets_of}
+use Rattle.snl_flat.specs.Copies.{sets_of}
 use Rattle.snl_load.specs.First.{first_copy, first_shared}
 use Rattle.snl_load.specs.Initials.{first_buffer}
 use Rattle.snl_load.specs.Places.{homes_in}

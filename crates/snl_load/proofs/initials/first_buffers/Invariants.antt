@@ -1,7 +1,7 @@
 use Rattle.std.proofs.Common.{◌≡◌, ◌++◌, drop, map}
 use Rattle.std.specs.List.{flat_map}
-use Rattle.snl_links.specs.LinkViews.{link_view}
-use Rattle.snl_code.specs.Copies.{sets_of}
+use Rattle.snl_channels.specs.LinkViews.{link_view}
+use Rattle.snl_flat.specs.Copies.{sets_of}
 use Rattle.snl_load.specs.Initials.{first_buffer}
 use Rattle.snl_load.proofs.initials.first_buffers.Given as goal
 

@@ -1,5 +1,5 @@
 use Rattle.std.proofs.Common.{◌≡◌, drop}
-use Rattle.snl_code.specs.Copies.{sets_of}
+use Rattle.snl_flat.specs.Copies.{sets_of}
 use Rattle.snl_load.specs.Initials as spec
 use Rattle.snl_load.proofs.initials.held_among.Given as goal
 

@@ -2,7 +2,7 @@ use Rattle.std.proofs.Common.{◌≡◌, ◌∙◌, ◌<◌, ◌≤◌, ap, sym,
 use Rattle.std.proofs.lemmas.List.{length-map}
 use Rattle.std.proofs.lemmas.Option.{slice_get_past}
 use Rattle.snl_names.specs.CopyVariables.{variable_view}
-use Rattle.snl_code.specs.Copies.{sets_of}
+use Rattle.snl_flat.specs.Copies.{sets_of}
 use Rattle.snl_load.specs.Initials.{held_among}
 use Rattle.snl_load.specs.Offsets.{first_of}
 use Rattle.snl_load.proofs.Declared.{first-some, found-later, found-there, got, later-of}

@@ -1,6 +1,6 @@
 use Rattle.std.proofs.Common.{◌≡◌, ◌++◌, drop, map}
 use Rattle.snl_syntax.specs.view.Programs.{state_set_view}
-use Rattle.snl_code.specs.Starts.{table_of}
+use Rattle.snl_flat.specs.Starts.{table_of}
 use Rattle.snl_load.specs.Plans as spec
 use Rattle.snl_load.proofs.plans.set_plans.Given as goal
 

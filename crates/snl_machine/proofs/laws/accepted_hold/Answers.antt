@@ -1,7 +1,7 @@
 use Rattle.snl_machine.proofs.Lines.{reached_hold}
 use Rattle.snl_machine.proofs.Sized.{accepted_is_sized}
 use Rattle.snl_machine.proofs.TiedLinks.{accepted_is_tied, accepted_is_held}
-use Rattle.snl_links.specs.Links.{links}
+use Rattle.snl_channels.specs.Links.{links}
 use Rattle.snl_machine.proofs.laws.accepted_hold.Goals as goal
 
 pub returns : goal.returns

@@ -1,6 +1,6 @@
 use Rattle.std.proofs.Common.{◌≡◌, ◌∙◌, ◌+◌, ◌<◌, ◌-◌, ◌^◌, ap, arith, length, map, refl, subst, sym}
 use Rattle.snl_syntax.specs.view.Programs.{program_view}
-use Rattle.snl_links.specs.LinkViews.{link_view}
+use Rattle.snl_channels.specs.LinkViews.{link_view}
 use Rattle.snl_load.specs.First.{first_world}
 use Rattle.snl_load.specs.Places.{homes_in}
 use Rattle.snl_load.specs.Sets.{names_in}
@@ -9,7 +9,7 @@ use Rattle.snl_machine.specs.Holding.{loaded_by}
 use Rattle.snl_machine.proofs.AsLoaded.{loaded-is, first-is}
 use Rattle.snl_machine.proofs.Worlds as worlds
 use Rattle.snl_machine.proofs.making.machine_by.Goals as goal
-use Rattle.snl_code.specs.Starts.{table_of, holds_in}
+use Rattle.snl_flat.specs.Starts.{table_of, holds_in}
 use Rattle.snl_machine.proofs.Reached.{first_are_reached, reached_are_closed}
 use Rattle.snl_machine.specs.Reached.{AreReached}
 use Rattle.snl_machine.specs.Worlds.{IsWorldOf}

@@ -1,8 +1,8 @@
 use Rattle.std.proofs.Common.{◌≡◌, ◌∙◌, List, ap, map, subst}
 use Rattle.std.specs.Prelude.{IfOk}
 use Rattle.snl_syntax.specs.view.Programs.{program_view}
-use Rattle.snl_links.specs.LinkViews.{link_view}
-use Rattle.snl_links.specs.Links.{Link, ties}
+use Rattle.snl_channels.specs.LinkViews.{link_view}
+use Rattle.snl_channels.specs.Links.{Link, ties}
 use Rattle.snl_load.specs.First.{first_world_of}
 use Rattle.snl_machine.specs.MachineOf.{IsMachineOf, unnamed, world_held}
 use Rattle.snl_machine.proofs.Tasks.{links-alike}

@@ -1,7 +1,7 @@
 use Rattle.std.proofs.Common.{◌≡◌, ◌∙◌, List, [], ℕ, Bool, None, Option, Some, ap, subst, sym, string_bytes}
 use Rattle.std.specs.Option.{option_map, unwrap_or}
 use Rattle.snl_check.specs.Waits.{waits}
-use Rattle.snl_links.specs.Links.{links}
+use Rattle.snl_channels.specs.Links.{links}
 use Rattle.snl_load.specs.First.{first_world_of}
 use Rattle.snl_machine.specs.MachineOf.{IsMachineOf, task_of, world_held}
 use Rattle.snl_meaning.specs.World.{World}

@@ -6,7 +6,7 @@ use Rattle.snl_messages.specs.Silence.{options_in_force}
 use Rattle.snl_syntax.specs.view.Programs.{program_view}
 use Rattle.snl_check.specs.Waits.{waits}
 use Rattle.snl_check.specs.declared.checked.Checked.{Checked}
-use Rattle.snl_links.specs.Links.{links}
+use Rattle.snl_channels.specs.Links.{links}
 use Rattle.snl_load.specs.First.{first_world_of}
 use Rattle.snl_machine.specs.MachineOf.{IsMachineOf}
 use Rattle.snl_meaning.specs.World.{World}

@@ -5,7 +5,7 @@ use Rattle.snl_syntax.specs.Programs.{ProgramTree}
 use Rattle.snl_syntax.specs.view.Programs.{program_view}
 use Rattle.snl_check.specs.Waits.{waits}
 use Rattle.snl_check.specs.declared.checked.Checked.{Checked}
-use Rattle.snl_links.specs.Links.{Link, links}
+use Rattle.snl_channels.specs.Links.{Link, links}
 use Rattle.snl_load.specs.First.{first_world_of}
 use Rattle.snl_load.specs.Meaning.{program_meaning}
 use Rattle.snl_machine.specs.MachineOf.{IsMachineOf, task_of, world_held}

@@ -5,7 +5,7 @@ use Rattle.snl_meaning.specs.declared.instrs.Instr.{Instr}
 use Rattle.snl_meaning.specs.declared.live.Live.{Live}
 use Rattle.snl_meaning.specs.Frames.{at_time}
 use Rattle.snl_meaning.specs.Known.{entries}
-use Rattle.snl_code.specs.Pieces.{texts_of}
+use Rattle.snl_flat.specs.Pieces.{texts_of}
 use Rattle.snl_vm.specs.Stack.{Room}
 use Rattle.snl_vm.specs.Views.{world_of}
 use Rattle.snl_schedule.specs.Event.{HasInstant, line_of}

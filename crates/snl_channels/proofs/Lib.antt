@@ -1,0 +1,4 @@
+pub mod MacroLaws
+pub mod LinkLaws
+pub mod AppendLaws
+pub mod FactLaws

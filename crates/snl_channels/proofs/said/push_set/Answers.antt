@@ -1,0 +1,11 @@
+use Rattle.std.proofs.Common.{map}
+use Rattle.snl_names.specs.Chains.{scopes_of}
+use Rattle.snl_channels.specs.LinkViews.{said_view}
+use Rattle.snl_channels.proofs.LinkLaws.{set_said}
+use Rattle.snl_channels.proofs.said.push_set.Goals as goal
+
+pub returns : goal.returns
+returns c =
+    set_said (scopes_of c.args.outer.now) c.args.set.now c.as_slice.result.now c.as_slice-2.result.now c.in_ok-scope.scope
+    (map said_view c.args.said.now.items) (map said_view c.push_definitions.new.said.items) (map said_view c.push_states.new.said.items)
+    c.as_slice.ensures.value c.as_slice-2.ensures.value c.in_ok-scope.ensures.scope c.in_ok-scope.ensures.said c.in_ok-push_states.ensures

@@ -1,0 +1,10 @@
+pub mod Texts
+pub mod Macros
+pub mod MacroTables
+pub mod MacroViews
+pub mod Links
+pub mod LinkViews
+pub mod Facts
+pub mod Tables
+pub mod Appended
+pub mod Examples

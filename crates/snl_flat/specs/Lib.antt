@@ -1,0 +1,13 @@
+pub mod Heres
+pub mod Copies
+pub mod Reached
+pub mod Depths
+pub mod Outlines
+pub mod DepthParts
+pub mod Starts
+pub mod Layout
+pub mod Size
+pub mod Apart
+pub mod Pieces
+pub mod Inside
+pub mod Examples
