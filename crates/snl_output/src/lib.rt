@@ -6,6 +6,7 @@ mod held;
 mod lines;
 mod printing;
 mod sinks;
+mod sources;
 
 pub use faults::{Stop, fault_text};
 pub use held::Line;
@@ -14,3 +15,4 @@ pub use lines::{
 };
 pub use printing::write_print;
 pub use sinks::{Fired, RefusalCause, Refused, Sink, SinkFault};
+pub use sources::{Source, SourceFault};

@@ -8,7 +8,7 @@ use Rattle.std.proofs.lemmas.Bool.{ne_eqb}
 use Rattle.std.proofs.lemmas.Bool.Decides.{Decides-eqb}
 use Rattle.std.proofs.lemmas.Slice.Eq.{strip_suffix_is}
 use Rattle.std.proofs.lemmas.List.{append-nil}
-use Rattle.snl_trace.specs.Lines.{without_return, lines_to}
+use Rattle.snl_output.specs.TraceLines.{without_return, lines_to}
 
 -- a carriage return at the end is dropped
 without_return-snoc : (front : List ℕ) → without_return (front ++ 13 ∷ []) ≡ front

@@ -10,7 +10,7 @@ use Rattle.std.proofs.lemmas.List.Folds.{list_all-append}
 use Rattle.snl_trace.specs.declared.words.LineWord.TheVariants as words
 use Rattle.snl_trace.specs.Fields.{is_blank, is_filled, is_text, is_silent, fields, begins_with}
 use Rattle.snl_trace.specs.Grammar.{Told, Val, Tick, kept, values_of, told_of, told_by, timed, spoken, val_with, tick_with, word_of}
-use Rattle.snl_trace.specs.Lines.{without_return}
+use Rattle.snl_output.specs.TraceLines.{without_return}
 use Rattle.snl_trace.specs.Numbers.{is_numeral, spelled_number, time_of, spelled_value, from_zero, below_zero, up_to}
 use Rattle.snl_trace.specs.Plain.{is_plain, Begins, BeginsWithValues, BeginsWithTelling}
 use Rattle.snl_trace.specs.Reading.{IsRun}

@@ -27,7 +27,7 @@ use Rattle.snl_trace.specs.declared.trace_faults.TraceFault.{TraceFault}
 use Rattle.snl_trace.specs.declared.trace_faults.TraceFault.TheVariants.{LineTooLong}
 use Rattle.snl_trace.specs.Ends.{OnStop, OnStopHere, ends_by_sink}
 use Rattle.snl_trace.specs.Grammar.{told_of, read_of}
-use Rattle.snl_trace.specs.Lines.{lines_to, lines_from, last_line}
+use Rattle.snl_output.specs.TraceLines.{lines_to, lines_from, last_line}
 use Rattle.snl_trace.specs.Run.{Rules, run_from, line_done, or_rest, done_by, end_by, ending_of, rules_of, rules_by}
 use Rattle.snl_trace.specs.RunOver.{Place, Reaches, EndsIn, Takes, LineDoes}
 use Rattle.snl_trace.specs.Seen.{event_heard}

@@ -20,7 +20,7 @@ use Rattle.snl_trace.specs.declared.runner.End.{End}
 use Rattle.snl_trace.specs.declared.runner.End.TheVariants as end
 use Rattle.snl_trace.specs.declared.trace_faults.TraceFault.{TraceFault}
 use Rattle.snl_trace.specs.Grammar.{read_of}
-use Rattle.snl_trace.specs.Lines.{lines_from, whole_lines}
+use Rattle.snl_output.specs.TraceLines.{lines_from, whole_lines}
 use Rattle.snl_trace.specs.Run.{Rules, run_from, line_done, done_by, end_by, or_rest, rules_by, rules_of}
 use Rattle.snl_trace.specs.RunOver.{Place, IsCutIn, RunsOver, standing}
 

@@ -6,7 +6,7 @@ use Rattle.snl_meaning.specs.World.{World}
 use Rattle.snl_trace.specs.declared.runner.End.{End}
 use Rattle.snl_trace.specs.declared.runner.End.TheVariants as end
 use Rattle.snl_trace.specs.declared.trace_faults.TraceFault.TheVariants.{LineTooLong}
-use Rattle.snl_trace.specs.Lines.{IsShortEnough, last_line, lines_from}
+use Rattle.snl_output.specs.TraceLines.{IsShortEnough, last_line, lines_from}
 use Rattle.snl_trace.specs.Run.{Rules, done_by, line_done, or_rest, run_from}
 use Rattle.snl_trace.specs.RunOver.{Place, Reaches}
 use Rattle.snl_trace.proofs.RunLaws.{done-never}

@@ -3,9 +3,9 @@ use Rattle.std.proofs.Common.{◌≡◌, ℕ, zero, suc, ◌+◌, ◌<◌, ◌�
 use Rattle.snl_meaning.specs.World.{World}
 use Rattle.snl_trace.specs.declared.runner.End.{End}
 use Rattle.snl_trace.specs.declared.runner.End.TheVariants as end
-use Rattle.snl_trace.specs.Lines.{lines_to, lines_from, last_line, whole_lines}
+use Rattle.snl_output.specs.TraceLines.{lines_to, lines_from, last_line, whole_lines}
 use Rattle.snl_trace.specs.Run.{Rules, run_from}
-use Rattle.snl_trace.specs.Sources.{IsGiven, IsShort}
+use Rattle.snl_output.specs.Sources.{IsGiven, IsShort}
 use Rattle.snl_trace.specs.RunOver.{Place, Reaches, EndsIn, Takes, IsBroken, RunsOver}
 use Rattle.snl_trace.proofs.ShortLaws.{lines-short}
 use Rattle.snl_trace.proofs.RunOverLaws.{KnowsLong, reaches-start, reaches-then, ends-behind, takes-behind}

@@ -9,7 +9,7 @@ use Rattle.snl_trace.specs.declared.trace_faults.TraceFault.TheVariants.{NotAsci
 use Rattle.snl_trace.specs.declared.words.LineWord.{LineWord}
 use Rattle.snl_trace.specs.declared.words.LineWord.TheVariants as words
 use Rattle.snl_trace.specs.Fields.{is_text, is_silent, fields}
-use Rattle.snl_trace.specs.Lines.{without_return}
+use Rattle.snl_output.specs.TraceLines.{without_return}
 use Rattle.snl_trace.specs.Numbers.{time_of, spelled_value}
 
 -- what the fields behind the time tell, with a channel by its name

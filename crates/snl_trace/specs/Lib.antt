@@ -1,11 +1,9 @@
 pub mod Ends
 pub mod Fields
 pub mod Grammar
-pub mod Lines
 pub mod Numbers
 pub mod Plain
 pub mod Run
-pub mod Sources
 pub mod Reading
 pub mod Seen
 pub mod RunOver

@@ -3,7 +3,7 @@ use Rattle.std.specs.Prelude.{ℕ, ◌-◌, ◌==◌, ◌&&◌, Result, Ok, Err,
 use Rattle.snl_output.specs.declared.sinks.SinkFault.{SinkFault}
 use Rattle.snl_trace.specs.declared.memory.Feed.{Feed}
 use Rattle.snl_trace.specs.declared.memory.Sheet.{Sheet}
-use Rattle.snl_trace.specs.declared.sources.SourceFault.{SourceFault}
+use Rattle.snl_output.specs.declared.sources.SourceFault.{SourceFault}
 
 -- A feed gives as many bytes as are left, as a call gives, and as the room takes; at the call that fails, none.
 abbrev pub given_by : Feed → ℕ → Result ℕ SourceFault

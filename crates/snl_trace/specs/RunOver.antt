@@ -9,7 +9,7 @@ use Rattle.snl_output.specs.Does.{text_of}
 use Rattle.snl_meaning.specs.World.{World}
 use Rattle.snl_trace.specs.declared.runner.End.{End}
 use Rattle.snl_trace.specs.declared.runner.End.TheVariants as end
-use Rattle.snl_trace.specs.Lines.{IsShortEnough, lines_to, lines_from, whole_lines}
+use Rattle.snl_output.specs.TraceLines.{IsShortEnough, lines_to, lines_from, whole_lines}
 use Rattle.snl_trace.specs.Run.{Rules, run_from, line_done}
 
 -- what is done of a line, by the answer how the run ends there; where the sink failed, it was told a prefix

@@ -15,12 +15,11 @@ mod numbers;
 mod plain;
 mod reader;
 mod runner;
-mod sources;
 mod trace_faults;
 mod words;
 
 pub use memory::{Feed, Sheet};
 pub use reader::read_line;
 pub use runner::{End, run};
-pub use sources::{Source, SourceFault};
+pub use snl_output::{Source, SourceFault};
 pub use trace_faults::{LINE_LIMIT, TIME_LIMIT, TraceFault};

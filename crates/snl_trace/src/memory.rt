@@ -2,10 +2,10 @@
 
 ghost use Rattle.std.specs.Prelude.{◌≡◌, ◌≤◌, ◌<◌, ◌-◌, ◌^◌, ◌++◌, [], length, take, Some, IfOk, OnErr, is_err, vec_capacity};
 ghost use Rattle.snl_output.specs.Devices.{counted, write_fails};
-ghost use Rattle.snl_trace.specs.Sources.{IsGiven};
+ghost use Rattle.snl_output.specs.Sources.{IsGiven};
 
-use crate::sources::{Source, SourceFault};
 use snl_machine::{Sink, SinkFault};
+use snl_output::{Source, SourceFault};
 use std::alloc::{AllocError, Global};
 
 /// A source over bytes in memory. It gives at most so many of them a call, and fails at no call but the one that it is told.

@@ -2,7 +2,7 @@
 use Rattle.std.proofs.Common.{◌≡◌, ◌∙◌, ℕ, List, [], Option, Some, ap, map, subst, sym}
 use Rattle.snl_meaning.specs.World.{World}
 use Rattle.snl_output.specs.Does.{Gave, text_of}
-use Rattle.snl_trace.specs.Lines.{lines_from, whole_lines}
+use Rattle.snl_output.specs.TraceLines.{lines_from, whole_lines}
 use Rattle.snl_trace.specs.Run.{Rules, run_from}
 use Rattle.snl_trace.specs.RunOver.{Place, RunsOver}
 use Rattle.snl_trace.specs.declared.runner.End.{End}

@@ -17,7 +17,7 @@ use Rattle.snl_machine.specs.declared.machine.Machine.{Machine}
 use Rattle.snl_output.specs.Devices.{told_more}
 use Rattle.snl_output.specs.Does.{Gave, text_of}
 use Rattle.snl_schedule.specs.Instant.{Program, is_ready}
-use Rattle.snl_trace.specs.Lines.{lines_from}
+use Rattle.snl_output.specs.TraceLines.{lines_from}
 use Rattle.snl_trace.specs.Run.{Rules, line_done, or_rest, rules_by, run_from}
 use Rattle.snl_trace.specs.RunOver.{IsCutIn, Place, RunsOver}
 use Rattle.snl_trace.specs.declared.runner.End.{End}

@@ -11,7 +11,7 @@ use Rattle.snl_machine.specs.MachineOf.{task_of}
 use Rattle.snl_messages.specs.Messages.{Said}
 use Rattle.snl_messages.specs.Silence.{options_in_force}
 use Rattle.snl_names.specs.declared.options.Options.{Options}
-use Rattle.snl_trace.specs.Lines.{lines_from}
+use Rattle.snl_output.specs.TraceLines.{lines_from}
 use Rattle.snl_trace.specs.Run.{rules_by}
 use Rattle.snc.specs.Judging.{Finds, NoErrors}
 use Rattle.snc.specs.Texts.{messages_text}

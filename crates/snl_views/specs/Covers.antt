@@ -6,7 +6,7 @@ use Rattle.snl_channels.specs.Links.{links}
 use Rattle.snl_load.specs.First.{first_world_of}
 use Rattle.snl_machine.specs.MachineOf.{task_of}
 use Rattle.snl_names.specs.declared.options.Options.{Options}
-use Rattle.snl_trace.specs.Lines.{lines_from}
+use Rattle.snl_output.specs.TraceLines.{lines_from}
 use Rattle.snl_trace.specs.Run.{rules_by}
 use Rattle.snl_views.specs.Answered.{IsAnswered}
 use Rattle.snl_views.specs.Observed.{Covers}

@@ -2,7 +2,7 @@
 use Rattle.std.specs.Prelude.{ℕ, List}
 use Rattle.snl_meaning.specs.World.{World}
 use Rattle.snl_output.specs.Does.{text_of}
-use Rattle.snl_trace.specs.Lines.{whole_lines}
+use Rattle.snl_output.specs.TraceLines.{whole_lines}
 use Rattle.snl_trace.specs.Run.{Rules, run_from}
 use Rattle.snl_trace.specs.declared.runner.End.{End}
 use Rattle.snl_trace.specs.declared.runner.End.TheVariants as end

@@ -4,7 +4,7 @@ ghost use Rattle.std.specs.Prelude.{◌≡◌, ◌-◌, ◌^◌, ◌<◌, ℕ, B
 ghost use Rattle.snl_syntax.specs.Programs.{ProgramTree};
 ghost use Rattle.snl_channels.specs.Links.{Link};
 ghost use Rattle.snl_machine.specs.MachineOf.{IsMachineOf, task_of, world_held};
-ghost use Rattle.snl_trace.specs.Lines.{lines_from};
+ghost use Rattle.snl_output.specs.TraceLines.{lines_from};
 ghost use Rattle.snl_trace.specs.Run.{rules_by};
 ghost use Rattle.snl_views.specs.Observed.{Covers};
 ghost use Rattle.snl_views.specs.Shapes.{charted, go_texts};

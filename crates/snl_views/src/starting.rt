@@ -6,7 +6,7 @@ ghost use Rattle.snl_channels.specs.Links.{Link};
 ghost use Rattle.snl_load.specs.Meaning.{program_meaning};
 ghost use Rattle.snl_meaning.specs.declared.live.Live.TheVariants.{Waiting};
 ghost use Rattle.snl_machine.specs.MachineOf.{IsMachineOf, StaysMachineOf, task_held, task_of, world_held};
-ghost use Rattle.snl_trace.specs.Lines.{lines_from};
+ghost use Rattle.snl_output.specs.TraceLines.{lines_from};
 ghost use Rattle.snl_trace.specs.Run.{rules_by};
 ghost use Rattle.snl_trace.specs.RunOver.{RunsOver, standing};
 ghost use Rattle.snl_views.specs.Awaits.{Awaits, awaited_in, left_in};

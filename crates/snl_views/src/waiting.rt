@@ -7,7 +7,7 @@ ghost use Rattle.snl_channels.specs.Links.{Link};
 ghost use Rattle.snl_load.specs.Meaning.{program_meaning};
 ghost use Rattle.snl_meaning.specs.declared.live.Live.TheVariants.{Waiting};
 ghost use Rattle.snl_machine.specs.MachineOf.{IsMachineOf, task_of, world_held};
-ghost use Rattle.snl_trace.specs.Lines.{lines_from};
+ghost use Rattle.snl_output.specs.TraceLines.{lines_from};
 ghost use Rattle.snl_trace.specs.Run.{rules_by};
 ghost use Rattle.snl_views.specs.Answers.{IsWaits};
 ghost use Rattle.snl_views.specs.Awaits.{Awaits};

@@ -1,7 +1,7 @@
 -- A text that is cut at its newlines, and its whole lines.
 use Rattle.std.proofs.Common.{◌≡◌, ◌∙◌, ◌==◌, ◌++◌, ℕ, true, false, List, [], ◌∷◌, inl, inr, append-nil, append_assoc, refl, sym}
 use Rattle.std.proofs.lemmas.Bool.{cases_Bool}
-use Rattle.snl_trace.specs.Lines.{lines_to, whole_lines}
+use Rattle.snl_output.specs.TraceLines.{lines_to, whole_lines}
 use Rattle.snl_watch.specs.Counts.{Cut, cut_on, no_cut, with_byte}
 use Rattle.snl_watch.specs.Laws.{CutIsWholeLines}
 

@@ -2,7 +2,7 @@
 use Rattle.std.proofs.Common.{◌≡◌, ◌≤◌, ◌<◌, ◌+◌, ◌-◌, ◌^◌, ℕ, List, [], ◌++◌, Option, None, Some, length, take, drop, refl, sym, ap, ◌∙◌, arith, slice_range, append_assoc, length-append, length-drop, subst, ◌∷◌}
 use Rattle.std.proofs.Math.Seq.{take-append-add}
 use Rattle.std.proofs.lemmas.Slice.{between_is}
-use Rattle.snl_trace.specs.Sources.{IsGiven, IsShort}
+use Rattle.snl_output.specs.Sources.{IsGiven, IsShort}
 use Rattle.snl_watch.specs.Window.{behind}
 use Rattle.std.proofs.lemmas.List.{drop-append-le, take-append-le, length-take-le, drop_at, drop-drop, drop-take, take-append-drop, take-take, take_at}
 

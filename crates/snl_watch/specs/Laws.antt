@@ -1,7 +1,7 @@
 -- Laws of counts.
 use Rattle.std.specs.Prelude.{◌≡◌, ◌↔◌, ◌<◌, ◌++◌, ℕ, Bool, List, Some, length, take}
 use Rattle.std.specs.List.{All}
-use Rattle.snl_trace.specs.Lines.{whole_lines}
+use Rattle.snl_output.specs.TraceLines.{whole_lines}
 use Rattle.snl_watch.specs.Counts.{Cut, NoneShows, Reading, after, behind_digits, count_at, count_in, counts_of, cut, cut_on, no_cut, place_of, reading_of}
 
 -- What is known of a cut, and of the text that goes on: that of the longer cut.

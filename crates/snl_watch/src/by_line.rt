@@ -3,12 +3,12 @@
 ghost use Rattle.std.specs.Prelude.{◌≡◌, ◌-◌, ◌^◌, ◌<◌, ℕ, List, [], false, true, ◌⊎◌, length, ◌++◌, Some, IfOk, OnOk, is_err, IsTrue, IsFalse, ◌≤◌};
 ghost use Rattle.std.proofs.Props.{props};
 ghost use Rattle.snl_output.specs.Devices.{counted};
-ghost use Rattle.snl_trace.specs.Sources.{IsGiven, IsShort};
+ghost use Rattle.snl_output.specs.Sources.{IsGiven, IsShort};
 ghost use Rattle.snl_watch.specs.Window.{window, behind};
 
 use crate::held::Held;
 use crate::line_ends::front_line;
-use snl_trace::{Source, SourceFault};
+use snl_output::{Source, SourceFault};
 use std::alloc::{AllocError, Global};
 
 /// Gives the bytes of another source, at most one line a call: up to its newline, where the room takes that. So whoever reads

@@ -7,7 +7,7 @@ use crate::by_line::ByLine;
 use crate::heard::HeardTrace;
 use crate::line_ends::front_line;
 use crate::moments::Moments;
-use snl_trace::{Source, SourceFault};
+use snl_output::{Source, SourceFault};
 use std::cell::RefCell;
 
 /// Hands on the lines of a source, and tells which they were, with their times. Up to the line at which the program begins it

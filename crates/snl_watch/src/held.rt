@@ -3,7 +3,7 @@
 ghost use Rattle.std.specs.Prelude.{◌≡◌, ◌+◌, ◌-◌, ◌^◌, ◌<◌, ◌≤◌, ◌++◌, ◌⊎◌, [], false, length, take, slice_range, IfOk, IfSome, IsTrue, IsFalse, is_err, OnErr, ℕ, List, Some};
 
 use memchr::memrchr;
-use snl_trace::{Source, SourceFault};
+use snl_output::{Source, SourceFault};
 use std::alloc::{AllocError, Global};
 
 /// How many bytes are held at most.
@@ -37,7 +37,7 @@ fn last_end(text: &[u8]) -> usize
 impl Held {
     ghost use Rattle.snl_watch.specs.Window.{behind, window};
     ghost use Rattle.snl_output.specs.Devices.{counted};
-    ghost use Rattle.snl_trace.specs.Sources.{IsShort};
+    ghost use Rattle.snl_output.specs.Sources.{IsShort};
 
     /// Holds nothing. Fails only where memory ran out.
     pub(crate) fn new(alloc: Global) -> Result<Self, AllocError>

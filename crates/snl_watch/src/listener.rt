@@ -3,7 +3,7 @@
 ghost use Rattle.std.specs.Prelude.{◌≡◌};
 
 use crate::heard::HeardTrace;
-use snl_trace::{Source, SourceFault};
+use snl_output::{Source, SourceFault};
 
 /// Hands on what another source gives, one line a call, and hears each line.
 #[derive(Drop)]

@@ -12,7 +12,7 @@ use Rattle.std.proofs.lemmas.List.Splits.{slice_split_at, slice_split_none}
 use Rattle.std.proofs.lemmas.Str.Parse.{IsNumeralModel, numerals_by_value}
 use Rattle.snl_trace.specs.Fields.{is_blank, is_text, is_filled, is_silent, fields, begins_with}
 use Rattle.snl_trace.specs.Grammar.{Told, Up, Down, Val, Tick, Done, told_of, spoken, timed, told_by, word_of, up_with, down_with, done_with, tick_with, val_with, name_alone, values_of, put_first}
-use Rattle.snl_trace.specs.Lines.{without_return}
+use Rattle.snl_output.specs.TraceLines.{without_return}
 use Rattle.snl_trace.specs.declared.trace_faults.TraceFault.{TraceFault}
 use Rattle.snl_trace.specs.Numbers.{spelled_number, time_of, spelled_value}
 use Rattle.snl_written.specs.Written.{is_name, is_name_byte, spaced, words_at, line_with, up_line, down_line, done_line, tick_line, values_line}

@@ -1,7 +1,7 @@
 use Rattle.std.proofs.Common.{rules, ◌≡◌, ◌∙◌, ◌++◌, ◌∷◌, [], ℕ, List, sym, subst, append_assoc}
 use Rattle.std.proofs.lemmas.List.{nil_from_length}
 use Rattle.snl_trace.specs.declared.runner.End.TheVariants as end
-use Rattle.snl_trace.specs.Lines.{lines_from}
+use Rattle.snl_output.specs.TraceLines.{lines_from}
 use Rattle.snl_trace.specs.Run.{rules_of}
 use Rattle.snl_trace.specs.RunOver.{standing, EndsIn}
 use Rattle.snl_trace.proofs.RunOverLaws.{takes-line, takes-long, takes-whole, rules-long}

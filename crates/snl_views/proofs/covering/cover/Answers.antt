@@ -5,7 +5,7 @@ use Rattle.snl_channels.specs.Links.{links}
 use Rattle.snl_load.specs.First.{first_world_of}
 use Rattle.snl_machine.specs.MachineOf.{IsMachineOf, task_of, world_held}
 use Rattle.snl_meaning.specs.World.{World}
-use Rattle.snl_trace.specs.Lines.{lines_from}
+use Rattle.snl_output.specs.TraceLines.{lines_from}
 use Rattle.snl_trace.specs.Run.{rules_by}
 use Rattle.snl_views.specs.Answered.{IsAnswered}
 use Rattle.snl_views.specs.Covers.{CoversOver}

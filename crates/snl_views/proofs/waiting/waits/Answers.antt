@@ -11,7 +11,7 @@ use Rattle.snl_load.specs.Meaning.{program_meaning}
 use Rattle.snl_machine.specs.MachineOf.{IsMachineOf, task_of, world_held}
 use Rattle.snl_meaning.specs.World.{World}
 use Rattle.snl_meaning.specs.declared.live.Live.TheVariants.{Waiting}
-use Rattle.snl_trace.specs.Lines.{lines_from}
+use Rattle.snl_output.specs.TraceLines.{lines_from}
 use Rattle.snl_trace.specs.Run.{rules_by}
 use Rattle.snc.specs.Judging.{IsJudged}
 use Rattle.snl_views.specs.Answers.{AwaitsOn}

@@ -14,7 +14,7 @@ pub struct SourceFault;
 pub trait Source {
     ghost use Rattle.std.specs.Prelude.{◌≡◌, ◌+◌, ◌-◌, ◌^◌, ◌<◌, ◌≤◌, ℕ, List, Option, IfOk, OnErr, length, is_err};
     ghost use Rattle.snl_output.specs.Devices.{counted};
-    ghost use Rattle.snl_trace.specs.Sources.{IsGiven, IsShort};
+    ghost use Rattle.snl_output.specs.Sources.{IsGiven, IsShort};
 
     ghost rest: { Self → Option (List ℕ) };
 
