@@ -217,7 +217,7 @@ fn told_fault(rt: &HostRuntime, words: &SearchWords, fault: &WishFault) -> u8 {
 /// Searches a program. Answers the status.
 fn searched<T: Scouts + Drop>(
     rt: &HostRuntime,
-    checked: T,
+    checked: Box<T>,
     call: &Call,
     words: &SearchWords,
 ) -> u8 {

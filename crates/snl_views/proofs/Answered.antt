@@ -1,5 +1,5 @@
 -- What a word answers of a source, by what the rules say of it.
-use Rattle.std.proofs.Common.{◌≡◌, ℕ, List, Option, None, Some, IsSome, subst, refl, sym}
+use Rattle.std.proofs.Common.{◌≡◌, ℕ, List, Option, None, Some, IsSome, Box, Global, subst, refl, sym}
 use Rattle.std.proofs.lemmas.Bool.{false≢true}
 use Rattle.snl_syntax.specs.Programs.{ProgramTree}
 use Rattle.snl_syntax.specs.view.Programs.{program_view}
@@ -12,7 +12,7 @@ use Rattle.snl_views.proofs.Answering.{tree_of}
 
 module _ {O : Type 0} (IsRight : ProgramTree → Options → O → Type 0) (given : Options) (word source text : List ℕ) (said : Option O) where
   -- a source with an error
-  pub refused : (checked : Option Checked) → checked ≡ None → IsJudged given word source text (tree_of checked) → said ≡ None →
+  pub refused : (checked : Option (Box Checked Global)) → checked ≡ None → IsJudged given word source text (tree_of checked) → said ≡ None →
       IsAnswered IsRight given word source text said
   refused checked none w is = record {
     names = w.names;
@@ -25,12 +25,12 @@ module _ {O : Type 0} (IsRight : ProgramTree → Options → O → Type 0) (give
   }
 
   -- a program that is accepted
-  pub accepted : (checked : Option Checked) (c : Checked) (o : O) → checked ≡ Some c → IsJudged given word source text (tree_of checked) →
-      c.options ≡ options_in_force (program_view c.program) given → IsRight (program_view c.program) c.options o → said ≡ Some o →
+  pub accepted : (checked : Option (Box Checked Global)) (c : Box Checked Global) (o : O) → checked ≡ Some c → IsJudged given word source text (tree_of checked) →
+      c.value.options ≡ options_in_force (program_view c.value.program) given → IsRight (program_view c.value.program) c.value.options o → said ≡ Some o →
       IsAnswered IsRight given word source text said
   accepted checked c o some w are right is =
       let v = subst (λ o. IsJudged given word source text (tree_of o)) some w in
-      let whole = program_view c.program in
+      let whole = program_view c.value.program in
       record {
         names = v.names;
         messages = v.messages;

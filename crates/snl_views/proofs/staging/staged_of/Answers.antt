@@ -1,4 +1,4 @@
-use Rattle.std.proofs.Common.{◌≡◌, List, [], ℕ, Bool, Option, None, Some, IfSome, IsSome, refl, subst, sym, string_bytes}
+use Rattle.std.proofs.Common.{◌≡◌, List, [], ℕ, Bool, Option, None, Some, IfSome, Box, Global, IsSome, refl, subst, sym, string_bytes}
 use Rattle.std.specs.Option.{option_map, unwrap_or}
 use Rattle.std.proofs.lemmas.Bool.{false≢true}
 use Rattle.snl_names.specs.declared.options.Options.{Options}
@@ -29,15 +29,15 @@ returns c =
     subst (λ (w : List ℕ). IsJudged given w source found.messages.items (tree_of found.checked)) c.as_bytes.ensures.value c.in_ok-messages.ensures.judged in
     let first = c.in-Some.checked in
     let some : found.checked ≡ Some first = cc in
-    let under = subst (λ (o : Option Checked). IfSome o (λ k. k.options ≡ options_in_force (program_view k.program) given)) some c.in_ok-messages.ensures.options in
-    let whole = program_view first.program in
+    let under = subst (λ (o : Option (Box Checked Global)). IfSome o (λ k. k.value.options ≡ options_in_force (program_view k.value.program) given)) some c.in_ok-messages.ensures.options in
+    let whole = program_view first.value.program in
     let ls = links whole macros in
     let prepared = c.in_ok-stage.stage.value.prepared in
     let machine = prepared.machine in
-    let made : IsPrepared first macros budget prepared = subst (λ (t : List ℕ). IsPrepared first t budget prepared) c.macros_of-macros.ensures c.in_ok-stage.ensures in
+    let made : IsPrepared first.value macros budget prepared = subst (λ (t : List ℕ). IsPrepared first.value t budget prepared) c.macros_of-macros.ensures c.in_ok-stage.ensures in
     let stage = c.in_ok-stage.stage.value in
     let as_machine = subst (λ (b : Bool). IsMachineOf whole ls b budget machine) (sym made.waits) made.machine.made in
-    let staged : IsStage whole ls (waits first.options) budget stage = record { machine = as_machine; waits = made.waits; first = made.machine.first } in
+    let staged : IsStage whole ls (waits first.value.options) budget stage = record { machine = as_machine; waits = made.waits; first = made.machine.first } in
     let v = subst (λ o. IsJudged given word source found.messages.items (tree_of o)) some judged in
     record {
       names = v.names;

@@ -1,4 +1,4 @@
-use Rattle.std.proofs.Common.{◌≡◌, List, [], ℕ, Bool, Option, None, Some, IfSome, ap, refl, subst, sym, string_bytes}
+use Rattle.std.proofs.Common.{◌≡◌, List, [], ℕ, Bool, Option, None, Some, IfSome, Box, Global, ap, refl, subst, sym, string_bytes}
 use Rattle.std.specs.Option.{option_map, unwrap_or}
 use Rattle.snl_messages.specs.Silence.{options_in_force}
 use Rattle.snl_syntax.specs.Programs.{ProgramTree}
@@ -39,18 +39,18 @@ returns g c =
     subst (λ (w : List ℕ). IsJudged given w source found.messages.items (tree_of found.checked)) c.as_bytes.ensures.value c.in_ok-messages.ensures.judged in
     let first = c.in-Some.checked in
     let some : found.checked ≡ Some first = cc in
-    let under = subst (λ (o : Option Checked). IfSome o (λ k. k.options ≡ options_in_force (program_view k.program) given)) some c.in_ok-messages.ensures.options in
-    let whole = program_view first.program in
+    let under = subst (λ (o : Option (Box Checked Global)). IfSome o (λ k. k.value.options ≡ options_in_force (program_view k.value.program) given)) some c.in_ok-messages.ensures.options in
+    let whole = program_view first.value.program in
     let ls = links whole macros in
-    let waiting = waits first.options in
+    let waiting = waits first.value.options in
     let prepared = c.in_ok-prepared.prepared.value in
     let machine = prepared.machine in
-    let made : IsPrepared first macros budget prepared = subst (λ (t : List ℕ). IsPrepared first t budget prepared) c.macros_of-macros.ensures c.in_ok-prepared.ensures in
+    let made : IsPrepared first.value macros budget prepared = subst (λ (t : List ℕ). IsPrepared first.value t budget prepared) c.macros_of-macros.ensures c.in_ok-prepared.ensures in
     let outcome = c.in_ok-outcome.outcome in
     let items = outcome.awaited.items in
     let lent_said = subst (λ (q : Prepared). (p : ProgramTree) (ls : List Link) (b : ℕ) → IsMachineOf p ls q.waits b q.machine → (bytes : List ℕ) → g.R.Source.rest c.args.trace ≡ Some bytes →
     Awaits (rules_by (task_of p ls q.waits) b) (program_meaning p ls q.waits) outcome.end (world_held q.machine) (lines_from [] bytes) items) c.as_mut.ensures.value c.in_ok-outcome.ensures in
-    let named : AwaitsOn g.R.Source.rest first macros budget c.args.trace outcome = λ bytes is.
+    let named : AwaitsOn g.R.Source.rest first.value macros budget c.args.trace outcome = λ bytes is.
     let as_machine = subst (λ (b : Bool). IsMachineOf whole ls b budget machine) (sym made.waits) made.machine.made in
     let said = lent_said whole ls budget as_machine bytes is in
     subst (λ (b : Bool). Awaits (rules_by (task_of whole ls b) budget) (program_meaning whole ls b) outcome.end (first_world_of whole ls) (lines_from [] bytes) items) made.waits
