@@ -6,12 +6,12 @@ ghost use Rattle.snl_syntax.specs.view.Declarations.{declaration_view, declarato
 ghost use Rattle.snl_syntax.specs.view.Shown.{shown};
 ghost use Rattle.snl_syntax.specs.view.Definitions.{definition_view};
 ghost use Rattle.snl_names.specs.Chains.{scopes_of};
-ghost use Rattle.snl_names.specs.Scopes.{scope_of};
+ghost use Rattle.snl_names.specs.Scopes as scopes;
 ghost use Rattle.snl_names.specs.Variables as spec;
 ghost use Rattle.snl_names.specs.CopyVariables as held;
 ghost use Rattle.snl_names.specs.CopyVariables.{variable_view};
 
-use crate::definition_scopes::definition_names;
+use crate::definition_scopes::scope_of;
 use crate::initialisers::range_of;
 use snl_names::{CopyVariable, Scope, Scopes, pushed, size_of};
 use snl_syntax::{Declaration, Declarator, Def, Initialiser, TypeName};
@@ -100,12 +100,11 @@ pub fn push_definitions<'p, 'a>(
     kept: &mut Vec<CopyVariable<'p, 'a>>,
 ) -> Result<Scope<'a>, AllocError>
     ensures scope { IfOk result (λ scope. scope
-        ≡ scope_of (scopes_of outer.now) (map definition_view definitions.now)) }
+        ≡ scopes.scope_of (scopes_of outer.now) (map definition_view definitions.now)) }
     ensures kept { OnOk result (map variable_view kept.new.items ≡ map variable_view kept.old.items
         ++ spec.by_definitions (scopes_of outer.now) (map definition_view definitions.now)) }
 {
-    let names = definition_names(alloc, definitions, outer)?;
-    let scope = Scope::of(alloc, names)?;
+    let scope = scope_of(alloc, definitions, outer)?;
     push_each(definitions, &Scopes::Within(&scope, outer), kept)?;
     Ok(scope)
 }
