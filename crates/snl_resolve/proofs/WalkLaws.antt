@@ -5,7 +5,7 @@ use Rattle.snl_text.specs.declared.tokens.Token.{Token}
 use Rattle.snl_syntax.specs.declared.expressions.Expr.{Expr, Chain, Call}
 use Rattle.snl_syntax.specs.declared.expressions.Term.{Term}
 use Rattle.snl_syntax.specs.declared.expressions.Argument.{Argument, Value', Text}
-use Rattle.snl_syntax.specs.Expressions.{ExprTree, no_arguments}
+use Rattle.snl_syntax.specs.Expressions.{ExprTree, call, no_arguments}
 use Rattle.snl_syntax.specs.view.Lists.{term_list}
 use Rattle.snl_syntax.specs.view.Expressions.{view, pair_of, argument_of, list_before}
 use Rattle.snl_names.specs.declared.sites.Purpose.{Purpose}
@@ -19,20 +19,25 @@ use Rattle.snl_syntax.proofs.Rows.{view_chain, view_call}
 use Rattle.snl_names.proofs.FormLaws.{count_list}
 
 -- A call: its site, then those of its arguments.
-pub call_noted : (w : Bool) (s : Sight) (p q : Purpose) (k : ℕ) (e : Expr) (f : Token) (v : Vec Argument Global) (items : List Argument) (old mid new : List Site)
-    → e ≡ Call f v → items ≡ v.items
+pub call_noted : (w : Bool) (s : Sight) (p q : Purpose) (k : ℕ) (f : Token) (items : List Argument) (old mid new : List Site)
     → q ≡ argument p (called s f) (is_fitting (called s f) (list_before items no_arguments))
     → mid ≡ old ++ at_call p w f (called s f) (is_fitting (called s f) (list_before items no_arguments)) ∷ []
     → k ≡ word_at (builtin_of f.text.now)
     → new ≡ mid ++ in_arguments w s q k (list_before items no_arguments)
-    → new ≡ old ++ in_expression w s p (view e)
-call_noted w s p q k e f v items old mid new ee ei eq em ek en =
+    → new ≡ old ++ in_expression w s p (call f (list_before items no_arguments))
+call_noted w s p q k f items old mid new eq em ek en =
     let c = called s f in
+    let all = list_before items no_arguments in
     en
-    ∙ (λ j. em j ++ in_arguments w s (eq j) (ek j) (list_before items no_arguments))
-    ∙ (λ j. (old ++ at_call p w f c (is_fitting c (list_before (ei j) no_arguments)) ∷ [])
-    ++ in_arguments w s (argument p c (is_fitting c (list_before (ei j) no_arguments))) (word_at (builtin_of f.text.now)) (list_before (ei j) no_arguments))
-    ∙ append_assoc old _ _ ∙ ap (λ x. old ++ in_expression w s p x) (sym (ap view ee ∙ view_call f v))
+    ∙ (λ j. em j ++ in_arguments w s (eq j) (ek j) all)
+    ∙ append_assoc old (at_call p w f c (is_fitting c all) ∷ []) (in_arguments w s (argument p c (is_fitting c all)) (word_at (builtin_of f.text.now)) all)
+
+-- The same of the expression that is the call.
+pub call_viewed : (w : Bool) (s : Sight) (p : Purpose) (e : Expr) (f : Token) (v : Vec Argument Global) (items : List Argument) (old new : List Site)
+    → e ≡ Call f v → items ≡ v.items → new ≡ old ++ in_expression w s p (call f (list_before items no_arguments))
+    → new ≡ old ++ in_expression w s p (view e)
+call_viewed w s p e f v items old new ee ei en =
+    en ∙ (λ j. old ++ in_expression w s p (call f (list_before (ei j) no_arguments))) ∙ ap (λ x. old ++ in_expression w s p x) (sym (ap view ee ∙ view_call f v))
 
 -- A chain: its first operand, then the others.
 pub chain_noted : (w : Bool) (s : Sight) (p q r : Purpose) (e d : Expr) (b : Box Expr Global) (v : Vec Term Global) (items : List Term) (old mid new : List Site)

@@ -1,18 +1,21 @@
 //! The sites in expressions.
 
-ghost use Rattle.std.specs.Prelude.{◌≡◌, ◌++◌, map, OnOk};
+ghost use Rattle.std.specs.Prelude.{◌≡◌, ◌∷◌, ◌++◌, true, map, OnOk};
 ghost use Rattle.snl_syntax.specs.view.Expressions.{view, pair_of, list_before};
 ghost use Rattle.snl_syntax.specs.view.Lists.{term_list};
-ghost use Rattle.snl_syntax.specs.Expressions.{no_arguments};
+ghost use Rattle.snl_syntax.specs.Expressions.{no_arguments, call, postfix, prefix};
 ghost use Rattle.snl_names.specs.Calls as calls;
 ghost use Rattle.snl_names.specs.Calls.{unless};
-ghost use Rattle.snl_resolve.specs.Seen.{sight_of};
+ghost use Rattle.snl_names.specs.Purposes.{inner};
+ghost use Rattle.snl_names.specs.Scopes.{meaning};
 ghost use Rattle.snl_names.specs.Sites as spec;
+ghost use Rattle.snl_resolve.specs.Seen.{sight_of};
 
 use crate::sights::Sight;
 use crate::tokens::{note_call, note_change, note_constant, note_format, note_prefix, note_use};
 use snl_names::{Purpose, Site, builtin_of, is_word, word_at};
 use snl_syntax::{Argument, Expr, Term};
+use snl_text::Token;
 use std::alloc::AllocError;
 
 /// Notes the sites in an expression that stands in a clause's condition or not, for a purpose.
@@ -36,22 +39,17 @@ pub fn note_expression<'a>(
             note_expression(part, in_condition, sight, purpose.in_parentheses(), sites)
         }
         Expr::Element { name, index, .. } => {
-            note_use(&sight.scopes, purpose, *name, true, sites)?;
-            note_expression(index, in_condition, sight, inner, sites)
+            note_element(index, in_condition, sight, purpose, *name, sites)
         }
         Expr::Call(name, arguments) => {
             let arguments = arguments.as_slice();
-            let inside = note_call(arguments, sight, purpose, in_condition, *name, sites)?;
-            let word = word_at(builtin_of(name.text));
-            note_arguments(arguments, in_condition, sight, inside, word, sites)
+            note_called(arguments, in_condition, sight, purpose, *name, sites)
         }
         Expr::Postfix(target, operator) => {
-            note_change(purpose, target, *operator, sites)?;
-            note_expression(target, in_condition, sight, purpose.target(), sites)
+            note_changed(target, in_condition, sight, purpose, *operator, sites)
         }
         Expr::Prefix(operator, operand) => {
-            let inside = note_prefix(operand, purpose, *operator, sites)?;
-            note_expression(operand, in_condition, sight, inside, sites)
+            note_prefixed(operand, in_condition, sight, purpose, *operator, sites)
         }
         Expr::Chain(first, terms) => {
             note_expression(first, in_condition, sight, inner, sites)?;
@@ -67,11 +65,83 @@ pub fn note_expression<'a>(
             operator,
             value,
         } => {
-            note_change(purpose, target, *operator, sites)?;
-            note_expression(target, in_condition, sight, purpose.target(), sites)?;
+            note_changed(target, in_condition, sight, purpose, *operator, sites)?;
             note_expression(value, in_condition, sight, inner, sites)
         }
     }
+}
+
+/// Notes the use of an element, and the sites in its subscript.
+#[cycle(expression)]
+fn note_element<'a>(
+    index: &Expr<'a>,
+    in_condition: bool,
+    sight: &Sight<'_, 'a>,
+    purpose: Purpose,
+    name: Token<'a>,
+    sites: &mut Vec<Site<'a>>,
+) -> Result<(), AllocError>
+    ensures { OnOk result (sites.new.items ≡ sites.old.items
+        ++ Site.Use purpose name.entry (meaning (sight_of sight.now).scopes name.entry) true
+        ∷ spec.in_expression in_condition (sight_of sight.now) (inner purpose) (view index.now)) }
+{
+    note_use(&sight.scopes, purpose, name, true, sites)?;
+    note_expression(index, in_condition, sight, purpose.inner(), sites)
+}
+
+/// Notes a call, and the sites in its arguments.
+#[cycle(expression)]
+fn note_called<'a>(
+    arguments: &[Argument<'a>],
+    in_condition: bool,
+    sight: &Sight<'_, 'a>,
+    purpose: Purpose,
+    name: Token<'a>,
+    sites: &mut Vec<Site<'a>>,
+) -> Result<(), AllocError>
+    ensures { OnOk result (sites.new.items ≡ sites.old.items
+        ++ spec.in_expression in_condition (sight_of sight.now) purpose
+        (call name.entry (list_before arguments.now no_arguments))) }
+{
+    let inside = note_call(arguments, sight, purpose, in_condition, name, sites)?;
+    let word = word_at(builtin_of(name.text));
+    note_arguments(arguments, in_condition, sight, inside, word, sites)
+}
+
+/// Notes an operator that changes its target, and the sites in the target.
+#[cycle(expression)]
+fn note_changed<'a>(
+    target: &Expr<'a>,
+    in_condition: bool,
+    sight: &Sight<'_, 'a>,
+    purpose: Purpose,
+    operator: Token<'a>,
+    sites: &mut Vec<Site<'a>>,
+) -> Result<(), AllocError>
+    ensures { OnOk result (sites.new.items ≡ sites.old.items
+        ++ spec.in_expression in_condition (sight_of sight.now) purpose
+        (postfix (view target.now) operator.entry)) }
+{
+    note_change(purpose, target, operator, sites)?;
+    note_expression(target, in_condition, sight, purpose.target(), sites)
+}
+
+/// Notes a prefix operator, and the sites in its operand.
+#[cycle(expression)]
+fn note_prefixed<'a>(
+    operand: &Expr<'a>,
+    in_condition: bool,
+    sight: &Sight<'_, 'a>,
+    purpose: Purpose,
+    operator: Token<'a>,
+    sites: &mut Vec<Site<'a>>,
+) -> Result<(), AllocError>
+    ensures { OnOk result (sites.new.items ≡ sites.old.items
+        ++ spec.in_expression in_condition (sight_of sight.now) purpose
+        (prefix operator.entry (view operand.now))) }
+{
+    let inside = note_prefix(operand, purpose, operator, sites)?;
+    note_expression(operand, in_condition, sight, inside, sites)
 }
 
 /// Notes the sites in the operands of a chain but the first.

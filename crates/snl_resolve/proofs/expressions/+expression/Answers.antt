@@ -1,25 +1,34 @@
-use Rattle.std.proofs.Common.{◌≡◌, ◌∙◌, ◌++◌, ap, sym, ◌+◌, ◌-◌, length, drop, inr, Vec, Global, arith}
+use Rattle.std.proofs.Common.{◌≡◌, ◌∙◌, ◌++◌, ap, refl, sym, map, ◌+◌, ◌-◌, length, drop, inr, Vec, Global, arith}
 use Rattle.std.proofs.lemmas.List.{length-drop}
 use Rattle.std.proofs.lemmas.Result.{on_ok_weaker}
 use Rattle.snl_syntax.specs.Expressions.{no_arguments}
-use Rattle.snl_syntax.specs.view.Expressions.{view, argument_of, list_before}
+use Rattle.snl_syntax.specs.view.Expressions.{view, pair_of, argument_of, list_before}
+use Rattle.snl_syntax.specs.view.Lists.{term_list}
 use Rattle.snl_names.specs.declared.sites.Site.{Site}
-use Rattle.snl_names.specs.Sites.{in_arguments}
+use Rattle.snl_names.specs.Sites.{in_expression, in_terms, in_arguments}
 use Rattle.snl_names.specs.Builtins.{builtin_of}
 use Rattle.snl_names.specs.Calls.{word_at}
 use Rattle.snl_resolve.specs.Seen.{sight_of}
-use Rattle.snl_resolve.proofs.WalkLaws.{call_noted, chain_noted, argument_step, value_noted, text_noted}
+use Rattle.snl_resolve.proofs.Steps.{row_step}
+use Rattle.snl_resolve.proofs.WalkLaws.{call_noted, call_viewed, chain_noted, argument_step, value_noted, text_noted}
 use Rattle.snl_resolve.proofs.expressions.+expression.Goals.{note_arguments-in-Value+in_ok-note_argument-in-Value, note_arguments-in-Text+in_ok-note_format-in-Text}
 use Rattle.snl_resolve.proofs.expressions.+expression.Goals as goal
 
-pub note_expression-returns-in_ok-inside-in-Call : goal.note_expression-returns-in_ok-inside-in-Call
-note_expression-returns-in_ok-inside-in-Call t c =
-    let word : c.word_at-word.result ≡ word_at (builtin_of c.in-Call.name.text.now) = c.word_at-word.ensures ∙ ap word_at c.builtin_of.ensures in
+pub note_called-returns : goal.note_called-returns
+note_called-returns t c =
+    let word : c.word_at-word.result ≡ word_at (builtin_of c.args.name.text.now) = c.word_at-word.ensures ∙ ap word_at c.builtin_of.ensures in
     on_ok_weaker c.note_arguments.result
-    (call_noted c.args.in_condition (sight_of c.args.sight.now) c.args.purpose c.in_ok-inside-in-Call.inside c.word_at-word.result c.args.expression.now c.in-Call.name c.in-Call.arguments
-    c.as_slice-arguments.result.now c.args.sites.now.items c.note_call.new.sites.items c.note_arguments.new.sites.items
-    c.in-Call.is c.as_slice-arguments.ensures.value c.in_ok-inside-in-Call.ensures.purpose c.in_ok-inside-in-Call.ensures.sites word)
+    (call_noted c.args.in_condition (sight_of c.args.sight.now) c.args.purpose c.in_ok-inside.inside c.word_at-word.result c.args.name
+    c.args.arguments.now c.args.sites.now.items c.note_call.new.sites.items c.note_arguments.new.sites.items
+    c.in_ok-inside.ensures.purpose c.in_ok-inside.ensures.sites word)
     c.note_arguments.ensures
+
+pub note_expression-returns-in-Call : goal.note_expression-returns-in-Call
+note_expression-returns-in-Call t c =
+    on_ok_weaker c.note_called.result
+    (call_viewed c.args.in_condition (sight_of c.args.sight.now) c.args.purpose c.args.expression.now c.in-Call.name c.in-Call.arguments
+    c.as_slice-arguments.result.now c.args.sites.now.items c.note_called.new.sites.items c.in-Call.is c.as_slice-arguments.ensures.value)
+    c.note_called.ensures
 
 pub note_expression-returns-in_ok-note_expression-in-Chain : goal.note_expression-returns-in_ok-note_expression-in-Chain
 note_expression-returns-in_ok-note_expression-in-Chain t c =
@@ -55,3 +64,13 @@ note_arguments-loop-argument-preserved t c =
       ]),
       left,
     )
+
+pub note_terms-loop-term-preserved : goal.note_terms-loop-term-preserved
+note_terms-loop-term-preserved t c =
+    let w = c.args.in_condition in
+    let s = sight_of c.args.sight.now in
+    let p = c.args.purpose in
+    row_step (λ x. in_expression w s p (view x.operand.value)) (λ l. in_terms w s p (term_list (map pair_of l))) (λ x xs. refl)
+    c.args.terms.now c.loop-term.term-index c.term-item.result c.loop-term.sites.items c.note_expression.new.sites.items _
+    c.loop-term-test.true c.term-item.is c.loop-term.invariant
+    (c.in_ok-note_expression.ensures ∙ ap (λ e. c.loop-term.sites.items ++ in_expression w s p (view e)) c.deref.ensures)
