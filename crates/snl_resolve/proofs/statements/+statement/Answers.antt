@@ -1,5 +1,10 @@
+use Rattle.std.proofs.Common.{map, refl}
 use Rattle.std.proofs.lemmas.Result.{on_ok_weaker}
+use Rattle.snl_syntax.specs.view.Lists.{statement_list}
+use Rattle.snl_syntax.specs.view.Statements.{statement_view}
+use Rattle.snl_names.specs.Sites.{in_statement, in_statements}
 use Rattle.snl_resolve.specs.Seen.{sight_of}
+use Rattle.snl_resolve.proofs.Steps.{row_step}
 use Rattle.snl_resolve.proofs.BlockLaws.{block_noted, nested_noted}
 use Rattle.snl_resolve.proofs.statements.+statement.Goals as goal
 
@@ -19,3 +24,11 @@ note_statement-returns-in-Block t c =
     (nested_noted c.args.around.now.room c.args.around.now.states.now (sight_of c.args.sight.now) c.args.in_loop c.args.statement.now c.in-Block.block
     c.args.sites.now.items c.note_block.new.sites.items c.in-Block.is)
     c.note_block.ensures
+
+pub note_statements-loop-statement-preserved : goal.note_statements-loop-statement-preserved
+note_statements-loop-statement-preserved t c =
+    let by = in_statement c.args.around.now.room c.args.around.now.states.now (sight_of c.args.sight.now) c.args.in_loop in
+    let all = in_statements c.args.around.now.room c.args.around.now.states.now (sight_of c.args.sight.now) c.args.in_loop in
+    row_step (λ x. by (statement_view x)) (λ l. all (statement_list (map statement_view l))) (λ x xs. refl)
+    c.args.statements.now c.loop-statement.statement-index c.statement-item.result c.loop-statement.sites.items c.note_statement.new.sites.items _
+    c.loop-statement-test.true c.statement-item.is c.loop-statement.invariant c.in_ok-note_statement.ensures
