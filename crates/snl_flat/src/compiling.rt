@@ -269,6 +269,59 @@ fn code_of<'a>(
     })
 }
 
+/// The code of a program, by its sites, which of its states are reached, the variables of its copies, and what its functions may
+/// name. It owns the names of the functions alone: what else is owned stands in who calls it, since each end drops it.
+fn marked_code<'a>(
+    alloc: Global,
+    program: &Program<'a>,
+    sites: &Sites<'_, 'a>,
+    marks: &[Vec<bool>],
+    copies: &[Places],
+    bodies: &Places,
+) -> Result<Code, AllocError>
+    requires sites { sites.now ≡ programs.sites (program_view program.now) }
+    requires marks { AreMarked (program_view program.now).state_sets marks.now }
+    requires copies { copies.now
+        ≡ heres.placed_sets (program_view program.now) 0 (program_view program.now).state_sets }
+    requires bodies { bodies.now ≡ heres.function_places (program_view program.now) }
+    ensures is { IfOk result (IsCodeOf (program_view program.now)) }
+    ensures inside { IfOk result (IsInside (program_view program.now)) }
+    ensures short { IfOk result (λ code. length code.instrs.items
+        ≤ program_size (holds_in (table_of code)) (program_view program.now)) }
+{
+    let names = names_among(alloc, program.definitions.as_slice())?;
+    let count = names.len();
+    let names = Numbered::of(alloc, names)?;
+    let common = Common {
+        sites,
+        names: &names,
+        count,
+        bodies,
+    };
+    code_of(alloc, program, &common, copies, marks)
+}
+
+/// The code of a program, by its sites, the variables of its copies, and what its functions may name. It owns the marks alone.
+fn sited_code<'a>(
+    alloc: Global,
+    program: &Program<'a>,
+    sites: &Sites<'_, 'a>,
+    copies: &[Places],
+    bodies: &Places,
+) -> Result<Code, AllocError>
+    requires sites { sites.now ≡ programs.sites (program_view program.now) }
+    requires copies { copies.now
+        ≡ heres.placed_sets (program_view program.now) 0 (program_view program.now).state_sets }
+    requires bodies { bodies.now ≡ heres.function_places (program_view program.now) }
+    ensures is { IfOk result (IsCodeOf (program_view program.now)) }
+    ensures inside { IfOk result (IsInside (program_view program.now)) }
+    ensures short { IfOk result (λ code. length code.instrs.items
+        ≤ program_size (holds_in (table_of code)) (program_view program.now)) }
+{
+    let marks = reached_sets(alloc, program.state_sets.as_slice())?;
+    marked_code(alloc, program, sites, marks.as_slice(), copies, bodies)
+}
+
 /// The code of a program, by its sites, the table of what the names in them mean, the variables of its copies, and what its
 /// functions may name. States that cannot be reached have no code. It has at most as many instructions as the size of the program
 /// says, in which such a state counts 0. The only error is that memory ends.
@@ -291,15 +344,5 @@ pub fn compile_by<'s, 'a>(
         ≤ program_size (holds_in (table_of code)) (program_view program.now)) }
 {
     let sites = Sites::of(alloc, sites, uses)?;
-    let marks = reached_sets(alloc, program.state_sets.as_slice())?;
-    let names = names_among(alloc, program.definitions.as_slice())?;
-    let count = names.len();
-    let names = Numbered::of(alloc, names)?;
-    let common = Common {
-        sites: &sites,
-        names: &names,
-        count,
-        bodies,
-    };
-    code_of(alloc, program, &common, copies, marks.as_slice())
+    sited_code(alloc, program, &sites, copies, bodies)
 }
