@@ -1,7 +1,7 @@
 //! Bytes cut into lines.
 
 ghost use Rattle.std.specs.Prelude.{◌≡◌, ◌≢◌, ◌++◌, ◌∷◌, IfSome, IfNone, All};
-ghost use Rattle.snl_trace.specs.Lines as spec;
+ghost use Rattle.snl_output.specs.TraceLines as spec;
 
 use memchr::memchr;
 
