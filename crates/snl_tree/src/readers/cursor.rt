@@ -13,7 +13,7 @@ use std::alloc::{AllocError, AllocFailed};
 
 /// A place in the tokens that is moved on: those from there on.
 #[derive(Drop)]
-pub struct Cursor<'t, 'a> {
+pub struct Cursor<'a, 't> {
     pub left: &'t [Token<'a>],
 }
 
@@ -94,7 +94,7 @@ pub fn open_sign(cursor: &mut Cursor, kind: Kind, depth: usize) -> Result<(), Ha
 }
 
 /// Reads a token of a kind, which is kept.
-pub fn token<'t, 'a>(cursor: &mut Cursor<'t, 'a>, kind: Kind) -> Result<Token<'a>, Halt>
+pub fn token<'a, 't>(cursor: &mut Cursor<'a, 't>, kind: Kind) -> Result<Token<'a>, Halt>
     ensures { MovesToken result cursor.new.left.now
         (readers.one (specs.is kind) cursor.old.left.now) }
 {
@@ -109,8 +109,8 @@ pub fn token<'t, 'a>(cursor: &mut Cursor<'t, 'a>, kind: Kind) -> Result<Token<'a
 
 /// Reads a sign that opens a nested part and is kept. With no depth left it is nested too deep.
 #[tactic(auto, using(crate::proofs::code::Opened::opened_some, crate::proofs::code::Opened::opened_none))]
-pub fn open_token<'t, 'a>(
-    cursor: &mut Cursor<'t, 'a>,
+pub fn open_token<'a, 't>(
+    cursor: &mut Cursor<'a, 't>,
     kind: Kind,
     depth: usize,
 ) -> Result<Token<'a>, Halt>
@@ -138,7 +138,7 @@ pub fn at_constant(cursor: &Cursor) -> bool
 }
 
 /// Reads a number or a character constant.
-pub fn constant<'t, 'a>(cursor: &mut Cursor<'t, 'a>) -> Result<Token<'a>, Halt>
+pub fn constant<'a, 't>(cursor: &mut Cursor<'a, 't>) -> Result<Token<'a>, Halt>
     ensures { MovesToken result cursor.new.left.now
         (readers.one specs.is_constant cursor.old.left.now) }
 {
@@ -172,7 +172,7 @@ pub fn looseness_here(cursor: &Cursor) -> u8
 }
 
 /// Reads an operator that binds so loosely.
-pub fn operator<'t, 'a>(cursor: &mut Cursor<'t, 'a>, level: u8) -> Result<Token<'a>, Halt>
+pub fn operator<'a, 't>(cursor: &mut Cursor<'a, 't>, level: u8) -> Result<Token<'a>, Halt>
     ensures { MovesToken result cursor.new.left.now
         (readers.one (is_operator level) cursor.old.left.now) }
 {
@@ -187,8 +187,8 @@ pub fn operator<'t, 'a>(cursor: &mut Cursor<'t, 'a>, level: u8) -> Result<Token<
 
 /// Reads an operator whose operand is nested.
 #[tactic(auto, using(crate::proofs::code::Opened::opened_some, crate::proofs::code::Opened::opened_none))]
-pub fn open_operator<'t, 'a>(
-    cursor: &mut Cursor<'t, 'a>,
+pub fn open_operator<'a, 't>(
+    cursor: &mut Cursor<'a, 't>,
     level: u8,
     depth: usize,
 ) -> Result<Token<'a>, Halt>
@@ -216,7 +216,7 @@ pub fn at_prefix(cursor: &Cursor) -> bool
 }
 
 /// Reads a prefix operator.
-fn prefix<'t, 'a>(cursor: &mut Cursor<'t, 'a>) -> Result<Token<'a>, Halt>
+fn prefix<'a, 't>(cursor: &mut Cursor<'a, 't>) -> Result<Token<'a>, Halt>
     ensures { MovesToken result cursor.new.left.now
         (readers.one specs.is_prefix cursor.old.left.now) }
 {
@@ -231,7 +231,7 @@ fn prefix<'t, 'a>(cursor: &mut Cursor<'t, 'a>) -> Result<Token<'a>, Halt>
 
 /// Reads a prefix operator, whose operand is nested.
 #[tactic(auto, using(crate::proofs::code::Opened::opened_some, crate::proofs::code::Opened::opened_none))]
-pub fn open_prefix<'t, 'a>(cursor: &mut Cursor<'t, 'a>, depth: usize) -> Result<Token<'a>, Halt>
+pub fn open_prefix<'a, 't>(cursor: &mut Cursor<'a, 't>, depth: usize) -> Result<Token<'a>, Halt>
     ensures gives { MovesToken result cursor.new.left.now
         (opened depth specs.is_prefix (readers.one specs.is_prefix) cursor.old.left.now) }
     ensures room { OnOk result (0 < depth) }

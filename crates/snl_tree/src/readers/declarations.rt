@@ -57,7 +57,7 @@ pub fn at_declaration(cursor: &Cursor) -> bool
 }
 
 /// Reads the first word of a type.
-fn type_word<'t, 'a>(cursor: &mut Cursor<'t, 'a>) -> Result<Token<'a>, Halt>
+fn type_word<'a, 't>(cursor: &mut Cursor<'a, 't>) -> Result<Token<'a>, Halt>
     ensures { MovesToken result cursor.new.left.now
         (readers.one kinds.starts_declaration cursor.old.left.now) }
 {
@@ -78,7 +78,7 @@ fn may_be_unsigned(kind: Kind) -> bool
 }
 
 /// Reads a second word of a type, where one may stand after the first and does.
-fn second_word<'t, 'a>(cursor: &mut Cursor<'t, 'a>, first: Kind) -> Option<Token<'a>>
+fn second_word<'a, 't>(cursor: &mut Cursor<'a, 't>, first: Kind) -> Option<Token<'a>>
     ensures { sequences.maybe (kinds.is_second first) (readers.one (kinds.is_second first))
         cursor.old.left.now ≡ Ok (result, cursor.new.left.now) }
 {
@@ -93,7 +93,7 @@ fn second_word<'t, 'a>(cursor: &mut Cursor<'t, 'a>, first: Kind) -> Option<Token
 
 /// Reads the words of a type.
 #[tactic(auto, unfolding(crate::specs::reading::Declarations::type_at))]
-pub fn type_name<'t, 'a>(cursor: &mut Cursor<'t, 'a>) -> Result<TypeName<'a>, Halt>
+pub fn type_name<'a, 't>(cursor: &mut Cursor<'a, 't>) -> Result<TypeName<'a>, Halt>
     ensures { Moves type_view result cursor.new.left.now (specs.type_at cursor.old.left.now) }
 {
     let word = type_word(cursor)?;
@@ -103,9 +103,9 @@ pub fn type_name<'t, 'a>(cursor: &mut Cursor<'t, 'a>) -> Result<TypeName<'a>, Ha
 
 /// Reads an expression in brackets.
 #[tactic(auto, unfolding(crate::specs::reading::Declarations::bracket_at))]
-pub fn bracket<'t, 'a>(
+pub fn bracket<'a, 't>(
     alloc: Global,
-    cursor: &mut Cursor<'t, 'a>,
+    cursor: &mut Cursor<'a, 't>,
     depth: usize,
 ) -> Result<Box<Expr<'a>>, Halt>
     ensures { Moves boxed result cursor.new.left.now (specs.bracket_at depth cursor.old.left.now) }
@@ -117,9 +117,9 @@ pub fn bracket<'t, 'a>(
 }
 
 /// Reads the sizes after a declared name.
-fn sizes<'t, 'a>(
+fn sizes<'a, 't>(
     alloc: Global,
-    cursor: &mut Cursor<'t, 'a>,
+    cursor: &mut Cursor<'a, 't>,
     depth: usize,
 ) -> Result<Vec<Box<Expr<'a>>>, Halt>
     ensures { Moves views result cursor.new.left.now (specs.sizes_at depth cursor.old.left.now) }
@@ -134,9 +134,9 @@ fn sizes<'t, 'a>(
 
 /// Reads what a declared name begins with: a value, or a list of values in braces.
 #[tactic(auto, unfolding(crate::specs::reading::Declarations::initialiser_at))]
-fn initialiser<'t, 'a>(
+fn initialiser<'a, 't>(
     alloc: Global,
-    cursor: &mut Cursor<'t, 'a>,
+    cursor: &mut Cursor<'a, 't>,
     depth: usize,
 ) -> Result<Initialiser<'a>, Halt>
     ensures { Moves initialiser_view result cursor.new.left.now
@@ -153,9 +153,9 @@ fn initialiser<'t, 'a>(
 }
 
 /// Reads `=` and what stands after it, where it is here.
-fn initial<'t, 'a>(
+fn initial<'a, 't>(
     alloc: Global,
-    cursor: &mut Cursor<'t, 'a>,
+    cursor: &mut Cursor<'a, 't>,
     depth: usize,
 ) -> Result<Option<Initialiser<'a>>, Halt>
     ensures { Moves (shown initialiser_view) result cursor.new.left.now
@@ -172,9 +172,9 @@ fn initial<'t, 'a>(
 
 /// Reads all that belongs to a declared name, which was read before.
 #[tactic(auto, unfolding(crate::specs::reading::Declarations::ends_at))]
-pub fn declarator_of<'t, 'a>(
+pub fn declarator_of<'a, 't>(
     alloc: Global,
-    cursor: &mut Cursor<'t, 'a>,
+    cursor: &mut Cursor<'a, 't>,
     depth: usize,
     name: Token<'a>,
 ) -> Result<Box<Declarator<'a>>, Halt>
@@ -188,9 +188,9 @@ pub fn declarator_of<'t, 'a>(
 
 /// Reads a declared name with all that belongs to it.
 #[tactic(auto, using(crate::proofs::code::FunctionForms::declarator_form))]
-fn declarator<'t, 'a>(
+fn declarator<'a, 't>(
     alloc: Global,
-    cursor: &mut Cursor<'t, 'a>,
+    cursor: &mut Cursor<'a, 't>,
     depth: usize,
 ) -> Result<Box<Declarator<'a>>, Halt>
     ensures { Moves (held declarator_view) result cursor.new.left.now
@@ -201,9 +201,9 @@ fn declarator<'t, 'a>(
 }
 
 /// Reads a comma and the declared name after it.
-fn next_declarator<'t, 'a>(
+fn next_declarator<'a, 't>(
     alloc: Global,
-    cursor: &mut Cursor<'t, 'a>,
+    cursor: &mut Cursor<'a, 't>,
     depth: usize,
 ) -> Result<Box<Declarator<'a>>, Halt>
     ensures { Moves (held declarator_view) result cursor.new.left.now
@@ -215,11 +215,11 @@ fn next_declarator<'t, 'a>(
 }
 
 /// Reads further declared names, each after a comma, behind a first one.
-pub fn declarators_of<'t, 'a>(
+pub fn declarators_of<'a, 't>(
     alloc: Global,
-    first: Box<Declarator<'a>>,
-    cursor: &mut Cursor<'t, 'a>,
+    cursor: &mut Cursor<'a, 't>,
     depth: usize,
+    first: Box<Declarator<'a>>,
 ) -> Result<Vec<Declarator<'a>>, Halt>
     ensures { Moves declarator_views result cursor.new.left.now
         (made (λ all. declarator_view first.entry.value ∷ all) (specs.more_declarators_at depth)
@@ -236,22 +236,22 @@ pub fn declarators_of<'t, 'a>(
 
 /// Reads declared names with commas between them.
 #[tactic(auto, using(crate::proofs::code::FunctionForms::declarators_form))]
-fn declarators<'t, 'a>(
+fn declarators<'a, 't>(
     alloc: Global,
-    cursor: &mut Cursor<'t, 'a>,
+    cursor: &mut Cursor<'a, 't>,
     depth: usize,
 ) -> Result<Vec<Declarator<'a>>, Halt>
     ensures { Moves declarator_views result cursor.new.left.now
         (specs.declarators_at depth cursor.old.left.now) }
 {
     let first = declarator(alloc, cursor, depth)?;
-    declarators_of(alloc, first, cursor, depth)
+    declarators_of(alloc, cursor, depth, first)
 }
 
 /// Reads the values of a list, up to its closing brace.
-fn values<'t, 'a>(
+fn values<'a, 't>(
     alloc: Global,
-    cursor: &mut Cursor<'t, 'a>,
+    cursor: &mut Cursor<'a, 't>,
     depth: usize,
 ) -> Result<Values<'a>, Halt>
     ensures { Moves values_view result cursor.new.left.now
@@ -272,9 +272,9 @@ fn values<'t, 'a>(
 
 /// Reads a declaration.
 #[tactic(auto, unfolding(crate::specs::reading::Declarations::declaration_at))]
-pub fn declaration<'t, 'a>(
+pub fn declaration<'a, 't>(
     alloc: Global,
-    cursor: &mut Cursor<'t, 'a>,
+    cursor: &mut Cursor<'a, 't>,
     depth: usize,
 ) -> Result<Box<Declaration<'a>>, Halt>
     ensures { Moves (held declaration_view) result cursor.new.left.now

@@ -26,9 +26,9 @@ use snl_text::{Kind, Token};
 use std::alloc::Global;
 
 /// Reads a subscript, where it is here.
-fn subscript<'t, 'a>(
+fn subscript<'a, 't>(
     alloc: Global,
-    cursor: &mut Cursor<'t, 'a>,
+    cursor: &mut Cursor<'a, 't>,
     depth: usize,
 ) -> Result<Option<Box<Expr<'a>>>, Halt>
     ensures { Moves (shown boxed) result cursor.new.left.now
@@ -43,9 +43,9 @@ fn subscript<'t, 'a>(
 
 /// Reads the place of a definition.
 #[tactic(auto, unfolding(crate::specs::reading::Definitions::place_at))]
-fn place<'t, 'a>(
+fn place<'a, 't>(
     alloc: Global,
-    cursor: &mut Cursor<'t, 'a>,
+    cursor: &mut Cursor<'a, 't>,
     depth: usize,
 ) -> Result<Box<Place<'a>>, Halt>
     ensures { Moves (held place_view) result cursor.new.left.now
@@ -57,7 +57,7 @@ fn place<'t, 'a>(
 }
 
 /// Reads a comma and the token of a kind after it.
-fn next_token<'t, 'a>(cursor: &mut Cursor<'t, 'a>, kind: Kind) -> Result<Token<'a>, Halt>
+fn next_token<'a, 't>(cursor: &mut Cursor<'a, 't>, kind: Kind) -> Result<Token<'a>, Halt>
     ensures { MovesToken result cursor.new.left.now
         (sequences.behind Kind.Comma (readers.one (is kind)) cursor.old.left.now) }
 {
@@ -67,9 +67,9 @@ fn next_token<'t, 'a>(cursor: &mut Cursor<'t, 'a>, kind: Kind) -> Result<Token<'
 }
 
 /// Reads tokens of a kind with commas between them.
-fn tokens<'t, 'a>(
+fn tokens<'a, 't>(
     alloc: Global,
-    cursor: &mut Cursor<'t, 'a>,
+    cursor: &mut Cursor<'a, 't>,
     kind: Kind,
 ) -> Result<Vec<Token<'a>>, Halt>
     ensures { Moves token_list result cursor.new.left.now
@@ -87,7 +87,7 @@ fn tokens<'t, 'a>(
 
 /// Reads the names of an assign.
 #[tactic(auto, unfolding(crate::specs::reading::Definitions::names_at, crate::specs::reading::Definitions::strings_at))]
-fn names<'t, 'a>(alloc: Global, cursor: &mut Cursor<'t, 'a>) -> Result<ChannelNames<'a>, Halt>
+fn names<'a, 't>(alloc: Global, cursor: &mut Cursor<'a, 't>) -> Result<ChannelNames<'a>, Halt>
     ensures { Moves names_view result cursor.new.left.now (specs.names_at cursor.old.left.now) }
 {
     if at(cursor, Kind::Text) {
@@ -101,7 +101,7 @@ fn names<'t, 'a>(alloc: Global, cursor: &mut Cursor<'t, 'a>) -> Result<ChannelNa
 }
 
 /// Reads `to`, where it is here.
-fn has_to<'t, 'a>(cursor: &mut Cursor<'t, 'a>) -> Result<bool, Halt>
+fn has_to<'a, 't>(cursor: &mut Cursor<'a, 't>) -> Result<bool, Halt>
     ensures { MovesToken result cursor.new.left.now
         (sequences.whether Kind.To cursor.old.left.now) }
 {
@@ -124,7 +124,7 @@ fn at_channels(cursor: &Cursor) -> bool
 
 /// Reads what stands after the place of an assign.
 #[tactic(auto, unfolding(crate::specs::reading::Definitions::channels_at))]
-fn channels<'t, 'a>(alloc: Global, cursor: &mut Cursor<'t, 'a>) -> Result<Channels<'a>, Halt>
+fn channels<'a, 't>(alloc: Global, cursor: &mut Cursor<'a, 't>) -> Result<Channels<'a>, Halt>
     ensures { Moves channels_view result cursor.new.left.now
         (specs.channels_at cursor.old.left.now) }
 {
@@ -134,9 +134,9 @@ fn channels<'t, 'a>(alloc: Global, cursor: &mut Cursor<'t, 'a>) -> Result<Channe
 }
 
 /// Reads what stands after the place of an assign, where it is here.
-fn maybe_channels<'t, 'a>(
+fn maybe_channels<'a, 't>(
     alloc: Global,
-    cursor: &mut Cursor<'t, 'a>,
+    cursor: &mut Cursor<'a, 't>,
 ) -> Result<Option<Channels<'a>>, Halt>
     ensures { Moves (shown channels_view) result cursor.new.left.now
         (sequences.maybe specs.starts_channels specs.channels_at cursor.old.left.now) }
@@ -150,9 +150,9 @@ fn maybe_channels<'t, 'a>(
 
 /// Reads an assign, and puts it at the end of a row.
 #[tactic(auto, unfolding(crate::specs::reading::Definitions::assign_at))]
-fn assign<'t, 'a>(
+fn assign<'a, 't>(
     alloc: Global,
-    cursor: &mut Cursor<'t, 'a>,
+    cursor: &mut Cursor<'a, 't>,
     depth: usize,
     row: &mut Vec<Def<'a>>,
 ) -> Result<(), Halt>
@@ -168,9 +168,9 @@ fn assign<'t, 'a>(
 
 /// Reads a monitor, and puts it at the end of a row.
 #[tactic(auto, unfolding(crate::specs::reading::Definitions::monitor_at))]
-fn monitor<'t, 'a>(
+fn monitor<'a, 't>(
     alloc: Global,
-    cursor: &mut Cursor<'t, 'a>,
+    cursor: &mut Cursor<'a, 't>,
     depth: usize,
     row: &mut Vec<Def<'a>>,
 ) -> Result<(), Halt>
@@ -185,7 +185,7 @@ fn monitor<'t, 'a>(
 
 /// Reads the event flag of a sync.
 #[tactic(auto, unfolding(crate::specs::reading::Definitions::flag_at))]
-fn flag<'t, 'a>(cursor: &mut Cursor<'t, 'a>) -> Result<Flag<'a>, Halt>
+fn flag<'a, 't>(cursor: &mut Cursor<'a, 't>) -> Result<Flag<'a>, Halt>
     ensures { Moves flag_view result cursor.new.left.now (specs.flag_at cursor.old.left.now) }
 {
     let to = has_to(cursor)?;
@@ -195,9 +195,9 @@ fn flag<'t, 'a>(cursor: &mut Cursor<'t, 'a>) -> Result<Flag<'a>, Halt>
 
 /// Reads a sync, and puts it at the end of a row.
 #[tactic(auto, unfolding(crate::specs::reading::Definitions::sync_at))]
-fn sync<'t, 'a>(
+fn sync<'a, 't>(
     alloc: Global,
-    cursor: &mut Cursor<'t, 'a>,
+    cursor: &mut Cursor<'a, 't>,
     depth: usize,
     row: &mut Vec<Def<'a>>,
 ) -> Result<(), Halt>
@@ -222,7 +222,7 @@ fn at_flag(cursor: &Cursor) -> bool
 }
 
 /// Reads the event flag of a queue, where it is here.
-fn maybe_flag<'t, 'a>(cursor: &mut Cursor<'t, 'a>) -> Result<Option<Flag<'a>>, Halt>
+fn maybe_flag<'a, 't>(cursor: &mut Cursor<'a, 't>) -> Result<Option<Flag<'a>>, Halt>
     ensures { Moves (shown flag_view) result cursor.new.left.now
         (sequences.maybe specs.starts_flag specs.flag_at cursor.old.left.now) }
 {
@@ -234,7 +234,7 @@ fn maybe_flag<'t, 'a>(cursor: &mut Cursor<'t, 'a>) -> Result<Option<Flag<'a>>, H
 }
 
 /// Reads the size of a queue, where it is here.
-fn maybe_size<'t, 'a>(cursor: &mut Cursor<'t, 'a>) -> Option<Token<'a>>
+fn maybe_size<'a, 't>(cursor: &mut Cursor<'a, 't>) -> Option<Token<'a>>
     ensures { sequences.maybe (is Kind.Whole) (readers.one (is Kind.Whole))
         cursor.old.left.now ≡ Ok (result, cursor.new.left.now) }
 {
@@ -249,9 +249,9 @@ fn maybe_size<'t, 'a>(cursor: &mut Cursor<'t, 'a>) -> Option<Token<'a>>
 
 /// Reads a queue, and puts it at the end of a row.
 #[tactic(auto, unfolding(crate::specs::reading::Definitions::queue_at))]
-fn sync_queue<'t, 'a>(
+fn sync_queue<'a, 't>(
     alloc: Global,
-    cursor: &mut Cursor<'t, 'a>,
+    cursor: &mut Cursor<'a, 't>,
     depth: usize,
     row: &mut Vec<Def<'a>>,
 ) -> Result<(), Halt>
@@ -268,9 +268,9 @@ fn sync_queue<'t, 'a>(
 
 /// Reads the declaration of event flags, and puts it at the end of a row.
 #[tactic(auto, unfolding(crate::specs::reading::Definitions::event_flags_at, crate::specs::reading::Definitions::flags_at))]
-fn event_flags<'t, 'a>(
+fn event_flags<'a, 't>(
     alloc: Global,
-    cursor: &mut Cursor<'t, 'a>,
+    cursor: &mut Cursor<'a, 't>,
     row: &mut Vec<Def<'a>>,
 ) -> Result<(), Halt>
     ensures { Adds definition_view row.old.items result row.new.items cursor.new.left.now
@@ -284,9 +284,9 @@ fn event_flags<'t, 'a>(
 
 /// Reads a definition that is no declaration, and puts it at the end of a row.
 #[tactic(auto, using(crate::proofs::code::DefinitionForms::other_cases))]
-pub fn other<'t, 'a>(
+pub fn other<'a, 't>(
     alloc: Global,
-    cursor: &mut Cursor<'t, 'a>,
+    cursor: &mut Cursor<'a, 't>,
     depth: usize,
     row: &mut Vec<Def<'a>>,
 ) -> Result<(), Halt>
@@ -310,9 +310,9 @@ pub fn other<'t, 'a>(
 
 /// Reads a definition, and puts it at the end of a row.
 #[tactic(auto, using(crate::proofs::code::DefinitionForms::definition_cases))]
-pub fn definition<'t, 'a>(
+pub fn definition<'a, 't>(
     alloc: Global,
-    cursor: &mut Cursor<'t, 'a>,
+    cursor: &mut Cursor<'a, 't>,
     depth: usize,
     row: &mut Vec<Def<'a>>,
 ) -> Result<(), Halt>
@@ -327,9 +327,9 @@ pub fn definition<'t, 'a>(
 }
 
 /// Reads the definitions of a state set.
-pub fn definitions<'t, 'a>(
+pub fn definitions<'a, 't>(
     alloc: Global,
-    cursor: &mut Cursor<'t, 'a>,
+    cursor: &mut Cursor<'a, 't>,
     depth: usize,
 ) -> Result<Vec<Def<'a>>, Halt>
     ensures { Moves definition_views result cursor.new.left.now

@@ -45,10 +45,10 @@ fn is_assigned(target: &Expr, cursor: &Cursor) -> bool
 
 /// Reads what may stand after a primary, `++` or `--`.
 #[tactic(auto, unfolding(crate::specs::reading::Expressions::stepped))]
-fn stepped<'t, 'a>(
+fn stepped<'a, 't>(
     alloc: Global,
+    cursor: &mut Cursor<'a, 't>,
     primary: Box<Expr<'a>>,
-    cursor: &mut Cursor<'t, 'a>,
 ) -> Result<Box<Expr<'a>>, Halt>
     ensures { Moves boxed result cursor.new.left.now
         (specs.stepped (boxed primary.entry) cursor.old.left.now) }
@@ -63,9 +63,9 @@ fn stepped<'t, 'a>(
 /// Reads what holds together so tightly, from [`UNARY`] to [`COMMA`]: a whole expression is the last.
 #[cycle(reading)]
 #[tactic(auto, using(crate::proofs::code::Forms::level_assignment, crate::proofs::code::Forms::level_conditional, crate::proofs::code::Climbing::level_binary))]
-pub fn level<'t, 'a>(
+pub fn level<'a, 't>(
     alloc: Global,
-    cursor: &mut Cursor<'t, 'a>,
+    cursor: &mut Cursor<'a, 't>,
     depth: usize,
     looseness: u8,
 ) -> Result<Box<Expr<'a>>, Halt>
@@ -84,15 +84,15 @@ pub fn level<'t, 'a>(
         return conditional(alloc, cursor, depth);
     }
     let first = unary(alloc, cursor, depth)?;
-    climb(alloc, first, cursor, depth, UNARY, looseness)
+    climb(alloc, cursor, depth, first, UNARY, looseness)
 }
 
 /// Reads assignments with commas between them.
 #[cycle(reading)]
 #[tactic(auto, using(crate::proofs::code::Forms::expression_form))]
-fn expression<'t, 'a>(
+fn expression<'a, 't>(
     alloc: Global,
-    cursor: &mut Cursor<'t, 'a>,
+    cursor: &mut Cursor<'a, 't>,
     depth: usize,
 ) -> Result<Box<Expr<'a>>, Halt>
     ensures { Moves boxed result cursor.new.left.now
@@ -106,11 +106,11 @@ fn expression<'t, 'a>(
 /// Reads the binary operators after a tree with their operands: those that are looser than what the tree
 /// holds together, up to a looseness. It goes from one operator to the next, and not through every level.
 #[cycle(reading)]
-fn climb<'t, 'a>(
+fn climb<'a, 't>(
     alloc: Global,
-    first: Box<Expr<'a>>,
-    cursor: &mut Cursor<'t, 'a>,
+    cursor: &mut Cursor<'a, 't>,
     depth: usize,
+    first: Box<Expr<'a>>,
     tightness: u8,
     looseness: u8,
 ) -> Result<Box<Expr<'a>>, Halt>
@@ -127,15 +127,15 @@ fn climb<'t, 'a>(
     }
     let terms = terms(alloc, cursor, depth, here)?;
     let chain = chained(alloc, first, terms)?;
-    climb(alloc, chain, cursor, depth, here, looseness)
+    climb(alloc, cursor, depth, chain, here, looseness)
 }
 
 /// Reads the operators of one level, each with the operand after it.
 #[cycle(reading)]
 #[tactic(auto, using(crate::proofs::code::Loops::found_first, crate::proofs::code::Loops::term_less))]
-fn terms<'t, 'a>(
+fn terms<'a, 't>(
     alloc: Global,
-    cursor: &mut Cursor<'t, 'a>,
+    cursor: &mut Cursor<'a, 't>,
     depth: usize,
     looseness: u8,
 ) -> Result<Vec<Term<'a>>, Halt>
@@ -155,9 +155,9 @@ fn terms<'t, 'a>(
 /// Reads an operator of a level and its operand, and puts them at the end of a row.
 #[cycle(reading)]
 #[tactic(auto, unfolding(crate::specs::reading::Expressions::term_at))]
-fn term<'t, 'a>(
+fn term<'a, 't>(
     alloc: Global,
-    cursor: &mut Cursor<'t, 'a>,
+    cursor: &mut Cursor<'a, 't>,
     depth: usize,
     looseness: u8,
     row: &mut Vec<Term<'a>>,
@@ -175,9 +175,9 @@ fn term<'t, 'a>(
 /// Reads an assignment, or what may stand in its place.
 #[cycle(reading)]
 #[tactic(auto, using(crate::proofs::code::Forms::assignment_form), unfolding(crate::specs::reading::Expressions::assigned_rest))]
-fn assignment<'t, 'a>(
+fn assignment<'a, 't>(
     alloc: Global,
-    cursor: &mut Cursor<'t, 'a>,
+    cursor: &mut Cursor<'a, 't>,
     depth: usize,
 ) -> Result<Box<Expr<'a>>, Halt>
     ensures { Moves boxed result cursor.new.left.now
@@ -195,9 +195,9 @@ fn assignment<'t, 'a>(
 /// Reads a conditional, or what may stand in its place.
 #[cycle(reading)]
 #[tactic(auto, using(crate::proofs::code::Forms::conditional_form), unfolding(crate::specs::reading::Expressions::conditional_rest))]
-fn conditional<'t, 'a>(
+fn conditional<'a, 't>(
     alloc: Global,
-    cursor: &mut Cursor<'t, 'a>,
+    cursor: &mut Cursor<'a, 't>,
     depth: usize,
 ) -> Result<Box<Expr<'a>>, Halt>
     ensures { Moves boxed result cursor.new.left.now
@@ -217,9 +217,9 @@ fn conditional<'t, 'a>(
 /// Reads prefix operators and what they stand before.
 #[cycle(reading)]
 #[tactic(auto, using(crate::proofs::code::Forms::unary_form))]
-fn unary<'t, 'a>(
+fn unary<'a, 't>(
     alloc: Global,
-    cursor: &mut Cursor<'t, 'a>,
+    cursor: &mut Cursor<'a, 't>,
     depth: usize,
 ) -> Result<Box<Expr<'a>>, Halt>
     ensures { Moves boxed result cursor.new.left.now
@@ -227,7 +227,7 @@ fn unary<'t, 'a>(
 {
     if !at_prefix(cursor) {
         let primary = primary(alloc, cursor, depth)?;
-        return stepped(alloc, primary, cursor);
+        return stepped(alloc, cursor, primary);
     }
     let operator = open_prefix(cursor, depth)?;
     let operand = unary(alloc, cursor, depth - 1)?;
@@ -237,9 +237,9 @@ fn unary<'t, 'a>(
 /// Reads a constant, an expression in parentheses, or what begins with a name.
 #[cycle(reading)]
 #[tactic(auto, using(crate::proofs::code::Forms::primary_form))]
-fn primary<'t, 'a>(
+fn primary<'a, 't>(
     alloc: Global,
-    cursor: &mut Cursor<'t, 'a>,
+    cursor: &mut Cursor<'a, 't>,
     depth: usize,
 ) -> Result<Box<Expr<'a>>, Halt>
     ensures { Moves boxed result cursor.new.left.now
@@ -258,9 +258,9 @@ fn primary<'t, 'a>(
 /// Reads an expression in parentheses.
 #[cycle(reading)]
 #[tactic(auto, using(crate::proofs::code::Forms::parenthesized_form))]
-fn parenthesized<'t, 'a>(
+fn parenthesized<'a, 't>(
     alloc: Global,
-    cursor: &mut Cursor<'t, 'a>,
+    cursor: &mut Cursor<'a, 't>,
     depth: usize,
 ) -> Result<Box<Expr<'a>>, Halt>
     ensures { Moves boxed result cursor.new.left.now
@@ -275,9 +275,9 @@ fn parenthesized<'t, 'a>(
 /// Reads a name, with a subscript or a call's arguments after it.
 #[cycle(reading)]
 #[tactic(auto, using(crate::proofs::code::Forms::named_form), unfolding(crate::specs::reading::Expressions::named_rest))]
-fn named<'t, 'a>(
+fn named<'a, 't>(
     alloc: Global,
-    cursor: &mut Cursor<'t, 'a>,
+    cursor: &mut Cursor<'a, 't>,
     depth: usize,
 ) -> Result<Box<Expr<'a>>, Halt>
     ensures { Moves boxed result cursor.new.left.now
@@ -285,10 +285,10 @@ fn named<'t, 'a>(
 {
     let name = token(cursor, Kind::Name)?;
     if at(cursor, Kind::OpenBracket) {
-        return element(alloc, name, cursor, depth);
+        return element(alloc, cursor, depth, name);
     }
     if at(cursor, Kind::OpenParenthesis) {
-        return call(alloc, name, cursor, depth);
+        return call(alloc, cursor, depth, name);
     }
     boxed_name(alloc, name)
 }
@@ -296,11 +296,11 @@ fn named<'t, 'a>(
 /// Reads the subscript after a name.
 #[cycle(reading)]
 #[tactic(auto, unfolding(crate::specs::reading::Expressions::element_rest))]
-fn element<'t, 'a>(
+fn element<'a, 't>(
     alloc: Global,
-    name: Token<'a>,
-    cursor: &mut Cursor<'t, 'a>,
+    cursor: &mut Cursor<'a, 't>,
     depth: usize,
+    name: Token<'a>,
 ) -> Result<Box<Expr<'a>>, Halt>
     ensures { Moves boxed result cursor.new.left.now
         (specs.element_rest depth name.entry cursor.old.left.now) }
@@ -314,11 +314,11 @@ fn element<'t, 'a>(
 /// Reads the arguments after the name of a call, in their parentheses.
 #[cycle(reading)]
 #[tactic(auto, unfolding(crate::specs::reading::Expressions::call_rest))]
-fn call<'t, 'a>(
+fn call<'a, 't>(
     alloc: Global,
-    name: Token<'a>,
-    cursor: &mut Cursor<'t, 'a>,
+    cursor: &mut Cursor<'a, 't>,
     depth: usize,
+    name: Token<'a>,
 ) -> Result<Box<Expr<'a>>, Halt>
     ensures { Moves boxed result cursor.new.left.now
         (specs.call_rest depth name.entry cursor.old.left.now) }
@@ -332,9 +332,9 @@ fn call<'t, 'a>(
 /// Reads the arguments of a call, with so much depth left inside of its parentheses.
 #[cycle(reading)]
 #[tactic(auto, using(crate::proofs::code::Forms::arguments_form), unfolding(crate::specs::reading::Expressions::more_after))]
-fn arguments<'t, 'a>(
+fn arguments<'a, 't>(
     alloc: Global,
-    cursor: &mut Cursor<'t, 'a>,
+    cursor: &mut Cursor<'a, 't>,
     depth: usize,
 ) -> Result<Vec<Argument<'a>>, Halt>
     ensures { Moves arguments_of result cursor.new.left.now
@@ -352,9 +352,9 @@ fn arguments<'t, 'a>(
 /// Reads commas and the arguments after them, and puts those at the end of a row.
 #[cycle(reading)]
 #[tactic(auto, using(crate::proofs::code::Loops::after_more, crate::proofs::code::Loops::after_all, crate::proofs::code::Loops::after_stuck, crate::proofs::code::Loops::argument_less))]
-fn more_arguments<'t, 'a>(
+fn more_arguments<'a, 't>(
     alloc: Global,
-    cursor: &mut Cursor<'t, 'a>,
+    cursor: &mut Cursor<'a, 't>,
     depth: usize,
     row: &mut Vec<Argument<'a>>,
 ) -> Result<(), Halt>
@@ -372,9 +372,9 @@ fn more_arguments<'t, 'a>(
 /// Reads an argument, a string or an assignment, and puts it at the end of a row.
 #[cycle(reading)]
 #[tactic(auto, using(crate::proofs::code::Forms::argument_form))]
-fn argument<'t, 'a>(
+fn argument<'a, 't>(
     alloc: Global,
-    cursor: &mut Cursor<'t, 'a>,
+    cursor: &mut Cursor<'a, 't>,
     depth: usize,
     row: &mut Vec<Argument<'a>>,
 ) -> Result<(), Halt>

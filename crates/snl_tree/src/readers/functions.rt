@@ -27,7 +27,7 @@ use std::alloc::Global;
 
 /// Reads a parameter.
 #[tactic(auto, unfolding(crate::specs::reading::Functions::parameter_at))]
-fn parameter<'t, 'a>(cursor: &mut Cursor<'t, 'a>) -> Result<Parameter<'a>, Halt>
+fn parameter<'a, 't>(cursor: &mut Cursor<'a, 't>) -> Result<Parameter<'a>, Halt>
     ensures { Moves parameter_view result cursor.new.left.now
         (specs.parameter_at cursor.old.left.now) }
 {
@@ -37,7 +37,7 @@ fn parameter<'t, 'a>(cursor: &mut Cursor<'t, 'a>) -> Result<Parameter<'a>, Halt>
 }
 
 /// Reads a comma and the parameter after it.
-fn next_parameter<'t, 'a>(cursor: &mut Cursor<'t, 'a>) -> Result<Parameter<'a>, Halt>
+fn next_parameter<'a, 't>(cursor: &mut Cursor<'a, 't>) -> Result<Parameter<'a>, Halt>
     ensures { Moves parameter_view result cursor.new.left.now
         (sequences.behind Kind.Comma specs.parameter_at cursor.old.left.now) }
 {
@@ -47,9 +47,9 @@ fn next_parameter<'t, 'a>(cursor: &mut Cursor<'t, 'a>) -> Result<Parameter<'a>, 
 }
 
 /// Reads parameters with commas between them.
-fn parameter_row<'t, 'a>(
+fn parameter_row<'a, 't>(
     alloc: Global,
-    cursor: &mut Cursor<'t, 'a>,
+    cursor: &mut Cursor<'a, 't>,
 ) -> Result<Vec<Parameter<'a>>, Halt>
     ensures { Moves parameter_views result cursor.new.left.now
         (specs.parameter_row_at cursor.old.left.now) }
@@ -65,7 +65,7 @@ fn parameter_row<'t, 'a>(
 }
 
 /// Reads what stands between the parentheses of a function: parameters, `void`, or nothing.
-fn parameters<'t, 'a>(alloc: Global, cursor: &mut Cursor<'t, 'a>) -> Result<Parameters<'a>, Halt>
+fn parameters<'a, 't>(alloc: Global, cursor: &mut Cursor<'a, 't>) -> Result<Parameters<'a>, Halt>
     ensures { Moves parameters_view result cursor.new.left.now
         (specs.parameters_at cursor.old.left.now) }
 {
@@ -83,13 +83,13 @@ fn parameters<'t, 'a>(alloc: Global, cursor: &mut Cursor<'t, 'a>) -> Result<Para
 }
 
 /// Reads a function from its parameters on, and puts it at the end of a row.
-fn function<'t, 'a>(
+fn function<'a, 't>(
     alloc: Global,
-    type_name: Option<TypeName<'a>>,
-    name: Token<'a>,
-    cursor: &mut Cursor<'t, 'a>,
+    cursor: &mut Cursor<'a, 't>,
     depth: usize,
     row: &mut Vec<Def<'a>>,
+    type_name: Option<TypeName<'a>>,
+    name: Token<'a>,
 ) -> Result<(), Halt>
     ensures { Adds definition_view row.old.items result row.new.items cursor.new.left.now
         (made (specs.function_of (shown type_view type_name.entry) name.entry)
@@ -104,29 +104,29 @@ fn function<'t, 'a>(
 
 /// Reads a declaration from behind its first name on, and puts it at the end of a row.
 #[tactic(auto, using(crate::proofs::code::FunctionForms::variables_form))]
-fn variables<'t, 'a>(
+fn variables<'a, 't>(
     alloc: Global,
-    type_name: TypeName<'a>,
-    name: Token<'a>,
-    cursor: &mut Cursor<'t, 'a>,
+    cursor: &mut Cursor<'a, 't>,
     depth: usize,
     row: &mut Vec<Def<'a>>,
+    type_name: TypeName<'a>,
+    name: Token<'a>,
 ) -> Result<(), Halt>
     ensures { Adds definition_view row.old.items result row.new.items cursor.new.left.now
         (made (specs.variables_of (type_view type_name.entry) name.entry)
         (specs.variable_rest_at depth) cursor.old.left.now) }
 {
     let first = declarator_of(alloc, cursor, depth, name)?;
-    let names = declarators_of(alloc, first, cursor, depth)?;
+    let names = declarators_of(alloc, cursor, depth, first)?;
     sign(cursor, Kind::Semicolon)?;
     push_variables(row, type_name, names)
 }
 
 /// Reads a function with a value, or a declaration, and puts it at the end of a row.
 #[tactic(auto, using(crate::proofs::code::FunctionForms::typed_form))]
-fn typed<'t, 'a>(
+fn typed<'a, 't>(
     alloc: Global,
-    cursor: &mut Cursor<'t, 'a>,
+    cursor: &mut Cursor<'a, 't>,
     depth: usize,
     row: &mut Vec<Def<'a>>,
 ) -> Result<(), Halt>
@@ -136,16 +136,16 @@ fn typed<'t, 'a>(
     let type_name = type_name(cursor)?;
     let name = token(cursor, Kind::Name)?;
     if at(cursor, Kind::OpenParenthesis) {
-        return function(alloc, Some(type_name), name, cursor, depth, row);
+        return function(alloc, cursor, depth, row, Some(type_name), name);
     }
-    variables(alloc, type_name, name, cursor, depth, row)
+    variables(alloc, cursor, depth, row, type_name, name)
 }
 
 /// Reads a function without a value, and puts it at the end of a row.
 #[tactic(auto, using(crate::proofs::code::FunctionForms::void_form))]
-fn void<'t, 'a>(
+fn void<'a, 't>(
     alloc: Global,
-    cursor: &mut Cursor<'t, 'a>,
+    cursor: &mut Cursor<'a, 't>,
     depth: usize,
     row: &mut Vec<Def<'a>>,
 ) -> Result<(), Halt>
@@ -154,14 +154,14 @@ fn void<'t, 'a>(
 {
     sign(cursor, Kind::Void)?;
     let name = token(cursor, Kind::Name)?;
-    function(alloc, None, name, cursor, depth, row)
+    function(alloc, cursor, depth, row, None, name)
 }
 
 /// Reads a definition, an option or a function, and puts it at the end of a row.
 #[tactic(auto, using(crate::proofs::code::FunctionForms::program_part_cases))]
-fn program_part<'t, 'a>(
+fn program_part<'a, 't>(
     alloc: Global,
-    cursor: &mut Cursor<'t, 'a>,
+    cursor: &mut Cursor<'a, 't>,
     depth: usize,
     row: &mut Vec<Def<'a>>,
 ) -> Result<(), Halt>
@@ -181,9 +181,9 @@ fn program_part<'t, 'a>(
 }
 
 /// Reads the definitions, options and functions of a program.
-pub fn program_parts<'t, 'a>(
+pub fn program_parts<'a, 't>(
     alloc: Global,
-    cursor: &mut Cursor<'t, 'a>,
+    cursor: &mut Cursor<'a, 't>,
     depth: usize,
 ) -> Result<Vec<Def<'a>>, Halt>
     requires { 0 < depth }

@@ -16,7 +16,7 @@ use snl_text::{Kind, Token};
 use std::alloc::Global;
 
 /// Reads the sign of an option.
-fn option_sign<'t, 'a>(cursor: &mut Cursor<'t, 'a>) -> Result<Token<'a>, Halt>
+fn option_sign<'a, 't>(cursor: &mut Cursor<'a, 't>) -> Result<Token<'a>, Halt>
     ensures { MovesToken result cursor.new.left.now
         (readers.one kinds.is_sign cursor.old.left.now) }
 {
@@ -31,7 +31,7 @@ fn option_sign<'t, 'a>(cursor: &mut Cursor<'t, 'a>) -> Result<Token<'a>, Halt>
 
 /// Reads an option, and puts it at the end of a row.
 #[tactic(auto, unfolding(crate::specs::reading::Definitions::setting_at))]
-pub fn setting<'t, 'a>(cursor: &mut Cursor<'t, 'a>, row: &mut Vec<Def<'a>>) -> Result<(), Halt>
+pub fn setting<'a, 't>(cursor: &mut Cursor<'a, 't>, row: &mut Vec<Def<'a>>) -> Result<(), Halt>
     ensures { Adds definition_view row.old.items result row.new.items cursor.new.left.now
         (made kinds.setting specs.setting_at cursor.old.left.now) }
 {
@@ -48,9 +48,9 @@ pub fn setting<'t, 'a>(cursor: &mut Cursor<'t, 'a>, row: &mut Vec<Def<'a>>) -> R
 
 /// Reads a definition or an option, and puts it at the end of a row.
 #[tactic(auto, using(crate::proofs::code::DefinitionForms::part_cases))]
-fn part<'t, 'a>(
+fn part<'a, 't>(
     alloc: Global,
-    cursor: &mut Cursor<'t, 'a>,
+    cursor: &mut Cursor<'a, 't>,
     depth: usize,
     row: &mut Vec<Def<'a>>,
 ) -> Result<(), Halt>
@@ -64,9 +64,9 @@ fn part<'t, 'a>(
 }
 
 /// Reads the definitions and options of a state.
-pub fn parts<'t, 'a>(
+pub fn parts<'a, 't>(
     alloc: Global,
-    cursor: &mut Cursor<'t, 'a>,
+    cursor: &mut Cursor<'a, 't>,
     depth: usize,
 ) -> Result<Vec<Def<'a>>, Halt>
     ensures { Moves definition_views result cursor.new.left.now

@@ -28,7 +28,7 @@ use std::alloc::Global;
 
 /// Reads where a clause leads.
 #[tactic(auto, unfolding(crate::specs::reading::Programs::target_at))]
-fn target<'t, 'a>(cursor: &mut Cursor<'t, 'a>) -> Result<Target<'a>, Halt>
+fn target<'a, 't>(cursor: &mut Cursor<'a, 't>) -> Result<Target<'a>, Halt>
     ensures { Moves target_view result cursor.new.left.now (specs.target_at cursor.old.left.now) }
 {
     if at(cursor, Kind::State) {
@@ -41,9 +41,9 @@ fn target<'t, 'a>(cursor: &mut Cursor<'t, 'a>) -> Result<Target<'a>, Halt>
 }
 
 /// Reads an expression, where something other than a closing parenthesis is here.
-fn maybe_expression<'t, 'a>(
+fn maybe_expression<'a, 't>(
     alloc: Global,
-    cursor: &mut Cursor<'t, 'a>,
+    cursor: &mut Cursor<'a, 't>,
     depth: usize,
 ) -> Result<Option<Box<Expr<'a>>>, Halt>
     ensures { Moves (shown boxed) result cursor.new.left.now
@@ -58,9 +58,9 @@ fn maybe_expression<'t, 'a>(
 
 /// Reads the parentheses of a clause.
 #[tactic(auto, unfolding(crate::specs::reading::Programs::condition_at))]
-fn condition<'t, 'a>(
+fn condition<'a, 't>(
     alloc: Global,
-    cursor: &mut Cursor<'t, 'a>,
+    cursor: &mut Cursor<'a, 't>,
     depth: usize,
 ) -> Result<Option<Box<Expr<'a>>>, Halt>
     ensures { Moves (shown boxed) result cursor.new.left.now
@@ -73,9 +73,9 @@ fn condition<'t, 'a>(
 }
 
 /// Reads a clause, and puts it at the end of a row.
-fn clause<'t, 'a>(
+fn clause<'a, 't>(
     alloc: Global,
-    cursor: &mut Cursor<'t, 'a>,
+    cursor: &mut Cursor<'a, 't>,
     depth: usize,
     row: &mut Vec<Clause<'a>>,
 ) -> Result<(), Halt>
@@ -90,9 +90,9 @@ fn clause<'t, 'a>(
 }
 
 /// Reads the clauses of a state.
-fn clauses<'t, 'a>(
+fn clauses<'a, 't>(
     alloc: Global,
-    cursor: &mut Cursor<'t, 'a>,
+    cursor: &mut Cursor<'a, 't>,
     depth: usize,
 ) -> Result<Vec<Clause<'a>>, Halt>
     requires { 0 < depth }
@@ -108,9 +108,9 @@ fn clauses<'t, 'a>(
 
 /// Reads an entry block, where it is here.
 #[tactic(auto, unfolding(crate::specs::reading::Programs::entry_at))]
-fn entry<'t, 'a>(
+fn entry<'a, 't>(
     alloc: Global,
-    cursor: &mut Cursor<'t, 'a>,
+    cursor: &mut Cursor<'a, 't>,
     depth: usize,
 ) -> Result<Option<Box<Block<'a>>>, Halt>
     ensures { Moves (shown (held block_view)) result cursor.new.left.now
@@ -126,9 +126,9 @@ fn entry<'t, 'a>(
 
 /// Reads an exit block, where it is here.
 #[tactic(auto, unfolding(crate::specs::reading::Programs::exit_at))]
-fn exit<'t, 'a>(
+fn exit<'a, 't>(
     alloc: Global,
-    cursor: &mut Cursor<'t, 'a>,
+    cursor: &mut Cursor<'a, 't>,
     depth: usize,
 ) -> Result<Option<Box<Block<'a>>>, Halt>
     ensures { Moves (shown (held block_view)) result cursor.new.left.now
@@ -143,9 +143,9 @@ fn exit<'t, 'a>(
 }
 
 /// Reads a state, and puts it at the end of a row.
-fn state<'t, 'a>(
+fn state<'a, 't>(
     alloc: Global,
-    cursor: &mut Cursor<'t, 'a>,
+    cursor: &mut Cursor<'a, 't>,
     depth: usize,
     row: &mut Vec<State<'a>>,
 ) -> Result<(), Halt>
@@ -165,9 +165,9 @@ fn state<'t, 'a>(
 }
 
 /// Reads the states of a state set.
-fn states<'t, 'a>(
+fn states<'a, 't>(
     alloc: Global,
-    cursor: &mut Cursor<'t, 'a>,
+    cursor: &mut Cursor<'a, 't>,
     depth: usize,
 ) -> Result<Vec<State<'a>>, Halt>
     requires { 0 < depth }
@@ -183,9 +183,9 @@ fn states<'t, 'a>(
 }
 
 /// Reads a state set, and puts it at the end of a row.
-fn state_set<'t, 'a>(
+fn state_set<'a, 't>(
     alloc: Global,
-    cursor: &mut Cursor<'t, 'a>,
+    cursor: &mut Cursor<'a, 't>,
     depth: usize,
     row: &mut Vec<StateSet<'a>>,
 ) -> Result<(), Halt>
@@ -203,9 +203,9 @@ fn state_set<'t, 'a>(
 }
 
 /// Reads the state sets of a program.
-fn state_sets<'t, 'a>(
+fn state_sets<'a, 't>(
     alloc: Global,
-    cursor: &mut Cursor<'t, 'a>,
+    cursor: &mut Cursor<'a, 't>,
     depth: usize,
 ) -> Result<Vec<StateSet<'a>>, Halt>
     requires { 0 < depth }
@@ -222,7 +222,7 @@ fn state_sets<'t, 'a>(
 
 /// Reads the macros of a program, where they are here.
 #[tactic(auto, unfolding(crate::specs::reading::Programs::macros_at))]
-fn macros<'t, 'a>(cursor: &mut Cursor<'t, 'a>) -> Result<Option<Token<'a>>, Halt>
+fn macros<'a, 't>(cursor: &mut Cursor<'a, 't>) -> Result<Option<Token<'a>>, Halt>
     ensures { MovesToken result cursor.new.left.now (specs.macros_at cursor.old.left.now) }
 {
     if !at(cursor, Kind::OpenParenthesis) {
@@ -235,9 +235,9 @@ fn macros<'t, 'a>(cursor: &mut Cursor<'t, 'a>) -> Result<Option<Token<'a>>, Halt
 }
 
 /// Reads a program, of a source with these embedded pieces and files.
-pub fn program<'t, 'a>(
+pub fn program<'a, 't>(
     alloc: Global,
-    cursor: &mut Cursor<'t, 'a>,
+    cursor: &mut Cursor<'a, 't>,
     depth: usize,
     lexed: &Lexed<'a>,
 ) -> Result<Box<Program<'a>>, Halt>

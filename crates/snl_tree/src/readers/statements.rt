@@ -63,7 +63,7 @@ fn at_statement(cursor: &Cursor) -> bool
 
 /// Reads a word or a name, and the semicolon after it.
 #[tactic(auto, unfolding(crate::specs::reading::StatementSteps::ended_word_at))]
-fn ended_word<'t, 'a>(cursor: &mut Cursor<'t, 'a>, kind: Kind) -> Result<Token<'a>, Halt>
+fn ended_word<'a, 't>(cursor: &mut Cursor<'a, 't>, kind: Kind) -> Result<Token<'a>, Halt>
     ensures { MovesToken result cursor.new.left.now (steps.ended_word_at kind cursor.old.left.now) }
 {
     let word = token(cursor, kind)?;
@@ -73,9 +73,9 @@ fn ended_word<'t, 'a>(cursor: &mut Cursor<'t, 'a>, kind: Kind) -> Result<Token<'
 
 /// Reads an expression in the parentheses of a statement, which don't count as nesting.
 #[tactic(auto, unfolding(crate::specs::reading::Statements::condition_at))]
-fn condition<'t, 'a>(
+fn condition<'a, 't>(
     alloc: Global,
-    cursor: &mut Cursor<'t, 'a>,
+    cursor: &mut Cursor<'a, 't>,
     limit: usize,
 ) -> Result<Box<Expr<'a>>, Halt>
     ensures { Moves boxed result cursor.new.left.now
@@ -89,9 +89,9 @@ fn condition<'t, 'a>(
 
 /// Reads an expression that may be missing, and the sign that ends it.
 #[tactic(auto, unfolding(crate::specs::reading::Statements::ended_at))]
-fn ended<'t, 'a>(
+fn ended<'a, 't>(
     alloc: Global,
-    cursor: &mut Cursor<'t, 'a>,
+    cursor: &mut Cursor<'a, 't>,
     limit: usize,
     kind: Kind,
 ) -> Result<Option<Box<Expr<'a>>>, Halt>
@@ -109,9 +109,9 @@ fn ended<'t, 'a>(
 
 /// Reads what stands between the parentheses of a `for`, and those.
 #[tactic(auto, unfolding(crate::specs::reading::Statements::header_at))]
-fn header<'t, 'a>(
+fn header<'a, 't>(
     alloc: Global,
-    cursor: &mut Cursor<'t, 'a>,
+    cursor: &mut Cursor<'a, 't>,
     limit: usize,
 ) -> Result<Box<Header<'a>>, Halt>
     ensures { Moves (held header_view) result cursor.new.left.now
@@ -125,9 +125,9 @@ fn header<'t, 'a>(
 }
 
 /// Reads the declarations at the front of a block.
-fn declarations<'t, 'a>(
+fn declarations<'a, 't>(
     alloc: Global,
-    cursor: &mut Cursor<'t, 'a>,
+    cursor: &mut Cursor<'a, 't>,
     limit: usize,
 ) -> Result<Vec<Declaration<'a>>, Halt>
     ensures { Moves declaration_views result cursor.new.left.now
@@ -143,9 +143,9 @@ fn declarations<'t, 'a>(
 
 /// Reads a `return`, with its value if it has one.
 #[tactic(auto, using(crate::proofs::code::StatementForms::return_form))]
-fn return_statement<'t, 'a>(
+fn return_statement<'a, 't>(
     alloc: Global,
-    cursor: &mut Cursor<'t, 'a>,
+    cursor: &mut Cursor<'a, 't>,
     limit: usize,
 ) -> Result<Box<Stmt<'a>>, Halt>
     ensures { Moves (held statement_view) result cursor.new.left.now
@@ -158,9 +158,9 @@ fn return_statement<'t, 'a>(
 
 /// Reads an expression that is a statement.
 #[tactic(auto, using(crate::proofs::code::StatementForms::expression_form))]
-fn expression_statement<'t, 'a>(
+fn expression_statement<'a, 't>(
     alloc: Global,
-    cursor: &mut Cursor<'t, 'a>,
+    cursor: &mut Cursor<'a, 't>,
     limit: usize,
 ) -> Result<Box<Stmt<'a>>, Halt>
     ensures { Moves (held statement_view) result cursor.new.left.now
@@ -172,9 +172,9 @@ fn expression_statement<'t, 'a>(
 }
 
 /// Reads a statement that nests no other: `break`, `continue`, a state statement, `return` or an expression.
-fn word_statement<'t, 'a>(
+fn word_statement<'a, 't>(
     alloc: Global,
-    cursor: &mut Cursor<'t, 'a>,
+    cursor: &mut Cursor<'a, 't>,
     limit: usize,
 ) -> Result<Box<Stmt<'a>>, Halt>
     ensures { Moves (held statement_view) result cursor.new.left.now
@@ -202,9 +202,9 @@ fn word_statement<'t, 'a>(
 /// Reads a statement. Its expressions may be nested as deep as the limit, and `depth` is left for blocks,
 /// `if`, `else` and loops.
 #[cycle(nesting)]
-fn statement<'t, 'a>(
+fn statement<'a, 't>(
     alloc: Global,
-    cursor: &mut Cursor<'t, 'a>,
+    cursor: &mut Cursor<'a, 't>,
     limit: usize,
     depth: usize,
 ) -> Result<Box<Stmt<'a>>, Halt>
@@ -234,9 +234,9 @@ fn statement<'t, 'a>(
 /// Reads a block. Its expressions may be nested as deep as the limit, and `depth` is left for its brace
 /// and what is nested in it.
 #[cycle(nesting)]
-pub fn block<'t, 'a>(
+pub fn block<'a, 't>(
     alloc: Global,
-    cursor: &mut Cursor<'t, 'a>,
+    cursor: &mut Cursor<'a, 't>,
     limit: usize,
     depth: usize,
 ) -> Result<Box<Block<'a>>, Halt>
@@ -252,9 +252,9 @@ pub fn block<'t, 'a>(
 
 /// Reads statements, one after another.
 #[cycle(nesting)]
-fn statements<'t, 'a>(
+fn statements<'a, 't>(
     alloc: Global,
-    cursor: &mut Cursor<'t, 'a>,
+    cursor: &mut Cursor<'a, 't>,
     limit: usize,
     depth: usize,
 ) -> Result<Vec<Stmt<'a>>, Halt>
@@ -271,9 +271,9 @@ fn statements<'t, 'a>(
 
 /// Reads an `if`, with the `else` that belongs to it.
 #[cycle(nesting)]
-fn if_statement<'t, 'a>(
+fn if_statement<'a, 't>(
     alloc: Global,
-    cursor: &mut Cursor<'t, 'a>,
+    cursor: &mut Cursor<'a, 't>,
     limit: usize,
     depth: usize,
 ) -> Result<Box<Stmt<'a>>, Halt>
@@ -283,20 +283,20 @@ fn if_statement<'t, 'a>(
     open_sign(cursor, Kind::If, depth)?;
     let condition = condition(alloc, cursor, limit)?;
     let first = statement(alloc, cursor, limit, depth - 1)?;
-    otherwise(alloc, condition, first, cursor, limit, depth - 1)
+    otherwise(alloc, cursor, limit, depth - 1, condition, first)
 }
 
 /// Reads the `else` of an `if`, where one stands after its first statement. That statement has taken
 /// each `else` that it can, so one that is left belongs to this `if`.
 #[cycle(nesting)]
 #[tactic(auto, unfolding(crate::specs::reading::StatementSteps::if_rest))]
-fn otherwise<'t, 'a>(
+fn otherwise<'a, 't>(
     alloc: Global,
-    condition: Box<Expr<'a>>,
-    first: Box<Stmt<'a>>,
-    cursor: &mut Cursor<'t, 'a>,
+    cursor: &mut Cursor<'a, 't>,
     limit: usize,
     depth: usize,
+    condition: Box<Expr<'a>>,
+    first: Box<Stmt<'a>>,
 ) -> Result<Box<Stmt<'a>>, Halt>
     ensures { Moves (held statement_view) result cursor.new.left.now
         (steps.if_rest limit depth (boxed condition.entry) (statement_view first.entry.value)
@@ -312,9 +312,9 @@ fn otherwise<'t, 'a>(
 
 /// Reads a `while`.
 #[cycle(nesting)]
-fn while_loop<'t, 'a>(
+fn while_loop<'a, 't>(
     alloc: Global,
-    cursor: &mut Cursor<'t, 'a>,
+    cursor: &mut Cursor<'a, 't>,
     limit: usize,
     depth: usize,
 ) -> Result<Box<Stmt<'a>>, Halt>
@@ -329,9 +329,9 @@ fn while_loop<'t, 'a>(
 
 /// Reads a `for`.
 #[cycle(nesting)]
-fn for_loop<'t, 'a>(
+fn for_loop<'a, 't>(
     alloc: Global,
-    cursor: &mut Cursor<'t, 'a>,
+    cursor: &mut Cursor<'a, 't>,
     limit: usize,
     depth: usize,
 ) -> Result<Box<Stmt<'a>>, Halt>
