@@ -1,4 +1,4 @@
-use Rattle.std.proofs.Common.{◌≡◌, ◌∙◌, ◌<◌, ◌≤◌, ◌+◌, ℕ, ap, arith, length, get_or, true, refl, rules, subst}
+use Rattle.std.proofs.Common.{◌≡◌, ◌∙◌, ◌<◌, ◌≤◌, ℕ, ap, arith, length, get_or, true, refl, rules, subst}
 use Rattle.snl_meaning.specs.Frames.{frame_of}
 use Rattle.snl_meaning.specs.Ran.{Ran}
 use Rattle.snl_output.specs.Does.{Does, Gave}

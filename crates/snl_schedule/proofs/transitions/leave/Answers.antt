@@ -1,4 +1,4 @@
-use Rattle.std.proofs.Common.{◌≡◌, ◌<◌, ◌≤◌, ◌+◌, ℕ, arith, length, get_or, refl, rules, subst}
+use Rattle.std.proofs.Common.{◌≡◌, ◌<◌, ◌≤◌, ℕ, arith, length, get_or, refl, rules, subst}
 use Rattle.snl_meaning.specs.Ran.{Ran}
 use Rattle.snl_output.specs.Does.{Does, Gave}
 use Rattle.snl_output.proofs.Doing.{gave-silent}
