@@ -1,6 +1,6 @@
 -- The choice among clauses, one after another.
-use Rattle.std.proofs.Common.{◌+◌, ◌<◌, ℕ, Bool, true, false, List, [], Option, Some, Ok, Err, ap, subst, map, length, drop, get_or}
-use Rattle.std.proofs.lemmas.List.{drop_more}
+use Rattle.std.proofs.Common.{◌+◌, ◌<◌, ◌≤◌, ℕ, Bool, true, false, List, [], Option, None, Some, Ok, Err, ap, subst, map, length, drop, get_or}
+use Rattle.std.proofs.lemmas.List.{drop_all, drop_more}
 use Rattle.snl_output.specs.declared.faults.Stop.{Stop}
 use Rattle.snl_output.specs.Does.{Does, Gave}
 use Rattle.snl_output.proofs.Doing.{IsOnWay, on_way-then, on_way-does, stopped-then, gave-silent}
@@ -38,3 +38,10 @@ module _ {P : Type 0} (f : P → Clause) (clauses : List P) (i : ℕ) (d : P) (w
   stops view why new u did =
       on_way-does view (Err why) u old mid new whole (then_do (this.holds w) (chosen_if this others)) way_here
       (stopped-then view (λ (b : Bool). b) why (this.holds w) (chosen_if this others) u mid new did)
+
+-- none is left, and none held
+pub none-holds : {P : Type 0} (f : P → Clause) (clauses : List P) (i : ℕ) → length clauses ≤ i → (whole : Ran (Option Clause)) (old now : Option (List ℕ)) (w : World) →
+    IsOnWay old now whole (chosen (map f (drop i clauses)) w) → Gave None w old now whole
+none-holds {P} f clauses i beyond whole old now w way =
+    on_way-does {V = Option Clause} (λ x. x) (Ok None) w old now now whole (Gives None w [])
+    (subst (λ (cs : List P). IsOnWay old now whole (chosen (map f cs) w)) (drop_all i clauses beyond) way) (gave-silent None w now)

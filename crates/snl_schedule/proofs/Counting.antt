@@ -1,6 +1,6 @@
 -- Laws of the count of steps: of what follows one another.
-use Rattle.std.proofs.Common.{◌≡◌, ◌+◌, ◌<◌, ℕ, suc, Bool, true, false, List, Option, None, Some, Result, Err, ap, sym, subst, arith, length, drop, get_or, slice_get, if◌then◌else◌}
-use Rattle.std.proofs.lemmas.List.{drop_more}
+use Rattle.std.proofs.Common.{◌≡◌, ◌+◌, ◌<◌, ◌≤◌, ℕ, suc, Bool, true, false, List, Option, None, Some, Result, Err, ap, sym, subst, arith, length, drop, get_or, slice_get, if◌then◌else◌}
+use Rattle.std.proofs.lemmas.List.{drop_all, drop_more}
 use Rattle.snl_output.specs.declared.faults.Stop.{Stop}
 use Rattle.snl_output.specs.declared.faults.Stop.TheVariants as stop
 use Rattle.snl_output.specs.Does.{Does, Gave}
@@ -87,6 +87,11 @@ module _ (g : PieceContext) (code : List Instr) (fire : ClausePlan → World →
       ap (λ x. steps_then x (chosen_if_steps (fire tested) (chosen_steps g code fire (drop (i + 1) cs)))) did.is in
       omega (arith, none, added, is, tested_here)
   count-stops stop.Sink u old new before n after is did added = omega (arith, added, is, tested_here)
+
+-- none is left, and none held
+pub count-none : (g : PieceContext) (code : List Instr) (fire : ClausePlan → World → ℕ) (cs : List ClausePlan) (i : ℕ) → length cs ≤ i → (w : World) (all now : ℕ) →
+    now + chosen_steps g code fire (drop i cs) w ≡ all → now + 0 ≡ all
+count-none g code fire cs i beyond w all now so_far = subst (λ (k : List ClausePlan). now + chosen_steps g code fire k w ≡ all) (drop_all i cs beyond) so_far
 
 -- ---- turns
 

@@ -2,12 +2,16 @@
 use Rattle.std.proofs.Common.{◌≡◌, ℕ, List, ◌++◌, Option, ap, sym, ◌∙◌, append_assoc}
 use Rattle.snl_meaning.specs.declared.faults.Fault.{Fault}
 use Rattle.snl_output.specs.Devices.{told_more, IsCutShort}
-use Rattle.snl_output.specs.Does.{Faulted, text_of}
+use Rattle.snl_output.specs.Does.{Faulted, Gave, text_of}
 use Rattle.snl_output.specs.Lines.{fault_line, fault_text}
 use Rattle.snl_meaning.specs.Ran.{Ran, Gives, Faults}
 use Rattle.snl_schedule.specs.Turn.{told_fault}
 use Rattle.snl_meaning.specs.World.{World}
 use Rattle.snl_output.proofs.Writing.{append-lost, told_more-told_more}
+
+-- where there is no fault nothing is added
+pub told_fault-gave : {A : Type 0} (set : List ℕ) (r : Ran A) (v : A) (w : World) (old new : Option (List ℕ)) → Gave v w old new r → Gave v w old new (told_fault set r)
+told_fault-gave set r v w old new did = record { text = did.text; is = ap (λ x. told_fault set x) did.is; told = did.told }
 
 -- a fault's line that was told
 pub told_fault-told : {A : Type 0} (set : List ℕ) (r : Ran A) (f : Fault) (line : ℕ) (w : World) (old mid new : Option (List ℕ)) →

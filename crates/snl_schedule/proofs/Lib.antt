@@ -1,3 +1,5 @@
+pub mod Due
+pub mod Kept
 pub mod Choices
 pub mod Faulting
 pub mod Telling

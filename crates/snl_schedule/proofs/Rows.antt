@@ -1,6 +1,7 @@
 -- The links of a channel are all that its values touch, and marked links all that a refresh touches.
-use Rattle.std.proofs.Common.{◌≡◌, ◌∙◌, ◌+◌, ◌-◌, ◌<◌, ◌≤◌, ◌==◌, refl, ℕ, zero, suc, ℤ, Bool, true, false, not, ◌&&◌, ◌||◌, List, [], ◌∷◌, Option, None, Some, ap, sym, arith, map, drop, take, slice_get, slice_index_or, if◌then◌else◌}
+use Rattle.std.proofs.Common.{◌≡◌, ◌∙◌, ◌+◌, ◌-◌, ◌<◌, ◌≤◌, ◌==◌, refl, ℕ, zero, suc, ℤ, Bool, true, false, not, ◌&&◌, ◌||◌, List, [], ◌∷◌, Option, None, Some, ap, sym, arith, map, drop, take, length, get_or, slice_get, slice_index_or, if◌then◌else◌}
 use Rattle.std.proofs.Math.Seq.{drop-nil}
+use Rattle.std.proofs.lemmas.Option.{slice_get_past, slice_get_read}
 use Rattle.std.specs.List.{list_all}
 use Rattle.snl_meaning.specs.World.{World, with_waiting}
 use Rattle.snl_vm.specs.Marks.{IsFirst}
@@ -9,7 +10,7 @@ use Rattle.snl_meaning.specs.declared.ties.Tied.{Tied}
 use Rattle.snl_meaning.specs.Links.{home_of, with_buffer, noticed}
 use Rattle.snl_schedule.specs.Arrivals.{is_of, is_link_fit, are_fit, AtLink, at_links, received_link, answered_link}
 use Rattle.snl_schedule.specs.Instant.{Program}
-use Rattle.snl_schedule.specs.Linked.{done_over, is_fit_at}
+use Rattle.snl_schedule.specs.Linked.{done_at, done_over, is_fit_at}
 use Rattle.snl_schedule.specs.Refresh.{is_marked, with_mark, copied_to, refreshed_from}
 
 -- the member with which the rest of a list begins
@@ -29,6 +30,15 @@ front-rest (y ∷ ys) (suc k) x rest is = front-rest ys k x rest is
 -- the rest after the member of a number, counted on
 front-next : {A : Type 0} (xs : List A) (k : ℕ) (x : A) (rest : List A) → drop k xs ≡ x ∷ rest → drop (k + 1) xs ≡ rest
 front-next xs k x rest is = let later : k + 1 ≡ suc k = omega arith in ap (λ n. drop n xs) later ∙ front-rest xs k x rest is
+
+-- what is done at the link of a number that is there,
+pub at-there : (p : Program) (act : AtLink) (k : ℕ) (l : Tied) (w : World) → k < length p.links → l ≡ get_or p.links k l → act k l w ≡ done_at p act k w
+at-there p act k l w within is =
+    sym (ap (λ (o : Option Tied). elim o [ None ↦ w | Some x ↦ act k x w ]) (slice_get_read p.links (length p.links) k l refl within is))
+
+-- and where there is no such link
+pub at-none : (p : Program) (act : AtLink) (k : ℕ) (w : World) → length p.links ≤ k → w ≡ done_at p act k w
+at-none p act k w beyond = sym (ap (λ (o : Option Tied). elim o [ None ↦ w | Some x ↦ act k x w ]) (slice_get_past p.links k beyond))
 
 -- a link of a channel has its key
 same-key : (channel : ℕ) (l : Tied) → is_of channel l ≡ has_key channel l.channel

@@ -12,7 +12,9 @@ pub mod UnderWay
 pub mod Onward
 pub mod Binding
 pub mod Beginnings
+pub mod Called
 pub mod Changes
+pub mod Filled
 pub mod Items
 pub mod Taking
 pub mod Footprint
