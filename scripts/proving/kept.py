@@ -15,12 +15,23 @@ from contextlib import suppress
 from dataclasses import dataclass
 from pathlib import Path
 
-from proving.kit import KIT, rtlib, statements_of, sum_of
+from proving.kit import KIT, ROOT, rtlib, statements_of, sum_of
 
 # How many forms of a crate are kept.
 FORMS = 3
 TARGET = "x86_64-unknown-linux-gnu"
 TOLD = re.compile(r"(note: )?\S+:\d+:\d+:|.*(: not proved|FAILED)|error")
+
+
+def kept_in(folder):
+    """The folder of kept work: this one, or $PROVE_KEEP, or .kept beside the clone."""
+    return Path(folder or os.environ.get("PROVE_KEEP") or ROOT.parent / ".kept").absolute()
+
+
+def was_made(name, keep):
+    """Whether the proof of a crate is kept, in whichever form."""
+    made = keep / "made" / name
+    return made.is_dir() and any(it.name != "new" for it in made.iterdir())
 
 
 @dataclass

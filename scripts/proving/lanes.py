@@ -11,7 +11,7 @@ class Lanes:
     def __init__(self, tasks, jobs, tell):
         self.left, self.tell, self.table = list(tasks), tell, costs.costs()
         self.jobs = jobs or len(os.sched_getaffinity(0))
-        self.sums, self.failed, self.proved, self.same, self.running = {}, [], [], [], {}
+        self.sums, self.running, self.failed, self.out, self.proved, self.same = {}, {}, [], [], [], []
         behind = {it.crate.name: sum(it.crate in at.crate.below() for at in self.left) for it in self.left}
         self.left.sort(key=lambda it: (it.tests, -behind[it.crate.name]))
 
@@ -43,12 +43,12 @@ class Lanes:
             self.sums[task.crate.name] = made.sums
 
     def leave_out(self):
+        """Takes away what stands on one that failed."""
         for it in list(self.left):
-            lost = [dep.name for dep in it.crate.below() if dep.name in self.failed]
-            if lost:
+            if any(dep.name in self.failed for dep in it.crate.below()):
                 self.left.remove(it)
                 self.failed.append(it.name)
-                print(f"{it.name:15} left out, since {lost[-1]} failed", flush=True)
+                self.out.append(it.name)
 
     def run(self):
         """Whether all are proved."""
@@ -58,4 +58,6 @@ class Lanes:
                 for it in wait(self.running, return_when=FIRST_COMPLETED).done:
                     self.gather(it)
                 self.leave_out()
+        if self.out:
+            print(f"left out, for what failed below: {' '.join(self.out)}", flush=True)
         return not self.failed
