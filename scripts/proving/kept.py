@@ -68,7 +68,7 @@ class Task:
             how = {"stdin": subprocess.DEVNULL, "stdout": out, "stderr": subprocess.STDOUT}
             ran = subprocess.Popen([*rtlib.guarded(), *words], cwd=self.crate.folder, **how)
             _, status, used = os.wait4(ran.pid, 0)
-        ran.returncode = os.waitstatus_to_exitcode(status)
+        ran.returncode = -os.WTERMSIG(status) if os.WIFSIGNALED(status) else os.WEXITSTATUS(status)
         return ran.returncode, Path(log).read_text(encoding="utf-8", errors="replace"), used
 
     def prove(self, to, jobs):
