@@ -6,8 +6,10 @@
 
 # below[CRATE] are the libraries here that it stands on, each behind its own; above[CRATE] is how many of those wanted stand on it.
 declare -A below above
-# What is under way: the process, and how many processors it was given.
-declare -A running given
+# What is under way: the process, how many processors it was given, and the memory. Memory is in tenths of a GB.
+declare -A running given holds
+# What a proof with one job takes, as costs.txt beside this file tells it.
+declare -A takes=([other]=35)
 
 # The libraries of the kit, which crates.txt names too, have no line of their own.
 read_crates() {
@@ -30,14 +32,28 @@ read_crates() {
     done
 }
 
-# How many processors proofs may have: as many as RT_JOBS says, or all, as far as memory goes. A proof takes 3.5 GB at most.
-places() {
-    local room processors
-    processors=$(nproc)
-    room=$(awk '/^MemAvailable/ { print int($2 / 3500000) }' /proc/meminfo)
-    if [ "$room" -gt "$processors" ]; then room=$processors; fi
-    if [ "$room" -lt 1 ]; then room=1; fi
-    echo "${RT_JOBS:-$room}"
+read_costs() {
+    local name gigabytes
+    while read -r name _ gigabytes; do
+        [ "$name" = '#' ] || takes[$name]=${gigabytes/./}
+    done <"$bin/parts/costs.txt"
+}
+
+# How many processors proofs may have, and how much memory. RT_JOBS says how many, and then memory is not looked at. Below 8 GB it is
+# one processor, so one proof at a time.
+find_places() {
+    processors=${RT_JOBS:-$(nproc)}
+    memory=$(awk '/^MemAvailable/ { print int($2 * 1024 / 100000000) }' /proc/meminfo)
+    if [ -n "${RT_JOBS:-}" ]; then
+        memory=1000000
+    elif [ "$memory" -lt 80 ]; then
+        processors=1
+    fi
+}
+
+# The memory that the proof of a crate takes with so many jobs: a further job takes six tenths of the first one.
+need_of() {
+    echo $((${takes[$1]:-${takes[other]}} * (4 + 6 * $2) / 10))
 }
 
 # A second name for each file, or a copy where the file system gives none. rt takes a file away before it makes it anew.
@@ -94,14 +110,28 @@ start_crate() {
     (cd "$rooms/$it/crates/$it" && exec rt lib --jobs "$jobs" </dev/null >>"$rooms/$it.log" 2>&1 9>&-) &
     running[$it]=$!
     given[$it]=$jobs
+    holds[$it]=$(need_of "$it" "$jobs")
 }
 
-# Starts what can be, those first on which the most stand: they are what others wait for. They share the processors that are
-# free; more than four for one crate would gain little.
+# Starts a crate with as many of the `share` processors as there is memory for. With none, it is started where nothing else runs.
+start_where_it_fits() {
+    local it=$1 share=$2
+    while [ "$share" -gt 1 ] && [ "$(need_of "$it" "$share")" -gt "$room" ]; do
+        share=$((share - 1))
+    done
+    [ "$(need_of "$it" "$share")" -le "$room" ] || [ ${#running[@]} -eq 0 ] || return 0
+    start_crate "$it" "$share"
+    free=$((free - share))
+    room=$((room - holds[$it]))
+}
+
+# Starts what can be, those first on which the most stand: they are what others wait for. They share the processors and the memory
+# that are free; more than four processors for one crate would gain little.
 start_crates() {
-    local it lower share free=$processors ready=() waiting=()
+    local it lower share free=$processors room=$memory ready=() waiting=()
     for it in "${!running[@]}"; do
         free=$((free - given[$it]))
+        room=$((room - holds[$it]))
     done
     for it in "${left[@]}"; do
         for lower in ${below[$it]}; do
@@ -114,8 +144,7 @@ start_crates() {
         [ "$free" -gt 0 ] && [ -n "${ready[$it]}" ] || break
         share=$((free / (${#ready[@]} - it)))
         if [ "$share" -lt 1 ]; then share=1; elif [ "$share" -gt 4 ]; then share=4; fi
-        start_crate "${ready[$it]#* }" "$share"
-        free=$((free - share))
+        start_where_it_fits "${ready[$it]#* }" "$share"
     done
     for it in "${left[@]}"; do
         [ -n "${running[$it]+is}" ] || waiting+=("$it")
@@ -148,10 +177,11 @@ stop_crates() {
 }
 
 prove_libraries() {
-    local left processors
+    local left processors memory
     declare -gA proved
     read -ra left <<<"${below[$crate]}"
-    processors=$(places)
+    read_costs
+    find_places
     trap stop_crates EXIT
     while [ ${#left[@]} -gt 0 ] || [ ${#running[@]} -gt 0 ]; do
         start_crates
