@@ -1,44 +1,85 @@
 //! Tokens by `lex`: their places in bytes, their files, and what numbers and characters are worth.
 
-use snl_text::{LexFault, Pos, character_value, decimal_value, lex, whole_value};
-use std::alloc::Global;
+use snl_text::{
+    Kind, LexFault, Lexed, Pos, Token, character_value, decimal_value, lex, whole_value,
+};
 use std::test::Fail;
 
-/// The places of the tokens, of the embedded pieces and of the end, and the number of names; or the fault.
-fn places(alloc: Global, source: &[u8]) -> Result<String, Fail> {
-    let mut shown = String::new(alloc);
-    let lexed = match lex(alloc, source) {
-        Ok(lexed) => lexed,
-        Err(fault) => {
-            let Pos { offset, file, line } = fault.pos().ok_or("memory")?;
-            return Ok(format!(in alloc; "{fault} {offset} {file}:{line}")?);
-        }
-    };
-    for token in &lexed.tokens {
-        let (kind, Pos { offset, file, line }) = (token.kind, token.pos);
-        shown.push_str(&format!(in alloc; "{kind:?} {offset} {file}:{line}, ")?)?;
-    }
-    let (count, names) = (lexed.embedded.len(), lexed.files.len());
-    let Pos { offset, file, line } = lexed.eof;
-    shown.push_str(&format!(in alloc; "C {count}, end {offset} {file}:{line}, names {names}")?)?;
-    Ok(shown)
+/// A token: what it is, how it is spelled, and its place.
+type Placed = (Kind, &'static [u8], usize, usize, usize);
+
+/// A source, its tokens, where it ends, how many pieces of embedded C it has, and how many names of files.
+struct Source {
+    text: &'static [u8],
+    tokens: &'static [Placed],
+    end: (usize, usize, usize),
+    embedded: usize,
+    names: usize,
 }
 
-const PLACES: [(&[u8], &str); 4] = [
-    (
-        b"a\nstate\r\n <<=",
-        "Name 0 0:1, State 2 0:2, LessLessEqual 10 0:3, C 0, end 13 0:3, names 0",
-    ),
-    (
-        b"# 1 \"f\"\na\n# 5 \"g\"\nb\n# 9 \"f\"\nc\n# 3\nd",
-        "Name 8 1:1, Name 18 2:5, Name 28 1:9, Name 34 1:3, C 0, end 35 1:3, names 2",
-    ),
-    (
-        b"a%%b\n# 9 \"f\"\n %{x\n}%%{}%",
-        "Name 0 0:1, C 3, end 24 1:10, names 1",
-    ),
-    (b"a\n# 7 \"f\"\n  09", "bad number 12 1:7"),
+const SOURCES: [Source; 3] = [
+    Source {
+        text: b"a\nstate\r\n <<=",
+        tokens: &[
+            (Kind::Name, b"a", 0, 0, 1),
+            (Kind::State, b"state", 2, 0, 2),
+            (Kind::LessLessEqual, b"<<=", 10, 0, 3),
+        ],
+        end: (13, 0, 3),
+        embedded: 0,
+        names: 0,
+    },
+    Source {
+        text: b"# 1 \"f\"\na\n# 5 \"g\"\nb\n# 9 \"f\"\nc\n# 3\nd",
+        tokens: &[
+            (Kind::Name, b"a", 8, 1, 1),
+            (Kind::Name, b"b", 18, 2, 5),
+            (Kind::Name, b"c", 28, 1, 9),
+            (Kind::Name, b"d", 34, 1, 3),
+        ],
+        end: (35, 1, 3),
+        embedded: 0,
+        names: 2,
+    },
+    Source {
+        text: b"a%%b\n# 9 \"f\"\n %{x\n}%%{}%",
+        tokens: &[(Kind::Name, b"a", 0, 0, 1)],
+        end: (24, 1, 10),
+        embedded: 3,
+        names: 1,
+    },
 ];
+
+fn is_at(pos: Pos, offset: usize, file: usize, line: usize) -> bool {
+    pos.offset == offset && pos.file == file && pos.line == line
+}
+
+fn is_token(token: Token, placed: Placed) -> bool {
+    let (kind, text, offset, file, line) = placed;
+    token.kind == kind && token.text == text && is_at(token.pos, offset, file, line)
+}
+
+fn are_tokens(tokens: &[Token], placed: &[Placed]) -> bool {
+    for (token, placed) in tokens.iter().zip(placed) {
+        if !is_token(*token, *placed) {
+            return false;
+        }
+    }
+    tokens.len() == placed.len()
+}
+
+fn is_cut(lexed: &Lexed, source: &Source) -> bool {
+    let (offset, file, line) = source.end;
+    are_tokens(lexed.tokens.as_slice(), source.tokens)
+        && is_at(lexed.eof, offset, file, line)
+        && lexed.embedded.len() == source.embedded
+        && lexed.files.len() == source.names
+}
+
+/// Whether no token stands at the last two bytes, behind a marker.
+fn has_a_place(fault: LexFault) -> bool {
+    matches!(fault.pos(), Some(pos) if is_at(pos, 12, 1, 7)) && fault.text() == Some("bad number")
+}
 
 const WHOLES: [(&[u8], Option<i64>); 14] = [
     (b"0", Some(0)),
@@ -86,24 +127,33 @@ const DECIMALS: [(&[u8], Option<(u64, bool)>); 9] = [
 
 #[test]
 fn places_of_tokens(rt: HostRuntime) -> Result<(), Fail> {
-    for (source, wanted) in PLACES {
-        let found = places(rt.alloc(), source)?;
-        assert_eq!(rt; found.as_str(), wanted);
+    for source in &SOURCES {
+        let lexed = lex(rt.alloc(), source.text)?;
+        assert!(rt; is_cut(&lexed, source), "{:?}", source.text);
     }
-    assert!(rt; LexFault::Memory.text().is_none() && LexFault::Memory.pos().is_none());
     Ok(())
+}
+
+#[test]
+fn places_of_faults(rt: HostRuntime) {
+    let fault = lex(rt.alloc(), b"a\n# 7 \"f\"\n  09").err();
+    assert!(rt;
+        matches!(fault, Some(fault) if has_a_place(fault)),
+        "bad number"
+    );
+    assert!(rt; LexFault::Memory.text().is_none() && LexFault::Memory.pos().is_none());
 }
 
 #[test]
 fn values(rt: HostRuntime) {
     for (text, wanted) in WHOLES {
-        assert_eq!(rt; whole_value(text), wanted);
+        assert!(rt; whole_value(text) == wanted, "{text:?}");
     }
     for (text, wanted) in CHARACTERS {
-        assert_eq!(rt; character_value(text), wanted);
+        assert!(rt; character_value(text) == wanted, "{text:?}");
     }
     for (text, wanted) in DECIMALS {
         let found = decimal_value(text).map(|value| (value.thousandths, value.is_exact));
-        assert_eq!(rt; found, wanted);
+        assert!(rt; found == wanted, "{text:?}");
     }
 }
