@@ -5,14 +5,11 @@ use snl_text::{
 };
 use std::test::Fail;
 
-/// A token: what it is, how it is spelled, and its place.
-type Placed = (Kind, &'static [u8], usize, usize, usize);
-
 /// A source, its tokens, where it ends, how many pieces of embedded C it has, and how many names of files.
 struct Source {
     text: &'static [u8],
-    tokens: &'static [Placed],
-    end: (usize, usize, usize),
+    tokens: &'static [Token<'static>],
+    eof: Pos,
     embedded: usize,
     names: usize,
 }
@@ -21,64 +18,129 @@ const SOURCES: [Source; 3] = [
     Source {
         text: b"a\nstate\r\n <<=",
         tokens: &[
-            (Kind::Name, b"a", 0, 0, 1),
-            (Kind::State, b"state", 2, 0, 2),
-            (Kind::LessLessEqual, b"<<=", 10, 0, 3),
+            Token {
+                kind: Kind::Name,
+                text: b"a",
+                pos: Pos {
+                    offset: 0,
+                    file: 0,
+                    line: 1,
+                },
+            },
+            Token {
+                kind: Kind::State,
+                text: b"state",
+                pos: Pos {
+                    offset: 2,
+                    file: 0,
+                    line: 2,
+                },
+            },
+            Token {
+                kind: Kind::LessLessEqual,
+                text: b"<<=",
+                pos: Pos {
+                    offset: 10,
+                    file: 0,
+                    line: 3,
+                },
+            },
         ],
-        end: (13, 0, 3),
+        eof: Pos {
+            offset: 13,
+            file: 0,
+            line: 3,
+        },
         embedded: 0,
         names: 0,
     },
     Source {
         text: b"# 1 \"f\"\na\n# 5 \"g\"\nb\n# 9 \"f\"\nc\n# 3\nd",
         tokens: &[
-            (Kind::Name, b"a", 8, 1, 1),
-            (Kind::Name, b"b", 18, 2, 5),
-            (Kind::Name, b"c", 28, 1, 9),
-            (Kind::Name, b"d", 34, 1, 3),
+            Token {
+                kind: Kind::Name,
+                text: b"a",
+                pos: Pos {
+                    offset: 8,
+                    file: 1,
+                    line: 1,
+                },
+            },
+            Token {
+                kind: Kind::Name,
+                text: b"b",
+                pos: Pos {
+                    offset: 18,
+                    file: 2,
+                    line: 5,
+                },
+            },
+            Token {
+                kind: Kind::Name,
+                text: b"c",
+                pos: Pos {
+                    offset: 28,
+                    file: 1,
+                    line: 9,
+                },
+            },
+            Token {
+                kind: Kind::Name,
+                text: b"d",
+                pos: Pos {
+                    offset: 34,
+                    file: 1,
+                    line: 3,
+                },
+            },
         ],
-        end: (35, 1, 3),
+        eof: Pos {
+            offset: 35,
+            file: 1,
+            line: 3,
+        },
         embedded: 0,
         names: 2,
     },
     Source {
         text: b"a%%b\n# 9 \"f\"\n %{x\n}%%{}%",
-        tokens: &[(Kind::Name, b"a", 0, 0, 1)],
-        end: (24, 1, 10),
+        tokens: &[Token {
+            kind: Kind::Name,
+            text: b"a",
+            pos: Pos {
+                offset: 0,
+                file: 0,
+                line: 1,
+            },
+        }],
+        eof: Pos {
+            offset: 24,
+            file: 1,
+            line: 10,
+        },
         embedded: 3,
         names: 1,
     },
 ];
 
-fn is_at(pos: Pos, offset: usize, file: usize, line: usize) -> bool {
-    pos.offset == offset && pos.file == file && pos.line == line
-}
-
-fn is_token(token: Token, placed: Placed) -> bool {
-    let (kind, text, offset, file, line) = placed;
-    token.kind == kind && token.text == text && is_at(token.pos, offset, file, line)
-}
-
-fn are_tokens(tokens: &[Token], placed: &[Placed]) -> bool {
-    for (token, placed) in tokens.iter().zip(placed) {
-        if !is_token(*token, *placed) {
-            return false;
-        }
-    }
-    tokens.len() == placed.len()
-}
-
 fn is_cut(lexed: &Lexed, source: &Source) -> bool {
-    let (offset, file, line) = source.end;
-    are_tokens(lexed.tokens.as_slice(), source.tokens)
-        && is_at(lexed.eof, offset, file, line)
+    lexed.tokens.as_slice() == source.tokens
+        && lexed.eof == source.eof
         && lexed.embedded.len() == source.embedded
         && lexed.files.len() == source.names
 }
 
-/// Whether no token stands at the last two bytes, behind a marker.
-fn has_a_place(fault: LexFault) -> bool {
-    matches!(fault.pos(), Some(pos) if is_at(pos, 12, 1, 7)) && fault.text() == Some("bad number")
+/// A source whose last two bytes are no token.
+const BAD: &[u8] = b"a\n# 7 \"f\"\n  09";
+
+const BAD_AT: Pos = Pos {
+    offset: 12,
+    file: 1,
+    line: 7,
+};
+
+fn is_bad_number(fault: LexFault) -> bool {
+    fault.pos() == Some(BAD_AT) && fault.text() == Some("bad number")
 }
 
 const WHOLES: [(&[u8], Option<i64>); 14] = [
@@ -136,9 +198,9 @@ fn places_of_tokens(rt: HostRuntime) -> Result<(), Fail> {
 
 #[test]
 fn places_of_faults(rt: HostRuntime) {
-    let fault = lex(rt.alloc(), b"a\n# 7 \"f\"\n  09").err();
+    let fault = lex(rt.alloc(), BAD).err();
     assert!(rt;
-        matches!(fault, Some(fault) if has_a_place(fault)),
+        matches!(fault, Some(fault) if is_bad_number(fault)),
         "bad number"
     );
     assert!(rt; LexFault::Memory.text().is_none() && LexFault::Memory.pos().is_none());
