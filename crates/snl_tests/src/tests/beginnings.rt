@@ -2,9 +2,9 @@
 //! what it says then.
 
 use crate::PROGRAM;
-use crate::tests::calls::checked;
+use crate::tests::loading::checked;
 use snl_check::Checked;
-use snl_links::tables_of;
+use snl_links::tables;
 use snl_text::lex;
 use std::alloc::Global;
 use std::str;
@@ -36,12 +36,12 @@ trait Tabled {
 impl<'a> Tabled for Checked<'a> {
     fn left(&self, alloc: Global) -> Left {
         let mut text = Vec::new(alloc);
-        let fails = tables_of(alloc, self.program(), &mut text).is_err();
+        let fails = tables(alloc, self, &mut text).is_err();
         Left { text, fails }
     }
 }
 
-fn left_by_owner<T: Tabled + Drop>(alloc: Global, checked: T) -> Left {
+fn left_by_owner<T: Tabled + Drop>(alloc: Global, checked: Box<T>) -> Left {
     checked.left(alloc)
 }
 
@@ -53,6 +53,6 @@ fn tables_or_their_beginning(rt: HostRuntime) -> Result<(), Fail> {
     if left.fails {
         return Err(Fail::new(format_args!("left: {text}")));
     }
-    assert_eq!(rt; text.as_bytes(), TABLES);
+    assert!(rt; text.as_bytes() == TABLES, "the tables");
     Ok(())
 }
