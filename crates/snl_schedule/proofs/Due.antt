@@ -70,9 +70,11 @@ module _ (t : SetContext) (q : StatePlan) (within : 0 < length t.plan.now.states
 -- ---- a state that is not
 
 module _ (t : SetContext) (k : ℕ) (beyond : length t.plan.now.states.items ≤ k) where
+  -- no plan has its number
   plan-none : state_at t k ≡ None
   plan-none = slice_get_past t.plan.now.states.items k beyond
 
+  -- what stands for it
   state-none : state_in (set_on t) k ≡ no_state
   state-none =
       let f = state_of (context_on t) t.code.now in
