@@ -23,7 +23,7 @@ pub invariant_of-result : goal.invariant_of-result
 invariant_of-result c =
     let p = program_view c.args.program.now in
     let ls = map link_view c.args.links.now in
-    let code = c.args.code.value in
+    let code = c.args.code in
     let plan = c.in_ok-plan.plan in
     let calls = ap (length {A = FunctionEntry}) c.functions-calls.ensures in
     let room : room_of c.in_ok-made.made.memory.operands ≡ room_for code.depth (length code.functions.items) = c.in_ok-made.ensures.room ∙ (λ j. room_for (c.depth-depth.ensures j) (calls j)) in
@@ -37,7 +37,7 @@ pub returns-clause-made : goal.returns-clause-made
 returns-clause-made c =
     let p = program_view c.args.program.now in
     let ls = map link_view c.args.links.now in
-    let code = c.args.code.value in
+    let code = c.args.code in
     let plan = c.in_ok-plan.plan in
     let names = names_in c.in_ok-names.names in
     let deep = ap (λ (r : Room). r.operands) c.in_ok-made.ensures.room ∙ c.depth-depth.ensures in
@@ -64,4 +64,4 @@ returns-clause-first c =
     let flags = c.len.ensures ∙ ap length c.requires.flags in
     let ties = c.as_slice-ties.result.now in
     let store = c.in_ok-made.ensures.store ∙ (λ j. first_world (c.requires.held j) (c.requires.shared j) (flags j) names ties (homes_in c.args.copies.now.places.items ls) ls) in
-    first-is p ls ls c.args.waits c.args.code.value c.in_ok-plan.plan refl c.in_ok-plan.ensures _ _ _ _ c.in_ok-names.ensures c.as_slice-ties.ensures.value c.requires.places store
+    first-is p ls ls c.args.waits c.args.code c.in_ok-plan.plan refl c.in_ok-plan.ensures _ _ _ _ c.in_ok-names.ensures c.as_slice-ties.ensures.value c.requires.places store
