@@ -57,7 +57,7 @@ pub struct Facts {
     pub declared: Option<Pos>,
 }
 
-/// What is asked of a checked program that is lent.
+/// What is asked of a checked program that is lent. One trait has it all: each that a checked program has is dear to prove.
 trait Asked {
     fn facts(&self, offset: usize) -> Facts;
 
