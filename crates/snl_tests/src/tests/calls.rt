@@ -46,6 +46,7 @@ fn stands_behind(
     Ok(run(machine, &mut trace, &mut sheet) == end && machine.time() == ms)
 }
 
+/// Whether a machine waits until its other channel is up, too, and begins with the first value.
 fn takes_events<L: Ledger>(
     alloc: Global,
     machine: &mut Machine,
@@ -57,14 +58,17 @@ fn takes_events<L: Ledger>(
 {
     let mut steps = Steps::<L>::new(blank);
     let mut sheet = Sheet::new(alloc, 100, 3)?;
+    let Ok(Live::Waiting) = machine.event(4, &Event::Up(1), &mut sheet, &mut steps) else {
+        return Ok(false);
+    };
     let live = machine.event(5, &value(), &mut sheet, &mut steps);
     let is_right = sheet.text() == b"5 start p\n5 put b 8\n5 go s lo hi\n".as_slice();
     Ok(is_right && matches!(live, Ok(Live::Running)))
 }
 
-/// Whether a machine does what is asked of it: the lines of a trace, an event, and a trace whose time goes back.
+/// Whether a machine does what is asked of it: the line of a trace, events, and a trace whose time goes back.
 fn goes_on(alloc: Global, machine: &mut Machine) -> Result<bool, AllocError> {
-    let is_up = stands_behind(alloc, machine, b"3 up a\n4 up b\n", End::TraceEnded, 4)?;
+    let is_up = stands_behind(alloc, machine, b"3 up a\n", End::TraceEnded, 3)?;
     let takes = takes_events::<Brand>(alloc, machine, Blank::new(1))?;
     let back = End::TraceFault(2, TraceFault::BackInTime);
     Ok(stands_behind(alloc, machine, b"6 tick\n5 tick\n", back, 6)? && is_up && takes)

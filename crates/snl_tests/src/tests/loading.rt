@@ -5,7 +5,7 @@
 
 use snl_check::{Checked, Options, check};
 use snl_code::{Code, compile};
-use snl_links::Macros;
+use snl_links::{Macros, tables};
 use snl_machine::{Loads, Machine};
 use snl_text::{Lexed, Pos, lex};
 use snl_tree::parse;
@@ -25,7 +25,7 @@ fn boxed<T: Drop>(alloc: Global, made: Result<T, AllocError>) -> Result<Box<T>, 
 }
 
 /// The program that tokens spell, checked.
-pub fn checked<'a>(alloc: Global, lexed: &Lexed<'a>) -> Result<Box<Checked<'a>>, Fail> {
+fn checked<'a>(alloc: Global, lexed: &Lexed<'a>) -> Result<Box<Checked<'a>>, Fail> {
     let program = parse(alloc, lexed)?;
     let outcome = check(alloc, program, Options::none())?;
     found(alloc, outcome.checked)
@@ -57,11 +57,14 @@ pub struct Facts {
     pub declared: Option<Pos>,
 }
 
-/// What is asked of a checked program that is lent.
+/// What is asked of a checked program that is lent. One trait has it all: each that a checked program has is dear to prove.
 trait Asked {
     fn facts(&self, offset: usize) -> Facts;
 
     fn code(&self, alloc: Global) -> Result<Code, AllocError>;
+
+    /// Adds its tables to a text. True where that fails.
+    fn tables_fail(&self, alloc: Global, text: &mut Vec<u8>) -> bool;
 }
 
 impl<'a> Asked for Checked<'a> {
@@ -76,6 +79,10 @@ impl<'a> Asked for Checked<'a> {
     fn code(&self, alloc: Global) -> Result<Code, AllocError> {
         compile(alloc, self)
     }
+
+    fn tables_fail(&self, alloc: Global, text: &mut Vec<u8>) -> bool {
+        tables(alloc, self, text).is_err()
+    }
 }
 
 fn facts_by_owner<T: Asked + Drop>(checked: Box<T>, offset: usize) -> Facts {
@@ -84,6 +91,14 @@ fn facts_by_owner<T: Asked + Drop>(checked: Box<T>, offset: usize) -> Facts {
 
 fn code_by_owner<T: Asked + Drop>(alloc: Global, checked: Box<T>) -> Result<Box<Code>, Fail> {
     boxed(alloc, checked.code(alloc))
+}
+
+fn tables_fail_by_owner<T: Asked + Drop>(
+    alloc: Global,
+    checked: Box<T>,
+    text: &mut Vec<u8>,
+) -> bool {
+    checked.tables_fail(alloc, text)
 }
 
 /// What a program tells of itself, and of the name at an offset of its source.
@@ -97,4 +112,11 @@ pub fn facts_of(alloc: Global, program: &[u8], offset: usize) -> Result<Facts, F
 pub fn code_of(alloc: Global, program: &[u8]) -> Result<Box<Code>, Fail> {
     let lexed = lex(alloc, program)?;
     code_by_owner(alloc, checked(alloc, &lexed)?)
+}
+
+/// Adds the tables of a program to a text. True where that fails.
+pub fn tables_fail(alloc: Global, program: &[u8], text: &mut Vec<u8>) -> Result<bool, Fail> {
+    let lexed = lex(alloc, program)?;
+    let checked = checked(alloc, &lexed)?;
+    Ok(tables_fail_by_owner(alloc, checked, text))
 }
