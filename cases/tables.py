@@ -12,13 +12,16 @@ def missing(root, cases):
 
     crates = {*costs.crates_of(root)}
     found = [f"bin/parts/costs.txt: there is no crate {it}" for it in costs.costs() if re.sub(r"[.]tests$", "", it) not in {*crates, costs.OTHER}]
-    found += [f"bin/parts/costs.txt: {it}: GB have one digit behind the point" for it in lines_of(root / "bin/parts/costs.txt") if not re.search(r" \d+\.\d$", it)]
+    lines = lines_of(root / "bin/parts/costs.txt")
+    found += [f"bin/parts/costs.txt: {it}: GB have one digit behind the point" for it in lines if not re.search(r" \d+\.\d$", it)]
     rows = [it.partition(":")[::2] for it in lines_of(root / "cases/reach.txt")]
     names = [it for front, _ in rows for it in front.split()]
     found += [f"cases/reach.txt: there is no crate and no path {it}" for it in names if it not in crates and not begins_a_path(root, it)]
     words = {it for _, words in rows for it in words.split()} - {"all", "none"}
     found += [f"cases/reach.txt: no case has the word {it}" for it in sorted(words) if not any(it in case.name for case in cases)]
-    found += [f"{room} GB give {processors} processors not {tasks} tasks" for room, processors, tasks in ROOM if costs.tasks_at_a_time(room, processors) != tasks]
+    for room, processors, tasks in ROOM:
+        if costs.tasks_at_a_time(room, processors) != tasks:
+            found.append(f"{room} GB and {processors} processors do not give {tasks} tasks")
     return [f"FAILED {it}" for it in found]
 
 
