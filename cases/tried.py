@@ -5,8 +5,15 @@ from concurrent.futures import ThreadPoolExecutor
 from case import Case
 
 CRATES = {"snlrun": "snlrun", "snc": "snc_main", "snl": "snl"}
-# Parts of the names of cases that are too slow without a proof, or that count what a build with no proof does otherwise.
-SLOW = ()
+# Parts of the names of cases that are slow without a proof: runs of ten thousands of lines, or of as many steps at one instant.
+SLOW = (
+    "snl run: a valve that opens and shuts in one instant",
+    "snl run: a switch that stays 1",
+    "snl run: a dome that hunts",
+    "snl run: memory over many lines",
+    "traces.cases: a trace of many pieces",
+    "faults.cases: a step more than the budget of an instant",
+)
 
 
 def programs(root):
