@@ -50,7 +50,7 @@ pub fn answers_reach_the_channel()
 {}
 
 /// Of some clauses the first one that holds is chosen, and no condition after it is evaluated.
-pub fn example_of_clauses()
+pub fn examples_of_clauses()
     ensures { ChoiceExample }
 {}
 
