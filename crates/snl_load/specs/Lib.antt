@@ -10,3 +10,4 @@ pub mod First
 pub mod Right
 pub mod Examples
 pub mod FunctionExamples
+pub mod NameExamples

@@ -2,6 +2,7 @@
 
 ghost use Rattle.snl_load.specs.Examples.{RunExample, SizeExample};
 ghost use Rattle.snl_load.specs.FunctionExamples.{FunctionRunExample, FunctionSizeExample};
+ghost use Rattle.snl_load.specs.NameExamples.{NameExamples};
 ghost use Rattle.snl_load.specs.Right.{PlansAreRight};
 
 /// What the plan of a program runs, with the program's code, is what the program means on its tree, without the pieces of
@@ -29,4 +30,9 @@ pub fn examples_of_functions()
 /// The size of the same program.
 pub fn sizes_of_functions()
     ensures { FunctionSizeExample }
+{}
+
+/// Where names stand in some lists.
+pub fn examples_of_names()
+    ensures { NameExamples }
 {}

@@ -4,3 +4,4 @@ pub mod Held
 pub mod Lines
 pub mod TraceLines
 pub mod Sources
+pub mod Examples

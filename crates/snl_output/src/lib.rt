@@ -3,6 +3,7 @@
 
 mod faults;
 mod held;
+pub mod laws;
 mod lines;
 mod printing;
 mod sinks;

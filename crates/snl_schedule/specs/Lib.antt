@@ -10,3 +10,4 @@ pub mod Goes
 pub mod Event
 pub mod Laws
 pub mod Steps
+pub mod Examples

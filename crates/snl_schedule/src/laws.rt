@@ -1,6 +1,7 @@
 //! Laws of events. Each function is its contract, and does nothing.
 
 ghost use Rattle.snl_schedule.specs.Answers.{AnswersChangeNoMore, AnswersReachTheChannel};
+ghost use Rattle.snl_schedule.specs.Examples.{ChoiceExample, EntryExamples, EventExamples, RoundExamples, WakeExamples};
 ghost use Rattle.snl_schedule.specs.Laws.{AnswersThePhase, EndedAnswersEnded, EndedStays, FlagsStay, RefreshWithoutMarks};
 
 /// An event in a world that has ended gives that world, the answer that it has ended, and no text.
@@ -46,4 +47,29 @@ pub fn answers_change_no_more()
 #[tactic(auto, using(crate::proofs::Answering::answers_reach_the_channel))]
 pub fn answers_reach_the_channel()
     ensures { AnswersReachTheChannel }
+{}
+
+/// Of some clauses the first one that holds is chosen, and no condition after it is evaluated.
+pub fn examples_of_clauses()
+    ensures { ChoiceExample }
+{}
+
+/// What some states do where they are entered, also from themselves.
+pub fn examples_of_entries()
+    ensures { EntryExamples }
+{}
+
+/// What some rounds and instants do: a way out ends them, and ticks are anew.
+pub fn examples_of_rounds()
+    ensures { RoundExamples }
+{}
+
+/// When some wakes come, and what a line does that comes after one.
+pub fn examples_of_wakes()
+    ensures { WakeExamples }
+{}
+
+/// What some events change of a link that waits for an answer.
+pub fn examples_of_events()
+    ensures { EventExamples }
 {}

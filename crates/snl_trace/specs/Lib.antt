@@ -8,3 +8,4 @@ pub mod Reading
 pub mod Seen
 pub mod RunOver
 pub mod Memory
+pub mod Examples

@@ -1,5 +1,6 @@
 //! Laws of the definitions that the contract of `run` speaks of. Each function is its contract.
 
+ghost use Rattle.snl_trace.specs.Examples.{LineExamples, RunExamples, TimeExamples, ValueExamples};
 ghost use Rattle.snl_trace.specs.RunOver.{NothingFollows, RestGoesOn, TextBegins};
 
 /// The text over the first lines of a trace is a prefix of the text over all of them.
@@ -16,4 +17,24 @@ pub fn nothing_follows()
 /// world on.
 pub fn rest_goes_on()
     ensures { RestGoesOn }
+{}
+
+/// What some fields are worth as values, and which are none.
+pub fn examples_of_values()
+    ensures { ValueExamples }
+{}
+
+/// The same of times.
+pub fn examples_of_times()
+    ensures { TimeExamples }
+{}
+
+/// Which lines some texts have.
+pub fn examples_of_lines()
+    ensures { LineExamples }
+{}
+
+/// What a run does over some lines, of which one may be bad.
+pub fn examples_of_runs()
+    ensures { RunExamples }
 {}

@@ -1,0 +1,7 @@
+use Rattle.std.proofs.Common.{refl}
+use Rattle.std.specs.Fmt.{digits}
+use Rattle.snl_schedule.proofs.laws.examples_of_rounds.Goals as goal
+
+pub returns : goal.returns
+unfolding digits
+returns c = (refl, refl, refl, refl)
