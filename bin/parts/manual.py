@@ -147,7 +147,8 @@ def programs():
 def calls():
     """What docs/CALL.md says of the words of a call, without its blocks."""
     text = (ROOT / "docs/CALL.md").read_text().split("\n## The words\n")[1].split("\n## ")[0]
-    return re.split(r"\n{2,}", re.sub(r"(?ms)^```.*?^```\n", "", text).strip())
+    text = re.sub(r"(?ms)^```.*?^```\n", "", text).replace("`snc +", "`snlc +")
+    return re.split(r"\n{2,}", text.strip())
 
 
 def pages(prefix):
