@@ -36,7 +36,7 @@ class Tool:
 
 
 def cases(root):
-    yield Tool("snl --version: the version of the file VERSION", lambda *it: version(root, *it))
+    yield Tool("snl --version: the version of the file VERSION, and the licence", lambda *it: version(root, *it))
     yield Tool("snl waits --progress: once a second", progress)
     yield Tool("snl waits: a trace that comes byte by byte", slowly)
     yield Tool("snl waits: a trace from a terminal", terminal)
@@ -59,7 +59,7 @@ def differs(found, wanted):
 
 
 def version(root, program, folder):
-    wanted = f"snl {(root / 'VERSION').read_text().strip()}\n"
+    wanted = f"snl {(root / 'VERSION').read_text().strip()}\nLicence: Apache-2.0\n"
     return differs(called(program, folder, "--version"), (0, wanted, ""))
 
 

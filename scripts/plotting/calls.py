@@ -16,7 +16,7 @@ BUILT = {
     "snl": ("../crates/snl/out/snl", "../crates/snl/out/try/snl"),
 }
 # The folder of the script where it is installed, and where the programs stand then.
-INSTALLED, PROGRAMS = "share/doc/snlrun/scripts", "../../../../bin"
+INSTALLED, PROGRAMS = "lib/snlrun", "bin"
 # So much of the end of a run is looked at for how it ended.
 END = 1 << 16
 

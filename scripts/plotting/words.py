@@ -58,7 +58,7 @@ def wanted(words: list) -> Wanted:
 def parser_of() -> argparse.ArgumentParser:
     """The words that are known."""
     text = "Draws what a program did over a trace, which comes on standard input, as a page on standard output."
-    parser = argparse.ArgumentParser(prog="plot", description=text, add_help=False, allow_abbrev=False)
+    parser = argparse.ArgumentParser(description=text, add_help=False, allow_abbrev=False)
     many = {"action": "append", "default": []}
     add = parser.add_argument
     add("--help", action="help", help="print this help")

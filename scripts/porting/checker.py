@@ -8,7 +8,7 @@ from typing import Optional
 # Where the program stands from the folder of the script in this repository, once it is built.
 BUILT = ("../crates/snc_main/out/snc", "../crates/snc_main/out/snc_main")
 # The folder of the script where it is installed, and where the program stands then.
-INSTALLED, PROGRAM = "share/doc/snlrun/scripts", "../../../../bin/snc"
+INSTALLED, PROGRAM = "lib/snlrun", "bin/snc"
 SECONDS = 60
 NAME = "NEW"
 

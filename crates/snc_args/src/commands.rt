@@ -87,7 +87,9 @@ Messages go to standard error, the tables to standard output. Standard input is 
 Example: snc --tables interlock.st
 
 Status: 0 well, 1 errors in the program, 2 the words of the call are wrong,
-3 the file or the output failed, 4 memory ran out.";
+3 the file or the output failed, 4 memory ran out.
+
+Licence: Apache-2.0.";
 
 /// What stands at the top of `snlrun --help`, and at its end.
 const SNLRUN_ABOUT: &str =
@@ -103,7 +105,9 @@ Example: snlrun interlock.st < interlock.trace
 
 Status: 0 well, 1 errors in the program, 2 the words of the call are wrong,
 3 the file, the input or the output failed, 4 memory ran out, 5 the program faulted,
-6 a line of the trace is bad.";
+6 a line of the trace is bad.
+
+Licence: Apache-2.0.";
 
 /// The command of `snc`.
 pub(crate) fn snc_command<'a>(alloc: Global) -> Result<Command<'a>, AllocError>

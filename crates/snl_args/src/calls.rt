@@ -248,7 +248,9 @@ fn no_word(alloc: Global, name: &str) -> Result<String, AllocError> {
 fn fault_of(alloc: Global, name: &str, version: &str) -> Result<CallFault, AllocError> {
     match name {
         "--help" => Ok(CallFault::Told(String::from_str(alloc, HELP)?)),
-        "--version" => Ok(CallFault::Told(format!(in alloc; "snl {version}\n")?)),
+        "--version" => Ok(CallFault::Told(format!(in alloc;
+            "snl {version}\nLicence: Apache-2.0\n"
+        )?)),
         _ => Ok(CallFault::Usage(no_word(alloc, name)?)),
     }
 }
