@@ -13,6 +13,12 @@ EXAMPLES = HERE.parent.parent / "examples"
 SECONDS = 120
 
 
+# The first comment of a trace, and that it is late.
+HEAD = re.compile(r"(live|record)\.py \d+\.\d+\.\d+(, program \w+)?, \d{4}-\d\d-\d\dT\d\d:\d\d:\d\d[+-]\d{4}"
+                  r"(, SHA-256 of \S+ [0-9a-f]{64})?, called with .+")  # fmt: skip
+BEHIND = re.compile(r"behind by \d+ ms at \d+; \d+ events wait")
+
+
 class NotSo(Exception):
     """Something is not as it has to be."""
 
@@ -79,7 +85,7 @@ class Stage:
 
     def live(self, program, *words, snlrun=()):
         """Starts live.py over a program, with words in front of `--` and behind the program."""
-        words = ("--tables", self.tables(program), "--keep", "live.kept", *words)
+        words = ("--tables", self.tables(program), "--keep", "live.kept", "--force", *words)
         return self.start("live", *words, "--", self.programs["snlrun"], program, *snlrun)
 
     def wait(self, what, is_so):
@@ -132,8 +138,12 @@ def events(text):
 
 
 def comments(text):
-    """The comments of a trace, but those that a circuit is gone: they name the machine, by its name or by its number."""
-    found = [line[2:] for line in text.splitlines() if line.startswith("#")]
+    """The comments of a trace behind the first one, which tells whence it is; but those that a circuit is gone, which name the
+    machine by its name or by its number, and those that it is busy."""
+    head, *found = [line[2:] for line in text.splitlines() if line.startswith("#")] or [""]
+    if not HEAD.fullmatch(head):
+        raise NotSo(f"the first comment is {head}")
+    found = [it for it in found if not BEHIND.fullmatch(it)]
     return [it for it in found if not re.fullmatch(r"\S+:\d+: Virtual circuit disconnect", it)]
 
 
