@@ -10,7 +10,7 @@ HERE = Path(__file__).resolve().parent
 SCRIPTS = HERE.parent.parent / "scripts/epics"
 EXAMPLES = HERE.parent.parent / "examples"
 # For each thing that is waited for. A channel that was gone is back after ten seconds at most, and machines may be busy.
-SECONDS = 120
+SECONDS = 25
 
 
 # The first comment of a trace, and that it is late.
@@ -26,12 +26,13 @@ class NotSo(Exception):
 class Script:
     """A script that runs, with its streams in files."""
 
-    def __init__(self, stage, name, words):
-        """Starts it with these words, in the folder of the stage."""
+    def __init__(self, stage, name, words, out=None, front=()):
+        """Starts it with these words, in the folder of the stage, behind those that start it. `out` takes the place of the file."""
         self.name, self.folder = name, stage.folder
-        with open(self.path("out"), "wb") as out, open(self.path("said"), "wb") as said:
-            how = {"stdin": subprocess.DEVNULL, "stdout": out, "stderr": said, "cwd": stage.folder, "env": stage.environment}
-            self.process = subprocess.Popen([stage.python, SCRIPTS / f"{name}.py", *words], **how)
+        with open(self.path("out"), "wb") as file, open(self.path("said"), "wb") as said:
+            how = {"stdin": subprocess.DEVNULL, "stdout": file if out is None else out, "stderr": said}
+            call = [*front, stage.python, SCRIPTS / f"{name}.py", *words]
+            self.process = subprocess.Popen(call, cwd=stage.folder, env=stage.environment, **how)
 
     def path(self, stream):
         """The file of a stream: `out`, `said`, and the trace that live.py keeps."""
@@ -71,9 +72,9 @@ class Stage:
                 script.process.kill()
                 script.process.wait()
 
-    def start(self, name, *words):
+    def start(self, name, *words, **how):
         """Starts a script."""
-        self.scripts.append(Script(self, name, words))
+        self.scripts.append(Script(self, name, words, **how))
         return self.scripts[-1]
 
     def tables(self, program):
@@ -83,10 +84,10 @@ class Stage:
         path.write_bytes(ran.stdout)
         return path
 
-    def live(self, program, *words, snlrun=()):
+    def live(self, program, *words, snlrun=(), **how):
         """Starts live.py over a program, with words in front of `--` and behind the program."""
         words = ("--tables", self.tables(program), "--keep", "live.kept", "--force", *words)
-        return self.start("live", *words, "--", self.programs["snlrun"], program, *snlrun)
+        return self.start("live", *words, "--", self.programs["snlrun"], program, *snlrun, **how)
 
     def wait(self, what, is_so):
         """Waits until something is so, and no longer than a script runs."""

@@ -121,6 +121,9 @@ class Library:
                 taken[name] += 1
                 with self.condition:
                     self.condition.wait_for(lambda name=name: self.puts[name] >= taken[name])
+            elif word == "note":
+                with open(os.environ["EPICS_PUTS"], "a") as file:
+                    print(name, file=file)
             elif word == "answer":
                 while self.held:
                     self.held.pop(0)()
