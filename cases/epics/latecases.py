@@ -1,4 +1,5 @@
 """Cases of scripts/epics by a stub, where something is slow: a run that does not read, a reader that pauses, a full file."""
+import fcntl
 import os
 import re
 import signal
@@ -68,13 +69,20 @@ def not_shown(script):
     return sum(map(int, found))
 
 
+def small_pipe():
+    """A pipe with little room."""
+    reads, writes = os.pipe()
+    fcntl.fcntl(writes, fcntl.F_SETPIPE_SZ, 4096)
+    return reads, writes
+
+
 def paused(stage):
     """All puts come while nobody reads. Then somebody does: what was shown and what was told as missed are all lines."""
-    program, (reads, writes) = echo(stage), os.pipe()
-    play(stage, *UP, *values(9000), "note end")
+    program, (reads, writes) = echo(stage), small_pipe()
+    play(stage, *UP, *values(6000), "note end")
     live = stage.live(program, "--put", out=writes)
     os.close(writes)
-    stage.wait("all puts come", lambda: len(put_lines(stage)) == 9001)
+    stage.wait("all puts come", lambda: len(put_lines(stage)) == 6001)
     found = []
     with open(reads, "rb") as stream:
         reader = threading.Thread(target=lambda: found.extend(stream.read().decode().splitlines()))
@@ -90,11 +98,11 @@ def paused(stage):
 
 def gone(stage):
     """It ends in time though nobody reads any more, and tells what was not shown."""
-    program, (reads, writes) = echo(stage), os.pipe()
-    play(stage, *UP, *values(4000))
+    program, (reads, writes) = echo(stage), small_pipe()
+    play(stage, *UP, *values(500))
     live = stage.live(program, "--put", out=writes)
     os.close(writes)
-    stage.wait("all puts come", lambda: len(put_lines(stage)) == 4000)
+    stage.wait("all puts come", lambda: len(put_lines(stage)) == 500)
     stage.same("the status", [live.end()], [0])
     with open(reads, "rb") as stream:
         found = stream.read().count(b"\n")
@@ -227,7 +235,7 @@ def full_device(stage):
         (("live", "--tables", tables, *run), "standard output (/dev/full)"),
         (("live", "--tables", tables, "--keep", "/dev/full", *run), "/dev/full"),
     ):
-        play(stage, *UP[:1])
+        play(stage, *(UP if words[0] == "live" else UP[:1]))
         with open("/dev/full", "wb") as full, open(os.devnull, "wb") as null:
             script = stage.start(*words, out=full if "output" in name else null)
         stage.wait("it ends", lambda script=script: script.process.poll() is not None)
