@@ -80,8 +80,8 @@ def never(stage):
     stage.same("what is told", found, lines * 2)
     play(stage, "up A double", "val A NaN")
     _, said = recorded(stage, "up A", "A", "B")
-    told = ["record.py: A: connected, and no value since the start; what came last is nan", "record.py: B: no connection since the start"]
-    stage.same("what record.py tells", said[-4:-2], told)
+    told = ["A: connected, and no value since the start; what came last is nan", "B: no connection since the start"]
+    stage.same("what record.py tells", said[-4:-2], [f"record.py: {it}" for it in told])
     play(stage, "up A long")
     live = stage.live(program, "--seconds", "0.5")
     stage.wait("it ends", lambda: live.process.poll() is not None)

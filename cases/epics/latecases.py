@@ -158,7 +158,8 @@ def behind(stage):
     live = stage.start("live", "--late-stop", "400", *front, *behind_)
     stage.wait("it ends", lambda: live.process.poll() is not None)
     stage.same("the status", [live.process.returncode], [7])
-    if not re.search(r"^live.py: behind by \d+ ms at \d+, more than --late-stop 400: this is the end$", live.text("said"), re.MULTILINE):
+    wanted = r"^live.py: behind by \d+ ms at \d+, more than --late-stop 400: this is the end$"
+    if not re.search(wanted, live.text("said"), re.MULTILINE):
         raise NotSo(stage.told())
 
 
@@ -210,7 +211,7 @@ def full_trace(stage):
     told(stage, live, "live.kept: File too large")
     if not live.path("kept").read_bytes().endswith(b"\n"):
         raise NotSo(f"the last line is cut\n{stage.told()}")
-    again = [it.split()[1:] for it in (line.partition(" ")[2] for line in same_again(stage, live, program)) if it.startswith("put ")]
+    again = [it.split()[2:] for it in same_again(stage, live, program) if it.split()[1] == "put"]
     stage.same("the puts", [[it.split()[0], it.split()[-1]] for it in put_lines(stage)], again)
 
 
@@ -221,7 +222,8 @@ def full_record(stage):
     stage.wait("it ends", lambda: record.process.poll() is not None)
     stage.same("the status", [record.process.returncode], [3])
     told(stage, record, f"standard output ({record.path('out').resolve()}): File too large")
-    if not record.path("out").read_bytes().endswith(b"\n") or events(record.text("out"))[1:] != values(len(events(record.text("out"))) - 1):
+    found = events(record.text("out"))
+    if not record.path("out").read_bytes().endswith(b"\n") or found[1:] != values(len(found) - 1):
         raise NotSo(f"the lines\n{stage.told()}")
 
 

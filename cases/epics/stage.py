@@ -10,7 +10,7 @@ HERE = Path(__file__).resolve().parent
 SCRIPTS = HERE.parent.parent / "scripts/epics"
 EXAMPLES = HERE.parent.parent / "examples"
 # For each thing that is waited for. A channel that was gone is back after ten seconds at most, and machines may be busy.
-SECONDS = 25
+SECONDS = 120
 
 
 # The first comment of a trace, and that it is late.

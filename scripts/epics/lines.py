@@ -19,7 +19,7 @@ class Lines:
     def __init__(self, wanted):
         """Lines of the channels that a call asked for."""
         self.wanted = wanted
-        # Channels that are connected, that ever were, and that ever gave a number; when one went down; what was left out last.
+        # Channels that are connected, that ever were, that ever gave a number; when one went down; what was left out last.
         self.up, self.seen, self.numbered, self.down, self.lost = set(), set(), set(), {}, {}
         # How often values were left out or cut off, and how many lines of values there are.
         self.left_out, self.cut, self.count = Counter(), set(), 0

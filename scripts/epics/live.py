@@ -1,8 +1,8 @@
 #!/usr/bin/python3
 """Runs a program beside a control system, by Channel Access: what happens on its channels goes as a trace into a running `snlrun`.
 
-    live.py [--put] [--keep TRACE [--force]] [--tick MS] [--late MS] [--late-stop MS] [--scale NAME=K].. [--enum NAME=TEXT:N,..]..
-            [--macros M=TEXT,..] --tables FILE -- snlrun PROGRAM [MACROS]
+    live.py [--put] [--keep TRACE [--force]] [--tick MS] [--late MS] [--late-stop MS] [--scale NAME=K]..
+            [--enum NAME=TEXT:N,..].. [--macros M=TEXT,..] --tables FILE -- snlrun PROGRAM [MACROS]
 
 The lines of the run come on standard output. Its puts are only shown: with --put each of them is put on its channel.
 
@@ -155,7 +155,8 @@ class Live:
             elif self.loop.waited(event):
                 self.lost.append(event.at)
         if self.lost:
-            last.append(f"# {len(self.lost)} events that waited were not written, the first of {min(self.lost)}, the last of {max(self.lost)}")
+            span = f"the first of {min(self.lost)}, the last of {max(self.lost)}"
+            last.append(f"# {len(self.lost)} events that waited were not written, {span}")
             say(last[-1][2:])
         if self.keep:
             self.keep.write("".join(f"{line}\n" for line in last).encode())
@@ -183,7 +184,7 @@ def parser():
     """The words that it knows."""
     found = words.parser_of(__doc__, is_needed=True)
     found.add_argument("--put", action="store_true", help="puts are put on their channels, and not only shown")
-    found.add_argument("--keep", metavar="TRACE", help="keeps the trace of the run in this file; %%Y and so on stand for the date")
+    found.add_argument("--keep", metavar="TRACE", help="keeps the trace of the run in this file; %%Y and such are the date")
     found.add_argument("--force", action="store_true", help="--keep writes over a file that is there")
     found.add_argument("--tick", type=words.milliseconds, default=20, metavar="MS", help="the time between two ticks")
     found.add_argument("--late", type=words.milliseconds, default=500, metavar="MS", help="tells where it is more behind; 500")

@@ -11,7 +11,7 @@ MOST = 200
 
 @dataclass(slots=True)
 class Event:
-    """Something that happened: `up`, `down`, `val` or `done` of a channel, or `#`, a comment that stands in the place of a name."""
+    """What happened: `up`, `down`, `val` or `done` of a channel, or `#`, a comment that stands in the place of a name."""
 
     # The milliseconds from the start, where the library told it.
     at: int

@@ -1,4 +1,4 @@
-"""Text for people, on standard output and standard error: a thread of its own writes it, so that nobody who pauses holds up a put."""
+"""Text for people, on standard output and standard error: a thread of its own writes it, so that no reader holds up a put."""
 import os
 import select
 import sys
