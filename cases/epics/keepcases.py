@@ -29,7 +29,8 @@ int out;   assign out to "TO";
 ss s {
   state a { when (mode == 2) { out = mode; pvPut(out); out = 5; pvPut(out); } state b }
   state b { when (mode == -1) { out = 0; pvPut(out, ASYNC); out = 7; pvPut(out, ASYNC); } state c }
-  state c { when (pvPutComplete(out)) { printf("answered"); } state c when (delay(60)) {} state c }
+  state c { when (pvPutComplete(out)) { printf("answered"); } state d }
+  state d { when (FALSE) {} state d }
 }
 """
 

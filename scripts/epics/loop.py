@@ -7,6 +7,8 @@ from dataclasses import dataclass
 
 # The most events that are taken at once. One write for all of them is what makes a loop that is behind catch up.
 MOST = 200
+# Seconds. Where events come closer than that they are gathered so long: each time costs as much as the events themselves.
+CLOSE = 0.002
 
 
 @dataclass(slots=True)
@@ -29,6 +31,8 @@ class Loop:
         """It ends after so many seconds; a period has so many seconds as well."""
         self.events, self.seconds, self.period = queue.SimpleQueue(), seconds, period
         self.start, self.is_ending, self.ended, self.give_up = time.monotonic(), False, None, lambda: None
+        # When events were taken last.
+        self.taken = 0
 
     def now(self):
         """The milliseconds from the start, by a clock that never goes back."""
@@ -73,8 +77,10 @@ class Loop:
                 on_events(self.with_others(event))
 
     def with_others(self, event):
-        """An event and those that wait behind it."""
-        found = [event]
+        """An event and those that wait behind it, or come right then."""
+        if time.monotonic() - self.taken < CLOSE:
+            time.sleep(CLOSE)
+        self.taken, found = time.monotonic(), [event]
         while len(found) < MOST and not self.is_ending and not self.events.empty():
             other = self.events.get()
             if other is not None:
