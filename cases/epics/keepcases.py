@@ -4,8 +4,8 @@ import re
 import shlex
 import time
 
-from stage import EXAMPLES, NotSo, comments, events
-from stubbed import LIGHT, Stubbed, called, lived, play, put_lines, recorded
+from stage import EXAMPLES, NotSo, comments, events, untimed
+from stubbed import LIGHT, Stubbed, called, play, put_lines, recorded
 
 
 def cases():
@@ -28,9 +28,10 @@ int mode;  assign mode to "MODE";  monitor mode;
 int out;   assign out to "TO";
 ss s {
   state a { when (mode == 2) { out = mode; pvPut(out); out = 5; pvPut(out); } state b }
-  state b { when (mode == -1) { out = 0; pvPut(out, ASYNC); out = 7; pvPut(out, ASYNC); } state c }
-  state c { when (pvPutComplete(out)) { printf("answered"); } state d }
-  state d { when (FALSE) {} state d }
+  state b { when (mode == -1) { out = 0; pvPut(out, ASYNC); } state c }
+  state c { when (pvPutComplete(out)) { out = 7; pvPut(out, ASYNC); } state d }
+  state d { when (pvPutComplete(out)) { printf("answered"); } state e }
+  state e { when (FALSE) {} state e }
 }
 """
 
@@ -39,18 +40,18 @@ def texts(stage):
     """The text of a number is put. A number without one is told, and nobody waits for its answer."""
     program = stage.folder / "texts.st"
     enums = "--enum", "MODE=run beam:2,off:-1", "--enum", "TO=stop it:0,go on:2,go:2"
-    for is_async in (False, True):
-        plain = TEXTS.replace(", ASYNC", "").replace("pvPutComplete(out)", "FALSE")
-        program.write_text(TEXTS if is_async else plain)
-        play(stage, "up MODE string", "up TO string", 'val MODE "run beam"', "put TO", 'val MODE "off"', "put TO", "down MODE")
-        _, script = lived(stage, program, "down MODE", "--put", *enums)
-        how = "asks" if is_async else "plain"
+    told = [f"put not done: TO: no text of --enum has the number {it}" for it in (5, 7)]
+    plain = TEXTS.replace(", ASYNC", "").replace("pvPutComplete(out)", "TRUE")
+    for source, how in ((plain, "plain"), (TEXTS, "asks")):
+        program.write_text(source)
+        play(stage, "up MODE string", "up TO string", 'val MODE "run beam"', "put TO", 'val MODE "off"')
+        live = stage.live(program, "--put", *enums)
+        stage.wait("it is told", lambda live=live: f"live.py: {told[1]}\n" in live.text("said"))
+        stage.wait("nobody waits", lambda live=live: "go s d e" in untimed(live.text("out")))
+        stage.same("the status", [live.end()], [0])
         stage.same("the puts", put_lines(stage), [f"TO {how} string go on", f"TO {how} string stop it"])
-        told = [f"put not done: TO: no text of --enum has the number {it}" for it in (5, 7)]
-        stage.same("the comments", comments(script.text("kept")), told)
-        if is_async and "done TO" not in events(script.text("kept")):
-            raise NotSo(stage.told())
-        script.path("kept").unlink()  # so that the next one is waited for
+        stage.same("the comments", comments(live.text("kept")), told)
+        stage.same("the replay", stage.replayed(program, live.path("kept")).splitlines(), live.text("out").splitlines())
 
 
 LACKS = """program lacks
