@@ -3,9 +3,11 @@
 
     bench/live.py [EVENTS] [EVENTS-A-SECOND]        1,000 at 100 a second where none are given
 
-The program puts each value that comes on another channel. It needs pyepics, and the programs built. With `delay` as a third word
-the put comes 50 ms behind the value, by a `delay`, and what is told is how late it is then.
+The program puts each value that comes on another channel. It needs pyepics, and the programs built, or named by `SNLRUN=FILE` and
+`SNC=FILE`. With `delay` as a third word the put comes 50 ms behind the value, by a `delay`, and what is told is how late it is
+then. The processor time is that of live.py alone, for a value and its put.
 """
+import os
 import signal
 import subprocess
 import sys
@@ -32,13 +34,19 @@ ss s {
 """
 
 
-def built(crate):
-    """Where a build leaves the program of a crate."""
-    return ROOT / "crates" / crate / "out" / crate
+def built(name, crate):
+    """Where a program stands: where a variable says it, or where a build leaves that of a crate."""
+    return Path(os.environ.get(name.upper(), ROOT / "crates" / crate / "out" / crate)).resolve()
+
+
+def processor(process):
+    """The ms that the processors worked for a process so far."""
+    fields = Path(f"/proc/{process.pid}/stat").read_text().rpartition(")")[2].split()
+    return 1000 * (int(fields[11]) + int(fields[12])) / os.sysconf("SC_CLK_TCK")
 
 
 def measured(stage, server, events, rate, is_later):
-    """The ms of each event, sorted."""
+    """The ms of each event, sorted; and the ms of processor time of each."""
     program = stage.folder / "echo.st"
     program.write_text(PROGRAM % (("", "later") if is_later else ("pvPut(y);", "waits")))
     sent, came = {}, {}
@@ -51,14 +59,15 @@ def measured(stage, server, events, rate, is_later):
         sent[value] = time.perf_counter()
         server.set("LAB:IN", [value])
 
-    begin = time.perf_counter()
+    begin, before = time.perf_counter(), processor(live.process)
     for value in range(1, events + 1):
         time.sleep(max(0, begin + value / rate - time.perf_counter()))
         server.loop.call_soon_threadsafe(send, value)
     stage.wait("the last put comes", lambda: events in came)
+    spent = processor(live.process) - before
     live.process.send_signal(signal.SIGINT)
     live.process.wait()
-    return sorted(1000 * (came[it] - sent[it]) - 50 * is_later for it in came)
+    return sorted(1000 * (came[it] - sent[it]) - 50 * is_later for it in came), spent / events
 
 
 def main():
@@ -68,13 +77,14 @@ def main():
     events, rate = (int(it) for it in [*words[:2], *("1000", "100")[len(words[:2]) :]])
     if not beside.python():
         sys.exit("bench/live.py: pyepics is not installed")
-    programs = {"snc": built("snc_main"), "snlrun": built("snlrun")}
+    programs = {"snc": built("snc", "snc_main"), "snlrun": built("snlrun", "snlrun")}
     with tempfile.TemporaryDirectory() as folder, serving([Channel(it, "long", [0]) for it in ("LAB:IN", "LAB:OUT")]) as server:
         with Stage(folder, programs, beside.python(), environment(server)) as stage:
-            found = measured(stage, server, events, rate, is_later)
+            found, spent = measured(stage, server, events, rate, is_later)
     shown = ", ".join(f"{name} {found[min(len(found) - 1, int(len(found) * part))]:.1f}" for name, part in
                       (("half", 0.5), ("90 %", 0.9), ("99 %", 0.99), ("most", 1)))  # fmt: skip
-    print(f"{len(found)} of {events} puts at {rate} a second, in ms: {shown}; load {Path('/proc/loadavg').read_text().split()[0]}")
+    load = Path("/proc/loadavg").read_text().split()[0]
+    print(f"{len(found)} of {events} puts at {rate} a second, in ms: {shown}; processor {spent:.3f} a value; load {load}")
 
 
 if __name__ == "__main__":

@@ -63,17 +63,18 @@ class Beside:
 class Pair:
     """record.py and live.py side by side on the channels of a program."""
 
-    def __init__(self, stage, program, *words, snlrun=()):
-        """Starts both with these words; those of `snlrun` come behind the program."""
+    def __init__(self, stage, program, only_put, *words, snlrun=()):
+        """Starts both with these words; those of `snlrun` come behind the program. Of what is only put live.py takes no value."""
         self.stage, self.program, self.snlrun, self.expected = stage, program, snlrun, []
+        self.of_record = tuple(f"val {it} " for it in only_put)
         self.live = stage.live(program, "--put", *words, snlrun=snlrun)
         self.recorder = stage.start("record", "--tables", stage.tables(program), *words)
 
     def next(self, *lines):
         """Waits until both have these lines as their next ones, in any order. Lines `done` are those of live.py alone."""
-        for script, stream, is_live in ((self.live, "kept", True), (self.recorder, "out", False)):
-            wanted = [it for it in lines if is_live or not it.startswith("done ")]
-            before = len([it for it in self.expected if is_live or not it.startswith("done ")])
+        for script, stream, others in ((self.live, "kept", self.of_record), (self.recorder, "out", "done ")):
+            wanted = [it for it in lines if not it.startswith(others)]
+            before = len([it for it in self.expected if not it.startswith(others)])
             after = before + len(wanted)
             self.stage.wait(f"{script.name} has {wanted}", lambda s=script, n=after, of=stream: len(events(s.text(of))) >= n)
             self.stage.same(script.name, sorted(events(script.text(stream))[before:after]), sorted(wanted))
@@ -85,9 +86,11 @@ class Pair:
             self.stage.same(f"the status of {script.name}", [script.end()], [0])
             if not is_rising(script.text(stream)):
                 raise NotSo(f"{script.name}: a time goes back\n{self.stage.told()}")
-        recorded = events(self.recorder.text("out"))
-        self.stage.same("the lines of both", [it for it in events(self.live.text("kept")) if not it.startswith("done ")], recorded)
-        self.stage.same("the number of lines", [len(events(self.live.text("kept")))], [len(self.expected)])
+        recorded, lived = events(self.recorder.text("out")), events(self.live.text("kept"))
+        both = [it for it in recorded if not it.startswith(self.of_record)]
+        self.stage.same("the lines of both", [it for it in lived if not it.startswith("done ")], both)
+        wanted = [it for it in self.expected if not it.startswith(self.of_record)]
+        self.stage.same("the number of lines", [len(lived)], [len(wanted)])
         finished(self.stage, self.live, self.program, run, told, self.snlrun)
 
 
@@ -123,7 +126,7 @@ REFUSED = "put not done: {}: Channel write request failed"
 
 def light(stage, server):
     """Both scripts, a lamp that goes and comes back, halves, a refused put; and the recorded trace gives the same run."""
-    pair = Pair(stage, EXAMPLES / "light.st")
+    pair = Pair(stage, EXAMPLES / "light.st", ["LAB:LAMP"])
     pair.next("up LAB:VOLTAGE", "up LAB:LAMP", "val LAB:VOLTAGE 2", "val LAB:LAMP 0")
     server.call(server.set, "LAB:VOLTAGE", [7.2])
     pair.next("val LAB:VOLTAGE 7")
@@ -238,7 +241,7 @@ NAMES = [it.split()[0] for it in FIRST]
 def permit(stage, server):
     """Each type of channel, puts that wait for their answers, one of them refused, one lost as the server dies."""
     program = HERE / "permit.st"
-    pair = Pair(stage, program, *WORDS)
+    pair = Pair(stage, program, ["LAB:PERMIT", "LAB:PLACE", "LAB:REPORT"], *WORDS)
     pair.next(*(f"up {it}" for it in NAMES), *(f"val {it}" for it in FIRST))
     given(pair, server, "LAB:MODE", "run beam", "val LAB:MODE 2")
     given(pair, server, "LAB:DOOR", 1, "val LAB:DOOR 1", "val LAB:PERMIT 1")

@@ -24,9 +24,9 @@ def cases():
 
 def puts(stage):
     """Two puts, of which the second is refused."""
-    rest = "val LAB:VOLTAGE 7", "put LAB:LAMP", "val LAB:LAMP 1", "refuse LAB:LAMP", "val LAB:VOLTAGE 1", "put LAB:LAMP"
-    play(stage, *LIGHT, *rest, "val LAB:LAMP 5")
-    run, script = lived(stage, EXAMPLES / "light.st", "val LAB:LAMP 5", "--put")
+    rest = "val LAB:VOLTAGE 7", "put LAB:LAMP", "refuse LAB:LAMP", "val LAB:VOLTAGE 1", "put LAB:LAMP"
+    play(stage, *LIGHT, *rest, "val LAB:VOLTAGE 4")
+    run, script = lived(stage, EXAMPLES / "light.st", "val LAB:VOLTAGE 4", "--put")
     stage.same("the run", run, RUN)
     stage.same("the puts", put_lines(stage), ["LAB:LAMP plain long 1", "LAB:LAMP plain long 0"])
     told = "put not done: LAB:LAMP: Channel write request failed"
@@ -38,8 +38,8 @@ def puts(stage):
 
 def shown(stage):
     """The same run, and no put at all."""
-    play(stage, *LIGHT, "val LAB:VOLTAGE 7", "val LAB:VOLTAGE 1", "val LAB:LAMP 5")
-    run, script = lived(stage, EXAMPLES / "light.st", "val LAB:LAMP 5")
+    play(stage, *LIGHT, "val LAB:VOLTAGE 7", "val LAB:VOLTAGE 1", "val LAB:VOLTAGE 4")
+    run, script = lived(stage, EXAMPLES / "light.st", "val LAB:VOLTAGE 4")
     stage.same("the run", run, RUN)
     stage.same("the puts", put_lines(stage), [])
     if "live.py: puts are only shown: --put puts them" not in script.text("said").splitlines():
@@ -67,17 +67,17 @@ def answers(stage):
     program.write_text(MOTOR)
     play(
         stage, *UP, "hold MOT:PLACE",
-        "val MOT:GO 40", "put MOT:PLACE", "put LAMP", "val LAMP 1", "answer", "put LAMP", "refuse MOT:PLACE",
+        "val MOT:GO 40", "put MOT:PLACE", "put LAMP", "answer", "put LAMP", "refuse MOT:PLACE",
         "val MOT:GO 50", "put MOT:PLACE", "put LAMP", "answer", "put LAMP",
-        "val MOT:GO 60", "put MOT:PLACE", "put LAMP", "down MOT:PLACE", "put LAMP", "val LAMP 9",
+        "val MOT:GO 60", "put MOT:PLACE", "put LAMP", "down MOT:PLACE", "put LAMP", "down LAMP",
     )  # fmt: skip
-    run, script = lived(stage, program, "val LAMP 9", "--put", "--macros", "P=MOT:")
+    run, script = lived(stage, program, "down LAMP", "--put", "--macros", "P=MOT:")
     stage.same("the run", run, ["start motor", *(it.format(place) for place in (40, 50, 60) for it in MOVES)])
     lamps = "LAMP plain long 1", "LAMP plain long 0"
     expected = [it for place in (40, 50, 60) for it in (f"MOT:PLACE asks double {place}.0", *lamps)]
     stage.same("the puts", put_lines(stage), expected)
     after = events(script.text("kept"))[5:]
-    lines = ["val LAMP 1", "done MOT:PLACE", "val MOT:GO 50", "done MOT:PLACE", "val MOT:GO 60", "down MOT:PLACE", "val LAMP 9"]
+    lines = ["done MOT:PLACE", "val MOT:GO 50", "done MOT:PLACE", "val MOT:GO 60", "down MOT:PLACE", "down LAMP"]
     stage.same("the trace", after, lines)
     stage.same("the comments", comments(script.text("kept"))[1:], ["put not done: MOT:PLACE: Channel write request failed"])
 
@@ -184,6 +184,6 @@ def timed(stage):
     for script in (stage.start("record", "A", "--seconds", "0.5"), stage.live(program, "--seconds", "0.5")):
         stage.wait(f"{script.name} ends", lambda it=script: it.process.poll() is not None)
         stage.same("the status", [script.process.returncode], [0])
-    time, *word = stage.scripts[-2].text("out").split()
+    time, *word = stage.scripts[-2].text("out").splitlines()[-1].split()
     if word != ["tick"] or int(time) < 500:
         raise NotSo(f"{time} {word}\n{stage.told()}")

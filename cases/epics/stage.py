@@ -13,6 +13,12 @@ EXAMPLES = HERE.parent.parent / "examples"
 SECONDS = 120
 
 
+# The first comment of a trace, and that it is late.
+HEAD = re.compile(r"(live|record)\.py \d+\.\d+\.\d+(, program \w+)?, \d{4}-\d\d-\d\dT\d\d:\d\d:\d\d[+-]\d{4}"
+                  r"(, SHA-256 of \S+ [0-9a-f]{64})?, called with .+")  # fmt: skip
+BEHIND = re.compile(r"behind by \d+ ms at \d+; \d+ events wait")
+
+
 class NotSo(Exception):
     """Something is not as it has to be."""
 
@@ -20,12 +26,13 @@ class NotSo(Exception):
 class Script:
     """A script that runs, with its streams in files."""
 
-    def __init__(self, stage, name, words):
-        """Starts it with these words, in the folder of the stage."""
+    def __init__(self, stage, name, words, out=None, front=()):
+        """Starts it with these words, in the folder of the stage, behind those that start it. `out` takes the place of the file."""
         self.name, self.folder = name, stage.folder
-        with open(self.path("out"), "wb") as out, open(self.path("said"), "wb") as said:
-            how = {"stdin": subprocess.DEVNULL, "stdout": out, "stderr": said, "cwd": stage.folder, "env": stage.environment}
-            self.process = subprocess.Popen([stage.python, SCRIPTS / f"{name}.py", *words], **how)
+        with open(self.path("out"), "wb") as file, open(self.path("said"), "wb") as said:
+            how = {"stdin": subprocess.DEVNULL, "stdout": file if out is None else out, "stderr": said}
+            call = [*front, stage.python, SCRIPTS / f"{name}.py", *words]
+            self.process = subprocess.Popen(call, cwd=stage.folder, env=stage.environment, **how)
 
     def path(self, stream):
         """The file of a stream: `out`, `said`, and the trace that live.py keeps."""
@@ -65,9 +72,9 @@ class Stage:
                 script.process.kill()
                 script.process.wait()
 
-    def start(self, name, *words):
+    def start(self, name, *words, **how):
         """Starts a script."""
-        self.scripts.append(Script(self, name, words))
+        self.scripts.append(Script(self, name, words, **how))
         return self.scripts[-1]
 
     def tables(self, program):
@@ -77,10 +84,10 @@ class Stage:
         path.write_bytes(ran.stdout)
         return path
 
-    def live(self, program, *words, snlrun=()):
+    def live(self, program, *words, snlrun=(), **how):
         """Starts live.py over a program, with words in front of `--` and behind the program."""
-        words = ("--tables", self.tables(program), "--keep", "live.kept", *words)
-        return self.start("live", *words, "--", self.programs["snlrun"], program, *snlrun)
+        words = ("--tables", self.tables(program), "--keep", "live.kept", "--force", *words)
+        return self.start("live", *words, "--", self.programs["snlrun"], program, *snlrun, **how)
 
     def wait(self, what, is_so):
         """Waits until something is so, and no longer than a script runs."""
@@ -132,8 +139,12 @@ def events(text):
 
 
 def comments(text):
-    """The comments of a trace, but those that a circuit is gone: they name the machine, by its name or by its number."""
-    found = [line[2:] for line in text.splitlines() if line.startswith("#")]
+    """The comments of a trace behind the first one, which tells whence it is; but those that a circuit is gone, which name the
+    machine by its name or by its number, and those that it is busy."""
+    head, *found = [line[2:] for line in text.splitlines() if line.startswith("#")] or [""]
+    if not HEAD.fullmatch(head):
+        raise NotSo(f"the first comment is {head}")
+    found = [it for it in found if not BEHIND.fullmatch(it)]
     return [it for it in found if not re.fullmatch(r"\S+:\d+: Virtual circuit disconnect", it)]
 
 

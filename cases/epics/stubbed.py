@@ -11,7 +11,7 @@ from typing import Callable
 
 from stage import HERE, SCRIPTS, SECONDS, NotSo, Stage, events, failed, is_rising, untimed
 
-LIGHT = ("up LAB:VOLTAGE double", "val LAB:VOLTAGE 2", "up LAB:LAMP enum", "val LAB:LAMP 0")
+LIGHT = ("up LAB:VOLTAGE double", "val LAB:VOLTAGE 2", "up LAB:LAMP enum")
 
 
 @dataclass

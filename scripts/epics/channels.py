@@ -5,17 +5,21 @@
 The types are told by their names in Channel Access, as `double` and `enum`.
 """
 import ctypes
+import os
+import struct
 
 try:
     from epics import ca, dbr
 except ImportError:
     ca = dbr = None
 
-from lines import Event
-
 MISSING = "pyepics is not installed: apt-get install -y --no-install-recommends python3-pyepics"
 TYPES = ("string", "short", "float", "enum", "char", "long", "double")
-PUT = 1  # CA_OP_PUT of cadef.h
+# The bytes of a value of each type as the library hands it on. Of bytes numbers of 32 bits are asked for: only the server knows
+# whether 200 is -56.
+CODES = {"string": "40s", "short": "h", "float": "f", "enum": "H", "char": "i", "long": "i", "double": "d"}
+# CA_OP_PUT and the masks of cadef.h, and a status of caerr.h.
+PUT, VALUE_AND_ALARM, NORMAL = 1, 5, 1
 
 
 class Missing(Exception):
@@ -30,21 +34,32 @@ class Trouble(ctypes.Structure):
                 ("file", ctypes.c_char_p), ("line", ctypes.c_uint)]
 
 
-class Channels:
-    """Channels by their names. Threads of the library call the methods `on_..`, which only hand on what they are told."""
+class Came(ctypes.Structure):
+    """`struct event_handler_args` of cadef.h, with addresses as such. That of pyepics takes them for objects of Python."""
 
-    def __init__(self, names, events):
+    _fields_ = [("usr", ctypes.c_void_p), ("chid", ctypes.c_void_p), ("type", ctypes.c_long), ("count", ctypes.c_long),
+                ("values", ctypes.c_void_p), ("status", ctypes.c_int)]
+
+
+class Channels:
+    """Channels by their names. Threads of the library call the methods `on_..`, which only hand on what they are told: so what
+    happens gets its time right where the library tells it."""
+
+    def __init__(self, wanted, happened):
         """Begins to look for the channels. `Missing` where there is no pyepics, or it finds no library."""
         if ca is None:
             raise Missing(MISSING)
-        self.events, self.chids, self.names, self.subscriptions = events, {}, {}, {}
+        self.wanted, self.happened, self.chids, self.names, self.subscriptions = wanted, happened, {}, {}, {}
+        # By the number of a channel that is subscribed to: its name, its type, the size of a value, the most that are taken.
+        self.takes = {}
         try:
             ca.initialize_libca()
         except ca.ChannelAccessException as fault:
             raise Missing(str(fault)) from fault
         self.handler = ctypes.CFUNCTYPE(None, Trouble)(self.on_trouble)
+        self.value_handler = ctypes.CFUNCTYPE(None, Came)(self.on_values)
         ca.libca.ca_add_exception_event(self.handler, None)
-        for name in names:
+        for name in wanted.channels:
             self.chids[name] = chid = ca.create_channel(name, callback=self.on_connection)
             self.names[chid.value] = name
         ca.flush_io()
@@ -53,31 +68,46 @@ class Channels:
         """A channel connected, or is not connected any more."""
         kind = ca.libca.ca_field_type(dbr.chid_t(chid)) if conn else -1
         # One that is gone again already has no type.
-        self.events.put(Event("up" if conn else "down", pvname, kind=TYPES[kind] if 0 <= kind < len(TYPES) else ""))
+        self.happened("up" if conn else "down", pvname, kind=TYPES[kind] if 0 <= kind < len(TYPES) else "")
 
     def on_trouble(self, it):
         """The library tells what went wrong: a put that a server refuses, say, or a server that is gone."""
         name = self.names.get(it.chid) or (it.ctx or b"").decode(errors="replace")
-        self.events.put(Event("#", f"{'put not done: ' if it.op == PUT else ''}{name}: {ca.message(it.stat)}"))
+        self.happened("#", f"{'put not done: ' if it.op == PUT else ''}{name}: {ca.message(it.stat)}")
 
     def subscribe(self, name, kind):
         """Asks for all values of a channel that is up for the first time; the library asks again after each reconnection.
 
-        The thread of the loop calls it behind the line `up`, so values come after that. Of bytes numbers of 32 bits are asked
-        for: only the server knows whether 200 is -56.
+        The thread of the loop calls it for the line `up`, so values come behind that. Of a channel that is only put to no value
+        is asked for.
         """
-        if name in self.subscriptions or not kind:
+        if name in self.subscriptions or name in self.wanted.unread or not kind:
             return
-
-        def on_value(value=None, **_):
-            """Values came. Arrays are those of numpy, one value of them may be a plain number."""
-            value = value.tolist() if hasattr(value, "tolist") else value
-            self.events.put(Event("val", name, value if isinstance(value, list) else [value], kind))
-
-        asked = TYPES.index("long" if kind == "char" else kind)
-        self.subscriptions[name] = ca.create_subscription(self.chids[name], ftype=asked, callback=on_value)
+        chid, asked = self.chids[name], TYPES.index("long" if kind == "char" else kind)
+        self.takes[chid.value] = name, kind, struct.calcsize(CODES[kind]), self.wanted.channels[name]
+        self.subscriptions[name] = number = ctypes.c_void_p()
+        whole, mask = ctypes.c_ulong(0), ctypes.c_long(VALUE_AND_ALARM)
+        call = asked, whole, chid, mask, self.value_handler, None, ctypes.byref(number)
+        status = ca.libca.ca_create_subscription(*call)
+        if status != NORMAL:
+            self.happened("#", f"{name}: {ca.message(status)}")
         ca.flush_io()
+
+    def on_values(self, it):
+        """Values came. A status that is not normal says that they can't be read now."""
+        if it.status == NORMAL:
+            name, kind, size, most = self.takes[it.chid]
+            count = it.count if most is None else min(it.count, most)
+            data = ctypes.string_at(it.values, count * size) if count else b""
+            self.happened("val", name, values_in(data, kind, count), kind)
 
     def flush(self):
         """Sends what may still wait in a buffer of the library."""
         ca.flush_io()
+
+
+def values_in(data, kind, count):
+    """The values that bytes of the library are."""
+    if kind == "string":
+        return [os.fsdecode(data[at : at + 40].split(b"\0")[0]) for at in range(0, 40 * count, 40)]
+    return list(struct.unpack(f"{count}{CODES[kind]}", data))

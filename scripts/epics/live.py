@@ -1,8 +1,8 @@
 #!/usr/bin/python3
 """Runs a program beside a control system, by Channel Access: what happens on its channels goes as a trace into a running `snlrun`.
 
-    live.py [--put] [--keep TRACE] [--tick MS] [--scale NAME=K].. [--enum NAME=TEXT:N,..].. [--macros M=TEXT,..]
-            --tables FILE -- snlrun PROGRAM [MACROS]
+    live.py [--put] [--keep TRACE [--force]] [--tick MS] [--late MS] [--late-stop MS] [--scale NAME=K]..
+            [--enum NAME=TEXT:N,..].. [--macros M=TEXT,..] --tables FILE -- snlrun PROGRAM [MACROS]
 
 The lines of the run come on standard output. Its puts are only shown: with --put each of them is put on its channel.
 
@@ -10,129 +10,137 @@ The lines of the run come on standard output. Its puts are only shown: with --pu
     scripts/epics/live.py --put --tables light.tables --keep light.trace -- bin/snlrun light.st
     bin/snlrun light.st < light.trace                  the same lines once more, byte for byte
 
-TRACE is what `snlrun` was given: what happened, and a `tick` each 20 ms (--tick), so that a `delay` is over in time. A put with
-`ASYNC` asks for an answer, which comes as a line `done`; without --put no answer comes. Values are whole numbers as those of
-record.py, and puts are divided by 10^K again. What fails or is refused stands in TRACE as a comment, and on standard error;
-the program does not hear of it. At Ctrl-C, and when the program ends, no further put is done; what was put stays.
+TRACE is what `snlrun` was given: what happened, and a `tick` each 20 ms (--tick), so that a `delay` is over in time. Signs as %Y
+in its name stand for the date. A put with `ASYNC` asks for an answer, which comes as a line `done`; without --put no answer
+comes. Values are whole numbers as those of record.py; puts are divided by 10^K again, and of a channel of texts the text is put.
+What fails or is refused stands in TRACE as a comment, and on standard error; the program does not hear of it. So does it where
+the run is behind by more than --late; with --late-stop it ends then. At Ctrl-C, and when the program ends, no further put is
+done; what was put stays.
 
 This is no interlock. Nothing promises how soon anything happens, that a put arrives, or that the values of two servers come in
 the order in which they were sent. What is proved is what `snlrun` prints for TRACE, and nothing else here is.
 """
 import errno
 import os
-import subprocess
 import sys
-import threading
 
 sys.dont_write_bytecode = True
+import kept  # noqa: E402
 import words  # noqa: E402
 from channels import Channels, Missing, ca  # noqa: E402
+from lag import Lag  # noqa: E402
 from lines import Lines, Refused  # noqa: E402
 from loop import Loop  # noqa: E402
 from puts import Puts  # noqa: E402
+from run import Run  # noqa: E402
+from shown import Shown, Teller, name_of  # noqa: E402
+from waits import Waits  # noqa: E402
 
-say = words.teller("live.py")
-
-
-class Run:
-    """A running `snlrun`. Its lines come to `heard`, which a thread of its own calls; behind the last one that calls `ended`."""
-
-    def __init__(self, call):
-        """Starts it, in a session of its own: so Ctrl-C does not reach it, and it ends by the end of its trace."""
-        how = {"stdin": subprocess.PIPE, "stdout": subprocess.PIPE, "start_new_session": True}
-        self.process = subprocess.Popen(call, **how)
-
-    def listen(self, heard, ended):
-        """Begins to read its lines."""
-        self.thread = threading.Thread(target=self.read, args=(heard, ended))
-        self.thread.start()
-
-    def read(self, heard, ended):
-        """Hands on each line as soon as it is there."""
-        try:
-            for line in self.process.stdout:
-                heard(line)
-        finally:
-            self.process.stdout.close()
-            ended()
-
-    def feed(self, line):
-        """Gives it a line of the trace at once. One that has ended reads nothing any more."""
-        try:
-            self.process.stdin.write(line.encode())
-            self.process.stdin.flush()
-        except BrokenPipeError:
-            pass
-
-    def finish(self):
-        """Ends its trace, and waits for it. The status, 128 and more by a signal."""
-        try:
-            self.process.stdin.close()
-        except BrokenPipeError:
-            pass
-        self.thread.join()
-        status = self.process.wait()
-        return status if status >= 0 else 128 - status
+say = Teller("live.py")
+# Statuses of its own.
+REFUSED, NEVER_BEGAN, FAILED, TOO_LATE = 1, 1, 3, 7
 
 
 class Live:
     """A program that runs beside its channels."""
 
-    def __init__(self, loop, lines, channels, run, keep):
+    def __init__(self, loop, wanted, channels, run, keep):
         """`keep` is the file of the trace, or nothing."""
-        self.loop, self.lines, self.channels, self.run, self.keep = loop, lines, channels, run, keep
-        # What puts, or nothing where puts are only shown; and whether somebody reads our lines.
-        self.puts, self.is_read = None, True
+        self.loop, self.lines, self.channels, self.run, self.keep = loop, Lines(wanted), channels, run, keep
+        self.waits, self.shown = Waits(wanted, self.lines), Shown(1, self.missed, self.unshown)
+        # What puts, or nothing where puts are only shown; how late all is; why no line can be shown any more; and the times of
+        # what waited at the end.
+        self.puts, self.lag, self.fault, self.lost = None, None, None, []
 
-    def on_event(self, event):
-        """Writes the lines of an event. Values are asked for when a channel is up for the first time."""
-        for line in self.lines.of(event):
-            self.write(line)
-        if event.word == "up":
-            self.channels.subscribe(event.name, event.kind)
+    def begin(self, lag, head):
+        """Writes the first comment, and begins to listen and to look how late all is."""
+        self.lag = lag
+        self.write([head])
+        self.run.listen(self.heard, self.loop.end, ca.use_initial_context)  # each thread has to ask for the library's
+        lag.watch(self.run.process)
+
+    def on_events(self, events):
+        """Writes the lines of events. Values are asked for when a channel is up for the first time."""
+        found, self.lag.working = self.notes(), events[0].at
+        try:
+            for event in events:
+                found += self.told(event)
+                self.lag.seen(event.at)
+                if event.word == "up":
+                    self.channels.subscribe(event.name, event.kind)
+        finally:
+            self.write(found)
+            self.lag.working = None
 
     def on_period(self):
-        """Lets time pass."""
-        self.write("tick")
+        """Lets time pass: by a line, where no event waits that has a time itself."""
+        ticks = [self.lines.timed(self.loop.now(), "tick")] if self.loop.events.empty() else []
+        self.write(self.notes() + ticks)
         self.channels.flush()
-        for text in self.lines.late(self.loop.now()):
+        for text in self.lines.late(self.loop.now(), self.waits):
             say(text)
 
-    def write(self, line):
-        """Writes a line to the run and to the trace that is kept: the same bytes, comments too."""
-        if line.startswith("#"):
-            say(line[2:])
-        else:
-            line = f"{self.loop.now()} {line}"
-        self.kept(line)
-        self.run.feed(f"{line}\n")
+    def notes(self):
+        """The comments that others left for the trace."""
+        return [self.lag.notes.popleft() for _ in range(len(self.lag.notes))]
 
-    def kept(self, line):
-        """Keeps a line."""
+    def told(self, event):
+        """The lines of an event; comments are told, too."""
+        for line in self.lines.lines(event):
+            if line[0] == "#":
+                say(line[2:])
+            yield line
+
+    def write(self, lines):
+        """Writes lines to the trace that is kept and to the run: the same bytes, comments too."""
+        if not lines:
+            return
+        data = "".join(f"{line}\n" for line in lines).encode()
         if self.keep:
-            print(line, file=self.keep, flush=True)
-
-    def heard(self, line):
-        """Does what a line of the run says, and shows it. A thread of its own calls this."""
-        fields = line.split()
-        # A line without its end may lack digits: the run was killed.
-        if self.puts and fields[1:2] == [b"put"] and line.endswith(b"\n"):
-            self.put(fields[2].decode(), [int(it) for it in fields[3:]])
-        try:
-            if self.is_read:
-                sys.stdout.buffer.write(line)
-                sys.stdout.buffer.flush()
-        except BrokenPipeError:
-            self.is_read = False
+            data = self.keep.write(data)
+        self.lag.feeds(self.lines.last, len(data))
+        self.run.feed(data)
+        if self.keep and self.keep.fault:
             self.loop.end()
+
+    def heard(self, lines):
+        """Does what lines of the run say, and shows them. A thread of its own calls this, at last with no line."""
+        for line in lines:
+            fields = line.split()
+            # A line without its end may lack digits: the run was killed.
+            if fields[1:2] == [b"put"] and line.endswith(b"\n"):
+                self.lag.seen(int(fields[0]))
+                self.put(fields[2].decode(), [int(it) for it in fields[3:]])
+            elif fields[1:2] == [b"start"]:
+                self.waits.has_begun = True
+        if self.puts:
+            self.puts.flush()
+        self.shown.add(lines)
 
     def put(self, name, numbers):
         """Puts numbers on a channel, but for the lines that the run still had when it was ended."""
-        if self.loop.is_ending:
+        if self.puts and self.loop.is_ending and not self.is_full():
             self.puts.tell(name, "live.py is ending")
-            return
-        ca.use_initial_context()  # each thread has to ask for the library's
-        self.puts.put(name, numbers)
+        elif self.puts:
+            self.puts.put(name, numbers)
+
+    def is_full(self):
+        """Whether it ends since something can't be written: then what the run says to its end is still put."""
+        return bool(self.keep and self.keep.fault or self.fault and not isinstance(self.fault, BrokenPipeError))
+
+    def give_up(self):
+        """Ends the run by force, at a second Ctrl-C, and tells what is lost."""
+        self.run.process.kill()
+        say.at_once(f"{self.loop.events.qsize()} events that waited were not written")
+
+    def missed(self, count):
+        """Tells that lines could not be shown."""
+        say(f"{count} lines were not shown: {name_of(1, 'standard output')} was not read")
+
+    def unshown(self, fault):
+        """Nothing can be shown any more: that is the end."""
+        self.fault = fault
+        self.loop.end()
 
     def finish(self):
         """Ends the run, and keeps what is told of the last puts. The status of the run."""
@@ -140,41 +148,85 @@ class Live:
         status = self.run.finish()
         if self.puts:
             self.puts.settle()
-        while not self.loop.events.empty():
-            event = self.loop.events.get()
-            for line in self.lines.of(event) if event and event.word == "#" else ():
-                say(line[2:])
-                self.kept(line)
-        for text in self.lines.report():
+        last = self.notes()
+        for event in self.loop.left():
+            if event.word == "#":
+                last += self.told(event)
+            elif self.loop.waited(event):
+                self.lost.append(event.at)
+        if self.lost:
+            span = f"the first of {min(self.lost)}, the last of {max(self.lost)}"
+            last.append(f"# {len(self.lost)} events that waited were not written, {span}")
+            say(last[-1][2:])
+        if self.keep:
+            self.keep.write("".join(f"{line}\n" for line in last).encode())
+        return self.reported(status)
+
+    def reported(self, status):
+        """Says what there is to say in the end. The status of the run, or what comes in its place."""
+        for text in (*self.lines.report(self.waits), *self.lag.finish()):
             say(text)
-        if not self.is_read:
-            os.dup2(os.open(os.devnull, os.O_WRONLY), 1)  # else Python tries once more at its end
+        hidden = self.shown.finish()
+        if isinstance(self.fault, BrokenPipeError):
             say("nobody reads the lines any more")
-        say(f"{os.path.basename(self.run.process.args[0])} ended with the status {status}")
-        return status
+        elif self.fault:
+            say(f"{name_of(1, 'standard output')}: {self.fault.strerror}")
+        if hidden and not self.fault:
+            self.missed(hidden)
+        if self.keep and self.keep.fault:
+            say(f"{self.keep.name}: {self.keep.fault.strerror}")
+        if self.lag.is_stopped:
+            return TOO_LATE
+        return status or (FAILED if self.fault or self.keep and self.keep.fault else 0)
 
 
 def parser():
-    """The words of the call."""
+    """The words that it knows."""
     found = words.parser_of(__doc__, is_needed=True)
     found.add_argument("--put", action="store_true", help="puts are put on their channels, and not only shown")
-    found.add_argument("--keep", metavar="TRACE", help="keeps the trace of the run in this file")
-    found.add_argument("--tick", type=words.seconds, default=20, metavar="MS", help="the time between two ticks")
+    found.add_argument("--keep", metavar="TRACE", help="keeps the trace of the run in this file; %%Y and such are the date")
+    found.add_argument("--force", action="store_true", help="--keep writes over a file that is there")
+    found.add_argument("--tick", type=words.milliseconds, default=20, metavar="MS", help="the time between two ticks")
+    found.add_argument("--late", type=words.milliseconds, default=500, metavar="MS", help="tells where it is more behind; 500")
+    found.add_argument("--late-stop", type=words.milliseconds, metavar="MS", help="ends where it is more behind")
     found.add_argument("call", nargs="+", metavar="WORD", help="the call of snlrun, behind --")
     return found
 
 
-def began(given, wanted, loop):
+def read(known):
+    """The words of the call, what they ask for, and the file of the program where it is one of them."""
+    given = known.parse_args()
+    wanted = words.wanted(known, given)
+    if given.force and not given.keep:
+        known.error("--force says nothing without --keep")
+    try:
+        given.keep = given.keep and kept.dated(given.keep)
+    except ValueError as fault:
+        known.error(str(fault))
+    source = words.source_of(wanted, given.call[1:])
+    wanted.unread = words.unread(wanted, source)
+    return given, wanted, source
+
+
+def began(given, wanted, source, loop):
     """The program, running, and its channels. `OSError` where the call or the file can't be had, `Missing` without pyepics."""
     if sys.stdout is None:
         raise OSError(errno.EBADF, os.strerror(errno.EBADF), "standard output")
-    keep = open(given.keep, "w") if given.keep else None
-    channels = Channels(wanted.channels, loop.events)
-    live = Live(loop, Lines(wanted), channels, Run(given.call), keep)
+    keep = kept.opened(given.keep, given.force) if given.keep else None
+    try:
+        channels = Channels(wanted, loop.happened)
+        run = Run(given.call)
+    except (OSError, Missing):
+        if keep:
+            keep.discard()
+        raise
+    if keep:
+        keep.empty()
+    live = Live(loop, wanted, channels, run, keep)
     if given.put:
-        live.puts = Puts(channels, wanted.powers, words.asking(wanted, given.call[1:]))
-    loop.give_up = live.run.process.kill
-    live.run.listen(live.heard, loop.end)
+        live.puts = Puts(channels, wanted, words.asking(wanted, source))
+    loop.give_up = live.give_up
+    live.begin(Lag(loop, say, given.late, given.late_stop), kept.head("live.py", wanted, source))
     say("puts go to their channels" if given.put else "puts are only shown: --put puts them")
     return live
 
@@ -183,28 +235,28 @@ def followed(live):
     """Runs until the program, a signal or the time ends it. The status, that of the run where that is not 0."""
     own = 0
     try:
-        live.loop.run(live.on_event, live.on_period)
-    except (Refused, OSError) as fault:
+        live.loop.run(live.on_events, live.on_period)
+    except Refused as fault:
         say(fault)
-        own = 1 if isinstance(fault, Refused) else 3
+        own = REFUSED
     status = live.finish()
-    return status or own or (0 if live.is_read else 3)
+    return status or own or (0 if live.waits.has_begun else NEVER_BEGAN)
 
 
 def main():
-    """Reads the words and runs. The status is that of the run, or 1 for a channel that no trace can hold, 2 for wrong words, 3
-    where a file, the call or pyepics is not there, 130 where it had to be ended by a second Ctrl-C."""
-    words_known = parser()
-    given = words_known.parse_args()
-    wanted = words.wanted(words_known, given)
+    """Reads the words and runs. The status is that of the run, or 1 for a channel that no trace can hold and a program that never
+    began, 2 for wrong words, 3 where a file, the call or pyepics is not there or a file is full, 7 where it was behind by more
+    than --late-stop, 130 where it had to be ended by a second Ctrl-C."""
+    given, wanted, source = read(parser())
     loop = Loop(given.seconds, given.tick / 1000)
     loop.heed_signals()
     try:
-        live = began(given, wanted, loop)
+        status = followed(began(given, wanted, source, loop))
     except (Missing, OSError) as fault:
         say(f"{fault.filename}: {fault.strerror}" if isinstance(fault, OSError) else fault)
-        return 3
-    return followed(live)
+        status = FAILED
+    say.finish()
+    return status
 
 
 if __name__ == "__main__":

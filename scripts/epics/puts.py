@@ -1,25 +1,29 @@
 """Puts numbers on channels, as the sequencer does: `pvPut(x)` plainly, and `pvPut(x, ASYNC)` with a request for an answer."""
 import ctypes
+import os
 import threading
 import time
 from collections import Counter
 
 from channels import ca, dbr
-from lines import Event
 from values import unscaled
 
 # Statuses of caerr.h.
 NORMAL, DISCONNECTED = 1, 192
 INTEGERS = range(-(2**31), 2**31)
+# A text of Channel Access.
+Text = ctypes.c_char * 40
 SETTLING = 2.0
 
 
 class Puts:
     """Puts on channels. What is not done comes as an event `#`, and each answer that was asked for as an event `done`."""
 
-    def __init__(self, channels, powers, asking):
-        """`asking` are the channels whose puts ask for an answer, `powers` those whose numbers count in another unit."""
-        self.channels, self.powers, self.asking = channels, powers, asking
+    def __init__(self, channels, wanted, asking):
+        """`asking` are the channels whose puts ask for an answer. What was wanted tells the units and the texts of numbers."""
+        self.channels, self.powers, self.asking = channels, wanted.powers, asking
+        # Of each channel of texts: the text of a number. Where several have one number, the first of them.
+        self.texts = {name: {number: text for text, number in reversed(it.items())} for name, it in wanted.texts.items()}
         self.handler = ctypes.CFUNCTYPE(None, dbr.event_handler_args)(self.on_answer)
         # How many answers are still to come, of each channel; and the channels that were ever put.
         self.waiting, self.lock, self.used = Counter(), threading.Lock(), {}
@@ -33,16 +37,27 @@ class Puts:
             self.tell(name, "it is not connected")
         else:
             count = min(len(numbers), ca.libca.ca_element_count(chid))
-            kind, values = self.as_sent(name, chid, numbers[:count])
+            kind, data = self.as_sent(name, chid, numbers[:count])
             if kind is None:
-                self.failed(name, f"{values} is beyond 32 bits")
+                self.failed(name, data)
                 return
             self.used[name] = chid
-            self.send(name, chid, kind, (count * dbr.Map[kind])(*values))
-            ca.flush_io()
+            self.send(name, chid, kind, data)
 
     def as_sent(self, name, chid, numbers):
-        """The type and the values that are sent; the server makes of them what the channel is. No type where nothing fits."""
+        """The type and the values that are sent, or nothing and why not."""
+        if ca.libca.ca_field_type(chid) == dbr.STRING:
+            texts = [self.texts.get(name, {}).get(it) for it in numbers]
+            if None in texts:
+                return None, f"no text of --enum has the number {numbers[texts.index(None)]}"
+            return dbr.STRING, (len(texts) * Text).from_buffer_copy(b"".join(os.fsencode(it).ljust(40, b"\0") for it in texts))
+        kind, values = self.as_numbers(name, chid, numbers)
+        if kind is None:
+            return None, f"{values} is beyond 32 bits"
+        return kind, (len(values) * dbr.Map[kind])(*values)
+
+    def as_numbers(self, name, chid, numbers):
+        """The type and the numbers that are sent; the server makes of them what the channel is. No type where nothing fits."""
         power = self.powers.get(name, 0)
         if power or ca.libca.ca_field_type(chid) in (dbr.FLOAT, dbr.DOUBLE):
             return dbr.DOUBLE, [unscaled(it, power) for it in numbers]
@@ -69,7 +84,7 @@ class Puts:
         if it.status != NORMAL:
             self.tell(name, ca.message(it.status))
         if self.count_answer(it.chid) and it.status != DISCONNECTED:
-            self.channels.events.put(Event("done", name))
+            self.channels.happened("done", name)
 
     def count_answer(self, chid):
         """Counts an answer, and tells whether it was the last one that the channel waited for."""
@@ -81,11 +96,15 @@ class Puts:
         """A put of a connected channel that no server will answer: nobody has to wait for it."""
         self.tell(name, cause)
         if name in self.asking and not self.waiting[self.channels.chids[name].value]:
-            self.channels.events.put(Event("done", name))
+            self.channels.happened("done", name)
 
     def tell(self, name, cause):
         """Tells that a put was not done."""
-        self.channels.events.put(Event("#", f"put not done: {name}: {cause}"))
+        self.channels.happened("#", f"put not done: {name}: {cause}")
+
+    def flush(self):
+        """Sends what was put so far."""
+        ca.flush_io()
 
     def settle(self):
         """Waits until servers have read all puts and refused what they refuse: they answer in order. At most two seconds."""

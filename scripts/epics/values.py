@@ -21,6 +21,8 @@ def shortest(value, kind):
 
 def whole(value, kind, power):
     """The whole number next to a value times 10^power, halves away from 0. None where there is none, or none of 64 bits."""
+    if not power and kind not in FRACTIONS:
+        return int(value)  # of 32 bits at most
     number = shortest(value, kind) if kind in FRACTIONS else Decimal(int(value))
     if not number.is_finite() or number.adjusted() + power >= DIGITS_OF_64_BITS:
         return None

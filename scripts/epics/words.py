@@ -1,14 +1,32 @@
 """What the words of a call ask for: the channels, by their names or by what `snc --tables` writes, and how each is read."""
 import argparse
+import os
 import re
 import sys
 from dataclasses import dataclass, field
+from pathlib import Path
 
-LINK = re.compile(r'channel (\S+) \d+ (\d+) "(.*)" \S+ \S+ \d+')
+LINK = re.compile(r'channel (\S+) (\d+) (\d+) "(.*)" (\S+) (\S+) \d+')
 MACRO = re.compile(r"\{([^{}]*)\}")
 # Names that a line of a trace can have.
 SAYABLE = re.compile(r"[!-~]+")
+# The bytes of a text of Channel Access, and the ms of a day.
+TEXT, DAY = 39, 86_400_000
 COMMENT = re.compile(r'"(?:[^"\\\n]|\\.)*"|/\*.*?\*/|//[^\n]*', re.DOTALL)
+
+
+@dataclass
+class Link:
+    """A variable of the program and its channel."""
+
+    variable: str
+    first: int
+    name: str
+    # Whether values come in by themselves, and whether they set an event flag.
+    is_monitored: bool
+    is_synced: bool
+    # The variable as a message shows it: with the number of the element, where its elements have channels of their own.
+    shown: str = ""
 
 
 @dataclass
@@ -21,22 +39,15 @@ class Wanted:
     powers: dict = field(default_factory=dict)
     # Of a channel of texts the number of each text.
     texts: dict = field(default_factory=dict)
-    # The name of the program, and for each of its variables the channels.
+    # The name of the program, and the links of its variables that have a channel.
     program: str = ""
-    variables: dict = field(default_factory=dict)
+    links: list = field(default_factory=list)
+    # The channels whose values nobody reads: they are only put to.
+    unread: set = field(default_factory=set)
 
-
-def teller(script):
-    """What tells a text on standard error, in the name of a script. Where nobody reads that, nothing happens."""
-
-    def say(text):
-        """Tells a text."""
-        try:
-            print(f"{script}: {text}", file=sys.stderr, flush=True)
-        except OSError:
-            pass
-
-    return say
+    def channels_of(self, variables):
+        """The channels of some variables."""
+        return {it.name for it in self.links if it.variable in variables}
 
 
 def parser_of(text, is_needed=False):
@@ -51,12 +62,25 @@ def parser_of(text, is_needed=False):
     return parser
 
 
-def seconds(text):
-    """A number of seconds above 0."""
-    found = float(text)
-    if not found > 0:
-        raise ValueError(text)
+def number(text, most):
+    """A number above 0, and not above the most."""
+    try:
+        found = float(text)
+    except ValueError:
+        found = 0
+    if not 0 < found <= most:
+        raise argparse.ArgumentTypeError(f"{text} is no number above 0" + (f" and up to {most:,}" if most < float("inf") else ""))
     return found
+
+
+def seconds(text):
+    """A number of seconds."""
+    return number(text, float("inf"))
+
+
+def milliseconds(text):
+    """A number of milliseconds, up to a day."""
+    return number(text, DAY)
 
 
 def wanted(parser, given, names=()):
@@ -96,14 +120,17 @@ def add_tables(found, path, macros):
         raise ValueError(f"--tables: {path} has not what `snc --tables` writes")
     found.program = lines[0].split()[1]
     for link in filter(None, map(LINK.fullmatch, lines)):
-        variable, count, spelled = link.groups()
+        variable, first, count, spelled, monitor, flag = link.groups()
         for macro in MACRO.findall(spelled):
             if macro not in macros:
                 raise ValueError(f"what stands for {{{macro}}} in {spelled}? Give it by --macros {macro}=..")
         name = MACRO.sub(lambda it: macros[it[1]], spelled)
         if name:
             add_channel(found, name, int(count))
-            found.variables.setdefault(variable, set()).add(name)
+            found.links.append(Link(variable, int(first), name, monitor != "-", flag != "-"))
+    for link in found.links:
+        is_one = sum(it.variable == link.variable for it in found.links) == 1
+        link.shown = link.variable if is_one else f"{link.variable}[{link.first}]"
 
 
 def add_channel(found, name, count):
@@ -138,22 +165,45 @@ def texts_of(found, word):
         text, sign, number = piece.rpartition(":")
         if not sign or not re.fullmatch(r"-?\d{1,18}", number):
             raise ValueError(f"--enum {word}: {piece} is not TEXT:N")
-        numbers[text] = int(number)
+        if len(os.fsencode(text)) > TEXT:
+            raise ValueError(f"--enum {word}: {text} has more than {TEXT} bytes, and no channel has such a text")
+        if numbers.setdefault(text, int(number)) != int(number):
+            raise ValueError(f"--enum {word}: {text} has two numbers")
     return name, numbers
 
 
-def asking(found, paths):
-    """The channels that the program puts with `ASYNC`, which asks for an answer. All where none of the files is its source.
+def source_of(found, paths):
+    """The name and the bytes of that file which is the program's source; nothing where none is."""
+    for path in paths:
+        try:
+            data = Path(path).read_bytes() if Path(path).is_file() else b""
+        except OSError:
+            continue
+        if re.search(rf"\bprogram\s+{re.escape(found.program)}\b", code_of(data)):
+            return path, data
+    return None
+
+
+def code_of(data):
+    """The text of a source without its comments and texts in quotes."""
+    return COMMENT.sub(" ", data.decode(errors="replace"))
+
+
+def asking(found, source):
+    """The channels that the program puts with `ASYNC`, which asks for an answer. All where the source is not there.
 
     A variable counts that stands behind `pvPut(` with `, ASYNC)` later in the same expression: too many here do no harm.
     """
-    for path in paths:
-        try:
-            with open(path, encoding="utf-8", errors="replace") as file:
-                source = COMMENT.sub(" ", file.read())
-        except OSError:
-            continue
-        if re.search(rf"\bprogram\s+{re.escape(found.program)}\b", source):
-            variables = re.findall(r"\bpvPut\s*\(\s*(\w+)\b(?=[^;]*?,\s*ASYNC\s*\))", source)
-            return set().union(*(found.variables.get(it, ()) for it in variables))
-    return set(found.channels)
+    if not source:
+        return set(found.channels)
+    return found.channels_of(re.findall(r"\bpvPut\s*\(\s*(\w+)\b(?=[^;]*?,\s*ASYNC\s*\))", code_of(source[1])))
+
+
+def unread(found, source):
+    """The channels of which the program takes no value: not by `monitor`, by `sync` or by `pvGet`. None where the source is not
+    there."""
+    if not source:
+        return set()
+    got = re.findall(r"\bpvGetQ?\s*\(\s*(\w+)\b", code_of(source[1]))
+    read = {it.name for it in found.links if it.is_monitored or it.is_synced or it.variable in got}
+    return set(found.channels) - read

@@ -3,6 +3,7 @@
     up NAME TYPE [COUNT]    the channel connects; val NAME [1, 2] gives values, once somebody asked for them
     down NAME               it is gone
     refuse NAME             its puts fail from now on; hold NAME keeps their answers back, until a line `answer`
+    note TEXT               goes to the file of the puts
     put NAME                waits until one more put of it came
 
 Each put goes as a line to the file of EPICS_PUTS: its name, `asks` or `plain`, the type, the values.

@@ -1,4 +1,5 @@
 """The names of `epics.ca` that the scripts use, over the play."""
+import ctypes
 import json
 import os
 import threading
@@ -7,6 +8,8 @@ from collections import Counter
 from . import dbr
 
 TYPES = ["string", "short", "float", "enum", "char", "long", "double"]
+# How the library hands values on, of each type.
+CODES = ctypes.c_char * 40, ctypes.c_int16, ctypes.c_float, ctypes.c_uint16, ctypes.c_uint8, ctypes.c_int32, ctypes.c_double
 NORMAL, PUT_FAIL, PUT = 1, 160, 1
 MESSAGES = {PUT_FAIL: "Channel write request failed"}
 
@@ -81,6 +84,25 @@ class Library:
         self.count(channel)
         return NORMAL
 
+    def ca_create_subscription(self, kind, _count, chid, _mask, handler, _user, _number):
+        """Somebody wants the values of a channel."""
+
+        def on_value(values):
+            """Hands values on as the bytes that they are."""
+            values = [it.encode() for it in values] if kind == 0 else values
+            data = (len(values) * CODES[kind])()
+            for at, it in enumerate(values):
+                if kind == 0:
+                    data[at].value = it
+                else:
+                    data[at] = it
+            handler(handler.argtypes[0](None, chid.value, kind, len(values), ctypes.addressof(data), NORMAL))
+
+        with self.condition:
+            self.channels[chid.value].on_value = on_value
+            self.condition.notify_all()
+        return NORMAL
+
     def count(self, channel):
         """Lets the play see that a put came."""
         with self.condition:
@@ -99,6 +121,9 @@ class Library:
                 taken[name] += 1
                 with self.condition:
                     self.condition.wait_for(lambda name=name: self.puts[name] >= taken[name])
+            elif word == "note":
+                with open(os.environ["EPICS_PUTS"], "a") as file:
+                    print(name, file=file)
             elif word == "answer":
                 while self.held:
                     self.held.pop(0)()
@@ -110,7 +135,8 @@ class Library:
         if word == "val":
             with self.condition:
                 self.condition.wait_for(lambda: channel.on_value)
-            channel.on_value(value=json.loads(rest), pvname=channel.name)
+            value = json.loads(rest)
+            channel.on_value(value if isinstance(value, list) else [value])
         elif word in ("up", "down"):
             channel.is_up = word == "up"
             if channel.is_up:
@@ -128,7 +154,7 @@ class Library:
 def note(how, channel, kind, data):
     """Writes a put down."""
     with open(os.environ["EPICS_PUTS"], "a") as file:
-        print(channel.name, how, TYPES[kind], *data, file=file)
+        print(channel.name, how, TYPES[kind], *(it.value.decode() if kind == 0 else it for it in data), file=file)
 
 
 libca = Library()
@@ -157,13 +183,6 @@ def create_channel(name, callback):
     chid = len(libca.channels) + 1
     libca.channels[chid] = Channel(name, chid, callback)
     return dbr.chid_t(chid)
-
-
-def create_subscription(chid, ftype, callback):
-    """Somebody wants the values of a channel."""
-    with libca.condition:
-        libca.channels[chid.value].on_value = callback
-        libca.condition.notify_all()
 
 
 def flush_io():

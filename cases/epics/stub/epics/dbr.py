@@ -2,7 +2,7 @@
 import ctypes
 
 CS_CONN = 2
-FLOAT, LONG, DOUBLE = 2, 5, 6
+STRING, FLOAT, LONG, DOUBLE = 0, 2, 5, 6
 Map = {LONG: ctypes.c_int32, DOUBLE: ctypes.c_double}
 chid_t = ctypes.c_long
 
