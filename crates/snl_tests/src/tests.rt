@@ -3,8 +3,8 @@
 mod beginnings;
 mod calls;
 mod footprints;
+mod functions;
 mod hearing;
-mod loading;
 mod programs;
 mod snapshots;
 mod tables;

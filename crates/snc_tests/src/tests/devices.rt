@@ -1,42 +1,48 @@
-//! Devices that give and take few bytes a call, or are full, and devices that fail: at every call up to the end of a run a source
-//! or a sink fails, or a sink takes nothing.
+//! Devices that fail: at every call up to the end of a run, a source or a sink fails, or a sink takes nothing.
 
-ghost use Rattle.std.specs.Prelude.{◌<◌, ◌≡◌};
+ghost use Rattle.std.specs.Prelude.{◌<◌};
 
-use crate::tests::runs::{RUNS, Run};
-use snc::{DEFAULT_BUDGET, Job, Options, Status, session};
+use crate::tests::job;
+use snc::{DEFAULT_BUDGET, Status, session};
 use snl_tests::PROGRAM;
-use snl_trace::{End, Feed, Sheet, TraceFault};
+use snl_trace::{End, Feed, Sheet};
 use std::alloc::{AllocError, Global};
 use std::process::Abort;
 use std::test::Fail;
 
-/// A program over a trace, by devices that give and take at most so many bytes a call.
+/// A program, the lines of its trace with what it writes at each, and how the run ends. These runs all end well.
 #[derive(Clone, Copy)]
-struct Trial<'t> {
-    program: &'t [u8],
-    budget: u32,
-    trace: &'t [u8],
-    most: usize,
+struct Run {
+    program: &'static [u8],
+    /// The lines up to the end of the run.
+    lines: &'static [(&'static [u8], &'static [u8])],
+    /// What stands behind them in the trace.
+    unread: &'static [u8],
+    end: End,
 }
 
 /// The call of a device that fails, from 1; 0 for none.
-#[derive(Clone, Copy)]
+#[derive(Clone, Copy, Debug)]
 struct Failing {
     source: u64,
     sink: u64,
     /// Whether the call of the sink takes nothing in the place of failing.
     takes_none: bool,
-    /// For how many bytes the sink has room.
-    room: usize,
 }
 
 const NONE: Failing = Failing {
     source: 0,
     sink: 0,
     takes_none: false,
-    room: 1_000,
 };
+
+/// A program over a trace, by devices that give and take at most so many bytes a call.
+#[derive(Clone, Copy)]
+struct Trial<'t> {
+    program: &'t [u8],
+    trace: &'t [u8],
+    most: usize,
+}
 
 /// What has to come of a trial.
 #[derive(Clone, Copy)]
@@ -46,80 +52,165 @@ struct Outcome<'t> {
     status: Status,
 }
 
-/// What comes where a device fails.
-fn broken(text: &[u8], end: End) -> Outcome<'_> {
-    Outcome {
-        text,
-        end,
-        status: Status::InputOutput,
-    }
-}
+/// Puts, and goes to a state.
+const FIRST: Run = Run {
+    program: PROGRAM,
+    lines: &[
+        (b"0 up a\n", b""),
+        (b"0 up b\n", b""),
+        (b"0 val a 1\n", b"0 start p\n"),
+        (b"5 val a 7\n", b"5 put b 14\n5 go s lo hi\n"),
+    ],
+    unread: b"",
+    end: End::TraceEnded,
+};
+
+/// Prints what it takes from a queue, once a second. The queue is full when 3 comes, which takes the place of 2.
+const QUEUED: Run = Run {
+    program: b"program u
+option +s;
+int x; assign x to \"a\"; monitor x;
+evflag f; syncQ x to f 2;
+ss s { state w {
+when (delay(1.0) && pvGetQ(x)) { printf(\"%d %d\", x, efTest(f)); } state w
+} }
+",
+    lines: &[
+        (b"0 up a\n", b""),
+        (b"10 val a 1\n", b"10 start u\n"),
+        (b"20 val a 2\n", b""),
+        (b"30 val a 3\n", b""),
+        (
+            b"3000 tick\n",
+            b"1010 print s 1 1\n1010 go s w w\n2010 print s 3 0\n2010 go s w w\n",
+        ),
+    ],
+    unread: b"",
+    end: End::TraceEnded,
+};
+
+/// Ends in a wake, and so before the bad line.
+const EXITS: Run = Run {
+    program: b"program z
+option +s;
+int y = 3; assign y to \"b\";
+ss one { state a { when (delay(0.2)) {} exit } }
+ss two { state w { when (delay(0.2)) {} state w } }
+exit { pvPut(y); }
+",
+    lines: &[
+        (b"0 up b\n", b"0 start z\n"),
+        (
+            b"900 tick\n",
+            b"200 go one a exit\n200 put b 3\n200 exit z\n",
+        ),
+    ],
+    unread: b"bad line\n",
+    end: End::ProgramEnded,
+};
+
+/// Gets, puts and takes elements. A put of an element without a channel is worth -1.
+const ELEMENTS: Run = Run {
+    program: b"program a
+option +s;
+int b[3]; assign b to {\"p\", \"q\"}; monitor b[0];
+short v[2]; assign v to \"v\"; monitor v; evflag f; syncQ v to f 2;
+ss s { state w { when (b[0] == 9) {
+ printf(\"%d %d %d\", pvGet(b[1]), b[1], pvPut(b[2]));
+ while (pvGetQ(v)) printf(\"%d %d\", v[0], v[1]);
+ printf(\"%d %d\", efTest(f), pvGetQ(v));
+} exit } }
+",
+    lines: &[
+        (b"0 up p\n", b""),
+        (b"0 up q\n", b""),
+        (b"0 up v\n", b""),
+        (b"0 val v 1 2 3\n", b""),
+        (b"1 val v 4\n", b""),
+        (b"2 val v 5 6\n", b""),
+        (b"3 val q 8\n", b""),
+        (
+            b"4 val p 9\n",
+            b"4 start a\n4 print s 0 8 -1\n4 print s 1 2\n4 print s 5 6\n4 print s 0 0\n4 go s w exit\n4 exit a\n",
+        ),
+    ],
+    unread: b"",
+    end: End::ProgramEnded,
+};
+
+const RUNS: [Run; 4] = [FIRST, QUEUED, EXITS, ELEMENTS];
+
+/// How many bytes a device gives or takes in a call at most.
+const MOST: [usize; 2] = [1, 7];
 
 impl Run {
-    fn trial(&self, most: usize) -> Trial<'_>
-        ensures { result.most ≡ most }
+    fn trace(&self, alloc: Global) -> Result<Vec<u8>, AllocError> {
+        let mut trace = Vec::new(alloc);
+        for (line, _) in self.lines {
+            trace.extend_from_slice(line)?;
+        }
+        trace.extend_from_slice(self.unread)?;
+        Ok(trace)
+    }
+
+    /// What is written at so many lines from the first on, or at all.
+    fn told(&self, alloc: Global, count: usize) -> Result<Vec<u8>, AllocError> {
+        let mut told = Vec::new(alloc);
+        for (_, text) in self.lines.iter().take(count) {
+            told.extend_from_slice(text)?;
+        }
+        Ok(told)
+    }
+
+    /// How many calls of the source come: those that give the lines of the run, and one more that tells the end where the
+    /// trace ends first.
+    fn calls(&self, trial: &Trial) -> usize
+        requires { 0 < trial.now.most }
     {
-        Trial {
-            program: self.program,
-            budget: self.budget,
-            trace: self.trace,
-            most,
-        }
-    }
-
-    /// What comes where no device fails.
-    fn whole(&self) -> Outcome<'_> {
-        Outcome {
-            text: self.text,
-            end: self.end,
-            status: self.status,
-        }
-    }
-
-    /// What comes where a sink has room for so many bytes.
-    fn in_room(&self, room: usize) -> Outcome<'_> {
-        if room < self.text.len() {
-            broken(front(self.text, room), End::SinkFailed)
+        let read = trial.trace.len().saturating_sub(self.unread.len());
+        let calls = read.div_ceil(trial.most);
+        if self.end == End::TraceEnded {
+            calls.saturating_add(1)
         } else {
-            self.whole()
+            calls
         }
-    }
-
-    /// What is written where so many bytes of the trace came: what the lines bring that came whole.
-    fn told_behind(&self, came: usize) -> &[u8] {
-        let mut lines = 0usize;
-        for count in self.told.iter().take(whole_lines(front(self.trace, came))) {
-            lines = lines.saturating_add(*count);
-        }
-        front(self.text, bytes_of_lines(self.text, lines))
-    }
-
-    /// How many calls of the source come: those that give what is read, and one more where that tells the end.
-    fn calls(&self, most: usize) -> usize
-        requires { 0 < most }
-    {
-        let calls = self.trace.len().saturating_sub(self.unread).div_ceil(most);
-        calls.saturating_add(usize::from(self.sees_end))
     }
 }
 
-/// How many lines of a text have their newline.
-fn whole_lines(text: &[u8]) -> usize {
-    text.iter().filter(|byte| **byte == b'\n').count()
+/// Where one of the devices fails as stated, the trial comes out as wanted.
+fn comes_out(
+    rt: &impl Abort,
+    alloc: Global,
+    trial: &Trial,
+    failing: Failing,
+    wanted: Outcome,
+) -> Result<(), AllocError>
+    requires { 0 < trial.now.most }
+{
+    let job = job(alloc, DEFAULT_BUDGET)?;
+    let mut feed = Feed::new(trial.trace, trial.most);
+    feed.fail(failing.source);
+    let mut sheet = Sheet::new(alloc, 1_000, trial.most)?;
+    sheet.refuse(failing.sink, failing.takes_none);
+    let (_messages, end, status) = session(alloc, trial.program, &job, &mut feed, &mut sheet)?;
+    assert_eq!(rt; sheet.text(), wanted.text, "{failing:?}");
+    assert_eq!(rt; end, Some(wanted.end), "{failing:?}");
+    assert_eq!(rt; status, wanted.status, "{failing:?}");
+    Ok(())
 }
 
-/// How many bytes the first lines of a text have, so many or all.
-fn bytes_of_lines(text: &[u8], count: usize) -> usize {
-    let mut left = count;
+/// Where each call of a sink ends in a text. Each line is handed to it alone, and a call takes at most so many bytes.
+fn ends_of_calls(alloc: Global, text: &[u8], most: usize) -> Result<Vec<usize>, AllocError> {
+    let mut ends = Vec::new(alloc);
+    let mut in_call = 0usize;
     for (at, byte) in text.iter().enumerate() {
-        if left == 0 {
-            return at;
-        }
-        if *byte == b'\n' {
-            left = left.saturating_sub(1);
+        in_call = in_call.saturating_add(1);
+        if *byte == b'\n' || in_call == most {
+            ends.push(at.saturating_add(1))?;
+            in_call = 0;
         }
     }
-    text.len()
+    Ok(ends)
 }
 
 /// The first bytes of a text, so many or all.
@@ -127,56 +218,15 @@ fn front(text: &[u8], count: usize) -> &[u8] {
     &text[..count.min(text.len())]
 }
 
-/// Where the call of a sink ends that begins behind so many bytes. Each line is handed to it alone, and a call takes at most so
-/// many bytes.
-fn end_of_call(text: &[u8], taken: usize, most: usize) -> usize {
-    let left = &text[taken.min(text.len())..];
-    taken.saturating_add(bytes_of_lines(left, 1).min(most))
-}
-
-/// A trial over failing devices comes out as wanted.
-fn comes_out(
-    rt: &impl Abort,
-    alloc: Global,
-    trial: Trial,
-    failing: Failing,
-    wanted: Outcome,
-) -> Result<(), AllocError>
-    requires { 0 < trial.entry.most }
-{
-    let job = Job {
-        file: String::from_str(alloc, "p.st")?,
-        options: Options::none(),
-        tables: false,
-        budget: trial.budget,
-        macros: None,
-    };
-    let mut feed = Feed::new(trial.trace, trial.most);
-    feed.fail(failing.source);
-    let mut sheet = Sheet::new(alloc, failing.room, trial.most)?;
-    sheet.refuse(failing.sink, failing.takes_none);
-    let (_messages, end, status) = session(alloc, trial.program, &job, &mut feed, &mut sheet)?;
-    let is_wanted = sheet.text() == wanted.text
-        && end == Some(wanted.end)
-        && status == wanted.status;
-    let (source, sink) = (failing.source, failing.sink);
-    assert!(rt;
-        is_wanted,
-        "{:?}: the source at {source}, the sink at {sink}",
-        trial.trace
-    );
-    Ok(())
-}
-
 /// What a sink has that fails at a call is what it took in the calls before.
 fn sink_fails_at(
     rt: &impl Abort,
     alloc: Global,
-    trial: Trial,
+    trial: &Trial,
     call: u64,
     taken: &[u8],
 ) -> Result<(), AllocError>
-    requires { 0 < trial.entry.most }
+    requires { 0 < trial.now.most }
 {
     for takes_none in [false, true] {
         let failing = Failing {
@@ -184,118 +234,123 @@ fn sink_fails_at(
             takes_none,
             ..NONE
         };
-        comes_out(rt, alloc, trial, failing, broken(taken, End::SinkFailed))?;
+        let wanted = Outcome {
+            text: taken,
+            end: End::SinkFailed,
+            status: Status::InputOutput,
+        };
+        comes_out(rt, alloc, trial, failing, wanted)?;
     }
     Ok(())
 }
 
 /// Every call of the sink fails once. A failure of the call behind the last one is not seen.
-fn sink_fails(rt: &impl Abort, alloc: Global, run: &Run, most: usize) -> Result<(), AllocError>
-    requires { 0 < most }
+fn sink_fails(
+    rt: &impl Abort,
+    alloc: Global,
+    trial: &Trial,
+    whole: Outcome,
+) -> Result<(), AllocError>
+    requires { 0 < trial.now.most }
 {
+    let ends = ends_of_calls(alloc, whole.text, trial.most)?;
     let mut call = 1u64;
     let mut taken = 0usize;
-    for _byte in run.text {
-        if taken < run.text.len() {
-            sink_fails_at(rt, alloc, run.trial(most), call, front(run.text, taken))?;
-            call = call.saturating_add(1);
-            taken = end_of_call(run.text, taken, most);
-        }
+    for end in &ends {
+        sink_fails_at(rt, alloc, trial, call, front(whole.text, taken))?;
+        call = call.saturating_add(1);
+        taken = *end;
     }
     let failing = Failing { sink: call, ..NONE };
-    comes_out(rt, alloc, run.trial(most), failing, run.whole())
+    comes_out(rt, alloc, trial, failing, whole)
 }
 
-/// Every call of the source fails once, and gives the lines that came whole before; the run is broken off behind them. A failure
-/// of the call behind the last one is not seen.
-fn source_fails(rt: &impl Abort, alloc: Global, run: &Run, most: usize) -> Result<(), AllocError>
-    requires { 0 < most }
+/// How many lines of a text have their newline.
+fn whole_lines(text: &[u8]) -> usize {
+    text.iter().filter(|byte| **byte == b'\n').count()
+}
+
+/// A source that fails at a call gives the lines that came whole before, and the run is broken off behind them.
+fn source_fails_at(
+    rt: &impl Abort,
+    alloc: Global,
+    run: &Run,
+    trial: &Trial,
+    call: usize,
+) -> Result<(), AllocError>
+    requires { 0 < trial.now.most }
 {
-    let calls = run.calls(most);
-    for call in 0usize..calls {
-        let failing = Failing {
-            source: (call as u64).saturating_add(1),
-            ..NONE
-        };
-        let wanted = broken(
-            run.told_behind(call.saturating_mul(most)),
-            End::SourceFailed,
-        );
-        comes_out(rt, alloc, run.trial(most), failing, wanted)?;
+    let came = front(
+        trial.trace,
+        call.saturating_sub(1).saturating_mul(trial.most),
+    );
+    let told = run.told(alloc, whole_lines(came))?;
+    let failing = Failing {
+        source: call as u64,
+        ..NONE
+    };
+    let wanted = Outcome {
+        text: told.as_slice(),
+        end: End::SourceFailed,
+        status: Status::InputOutput,
+    };
+    comes_out(rt, alloc, trial, failing, wanted)
+}
+
+/// Every call of the source fails once. A failure of the call behind the last one is not seen.
+fn source_fails(
+    rt: &impl Abort,
+    alloc: Global,
+    run: &Run,
+    trial: &Trial,
+    whole: Outcome,
+) -> Result<(), AllocError>
+    requires { 0 < trial.now.most }
+{
+    let calls = run.calls(trial);
+    for call in 1usize..=calls {
+        source_fails_at(rt, alloc, run, trial, call)?;
     }
     let failing = Failing {
         source: (calls as u64).saturating_add(1),
         ..NONE
     };
-    comes_out(rt, alloc, run.trial(most), failing, run.whole())
+    comes_out(rt, alloc, trial, failing, whole)
 }
 
-/// The devices give and take so many bytes a call at most, and then the sink takes so many in all, too.
-fn comes_out_in_any_pieces(rt: &impl Abort, alloc: Global, run: &Run) -> Result<(), AllocError> {
-    for most in 1usize..=40 {
-        assert!(rt; 0 < most);
-        comes_out(rt, alloc, run.trial(most), NONE, run.whole())?;
-        let failing = Failing { room: most, ..NONE };
-        comes_out(rt, alloc, run.trial(most), failing, run.in_room(most))?;
-    }
-    Ok(())
-}
-
-fn fails_everywhere(rt: &impl Abort, alloc: Global, run: &Run) -> Result<(), AllocError> {
-    for most in run.failing {
-        assert!(rt; 0 < *most);
-        sink_fails(rt, alloc, run, *most)?;
-        source_fails(rt, alloc, run, *most)?;
-    }
-    Ok(())
-}
-
-#[test]
-fn runs_in_any_pieces(rt: HostRuntime) -> Result<(), Fail> {
-    for run in &RUNS {
-        comes_out_in_any_pieces(&rt, rt.alloc(), run)?;
-    }
-    Ok(())
+/// A run comes out as it has to where no device fails, and where each call of either one does.
+fn fails_everywhere(
+    rt: &impl Abort,
+    alloc: Global,
+    run: &Run,
+    most: usize,
+) -> Result<(), AllocError>
+    requires { 0 < most }
+{
+    let trace = run.trace(alloc)?;
+    let told = run.told(alloc, run.lines.len())?;
+    let trial = Trial {
+        program: run.program,
+        trace: trace.as_slice(),
+        most,
+    };
+    let whole = Outcome {
+        text: told.as_slice(),
+        end: run.end,
+        status: Status::Well,
+    };
+    comes_out(rt, alloc, &trial, NONE, whole)?;
+    sink_fails(rt, alloc, &trial, whole)?;
+    source_fails(rt, alloc, run, &trial, whole)
 }
 
 #[test]
 fn devices_that_fail_at_every_call(rt: HostRuntime) -> Result<(), Fail> {
     for run in &RUNS {
-        fails_everywhere(&rt, rt.alloc(), run)?;
-    }
-    Ok(())
-}
-
-/// Beginnings of a line that are not gone on with, and how the run ends there.
-const BEGUN: [(usize, End, Status); 2] = [
-    (32_768, End::SourceFailed, Status::InputOutput),
-    (
-        32_769,
-        End::TraceFault(1, TraceFault::LineTooLong),
-        Status::TraceFault,
-    ),
-];
-
-/// A line of 32,769 bytes is too long before it ends, whatever comes behind it; of a shorter one nothing is known.
-#[test]
-fn lines_that_a_broken_trace_begins(rt: HostRuntime) -> Result<(), Fail> {
-    let begun = vec![in rt.alloc(); b'#'; 32_769]?;
-    let failing = Failing { source: 2, ..NONE };
-    for (count, end, status) in BEGUN {
-        let trial = Trial {
-            program: PROGRAM,
-            budget: DEFAULT_BUDGET,
-            trace: front(begun.as_slice(), count),
-            most: 32_769,
-        };
-        let text = b"".as_slice();
-        comes_out(
-            &rt,
-            rt.alloc(),
-            trial,
-            failing,
-            Outcome { text, end, status },
-        )?;
+        for most in MOST {
+            assert!(rt; 0 < most);
+            fails_everywhere(&rt, rt.alloc(), run, most)?;
+        }
     }
     Ok(())
 }

@@ -1,18 +1,12 @@
 //! How many words a machine holds, before its first event and after each other.
 
 use crate::PROGRAM;
-use crate::tests::loading::loaded;
+use crate::tests::calls::loaded;
 use snl_machine::Machine;
 use snl_trace::{Feed, Sheet, run};
 use std::alloc::{AllocError, Global};
+use std::process::Abort;
 use std::test::Fail;
-
-/// A program, the lines of a trace, and how many words its machine holds before them and after each of them.
-struct Held {
-    program: &'static [u8],
-    lines: &'static [&'static [u8]],
-    words: u64,
-}
 
 /// A copy of one variable, a buffer, a queue of two items, a mark, whether the link waits, a state and its entry, a flag, a channel:
 /// 1, 1, 2, 1, 1, 2, 1, 2. With five single words, and two operands at once for `printf`, it is 18.
@@ -41,55 +35,23 @@ state z { when (FALSE) {} state z }
 }
 ";
 
-/// A copy of one variable, a parameter of the one function, two parameters and a variable of the other, a return place for each, a
-/// buffer, a mark, whether the link waits, a state and its entry, a channel: 1, 4, 2, 1, 1, 1, 2, 2. With five single words, and two
-/// operands at once, it is 21.
-const CALLS: &[u8] = b"program f
-option +s;
-int x; assign x to \"a\"; monitor x;
-int twice(int n) { return n * 2; }
-int add(int n, int m) {
-  int i;
-  for (i = 0; i < m; i++) n = n + 1;
-  return n;
-}
-ss s { state w { when (twice(x) > 5) { printf(\"%d\", add(x, 2)); } exit } }
-";
-
-const HELD: [Held; 4] = [
-    Held {
-        program: PROGRAM,
-        lines: &[
-            b"0 up a",
-            b"0 up b",
-            b"0 val a 1",
-            b"5 val a 7",
-            b"6 done b",
-        ],
-        words: 21,
-    },
-    Held {
-        program: QUEUED,
-        lines: &[
-            b"0 up a",
-            b"10 val a 1",
-            b"20 val a 2",
-            b"30 val a 3",
-            b"3000 tick",
-        ],
-        words: 18,
-    },
-    Held {
-        program: TWO_SETS,
-        lines: &[b"0 tick", b"3000 tick"],
-        words: 17,
-    },
-    Held {
-        program: CALLS,
-        lines: &[b"0 up a", b"0 val a 3"],
-        words: 21,
-    },
+const PROGRAM_LINES: [&[u8]; 5] = [
+    b"0 up a",
+    b"0 up b",
+    b"0 val a 1",
+    b"5 val a 7",
+    b"6 done b",
 ];
+
+const QUEUED_LINES: [&[u8]; 5] = [
+    b"0 up a",
+    b"10 val a 1",
+    b"20 val a 2",
+    b"30 val a 3",
+    b"3000 tick",
+];
+
+const TWO_SETS_LINES: [&[u8]; 2] = [b"0 tick", b"3000 tick"];
 
 /// What a machine holds after a line of a trace.
 fn after(alloc: Global, machine: &mut Machine, line: &[u8]) -> Result<u64, AllocError> {
@@ -99,24 +61,25 @@ fn after(alloc: Global, machine: &mut Machine, line: &[u8]) -> Result<u64, Alloc
     Ok(machine.footprint())
 }
 
-/// Whether a machine holds what it has to, before the lines and after each of them.
-fn holds(alloc: Global, machine: &mut Machine, held: &Held) -> Result<bool, AllocError> {
-    let mut does = machine.footprint() == held.words;
-    for line in held.lines {
-        does = after(alloc, machine, line)? == held.words && does;
+/// The machine of a program holds so many words before a trace and after each of its lines.
+pub fn holds(
+    rt: &impl Abort,
+    alloc: Global,
+    program: &[u8],
+    lines: &[&[u8]],
+    words: u64,
+) -> Result<(), Fail> {
+    let mut machine = loaded(alloc, program)?;
+    assert_eq!(rt; machine.footprint(), words);
+    for line in lines {
+        assert_eq!(rt; after(alloc, &mut machine, line)?, words);
     }
-    Ok(does)
-}
-
-fn machine_holds(alloc: Global, held: &Held) -> Result<bool, Fail> {
-    let mut machine = loaded(alloc, held.program)?;
-    Ok(holds(alloc, &mut machine, held)?)
+    Ok(())
 }
 
 #[test]
 fn footprints_of_machines(rt: HostRuntime) -> Result<(), Fail> {
-    for held in &HELD {
-        assert!(rt; machine_holds(rt.alloc(), held)?, "{}", held.words);
-    }
-    Ok(())
+    holds(&rt, rt.alloc(), PROGRAM, PROGRAM_LINES.as_slice(), 21)?;
+    holds(&rt, rt.alloc(), QUEUED, QUEUED_LINES.as_slice(), 18)?;
+    holds(&rt, rt.alloc(), TWO_SETS, TWO_SETS_LINES.as_slice(), 17)
 }

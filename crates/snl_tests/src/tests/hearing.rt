@@ -1,10 +1,10 @@
-//! What a sink hears beside the lines of a run: which clauses fired, on which words, and which puts were refused. Where that stands
-//! between the lines, `snl run` shows (`cases/run.cases`).
+//! What a sink hears beside the lines of a run: which clauses fired, on which words, and which puts were refused.
 
 ghost use Rattle.std.specs.Prelude.{◌≡◌};
 
-use crate::tests::loading::loaded;
-use snl_machine::{Fired, Machine, RefusalCause, Refused, Sink, SinkFault};
+use crate::tests::calls::loaded;
+use itoa::Buffer;
+use snl_machine::{Fired, RefusalCause, Refused, Sink, SinkFault};
 use snl_trace::{End, Feed, run};
 use std::alloc::Global;
 use std::test::Fail;
@@ -42,76 +42,69 @@ const TRACE: &[u8] = b"0 up a
 6 val a 3
 ";
 
-const FIRED: [Fired; 6] = [
-    Fired {
-        ms: 1,
-        set: 0,
-        state: 0,
-        clause: 0,
-    },
-    Fired {
-        ms: 1,
-        set: 2,
-        state: 0,
-        clause: 0,
-    },
-    Fired {
-        ms: 3,
-        set: 0,
-        state: 1,
-        clause: 0,
-    },
-    Fired {
-        ms: 4,
-        set: 0,
-        state: 0,
-        clause: 1,
-    },
-    Fired {
-        ms: 4,
-        set: 1,
-        state: 0,
-        clause: 0,
-    },
-    Fired {
-        ms: 6,
-        set: 2,
-        state: 1,
-        clause: 0,
-    },
-];
+/// A clause that fired: its time, its state set, its state, its number, and the words of the copy: `x`, then `part`. A put that
+/// was refused: its time, its state set, why, and its channel.
+const HEARD: &[u8] = b"1 start h
+1 fired 0 0 0 words 1 0 0
+1 go one a b
+1 fired 2 0 0 words 1 0 0
+1 go three i j
+3 fired 0 1 0 words 0 0 0
+3 go one b a
+4 fired 0 0 1 words 2 0 0
+4 go one a b
+4 fired 1 0 0 words 2 0 0
+4 refused 1 down 1
+4 refused 1 unlinked
+4 go two w v
+6 fired 2 1 0 words 3 0 0
+6 put b 0
+6 refused 2 waiting 1
+6 go three j k
+";
 
-/// The words of the copy at each of these: `x`, then `part`.
-const WORDS: [i64; 18] = [1, 0, 0, 1, 0, 0, 0, 0, 0, 2, 0, 0, 2, 0, 0, 3, 0, 0];
-
-const REFUSED: [Refused; 3] = [
-    Refused {
-        ms: 4,
-        set: 1,
-        channel: Some(1),
-        why: RefusalCause::Down,
-    },
-    Refused {
-        ms: 4,
-        set: 1,
-        channel: None,
-        why: RefusalCause::NoLink,
-    },
-    Refused {
-        ms: 6,
-        set: 2,
-        channel: Some(1),
-        why: RefusalCause::Waiting,
-    },
-];
-
-/// Keeps what it hears. Where memory ends it is left out.
+/// Writes down what it hears, between the lines of the run.
 #[derive(Drop)]
 struct Notes {
-    fired: Vec<Fired>,
-    words: Vec<i64>,
-    refused: Vec<Refused>,
+    text: Vec<u8>,
     failures: u64,
+}
+
+impl Notes {
+    /// Adds a piece. Where memory ends it is left out.
+    fn add(&mut self, piece: &[u8])
+        ensures { self.new.failures ≡ self.old.failures }
+    {
+        let _done = self.text.extend_from_slice(piece);
+    }
+
+    /// Adds a blank and a number.
+    fn add_number(&mut self, number: usize)
+        ensures { self.new.failures ≡ self.old.failures }
+    {
+        let mut digits = Buffer::new();
+        self.add(b" ");
+        self.add(digits.format(number).as_bytes());
+    }
+
+    /// Adds words, each after a blank.
+    fn add_words(&mut self, words: &[i64])
+        ensures { self.new.failures ≡ self.old.failures }
+    {
+        for word in words {
+            let mut digits = Buffer::new();
+            self.add(b" ");
+            self.add(digits.format(*word).as_bytes());
+        }
+    }
+
+    /// Adds a time, with which each line begins.
+    fn add_time(&mut self, ms: u64)
+        ensures { self.new.failures ≡ self.old.failures }
+    {
+        let mut digits = Buffer::new();
+        self.add(digits.format(ms).as_bytes());
+    }
 }
 
 impl Sink for Notes {
@@ -122,56 +115,70 @@ impl Sink for Notes {
     ghost failures = { λ notes. notes.failures };
 
     fn write(&mut self, piece: &[u8]) -> Result<usize, SinkFault> {
-        Ok(piece.len())
+        match self.text.extend_from_slice(piece) {
+            Ok(()) => Ok(piece.len()),
+            Err(_) => {
+                self.failures += 1;
+                Err(SinkFault)
+            }
+        }
     }
 
     fn fired(&mut self, clause: Fired, words: &[i64]) {
-        let _kept = self.fired.push(clause);
-        let _done = self.words.extend_from_slice(words);
+        self.add_time(clause.ms);
+        self.add(b" fired");
+        self.add_number(clause.set);
+        self.add_number(clause.state);
+        self.add_number(clause.clause);
+        self.add(b" words");
+        self.add_words(words);
+        self.add(b"\n");
     }
 
     fn refused(&mut self, put: Refused) {
-        let _kept = self.refused.push(put);
+        self.add_time(put.ms);
+        self.add(b" refused");
+        self.add_number(put.set);
+        self.add(match put.why {
+            RefusalCause::NoLink => b" unlinked",
+            RefusalCause::Down => b" down",
+            RefusalCause::Waiting => b" waiting",
+        });
+        if let Some(channel) = put.channel {
+            self.add_number(channel);
+        }
+        self.add(b"\n");
     }
 }
 
-/// Whether a run of the program over the trace is heard as it has to be.
-fn is_heard(alloc: Global, machine: &mut Machine) -> bool {
+/// What was heard in a run of the program over the trace, with the lines.
+fn heard(alloc: Global) -> Result<Vec<u8>, Fail> {
+    let mut machine = loaded(alloc, PROGRAM)?;
     let mut notes = Notes {
-        fired: Vec::new(alloc),
-        words: Vec::new(alloc),
-        refused: Vec::new(alloc),
+        text: Vec::new(alloc),
         failures: 0,
     };
     let mut trace = Feed::new(TRACE, 4);
-    let end = run(machine, &mut trace, &mut notes);
-    end == End::TraceEnded
-        && notes.fired.as_slice() == FIRED.as_slice()
-        && notes.words.as_slice() == WORDS.as_slice()
-        && notes.refused.as_slice() == REFUSED.as_slice()
-}
-
-/// State sets and links, with the word where the elements of the link begin.
-const HOMES: [(usize, usize, Option<usize>); 4] = [
-    (0, 0, Some(0)),
-    (2, 1, Some(1)),
-    (0, 2, None),
-    (3, 0, None),
-];
-
-fn has_homes(machine: &Machine) -> bool {
-    for (set, link, home) in HOMES {
-        if machine.home(set, link) != home {
-            return false;
-        }
+    if run(&mut machine, &mut trace, &mut notes) != End::TraceEnded {
+        return Err("the run did not end with its trace".into());
     }
-    true
+    Ok(notes.text)
 }
 
 #[test]
 fn clauses_and_refused_puts_are_heard(rt: HostRuntime) -> Result<(), Fail> {
-    let mut machine = loaded(rt.alloc(), PROGRAM)?;
-    assert!(rt; has_homes(&machine), "homes");
-    assert!(rt; is_heard(rt.alloc(), &mut machine), "heard");
+    let text = heard(rt.alloc())?;
+    assert_eq!(rt; text.as_slice(), HEARD);
+    Ok(())
+}
+
+/// The words where the elements of links begin: by state set, by link.
+#[test]
+fn words_of_links(rt: HostRuntime) -> Result<(), Fail> {
+    let machine = loaded(rt.alloc(), PROGRAM)?;
+    assert_eq!(rt; machine.home(0, 0), Some(0));
+    assert_eq!(rt; machine.home(2, 1), Some(1));
+    assert_eq!(rt; machine.home(0, 2), None);
+    assert_eq!(rt; machine.home(3, 0), None);
     Ok(())
 }

@@ -1,9 +1,14 @@
-//! What a checked program tells: its options in force, whether it waits for its channels, where a name is declared, its code.
+//! What a checked program tells: its options in force, whether it waits for its channels, where a name is declared, its
+//! links, its tables, its code.
 
-use crate::tests::loading::{code_of, facts_of};
-use snl_code::{Code, Piece};
+use crate::tests::calls::checked;
+use snl_check::{Checked, Options};
+use snl_code::{Code, Piece, compile};
+use snl_links::{Link, Macros, links, tables};
 use snl_meaning::Instr;
+use snl_text::{Pos, lex};
 use std::alloc::{AllocError, Global};
+use std::process::Abort;
 use std::test::Fail;
 
 /// Prints the value of its channel, and ends.
@@ -14,16 +19,6 @@ ss s { state a { when (x) { printf(\"%d\", x); } exit } }";
 const LEAVES_OUT: &[u8] =
     b"program p option +s; ss s { state a { when () {} state b } state b { when () {} exit }
 state c { entry { printf(\"c\"); } when () {} state d } state d { when () {} state c } }";
-
-/// State sets and states, and whether there is code of them: not of those that are never reached, and of none that is not there.
-const HOLDS: [(usize, usize, bool); 6] = [
-    (0, 0, true),
-    (0, 1, true),
-    (0, 2, false),
-    (0, 3, false),
-    (0, 4, false),
-    (1, 0, false),
-];
 
 /// A program but for the terms of a sum: a condition that compares with the sum, one of which a part is not evaluated, one
 /// that faults, and a state that is never reached.
@@ -37,19 +32,57 @@ const DECLARED: usize = 25;
 
 const USED: usize = 79;
 
-#[test]
-fn what_a_program_tells(rt: HostRuntime) -> Result<(), Fail> {
-    let facts = facts_of(rt.alloc(), PRINTS, USED)?;
-    assert!(rt;
-        facts.options.s == Some(true) && facts.options.w.is_none(),
-        "options"
-    );
-    assert!(rt; facts.waits, "waits");
-    assert!(rt;
-        matches!(facts.declared, Some(pos) if pos.offset == DECLARED),
-        "declared"
-    );
-    Ok(())
+const TABLES: &[u8] =
+    b"program p\nchannel x 0 1 \"c\" monitor - 0\nss s\nstate a +t+e+x\nwhen 1 exit\n";
+
+/// What a checked program tells.
+#[derive(Drop)]
+struct Told {
+    options: Options,
+    waits: bool,
+    declared: Option<Pos>,
+    links: Vec<Link>,
+    tables: Vec<u8>,
+    code: Code,
+}
+
+/// What tells. A function that owns a checked program and lends it is dear to prove; one that owns a value of a type
+/// parameter is not.
+trait Tells {
+    fn told(&self, alloc: Global) -> Result<Told, AllocError>;
+}
+
+impl<'a> Tells for Checked<'a> {
+    fn told(&self, alloc: Global) -> Result<Told, AllocError> {
+        told_of(alloc, self)
+    }
+}
+
+fn told_of(alloc: Global, checked: &Checked) -> Result<Told, AllocError> {
+    let macros = Macros {
+        text: b"".as_slice(),
+    };
+    let mut text = Vec::new(alloc);
+    tables(alloc, checked, &mut text)?;
+    Ok(Told {
+        options: checked.options(),
+        waits: checked.waits(),
+        declared: checked.declared(USED),
+        links: links(alloc, checked, &macros)?,
+        tables: text,
+        code: compile(alloc, checked)?,
+    })
+}
+
+fn told_by_owner<T: Tells + Drop>(alloc: Global, checked: T) -> Result<Told, AllocError> {
+    checked.told(alloc)
+}
+
+/// What the program that a source spells tells.
+fn told_in(alloc: Global, source: &[u8]) -> Result<Told, Fail> {
+    let lexed = lex(alloc, source)?;
+    let told = told_by_owner(alloc, checked(alloc, &lexed)?)?;
+    Ok(told)
 }
 
 /// The instruction with which a piece begins.
@@ -62,42 +95,34 @@ fn first_of(code: &Code, piece: Piece) -> Option<Instr> {
     }
 }
 
-/// Whether the condition pushes the variable, and the block does; with what follows they are six instructions: both end, and the
-/// block prints, and drops what the call gives.
-fn begins_right(code: &Code) -> bool {
-    let (set, state, clause) = (0, 0, 0);
-    let condition = first_of(code, Piece::Condition { set, state, clause });
-    let block = first_of(code, Piece::Block { set, state, clause });
-    let loads = matches!(condition, Some(Instr::Load(variable)) if variable.size == 1);
-    code.len() == 6 && loads && matches!(block, Some(Instr::Load(_)))
-}
-
-fn has_one_text(code: &Code) -> bool {
-    code.text(0) == b"\"%d\"".as_slice() && code.text(1).is_empty()
-}
-
 #[test]
-fn code_of_a_program(rt: HostRuntime) -> Result<(), Fail> {
-    let code = code_of(rt.alloc(), PRINTS)?;
-    assert!(rt; begins_right(&code), "instructions");
-    assert!(rt; has_one_text(&code), "texts");
+fn what_a_program_tells(rt: HostRuntime) -> Result<(), Fail> {
+    let told = told_in(rt.alloc(), PRINTS)?;
     assert!(rt;
-        code.start(Piece::Entry { set: 0, state: 0 }).is_none(),
-        "entry"
+        told.options.s == Some(true) && told.options.w.is_none(),
+        "options"
     );
+    assert!(rt; told.waits, "waits");
+    assert!(rt;
+        matches!(told.declared, Some(pos) if pos.offset == DECLARED),
+        "declared"
+    );
+    assert_eq!(rt; told.tables.as_slice(), TABLES);
+    links_are_right(&rt, told.links.as_slice());
+    code_is_right(&rt, &told.code);
     Ok(())
 }
 
+/// A state that is not reached has no code, and no number beyond the states is held.
 #[test]
 fn which_states_code_holds(rt: HostRuntime) -> Result<(), Fail> {
-    let code = code_of(rt.alloc(), LEAVES_OUT)?;
-    for (set, state, does) in HOLDS {
-        assert!(rt; code.holds(set, state) == does, "{state} of {set}");
-    }
-    assert!(rt;
-        code.start(Piece::Entry { set: 0, state: 2 }).is_none(),
-        "entry"
-    );
+    let told = told_in(rt.alloc(), LEAVES_OUT)?;
+    let code = &told.code;
+    assert!(rt; code.holds(0, 0) && code.holds(0, 1), "reached");
+    assert!(rt; !code.holds(0, 2) && !code.holds(0, 3), "not reached");
+    assert!(rt; !code.holds(0, 4) && !code.holds(1, 0), "not there");
+    let entry = code.start(Piece::Entry { set: 0, state: 2 });
+    assert!(rt; entry.is_none(), "entry");
     Ok(())
 }
 
@@ -114,7 +139,8 @@ fn long_sum(alloc: Global, term: &[u8]) -> Result<Vec<u8>, AllocError> {
 /// How many instructions the code of that program has.
 fn length_of_sum(alloc: Global, term: &[u8]) -> Result<usize, Fail> {
     let source = long_sum(alloc, term)?;
-    Ok(code_of(alloc, source.as_slice())?.len())
+    let told = told_in(alloc, source.as_slice())?;
+    Ok(told.code.len())
 }
 
 /// A sum of numbers is one instruction. In one of variables each name and each `+` is one: none does a whole expression.
@@ -125,4 +151,28 @@ fn code_of_long_sums(rt: HostRuntime) -> Result<(), Fail> {
     let of_variables = length_of_sum(rt.alloc(), b" + x".as_slice())?;
     assert!(rt; 2_000 <= of_variables, "a sum of variables");
     Ok(())
+}
+
+fn links_are_right(rt: &impl Abort, links: &[Link]) {
+    assert_eq!(rt; links.len(), 1);
+    for link in links {
+        assert_eq!(rt; link.name.as_slice(), b"c".as_slice());
+        assert!(rt; link.count == 1 && link.monitored, "link");
+    }
+}
+
+/// The condition pushes the variable and ends; the block pushes it, prints, drops what the call gives, and ends.
+fn code_is_right(rt: &impl Abort, code: &Code) {
+    assert_eq!(rt; code.len(), 6);
+    let (set, state, clause) = (0, 0, 0);
+    let condition = first_of(code, Piece::Condition { set, state, clause });
+    assert!(rt;
+        matches!(condition, Some(Instr::Load(variable)) if variable.size == 1),
+        "condition"
+    );
+    let block = first_of(code, Piece::Block { set, state, clause });
+    assert!(rt; matches!(block, Some(Instr::Load(_))), "block");
+    assert!(rt; code.start(Piece::Entry { set, state }).is_none(), "entry");
+    assert_eq!(rt; code.text(0), b"\"%d\"".as_slice());
+    assert!(rt; code.text(1).is_empty(), "no text");
 }

@@ -1,147 +1,44 @@
 //! Tokens by `lex`: their places in bytes, their files, and what numbers and characters are worth.
 
-use snl_text::{
-    Kind, LexFault, Lexed, Pos, Token, character_value, decimal_value, lex, whole_value,
-};
+use snl_text::{LexFault, Pos, character_value, decimal_value, lex, whole_value};
+use std::alloc::Global;
 use std::test::Fail;
 
-/// A source, its tokens, where it ends, how many pieces of embedded C it has, and how many names of files.
-struct Source {
-    text: &'static [u8],
-    tokens: &'static [Token<'static>],
-    eof: Pos,
-    embedded: usize,
-    names: usize,
+/// The places of the tokens, of the embedded pieces and of the end, and the number of names; or the fault.
+fn places(alloc: Global, source: &[u8]) -> Result<String, Fail> {
+    let mut shown = String::new(alloc);
+    let lexed = match lex(alloc, source) {
+        Ok(lexed) => lexed,
+        Err(fault) => {
+            let Pos { offset, file, line } = fault.pos().ok_or("memory")?;
+            return Ok(format!(in alloc; "{fault} {offset} {file}:{line}")?);
+        }
+    };
+    for token in &lexed.tokens {
+        let (kind, Pos { offset, file, line }) = (token.kind, token.pos);
+        shown.push_str(&format!(in alloc; "{kind:?} {offset} {file}:{line}, ")?)?;
+    }
+    let (count, names) = (lexed.embedded.len(), lexed.files.len());
+    let Pos { offset, file, line } = lexed.eof;
+    shown.push_str(&format!(in alloc; "C {count}, end {offset} {file}:{line}, names {names}")?)?;
+    Ok(shown)
 }
 
-const SOURCES: [Source; 3] = [
-    Source {
-        text: b"a\nstate\r\n <<=",
-        tokens: &[
-            Token {
-                kind: Kind::Name,
-                text: b"a",
-                pos: Pos {
-                    offset: 0,
-                    file: 0,
-                    line: 1,
-                },
-            },
-            Token {
-                kind: Kind::State,
-                text: b"state",
-                pos: Pos {
-                    offset: 2,
-                    file: 0,
-                    line: 2,
-                },
-            },
-            Token {
-                kind: Kind::LessLessEqual,
-                text: b"<<=",
-                pos: Pos {
-                    offset: 10,
-                    file: 0,
-                    line: 3,
-                },
-            },
-        ],
-        eof: Pos {
-            offset: 13,
-            file: 0,
-            line: 3,
-        },
-        embedded: 0,
-        names: 0,
-    },
-    Source {
-        text: b"# 1 \"f\"\na\n# 5 \"g\"\nb\n# 9 \"f\"\nc\n# 3\nd",
-        tokens: &[
-            Token {
-                kind: Kind::Name,
-                text: b"a",
-                pos: Pos {
-                    offset: 8,
-                    file: 1,
-                    line: 1,
-                },
-            },
-            Token {
-                kind: Kind::Name,
-                text: b"b",
-                pos: Pos {
-                    offset: 18,
-                    file: 2,
-                    line: 5,
-                },
-            },
-            Token {
-                kind: Kind::Name,
-                text: b"c",
-                pos: Pos {
-                    offset: 28,
-                    file: 1,
-                    line: 9,
-                },
-            },
-            Token {
-                kind: Kind::Name,
-                text: b"d",
-                pos: Pos {
-                    offset: 34,
-                    file: 1,
-                    line: 3,
-                },
-            },
-        ],
-        eof: Pos {
-            offset: 35,
-            file: 1,
-            line: 3,
-        },
-        embedded: 0,
-        names: 2,
-    },
-    Source {
-        text: b"a%%b\n# 9 \"f\"\n %{x\n}%%{}%",
-        tokens: &[Token {
-            kind: Kind::Name,
-            text: b"a",
-            pos: Pos {
-                offset: 0,
-                file: 0,
-                line: 1,
-            },
-        }],
-        eof: Pos {
-            offset: 24,
-            file: 1,
-            line: 10,
-        },
-        embedded: 3,
-        names: 1,
-    },
+const PLACES: [(&[u8], &str); 4] = [
+    (
+        b"a\nstate\r\n <<=",
+        "Name 0 0:1, State 2 0:2, LessLessEqual 10 0:3, C 0, end 13 0:3, names 0",
+    ),
+    (
+        b"# 1 \"f\"\na\n# 5 \"g\"\nb\n# 9 \"f\"\nc\n# 3\nd",
+        "Name 8 1:1, Name 18 2:5, Name 28 1:9, Name 34 1:3, C 0, end 35 1:3, names 2",
+    ),
+    (
+        b"a%%b\n# 9 \"f\"\n %{x\n}%%{}%",
+        "Name 0 0:1, C 3, end 24 1:10, names 1",
+    ),
+    (b"a\n# 7 \"f\"\n  09", "bad number 12 1:7"),
 ];
-
-fn is_cut(lexed: &Lexed, source: &Source) -> bool {
-    lexed.tokens.as_slice() == source.tokens
-        && lexed.eof == source.eof
-        && lexed.embedded.len() == source.embedded
-        && lexed.files.len() == source.names
-}
-
-/// A source whose last two bytes are no token.
-const BAD: &[u8] = b"a\n# 7 \"f\"\n  09";
-
-const BAD_AT: Pos = Pos {
-    offset: 12,
-    file: 1,
-    line: 7,
-};
-
-fn is_bad_number(fault: LexFault) -> bool {
-    fault.pos() == Some(BAD_AT) && fault.text() == Some("bad number")
-}
 
 const WHOLES: [(&[u8], Option<i64>); 14] = [
     (b"0", Some(0)),
@@ -189,33 +86,24 @@ const DECIMALS: [(&[u8], Option<(u64, bool)>); 9] = [
 
 #[test]
 fn places_of_tokens(rt: HostRuntime) -> Result<(), Fail> {
-    for source in &SOURCES {
-        let lexed = lex(rt.alloc(), source.text)?;
-        assert!(rt; is_cut(&lexed, source), "{:?}", source.text);
+    for (source, wanted) in PLACES {
+        let found = places(rt.alloc(), source)?;
+        assert_eq!(rt; found.as_str(), wanted);
     }
-    Ok(())
-}
-
-#[test]
-fn places_of_faults(rt: HostRuntime) {
-    let fault = lex(rt.alloc(), BAD).err();
-    assert!(rt;
-        matches!(fault, Some(fault) if is_bad_number(fault)),
-        "bad number"
-    );
     assert!(rt; LexFault::Memory.text().is_none() && LexFault::Memory.pos().is_none());
+    Ok(())
 }
 
 #[test]
 fn values(rt: HostRuntime) {
     for (text, wanted) in WHOLES {
-        assert!(rt; whole_value(text) == wanted, "{text:?}");
+        assert_eq!(rt; whole_value(text), wanted);
     }
     for (text, wanted) in CHARACTERS {
-        assert!(rt; character_value(text) == wanted, "{text:?}");
+        assert_eq!(rt; character_value(text), wanted);
     }
     for (text, wanted) in DECIMALS {
         let found = decimal_value(text).map(|value| (value.thousandths, value.is_exact));
-        assert!(rt; found == wanted, "{text:?}");
+        assert_eq!(rt; found, wanted);
     }
 }
