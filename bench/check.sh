@@ -8,32 +8,9 @@
 # source has 250 functions, each of which calls the one above it 49 times.
 # Each time is less that for an empty file.
 . "$(dirname "$0")/timing.sh"
+. bench/programs.bash
 runs=${1:-10}
 snc=$(program "${SNC:-}" snc_main snc examples/ramp.st)
-
-# a source with so many state sets, states, links
-source_of() {
-    awk -v sets="$1" -v states="$2" -v links="$3" 'BEGIN {
-        print "program magnets"
-        print "option +s;"
-        for (i = 0; i < links; i++) {
-            printf "int measured_%d; assign measured_%d to \"MAG:%d\"; monitor measured_%d;\n", i, i, i, i
-        }
-        for (set = 0; set < sets; set++) {
-            first = int(states * set / sets); behind = int(states * (set + 1) / sets)
-            printf "ss ramp_%d {\n", set
-            for (i = first; i < behind; i++) {
-                printf "    state step_%d {\n", i
-                printf "        when (measured_%d + %d > 7 && delay(3)) {\n", i % links, i
-                printf "            measured_%d = (%d * 2) + 1 - 3;\n", i % links, i
-            printf "            if (measured_%d > 1) pvPut(measured_%d); else measured_%d -= 2;\n", i % links, i % links, i % links
-                printf "        } state step_%d\n", i + 1 < behind ? i + 1 : first
-                printf "    }\n"
-            }
-            print "}"
-        }
-    }' > "$4"
-}
 
 # a source with so many functions, and so many calls in each
 functions_of() {
@@ -50,13 +27,8 @@ functions_of() {
     }' > "$3"
 }
 
-# counts the tokens of such a source
-tokens_of() {
-    grep -oE '"[^"]*"|[A-Za-z_0-9]+|&&|-=|[^ ]' "$1" | wc -l
-}
-
-source_of 64 1000 1000 "$work/whole.st"
-source_of 32 500 500 "$work/half.st"
+magnets 64 1000 1000 > "$work/whole.st"
+magnets 32 500 500 > "$work/half.st"
 functions_of 250 49 "$work/chain.st"
 : > "$work/none.st"
 for source in whole half chain none; do

@@ -12,36 +12,12 @@
 # parentheses, each of them behind an operator of every level, which has to take no more than 3 times `snc`. Each time is less that for an
 # empty file.
 . "$(dirname "$0")/timing.sh"
+. bench/programs.bash
 runs=${1:-10}
 snc=$(program "${SNC:-}" snc_main snc examples/ramp.st)
 
-# a source with four state sets, so many states, and as many links
-source_of() {
-    awk -v states="$1" 'BEGIN {
-        sets = 4
-        print "program magnets"
-        print "option +s;"
-        for (i = 0; i < states; i++) {
-            printf "int measured_%d; assign measured_%d to \"MAG:%d\"; monitor measured_%d;\n", i, i, i, i
-        }
-        for (set = 0; set < sets; set++) {
-            first = int(states * set / sets); behind = int(states * (set + 1) / sets)
-            printf "ss ramp_%d {\n", set
-            for (i = first; i < behind; i++) {
-                printf "    state step_%d {\n", i
-                printf "        when (measured_%d + %d > 7 && delay(3)) {\n", i, i
-                printf "            measured_%d = (%d * 2) + 1 - 3;\n", i, i
-                printf "            if (measured_%d > 1) pvPut(measured_%d); else measured_%d -= 2;\n", i, i, i
-                printf "        } state step_%d\n", i + 1 < behind ? i + 1 : first
-                printf "    }\n"
-            }
-            print "}"
-        }
-    }' > "$2"
-}
-
-source_of 1000 "$work/whole.st"
-source_of 500 "$work/half.st"
+magnets 4 1000 1000 > "$work/whole.st"
+magnets 4 500 500 > "$work/half.st"
 awk 'BEGIN {
     print "program monitors"
     print "option +s;"

@@ -6,32 +6,14 @@
 # The values of the wide program come to its channels round robin. The last figure is of a program that never starts, since one
 # of its channels is never there. The time of a start over an empty trace is taken off.
 . "$(dirname "$0")/timing.sh"
+. bench/programs.bash
 lines=${1:-1000000}
-
-# a program with so many channels, whose conditions look at the first and the last one
-wide() {
-    awk -v count="$1" 'BEGIN {
-        print "program wide\noption +s;"
-        for (k = 0; k < count; k++) printf "int v%d; assign v%d to \"CHANNEL:%d\"; monitor v%d;\n", k, k, k, k
-        printf "ss all {\n  state low { when (v0 + v%d > 1000000) {} state high }\n  state high { when (v0 < 0) {} state low }\n}\n", count - 1
-    }'
-}
-
-# a trace for so many channels: each is up and has a value, and then lines of a kind follow
-trace() {
-    awk -v count="$1" -v kind="$2" -v lines="$3" 'BEGIN {
-        for (k = 0; k < count; k++) printf "0 up CHANNEL:%d\n0 val CHANNEL:%d 0\n", k, k
-        for (i = 0; i < lines; i++)
-            if (kind == "values" || kind == "both" && i % 2 == 0) printf "%d val CHANNEL:%d %d\n", i + 1, (kind == "both" ? i / 2 : i) % count, i % 1000
-            else printf "%d tick\n", i + 1
-    }'
-}
 
 wide 1 > "$work/one.st"
 wide 1000 > "$work/wide.st"
 for kind in values ticks both; do
-    trace 1 "$kind" "$lines" > "$work/one-$kind.trace"
-    trace 1000 "$kind" "$lines" > "$work/wide-$kind.trace"
+    channel_lines 1 "$kind" "$lines" > "$work/one-$kind.trace"
+    channel_lines 1000 "$kind" "$lines" > "$work/wide-$kind.trace"
 done
 # all channels but the last are there
 grep -v 'up CHANNEL:999$' "$work/wide-values.trace" > "$work/wide-waiting.trace"
