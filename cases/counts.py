@@ -40,3 +40,7 @@ def wrong_of_crates(root):
     listed = re.findall(r"`(\w+)`", " ".join(re.findall(r"^\| (`.*?) \|", table, re.MULTILINE)))
     if sorted(listed) != sorted(crates):
         yield f"FAILED README.md: the table of crates lacks one, has one that is not there, or one twice: {set(listed) ^ set(crates)}"
+    decisions = (root / "docs/DECISIONS.md").read_text()
+    heads = [name for head in re.findall(r"^## (`.*)$", decisions, re.MULTILINE) for name in re.findall(r"`(\w+)`", head)]
+    if sorted(heads) != sorted(crates):
+        yield f"FAILED docs/DECISIONS.md: not a heading for each crate, and one alone: {set(heads) ^ set(crates)}"
