@@ -9,12 +9,23 @@ def missing(root):
     """What a page counts or names otherwise."""
     yield from wrong_of_crates(root)
     call, changes = ((root / it).read_text() for it in ("docs/CALL.md", "CHANGELOG.md"))
-    listed = re.search(r"^const NAMES: .* = \[(.*)\];$", (root / "crates/snl_args/src/calls.rt").read_text(), re.MULTILINE)
-    for word in re.findall(r"\w+", listed[1]):
+    words = words_of(root)
+    for word in words:
         if f"\nsnl [+X|-X].. {word} " not in call:
             yield f"FAILED docs/CALL.md: it does not have the words of snl {word}"
         if f"`{word}`" not in changes and f"`snl {word}`" not in changes:
             yield f"FAILED CHANGELOG.md: it does not say which version takes snl {word}"
+    pages = {it.stem for it in root.glob("docs/tools/*.md")}
+    if pages != {"README", *words}:
+        yield f"FAILED docs/tools: not a page a word, and one for all: {pages ^ {'README', *words}}"
+    index = (root / "docs/tools/README.md").read_text()
+    yield from (f"FAILED docs/tools/README.md: its table has no link to {it}.md" for it in words if f"| [`snl {it} " not in index or f"]({it}.md) |" not in index)
+
+
+def words_of(root):
+    """The words of snl."""
+    listed = re.search(r"^const NAMES: .* = \[(.*)\];$", (root / "crates/snl_args/src/calls.rt").read_text(), re.MULTILINE)
+    return re.findall(r"\w+", listed[1])
 
 
 def wrong_of_crates(root):
@@ -29,3 +40,7 @@ def wrong_of_crates(root):
     listed = re.findall(r"`(\w+)`", " ".join(re.findall(r"^\| (`.*?) \|", table, re.MULTILINE)))
     if sorted(listed) != sorted(crates):
         yield f"FAILED README.md: the table of crates lacks one, has one that is not there, or one twice: {set(listed) ^ set(crates)}"
+    decisions = (root / "docs/DECISIONS.md").read_text()
+    heads = [name for head in re.findall(r"^## (`.*)$", decisions, re.MULTILINE) for name in re.findall(r"`(\w+)`", head)]
+    if sorted(heads) != sorted(crates):
+        yield f"FAILED docs/DECISIONS.md: not a heading for each crate, and one alone: {set(heads) ^ set(crates)}"

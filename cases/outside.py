@@ -98,7 +98,7 @@ def not_whole(root, prefix, manual=".1", left=()):
     if drawn.returncode or b"<h1>Run of light</h1>" not in drawn.stdout:
         return f"snl-plot says {drawn.stderr}"
     front = [root / it for it in ("README.md", "CHANGELOG.md", "LICENSE", "NOTICE", "VERSION") if it not in left]
-    wanted = [pages / it.relative_to(root) for it in [*front, *root.glob("docs/*.*")]]
+    wanted = [pages / it.relative_to(root) for it in [*front, *root.glob("docs/**/*.*")]]
     wanted += [prefix / f"share/man/man1/{it}{manual}" for it in helps(prefix)]
     return ", ".join(f"{it} is not there" for it in wanted if not it.exists())
 

@@ -2,14 +2,14 @@
 import re
 
 LINK = re.compile(r"\]\(([^)#\s]*)#?([^)\s]*)\)")
-NAMED = re.compile(r"docs/(\w+\.md)`?,\s+\"([^\"]*)\"")
+NAMED = re.compile(r"docs/((?:\w+/)?\w+\.md)`?,\s+\"([^\"]*)\"")
 HEADING = re.compile(r"^#+ (.*)$", re.MULTILINE)
 BLOCK = re.compile(r"^```.*?^```\n", re.MULTILINE | re.DOTALL)
 
 
 def missing(root):
     """What pages refer to and is not there."""
-    pages = {it: BLOCK.sub("", it.read_text()) for it in [*sorted(root.glob("docs/*.md")), root / "README.md"]}
+    pages = {it: BLOCK.sub("", it.read_text()) for it in [*sorted(root.glob("docs/**/*.md")), root / "README.md"]}
     titles = {page: HEADING.findall(text) for page, text in pages.items()}
     wanted = [it for page, text in pages.items() for it in references(root, page, text)]
     if len(wanted) < 40:

@@ -1,4 +1,4 @@
-"""The lanes of a run as lines of text: for grep, for who cannot see the picture, and for tests. docs/TOOLS.md tells the lines."""
+"""The lanes of a run as lines of text: for grep, for who cannot see the picture, and for tests. docs/PLOT.md tells the lines."""
 from typing import Iterator, Optional
 
 from plotting.buckets import Span, Steps, Ticks

@@ -17,7 +17,7 @@ use crate::writing::write_pieces;
 use snl_output::{Fired, Refused, Sink, SinkFault};
 use std::alloc::{AllocError, Global};
 
-/// Hands the lines of a run on, with notes between them, and blocks that repeat as one line each (docs/TOOLS.md, "snl run").
+/// Hands the lines of a run on, with notes between them, and blocks that repeat as one line each (docs/tools/run.md).
 ///
 /// A witness is handed the run as it is, and so the folder tells what the witness tells. A line goes to the sink once the next
 /// one comes, or at the end.
