@@ -19,6 +19,7 @@ def missing(root):
         if wanted not in " ".join((root / page).read_text().split()):
             yield f"FAILED {page}: it does not say `{wanted}`"
     yield from wrong_of_sizes(root)
+    yield from wrong_of_minutes(root)
     steps = (root / "docs/DEVELOPING.md").read_text().split("\n## A change, step by step\n")[1].split("\n## ")[0]
     for name in sorted({*re.findall(r"`(?:\S*/)?(\w+\.(?:rt|antt))`", steps)}):
         if not any(root.glob(f"crates/*/*/**/{name}")):
@@ -37,24 +38,44 @@ def numbers(root):
 
 
 def wrong_of_sizes(root):
-    """What pages say otherwise of the functions of a crate, and of the minutes of proofs."""
-    sys.path.insert(0, str(root / "scripts"))
-    from proving import costs
-
-    page = (root / "docs/DEVELOPING.md").read_text()
-    most, longest = map(int, re.search(r"At most (\d+) functions a crate, and a proof of at most (\d+) minutes", page).groups())
+    """What DEVELOPING.md says otherwise of how large a crate is."""
+    most = int(re.search(r"At most (\d+) functions a crate", (root / "docs/DEVELOPING.md").read_text())[1])
     for crate in sorted((root / "crates").iterdir()):
         functions = sum(len(FUNCTION.findall(it.read_text())) for it in crate.glob("src/**/*.rt"))
         if functions > most:
             yield f"FAILED docs/DEVELOPING.md: {crate.name} has {functions} functions"
-    crates = [*costs.crates_of(root)]
-    proofs = [*crates, *(f"{it}.tests" for it in crates if costs.has_tests(it, root))]
+
+
+def wrong_of_minutes(root):
+    """What pages say otherwise of the minutes of proofs and tests, as bin/parts/costs.txt has them; they are told roughly."""
+    sys.path.insert(0, str(root / "scripts"))
+    from proving import costs
+
+    below = costs.crates_of(root)
+    proofs = [*below, *(f"{it}.tests" for it in below if costs.has_tests(it, root))]
     minutes = {it: costs.cost(it, costs.costs()).minutes for it in proofs}
+    page = (root / "docs/DEVELOPING.md").read_text()
+    longest = int(re.search(r"a proof of at most (\d+) minutes", page)[1])
     yield from (f"FAILED docs/DEVELOPING.md: the proof of {name} takes {it} minutes" for name, it in minutes.items() if it > longest)
-    for name in ("README.md", "docs/DEVELOPING.md"):
-        told = re.search(r"some (\d+) minutes of a processor", (root / name).read_text())
-        if not told or abs(int(told[1]) - sum(minutes.values())) > 10:
+    for name, told in (("README.md", (root / "README.md").read_text()), ("docs/DEVELOPING.md", page)):
+        every = int(re.search(r"some (\d+) minutes of a processor", told)[1])
+        if abs(every - sum(minutes.values())) > 20:
             yield f"FAILED {name}: proofs and tests take {sum(minutes.values()):.0f} minutes of a processor"
+    untold = {it for it in below if not it.endswith("_tests")} ^ {name for name, _, _ in rows_of_stale(page)}
+    yield from (f"FAILED docs/DEVELOPING.md: what a change of {it} makes stale does not stand there" for it in sorted(untold))
+    for name, proof, stale in rows_of_stale(page):
+        new = [name, *(it for it in below if name in below[it])]
+        every = sum(minutes[it] + minutes.get(f"{it}.tests", 0) for it in new)
+        if abs(proof - minutes[name]) > 3 or abs(stale - every) > 10:
+            yield f"FAILED docs/DEVELOPING.md: {name} takes {minutes[name]} minutes, and with all above {every:.0f}"
+
+
+def rows_of_stale(page):
+    """Of each crate in the table of what a change makes stale the minutes of its proof, and of all that is new."""
+    table = page.split("\n## What a change makes stale\n")[1].split("\n## ")[0]
+    for names, proofs, every in re.findall(r"^\| (`sn[lc].*?) \| .*? \| (.*?) \| (.*?) \|", table, re.MULTILINE):
+        for name, proof, stale in zip(re.findall(r"`(\w+)`", names), proofs.split(", "), every.split(", ") * 4):
+            yield name, 0 if proof == "under 1" else int(proof), int(stale)
 
 
 def wrong_of_words(root):
@@ -70,7 +91,9 @@ def wrong_of_words(root):
     if pages != {"README", *words}:
         yield f"FAILED docs/tools: not a page a word, and one for all: {pages ^ {'README', *words}}"
     index = (root / "docs/tools/README.md").read_text()
-    yield from (f"FAILED docs/tools/README.md: its table has no link to {it}.md" for it in words if f"| [`snl {it} " not in index or f"]({it}.md) |" not in index)
+    linked = re.findall(r"^\| \[`snl (\w+) .*\]\((\w+)\.md\) \|", index, re.MULTILINE)
+    if linked != [(it, it) for it in words]:
+        yield f"FAILED docs/tools/README.md: its table has links to {linked}"
 
 
 def words_of(root):
