@@ -46,7 +46,8 @@ def cases(root):
     yield Outside("bin/package: what is in the package runs, and a second one is the same", lambda *it: packaged(root, *it), "dpkg-deb")
     yield Outside("bin/install: PROVED tells how the programs were built", lambda *it: proved(root, *it), "sha256sum")
     yield Outside("bin/install: man shows the manual pages", lambda *it: manuals(root, *it), "man")
-    yield Outside("bin/install: each word and option has its place in a manual page", lambda *it: placed(root, *it))
+    yield Outside("bin/install: each word, option, argument and status has its place in a manual page", lambda *it: placed(root, *it))
+    yield Outside("docs/tools: each option of a word of snl stands on its page, and no other one", lambda *it: told_of(root, *it), tool="snl")
     yield Outside("bin/install: bash completes each word and option", lambda *it: completed(root, *it))
     for text in sorted(root.glob("examples/**/*.i")):
         name = f"{text.relative_to(root)}: cpp makes it of the program"
@@ -118,6 +119,27 @@ def named(call):
     return {it for row in rows for it in row.split(", ")}
 
 
+def listed(call):
+    """The arguments in the text of a call's `--help`, and its exit statuses."""
+    text = called(*call, "--help", env={**os.environ, "COLUMNS": "200"})
+    block = re.search(r"^(?:Arguments|positional arguments):\n((?: .*\n)+)", text, re.MULTILINE)
+    arguments = re.findall(r"^  (\S+)", block[1], re.MULTILINE) if block else []
+    status = re.search(r"^Status: ((?:.+\n)+)", text, re.MULTILINE)
+    return {*arguments, *(re.findall(r"\b(\d) ", status[1]) if status else [])}
+
+
+def told_of(root, folder, built):
+    """What the page of a word lacks of its options, but for those of all words, or has and is none."""
+    shared = (root / "docs/tools/README.md").read_text()
+    for word in re.findall(r"^  (\w+) +[A-Z]", called(built / "snl", "--help"), re.MULTILINE):
+        page = (root / f"docs/tools/{word}.md").read_text()
+        options, written = ({*re.findall(r"(?<![\w-])--[a-z][a-z-]*", it)} for it in (called(built / "snl", word, "--help"), page))
+        lacking = [it for it in options - written if not re.search(rf"{it}\b", shared)]
+        if not options or lacking or written - options:
+            return f"{word}.md lacks {sorted(lacking)}, and has {sorted(written - options)}"
+    return ""
+
+
 def proved(root, folder, built):
     (folder / "gate").write_text("more\n12 passed, 0 failed\n")
     called(root / "bin/install", "--from", built, "--gate", folder / "gate", folder / "prefix")
@@ -143,9 +165,10 @@ def placed(root, folder, built):
     called(root / "bin/install", "--from", built, prefix)
     for name, call in helps(prefix).items():
         page = (prefix / f"share/man/man1/{name}.1").read_text().replace("\\-", "-")
-        items = {it for row in re.findall(r"^\.TP\n\\fB(.*)\\fR$", page, re.MULTILINE) for it in row.split(", ")}
-        found = named(call)
-        if not found or found - items:
+        rows = re.findall(r"^\.TP\n(?:\\fB(.*)\\fR|\.B (.*))$", page, re.MULTILINE)
+        items = {it for row in rows for it in "".join(row).split(", ")}
+        found = named(call) | listed(call)
+        if not named(call) or found - items:
             return f"{name}.1 has no place for {', '.join(sorted(found - items)) or 'anything'}"
     return ""
 

@@ -56,8 +56,10 @@ def missing(root, programs):
     if len(rows) < 15:
         found.append("the table of forms is not found")
     kinds = [kind for kind, _ in BLOCK.findall(page)]
-    if BLOCK.search(page)[2] != (root / "examples/porting/pump.st").read_text():
-        found.append("the first program is not that of examples/porting/pump.st")
+    programs_there = [text for kind, text in BLOCK.findall(page) if kind == "snl"]
+    for name in ("oven", "pump"):
+        if (root / f"examples/porting/{name}.st").read_text() not in programs_there:
+            found.append(f"no program is that of examples/porting/{name}.st")
     for kind, behind in zip(kinds, [*kinds[1:], None]):
         if kind == "snl" and behind not in ("said", "out", "trace", "sh"):
             found.append("a program has nothing behind it")

@@ -5,7 +5,7 @@ maintainer="the snc authors <snlrun@localhost>"
 
 # The least version of the C library that has all that the programs call.
 library() {
-    cat "$room"/usr/bin/{snlc,snlrun,snl} | grep -aoE 'GLIBC_2\.[0-9]+' | sort -uV | sed -n '$ s/GLIBC_//p'
+    awk -v folder="$room/usr/bin/" '!/^#/ { print folder $3 }' "$bin/programs" | xargs -d '\n' cat | grep -aoE 'GLIBC_2\.[0-9]+' | sort -uV | sed -n '$ s/GLIBC_//p'
 }
 
 # The size of all files, in 1024 bytes; that of a folder depends on where it stands.

@@ -77,7 +77,7 @@ def page(name, purpose, sections):
     seconds = int(os.environ.get("SOURCE_DATE_EPOCH") or time.time())
     date = time.strftime("%Y-%m-%d", time.gmtime(seconds))
     version = (ROOT / "VERSION").read_text().strip()
-    head = f'.TH {name.upper()} 1 {date} "snlrun {version}" "State Notation Language"\n.SH NAME\n{plain(name)} \\- {plain(purpose)}\n'
+    head = f'.TH {name.upper()} 1 {date} "snlrun {version}" "State Notation Language"\n.nh\n.SH NAME\n{plain(name)} \\- {plain(purpose)}\n'
     return head + "".join(f".SH {title}\n{text}\n" for title, text in sections if text)
 
 
