@@ -47,6 +47,7 @@ def cases(root):
         ("words that are wrong", refused),
         ("nobody reads the page", unread),
         ("programs that are not there", unbuilt),
+        ("files, devices and lines without an end", endless),
         ("a program that chatters, in few columns and many", chatter),
         ("what a page says of flicker, scales, and what did not work", told),
         ("rows that are left out", rows),
@@ -192,6 +193,33 @@ def unbuilt(programs, folder):
     return "" if said == wanted else repr(said)
 
 
+def endless(programs, folder):
+    """Each is told in a sentence, and takes no more memory than other calls do."""
+    (folder / "p.st").write_text(SOURCE)
+    (folder / "trace").write_bytes(TRACE)
+    with open(folder / "one", "wb") as file:
+        file.truncate(200_000_000)
+    front = f"'{sys.executable}' -c '{STARTER}' '{programs['plot']}' --snc '{programs['snc']}' --snl '{programs['snl']}' --format text"
+    run, source = "{} has a line of more than 8388608 bytes, and is no run", "{}:1: error: E03 source longer than 1048576 bytes"
+    for words, status, text in (
+        ("--run /dev/zero p.st <trace", 3, "plot: " + run.format("/dev/zero")),
+        ("--run one p.st <trace", 3, "plot: " + run.format("one")),
+        ("--run . p.st <trace", 3, "plot: cannot read ."),
+        ("/dev/zero <trace", 1, source.format("/dev/zero")),
+        ("one <trace", 1, source.format("one")),
+        ("<(cat /dev/zero) <trace", 1, source.format("/dev/fd/63")),
+        ("p.st </dev/zero", 6, "trace:1: line too long"),
+        ("p.st <one", 6, "trace:1: line too long"),
+        ("p.st < <(cat /dev/zero)", 6, "trace:1: line too long"),
+    ):
+        ran = subprocess.run(["bash", "-c", f"{front} {words}"], cwd=folder, capture_output=True, timeout=SECONDS)
+        *said, last = ran.stderr.decode().splitlines()
+        ended, used = map(int, last.split())
+        if (ended, said) != (status, [text]) or used > MOST_MEMORY:
+            return f"{words}: status {ended}, {said}, {used} kB of memory"
+    return ""
+
+
 def noisy(count):
     """A trace of so many lines over which SOURCE chatters, with a burst and a pause, and lines at equal times."""
     lines, time = ["0 up X", "0 val X 0"], 0
@@ -292,7 +320,7 @@ def pictures(root):
 # it: so a small one starts the script.
 LINES, MOST_MEMORY = 200_000, 60_000
 STARTER = """import resource, subprocess, sys
-status = subprocess.run(sys.argv[1:]).returncode
+status = subprocess.run(sys.argv[1:], close_fds=False).returncode
 print(status, resource.getrusage(resource.RUSAGE_CHILDREN).ru_maxrss, file=sys.stderr)
 """
 

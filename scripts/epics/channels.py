@@ -7,6 +7,7 @@ The types are told by their names in Channel Access, as `double` and `enum`.
 import ctypes
 import os
 import struct
+import threading
 
 try:
     from epics import ca, dbr
@@ -20,6 +21,12 @@ TYPES = ("string", "short", "float", "enum", "char", "long", "double")
 CODES = {"string": "40s", "short": "h", "float": "f", "enum": "H", "char": "i", "long": "i", "double": "d"}
 # CA_OP_PUT and the masks of cadef.h, and a status of caerr.h.
 PUT, VALUE_AND_ALARM, NORMAL = 1, 5, 1
+
+
+# The form of a channel that is not connected: no type, no values.
+NO_FORM = -1, 0
+# Whether what Python has of a thread stays.
+OF_THREAD = threading.local()
 
 
 class Missing(Exception):
@@ -50,6 +57,8 @@ class Channels:
         if ca is None:
             raise Missing(MISSING)
         self.wanted, self.happened, self.chids, self.names, self.subscriptions = wanted, happened, {}, {}, {}
+        # By the name of a channel that is connected: the number of its type, and how many values it has at most.
+        self.forms = {}
         # By the number of a channel that is subscribed to: its name, its type, the size of a value, the most that are taken.
         self.takes = {}
         try:
@@ -66,9 +75,16 @@ class Channels:
 
     def on_connection(self, pvname=None, chid=None, conn=None, **_):
         """A channel connected, or is not connected any more."""
-        kind = ca.libca.ca_field_type(dbr.chid_t(chid)) if conn else -1
+        self.forms.pop(pvname, None)
+        kind, most = form_of(dbr.chid_t(chid)) if conn else NO_FORM
         # One that is gone again already has no type.
+        if kind >= 0:
+            self.forms[pvname] = kind, most
         self.happened("up" if conn else "down", pvname, kind=TYPES[kind] if 0 <= kind < len(TYPES) else "")
+
+    def form(self, name, chid):
+        """The number of the type of a channel that is connected, and how many values it has at most. The library is asked once."""
+        return self.forms.get(name) or form_of(chid)
 
     def on_trouble(self, it):
         """The library tells what went wrong: a put that a server refuses, say, or a server that is gone."""
@@ -95,6 +111,7 @@ class Channels:
 
     def on_values(self, it):
         """Values came. A status that is not normal says that they can't be read now."""
+        stay()
         if it.status == NORMAL:
             name, kind, size, most = self.takes[it.chid]
             count = it.count if most is None else min(it.count, most)
@@ -104,6 +121,18 @@ class Channels:
     def flush(self):
         """Sends what may still wait in a buffer of the library."""
         ca.flush_io()
+
+
+def form_of(chid):
+    """What the library says of the form of a channel."""
+    return ca.libca.ca_field_type(chid), ca.libca.ca_element_count(chid)
+
+
+def stay():
+    """Keeps what Python has of a thread of the library. Else that is made at each call of a method and taken away behind it, which
+    costs as much as all else."""
+    if not hasattr(OF_THREAD, "stays"):
+        OF_THREAD.stays = ctypes.pythonapi.PyGILState_Ensure()
 
 
 def values_in(data, kind, count):

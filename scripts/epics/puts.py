@@ -5,7 +5,7 @@ import threading
 import time
 from collections import Counter
 
-from channels import ca, dbr
+from channels import ca, dbr, stay
 from values import unscaled
 
 # Statuses of caerr.h.
@@ -36,30 +36,30 @@ class Puts:
         elif ca.libca.ca_state(chid) != dbr.CS_CONN:
             self.tell(name, "it is not connected")
         else:
-            count = min(len(numbers), ca.libca.ca_element_count(chid))
-            kind, data = self.as_sent(name, chid, numbers[:count])
+            form, most = self.channels.form(name, chid)
+            kind, data = self.as_sent(name, form, numbers[:most])
             if kind is None:
                 self.failed(name, data)
                 return
             self.used[name] = chid
             self.send(name, chid, kind, data)
 
-    def as_sent(self, name, chid, numbers):
-        """The type and the values that are sent, or nothing and why not."""
-        if ca.libca.ca_field_type(chid) == dbr.STRING:
+    def as_sent(self, name, form, numbers):
+        """The type and the values that are sent to a channel of this type, or nothing and why not."""
+        if form == dbr.STRING:
             texts = [self.texts.get(name, {}).get(it) for it in numbers]
             if None in texts:
                 return None, f"no text of --enum has the number {numbers[texts.index(None)]}"
             return dbr.STRING, (len(texts) * Text).from_buffer_copy(b"".join(os.fsencode(it).ljust(40, b"\0") for it in texts))
-        kind, values = self.as_numbers(name, chid, numbers)
+        kind, values = self.as_numbers(name, form, numbers)
         if kind is None:
             return None, f"{values} is beyond 32 bits"
         return kind, (len(values) * dbr.Map[kind])(*values)
 
-    def as_numbers(self, name, chid, numbers):
+    def as_numbers(self, name, form, numbers):
         """The type and the numbers that are sent; the server makes of them what the channel is. No type where nothing fits."""
         power = self.powers.get(name, 0)
-        if power or ca.libca.ca_field_type(chid) in (dbr.FLOAT, dbr.DOUBLE):
+        if power or form in (dbr.FLOAT, dbr.DOUBLE):
             return dbr.DOUBLE, [unscaled(it, power) for it in numbers]
         return dbr.LONG if all(it in INTEGERS for it in numbers) else None, numbers
 
@@ -80,6 +80,7 @@ class Puts:
 
     def on_answer(self, it):
         """A thread of the library brings an answer. A channel that went down ends the waiting by its `down`."""
+        stay()
         name = self.channels.names[it.chid]
         if it.status != NORMAL:
             self.tell(name, ca.message(it.status))

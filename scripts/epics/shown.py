@@ -1,5 +1,6 @@
 """Text for people, on standard output and standard error: a thread of its own writes it, so that no reader holds up a put."""
 import os
+import queue
 import select
 import sys
 import threading
@@ -27,18 +28,20 @@ class Shown:
     def __init__(self, descriptor, on_missed, on_fault):
         """`on_missed` hears how many lines were not shown, when the reader is there again; `on_fault` that writing failed."""
         self.descriptor, self.on_missed, self.on_fault = descriptor, on_missed, on_fault
-        self.waiting, self.changed = deque(), threading.Condition()
+        # What wakes the thread where nothing waited: it costs a third of what a condition does.
+        self.waiting, self.lock, self.woken = deque(), threading.Lock(), queue.SimpleQueue()
         self.missed, self.shown, self.is_over, self.has_failed = 0, 0, False, False
         self.thread = threading.Thread(target=self.work, daemon=True)
         self.thread.start()
 
     def add(self, lines):
         """Shows lines, in bytes, as soon as somebody reads. It never waits."""
-        with self.changed:
-            room = 0 if self.has_failed else max(0, MOST - len(self.waiting))
+        with self.lock:
+            room, was_empty = 0 if self.has_failed else max(0, MOST - len(self.waiting)), not self.waiting
             self.waiting.extend(lines[:room])
             self.missed += len(lines[room:])
-            self.changed.notify()
+        if was_empty:
+            self.woken.put(None)
 
     def work(self):
         """Writes what waits, piece by piece, until all is written behind the end."""
@@ -51,13 +54,13 @@ class Shown:
 
     def has_more(self):
         """Waits for more lines; tells what was missed when no line waits any more. False at the end."""
-        with self.changed:
+        with self.lock:
             missed, self.missed = (0, self.missed) if self.waiting else (self.missed, 0)
         if missed:
             self.on_missed(missed)
-        with self.changed:
-            self.changed.wait_for(lambda: self.waiting or self.is_over)
-            return bool(self.waiting)
+        while not self.waiting and not self.is_over:
+            self.woken.get()
+        return bool(self.waiting)
 
     def piece(self):
         """The lines that are written next: one, or as many as a pipe takes whole. They wait until they are written."""
@@ -76,16 +79,15 @@ class Shown:
                 data = data[os.write(self.descriptor, data[:PIECE]) :]
             except BlockingIOError:
                 pass
-        with self.changed:
+        with self.lock:
             self.shown += len(lines)
             for _ in lines:
                 self.waiting.popleft()
 
     def finish(self):
         """Waits for the reader, as long as it reads on. How many lines were not shown."""
-        with self.changed:
-            self.is_over = True
-            self.changed.notify()
+        self.is_over = True
+        self.woken.put(None)
         before = -1
         while self.thread.is_alive() and self.shown != before:
             before = self.shown

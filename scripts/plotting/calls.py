@@ -1,12 +1,11 @@
 """Calls `snc --tables` and `snl run --whole`, and hands streams to them that are read here too."""
 import os
-import shutil
 import stat
 import subprocess
 import tempfile
 from dataclasses import dataclass, field
 from pathlib import Path
-from typing import BinaryIO, Optional
+from typing import BinaryIO, Iterator, Optional
 
 from plotting import notes
 
@@ -19,6 +18,9 @@ BUILT = {
 INSTALLED, PROGRAMS = "lib/snlrun", "bin"
 # So much of the end of a run is looked at for how it ended.
 END = 1 << 16
+# The bytes of a source at most, as `snc` has it; of a line of a run, which a `printf` of such a source never comes to; and of a
+# stream that is copied.
+MOST_OF_SOURCE, MOST_OF_LINE, MOST_OF_COPY = 1 << 20, 1 << 23, 1 << 32
 
 
 class Failed(Exception):
@@ -43,15 +45,21 @@ def found(folder: Path, name: str, given: Optional[str]) -> str:
     raise Failed([f"plot: {name} is not built here: call bin/{name} or bin/try {name} once, or name one by --{name} PATH"], 3)
 
 
-def seekable(stream: BinaryIO) -> BinaryIO:
-    """A stream that can be read from several places: itself, if it is a file, else a copy."""
+def seekable(stream: BinaryIO, name: str, longest: int) -> BinaryIO:
+    """A stream that can be read from several places: itself, if it is a file, else a copy, up to a line that is too long."""
     try:
         if stat.S_ISREG(os.fstat(stream.fileno()).st_mode):
             return stream
     except OSError:
         pass
-    copy = tempfile.TemporaryFile(prefix="plot-")
-    shutil.copyfileobj(stream, copy, END)
+    copy, size, line = tempfile.TemporaryFile(prefix="plot-"), 0, 0
+    while line <= longest and (piece := stream.read(END)):
+        copy.write(piece)
+        size += len(piece)
+        if size > MOST_OF_COPY:
+            raise Failed([f"plot: {name} is a stream of more than {MOST_OF_COPY} bytes: write it to a file, and take that"], 3)
+        newline = piece.rfind(b"\n")
+        line = line + len(piece) if newline < 0 else len(piece) - newline - 1
     copy.flush()
     copy.seek(0)
     return copy
@@ -74,9 +82,11 @@ class Source:
 
 
 def source_of(file: str) -> Source:
-    """The program of a file. A pipe is read to its end, and stands in a copy then."""
+    """The program of a file. A pipe is read to its end, and stands in a copy then. No more is read than tells `snc` that it is too
+    long."""
     try:
-        data = Path(file).read_bytes()
+        with open(file, "rb") as stream:
+            data = stream.read(MOST_OF_SOURCE + 1)
         is_file = stat.S_ISREG(os.stat(file).st_mode)
     except OSError:
         raise Failed([f"plot: cannot read {file}"], 3) from None
@@ -140,11 +150,19 @@ def stored(path: str) -> Run:
     """A run that was written before."""
     try:
         with open(path, "rb") as file:
-            lines = seekable(file)
+            lines = seekable(file, path, MOST_OF_LINE)
             run = ended(Run(lines if lines is not file else open(path, "rb")))
     except OSError:
         raise Failed([f"plot: cannot read {path}"], 3) from None
     return run
+
+
+def lines_of(run: Run, name: str) -> Iterator[bytes]:
+    """The lines of a run, none of them longer than one can be."""
+    while line := run.lines.readline(MOST_OF_LINE + 1):
+        if len(line) > MOST_OF_LINE:
+            raise Failed([f"plot: {name} has a line of more than {MOST_OF_LINE} bytes, and is no run"], 3)
+        yield line
 
 
 def ended(run: Run) -> Run:

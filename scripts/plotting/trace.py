@@ -6,6 +6,8 @@ from typing import Iterator, Optional
 PIECE = 1 << 16
 # How many fields a line has at least and at most, by its word.
 FIELDS = {b"up": (3, 3), b"down": (3, 3), b"done": (3, 3), b"tick": (2, 2), b"val": (4, 1 << 16)}
+# The bytes of a line at most, as `snlrun` has it.
+LONGEST = 32768
 # How much of a line is shown.
 SHOWN = 100
 
@@ -25,9 +27,9 @@ class Event:
 
 
 def lines_of(file: int, start: int) -> Iterator[bytes]:
-    """The lines of an open file from a place on, which does not move the place where others read."""
+    """The lines of an open file from a place on, which does not move the place where others read, up to one that does not end."""
     rest = b""
-    while piece := os.pread(file, PIECE, start):
+    while len(rest) <= LONGEST and (piece := os.pread(file, PIECE, start)):
         start += len(piece)
         *whole, rest = (rest + piece).split(b"\n")
         yield from whole
@@ -38,7 +40,7 @@ def lines_of(file: int, start: int) -> Iterator[bytes]:
 def events(lines: Iterator[bytes], bad: Optional[int]) -> Iterator[Event]:
     """The events of lines, up to the bad one, whose number is given where it is known, or to one that is no event."""
     for number, line in enumerate(lines, 1):
-        if number == bad:
+        if number == bad or len(line) > LONGEST:
             return
         if line[:1] == b"#":
             continue

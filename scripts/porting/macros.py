@@ -4,13 +4,15 @@ from dataclasses import dataclass
 from typing import Iterator, Optional
 
 from porting.constants import literal
-from porting.notes import ByHand
+from porting.notes import ByHand, NotUnderstood
 from porting.tokens import Token
 
 DEFINE = re.compile(r"^[ \t%{]*#[ \t]*define[ \t]+(\w+)[ \t]+(\(?-?[.\d][\w.+-]*\)?)[ \t]*(?:/[/*].*)?$", re.MULTILINE)
 ENUMERATION = re.compile(r"\benum\b\s*\w*\s*\{([^}]*)\}")
 CONSTANT = re.compile(r"\bconst\s+(?:int|long|short|double|float)\s+(\w+)\s*=\s*(-?[\d.]+(?:[eE]-?\d+)?)\s*;")
 COMMENT = re.compile(r"/\*.*?\*/|//[^\n]*", re.DOTALL)
+# The tokens at most that a program has with all macros written out: more do not fit into what `snc` reads.
+MOST_TOKENS = 1 << 19
 SHOWN = frozenset({"(", ")", "-", "+", "*", "/", "<<"})
 
 
@@ -70,6 +72,8 @@ def written_out(tokens: list[Token], macros: dict[str, Macro]) -> list[Token]:
             done.append(token)
         else:
             macro.used = True
+            if len(done) + len(waiting) > MOST_TOKENS:
+                raise NotUnderstood(token.line, f"macros make more than {MOST_TOKENS} tokens of it")
             put_back(replaced(token, macro, waiting), token, waiting)
     return done
 

@@ -5,6 +5,7 @@ Lines of the preprocessor and embedded C become comments, and tokens that came f
 import os
 import re
 from dataclasses import dataclass, field
+from typing import Optional
 
 from porting.macros import Macro, macros_of_c, written_out
 from porting.notes import BY_HAND, DECIDE, KNOW, NotUnderstood, Notes
@@ -14,6 +15,8 @@ KEPT = re.compile(r"[ \t]*#[ \t]*(?:(?:line )?[ \t]*\d|pragma)")
 DIRECTIVE = re.compile(r"\s*#\s*(\w+)\s*(.*)", re.DOTALL)
 DEFINED = re.compile(r"(!?)\s*defined\s*(?:\(\s*(\w+)\s*\)|(\w+))$")
 DEEPEST = 30
+# The bytes of a source at most, as `snc` has it; and of all files together that it includes.
+MOST = 1 << 20
 # What is open where a sign is read of it.
 UNCLOSED = {"/*": "a comment", "%{": "embedded C"}
 
@@ -35,6 +38,8 @@ class Preprocessor:
     macros: dict[str, Macro] = field(default_factory=dict)
     branches: list[Branch] = field(default_factory=list)
     depth: int = 0
+    # How many bytes of included files may still come.
+    room: int = MOST
     # Lines of files that are not there.
     lines_by_hand: list[int] = field(default_factory=list)
 
@@ -123,17 +128,29 @@ class Preprocessor:
             self.notes.add(reader.line, KNOW, f"include {rest} is left out")
             return
         path = os.path.join(os.path.dirname(self.path), found[1])
-        try:
-            with open(path, "rb") as file:
-                source = file.read().decode("latin-1")
-        except OSError:
+        source = self.text_of(path)
+        if source is None:
             self.left_out(reader.line, f"include {rest} is left out: there is no such file here")
             return
+        if len(source) > self.room:
+            self.left_out(reader.line, f"include {rest} is left out: with it the files that are included have more than {MOST} bytes")
+            return
+        self.room -= len(source)
         if self.depth >= DEEPEST:
             self.left_out(reader.line, f"include {rest} is left out: files include each other without end")
             return
         self.notes.add(reader.line, KNOW, f"file {found[1]} is read here")
         reader.insert(self.tokens_of_file(path, source, reader.line))
+
+    def text_of(self, path: str) -> Optional[str]:
+        """The text of a file that is included, no more of it than tells that it is too long; None where it is no file."""
+        if not os.path.isfile(path):
+            return None
+        try:
+            with open(path, "rb") as file:
+                return file.read(self.room + 1).decode("latin-1")
+        except OSError:
+            return None
 
     def left_out(self, line: int, why: str) -> None:
         """Notes a file that a person has to look for."""
