@@ -20,6 +20,7 @@ pub mod Taking
 pub mod Footprint
 pub mod Adding
 pub mod Adjusting
+pub mod Pushing
 pub mod Pictured
 pub mod Framed
 pub mod PicturesApart
