@@ -45,6 +45,9 @@ def cases(root):
     yield Tool("snl waits: memory over many lines as over a few", memory)
     for name, lines in ("light", 4), ("motor", 3), ("shutter", 2):
         yield Tool(f"snl search --cover: {name}, as snl cover says of the traces", lambda *it, of=(name, lines): suite(root, *of, *it))
+    yield Tool("snl run: MACROS that are the name of a file", file_for_macros)
+    yield Tool("snl search --out: which files it writes over", written_over)
+    yield Tool("snl search --cover: which folders it takes", folders_taken)
     yield Tool("snl search --seconds: it stops, and says how much is certain", seconds)
     yield Tool("snl search: on a terminal it tells how far it has come", far)
 
@@ -140,6 +143,65 @@ def suite(root, name, lines, program, folder):
     texts = [it.read_text() for it in traces]
     begun = [one for one in texts for other in texts if one is not other and other.startswith(one)]
     return f"beginnings of others: {begun}" if begun else ""
+
+
+# A program whose searches are short, and the first line of each trace that a search writes.
+SAFE = """program safe option +s; int x; assign x to "X"; monitor x;
+ss s { state a { when (x > 5) {} state b } state b { when (x < 1) {} state a } }
+"""
+FIRST = "# written by snl search\n"
+SEARCH = ("search", "--lines", "1", "--never", "s.b")
+
+
+def file_for_macros(program, folder):
+    """A file whose name has the form of a macro."""
+    Path(folder, "A=1").write_text("0 up X\n")
+    found = called(program, folder, "run", "p.st", "A=1")
+    told = "error: 'A=1' stands in the place of MACROS, which are NAME=VALUE,..\n\n"
+    right = "The trace comes on standard input: snl run p.st < A=1\n\nFor more information, try '--help'.\n"
+    return differs(found, (2, "", told + right))
+
+
+def refused(program, folder, words, text):
+    """What is wrong with a call of a search that has to be refused with this text, before anything is searched."""
+    return differs(called(program, folder, *SEARCH, *words, "safe.st"), (2, "", f"error: '{words[-2]} {words[-1]}' {text}\n"))
+
+
+def written_over(program, folder):
+    """Its own traces and empty files are; what somebody else wrote, the trace of --like and the program are not."""
+    Path(folder, "safe.st").write_text(SAFE)
+    Path(folder, "notes").write_text("mine\n")
+    Path(folder, "found").write_text("")
+    ran = [called(program, folder, *SEARCH, "--out", "found", "safe.st")[0] for _ in range(2)]
+    text = Path(folder, "found").read_text()
+    return (
+        differs(ran, [1, 1])
+        or differs(text.startswith(f"{FIRST}0 up X\n"), True)
+        or refused(program, folder, ("--out", "notes"), "was not written by snl search, and is not written over")
+        or refused(program, folder, ("--like", "found", "--out", "./found"), "is the trace of --like, and is not written over")
+        or refused(program, folder, ("--out", "safe.st"), "is the program, and is not written over")
+        or differs([Path(folder, it).read_text() for it in ("notes", "found", "safe.st")], ["mine\n", text, SAFE])
+    )
+
+
+def folders_taken(program, folder):
+    """One with its own traces is taken, and they are taken away; one with another file, or with the trace of --like, is not."""
+    Path(folder, "safe.st").write_text(SAFE)
+    suite = Path(folder, "suite")
+    suite.mkdir()
+    Path(suite, "77.trace").write_text(f"{FIRST}0 tick\n")
+    ran = called(program, folder, *SEARCH, "--cover", "suite", "safe.st")[0]
+    names = sorted(it.name for it in suite.iterdir())
+    wrong = differs((ran, names[:1], "77.trace" in names), (1, ["1.trace"], False))
+    inside = "name a new or an empty folder"
+    wrong = wrong or refused(
+        program, folder, ("--like", "suite/1.trace", "--cover", "suite"), f"has '1.trace' in it, which is the trace of --like: {inside}"
+    )
+    for other in ("2.trace.old", "88.trace"):
+        Path(suite, other).write_text("0 tick\n")
+        wrong = wrong or refused(program, folder, ("--cover", "suite"), f"has '{other}' in it, which was not written by snl search: {inside}")
+        Path(suite, other).unlink()
+    return wrong
 
 
 # A program with ever more worlds, each of which takes some time; how many seconds a search of it has, and how much later it may end.

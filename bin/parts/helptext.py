@@ -6,14 +6,17 @@ import re
 import subprocess
 from dataclasses import dataclass, field
 
-# The titles of lists of words in the texts of clap and of argparse, and of the words of snl.
-LISTS = {"Arguments": "arguments", "positional arguments": "arguments", "Options": "options", "options": "options", "Words": "words"}
+# The titles of lists of words in the texts of clap and of argparse, and of the three groups of the words of snl.
+LISTS = {"Arguments": "arguments", "positional arguments": "arguments", "Options": "options", "options": "options"}
+LISTS |= dict.fromkeys(("Look", "Run", "Search"), "words")
 # An item begins at one of these columns; what stands further to the right goes on with the one before.
 COLUMNS = (2, 6)
 LEADS = {"Usage": "usage", "usage": "usage", "Example": "example", "Status": "status", "Licence": "licence"}
 ROW = re.compile(r"(\S.*?)(?:  +(.*))?")
 WORD = re.compile(r"([a-z]+) +([A-Z].*)")
 STATUS = re.compile(r"(?:^|, )(\d) ")
+# The last line of a help: the name and the version, which stand in the foot of a manual page.
+VERSION = re.compile(r"[a-z]+ \d+\.\d+\.\d+")
 # So begins what a doc comment tells of statuses.
 STATUSES = "The status is "
 
@@ -49,9 +52,11 @@ def read(text):
         first, _, rest = block.partition("\n")
         lead, colon, front = first.partition(":")
         if colon and not front and lead in LISTS:
-            found.lists[LISTS[lead]] = items(rest, LISTS[lead])
+            found.lists.setdefault(LISTS[lead], []).extend(items(rest, LISTS[lead]))
         elif colon and lead in LEADS:
             found.said[LEADS[lead]] = " ".join(f"{front}\n{rest}".split())
+        elif VERSION.fullmatch(block):
+            continue
         elif found.said.get("usage"):
             found.more.append(block)
         else:

@@ -89,7 +89,9 @@ Example: snc --tables interlock.st
 Status: 0 well, 1 errors in the program, 2 the words of the call are wrong,
 3 the file or the output failed, 4 memory ran out.
 
-Licence: Apache-2.0.";
+Licence: Apache-2.0.
+
+snc 0.9.0";
 
 /// What stands at the top of `snlrun --help`, and at its end.
 const SNLRUN_ABOUT: &str =
@@ -107,7 +109,11 @@ Status: 0 well, 1 errors in the program, 2 the words of the call are wrong,
 3 the file, the input or the output failed, 4 memory ran out, 5 the program faulted,
 6 a line of the trace is bad.
 
-Licence: Apache-2.0.";
+Licence: Apache-2.0.
+
+MACROS are NAME=VALUE,..; the trace comes on standard input
+
+snlrun 0.9.0";
 
 /// The command of `snc`.
 pub(crate) fn snc_command<'a>(alloc: Global) -> Result<Command<'a>, AllocError>

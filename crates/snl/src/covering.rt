@@ -2,14 +2,18 @@
 
 ghost use Rattle.std.specs.Prelude.{◌-◌, ◌^◌, ◌<◌};
 
+use crate::asked::Asked;
 use crate::input::Input;
+use crate::overhearing::{bad_line_text, overheard};
 use crate::traces::TraceFile;
 use snc::Status;
 use snc_cli::{tell, write};
 use snl_args::Call;
 use snl_trace::{End, Source};
-use snl_views::{CoverAnswer, Coverage, cover, coverage_text, gaps_of};
+use snl_views::{CoverAnswer, Coverage, Overheard, cover, coverage_text, gaps_of};
 use snl_watch::Nowhere;
+use std::alloc::AllocError;
+use std::cell::RefCell;
 
 /// What came of the traces so far.
 #[derive(Drop)]
@@ -19,7 +23,7 @@ struct Total {
     /// What the runs showed; None before the first.
     coverage: Option<Coverage>,
     /// The lines about bad lines of traces.
-    bad_lines: String,
+    bad_lines: Vec<u8>,
     status: Status,
 }
 
@@ -49,38 +53,60 @@ impl Total {
         Total {
             messages: Vec::new(rt.alloc()),
             coverage: None,
-            bad_lines: String::new(rt.alloc()),
+            bad_lines: Vec::new(rt.alloc()),
             status: Status::Well,
         }
     }
 
-    /// Notes how a run over the trace of a name ended.
-    fn note(&mut self, rt: &HostRuntime, name: &str, end: End) -> Result<(), Status> {
+    /// Notes how a run over the trace of a name ended, and how its bad line can be mended.
+    fn note(
+        &mut self,
+        rt: &HostRuntime,
+        name: &str,
+        end: End,
+        mended: &[u8],
+    ) -> Result<(), Status> {
         let status = status_of(end);
         if rank(status) > rank(self.status) {
             self.status = status;
         }
+        match self.add_bad_line(rt, name, end, mended) {
+            Ok(()) => Ok(()),
+            Err(_) => Err(Status::Memory),
+        }
+    }
+
+    /// Adds the lines about a bad line.
+    fn add_bad_line(
+        &mut self,
+        rt: &HostRuntime,
+        name: &str,
+        end: End,
+        mended: &[u8],
+    ) -> Result<(), AllocError> {
         if let End::TraceFault(number, fault) = end {
-            match format!(in rt.alloc(); "{name}:{number}: {fault}\n") {
-                Ok(line) => {
-                    if self.bad_lines.push_str(line.as_str()).is_err() {
-                        return Err(Status::Memory);
-                    }
-                }
-                Err(_) => return Err(Status::Memory),
-            }
+            let line = format!(in rt.alloc(); "{name}:{number}: {fault}\n")?;
+            self.bad_lines.extend_from_slice(line.as_bytes())?;
+            self.bad_lines.extend_from_slice(mended)?;
         }
         Ok(())
     }
 
     /// Takes in what came of a run over the trace of a name.
-    fn take(&mut self, rt: &HostRuntime, name: &str, answer: CoverAnswer) -> Result<(), Status> {
+    fn take(
+        &mut self,
+        rt: &HostRuntime,
+        name: &str,
+        answer: CoverAnswer,
+        heard: &RefCell<Overheard>,
+    ) -> Result<(), Status> {
         self.messages = answer.messages;
         let Some(covered) = answer.covered else {
             self.status = Status::SourceErrors;
             return Ok(());
         };
-        self.note(rt, name, covered.end)?;
+        let mended = bad_line_text(rt, heard, covered.end);
+        self.note(rt, name, covered.end, mended.as_slice())?;
         if let Some(coverage) = &mut self.coverage {
             coverage.add(&covered.coverage);
             return Ok(());
@@ -90,34 +116,53 @@ impl Total {
     }
 }
 
-/// Runs the program of a call over a trace of a name.
+/// What came of the program of a call over a trace.
 fn run_over<R: Source + Drop>(
     rt: &HostRuntime,
     source: &[u8],
     call: &Call,
     trace: R,
-    name: &str,
-    total: &mut Total,
-) -> Result<(), Status>
+) -> Result<CoverAnswer, Status>
     requires { R.failures trace < 2 ^ 64 - 1 }
 {
-    match cover(rt.alloc(), source, &call.job, trace, Nowhere) {
-        Ok(answer) => total.take(rt, name, answer),
-        Err(_) => Err(Status::Memory),
-    }
+    cover(rt.alloc(), source, &call.job, trace, Nowhere).map_err(|_| Status::Memory)
+}
+
+/// Runs the program of a call over the trace in a file.
+fn run_over_file(
+    rt: &HostRuntime,
+    source: &[u8],
+    call: &Call,
+    name: &str,
+    total: &mut Total,
+) -> Result<(), Status> {
+    let heard = overheard(rt)?;
+    let trace = TraceFile::open(rt, name, &heard)?;
+    let answer = run_over(rt, source, call, trace)?;
+    total.take(rt, name, answer, &heard)
+}
+
+/// Runs the program of a call over the trace on standard input.
+fn run_over_input(
+    rt: &HostRuntime,
+    source: &[u8],
+    call: &Call,
+    total: &mut Total,
+) -> Result<(), Status> {
+    let heard = overheard(rt)?;
+    let trace = Input::new(rt, call.progress, &heard);
+    let answer = run_over(rt, source, call, trace)?;
+    total.take(rt, "trace", answer, &heard)
 }
 
 /// Runs the program of a call over all its traces.
 fn run_over_all(rt: &HostRuntime, source: &[u8], call: &Call) -> Result<Total, Status> {
     let mut total = Total::new(rt);
     if call.traces.is_empty() {
-        let trace = Input::new(rt, call.progress);
-        run_over(rt, source, call, trace, "trace", &mut total)?;
-        return Ok(total);
+        run_over_input(rt, source, call, &mut total)?;
     }
     for name in &call.traces {
-        let trace = TraceFile::open(rt, name.as_str())?;
-        run_over(rt, source, call, trace, name.as_str(), &mut total)?;
+        run_over_file(rt, source, call, name.as_str(), &mut total)?;
     }
     Ok(total)
 }
@@ -139,17 +184,19 @@ fn write_answer(rt: &HostRuntime, coverage: &Coverage, call: &Call) -> Status {
     Status::Well
 }
 
-/// Tells what came of all traces. The messages come behind the answer, and the lines about bad lines of traces come last.
-fn told(rt: &HostRuntime, total: &Total, call: &Call) -> Status {
+/// Tells what came of all traces. The messages come behind the answer, and what is told of bad lines of traces comes last.
+fn told(rt: &HostRuntime, total: &Total, asked: Asked) -> Status {
     let answered = match &total.coverage {
-        Some(coverage) if total.status != Status::InputOutput => write_answer(rt, coverage, call),
+        Some(coverage) if total.status != Status::InputOutput => write_answer(
+            rt, coverage, asked.call,
+        ),
         _ => Status::Well,
     };
     if answered == Status::Memory {
         return answered;
     }
-    tell(rt, total.messages.as_slice());
-    tell(rt, total.bad_lines.as_bytes());
+    asked.tell(rt, total.messages.as_slice());
+    tell(rt, total.bad_lines.as_slice());
     if total.status == Status::Well {
         answered
     } else {
@@ -158,9 +205,9 @@ fn told(rt: &HostRuntime, total: &Total, call: &Call) -> Status {
 }
 
 /// `snl cover`.
-pub fn answered_cover(rt: &HostRuntime, source: &[u8], call: &Call) -> Status {
-    match run_over_all(rt, source, call) {
-        Ok(total) => told(rt, &total, call),
+pub fn answered_cover(rt: &HostRuntime, asked: Asked) -> Status {
+    match run_over_all(rt, asked.source, asked.call) {
+        Ok(total) => told(rt, &total, asked),
         Err(status) => status,
     }
 }

@@ -1,12 +1,14 @@
 //! `snl graph`: the trace of a call, and the picture.
 
+use crate::asked::Asked;
 use crate::input::Input;
+use crate::overhearing::{overheard, tell_bad_line};
 use snc::Status;
-use snc_cli::{tell, write};
-use snl_args::Call;
+use snc_cli::write;
 use snl_trace::End;
-use snl_views::{Drawing, GraphAnswer, graph};
+use snl_views::{Drawing, GraphAnswer, Overheard, graph};
 use snl_watch::Nowhere;
+use std::cell::RefCell;
 
 /// The status of a picture, by how its run ended.
 fn status_of(drawing: &Drawing) -> Status {
@@ -31,29 +33,36 @@ fn written(rt: &HostRuntime, drawing: &Drawing) -> Status {
     }
 }
 
-/// Tells what `graph` answers. The messages come behind the picture, and the line about a bad line of the trace comes last.
-fn told(rt: &HostRuntime, answer: &GraphAnswer) -> Status {
+/// Tells what `graph` answers. The messages come behind the picture, and what is told of a bad line of the trace comes last.
+fn told(
+    rt: &HostRuntime,
+    asked: Asked,
+    answer: &GraphAnswer,
+    heard: &RefCell<Overheard>,
+) -> Status {
     let Some(drawing) = &answer.drawing else {
-        tell(rt, answer.messages.as_slice());
+        asked.tell(rt, answer.messages.as_slice());
         return Status::SourceErrors;
     };
     let status = written(rt, drawing);
-    tell(rt, answer.messages.as_slice());
-    if let Some(End::TraceFault(number, fault)) = drawing.end {
-        let _ = eprintln!(rt; "trace:{number}: {fault}");
+    asked.tell(rt, answer.messages.as_slice());
+    if let Some(end) = drawing.end {
+        tell_bad_line(rt, heard, end);
     }
     status
 }
 
 /// `snl graph`.
-pub fn answered_graph(rt: &HostRuntime, source: &[u8], call: &Call) -> Status {
+pub fn answered_graph(rt: &HostRuntime, asked: Asked) -> Result<Status, Status> {
+    let Asked { source, call, .. } = asked;
+    let heard = overheard(rt)?;
     let trace = if call.no_trace {
         None
     } else {
-        Some(Input::new(rt, call.progress))
+        Some(Input::new(rt, call.progress, &heard))
     };
     match graph(rt.alloc(), source, &call.job, trace, Nowhere) {
-        Ok(answer) => told(rt, &answer),
-        Err(_) => Status::Memory,
+        Ok(answer) => Ok(told(rt, asked, &answer, &heard)),
+        Err(_) => Err(Status::Memory),
     }
 }

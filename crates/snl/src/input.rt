@@ -2,8 +2,10 @@
 
 ghost use Rattle.std.specs.Prelude.{◌≡◌, ◌≤◌, length, IfSome};
 
+use crate::overhearing::overhear;
 use snc_cli::{Output, flush};
 use snl_trace::{Source, SourceFault};
+use snl_views::Overheard;
 use snl_watch::Tally;
 use std::cell::RefCell;
 use std::io::{IsTerminal, Read, Stdin};
@@ -27,15 +29,17 @@ pub struct Input<'c> {
     is_begun: bool,
     progress: Option<Progress>,
     output: Option<&'c RefCell<Output>>,
+    heard: &'c RefCell<Overheard>,
 }
 
 impl<'c> Input<'c> {
-    /// Nothing was read yet.
-    pub fn new(rt: &'c HostRuntime, tells: bool) -> Self
+    /// Nothing was read yet. What is read is overheard, too.
+    pub fn new(rt: &'c HostRuntime, tells: bool, heard: &'c RefCell<Overheard>) -> Self
         ensures { result.failures ≡ 0 }
     {
         Input {
             rt,
+            heard,
             input: rt.stdin(),
             failures: 0,
             is_begun: false,
@@ -45,10 +49,15 @@ impl<'c> Input<'c> {
     }
 
     /// The same, beside an answer that goes out meanwhile.
-    pub fn beside(rt: &'c HostRuntime, tells: bool, output: &'c RefCell<Output>) -> Self
+    pub fn beside(
+        rt: &'c HostRuntime,
+        tells: bool,
+        heard: &'c RefCell<Overheard>,
+        output: &'c RefCell<Output>,
+    ) -> Self
         ensures { result.failures ≡ 0 }
     {
-        let mut input = Input::new(rt, tells);
+        let mut input = Input::new(rt, tells, heard);
         input.output = Some(output);
         input
     }
@@ -114,6 +123,7 @@ impl Source for Input<'_> {
                 if let Some(progress) = &mut self.progress {
                     count(self.rt, progress, &room[..size]);
                 }
+                overhear(self.heard, &room[..size]);
                 Ok(size)
             }
             None => {

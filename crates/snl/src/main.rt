@@ -3,24 +3,30 @@
 //! The answer goes to standard output, all else to standard error.
 #![tactic(auto)]
 
+mod asked;
 mod covering;
 mod graphing;
 mod input;
+mod macros;
+mod outputs;
+mod overhearing;
 mod run;
 mod searching;
 mod traces;
+mod waiting;
 
+use asked::Asked;
 use covering::answered_cover;
 use graphing::answered_graph;
-use input::Input;
+use macros::{check_macros, notes_of};
+use outputs::check_outputs;
 use run::answered_run;
 use searching::answered_search;
 use snc::Status;
 use snc_cli::{source_in, tell, words_of, write};
 use snl_args::{Call, CallFault, Word, read_call};
-use snl_trace::End;
-use snl_views::{Answer, waits};
 use std::process::ExitCode;
+use waiting::answered_waits;
 
 /// The version of the programs, that of the file VERSION.
 const VERSION: &str = "0.9.0";
@@ -38,7 +44,11 @@ fn main(rt: HostRuntime) -> ExitCode {
 fn call_of(rt: &HostRuntime) -> Result<Call, Status> {
     let words = words_of(rt)?;
     match read_call(rt.alloc(), words.as_slice(), VERSION) {
-        Ok(call) => Ok(call),
+        Ok(call) => {
+            check_macros(rt, &call)?;
+            check_outputs(rt, &call)?;
+            Ok(call)
+        }
         Err(fault) => Err(told(rt, &fault)),
     }
 }
@@ -69,46 +79,35 @@ fn answered(rt: &HostRuntime, call: &Call) -> u8 {
         Err(status) => return status.code(),
     };
     let source = source.as_slice();
+    let notes = match notes_of(rt, source, call) {
+        Ok(notes) => notes,
+        Err(status) => return status.code(),
+    };
+    let notes = notes.as_slice();
+    let asked = Asked {
+        source,
+        call,
+        notes,
+    };
     match &call.search {
-        Some(words) => answered_search(rt, source, call, words),
-        None => answered_word(rt, source, call).code(),
+        Some(words) => answered_search(rt, asked, words),
+        None => code_of(answered_word(rt, asked)),
+    }
+}
+
+/// The exit status of what was done, or of why it could not be done.
+fn code_of(done: Result<Status, Status>) -> u8 {
+    match done {
+        Ok(status) | Err(status) => status.code(),
     }
 }
 
 /// Does what a word asks for that is not a search.
-fn answered_word(rt: &HostRuntime, source: &[u8], call: &Call) -> Status {
-    match call.word {
-        Word::Waits => answered_waits(rt, source, call),
-        Word::Run => answered_run(rt, source, call),
-        Word::Cover => answered_cover(rt, source, call),
-        Word::Graph | Word::Search => answered_graph(rt, source, call),
+fn answered_word(rt: &HostRuntime, asked: Asked) -> Result<Status, Status> {
+    match asked.call.word {
+        Word::Waits => answered_waits(rt, asked),
+        Word::Run => answered_run(rt, asked),
+        Word::Cover => Ok(answered_cover(rt, asked)),
+        Word::Graph | Word::Search => answered_graph(rt, asked),
     }
-}
-
-/// `snl waits`.
-fn answered_waits(rt: &HostRuntime, source: &[u8], call: &Call) -> Status {
-    let trace = Input::new(rt, call.progress);
-    match waits(rt.alloc(), source, &call.job, trace) {
-        Ok(answer) => told_waits(rt, &answer),
-        Err(_) => Status::Memory,
-    }
-}
-
-/// Writes what `waits` answers. The messages come behind the answer, and the line about a bad line of the trace comes last.
-fn told_waits(rt: &HostRuntime, answer: &Answer) -> Status {
-    let written = match &answer.outcome {
-        Some(outcome) if outcome.end != End::SourceFailed => write(rt, outcome.text.as_slice()),
-        _ => Ok(()),
-    };
-    tell(rt, answer.messages.as_slice());
-    if let Some(outcome) = &answer.outcome {
-        if let End::TraceFault(number, fault) = outcome.end {
-            let _ = eprintln!(rt; "trace:{number}: {fault}");
-            return Status::TraceFault;
-        }
-    }
-    if written.is_err() {
-        return Status::InputOutput;
-    }
-    answer.status()
 }

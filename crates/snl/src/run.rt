@@ -1,11 +1,12 @@
 //! `snl run`.
 
+use crate::asked::Asked;
 use crate::input::Input;
+use crate::overhearing::{clock_text, overheard, tell_bad_line};
 use snc::{SinkFault, Status};
-use snc_cli::{Lines, Output, tell};
-use snl_args::Call;
+use snc_cli::{Lines, Output, write};
 use snl_trace::End;
-use snl_views::{RunAnswer, run_folded, run_whole};
+use snl_views::{Overheard, RunAnswer, run_folded, run_whole};
 use snl_watch::Nowhere;
 use std::cell::RefCell;
 use std::io::BufWriter;
@@ -13,41 +14,68 @@ use std::io::BufWriter;
 /// How many bytes of output are held back at most.
 const OUTPUT_HELD: usize = 65_536;
 
-/// Says what is to be said of a run. The messages come behind it, and the line about a bad line of the trace comes last.
-fn told_run<K>(rt: &HostRuntime, answer: &RunAnswer<K>, finished: Result<(), SinkFault>) -> Status {
-    tell(rt, answer.messages.as_slice());
-    if let Some(End::TraceFault(number, fault)) = answer.end {
-        let _ = eprintln!(rt; "trace:{number}: {fault}");
+/// Writes what looks wrong with the times of the trace behind the summary, where all of that was written. Answers whether all is
+/// written.
+fn ended(
+    rt: &HostRuntime,
+    end: Option<End>,
+    is_whole: bool,
+    heard: &RefCell<Overheard>,
+) -> Result<bool, Status> {
+    match end {
+        Some(end) if is_whole => {
+            let clock = clock_text(rt, heard, end, b"# ")?;
+            Ok(write(rt, clock.as_slice()).is_ok())
+        }
+        _ => Ok(is_whole),
+    }
+}
+
+/// Says what is to be said of a run. The messages come behind it, and what is told of a bad line of the trace comes last.
+fn told_run<K>(
+    rt: &HostRuntime,
+    asked: Asked,
+    answer: &RunAnswer<K>,
+    finished: Result<(), SinkFault>,
+    heard: &RefCell<Overheard>,
+) -> Result<Status, Status> {
+    let is_whole = answer.is_whole && finished.is_ok();
+    let is_written = ended(rt, answer.end, is_whole, heard)?;
+    asked.tell(rt, answer.messages.as_slice());
+    if let Some(end) = answer.end {
+        tell_bad_line(rt, heard, end);
     }
     match answer.status() {
-        Status::Well if finished.is_err() => Status::InputOutput,
-        status => status,
+        Status::Well if !is_written => Ok(Status::InputOutput),
+        status => Ok(status),
     }
 }
 
 /// `snl run`.
-pub fn answered_run(rt: &HostRuntime, source: &[u8], call: &Call) -> Status {
+pub fn answered_run(rt: &HostRuntime, asked: Asked) -> Result<Status, Status> {
+    let Asked { source, call, .. } = asked;
     let Ok(writer) = BufWriter::with_capacity(rt.alloc(), OUTPUT_HELD, rt.stdout()) else {
-        return Status::Memory;
+        return Err(Status::Memory);
     };
+    let heard = overheard(rt)?;
     let output = RefCell::new(Output::new(writer));
-    let trace = Input::beside(rt, call.progress, &output);
+    let trace = Input::beside(rt, call.progress, &heard, &output);
     let lines = Lines::new(&output);
     if call.is_whole {
         match run_whole(rt.alloc(), source, &call.job, trace, lines) {
             Ok(answer) => {
                 let finished = answer.sink.finish();
-                told_run(rt, &answer, finished)
+                told_run(rt, asked, &answer, finished, &heard)
             }
-            Err(_) => Status::Memory,
+            Err(_) => Err(Status::Memory),
         }
     } else {
         match run_folded(rt.alloc(), source, &call.job, trace, lines, Nowhere) {
             Ok(answer) => {
                 let finished = answer.sink.0.finish();
-                told_run(rt, &answer, finished)
+                told_run(rt, asked, &answer, finished, &heard)
             }
-            Err(_) => Status::Memory,
+            Err(_) => Err(Status::Memory),
         }
     }
 }

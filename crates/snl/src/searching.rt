@@ -1,13 +1,15 @@
 //! `snl search`.
 
+use crate::asked::Asked;
+use crate::outputs::{write_suite, write_trace};
 use snc::{Judgement, Status, judged, macros_of};
-use snc_cli::{tell, write};
+use snc_cli::write;
 use snl_args::{Call, ChannelValues, SearchWords};
 use snl_search::{Bounds, Scouts, SearchAnswer, Watches, WishFault, WishedValues, Wishes, search};
 use std::alloc::{AllocError, Global};
+use std::fs::File;
 use std::io::{ErrorKind, IsTerminal};
 use std::time::{Duration, Instant};
-use std::{fs, io};
 
 /// The clock of a search, which tells once a second how far it has come where standard error is a terminal.
 #[derive(Drop)]
@@ -91,11 +93,7 @@ fn named(alloc: Global, given: &[ChannelValues]) -> Result<Vec<WishedValues>, Al
 }
 
 /// What the words of a call wish. `like` is the recorded trace that they name.
-fn wishes_of(
-    alloc: Global,
-    words: &SearchWords,
-    like: Option<Vec<u8>>,
-) -> Result<Wishes, AllocError> {
+fn wishes_of(alloc: Global, words: &SearchWords, like: Option<File>) -> Result<Wishes, AllocError> {
     Ok(Wishes {
         never: owned(alloc, words.never.as_slice())?,
         like,
@@ -113,18 +111,21 @@ fn wishes_of(
     })
 }
 
-/// The recorded trace that the words of a call name, if they do. Where it cannot be read, the user is told.
-fn recorded(rt: &HostRuntime, words: &SearchWords) -> Result<Option<Vec<u8>>, Status> {
+/// Tells that the recorded trace cannot be read.
+fn told_unread(rt: &HostRuntime, name: &str) -> Status {
+    let _ = eprintln!(rt; "snl: cannot read {name}");
+    Status::InputOutput
+}
+
+/// The recorded trace that the words of a call name, if they do. Where it cannot be opened, the user is told.
+fn recorded(rt: &HostRuntime, words: &SearchWords) -> Result<Option<File>, Status> {
     let Some(name) = &words.like else {
         return Ok(None);
     };
-    match fs::read(rt, name.as_str()) {
+    match File::open(rt, name.as_str()) {
         Ok(trace) => Ok(Some(trace)),
         Err(fault) if fault.kind() == ErrorKind::OutOfMemory => Err(Status::Memory),
-        Err(_) => {
-            let _ = eprintln!(rt; "snl: cannot read {name}");
-            Err(Status::InputOutput)
-        }
+        Err(_) => Err(told_unread(rt, name.as_str())),
     }
 }
 
@@ -132,60 +133,6 @@ fn recorded(rt: &HostRuntime, words: &SearchWords) -> Result<Option<Vec<u8>>, St
 fn wished(rt: &HostRuntime, words: &SearchWords) -> Result<Wishes, Status> {
     let like = recorded(rt, words)?;
     wishes_of(rt.alloc(), words, like).map_err(|_| Status::Memory)
-}
-
-/// Whether a file could be written; where it could not, the user is told.
-fn told_written(rt: &HostRuntime, name: &str, written: io::Result<()>) -> bool {
-    match written {
-        Ok(()) => true,
-        Err(error) => {
-            let _ = eprintln!(rt; "snl: cannot write {name}: {error}");
-            false
-        }
-    }
-}
-
-/// Writes a trace into a file, where one is named.
-fn write_trace(rt: &HostRuntime, name: &Option<String>, trace: &Option<Vec<u8>>) -> bool {
-    match (name, trace) {
-        (Some(name), Some(trace)) => {
-            told_written(
-                rt,
-                name.as_str(),
-                fs::write(rt, name.as_str(), trace.as_slice()),
-            )
-        }
-        _ => true,
-    }
-}
-
-/// Writes the trace of a number into a folder.
-fn write_numbered(rt: &HostRuntime, folder: &str, number: usize, trace: &[u8]) -> bool {
-    match format!(in rt.alloc(); "{folder}/{number}.trace") {
-        Ok(name) => told_written(rt, name.as_str(), fs::write(rt, name.as_str(), trace)),
-        Err(_) => false,
-    }
-}
-
-/// Writes traces into a folder, where one is named: it is made where it is missing.
-fn write_suite(rt: &HostRuntime, folder: &Option<String>, suite: &[Vec<u8>]) -> bool {
-    let Some(folder) = folder else {
-        return true;
-    };
-    if !told_written(rt, folder.as_str(), fs::create_dir_all(rt, folder.as_str())) {
-        return false;
-    }
-    for (place, trace) in suite.iter().enumerate() {
-        if !write_numbered(
-            rt,
-            folder.as_str(),
-            place.saturating_add(1),
-            trace.as_slice(),
-        ) {
-            return false;
-        }
-    }
-    true
 }
 
 /// Says what a search answers.
@@ -203,6 +150,7 @@ fn told_answer(rt: &HostRuntime, words: &SearchWords, answer: &SearchAnswer) -> 
 fn told_fault(rt: &HostRuntime, words: &SearchWords, fault: &WishFault) -> u8 {
     match (fault, &words.like) {
         (WishFault::Memory, _) => Status::Memory.code(),
+        (WishFault::Unread, Some(name)) => told_unread(rt, name.as_str()).code(),
         (WishFault::BadLine(_, _), Some(name)) => {
             let _ = eprintln!(rt; "{name}:{fault}");
             Status::TraceFault.code()
@@ -241,7 +189,8 @@ fn searched<T: Scouts + Drop>(
 }
 
 /// `snl search`. Answers the status. The messages come behind the answer.
-pub fn answered_search(rt: &HostRuntime, source: &[u8], call: &Call, words: &SearchWords) -> u8 {
+pub fn answered_search(rt: &HostRuntime, asked: Asked, words: &SearchWords) -> u8 {
+    let Asked { source, call, .. } = asked;
     let file = call.job.file.as_bytes();
     match judged(rt.alloc(), source, file, call.job.options) {
         Ok(Judgement { messages, checked }) => {
@@ -249,7 +198,9 @@ pub fn answered_search(rt: &HostRuntime, source: &[u8], call: &Call, words: &Sea
                 Some(checked) => searched(rt, checked, call, words),
                 None => Status::SourceErrors.code(),
             };
-            tell(rt, messages.as_slice());
+            if code != Status::Memory.code() {
+                asked.tell(rt, messages.as_slice());
+            }
             code
         }
         Err(_) => Status::Memory.code(),

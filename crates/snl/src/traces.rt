@@ -2,26 +2,34 @@
 
 ghost use Rattle.std.specs.Prelude.{◌≡◌, ◌≤◌, length, IfOk, IfSome};
 
+use crate::overhearing::overhear;
 use snc::Status;
 use snl_trace::{Source, SourceFault};
+use snl_views::Overheard;
+use std::cell::RefCell;
 use std::fs::File;
 use std::io::Read;
 
 /// The trace in a file.
 #[derive(Drop)]
-pub struct TraceFile {
+pub struct TraceFile<'c> {
     file: File,
     failures: u64,
+    heard: &'c RefCell<Overheard>,
 }
 
-impl TraceFile {
+impl<'c> TraceFile<'c> {
     /// The trace in a file, of which nothing was read yet. `InputOutput` where it cannot be opened: then standard error has
-    /// `snl: cannot read FILE`.
-    pub fn open(rt: &HostRuntime, path: &str) -> Result<Self, Status>
+    /// `snl: cannot read FILE`. What is read is overheard, too.
+    pub fn open(rt: &HostRuntime, path: &str, heard: &'c RefCell<Overheard>) -> Result<Self, Status>
         ensures { IfOk result (λ trace. trace.failures ≡ 0) }
     {
         match File::open(rt, path) {
-            Ok(file) => Ok(TraceFile { file, failures: 0 }),
+            Ok(file) => Ok(TraceFile {
+                file,
+                failures: 0,
+                heard,
+            }),
             Err(_) => {
                 let _ = eprintln!(rt; "snl: cannot read {path}");
                 Err(Status::InputOutput)
@@ -37,7 +45,7 @@ fn next_piece(file: &mut File, room: &mut [u8]) -> Option<usize>
     file.read(room).ok()
 }
 
-impl Source for TraceFile {
+impl Source for TraceFile<'_> {
     ghost use Rattle.std.specs.Prelude.{None};
 
     ghost rest = { λ _. None };
@@ -46,7 +54,10 @@ impl Source for TraceFile {
 
     fn read(&mut self, room: &mut [u8]) -> Result<usize, SourceFault> {
         match next_piece(&mut self.file, room) {
-            Some(size) => Ok(size),
+            Some(size) => {
+                overhear(self.heard, &room[..size]);
+                Ok(size)
+            }
             None => {
                 self.failures += 1;
                 Err(SourceFault)

@@ -1,6 +1,7 @@
 //! What the words of a call ask for, and what may be wrong with them.
 
 use crate::commands::{for_cover, for_graph, for_run, over_trace};
+use crate::language::with_help;
 use crate::searches::{SearchWords, for_search, search_words};
 use crate::texts::{
     COVER_ABOUT, COVER_MORE, COVER_USAGE, GRAPH_ABOUT, GRAPH_MORE, GRAPH_USAGE, HELP, RUN_ABOUT,
@@ -255,11 +256,8 @@ fn fault_of(alloc: Global, name: &str, version: &str) -> Result<CallFault, Alloc
     }
 }
 
-/// What the words of a call ask for; `words` are those after the program's own name, `version` is what `--version` tells.
-///
-/// Options of the language are taken out first, as `snc_args` says. `BadOption` comes before all else. `Usage` comes of other
-/// words that are no call, `Told` of `--help` and `--version`; `Memory` where a growth was refused.
-pub fn read_call(alloc: Global, words: &[String], version: &str) -> Result<Call, CallFault> {
+/// What words ask for that have `--help` in the place of `-h`.
+fn call_of(alloc: Global, words: &[String], version: &str) -> Result<Call, CallFault> {
     if let Some((sign, character)) = first_refused(words) {
         return Err(CallFault::BadOption(sign, character));
     }
@@ -272,4 +270,13 @@ pub fn read_call(alloc: Global, words: &[String], version: &str) -> Result<Call,
         },
         [] => Err(CallFault::Usage(format!(in alloc; "error: no word was given\n{WORDS}")?)),
     }
+}
+
+/// What the words of a call ask for; `words` are those after the program's own name, `version` is what `--version` tells.
+///
+/// Options of the language are taken out first, as `snc_args` says, but `-h` is `--help`. `BadOption` comes before all else.
+/// `Usage` comes of other words that are no call, `Told` of `--help` and `--version`; `Memory` where a growth was refused.
+pub fn read_call(alloc: Global, words: &[String], version: &str) -> Result<Call, CallFault> {
+    let words = with_help(alloc, words)?;
+    call_of(alloc, words.as_slice(), version)
 }

@@ -75,9 +75,10 @@ fn no_trace_argument<'a>(alloc: Global) -> Arg<'a> {
         .help("Read no trace, and tell no counts")
 }
 
-/// `--help`. `clap` would add `-h` beside it, but that is an option of the language.
+/// `--help`, and `-h`, which is no letter of the language's options. `clap` would add one with a text of its own.
 pub(crate) fn help_argument<'a>(alloc: Global) -> Arg<'a> {
     Arg::new(alloc, "help")
+        .short('h')
         .long("help")
         .action(ArgAction::Help)
         .help("Print this help")

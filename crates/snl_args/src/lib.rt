@@ -6,8 +6,11 @@
 
 mod calls;
 mod commands;
+mod language;
+mod misplaced;
 mod searches;
 mod texts;
 
 pub use calls::{Call, CallFault, Word, read_call};
+pub use misplaced::misplaced_text;
 pub use searches::{ChannelValues, SearchWords};

@@ -6,11 +6,15 @@ The companion of snc and snlrun: what goes round a dry run of a program in the S
 
 Usage: snl [+X|-X].. WORD [OPTIONS] ..
 
-Words:
+Look:
   waits  When a program begins over a trace, or what it still waits for
-  run    A run with notes on what fired and why, blocks that repeat folded, and a summary
   cover  What of a program no run showed: clauses, states, channels
   graph  A picture of a program, for Graphviz
+
+Run:
+  run    A run with notes on what fired and why, blocks that repeat folded, and a summary
+
+Search:
   search Traces over a small alphabet, the shortest first, for what must not happen
 
 snl WORD --help tells what a word takes, with an example, and snl --version the version.
@@ -20,17 +24,23 @@ Options of the language: a sign and letters, as +u (more warnings) or -w (no war
 Status: 0 done, 1 no: the program has errors, or the answer of the word is no, 2 the words of
 the call are wrong, 3 the file, the input or the output failed, 4 memory ran out,
 5 the program faulted, 6 a line of the trace is bad, 7 a bound stopped a search.
+
+Licence: Apache-2.0
 ";
 
 /// What is told behind words that begin with none that is known.
 pub(crate) const WORDS: &str = "
 Usage: snl [+X|-X].. WORD [OPTIONS] ..
 
-Words:
+Look:
   waits  When a program begins over a trace, or what it still waits for
-  run    A run with notes on what fired and why, blocks that repeat folded, and a summary
   cover  What of a program no run showed: clauses, states, channels
   graph  A picture of a program, for Graphviz
+
+Run:
+  run    A run with notes on what fired and why, blocks that repeat folded, and a summary
+
+Search:
   search Traces over a small alphabet, the shortest first, for what must not happen
 
 For more information, try 'snl --help'.

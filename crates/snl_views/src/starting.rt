@@ -12,6 +12,7 @@ ghost use Rattle.snl_trace.specs.RunOver.{RunsOver, standing};
 ghost use Rattle.snl_views.specs.Awaits.{Awaits, awaited_in, left_in};
 
 use crate::awaited::{Awaited, awaited_of};
+use crate::bad_lines::without_bad_line;
 use indexmap::IndexSet;
 use snl_machine::Machine;
 use snl_trace::{End, Source, run};
@@ -114,6 +115,6 @@ pub(crate) fn start_of<R: Source + Drop>(
     Ok(Start {
         end: ran.end,
         awaited,
-        heard: ran.heard,
+        heard: without_bad_line(ran.heard, ran.end),
     })
 }

@@ -1,6 +1,7 @@
 //! What stands behind a run: how it ended, where the state sets stand, and counts.
 
 use crate::awaited::awaited_of;
+use crate::bad_lines::without_bad_line;
 use crate::pieces::{push_all, push_count, push_number};
 use crate::starting::Start;
 use crate::telling::{Scene, start_text};
@@ -96,7 +97,7 @@ fn push_waits(
     let start = Start {
         end,
         awaited,
-        heard,
+        heard: without_bad_line(heard, end),
     };
     let text = start_text(alloc, scene, &start)?;
     push_noted(out, text.as_slice())

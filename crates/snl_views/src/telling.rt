@@ -1,6 +1,7 @@
 //! The answer of `waits`, as a text.
 
 use crate::awaited::Awaited;
+use crate::escaped::push_escaped;
 use crate::hints::{Hint, hint_of};
 use crate::pieces::{push_all, push_count, push_number};
 use crate::starting::Start;
@@ -132,7 +133,8 @@ fn push_other(
     named: NameCount,
     hint: Option<Hint>,
 ) -> Result<(), AllocError> {
-    push_all(out, &[name, b" is no channel of the program"])?;
+    push_escaped(out, name)?;
+    out.extend_from_slice(b" is no channel of the program")?;
     push_named(out, named)?;
     match hint {
         Some(Hint::NoQuotes) => out.extend_from_slice(b"; take the quotes away")?,
@@ -163,14 +165,6 @@ fn push_others(
     Ok(())
 }
 
-/// The events that came to the program: not the bad line at which the trace ended.
-fn events_of(start: &Start) -> EventCount {
-    match start.end {
-        End::TraceFault(_, _) => start.heard.events_before(),
-        _ => start.heard.events(),
-    }
-}
-
 /// The answer as text: when the program began; or how much of the trace came, what the program waits for, and which names of
 /// the trace it does not have. Fails only where memory ran out.
 pub(crate) fn start_text(
@@ -183,7 +177,7 @@ pub(crate) fn start_text(
         push_began(&mut out, scene, &start.heard)?;
         return Ok(out);
     }
-    push_events(&mut out, events_of(start), scene.machine.time())?;
+    push_events(&mut out, start.heard.events(), scene.machine.time())?;
     for awaited in &start.awaited {
         push_awaited(&mut out, scene, &start.heard, *awaited)?;
     }

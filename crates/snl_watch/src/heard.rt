@@ -36,6 +36,13 @@ struct Channel {
     down_since: Option<u64>,
 }
 
+/// A channel that the last line names, by its number, with what was known of it before.
+#[derive(Clone, Copy)]
+struct Renamed {
+    number: usize,
+    before: Channel,
+}
+
 /// What was heard of a trace. Its size does not grow with the trace: of names that are no channels of the program 1,000 are
 /// kept, of at most 256 bytes each.
 #[derive(Drop)]
@@ -52,6 +59,8 @@ pub struct HeardTrace {
     others: IndexMap<Vec<u8>, NameCount>,
     /// How many lines have a name that is not kept.
     unkept: u64,
+    /// The channel that the last line names, if it names one.
+    last: Option<Renamed>,
     /// Whether memory was refused while the lines passed.
     ran_out: bool,
 }
@@ -73,6 +82,7 @@ impl HeardTrace {
             before: nothing,
             others: IndexMap::new(alloc),
             unkept: 0,
+            last: None,
             ran_out: false,
         })
     }
@@ -81,6 +91,7 @@ impl HeardTrace {
     pub fn note(&mut self, line: &[u8]) {
         self.lines = self.lines.saturating_add(1);
         self.before = self.events;
+        self.last = None;
         if line.first() == Some(&b'#') {
             return;
         }
@@ -111,6 +122,10 @@ impl HeardTrace {
     /// Hears what a line tells of a channel of the program.
     fn note_channel(&mut self, told: Told, ms: u64, number: usize) {
         if let Some(channel) = self.states.get_mut(number) {
+            self.last = Some(Renamed {
+                number,
+                before: *channel,
+            });
             match told {
                 Told::Up => {
                     channel.is_up = true;
@@ -140,6 +155,17 @@ impl HeardTrace {
         }
     }
 
+    /// Forgets what the last line told of events and of channels, since it is bad: such a line is no event. A name in it that is no
+    /// channel of the program stays.
+    pub fn forget_last(&mut self) {
+        self.events = self.before;
+        if let Some(named) = self.last {
+            if let Some(channel) = self.states.get_mut(named.number) {
+                *channel = named.before;
+            }
+        }
+    }
+
     /// Keeps a name that was heard for the first time.
     fn keep(&mut self, name: &[u8]) -> Result<(), AllocError> {
         let name = Vec::from_slice(self.alloc, name)?;
@@ -156,14 +182,10 @@ impl HeardTrace {
         self.lines
     }
 
-    /// The events of all lines. A line that is no comment and not blank counts as one, whether or not it is a good one.
+    /// The events of all lines. A line that is no comment and not blank counts as one, whether or not it is a good one, unless it
+    /// was forgotten.
     pub fn events(&self) -> EventCount {
         self.events
-    }
-
-    /// The events of all lines but the last.
-    pub fn events_before(&self) -> EventCount {
-        self.before
     }
 
     /// Since when a channel is down that was up before, in milliseconds, by its number; None where it is up, was never up, or

@@ -1,0 +1,56 @@
+//! `snl waits`.
+
+use crate::asked::Asked;
+use crate::input::Input;
+use crate::overhearing::{clock_text, overheard, tell_bad_line};
+use snc::Status;
+use snc_cli::write;
+use snl_trace::End;
+use snl_views::{Answer, Overheard, WaitsOutcome, waits};
+use std::cell::RefCell;
+
+/// Writes what came of a trace, unless that could not be read. Answers whether it was written, or that memory ran out.
+fn written(
+    rt: &HostRuntime,
+    outcome: &WaitsOutcome,
+    heard: &RefCell<Overheard>,
+) -> Result<bool, Status> {
+    if outcome.end == End::SourceFailed {
+        return Ok(true);
+    }
+    let clock = clock_text(rt, heard, outcome.end, b"")?;
+    let is_written = write(rt, outcome.text.as_slice()).is_ok();
+    Ok(is_written && write(rt, clock.as_slice()).is_ok())
+}
+
+/// Writes what `waits` answers. The messages come behind the answer, and what is told of a bad line of the trace comes last.
+fn told_waits(
+    rt: &HostRuntime,
+    asked: Asked,
+    answer: &Answer,
+    heard: &RefCell<Overheard>,
+) -> Result<Status, Status> {
+    let Some(outcome) = &answer.outcome else {
+        asked.tell(rt, answer.messages.as_slice());
+        return Ok(answer.status());
+    };
+    let is_written = written(rt, outcome, heard)?;
+    asked.tell(rt, answer.messages.as_slice());
+    tell_bad_line(rt, heard, outcome.end);
+    match answer.status() {
+        Status::TraceFault => Ok(Status::TraceFault),
+        status if is_written => Ok(status),
+        _ => Ok(Status::InputOutput),
+    }
+}
+
+/// `snl waits`.
+pub fn answered_waits(rt: &HostRuntime, asked: Asked) -> Result<Status, Status> {
+    let Asked { source, call, .. } = asked;
+    let heard = overheard(rt)?;
+    let trace = Input::new(rt, call.progress, &heard);
+    match waits(rt.alloc(), source, &call.job, trace) {
+        Ok(answer) => told_waits(rt, asked, &answer, &heard),
+        Err(_) => Err(Status::Memory),
+    }
+}

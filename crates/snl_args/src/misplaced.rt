@@ -1,0 +1,50 @@
+//! A word in the place of MACROS that gives no macro a value, and the call that was meant.
+
+use crate::calls::{Call, Word};
+use std::alloc::{AllocError, Global};
+
+/// Whether a shell takes a character as it is.
+fn is_plain(character: char) -> bool {
+    character.is_ascii_alphanumeric() || "_-./:,+@%=".contains(character)
+}
+
+/// A word as a shell takes it: in quotes where it has a blank or another character that a shell reads.
+fn quoted(alloc: Global, word: &str) -> Result<String, AllocError> {
+    if !word.is_empty() && word.chars().all(is_plain) {
+        return String::from_str(alloc, word);
+    }
+    format!(in alloc; "'{word}'")
+}
+
+/// How a trace is given to a word, with the right call.
+fn right_call(alloc: Global, word: Word, file: &str, trace: &str) -> Result<String, AllocError> {
+    match word {
+        Word::Waits => format!(in alloc;
+            "The trace comes on standard input: snl waits {file} < {trace}"
+        ),
+        Word::Run => format!(in alloc;
+            "The trace comes on standard input: snl run {file} < {trace}"
+        ),
+        Word::Graph => format!(in alloc;
+            "The trace comes on standard input: snl graph {file} < {trace}"
+        ),
+        Word::Cover => format!(in alloc;
+            "A trace comes behind --trace: snl cover --trace {trace} {file}"
+        ),
+        Word::Search => format!(in alloc;
+            "A recorded trace comes behind --like: snl search --like {trace} {file}"
+        ),
+    }
+}
+
+/// What is told of a call whose MACROS are none: that they are NAME=VALUE,.., and the call with a trace, which was most likely meant.
+/// Fails only where memory ran out.
+pub fn misplaced_text(alloc: Global, call: &Call, macros: &str) -> Result<String, AllocError> {
+    let file = quoted(alloc, call.job.file.as_str())?;
+    let trace = quoted(alloc, macros)?;
+    let call = right_call(alloc, call.word, file.as_str(), trace.as_str())?;
+    format!(in alloc;
+        "error: '{macros}' stands in the place of MACROS, which are NAME=VALUE,..\n\n{call}\n\n\
+         For more information, try '--help'.\n"
+    )
+}

@@ -1,0 +1,130 @@
+//! The times of a trace, and what looks wrong with them: one jump of days, or times that some other clock counts.
+
+use crate::pieces::{push_all, push_count, push_number};
+use std::alloc::AllocError;
+
+/// A jump that is told is longer than a day, in milliseconds.
+const DAY: u64 = 86_400_000;
+
+/// And each other step is shorter than an hour.
+const HOUR: u64 = 3_600_000;
+
+/// Seconds of Unix, from 2001 to 2033.
+const SECONDS: u64 = 1_000_000_000;
+
+/// Milliseconds of Unix, from 2001 to 2033.
+const MILLISECONDS: u64 = 1_000_000_000_000;
+
+/// The times of the events of some lines, in milliseconds.
+#[derive(Clone, Copy)]
+pub(crate) struct Clock {
+    /// That of the first event.
+    first: Option<u64>,
+    /// That of the last.
+    last: u64,
+    /// The longest step from one event to the next.
+    longest: u64,
+    /// The second longest.
+    second: u64,
+    /// The line, from 1, and the time behind the longest.
+    line: u64,
+    behind: u64,
+}
+
+/// The time at the front of a line; None where it is blank, a comment or begins with no number.
+fn time_of(line: &[u8]) -> Option<u64> {
+    let mut time = None;
+    for byte in line {
+        match byte {
+            b'0'..=b'9' => {
+                let digit = u64::from(byte.wrapping_sub(b'0'));
+                let tens = time.unwrap_or(0u64).saturating_mul(10);
+                time = Some(tens.saturating_add(digit));
+            }
+            b' ' | b'\t' if time.is_none() => {}
+            _ => return time,
+        }
+    }
+    time
+}
+
+impl Clock {
+    /// No event came.
+    pub(crate) fn new() -> Clock {
+        Clock {
+            first: None,
+            last: 0,
+            longest: 0,
+            second: 0,
+            line: 0,
+            behind: 0,
+        }
+    }
+
+    /// Notes a step that leads to the time of a line.
+    fn step(&mut self, line: u64, ms: u64) {
+        let step = ms.saturating_sub(self.last);
+        if step > self.longest {
+            self.second = self.longest;
+            self.longest = step;
+            self.line = line;
+            self.behind = ms;
+        } else if step > self.second {
+            self.second = step;
+        }
+    }
+
+    /// Notes the time of the line of this number, where it has one.
+    pub(crate) fn note(&mut self, number: u64, line: &[u8]) {
+        let Some(ms) = time_of(line) else {
+            return;
+        };
+        if self.first.is_none() {
+            self.first = Some(ms);
+        } else {
+            self.step(number, ms);
+        }
+        self.last = ms;
+    }
+
+    /// The same, of which no jump is known.
+    pub(crate) fn without_jump(self) -> Clock {
+        Clock { longest: 0, ..self }
+    }
+
+    /// Whether there is one jump of more than a day, and each other step is shorter than an hour.
+    fn jumps(&self) -> bool {
+        self.longest > DAY && self.second < HOUR
+    }
+
+    /// What counts the times, if it looks like another clock: by the first time, and by that behind a jump.
+    fn other_clock(&self) -> Option<&'static [u8]> {
+        let time = if self.jumps() {
+            self.behind
+        } else {
+            self.first.unwrap_or(0)
+        };
+        if (SECONDS..2 * SECONDS).contains(&time) {
+            return Some(b"seconds");
+        }
+        if (MILLISECONDS..2 * MILLISECONDS).contains(&time) {
+            return Some(b"milliseconds");
+        }
+        None
+    }
+
+    /// Adds what looks wrong, as lines with something in front.
+    pub(crate) fn push_text(&self, out: &mut Vec<u8>, front: &[u8]) -> Result<(), AllocError> {
+        if self.jumps() {
+            push_all(out, &[front, b"the clock jumps by "])?;
+            push_count(out, self.longest / DAY, b"day")?;
+            out.extend_from_slice(b" at line ")?;
+            push_number(out, self.line)?;
+            out.extend_from_slice(b"\n")?;
+        }
+        match self.other_clock() {
+            Some(unit) => push_all(out, &[front, b"times look like ", unit, b" of Unix\n"]),
+            None => Ok(()),
+        }
+    }
+}
