@@ -7,7 +7,8 @@ The types are told by their names in Channel Access, as `double` and `enum`.
 import ctypes
 import os
 import struct
-import threading
+
+from threads import stay, sweep
 
 try:
     from epics import ca, dbr
@@ -21,12 +22,8 @@ TYPES = ("string", "short", "float", "enum", "char", "long", "double")
 CODES = {"string": "40s", "short": "h", "float": "f", "enum": "H", "char": "i", "long": "i", "double": "d"}
 # CA_OP_PUT and the masks of cadef.h, and a status of caerr.h.
 PUT, VALUE_AND_ALARM, NORMAL = 1, 5, 1
-
-
 # The form of a channel that is not connected: no type, no values.
 NO_FORM = -1, 0
-# Whether what Python has of a thread stays.
-OF_THREAD = threading.local()
 
 
 class Missing(Exception):
@@ -76,6 +73,7 @@ class Channels:
     def on_connection(self, pvname=None, chid=None, conn=None, **_):
         """A channel connected, or is not connected any more."""
         self.forms.pop(pvname, None)
+        sweep()
         kind, most = form_of(dbr.chid_t(chid)) if conn else NO_FORM
         # One that is gone again already has no type.
         if kind >= 0:
@@ -126,13 +124,6 @@ class Channels:
 def form_of(chid):
     """What the library says of the form of a channel."""
     return ca.libca.ca_field_type(chid), ca.libca.ca_element_count(chid)
-
-
-def stay():
-    """Keeps what Python has of a thread of the library. Else that is made at each call of a method and taken away behind it, which
-    costs as much as all else."""
-    if not hasattr(OF_THREAD, "stays"):
-        OF_THREAD.stays = ctypes.pythonapi.PyGILState_Ensure()
 
 
 def values_in(data, kind, count):

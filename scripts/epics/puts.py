@@ -5,7 +5,8 @@ import threading
 import time
 from collections import Counter
 
-from channels import ca, dbr, stay
+from channels import ca, dbr
+from threads import stay
 from values import unscaled
 
 # Statuses of caerr.h.
