@@ -14,6 +14,11 @@ pub in_a_box : {A B : Type 0} (view : A → B) (part : A) (tree : B) (r : Result
 in_a_box view part tree (Ok b) ok memory same left = ap (λ z. Ok (z, left)) (sym same) ∙ ap (λ z. Ok (view z, left)) (sym ok)
 in_a_box view part tree (Err halt) ok memory same left = subst (λ h. Fails h left (Ok (tree, left))) (sym memory) tt
 
+-- what is in a box is built, if it is seen as the tree
+pub made_in_a_box : {A B : Type 0} (view : A → B) (tree : B) (r : Result (Box A Global) Halt) → IfOk r (λ b. view b.value ≡ tree) → IfErr r (λ halt. halt ≡ halts.Memory) → Builds (held view) r tree
+made_in_a_box view tree (Ok b) ok memory left = ap (λ z. Ok (z, left)) (sym ok)
+made_in_a_box view tree (Err halt) ok memory left = subst (λ h. Fails h left (Ok (tree, left))) (sym memory) tt
+
 -- a part at the end of a row is put there, seen through any view
 pub in_a_row : {A B : Type 0} (view : A → B) (part : A) (tree : B) (before after : List A) (r : Result (Unit {0}) Halt) → OnOk r (after ≡ before ++ part ∷ [])
     → IfErr r (λ halt. halt ≡ halts.Memory) → view part ≡ tree → Appends view before r after tree

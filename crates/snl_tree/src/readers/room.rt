@@ -15,6 +15,48 @@ pub fn in_box<T: Drop>(alloc: Global, part: T) -> Result<Box<T>, Halt>
     Ok(found)
 }
 
+/// Puts into a box what a function makes of a part.
+pub fn made_of_one<T: Drop, A: Drop, F: FnOnce(A) -> T>(
+    alloc: Global,
+    make: F,
+    first: A,
+) -> Result<Box<T>, Halt>
+    requires { F.IsAlwaysCallable make }
+    ensures ok { IfOk result (λ b. F.post make first b.value) }
+    ensures memory { IfErr result (λ halt. halt ≡ Memory) }
+{
+    in_box(alloc, make(first))
+}
+
+/// Puts into a box what a function makes of two parts.
+pub fn made_of_two<T: Drop, A: Drop, B: Drop, F: FnOnce(A, B) -> T>(
+    alloc: Global,
+    make: F,
+    first: A,
+    second: B,
+) -> Result<Box<T>, Halt>
+    requires { F.IsAlwaysCallable make }
+    ensures ok { IfOk result (λ b. F.post make first second b.value) }
+    ensures memory { IfErr result (λ halt. halt ≡ Memory) }
+{
+    in_box(alloc, make(first, second))
+}
+
+/// Puts into a box what a function makes of three parts.
+pub fn made_of_three<T: Drop, A: Drop, B: Drop, C: Drop, F: FnOnce(A, B, C) -> T>(
+    alloc: Global,
+    make: F,
+    first: A,
+    second: B,
+    third: C,
+) -> Result<Box<T>, Halt>
+    requires { F.IsAlwaysCallable make }
+    ensures ok { IfOk result (λ b. F.post make first second third b.value) }
+    ensures memory { IfErr result (λ halt. halt ≡ Memory) }
+{
+    in_box(alloc, make(first, second, third))
+}
+
 /// Puts a part at the end of a row.
 pub fn pushed<T: Drop>(row: &mut Vec<T>, part: T) -> Result<(), Halt>
     ensures items { OnOk result (row.new.items ≡ row.old.items ++ part ∷ []) }

@@ -1,5 +1,6 @@
 //! Statements and blocks in their boxes.
 
+ghost use Rattle.std.specs.Prelude.{◌≡◌};
 ghost use Rattle.snl_syntax.specs.Statements as kinds;
 ghost use Rattle.snl_tree.specs.reading.Moves.{Builds};
 ghost use Rattle.snl_syntax.specs.view.Lists.{statement_list};
@@ -8,7 +9,7 @@ ghost use Rattle.snl_syntax.specs.view.Expressions.{boxed};
 ghost use Rattle.snl_syntax.specs.view.Statements.{header_view, declaration_views, statement_view, statement_views, block_view};
 
 use crate::readers::cursor::Halt;
-use crate::readers::room::in_box;
+use crate::readers::room::{in_box, made_of_one, made_of_three, made_of_two};
 use snl_syntax::{Block, Declaration, Expr, Header, Stmt};
 use snl_text::Token;
 use std::alloc::Global;
@@ -53,11 +54,19 @@ pub fn boxed_block<'a>(
     in_box(alloc, block)
 }
 
+/// The statement that is a block, of its block.
+fn nested_of<'a>(block: Box<Block<'a>>) -> Stmt<'a>
+    ensures { statement_view result ≡ kinds.nested (held block_view block.entry) }
+{
+    Stmt::Block(Box::into_inner(block))
+}
+
 /// The statement that is a block.
+#[tactic(auto, using(crate::proofs::code::Building::made_in_a_box))]
 pub fn boxed_nested<'a>(alloc: Global, block: Box<Block<'a>>) -> Result<Box<Stmt<'a>>, Halt>
     ensures { Builds (held statement_view) result (kinds.nested (held block_view block.entry)) }
 {
-    in_box(alloc, Stmt::Block(Box::into_inner(block)))
+    made_of_one(alloc, nested_of, block)
 }
 
 /// The empty statement.
@@ -68,12 +77,19 @@ pub fn boxed_empty<'a>(alloc: Global) -> Result<Box<Stmt<'a>>, Halt>
     in_box(alloc, Stmt::Empty)
 }
 
+/// The statement that is an expression, of its expression.
+fn expression_of<'a>(value: Box<Expr<'a>>) -> Stmt<'a>
+    ensures { statement_view result ≡ kinds.expression (boxed value.entry) }
+{
+    Stmt::Expression(value)
+}
+
 /// The statement that is an expression.
-#[tactic(auto, using(crate::proofs::code::Building::in_a_box))]
+#[tactic(auto, using(crate::proofs::code::Building::made_in_a_box))]
 pub fn boxed_expression<'a>(alloc: Global, value: Box<Expr<'a>>) -> Result<Box<Stmt<'a>>, Halt>
     ensures { Builds (held statement_view) result (kinds.expression (boxed value.entry)) }
 {
-    in_box(alloc, Stmt::Expression(value))
+    made_of_one(alloc, expression_of, value)
 }
 
 /// A `break`.
@@ -117,8 +133,17 @@ pub fn boxed_return<'a>(
     in_box(alloc, Stmt::Return { word, value })
 }
 
+/// An `if` without `else`, of its parts.
+fn if_of<'a>(condition: Box<Expr<'a>>, first: Box<Stmt<'a>>) -> Stmt<'a>
+    ensures { statement_view result ≡ kinds.if_then
+        (boxed condition.entry)
+        (held statement_view first.entry) }
+{
+    Stmt::If { condition, first }
+}
+
 /// An `if` without `else`.
-#[tactic(auto, using(crate::proofs::code::Building::in_a_box))]
+#[tactic(auto, using(crate::proofs::code::Building::made_in_a_box))]
 pub fn boxed_if<'a>(
     alloc: Global,
     condition: Box<Expr<'a>>,
@@ -127,11 +152,25 @@ pub fn boxed_if<'a>(
     ensures { Builds (held statement_view) result
         (kinds.if_then (boxed condition.entry) (held statement_view first.entry)) }
 {
-    in_box(alloc, Stmt::If { condition, first })
+    made_of_two(alloc, if_of, condition, first)
+}
+
+/// An `if` with its `else`, of its parts.
+fn if_else_of<'a>(condition: Box<Expr<'a>>, first: Box<Stmt<'a>>, second: Box<Stmt<'a>>) -> Stmt<'a>
+    ensures { statement_view result ≡ kinds.if_else
+        (boxed condition.entry)
+        (held statement_view first.entry)
+        (held statement_view second.entry) }
+{
+    Stmt::IfElse {
+        condition,
+        first,
+        second,
+    }
 }
 
 /// An `if` with its `else`.
-#[tactic(auto, using(crate::proofs::code::Building::in_a_box))]
+#[tactic(auto, using(crate::proofs::code::Building::made_in_a_box))]
 pub fn boxed_if_else<'a>(
     alloc: Global,
     condition: Box<Expr<'a>>,
@@ -143,16 +182,25 @@ pub fn boxed_if_else<'a>(
         (held statement_view first.entry)
         (held statement_view second.entry)) }
 {
-    let chosen = Stmt::IfElse {
+    made_of_three(alloc, if_else_of, condition, first, second)
+}
+
+/// A `while` of its parts.
+fn while_of<'a>(word: Token<'a>, condition: Box<Expr<'a>>, body: Box<Stmt<'a>>) -> Stmt<'a>
+    ensures { statement_view result ≡ kinds.while_loop
+        word.entry
+        (boxed condition.entry)
+        (held statement_view body.entry) }
+{
+    Stmt::While {
+        word,
         condition,
-        first,
-        second,
-    };
-    in_box(alloc, chosen)
+        body,
+    }
 }
 
 /// A `while`.
-#[tactic(auto, using(crate::proofs::code::Building::in_a_box))]
+#[tactic(auto, using(crate::proofs::code::Building::made_in_a_box))]
 pub fn boxed_while<'a>(
     alloc: Global,
     word: Token<'a>,
@@ -162,16 +210,21 @@ pub fn boxed_while<'a>(
     ensures { Builds (held statement_view) result
         (kinds.while_loop word.entry (boxed condition.entry) (held statement_view body.entry)) }
 {
-    let looped = Stmt::While {
-        word,
-        condition,
-        body,
-    };
-    in_box(alloc, looped)
+    made_of_three(alloc, while_of, word, condition, body)
+}
+
+/// A `for` of its parts.
+fn for_of<'a>(word: Token<'a>, header: Box<Header<'a>>, body: Box<Stmt<'a>>) -> Stmt<'a>
+    ensures { statement_view result ≡ kinds.for_loop
+        word.entry
+        (held header_view header.entry)
+        (held statement_view body.entry) }
+{
+    Stmt::For { word, header, body }
 }
 
 /// A `for`.
-#[tactic(auto, using(crate::proofs::code::Building::in_a_box))]
+#[tactic(auto, using(crate::proofs::code::Building::made_in_a_box))]
 pub fn boxed_for<'a>(
     alloc: Global,
     word: Token<'a>,
@@ -183,5 +236,5 @@ pub fn boxed_for<'a>(
         (held header_view header.entry)
         (held statement_view body.entry)) }
 {
-    in_box(alloc, Stmt::For { word, header, body })
+    made_of_three(alloc, for_of, word, header, body)
 }
