@@ -5,6 +5,7 @@ ghost use Rattle.snl_syntax.specs.view.Programs.{clause_view, program_view, stat
 ghost use Rattle.snl_views.specs.Shapes as spec;
 
 use crate::conditions::Conditions;
+use crate::pieces::pushed;
 use snl_reach::reached_states;
 use snl_syntax::{Clause, Program, State, StateSet, Target};
 use std::alloc::{AllocError, Global};
@@ -91,7 +92,7 @@ fn arrow_charts(
     let mut charts = Vec::new(alloc);
     for clause in clauses {
         let chart = arrow_chart(alloc, clause, conditions)?;
-        charts.push(chart)?;
+        pushed(&mut charts, chart)?;
     }
     Ok(charts)
 }
@@ -130,7 +131,7 @@ fn state_charts(
     for (number, state) in states.iter().enumerate() {
         let is_reached = reached.get(number).copied().unwrap_or(true);
         let chart = state_chart(alloc, state, is_reached, conditions)?;
-        charts.push(chart)?;
+        pushed(&mut charts, chart)?;
     }
     Ok(charts)
 }
@@ -157,7 +158,7 @@ fn set_charts(
     let mut charts = Vec::new(alloc);
     for set in sets {
         let chart = set_chart(alloc, set, conditions)?;
-        charts.push(chart)?;
+        pushed(&mut charts, chart)?;
     }
     Ok(charts)
 }

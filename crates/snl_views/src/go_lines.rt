@@ -5,7 +5,7 @@ ghost use Rattle.std.specs.List.{flat_map};
 ghost use Rattle.snl_views.specs.Shapes as spec;
 
 use crate::charts::{ArrowChart, Chart, SetChart, StateChart};
-use crate::pieces::push_all;
+use crate::pieces::{push_all, pushed};
 use std::alloc::{AllocError, Global};
 
 /// What follows the time in the line of a transition, without its newline: ` go SET FROM TO`.
@@ -30,7 +30,7 @@ fn push_arrow_texts(
 {
     for arrow in arrows {
         let text = go_text(alloc, set, from, arrow.target.as_slice())?;
-        texts.push(text)?;
+        pushed(texts, text)?;
     }
     Ok(())
 }

@@ -3,14 +3,13 @@
 use crate::charts::StateChart;
 use crate::coverage::Coverage;
 use crate::missed::{Gaps, Missed, Share};
-use crate::pieces::{push_all, push_number};
+use crate::pieces::{push_all, push_told};
 use std::alloc::{AllocError, Global};
 
 /// Adds the line of the source, and ends with a text.
 fn push_line(out: &mut Vec<u8>, line: usize, end: &[u8]) -> Result<(), AllocError> {
-    out.extend_from_slice(b" (line ")?;
-    push_number(out, line as u64)?;
-    push_all(out, &[b")", end, b"\n"])
+    push_told(out, b" (line ", line as u64, b")")?;
+    push_all(out, &[end, b"\n"])
 }
 
 /// Adds a state that was never entered.
@@ -36,9 +35,9 @@ fn push_clause(
         return Ok(());
     };
     let name = state.name.as_slice();
-    push_all(out, &[b"never taken: ", set, b" ", name, b" "])?;
-    push_number(out, (clause as u64).saturating_add(1))?;
-    push_all(out, &[b" to ", arrow.target.as_slice()])?;
+    push_all(out, &[b"never taken: ", set, b" ", name])?;
+    push_told(out, b" ", (clause as u64).saturating_add(1), b" to ")?;
+    out.extend_from_slice(arrow.target.as_slice())?;
     let end: &[u8] = if left {
         b"; its block always left for another state"
     } else {
@@ -59,11 +58,9 @@ fn push_channel(out: &mut Vec<u8>, coverage: &Coverage, number: usize) -> Result
             put.channel.as_slice(),
             b" (",
             put.variable.as_slice(),
-            b", line ",
         ],
     )?;
-    push_number(out, put.line as u64)?;
-    out.extend_from_slice(b")\n")
+    push_told(out, b", line ", put.line as u64, b")\n")
 }
 
 /// Adds something that was missed.
@@ -89,10 +86,8 @@ fn push_missed(out: &mut Vec<u8>, coverage: &Coverage, missed: Missed) -> Result
 
 /// Adds how much was seen of what there is.
 fn push_share(out: &mut Vec<u8>, share: Share, what: &[u8]) -> Result<(), AllocError> {
-    push_number(out, share.seen)?;
-    out.extend_from_slice(b" of ")?;
-    push_number(out, share.all)?;
-    push_all(out, &[b" ", what])
+    push_told(out, b"", share.seen, b" of ")?;
+    push_told(out, b"", share.all, what)
 }
 
 /// The answer as text: what was missed, a line each, and a last line with the sums. Fails only where memory ran out.
@@ -108,8 +103,8 @@ pub fn coverage_text(
     for missed in &gaps.missed {
         push_missed(&mut out, coverage, *missed)?;
     }
-    push_share(&mut out, gaps.clauses, b"clauses taken, ")?;
-    push_share(&mut out, gaps.states, b"states entered, ")?;
-    push_share(&mut out, gaps.channels, b"channels put\n")?;
+    push_share(&mut out, gaps.clauses, b" clauses taken, ")?;
+    push_share(&mut out, gaps.states, b" states entered, ")?;
+    push_share(&mut out, gaps.channels, b" channels put\n")?;
     Ok(out)
 }

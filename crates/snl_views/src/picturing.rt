@@ -7,7 +7,7 @@ ghost use Rattle.snl_views.specs.Shapes.{charted, charted_arrows, charted_set, c
 use crate::charts::{ArrowChart, Chart, SetChart, StateChart};
 use crate::coverage::Coverage;
 use crate::pictures::{Arrow, Cluster, Node, Picture};
-use crate::pieces::{push_all, push_number};
+use crate::pieces::{push_all, push_number, push_told, pushed};
 use std::alloc::{AllocError, Global};
 
 /// A place in a program: the numbers of a state set and of a state of it, and the number of the state's first clause among all
@@ -21,15 +21,11 @@ struct Place {
 
 /// How often a clause was taken, as its label tells it.
 fn push_taken(label: &mut Vec<u8>, taken: u64, left: u64) -> Result<(), AllocError> {
-    label.extend_from_slice(b"\n")?;
-    push_number(label, taken)?;
-    label.extend_from_slice(b"x")?;
-    if left > 0 {
-        label.extend_from_slice(b", ")?;
-        push_number(label, left)?;
-        label.extend_from_slice(b"x elsewhere")?;
+    push_told(label, b"\n", taken, b"x")?;
+    if left == 0 {
+        return Ok(());
     }
-    Ok(())
+    push_told(label, b", ", left, b"x elsewhere")
 }
 
 /// The number of a clause, from 1 on, and its condition.
@@ -83,7 +79,7 @@ fn arrows_of(
     let mut arrows = Vec::new(alloc);
     for (clause, chart) in charts.iter().enumerate() {
         let arrow = arrow_of(alloc, chart, coverage, place, clause)?;
-        arrows.push(arrow)?;
+        pushed(&mut arrows, arrow)?;
     }
     Ok(arrows)
 }
@@ -121,7 +117,7 @@ fn nodes_of(
             first: *next,
         };
         let node = node_of(alloc, chart, coverage, place)?;
-        nodes.push(node)?;
+        pushed(&mut nodes, node)?;
         *next = next.saturating_add(chart.arrows.len());
     }
     Ok(nodes)
@@ -155,7 +151,7 @@ fn clusters_of(
     let mut next = 0usize;
     for (set, chart) in charts.iter().enumerate() {
         let cluster = cluster_of(alloc, chart, coverage, set, &mut next)?;
-        clusters.push(cluster)?;
+        pushed(&mut clusters, cluster)?;
     }
     Ok(clusters)
 }
