@@ -11,21 +11,21 @@ use Rattle.snc_args.proofs.reading.read_snlrun.Goals as goal
 
 pub returns-in_err-matches-clause-err : goal.returns-in_err-matches-clause-err
 returns-in_err-matches-clause-err c =
-    let app_is : app_of c.in_ok-command.command ≡ snlrun_app = search rules in
+    let app_is : app_of c.in_ok-command.command ≡ snlrun_app = c.in_ok-command.ensures in
     let ws = map (λ s. s.now) c.args.words.now in
     let fails : IfErr c.from_residual-in_err-matches.result (FailsBy (fault_of (app_of c.in_ok-command.command) ws)) = search rules in
     subst (λ (a : App). IfErr c.from_residual-in_err-matches.result (FailsBy (fault_of a ws))) app_is fails
 
 pub unreachable-requires : goal.unreachable-requires
 unreachable-requires c =
-    let app_is : app_of c.in_ok-command.command ≡ snlrun_app = search rules in
+    let app_is : app_of c.in_ok-command.command ≡ snlrun_app = c.in_ok-command.ensures in
     let has = snlrun_file c.in_ok-command.command c.in_ok-matches.matches app_is c.in_ok-matches.ensures.parsed in
     let bad : false ≡ true = sym (ap (λ (o : Option (Bor Text)). is_some (option_map (λ s. s.now) o)) c.in_default.is) ∙ (ap is_some c.get_str.ensures ∙ has) in
     cc
 
 pub unreachable-requires-in_default-get_one : goal.unreachable-requires-in_default-get_one
 unreachable-requires-in_default-get_one c =
-    let app_is : app_of c.in_ok-command.command ≡ snlrun_app = search rules in
+    let app_is : app_of c.in_ok-command.command ≡ snlrun_app = c.in_ok-command.ensures in
     let known = snlrun_budget c.in_ok-command.command c.in_ok-matches.matches app_is c.in_ok-matches.ensures.parsed in
     let one = c.get_one.ensures.value (without_minus known.0) known.1 in
     let got = signed_reads _ (λ bs r. ParsesUnsigned 32 10 bs r × ExplainsUnsignedError 10 bs r × HasUnsignedDigitsIfOk bs r)
@@ -35,18 +35,19 @@ unreachable-requires-in_default-get_one c =
 
 pub returns-clause-faultless : goal.returns-clause-faultless
 returns-clause-faultless c =
-    let app_is : app_of c.in_ok-command.command ≡ snlrun_app = search rules in
+    let app_is : app_of c.in_ok-command.command ≡ snlrun_app = c.in_ok-command.ensures in
     let ws = map (λ s. s.now) c.args.words.now in
     ap (λ (a : App). fault_of a ws) (sym app_is) ∙ c.in_ok-matches.ensures.faultless
 
 pub returns-clause-rows : goal.returns-clause-rows
 returns-clause-rows c =
-    let app_is : app_of c.in_ok-command.command ≡ snlrun_app = search rules in
+    let app_is : app_of c.in_ok-command.command ≡ snlrun_app = c.in_ok-command.ensures in
     let ws = map (λ s. s.now) c.args.words.now in
     let m = c.in_ok-matches.matches in
     let f = found_of m in
     let rows_are : rows_of f ≡ matches_of snlrun_app ws = c.in_ok-matches.ensures.rows ∙ ap (λ (a : App). matches_of a ws) app_is in
-    let told : option_map (λ s. s.now) c.get_str.result ≡ Some (string_bytes c.in_ok-from_str.field-0) = search rules in
+    let told : option_map (λ s. s.now) c.get_str.result ≡ Some (string_bytes c.in_ok-from_str.field-0) =
+    ap (option_map (λ s. s.now)) c.in-Some.is ∙ ap Some (sym c.in_ok-from_str.ensures.ok) in
     let file_is : first_of (codes "FILE") (rows_of f) ≡ Some (string_bytes c.in_ok-from_str.field-0) =
     sym (first_value-rows f (codes "FILE")) ∙ (sym c.get_str.ensures ∙ told) in
     let copied : option_map string_bytes c.in_ok-macros.macros ≡ option_map (λ s. s.now) c.get_str-2.result = c.in_ok-macros.ensures in
