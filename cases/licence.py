@@ -1,4 +1,4 @@
-"""Whether the licence is whole, and whether NOTICE names each crate of the kit that crates.txt does."""
+"""Whether the licence is whole, the help of programs ends with the version, and NOTICE names each crate of the kit that crates.txt does."""
 from pathlib import Path
 
 # Where Debian keeps the text.
@@ -15,6 +15,10 @@ def missing(root):
     version = (root / "VERSION").read_text().strip()
     if f"\n## {version}, " not in (root / "CHANGELOG.md").read_text():
         yield f"FAILED CHANGELOG.md: there is no section of the version {version}"
+    texts = (root / "crates/snc_args/src/commands.rt").read_text()
+    for program in ("snc", "snlrun"):
+        if f'\n{program} {version}";' not in texts:
+            yield f"FAILED {program} --help: it does not end with {program} {version}"
     named = {line.split()[0] for line in (root / "NOTICE").read_text().splitlines() if line.strip()}
     for crate in sorted(crates_of_the_kit(root) - named):
         yield f"FAILED NOTICE: it does not name the crate {crate}"

@@ -1,10 +1,13 @@
 //! `snl graph`: the trace of a call, and the picture.
 
+ghost use Rattle.std.specs.Prelude.{◌≡◌, IfSome};
+
 use crate::asked::Asked;
 use crate::input::Input;
 use crate::overhearing::{overheard, tell_bad_line};
 use snc::Status;
 use snc_cli::write;
+use snl_args::Call;
 use snl_trace::End;
 use snl_views::{Drawing, GraphAnswer, Overheard, graph};
 use snl_watch::Nowhere;
@@ -52,15 +55,25 @@ fn told(
     status
 }
 
+/// The trace of a call, unless it wants none.
+fn trace_of<'c>(
+    rt: &'c HostRuntime,
+    call: &Call,
+    heard: &'c RefCell<Overheard>,
+) -> Option<Input<'c>>
+    ensures { IfSome result (λ trace. trace.failures ≡ 0) }
+{
+    if call.no_trace {
+        return None;
+    }
+    Some(Input::new(rt, call.progress, heard))
+}
+
 /// `snl graph`.
 pub fn answered_graph(rt: &HostRuntime, asked: Asked) -> Result<Status, Status> {
     let Asked { source, call, .. } = asked;
     let heard = overheard(rt)?;
-    let trace = if call.no_trace {
-        None
-    } else {
-        Some(Input::new(rt, call.progress, &heard))
-    };
+    let trace = trace_of(rt, call, &heard);
     match graph(rt.alloc(), source, &call.job, trace, Nowhere) {
         Ok(answer) => Ok(told(rt, asked, &answer, &heard)),
         Err(_) => Err(Status::Memory),

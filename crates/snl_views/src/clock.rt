@@ -48,6 +48,12 @@ fn time_of(line: &[u8]) -> Option<u64> {
     time
 }
 
+/// Adds what times look like, with something in front.
+fn push_unit(out: &mut Vec<u8>, front: &[u8], unit: &[u8]) -> Result<(), AllocError> {
+    push_all(out, &[front, b"times look like "])?;
+    push_all(out, &[unit, b" of Unix\n"])
+}
+
 impl Clock {
     /// No event came.
     pub(crate) fn new() -> Clock {
@@ -123,7 +129,7 @@ impl Clock {
             out.extend_from_slice(b"\n")?;
         }
         match self.other_clock() {
-            Some(unit) => push_all(out, &[front, b"times look like ", unit, b" of Unix\n"]),
+            Some(unit) => push_unit(out, front, unit),
             None => Ok(()),
         }
     }

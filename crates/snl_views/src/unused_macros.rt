@@ -67,12 +67,12 @@ fn distance(alloc: Global, name: &str, other: &str) -> Result<Option<usize>, All
 
 /// The macro that may have been meant: the nearest of those that the source uses and that have no value, where one is
 /// nearer than all others.
-fn meant<'s>(
+fn meant<'n>(
     alloc: Global,
-    used: &IndexSet<&'s str>,
-    given: &IndexSet<&str>,
-    name: &str,
-) -> Result<Option<&'s str>, AllocError> {
+    used: &IndexSet<&'n str>,
+    given: &IndexSet<&'n str>,
+    name: &'n str,
+) -> Result<Option<&'n str>, AllocError> {
     let mut found = None;
     let mut least = usize::MAX;
     for other in used {
@@ -101,7 +101,11 @@ fn push_note(out: &mut Vec<u8>, name: &str, meant: Option<&str>) -> Result<(), A
 }
 
 /// A line for each macro of MACROS that the source of these tokens does not use.
-fn notes_of(alloc: Global, tokens: &[Token], macros: &str) -> Result<Vec<u8>, AllocError> {
+fn notes_of<'n>(
+    alloc: Global,
+    tokens: &[Token<'n>],
+    macros: &'n str,
+) -> Result<Vec<u8>, AllocError> {
     let used = used_in(alloc, tokens)?;
     let given = given_in(alloc, macros)?;
     let mut out = Vec::new(alloc);
@@ -116,7 +120,11 @@ fn notes_of(alloc: Global, tokens: &[Token], macros: &str) -> Result<Vec<u8>, Al
 
 /// A line for each macro that MACROS give a value and that no `assign` of a source uses, with the one that may have been meant.
 /// Nothing where the source is no list of tokens. Fails only where memory ran out.
-pub fn macro_notes(alloc: Global, source: &[u8], macros: &str) -> Result<Vec<u8>, AllocError> {
+pub fn macro_notes<'n>(
+    alloc: Global,
+    source: &'n [u8],
+    macros: &'n str,
+) -> Result<Vec<u8>, AllocError> {
     match lex(alloc, source) {
         Ok(lexed) => notes_of(alloc, lexed.tokens.as_slice(), macros),
         Err(LexFault::Memory) => Err(AllocError),
