@@ -98,6 +98,7 @@ fn wishes_of(
 ) -> Result<Wishes, AllocError> {
     Ok(Wishes {
         never: owned(alloc, words.never.as_slice())?,
+        ends: owned(alloc, words.ends.as_slice())?,
         like,
         values: named(alloc, words.values.as_slice())?,
         firsts: named(alloc, words.firsts.as_slice())?,
