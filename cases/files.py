@@ -60,7 +60,8 @@ def cases_of_sections(name, source, sections):
     if made.get("tool") == "plot":
         made["named"] = ("snc", "snl")
     if "args" in sections:
-        made["words"] = plain(sections["args"][1]).splitlines()
+        # Lines are parted first: a word may have a newline.
+        made["words"] = [plain(it) for it in re.split(rb"(?<!`)\n", sections["args"][1])[:-1]]
     if "rows" not in sections:
         yield Case(name, **made)
         return

@@ -96,6 +96,7 @@ fn named(alloc: Global, given: &[ChannelValues]) -> Result<Vec<WishedValues>, Al
 fn wishes_of(alloc: Global, words: &SearchWords, like: Option<File>) -> Result<Wishes, AllocError> {
     Ok(Wishes {
         never: owned(alloc, words.never.as_slice())?,
+        ends: owned(alloc, words.ends.as_slice())?,
         like,
         values: named(alloc, words.values.as_slice())?,
         firsts: named(alloc, words.firsts.as_slice())?,

@@ -17,8 +17,10 @@ pub struct ChannelValues {
 /// What a search is asked for.
 #[derive(Drop)]
 pub struct SearchWords {
-    /// What no line may end with, or a state that may not be entered.
+    /// Lines that the output may not have, or states that may not be entered.
     pub never: Vec<String>,
+    /// What no line may end with, byte for byte.
+    pub ends: Vec<String>,
     /// The file of a recorded trace, whose values take the place of those of the source.
     pub like: Option<String>,
     /// Values of channels, in the place of those of the source or the trace.
@@ -83,7 +85,13 @@ fn with_alphabet<'a>(alloc: Global, command: Command<'a>) -> Result<Command<'a>,
             alloc,
             "never",
             "LINE|SS.STATE",
-            "What no output line may end with, or a state that may not be entered",
+            "A line that the output may not have, or a state that may not be entered",
+        ))?
+        .arg(text_argument(
+            alloc,
+            "never-end",
+            "TEXT",
+            "What no output line may end with, compared as bytes",
         ))?
         .arg(
             Arg::new(alloc, "like")
@@ -283,6 +291,7 @@ fn maybe_text(
 pub(crate) fn search_words(alloc: Global, matches: &ArgMatches) -> Result<SearchWords, CallFault> {
     Ok(SearchWords {
         never: all_texts(alloc, matches, "never")?,
+        ends: all_texts(alloc, matches, "never-end")?,
         like: maybe_text(alloc, matches, "like")?,
         values: all_named(alloc, matches, "values")?,
         firsts: all_named(alloc, matches, "first")?,

@@ -115,8 +115,8 @@ the output failed, 4 memory ran out, 5 the program faulted, 6 a line of the trac
 
 /// What `snl search --help` tells.
 pub(crate) const SEARCH_USAGE: &str =
-    "snl search [±X..] [--never LINE|SS.STATE].. [--like TRACE] [--values NAME=V,V..].. [--first NAME=V].. [--gaps MS,MS..] \
-     [--down NAME].. [--lines K] [--worlds N] [--memory MB] [--seconds S] [--budget N] [--out FILE] [--cover DIR] \
+    "snl search [±X..] [--never LINE|SS.STATE].. [--never-end TEXT].. [--like TRACE] [--values NAME=V,V..].. [--first NAME=V].. \
+     [--gaps MS,MS..] [--down NAME].. [--lines K] [--worlds N] [--memory MB] [--seconds S] [--budget N] [--out FILE] [--cover DIR] \
      FILE [MACROS]";
 
 pub(crate) const SEARCH_ABOUT: &str = "\
@@ -125,9 +125,11 @@ not come. The values come from the constants of the source. A note tells of each
 time with other values.";
 
 pub(crate) const SEARCH_MORE: &str = "\
-The first line of the answer tells the alphabet, and the lines of a trace stand behind what was found.
+The first lines of the answer tell what is looked for, the starts and the alphabet. The lines of a trace stand behind what was
+found.
 
 Example: snl search --never 'put LAB:LAMP 1' light.st
 
 Status: 0 no such trace does what must not happen, 1 something was found, or the program has errors, 2 the words of
-the call are wrong, 3 a file or the output failed, 4 memory ran out, 6 a line of TRACE is bad, 7 a bound stopped it.";
+the call are wrong, 3 a file or the output failed, 4 memory ran out, 6 a line of TRACE is bad, 7 a bound stopped it, or the
+program cannot begin, or no line can come behind the start.";
