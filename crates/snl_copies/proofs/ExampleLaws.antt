@@ -33,7 +33,13 @@ interlock_examples = (
   valve_in_watch,
   record {
     clause = to_bad;
-    stands = record { state_set = watch; state = state (codes "ok") (to_bad ∷ []); stands = refl; among = Contains-append_left (state (codes "ok") (to_bad ∷ []) ∷ []) (state (codes "bad") [] ∷ []) _ (Contains-push [] _); inside = Contains-push [] to_bad };
+    stands = record {
+      state_set = watch;
+      state = state (codes "ok") (to_bad ∷ []);
+      stands = refl;
+      among = Contains-append_left (state (codes "ok") (to_bad ∷ []) ∷ []) (state (codes "bad") [] ∷ []) _ (Contains-push [] _);
+      inside = Contains-push [] to_bad;
+    };
     leads = (any_decides (leads (codes "bad")) (LeadsTo (codes "bad")) (lead_decides (codes "bad")) (in_clause to_bad)).0 refl;
     reads = (does_law linked (in_clause to_bad) (Reads (name 110 (codes "valve")))).0 (0, omega arith, refl);
     means = refl;

@@ -59,10 +59,11 @@ program_of defs sets = record {
 
 -- ---- a valve that one state set opens and another one watches
 
--- where `valve` and `pressure` are declared
+-- where `valve` is declared
 abbrev pub valve : ℕ
 valve = 4
 
+-- and `pressure`
 abbrev pub pressure : ℕ
 pressure = 24
 

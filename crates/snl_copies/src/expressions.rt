@@ -62,7 +62,8 @@ fn push_called<'a>(
     code: &mut Vec<Touch<'a>>,
 ) -> Result<(), AllocError>
     ensures { OnOk result (code.new.items ≡ code.old.items
-        ++ spec.in_expression Role.Value (call name.entry (list_before arguments.now no_arguments))) }
+        ++ spec.in_expression Role.Value
+        (call name.entry (list_before arguments.now no_arguments))) }
 {
     let builtin = builtin_of(name.text);
     push_call(name, builtin, code)?;
