@@ -1,0 +1,4 @@
+pub mod CodeLaws
+pub mod CopyLaws
+pub mod UnwrittenLaws
+pub mod ExampleLaws

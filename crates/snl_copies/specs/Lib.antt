@@ -1,0 +1,4 @@
+pub mod Code
+pub mod Copies
+pub mod Tests
+pub mod Examples
