@@ -20,16 +20,24 @@ struct Lines {
     of_clauses: Vec<usize>,
 }
 
+/// Adds the line of the next clause.
+fn push_line(alloc: Global, text: &[u8], lines: &mut Lines) -> Result<(), AllocError> {
+    let key = Vec::from_slice(alloc, text)?;
+    let (number, _) = lines.keys.insert_full(key)?;
+    lines.of_clauses.push(number)?;
+    Ok(())
+}
+
 /// The lines of the clauses of a program, which have these texts.
 fn lines_of(alloc: Global, texts: &[Vec<u8>]) -> Result<Lines, AllocError> {
-    let mut keys = IndexSet::new(alloc);
-    let mut of_clauses = Vec::new(alloc);
+    let mut lines = Lines {
+        keys: IndexSet::new(alloc),
+        of_clauses: Vec::new(alloc),
+    };
     for text in texts {
-        let key = Vec::from_slice(alloc, text.as_slice())?;
-        let (number, _) = keys.insert_full(key)?;
-        of_clauses.push(number)?;
+        push_line(alloc, text.as_slice(), &mut lines)?;
     }
-    Ok(Lines { keys, of_clauses })
+    Ok(lines)
 }
 
 /// Nothing came yet of the states of a state set.
