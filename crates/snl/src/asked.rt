@@ -8,6 +8,7 @@ use snl_args::Call;
 pub struct Asked<'c> {
     /// The text of FILE.
     pub source: &'c [u8],
+    /// The words of the call, as they were read.
     pub call: &'c Call,
     /// What is noted of its macros, as lines.
     pub notes: &'c [u8],
