@@ -37,7 +37,7 @@ int i; int x; long t;
 ${3:-}
 ss all {
   state count { when (t == 0) { for (i = 0; i < $1; i++) { $2 } } state done }
-  state done { when (t == 0) {} state count }
+  state done { when (FALSE) {} state count }
 }
 PROGRAM
     cp "$work/tick.trace" "$work/p.trace"
@@ -62,9 +62,9 @@ memory() {
     echo "$bytes bytes of heap, $(< "$work/faults") page faults"
 }
 
-# Prints a figure: WHAT SMALL LARGE COUNT-OF-SMALL COUNT-OF-LARGE.
+# Prints a figure, by two sizes and the instructions at each: WHAT SMALL LARGE FEW MANY.
 tell() {
-    awk -v what="$1" -v less="$2" -v more="$3" -v few="$4" -v many="$5" 'BEGIN { printf "%-40s %10.1f\n", what, (more - few) / (many - less) }'
+    awk -v what="$1" -v less="$2" -v more="$3" -v few="$4" -v many="$5" 'BEGIN { printf "%-40s %10.1f\n", what, (many - few) / (more - less) }'
 }
 
 # A figure of runs at two sizes: NAME WHAT SMALL LARGE.
@@ -77,7 +77,7 @@ run_figure() {
     tell "$2" "$3" "$4" "$few" "$many"
 }
 
-# A figure of tokens, by a program and one of twice the size: WHAT PROGRAM STATE-SETS-OF-BOTH.
+# A figure of tokens, by a source and one of twice the size: WHAT PROGRAM STATE-SETS-OF-EACH..
 token_figure() {
     magnets "$3" 500 500 > "$work/half.st"
     magnets "$4" 1000 1000 > "$work/whole.st"
