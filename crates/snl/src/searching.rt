@@ -203,14 +203,14 @@ fn searched<T: Scouts + Drop>(
         Err(status) => return status.code(),
     };
     let macros = macros_of(&call.job);
-    let mut clock = Clock::new(rt, begun, words.seconds);
+    let clock = Clock::new(rt, begun, words.seconds);
     match search(
         rt.alloc(),
         checked,
         &macros,
         call.job.budget,
         &wishes,
-        &mut clock,
+        clock,
     ) {
         Ok(answer) => told_answer(rt, words, &answer),
         Err(fault) => told_fault(rt, words, &fault),
