@@ -5,12 +5,14 @@ import os
 import re
 import subprocess
 import tempfile
-from dataclasses import dataclass, field
+from dataclasses import dataclass, field, replace
 from pathlib import Path
 
 SECONDS = 60
 # Any lines, and one at least.
 ANY = re.compile(rb"[^\n]*\n?")
+# The status and the streams of a call of which nothing is said: those of a program that does nothing, too.
+SILENT = 0, b"", b""
 
 
 @dataclass
@@ -31,16 +33,42 @@ class Case:
 
     def failure(self, programs):
         """Runs the case; None where all is as it has to be, else what is not."""
+        front = [it for name in self.named for it in (f"--{name}", programs[name])]
         try:
-            front = [it for name in self.named for it in (f"--{name}", programs[name])]
-            status, stdout, stderr = self.run(programs[self.tool], front)
+            said = self.wrong_by(lambda case: case.run(programs[self.tool], front))
         except subprocess.TimeoutExpired:
-            return f"FAILED {self.name}\n  no end within {SECONDS} seconds"
+            said = [f"no end within {SECONDS} seconds"]
+        return "\n  ".join([f"FAILED {self.name}", *said]) if said else None
+
+    def wrong_by(self, run):
+        """What is wrong with the answer that `run` gives of a case. Where nothing was said, a like call shows that there is a program."""
+        answer = run(self)
+        said = self.wrong(*answer)
+        if said or answer != SILENT:
+            return said
+        sign = self.sign()
+        if not sign:
+            return ["nothing has to be said: a program that does nothing would pass"]
+        return [f"{' '.join(map(os.fsdecode, sign.words))}, to see that it runs: {it}" for it in sign.wrong(*run(sign))]
+
+    def wrong(self, status, stdout, stderr):
+        """What is wrong with an answer, in lines."""
         said = [] if status in self.statuses else [f"status {status}, not {' or '.join(map(str, self.statuses))}"]
         if status == 1 and not stderr and not stdout:
             said.append("status 1, and nothing was said")
-        said += differences("stdout", self.stdout, stdout) + differences("stderr", self.stderr, stderr)
-        return "\n  ".join([f"FAILED {self.name}", *said]) if said else None
+        return said + differences("stdout", self.stdout, stdout) + differences("stderr", self.stderr, stderr)
+
+    def sign(self):
+        """A like call of which something is said, where of this one nothing is: what snc accepts has tables, and a bad line at the
+        end of a trace is told by snlrun, with its number, where all before it was read and is no bad one. None of other programs."""
+        if self.tool == "snc":
+            return replace(self, words=[b"--tables", *self.words], stdout=ANY, stderr=b"", statuses=(0,))
+        if self.tool != "snlrun":
+            return None
+        trace = self.trace.read_bytes() if isinstance(self.trace, Path) else self.trace
+        lines = trace + b"\n" * (trace[-1:] not in (b"", b"\n"))
+        said = b"trace:%d: bad time\n" % (lines.count(b"\n") + 1)
+        return replace(self, trace=lines + b"x\n", stderr=said, statuses=(6,), stdout=self.stdout if isinstance(self.stdout, Path) else b"")
 
     def run(self, program, front=()):
         with tempfile.TemporaryDirectory(prefix="snlrun-") as folder, contextlib.ExitStack() as opened:

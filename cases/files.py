@@ -145,14 +145,15 @@ def not_in_readme(root):
     called = re.findall(r"^bin/(?:try )?snlrun examples/\S+\.st < (examples/\S+)\.trace$", readme, re.MULTILINE)
     outputs = {it: (root / f"{it}.out").read_text() for it in called}
     missing = [it for it, lines in outputs.items() if f"```\n{lines}```\n" not in readme]
-    return [f"FAILED README.md: it has not what {it}.out has" for it in missing]
+    return [f"FAILED README.md: it has not what {it}.out has" for it in missing] + ["FAILED README.md: it calls no example"] * (not called)
 
 
 def not_from_log(root):
     """A log of an example, of which the script makes another trace than the one that stands beside it."""
     script = root / "examples/camonitor.py"
-    failures = []
-    for log in sorted(root.glob("examples/*.log")):
+    logs = sorted(root.glob("examples/*.log"))
+    failures = [] if logs else ["FAILED examples: there is no log"]
+    for log in logs:
         made = subprocess.run([sys.executable, script], input=log.read_bytes(), stdout=subprocess.PIPE).stdout
         if made != log.with_suffix(".trace").read_bytes():
             failures.append(f"FAILED examples/{log.name}: camonitor.py makes another trace of it")

@@ -7,7 +7,7 @@ from pathlib import Path
 from typing import Callable
 
 from case import SECONDS
-from memory import peak
+from memory import grown, peak
 
 AGAIN = re.compile(r"# (?:this line|these (\d+) lines) (\d+) times? more, up to \d+")
 # How many lines the long trace has, and how much more memory in kilobytes a call may take over it than over a short one.
@@ -50,6 +50,8 @@ class Fold:
     # Gets the programs and a folder, and gives what is wrong, or nothing.
     check: Callable
     tool: str = "snl"
+    # Whether it measures memory, of which a build of bin/try has its own.
+    of_memory: bool = False
 
     def failure(self, programs):
         with tempfile.TemporaryDirectory(prefix="snlrun-") as folder:
@@ -71,7 +73,7 @@ def cases(root):
     for size, extra, most in ((60, 0, 130), (61, 1, None)):
         yield Fold(f"snl run: a block of {size} lines", lambda *it, e=extra, m=most: block(*it, e, m))
     yield Fold("snl run --whole: a trace that comes slowly", slowly)
-    yield Fold("snl run: memory over many lines as over a few", memory)
+    yield Fold("snl run: memory over many lines as over a few", memory, of_memory=True)
 
 
 def called(programs, tool, folder, words, trace):
@@ -139,23 +141,40 @@ def slowly(programs, folder):
     return "" if (found, rest) == (wanted, end) else f"{found} and {rest!r}"
 
 
+def pressure(number):
+    """The value of a line of the trace over which memory is measured."""
+    return number * 7919 % 4000
+
+
+def summary(count):
+    """The last line of a run over so many lines: the valve moves each time that the pressure passes the other limit."""
+    moves, is_wide = 0, False
+    for number in range(count):
+        if pressure(number) > 2000 if is_wide else pressure(number) < 1000:
+            moves, is_wide = moves + 1, not is_wide
+    return f"# {moves} transitions, {moves} puts, 0 refused, 0 prints"
+
+
 def memory(programs, folder):
-    """A build of `bin/try` has its own memory, and is not asked."""
-    if "try" in programs["snl"].parts:
-        return ""
+    """What each call writes at last is what its trace has."""
     (folder / "p.st").write_text(VALVE.replace("opened == 1", "pressure > 2000"))
     for words in (["run", "p.st"], ["run", "--whole", "p.st"]):
-        few, many = (taken(programs["snl"], folder, words, count) for count in (10, LINES))
-        if many >= few + SLACK:
-            return f"{few} kilobytes over ten lines, {many} over {LINES}"
+        taken = []
+        for count in (10, LINES):
+            found = over(programs["snl"], folder, words, count)
+            if (found.status, found.first, found.last) != (0, "0 start valve", summary(count)):
+                return f"over {count} lines: {found}, not {summary(count)}"
+            taken.append(found.kilobytes)
+        wrong = grown(*taken, SLACK)
+        if wrong:
+            return wrong
     return ""
 
 
-def taken(program, folder, words, count):
+def over(program, folder, words, count):
+    """What a call takes and writes over a trace of so many values."""
     trace = folder / f"{count}.trace"
     with open(trace, "w") as out:
-        out.writelines(["0 up V:P\n", "0 up V:OPEN\n"] + [f"{n} val V:P {n * 7919 % 4000}\n" for n in range(count)])
+        out.writelines(["0 up V:P\n", "0 up V:OPEN\n"] + [f"{n} val V:P {pressure(n)}\n" for n in range(count)])
     with open(trace) as stdin:
-        status, kilobytes = peak([program, *words], folder, stdin)
-    assert status == 0, status
-    return kilobytes
+        return peak([program, *words], folder, stdin)

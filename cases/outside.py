@@ -131,7 +131,11 @@ def listed(call):
 def told_of(root, folder, built):
     """What the page of a word lacks of its options, but for those of all words, or has and is none."""
     shared = (root / "docs/tools/README.md").read_text()
-    for word in re.findall(r"^  (\w+) +[A-Z]", called(built / "snl", "--help"), re.MULTILINE):
+    words = re.findall(r"^  (\w+) +[A-Z]", called(built / "snl", "--help"), re.MULTILINE)
+    pages = {it.stem for it in root.glob("docs/tools/*.md")} - {"README"}
+    if {*words} != pages:
+        return f"--help has the words {words}, and there are pages of {sorted(pages)}"
+    for word in words:
         page = (root / f"docs/tools/{word}.md").read_text()
         options, written = ({*re.findall(r"(?<![\w-])--[a-z][a-z-]*", it)} for it in (called(built / "snl", word, "--help"), page))
         lacking = [it for it in options - written if not re.search(rf"{it}\b", shared)]

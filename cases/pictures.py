@@ -132,6 +132,8 @@ def drawn(source, programs, folder):
     nodes, edges = read(picture)
     _, tables, _ = called(programs["snc"], folder, "--tables", str(source))
     states, arrows = clauses(tables)
+    if not states or not arrows:
+        return f"{len(states)} states and {len(arrows)} clauses stand in the tables"
     wrong = differs(nodes, states) or differs([edge.ends for edge in edges], [arrow[:2] for arrow in arrows])
     numbers = [edge.label.split(":")[0] for edge in edges]
     return wrong or differs(numbers, [arrow[2] for arrow in arrows]) or counted(source, edges)
@@ -140,6 +142,7 @@ def drawn(source, programs, folder):
 def counted(source, edges):
     """The counts of arrows that no other clause has are those of the lines in the example's output."""
     out = source.with_suffix(".out").read_text()
+    compared = 0
     for edge in edges:
         if [other.ends for other in edges].count(edge.ends) > 1:
             continue
@@ -148,4 +151,5 @@ def counted(source, edges):
         wrong = differs((edge.label.split("\n")[1], edge.is_missed), (f"{lines}x", lines == 0))
         if wrong:
             return f"{edge.ends}: {wrong}"
-    return ""
+        compared += 1
+    return "" if compared else "no arrow has a count that no other clause has"

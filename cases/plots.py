@@ -316,9 +316,10 @@ def pictures(root):
     return f"{large} are too large" if large else "" if len(found) == 2 else f"there are {len(found)}"
 
 
-# So many lines, over which so many kilobytes of memory may be taken. Linux counts for a process what the one had that started
+# So many lines, over which so many kilobytes of memory may be taken; and what the page says of them. Linux counts for a process what the one had that started
 # it: so a small one starts the script.
 LINES, MOST_MEMORY = 200_000, 60_000
+OVER = f"{LINES + 2:_} lines of the trace, {LINES // 10 - 1:_} transitions, ".replace("_", " ")
 STARTER = """import resource, subprocess, sys
 status = subprocess.run(sys.argv[1:], close_fds=False).returncode
 print(status, resource.getrusage(resource.RUSAGE_CHILDREN).ru_maxrss, file=sys.stderr)
@@ -334,6 +335,7 @@ def memory(programs, folder):
     with open(folder / "trace", "rb") as trace:
         ran = subprocess.run(front, cwd=folder, stdin=trace, capture_output=True, timeout=SECONDS)
     status, used = map(int, ran.stderr.split())
-    if status or used > MOST_MEMORY or len(ran.stdout) > 1_000_000:
-        return f"status {status}, {used} kB of memory, a page of {len(ran.stdout)} bytes"
+    texts = "".join(read_page(ran.stdout).texts)
+    if status or used > MOST_MEMORY or len(ran.stdout) > 1_000_000 or OVER not in texts:
+        return f"status {status}, {used} kB of memory, a page of {len(ran.stdout)} bytes: {texts[:500]}"
     return ""

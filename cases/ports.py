@@ -19,6 +19,8 @@ HERE = Path(__file__).resolve().parent
 WHOLE = HERE / "port"
 REFUSED = re.compile(rb"[^:\n]+:\d+: error: E13 'BY_HAND_?' is not declared\n?")
 WARNING = re.compile(rb"[^:\n]+:\d+: warning: W[2-9] [^\n]+\n?")
+# A program that snc accepts has tables. What says nothing may be one that does nothing.
+TABLES = [b"--tables", b"p.st"]
 NEWLINES_AT_END = re.compile(rb'(?:\\n)+"')
 # Fewer than these would be cases that pass with nothing measured.
 LEAST_PAIRS, LEAST_WHOLE, LEAST_COMPLETE, LEAST_RUNS, LEAST_SAME = 67, 17, 11, 10, 150
@@ -31,10 +33,10 @@ def cases(root):
     for file in sorted(WHOLE.glob("*.st")):
         yield whole(file)
         if file.with_suffix(".trace").exists():
-            yield Run(f"{file.relative_to(root)}: its run", file, root)
-    yield Included("ports: a file that stands beside the program is read, with its macros", root)
-    yield Table("ports: a table has units and texts as words of a shell", root)
-    yield Asked("ports: what snc says stands behind the notes", root)
+            yield Run(f"{file.relative_to(root)}: its run", file)
+    yield Included("ports: a file that stands beside the program is read, with its macros")
+    yield Table("ports: a table has units and texts as words of a shell")
+    yield Asked("ports: what snc says stands behind the notes")
 
 
 def whole(file):
@@ -48,19 +50,19 @@ def whole(file):
 
 def wrong_of(made, is_complete, snc):
     """What snc says wrongly of a port: nothing where it is complete, and else that BY_HAND is not declared."""
-    _, _, said = Case("", made, tool="snc").run(snc)
+    _, tables, said = Case("", made, words=TABLES, tool="snc").run(snc)
     lines = [it for it in said.splitlines() if not WARNING.fullmatch(it)]
     if is_complete:
-        return [f"snc says {lines[0].decode()}"] if lines else []
+        return [f"snc says {lines[0].decode()}"] if lines else [] if tables else ["snc writes no tables of it"]
     if not lines:
         return ["snc accepts what has something left by hand"]
     return [f"snc says {it.decode()}" for it in lines if not REFUSED.fullmatch(it)][:1]
 
 
-def call(root, folder, *words, stdin=b""):
+def call(port, folder, *words, stdin=b""):
     """The status, output and messages of a port in a folder."""
     how = {"input": stdin, "capture_output": True, "cwd": folder, "timeout": SECONDS}
-    ran = subprocess.run([sys.executable, root / "scripts/port", *words], **how)
+    ran = subprocess.run([port, *words], **how)
     return ran.returncode, ran.stdout, ran.stderr
 
 
@@ -70,13 +72,12 @@ class Run:
 
     name: str
     file: Path
-    root: Path
     tool: str = "snlrun"
 
     def failure(self, programs):
         made = self.file.with_suffix(".new").read_bytes()
         if b"BY_HAND" in made:
-            made = call(self.root, WHOLE, "--snc=", "--sketch", self.file.name)[1]
+            made = call(programs["port"], WHOLE, "--snc=", "--sketch", self.file.name)[1]
         trace, out = (self.file.with_suffix(it).read_bytes() for it in (".trace", ".out"))
         status, stdout, stderr = Case("", made, trace).run(programs["snlrun"])
         said = [f"status {status}"] if status else []
@@ -90,7 +91,6 @@ class Files:
     """Calls of the port in a folder, and what they have to give."""
 
     name: str
-    root: Path
     tool: str = "port"
 
     def failure(self, programs):
@@ -119,7 +119,7 @@ class Table(Files):
 
     def wrong(self, folder, programs):
         Path(folder, "p.st").write_text(PROGRAM)
-        found = call(self.root, folder, "--snc=", "--table", "words", "p.st")
+        found = call(programs["port"], folder, "--snc=", "--table", "words", "p.st")
         words = Path(folder, "words").read_text()
         is_told = b'p.st:1: know: text "a,b" has a comma or a colon: it is left out of the table\n' in found[2]
         return "" if found[0] == 0 and words == WORDS and is_told else repr((found, words))
@@ -145,7 +145,7 @@ class Included(Files):
     def wrong(self, folder, programs):
         for name, text in INCLUDED.items():
             Path(folder, name).write_text(text)
-        found = call(self.root, folder, "--snc=", "p.st")
+        found = call(programs["port"], folder, "--snc=", "p.st")
         notes = b"p.st:3: know: file limits.h is read here\np.st:3: know: file more.h is read here\n"
         return "" if found == (0, OF_INCLUDED, notes) else repr(found)
 
@@ -155,14 +155,14 @@ class Asked(Files):
 
     def wrong(self, folder, programs):
         Path(folder, "p.st").write_text("program p\noption +s;\nint x;\nss s { state w { when (time(x)) {} exit } }\n")
-        asked = call(self.root, folder, "--snc", programs["snc"], "p.st")
+        asked = call(programs["port"], folder, "--snc", programs["snc"], "p.st")
         notes = b"p.st:4: by hand: function 'time': time(x)\nNEW:4: error: E13 'BY_HAND' is not declared\n"
         if asked[0] != 1 or asked[2] != notes:
             return repr(asked)
-        sketch = call(self.root, folder, "--sketch", "--snc", programs["snc"], "p.st")
+        sketch = call(programs["port"], folder, "--sketch", "--snc", programs["snc"], "p.st")
         if sketch[0] != 1 or sketch[2] != notes[: notes.index(b"NEW")]:
             return repr(sketch)
-        nowhere = call(self.root, folder, "--snc", "gone/snc", "p.st")
+        nowhere = call(programs["port"], folder, "--snc", "gone/snc", "p.st")
         return "" if nowhere[0] == 3 and nowhere[2].endswith(b"port: cannot run gone/snc\n") else repr(nowhere)
 
 
@@ -170,10 +170,10 @@ def missing(root, programs):
     """Ports of `ports.cases` and of whole programs of which snc says something else than it has to; too few of them."""
     pairs = [it for it in files.cases(HERE / "ports.cases") if it.stdout]
     with ThreadPoolExecutor(os.cpu_count()) as pool:
-        wrong = [it for some in pool.map(lambda it: wrong_of_pair(root, it, programs["snc"]), pairs) for it in some]
+        wrong = [it for some in pool.map(lambda it: wrong_of_pair(it, programs), pairs) for it in some]
     whole_ones = [it for it in cases(root) if isinstance(it, Case)]
     for it in whole_ones:
-        wrong += [f"{it.name}: {said}" for said in wrong_of_pair(root, it, programs["snc"])]
+        wrong += [f"{it.name}: {said}" for said in wrong_of_pair(it, programs)]
     complete = sum(b": by hand: " not in it.stderr for it in whole_ones)
     counts = (
         (len(pairs), LEAST_PAIRS, "ports in ports.cases"),
@@ -185,17 +185,17 @@ def missing(root, programs):
     return [f"FAILED ports: {it}" for it in wrong]
 
 
-def wrong_of_pair(root, case, snc):
+def wrong_of_pair(case, programs):
     """What snc says wrongly of a port, and of its sketch."""
     is_sketch = b"--sketch" in case.words
     is_byte = b": by hand: byte 0x" in case.stderr
     is_complete = b": by hand: " not in case.stderr or is_sketch
-    wrong = [] if is_byte else wrong_of(case.stdout, is_complete, snc)
+    wrong = [] if is_byte else wrong_of(case.stdout, is_complete, programs["snc"])
     if not is_complete and not is_byte:
         with tempfile.TemporaryDirectory(prefix="port-") as folder:
             Path(folder, "p.st").write_bytes(case.source)
-            sketch = call(root, folder, "--sketch", *case.words)[1]
-        wrong += [f"of the sketch {it}" for it in wrong_of(sketch, True, snc)]
+            sketch = call(programs["port"], folder, "--sketch", *case.words)[1]
+        wrong += [f"of the sketch {it}" for it in wrong_of(sketch, True, programs["snc"])]
     return [f"{case.name}: {it}" for it in wrong]
 
 
@@ -236,5 +236,5 @@ class Same:
 
 def is_accepted(source, snc):
     """Whether snc accepts a source without W1."""
-    status, _, said = Case("", source, tool="snc").run(snc)
-    return status == 0 and all(WARNING.fullmatch(it) for it in said.splitlines())
+    status, tables, said = Case("", source, words=TABLES, tool="snc").run(snc)
+    return status == 0 and tables != b"" and all(WARNING.fullmatch(it) for it in said.splitlines())

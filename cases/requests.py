@@ -1,15 +1,17 @@
 """Memory. A run takes none: snlrun asks for it as often over a trace of one line as over one of ten thousand. And each request of a
-call may be refused: the status is 4 then, nothing is written, and nothing of the trace is read, but by `snl`, which makes its
-answer behind the trace. A call that answers otherwise than it has to, or whose requests nobody counted, is a failure, too.
+call may be refused: the status is 4 then, nothing is written to any stream or file, and nothing of the trace is read, but by `snl`,
+which makes its answer behind the trace, and whose word `run` may have begun its lines. A call that answers otherwise than it has to,
+or whose requests nobody counted, is a failure, too.
 Where memory ends while tables are written, a beginning of them is left: no program shows that, so a test of snl_tests tells it."""
 import os
 import re
 import shutil
 import subprocess
 import tempfile
-from concurrent.futures import ThreadPoolExecutor
+from dataclasses import dataclass
+from functools import lru_cache
 from pathlib import Path
-from typing import NamedTuple
+from typing import Callable, NamedTuple
 
 HERE = Path(__file__).resolve().parent
 TABLES = HERE.parent / "docs/TABLES.md"
@@ -30,6 +32,12 @@ ss two { state b { when (w % 7 == 1) { efSet(f); w = 0; } state b } }
 """
 READY = "0 up a\n0 up p\n0 up q\n0 val p 1\n0 val q 2\n0 val a 1\n"
 LINES = "".join(f"{n} val {'apq'[n % 3]} {n}\n" for n in range(1, 10_001))
+# A program whose searches are short; in the other one a fault is found.
+SAFE = """program safe
+option +s;
+int x; assign x to "X"; monitor x;
+ss s { state a { when (x > 5) {} state b } state b { when (x < 1) {} state a } }
+"""
 SOURCES = {
     "r.st": SOURCE,
     "syntax.st": SOURCE.replace("ss two", "ss ss"),
@@ -37,6 +45,10 @@ SOURCES = {
     "ten.st": SOURCE.replace("int v", "".join(f"assign u{n}; " for n in range(10)) + "int v"),
     "warned.st": SOURCE.replace("option +s;", "option -s; option +u; int unused;"),
     "waiting.st": SOURCE.replace('"q"', '"quiet"').replace('"p"', '"pp"'),
+    "safe.st": SAFE,
+    # No trace of a search, so it is not written over.
+    "notes": "mine\n",
+    "faulty.st": SAFE.replace("{} state b }", "{ x = 1 / (x - 6); } state b }"),
     "functions.st": SOURCE.replace("int w", "int twice(int n) { int m = n; return m + n; } int w").replace("w % 7", "twice(w) % 7"),
 }
 
@@ -52,6 +64,8 @@ class Call(NamedTuple):
     # So many are of no weight: what the library collects it asks all room for at first, and else room for one more each time.
     # The words of a call are collected so, the messages that are let through, and what names are compared by.
     free: int
+    # The file or the folder that the call writes beside its streams.
+    written: str = ""
 
 
 # The macro is one that no channel has.
@@ -75,11 +89,18 @@ CALLS = (
     Call("snl", ["cover", "--fail-under", "100", "r.st"], 1, 100, 1),
     Call("snl", ["graph", "warned.st"], 0, 100, 2),
     Call("snl", ["wait", "r.st"], 2, 5, 6),
+    Call("snl", ["run", "r.st"], 0, 100, 1),
+    Call("snl", ["run", "--whole", "functions.st"], 0, 100, 1),
+    Call("snl", ["search", "--lines", "1", "safe.st"], 0, 300, 1),
+    Call("snl", ["search", "--lines", "1", "--out", "found", "faulty.st"], 1, 300, 1, "found"),
+    Call("snl", ["search", "--lines", "1", "--cover", "suite", "safe.st"], 0, 300, 1, "suite"),
+    Call("snl", ["search", "--lines", "1", "--out", "notes", "safe.st"], 2, 50, 2),
 )
-OUT_OF_MEMORY = 4
+INPUT_OUTPUT, OUT_OF_MEMORY = 3, 4
 # The number of a request that no call comes to.
 NEVER = 10**9
 WITHOUT = "the answer is the same without it"
+UNWRITTEN = "the answer stands there, and it is told that the file could not be written"
 # The test of `snl_tests`, what it writes with the tables that are left where their call failed, and its status then.
 TEST = "tests::beginnings::tables_or_their_beginning"
 LEFT = re.compile(rb"left: (.*)\nthe test failed: [^\n]+\n", re.DOTALL)
@@ -88,92 +109,147 @@ FAILED = 101
 FREE = 1
 
 
-def failures(programs):
-    """A line for each failure. A build of `bin/try` has its own memory, and is not asked."""
-    if any("try" in program.parts for program in programs.values()):
-        return []
-    with tempfile.TemporaryDirectory() as name:
-        folder = Path(name)
-        build(folder)
-        for file, source in SOURCES.items():
-            (folder / file).write_text(source)
-        found = [*more_over_a_long_trace(programs, folder), *answered_otherwise(programs, folder)]
-        return [*found, *tables_left(programs["snl_tests"], folder)]
+@dataclass
+class Memory:
+    """A case in a folder with the sources."""
+
+    name: str
+    # Gets the programs and the folder, and gives lines of what is wrong.
+    check: Callable
+    tool: str
+    # A build of bin/try has memory of its own, so it is not asked.
+    of_memory: bool = True
+
+    def failure(self, programs):
+        with tempfile.TemporaryDirectory(prefix="snlrun-") as name:
+            folder = Path(name)
+            for file, source in SOURCES.items():
+                (folder / file).write_text(source)
+            wrong = list(self.check(programs, folder))
+        return "\n  ".join([f"FAILED {self.name}", *wrong[:20]]) if wrong else None
 
 
-def build(folder):
-    """requests.so, by the compiler of the kit, beside the page that `rt doc` names; else by that of the machine."""
+def cases():
+    """The cases, the longest first."""
+    for call in reversed(CALLS):
+        words = " ".join([call.tool, *call.words])
+        yield Memory(f"requests.py: {words}", lambda *it, of=call: answered_otherwise(of, *it), call.tool)
+    for name in ("r.st", "functions.st"):
+        yield Memory(f"requests.py: {name} over one line and over ten thousand", lambda *it, of=name: more_over_a_long_trace(of, *it), "snlrun")
+    yield Memory(f"requests.py: {TEST}", lambda programs, folder: tables_left(programs["snl_tests"], folder), "snlrun")
+
+
+@lru_cache
+def built():
+    """The folder of requests.so, which the compiler of the kit makes, beside the page that `rt doc` names; else that of the machine."""
     page = subprocess.run(["rt", "doc"], stdout=subprocess.PIPE, text=True).stdout.strip()
     clang = Path(page).parent / "toolchain/bin/clang"
     compiler = clang if clang.exists() else shutil.which("cc")
-    source = HERE / "requests.c"
-    subprocess.run([compiler, "-shared", "-fPIC", "-O1", "-nostdlib", "-o", folder / "requests.so", source], check=True)
+    folder = tempfile.TemporaryDirectory(prefix="snlrun-")
+    library = Path(folder.name, "requests.so")
+    subprocess.run([compiler, "-shared", "-fPIC", "-O1", "-nostdlib", "-o", library, HERE / "requests.c"], check=True)
+    return folder
 
 
-def more_over_a_long_trace(programs, folder):
-    """Two programs, one of which calls a function in each round."""
-    for name in ("r.st", "functions.st"):
-        short, long = (counted(programs["snlrun"], folder, [name], it) for it in ("0 up a\n", READY + LINES))
-        if short != long or short[0] != 0 or short[1] < 100:
-            told = f"over one line status {short[0]} and {short[1]} requests, over ten thousand {long[0]} and {long[1]}"
-            yield f"FAILED requests.py: {name}: {told}"
+def more_over_a_long_trace(name, programs, folder):
+    """Two programs, one of which calls a function in each round. The long run has to have been one: its last line is known."""
+    short, long = (counted(programs["snlrun"], folder, [name], it) for it in ("0 up a\n", READY + LINES))
+    if short[:2] != long[:2] or short[0] != 0 or short[1] < 100:
+        yield f"over one line status {short[0]} and {short[1]} requests, over ten thousand {long[0]} and {long[1]}"
+    if short[2] or not long[2].startswith(b"0 start r\n") or long[2].count(b"\n") < 10_000:
+        yield f"{len(short[2].splitlines())} lines over one line, {len(long[2].splitlines())} over ten thousand"
 
 
-def answered_otherwise(programs, folder):
-    trace = folder / "trace"
-    trace.write_text(READY)
-    with ThreadPoolExecutor(os.cpu_count()) as pool:
-        for call in CALLS:
-            name = " ".join([call.tool, *call.words])
-            program = programs[call.tool]
-            status, count = counted(program, folder, call.words, READY)
-            if status != call.status or count < call.least:
-                yield f"FAILED requests.py: {name}: status {status}, and {count} requests were counted"
-            found = list(pool.map(lambda number: refused(program, folder, call, trace, number), range(1, count + 1)))
-            told = [f"request {number} of {count} refused: {said}" for number, said in enumerate(found, 1) if said]
-            if found.count(WITHOUT) <= call.free:
-                told = [it for it in told if WITHOUT not in it]
-            yield from (f"FAILED requests.py: {name}: {it}" for it in told)
+def answered_otherwise(call, programs, folder):
+    """Each request of a call is refused in turn."""
+    (folder / "trace").write_text(READY)
+    program = programs[call.tool]
+    status, count, _ = counted(program, folder, call.words, READY)
+    if status != call.status or count < call.least:
+        yield f"status {status}, and {count} requests were counted"
+        return
+    plain = refused(program, folder, call, NEVER)
+    if not plain.wrote:
+        yield "nothing is written where none is refused"
+    found = [wrong_of(call, refused(program, folder, call, number), plain) for number in range(1, count + 1)]
+    let_through = {UNWRITTEN, *([WITHOUT] if found.count(WITHOUT) <= call.free else [])}
+    yield from (f"request {number} of {count} refused: {said}" for number, said in enumerate(found, 1) if said and said not in let_through)
+    if call.written and not (plain.files and UNWRITTEN in found):
+        yield f"{call.written} is not written, or no request comes while it is: {[*plain.files]}"
 
 
 def tables_left(tests, folder):
     """Where a request of the test is refused, it fails, and tells the tables that are left or not; once at least some are."""
     if not os.access(tests, os.X_OK):
-        yield f"FAILED requests.py: there is no program {tests}: build it by `rt ci`, or by `rt test` in the crate snl_tests"
+        yield f"there is no program {tests}: build it by `rt ci`, or by `rt test` in the crate snl_tests"
         return
-    status, count = counted(tests, folder, [TEST], "")
+    status, count, _ = counted(tests, folder, [TEST], "")
     whole = re.findall(rb"^```\n(.*?)^```$", TABLES.read_bytes(), re.DOTALL | re.MULTILINE)[1]
-    with ThreadPoolExecutor(os.cpu_count()) as pool:
-        ran = list(pool.map(lambda number: called(tests, folder, [TEST], {"REFUSED": str(number)}), range(1, count + 1)))
+    ran = [called(tests, folder, [TEST], {"REFUSED": str(number)}) for number in range(1, count + 1)]
     left = [it[1] for it in (LEFT.fullmatch(one.stderr) for one in ran) if it]
     begun = [it for it in left if whole.startswith(it) and 0 < len(it) < len(whole)]
     answered = sum(it.returncode != FAILED for it in ran)
     if status != 0 or not begun or len(begun) + left.count(b"") < len(left) or answered > FREE:
-        yield f"FAILED requests.py: {TEST}: status {status}, {count} requests, {answered} of no weight, left {left}"
+        yield f"status {status}, {count} requests, {answered} of no weight, left {left}"
 
 
-def refused(program, folder, call, trace, number):
-    """What is wrong with the answer where a request is refused; None where it is right."""
-    words = call.words
-    with open(trace, "rb") as stdin:
-        run = called(program, folder, words, {"REFUSED": str(number)}, stdin=stdin)
+class Answer(NamedTuple):
+    """How a call ended."""
+
+    status: int
+    stdout: bytes
+    stderr: bytes
+    # What is new or changed in its folder: each file with its bytes, and None for one that is gone.
+    files: dict
+    # How many bytes of the trace it read.
+    read: int
+
+    @property
+    def wrote(self):
+        """Whether anything was written at all."""
+        return bool(self.stdout or self.stderr or self.files)
+
+
+def refused(program, folder, call, number):
+    """The answer of a call where a request is refused. What an earlier one wrote is taken away before it."""
+    if call.written:
+        shutil.rmtree(folder / call.written) if (folder / call.written).is_dir() else (folder / call.written).unlink(missing_ok=True)
+    before = contents(folder)
+    with open(folder / "trace", "rb") as stdin:
+        run = called(program, folder, call.words, {"REFUSED": str(number)}, stdin=stdin)
         read = os.lseek(stdin.fileno(), 0, os.SEEK_CUR)
-    if run.returncode == OUT_OF_MEMORY and not run.stdout and not run.stderr and (read == 0 or call.tool == "snl"):
-        return None
-    plain = called(program, folder, words, {"REFUSED": str(NEVER)}, input=trace.read_bytes())
-    if (run.returncode, run.stdout, run.stderr) == (plain.returncode, plain.stdout, plain.stderr):
+    after = contents(folder)
+    files = {it: after.get(it) for it in {*before, *after} if before.get(it) != after.get(it)}
+    return Answer(run.returncode, run.stdout, run.stderr, files, read)
+
+
+def contents(folder):
+    """The files below a folder with their bytes; a folder has none."""
+    return {str(it.relative_to(folder)): it.read_bytes() if it.is_file() else b"" for it in folder.rglob("*")}
+
+
+def wrong_of(call, answer, plain):
+    """What is wrong with the answer where a request is refused; None where it is right. A file that can't be written is told."""
+    if answer[:4] == plain[:4]:
         return WITHOUT
-    return f"status {run.returncode}, {run.stdout!r}, {run.stderr!r}, {read} bytes read"
+    unwritten = INPUT_OUTPUT, plain.stdout, f"snl: cannot write {call.written}: out of memory\n".encode()
+    if call.written and answer[:3] == unwritten and answer.files.items() <= plain.files.items():
+        return UNWRITTEN
+    begun = call.words[0] == "run" and plain.stdout.startswith(answer.stdout) and answer.stdout[-1:] in (b"", b"\n")
+    is_silent = not (answer.stderr or answer.files) and (begun or not answer.stdout)
+    if answer.status == OUT_OF_MEMORY and is_silent and (answer.read == 0 or call.tool == "snl"):
+        return None
+    return f"status {answer.status}, {answer.stdout!r}, {answer.stderr!r}, {answer.files}, {answer.read} bytes read"
 
 
 def counted(program, folder, words, trace):
-    """The status of a call, and how often it asks; 0 where it tells no number."""
+    """The status of a call, how often it asks, which is 0 where it tells no number, and what it writes."""
     run = called(program, folder, words, {}, input=trace.encode())
     last = run.stderr.splitlines()[-1:]
-    return run.returncode, int(last[0]) if last and last[0].isdigit() else 0
+    return run.returncode, int(last[0]) if last and last[0].isdigit() else 0, run.stdout
 
 
 def called(program, folder, words, environment, **stdin):
     """A call with requests.so. The program gets no other environment."""
-    counter = {"LD_PRELOAD": str(folder / "requests.so"), **environment}
+    counter = {"LD_PRELOAD": str(Path(built().name, "requests.so")), **environment}
     return subprocess.run([program, *words], cwd=folder, env=counter, stdout=subprocess.PIPE, stderr=subprocess.PIPE, **stdin)

@@ -1,6 +1,7 @@
 """Cases of calls as a page shows them: bash runs them with the words that stand there, and what both streams have is compared."""
 import os
 import re
+import shutil
 import subprocess
 import tempfile
 from dataclasses import dataclass
@@ -59,5 +60,9 @@ def made_up(folder, root, programs):
         os.symlink(programs[name], folder / "bin" / name)
     (folder / "bin/try").write_text('#!/bin/sh\nname=$1\nshift\nexec "${0%try}$name" "$@"\n')
     os.chmod(folder / "bin/try", 0o755)
-    for name in ("examples", "scripts"):
-        os.symlink(root / name, folder / name)
+    os.symlink(root / "examples", folder / "examples")
+    # A script looks for programs from where it stands itself.
+    shutil.copytree(root / "scripts", folder / "scripts")
+    for crate, name in ("snc_main", "snc"), ("snl", "snl"):
+        os.makedirs(folder / "crates" / crate / "out")
+        os.symlink(programs[name], folder / "crates" / crate / "out" / name)

@@ -11,7 +11,7 @@ from pathlib import Path
 from typing import Callable
 
 from case import SECONDS
-from memory import peak
+from memory import grown, peak
 
 SOURCE = """program p option +s; int x; assign x to "X"; monitor x;
 ss s { state a { when (x > 1) {} state a } }
@@ -27,6 +27,8 @@ class Tool:
     # Gets the program and a folder with p.st, and gives what is wrong, or nothing.
     check: Callable
     tool: str = "snl"
+    # Whether it measures memory, of which a build of bin/try has its own.
+    of_memory: bool = False
 
     def failure(self, programs):
         with tempfile.TemporaryDirectory(prefix="snlrun-") as folder:
@@ -42,7 +44,7 @@ def cases(root):
     yield Tool("snl waits: a trace from a terminal", terminal)
     yield Tool("snl waits: FILE is a pipe", piped)
     yield Tool("snl waits: more names than are kept", many_names)
-    yield Tool("snl waits: memory over many lines as over a few", memory)
+    yield Tool("snl waits: memory over many lines as over a few", memory, of_memory=True)
     for name, lines in ("light", 4), ("motor", 3), ("shutter", 2):
         yield Tool(f"snl search --cover: {name}, as snl cover says of the traces", lambda *it, of=(name, lines): suite(root, *of, *it))
     yield Tool("snl run: MACROS that are the name of a file", file_for_macros)
@@ -112,22 +114,24 @@ def many_names(program, folder):
 
 
 def memory(program, folder):
-    """A build of `bin/try` has its own memory, and is not asked."""
-    if "try" in program.parts:
-        return ""
-    few, many = (taken(program, folder, count) for count in (10, LINES))
-    return "" if many < few + SLACK else f"{few} kilobytes over ten lines, {many} over {LINES}"
+    """Each call counts the lines of its trace."""
+    taken = []
+    for count in (10, LINES):
+        found = over(program, folder, count)
+        wrong = differs((found.status, found.first), (1, f"never began: {count} events, the last at {count - 1} (line {count})"))
+        if wrong:
+            return wrong
+        taken.append(found.kilobytes)
+    return grown(*taken, SLACK)
 
 
-def taken(program, folder, count):
-    """The memory of a call over a trace of so many lines, over which the program does not begin."""
+def over(program, folder, count):
+    """What a call takes and writes over a trace of so many lines, over which the program does not begin."""
     trace = folder / f"{count}.trace"
     with open(trace, "w") as out:
         out.writelines(f"{n} val OTHER{n % 50} {n}\n" for n in range(count))
     with open(trace) as stdin:
-        status, kilobytes = peak([program, "waits", "p.st"], folder, stdin)
-    assert status == 1, status
-    return kilobytes
+        return peak([program, "waits", "p.st"], folder, stdin)
 
 
 def suite(root, name, lines, program, folder):

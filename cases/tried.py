@@ -10,7 +10,6 @@ SLOW = (
     "snl run: a valve that opens and shuts in one instant",
     "snl run: a switch that stays 1",
     "snl run: a dome that hunts",
-    "snl run: memory over many lines",
     "traces.cases: a trace of many pieces",
     "faults.cases: a step more than the budget of an instant",
     "search.cases: a gate valve that goes to and fro",
@@ -18,6 +17,11 @@ SLOW = (
     "search.cases: the trace that is written",
     "search.cases: a trace that cannot be written",
 )
+
+
+def is_one(program):
+    """Whether a program is such a build: where bin/try leaves it."""
+    return program.parts[-3:-1] == ("out", "try")
 
 
 def programs(root):

@@ -4,6 +4,7 @@ import os
 import re
 import signal
 import threading
+import time
 
 from stage import SECONDS, NotSo, comments, events, is_rising, untimed
 from stubbed import Stubbed, play, put_lines
@@ -15,6 +16,8 @@ int y;  assign y to "OUT";
 ss s { state waits { when (x != y) { y = x; pvPut(y); } state waits } }
 """
 UP = "up IN long", "up OUT long", "val IN 0"
+# So many seconds all that came waits for a reader.
+PAUSE = 1
 LIMITED = "bash", "-c", 'ulimit -f 1; exec "$@"', "bash"
 LEFT = re.compile(r"(\d+) events that waited were not written, the first of (\d+), the last of (\d+)")
 
@@ -116,8 +119,10 @@ def left(stage):
     program = echo(stage)
     front, behind_ = waits_for(stage, program)
     play(stage, *UP, *values(15000), "note end")
+    begin = time.monotonic()
     live = stage.start("live", "--put", *front, *behind_)
     stage.wait("all values came", lambda: put_lines(stage) == ["end"])
+    came = 1000 * (time.monotonic() - begin)
     stage.wait("it is told", lambda: "live.py: behind by " in live.text("said"))
     live.process.send_signal(signal.SIGINT)
     (stage.folder / "go").touch()
@@ -128,8 +133,8 @@ def left(stage):
         raise NotSo(f"what is left\n{stage.told()}")
     count, first, last = map(int, found[0].groups())
     written = [int(it.split()[0]) for it in live.text("kept").splitlines() if " val " in it]
-    if len(written) + count != 15001 or not written[-1] <= first <= last or count < 1000:
-        raise NotSo(f"{len(written)} written up to {written[-1]}, {count} left\n{stage.told()}")
+    if len(written) + count != 15001 or not written[-1] <= first <= last <= came or count < 1000:
+        raise NotSo(f"{len(written)} written up to {written[-1]}, {count} left, the last came by {came:.0f}\n{stage.told()}")
     if not_put(live) != ["OUT: live.py is ending"] * len([it for it in untimed(live.text("out")) if it.startswith("put ")]):
         raise NotSo(f"puts behind Ctrl-C\n{stage.told()}")
 
@@ -164,18 +169,22 @@ def behind(stage):
 
 
 def recorded(stage):
-    """Nobody reads until Ctrl-C came; then all is there."""
+    """Nobody reads until Ctrl-C came; then all is there, each with the time at which it came, and not at which it was written."""
     reads, writes = os.pipe()
     play(stage, *UP[:1], *values(15000), "note end")
+    begin = time.monotonic()
     record = stage.start("record", "IN", out=writes)
     os.close(writes)
     stage.wait("all values came", lambda: put_lines(stage) == ["end"])
+    came = 1000 * (time.monotonic() - begin)
+    time.sleep(PAUSE)
     record.process.send_signal(signal.SIGINT)
     with open(reads, "rb") as stream:
         text = stream.read().decode()
     stage.same("the status", [record.process.wait(SECONDS)], [0])
-    if not is_rising(text):
-        raise NotSo("a time goes back")
+    times = [int(it.split()[0]) for it in text.splitlines() if it[0] != "#"]
+    if not is_rising(text) or times[-2] > came or times[-1] - times[-2] < 1000 * PAUSE:
+        raise NotSo(f"times go back, or the last value, at {times[-2]}, came by {came:.0f}, and the end is at {times[-1]}")
     stage.same("the lines", events(text), ["up IN", *values(15000)])
 
 

@@ -18,6 +18,7 @@ def cases():
         ("texts that are put", of_texts, texts),
         ("a first value nan, and an array without elements", of_never, never),
         ("a device that is full", of_echo, full),
+        ("a server that comes back sends its value once more, to a queue too", of_queue, queue),
     ):
         yield Beside(f"scripts/epics: {name}", channels, check)
 
@@ -124,3 +125,30 @@ def full(stage, server):
         stage.same("the status", [live.process.returncode], [3])
         if f"live.py: {name}: No space left on device\n" not in live.text("said") or "Traceback" in live.text("said"):
             raise NotSo(stage.told())
+
+
+QUEUE = """program queue
+option +s;
+int x;  assign x to "IN";  monitor x;  evflag came;  syncQ x to came 10;
+int n;
+ss s { state a { when (pvGetQ(x)) { n = n + 1; printf("%d: %d", n, x); } state a } }
+"""
+
+
+def of_queue():
+    """The channel of the queue."""
+    return [Channel("IN", "long", [7])]
+
+
+def queue(stage, server):
+    """The value did not change, and the queue has it a second time; so has the replay."""
+    program = stage.folder / "queue.st"
+    program.write_text(QUEUE)
+    live = stage.live(program)
+    stage.wait("the first value is taken", lambda: "print s 1: 7" in untimed(live.text("out")))
+    server.call(server.drop)
+    stage.wait("the channel goes", lambda: "down IN" in untimed(live.text("kept")))
+    stage.wait("the value comes once more", lambda: "print s 2: 7" in untimed(live.text("out")))
+    stage.same("the status", [live.end()], [0])
+    stage.same("the events", events(live.text("kept")), ["up IN", "val IN 7", "down IN", "up IN", "val IN 7"])
+    finished(stage, live, program, ["start queue", "print s 1: 7", "go s a a", "print s 2: 7", "go s a a"], [])

@@ -1,0 +1,95 @@
+"""The cases themselves: each has to fail where its programs do nothing, and where they only copy what they are given.
+
+A case that passes then would pass whatever the programs did. Those that call no program of this repository are named here, each with
+its reason. A case of one call is asked by functions in the place of the program, so thousands of them take a second; each other one
+is run with `true` for every program. That a call has nothing to say shows nothing: case.py has a second call for that.
+"""
+import os
+import shutil
+from concurrent.futures import ThreadPoolExecutor
+from dataclasses import replace
+from pathlib import Path
+
+from case import SILENT, Case
+
+RECORD = "it tries scripts/epics/record.py alone, which calls no program"
+MADE = "it tries a script of bin/ or scripts/ over programs that an `rt` of its own makes"
+# Parts of the names of cases, and why these need no program.
+WITHOUT = {
+    "by a stub: values of all types": RECORD,
+    "by a stub: the order of lines": RECORD,
+    "by a stub: the channels that tables and words name": RECORD,
+    "by a stub: an array of more values than a line can have": RECORD,
+    "by a stub: what waits for the reader of record.py": RECORD,
+    "by a stub: a file that is full: the trace of record.py": RECORD,
+    "by a stub: second Ctrl-C": RECORD,
+    "by a stub: a disk that is full: the trace of record.py": RECORD,
+    "by a stub: words that make no sense, and what is not there": "it tries the words of scripts/epics, which are wrong before a program runs",
+    "bin/: ": MADE,
+    "scripts/more-edits: ": MADE,
+    "plot: the pictures of the pages are small": "it reads files of docs/",
+    ": cpp makes it of the program": "it tries cpp, and what examples/ has of it",
+    "scripts/port --snc= ": "it tries scripts/port, which is told to ask no snc",
+    "| examples/camonitor.py ": "it tries examples/camonitor.py alone",
+}
+# Of a case over many sources so many are taken.
+SOURCES = 400
+
+
+def failures(cases, programs):
+    """A line for each case that passes over nothing, and for each name above that no case has."""
+    named = {part: [it for it in cases if part in it.name] for part in WITHOUT}
+    found = [f"FAILED empty.py: no case has {part!r} in its name" for part, those in named.items() if not those]
+    without = {it.name for those in named.values() for it in those}
+    asked = [it for it in cases if it.name not in without]
+    with ThreadPoolExecutor(os.cpu_count()) as pool:
+        passed = [it for it in pool.map(lambda case: passes_by(case, programs), asked) if it]
+    return found + [f"FAILED {it}" for it in passed]
+
+
+def passes_by(case, programs):
+    """What a case passes with, in words; nothing where it fails as it has to."""
+    if type(case) is Case:
+        named = [what for what, run in RUNS.items() if not case.wrong_by(lambda it, run=run: heard(it, *run(it)))]
+    else:
+        named = ["does nothing"] if passes(case, dict.fromkeys(programs, Path(shutil.which("true")))) else []
+    return f"{case.name}: it passes where each program is one that {' and one that '.join(named)}" if named else ""
+
+
+def passes(case, programs):
+    """Whether a case passes with these programs. One that is not for this machine, or that stumbles, does not."""
+    if hasattr(case, "lacks") and case.lacks():
+        return False
+    try:
+        fewer = {"sources": case.sources[:SOURCES]} if hasattr(case, "sources") else {}
+        return not replace(case, **fewer).failure(programs)
+    except Exception:
+        return False
+
+
+def heard(case, status, stdout, stderr):
+    """What comes of an answer: nothing of its standard output where that is a device."""
+    return status, b"" if isinstance(case.stdout, Path) else stdout, stderr
+
+
+def copied(case):
+    """The answer of a program that copies its standard input."""
+    return 0, given(case), b""
+
+
+def shown(case):
+    """The answer of `cat`: the files of the call, of which there is the source alone; standard input where none is named."""
+    if any(it.startswith(b"-") and it != b"-" for it in case.words):
+        return 1, b"", b"cat: an option\n"
+    texts = {b"p.st": case.source, b"-": given(case)}
+    missing = [it for it in case.words if it not in texts]
+    said = b"".join(b"cat: %s: No such file or directory\n" % it for it in missing)
+    return int(bool(missing)), b"".join(texts.get(it, b"") for it in case.words or [b"-"]), said
+
+
+def given(case):
+    """What stands on the standard input of a case; nothing where that is a device."""
+    return case.trace if isinstance(case.trace, bytes) else b""
+
+
+RUNS = {"does nothing": lambda _: SILENT, "copies its input": copied, "shows its files": shown}
