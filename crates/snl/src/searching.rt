@@ -13,9 +13,6 @@ use std::fs::File;
 use std::io::{ErrorKind, IsTerminal};
 use std::time::{Duration, Instant};
 
-/// The check takes at most this part of the time that was searched before: it does each line once, and keeps no world.
-const CHECK: u32 = 2;
-
 /// The clock of a search, which tells once a second how far it has come where standard error is a terminal.
 #[derive(Drop)]
 struct Clock<'c> {
@@ -26,7 +23,7 @@ struct Clock<'c> {
     told: Option<Instant>,
     /// How long the call may take.
     most: Duration,
-    /// How long it takes at most to check the levels that are whole.
+    /// How long it takes at most to check the levels that are whole: no longer than to search them, since it does each line once.
     check: Duration,
 }
 
@@ -85,10 +82,9 @@ impl Watches for Clock<'_> {
             return true;
         };
         let passed = now.duration_since(begun);
-        let check = passed / CHECK;
-        let has_time = passed.saturating_add(check) < self.most;
+        let has_time = passed.saturating_add(passed) < self.most;
         if has_time {
-            self.check = check;
+            self.check = passed;
         }
         has_time
     }
