@@ -1,29 +1,23 @@
-"""Calls of the built-in functions of SNL: puts, gets, connections, severities, delays."""
+"""Calls of the built-in functions of SNL: puts, gets, connections, delays."""
 import re
 from fractions import Fraction
 from typing import Optional
 
 from porting.binding import subscripts_of, variable_of
 from porting.constants import decimal_text, nearest
-from porting.formats import Formats
 from porting.notes import DECIDE, KNOW, ByHand
 from porting.parse_expressions import COMMA, TIGHTNESS, WHOLE
+from porting.readings import Readings
 from porting.tree import Call, Expression
 from porting.values import SUM, Value, held
-from porting.variables import Kind, Variable
+from porting.variables import Kind
 
-FIELD = re.compile(r"\.[A-Z0-9_]+$")
 # A number of seconds that `delay` takes as it is, perhaps with the name of the constant.
 SECONDS = re.compile(r"(\d+\.?\d*|\.\d+)( /\*\w+\*/)?")
 
 
-class Calls(Formats):
+class Calls(Readings):
     """How built-in functions are written."""
-
-    def __init__(self, *given):
-        super().__init__(*given)
-        # Variables that need the severity or the status of their channels, with the field and the name of the copy.
-        self.alarms: dict[tuple[Variable, str], str] = {}
 
     def links(self, node: Expression) -> list[str]:
         """The places of the links that a call is of: one for each channel."""
@@ -118,44 +112,6 @@ class Calls(Formats):
         self.say(node, KNOW, "pvAssignCount is pvChannelCount here")
         return Value("pvChannelCount()")
 
-    def alarm(self, node: Call) -> Value:
-        """`pvStatus` and `pvSeverity`: a channel of its own."""
-        self.has_arguments(node, 1)
-        variable = variable_of(node.arguments[0])
-        if variable is None or variable.channels is None or not variable.channels.all_names():
-            raise ByHand(f"function '{node.function}'")
-        field = "SEVR" if node.function == "pvSeverity" else "STAT"
-        name = self.alarms.setdefault((variable, field), self.free(f"{variable.new_name}_{field.lower()}"))
-        subscripts = subscripts_of(node.arguments[0])
-        is_parted = variable.channels.is_list or variable.channels.elements
-        if is_parted and not subscripts:
-            raise ByHand(f"{node.function} of many channels")
-        subscript = f"[{self.whole(self.value(subscripts[0])).text}]" if is_parted else ""
-        channel = "read from a channel of its own, which the trace has to bring before the value"
-        self.say(node, KNOW, f"{node.function}: {channel}")
-        return Value(f"{name}{subscript}")
-
-    def alarm_definitions(self) -> list[str]:
-        """The variables of severities and statuses."""
-        return [self.alarm_definition(name, *key) for key, name in self.alarms.items()]
-
-    def alarm_definition(self, name: str, variable: Variable, field: str) -> str:
-        """The variable of a severity or a status, with its channels."""
-
-        def channel(of: str) -> str:
-            """The name of the channel of the field, as a text."""
-            return f'"{FIELD.sub("", of)}.{field}"'
-
-        channels = variable.channels
-        if channels.elements:
-            places = [(self.whole(self.value(it)).text, channel(of)) for it, of in channels.elements]
-            assigns = "".join(f" assign {name}[{at}] to {of};" for at, of in places)
-            return f"int {name}[{self.size(variable.dimensions[0])}];{assigns} monitor {name};"
-        if channels.is_list:
-            names = ", ".join(channel(it) for it in channels.names)
-            return f"int {name}[{self.size(variable.dimensions[0])}]; assign {name} to {{{names}}}; monitor {name};"
-        return f"int {name}; assign {name} to {channel(channels.names[0])}; monitor {name};"
-
     def delay(self, node: Call) -> Value:
         """`delay`: constants to the millisecond, all else in whole seconds."""
         self.has_arguments(node, 1)
@@ -192,7 +148,10 @@ class Calls(Formats):
             self.nothing: ("pvPutCancel", "pvGetCancel", "pvFlush"),
             self.assigned: ("pvAssigned", "pvCount"),
             self.channel_count: ("pvAssignCount",),
-            self.alarm: ("pvStatus", "pvSeverity"),
+            self.alarm: ("pvStatus", "pvSeverity", "pvTimeStamp"),
+            self.clock: ("time", "epicsTimeGetCurrent"),
+            self.passed: ("difftime", "epicsTimeDiffInSeconds"),
+            self.scanned: ("sscanf",),
             self.delay: ("delay",),
             self.as_it_is: ("pvChannelCount", "pvConnectCount", "efSet", "efClear", "efTest", "efTestAndClear"),
         }

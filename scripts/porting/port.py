@@ -2,8 +2,9 @@
 from dataclasses import dataclass
 
 from porting.binding import Binding
-from porting.functions import HELPERS
+from porting.moved import comment_in_front
 from porting.notes import BY_HAND, DECIDE, KNOW, NotUnderstood, Notes
+from porting.numbers import HELPERS
 from porting.parse_program import ProgramParser
 from porting.preprocessor import Preprocessor
 from porting.sharing import Sharing
@@ -47,7 +48,7 @@ class Port(Sharing):
             self.state_set(it)
         self.embedded_outside()
         self.frame(self.program)
-        return self.rendered()
+        return self.rendered(0, len(self.tokens))
 
     def quantities(self) -> set[str]:
         """The names of all quantities."""
@@ -78,10 +79,25 @@ class Port(Sharing):
             option = " option +s;"
             text = "option +s is added: each state set has its own copy of the variables"
             self.notes.add(self.tokens[program.word].line, KNOW, text)
-        lines = [*self.legend_lines(), *self.refused, *self.alarm_definitions(), *self.shared_lines(), *self.helper_lines()]
+        lines = [*self.legend_lines(), *self.refused, *self.reading_definitions(), *self.shared_lines(), *self.helper_lines()]
         # Lines end as they do in the source.
         end = "\r\n" if any("\r\n" in it.before for it in self.tokens) else "\n"
-        self.behind[program.head_end] = option + "".join(f"{end}{it}" for it in lines)
+        self.behind[program.head_end] = option + "".join(f"{end}{it}" for it in [*lines, *self.moved_functions()])
+
+    def moved_functions(self) -> list[str]:
+        """The functions that are written in front. Where they stood, empty lines stay."""
+        texts = []
+        for name in self.binding.order.moved:
+            node = self.binding.functions[name]
+            token = self.tokens[node.first]
+            comment = "" if token.embedded else comment_in_front(token.before)
+            token.before = token.before.removesuffix(comment) + "\n" * comment.count("\n")
+            texts.append(comment + self.rendered(node.first, node.end).removeprefix(token.before))
+            lines = self.spelled(node.first, node.end).count("\n")
+            self.drop_changes(node)
+            self.changes[node.first] = (node.end, "\n" * lines)
+            self.say(node, KNOW, f"function '{name}' is moved in front of what calls it")
+        return texts
 
     def legend_lines(self) -> list[str]:
         """The units of quantities and the numbers of texts, as a comment."""
@@ -102,10 +118,10 @@ class Port(Sharing):
         names = {it: self.free(it) for it in HELPERS}
         return [line.format(**names) for it, lines in HELPERS.items() if it in self.helpers for line in lines]
 
-    def rendered(self) -> str:
-        """The text with all changes."""
-        parts, at = [], 0
-        while at < len(self.tokens):
+    def rendered(self, first: int, end: int) -> str:
+        """The text of tokens with all changes."""
+        parts, at = [], first
+        while at < end:
             token = self.tokens[at]
             parts += [token.before, self.in_front.get(at, "")]
             if at in self.changes:

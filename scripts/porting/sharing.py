@@ -2,10 +2,9 @@
 from dataclasses import dataclass, field
 from typing import Optional
 
-from porting.binding import every, subscripts_of, variable_of
+from porting.binding import behind_and, stored_by, subscripts_of, variable_of
 from porting.definitions import Definitions
 from porting.notes import DECIDE, KNOW
-from porting.statements import STORING
 from porting.tree import (
     Action,
     Assignment,
@@ -22,6 +21,7 @@ from porting.tree import (
     Postfix,
     Prefix,
     While,
+    every,
 )
 from porting.variables import Kind, Variable
 
@@ -95,15 +95,16 @@ class Sharing(Definitions):
             self.store(found, node.operand)
         elif isinstance(node, Call):
             found.add(self.function_uses.get(node.function, Uses()))
-            if node.function in STORING and node.arguments:
-                place = node.arguments[0]
+            place = stored_by(node)
+            if place is not None:
                 self.store(found, place)
             if node.function == "pvPut":
                 return found
         elif isinstance(node, Name):
             self.read(found, node)
         for child in node.children():
-            for it in subscripts_of(child) if child is place else [child]:
+            is_place = place is not None and behind_and(child) is place
+            for it in subscripts_of(place) if is_place else [child]:
                 found.add(self.uses(it))
         return found
 

@@ -144,6 +144,9 @@ class Block(Node):
 class Plain(Node):
     """What stays as it is: `;`, `break;`, `continue;`, `state NAME;`, or event flags."""
 
+    # `break`, `continue` or `state`, where it begins so.
+    word: str
+
 
 @dataclass(eq=False)
 class EventFlags(Plain):
@@ -173,6 +176,29 @@ class For(Node):
     # What stands in its head: each of the three may be missing.
     head: list[Optional[Expression]]
     body: Node
+
+
+@dataclass(eq=False)
+class Do(Node):
+    body: Node
+    condition: Expression
+
+
+@dataclass(eq=False)
+class Case(Node):
+    """A part of a `switch`."""
+
+    # None stands for `default`.
+    labels: list[Optional[Expression]]
+    # Where its last label ends, with the colon.
+    label_end: int
+    items: list[Node]
+
+
+@dataclass(eq=False)
+class Switch(Node):
+    value: Expression
+    sections: list[Case]
 
 
 @dataclass(eq=False)
@@ -295,3 +321,12 @@ class Program(Node):
     head_end: int
     semicolon: Optional[int]
     macros: Optional[Text]
+
+
+def every(node: Node) -> Iterator[Node]:
+    """A node and all that stand in it, in the order of the source."""
+    waiting = [node]
+    while waiting:
+        found = waiting.pop()
+        yield found
+        waiting += reversed(list(found.children()))

@@ -7,7 +7,7 @@ from dataclasses import dataclass
 from fractions import Fraction
 from typing import Optional, Union
 
-from porting.binding import Binding, every, variable_of
+from porting.binding import Binding, variable_of
 from porting.constants import decimals, literal, quotient
 from porting.notes import DECIDE, ByHand
 from porting.tree import (
@@ -20,6 +20,7 @@ from porting.tree import (
     Comma,
     Conditional,
     Declarator,
+    Do,
     Element,
     Expression,
     For,
@@ -33,8 +34,10 @@ from porting.tree import (
     Postfix,
     Prefix,
     Return,
+    Switch,
     Values,
     While,
+    every,
 )
 from porting.variables import Group, Kind, Owner, Variable
 from porting.words import ABSOLUTES, TRANSCENDENTAL
@@ -181,7 +184,7 @@ class Meetings:
         """The expressions that stand in a node itself."""
         if isinstance(node, Declarator):
             return flat(node.first_value)
-        if isinstance(node, (Clause, If, While, For, Action, Return)):
+        if isinstance(node, (Clause, If, While, For, Do, Switch, Action, Return)):
             return [it for it in node.children() if isinstance(it, Expression)]
         return []
 

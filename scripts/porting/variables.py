@@ -109,6 +109,8 @@ class Variable:
     is_text: bool = False
     members: "Optional[dict[str, Variable]]" = None
     group: Optional[Group] = None
+    # The number that is written in it, where it is a text of a channel from which one is read.
+    number: "Optional[Variable]" = None
 
     def __post_init__(self):
         self.new_name = self.new_name or self.name
