@@ -5,6 +5,7 @@ from typing import Iterator, Optional
 from porting.moved import Order
 from porting.tree import (
     Assign,
+    Assignment,
     Block,
     Call,
     Conditional,
@@ -20,6 +21,7 @@ from porting.tree import (
     Name,
     Node,
     Parentheses,
+    Postfix,
     Prefix,
     Program,
     State,
@@ -65,6 +67,21 @@ def stored_by(call: Call) -> Optional[Expression]:
     at = 2 if call.function == "sscanf" else 0
     is_one = call.function in STORING and len(call.arguments) > at
     return behind_and(call.arguments[at]) if is_one else None
+
+
+def stores_in(node: Node) -> Iterator[Variable]:
+    """The variables that an expression stores to."""
+    for it in every(node):
+        place = None
+        if isinstance(it, Assignment):
+            place = it.left
+        elif isinstance(it, (Prefix, Postfix)) and it.sign in ("++", "--"):
+            place = it.operand
+        elif isinstance(it, Call):
+            place = stored_by(it)
+        found = variable_of(place) if place is not None else None
+        if found:
+            yield found
 
 
 def subscripts_of(place: Expression) -> list[Expression]:
@@ -154,6 +171,8 @@ class Binding:
                 yield node.result
             if isinstance(node, Declarator):
                 yield node.variable
+                if node.variable.number:
+                    yield node.variable.number
                 yield from (node.variable.members or {}).values()
 
     def find_texts(self) -> None:

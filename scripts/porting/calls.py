@@ -1,19 +1,12 @@
-"""Calls of the built-in functions of SNL: puts, gets, connections, delays."""
-import re
-from fractions import Fraction
+"""Calls of the built-in functions of SNL: puts, gets, connections."""
 from typing import Optional
 
 from porting.binding import subscripts_of, variable_of
-from porting.constants import decimal_text, nearest
-from porting.notes import DECIDE, KNOW, ByHand
+from porting.notes import DECIDE, KNOW, OTHERWISE, ByHand
 from porting.parse_expressions import COMMA, TIGHTNESS, WHOLE
 from porting.readings import Readings
 from porting.tree import Call, Expression
-from porting.values import SUM, Value, held
-from porting.variables import Kind
-
-# A number of seconds that `delay` takes as it is, perhaps with the name of the constant.
-SECONDS = re.compile(r"(\d+\.?\d*|\.\d+)( /\*\w+\*/)?")
+from porting.values import Value
 
 
 class Calls(Readings):
@@ -42,18 +35,18 @@ class Calls(Readings):
     def put(self, node: Call) -> Value:
         """`pvPut` and `pvGet`: SYNC and timeouts are left out, and many channels have a call each."""
         self.has_arguments(node, 1)
-        links, mode = self.links(node.arguments[0]), ""
-        for it in node.arguments[1:]:
+        links, mode = self.links(node.arguments[0]), ", ASYNC" if node.waits else ""
+        for it in node.arguments[1:] if not node.waits else ():
             word = self.named(it)
             if word == "ASYNC" and node.function == "pvPut":
                 mode = ", ASYNC"
             elif word == "ASYNC":
                 self.say(node, KNOW, "ASYNC of pvGet is left out: the last value is there at once")
             elif word == "SYNC":
-                self.say(node, KNOW, "SYNC is left out: the program goes on at once")
+                self.say(node, KNOW, "SYNC is left out: the program goes on at once", OTHERWISE)
             elif word != "DEFAULT":
                 self.say(node, KNOW, f"timeout {word} is left out")
-        if len(links) == 1 and len(node.arguments) == 1 + bool(mode):
+        if len(links) == 1 and len(node.arguments) == 1 + bool(mode) and not node.waits:
             return Value(self.woven(node, [(node.arguments[0], links[0])]))
         texts = [f"{node.function}({it}{mode})" for it in links]
         return Value(", ".join(texts), WHOLE if len(links) == 1 else COMMA)
@@ -112,32 +105,6 @@ class Calls(Readings):
         self.say(node, KNOW, "pvAssignCount is pvChannelCount here")
         return Value("pvChannelCount()")
 
-    def delay(self, node: Call) -> Value:
-        """`delay`: constants to the millisecond, all else in whole seconds."""
-        self.has_arguments(node, 1)
-        argument = node.arguments[0]
-        found = self.value(argument)
-        if found.constant is not None and found.kind is Kind.QUANTITY:
-            return self.constant_delay(node, found)
-        if found.kind is Kind.WHOLE:
-            return Value(self.woven(node, [(argument, found.text)]))
-        if found.kind is not Kind.QUANTITY:
-            raise ByHand("a delay of what is no number")
-        if found.digits == 0:
-            return Value(f"delay({found.text})")
-        self.say(node, DECIDE, "delay of a quantity: only whole seconds are possible, and it is rounded up")
-        return Value(f"delay(({held(found, SUM)} + {10**found.digits - 1}) / {10**found.digits})")
-
-    def constant_delay(self, node: Call, found: Value) -> Value:
-        """A `delay` of a number with decimals."""
-        milliseconds = found.constant * 1000
-        spelled = self.spelled(node.arguments[0].first, node.arguments[0].end)
-        if SECONDS.fullmatch(spelled) and milliseconds.denominator == 1:
-            return self.as_it_is(node)
-        if milliseconds.denominator > 1:
-            self.say(node, KNOW, "delay to the millisecond")
-        return Value(f"delay({decimal_text(Fraction(nearest(milliseconds), 1000))}{found.behind})")
-
     def builtin(self, node: Call) -> Optional[Value]:
         """A call of a built-in function, or None where it is none."""
         readers = {
@@ -152,12 +119,9 @@ class Calls(Readings):
             self.clock: ("time", "epicsTimeGetCurrent"),
             self.passed: ("difftime", "epicsTimeDiffInSeconds"),
             self.scanned: ("sscanf",),
-            self.delay: ("delay",),
             self.as_it_is: ("pvChannelCount", "pvConnectCount", "efSet", "efClear", "efTest", "efTestAndClear"),
         }
         for reader, names in readers.items():
             if node.function in names:
                 return reader(node)
         return None
-
-

@@ -17,8 +17,8 @@ from porting.tree import (
     Stray,
     Unknown,
     Values,
+    flat,
 )
-from porting.units import flat
 from porting.variables import Kind, Variable
 from porting.words import LONG_TYPES
 from porting.work import unit_of

@@ -18,7 +18,7 @@ class Functions(Numbers):
         """A call of any function."""
         if node.function in self.binding.functions:
             return self.own(node)
-        found = self.builtin(node) or self.of_texts(node)
+        found = self.delay(node) if node.function == "delay" else self.builtin(node) or self.of_texts(node)
         if found is None:
             found = self.of_numbers(node, wanted)
         if found is None:

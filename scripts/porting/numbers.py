@@ -3,9 +3,10 @@ from fractions import Fraction
 from typing import Optional
 
 from porting.constants import decimals
+from porting.delays import Delays
 from porting.notes import DECIDE, KNOW, ByHand
 from porting.parse_expressions import ASSIGNMENT
-from porting.ratios import Ratio, Ratios
+from porting.ratios import Ratio
 from porting.tree import Call
 from porting.values import PRODUCT, STORES, Value, common_digits, held, number
 from porting.variables import Kind
@@ -16,7 +17,7 @@ from porting.work import MOST_OF_UNIT, unit_of
 MOST_POWER = 6
 
 
-class Numbers(Ratios):
+class Numbers(Delays):
     """How functions of numbers are written."""
 
     def of_numbers(self, node: Call, wanted: Optional[int]) -> Optional[Value]:

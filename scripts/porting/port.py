@@ -3,15 +3,15 @@ from dataclasses import dataclass
 
 from porting.binding import Binding
 from porting.moved import comment_in_front
-from porting.notes import BY_HAND, DECIDE, KNOW, NotUnderstood, Notes
+from porting.notes import BY_HAND, DECIDE, KNOW, OTHERWISE, NotUnderstood, Notes
 from porting.numbers import HELPERS
 from porting.parse_program import ProgramParser
 from porting.preprocessor import Preprocessor
-from porting.sharing import Sharing
 from porting.tokens import harmless
 from porting.tree import Option, Program
 from porting.units import find_units, quantities_by_digits
 from porting.variables import Kind
+from porting.waiting import Waiting
 from porting.work import Settings, unit_of
 
 FROM_CHANNEL = "is a text that comes from a channel: the trace has to bring its number, as the list of texts at the top has it"
@@ -27,7 +27,7 @@ class Ported:
     port: "Port"
 
 
-class Port(Sharing):
+class Port(Waiting):
     """A port of a program."""
 
     def run(self) -> str:
@@ -48,7 +48,9 @@ class Port(Sharing):
             self.state_set(it)
         self.embedded_outside()
         self.frame(self.program)
-        return self.rendered(0, len(self.tokens))
+        text = self.rendered(0, len(self.tokens))
+        # Of functions that stood behind all else nothing is left.
+        return text.rstrip("\n") + "\n" if self.binding.order.moved else text
 
     def quantities(self) -> set[str]:
         """The names of all quantities."""
@@ -64,9 +66,7 @@ class Port(Sharing):
             for it in [*state.entries, *state.exits]:
                 self.statement(it, None)
             for clause in state.clauses:
-                if clause.condition is not None:
-                    self.condition(clause.condition)
-                self.statement(clause.block, None)
+                self.clause(clause, state)
 
     def frame(self, program: Program) -> None:
         """What stands behind the head of the program: an option, and lines that are added."""
@@ -78,7 +78,7 @@ class Port(Sharing):
         if not self.is_safe:
             option = " option +s;"
             text = "option +s is added: each state set has its own copy of the variables"
-            self.notes.add(self.tokens[program.word].line, KNOW, text)
+            self.notes.add(self.tokens[program.word].line, KNOW, text, OTHERWISE)
         lines = [*self.legend_lines(), *self.refused, *self.reading_definitions(), *self.shared_lines(), *self.helper_lines()]
         # Lines end as they do in the source.
         end = "\r\n" if any("\r\n" in it.before for it in self.tokens) else "\n"

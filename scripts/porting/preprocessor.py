@@ -289,7 +289,7 @@ class Reader:
         kept = statements_of(inner.tokens, self.work.functions)
         if not kept:
             return False
-        kept[0].before = f"{self.before}/* {spelled[:2]} */{kept[0].before}"
+        kept[0].before = f"{self.before}/* {spelled[:2]} */{kept[0].before or ' '}"
         self.tokens += kept
         self.before, self.embedded = inner.before if is_line else f"{inner.before}/* }}% */", ()
         self.pass_over("", spelled)

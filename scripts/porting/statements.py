@@ -1,15 +1,14 @@
 """What statements become, and what is written where one is left by hand."""
 import re
 from math import prod
-from typing import Iterator, Optional
+from typing import Optional
 
-from porting.binding import stored_by, variable_of
+from porting.binding import stores_in, variable_of
 from porting.expressions import Expressions
 from porting.notes import BY_HAND, ByHand
 from porting.tokens import harmless
 from porting.tree import (
     Action,
-    Assignment,
     Block,
     Call,
     Declaration,
@@ -21,33 +20,16 @@ from porting.tree import (
     Node,
     Place,
     Postfix,
-    Prefix,
     Return,
     SizeOf,
     Switch,
     Unknown,
     While,
-    every,
 )
-from porting.variables import Kind, Variable
+from porting.variables import Kind
 from porting.words import BYTES, EMPTIERS
 
 LONGEST_QUOTE = 90
-
-
-def stores_in(node: Node) -> Iterator[Variable]:
-    """The variables that an expression stores to."""
-    for it in every(node):
-        place = None
-        if isinstance(it, Assignment):
-            place = it.left
-        elif isinstance(it, (Prefix, Postfix)) and it.sign in ("++", "--"):
-            place = it.operand
-        elif isinstance(it, Call):
-            place = stored_by(it)
-        found = variable_of(place) if place is not None else None
-        if found:
-            yield found
 
 
 class Statements(Expressions):

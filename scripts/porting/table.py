@@ -3,6 +3,7 @@ import shlex
 
 from porting.notes import KNOW
 from porting.port import Port
+from porting.readings import field_of
 from porting.variables import Kind
 
 NO_WORD = frozenset(",:")
@@ -19,6 +20,11 @@ def words(port: Port) -> list[str]:
                 found[channel] = f"--scale {shlex.quote(f'{channel}={it.digits()}')}"
             if it.kind is Kind.TEXT and texts:
                 found[channel] = f"--enum {shlex.quote(f'{channel}={texts}')}"
+    for variable, field in port.readings:
+        if field == "NUMBER" and variable.number.digits():
+            for name in variable.channels.all_names():
+                channel = port.filled(field_of(name, field))
+                found[channel] = f"--scale {shlex.quote(f'{channel}={variable.number.digits()}')}"
     return list(found.values())
 
 

@@ -133,6 +133,8 @@ class Call(Expression):
     arguments: list[Expression]
     # Whether it is a whole statement.
     alone: bool = False
+    # Whether it is a put with SYNC for which a state waits.
+    waits: bool = False
 
 
 @dataclass(eq=False)
@@ -330,3 +332,10 @@ def every(node: Node) -> Iterator[Node]:
         found = waiting.pop()
         yield found
         waiting += reversed(list(found.children()))
+
+
+def flat(value: Optional[Expression]) -> list[Expression]:
+    """The values of a first value, without its braces."""
+    if isinstance(value, Values):
+        return [one for it in value.items for one in flat(it)]
+    return [value] if value is not None else []

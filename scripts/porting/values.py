@@ -5,7 +5,7 @@ from fractions import Fraction
 from typing import Callable, Optional
 
 from porting.constants import LIMIT, decimals, nearest, quotient, shown
-from porting.notes import DECIDE, KNOW, ByHand
+from porting.notes import DECIDE, KNOW, UNITS, ByHand
 from porting.parse_expressions import PREFIX, TIGHTNESS, WHOLE
 from porting.tree import Expression
 from porting.variables import Kind
@@ -95,12 +95,12 @@ class Arithmetic(Work):
     def constant_at(self, value: Value, digits: int, node: Expression) -> Value:
         """A constant in the unit 10^-digits."""
         exact = value.constant * 10**digits
-        if abs(exact) >= LIMIT:
+        if abs(exact) >= LIMIT and abs(value.constant) >= HUGE_NUMBER:
             return self.huge(value, digits, node)
         whole = nearest(exact)
         if exact.denominator > 1:
             text = f"constant {shown(value.constant)} is rounded to {whole} in the unit {unit_of(digits)}"
-            self.say(node, DECIDE, text)
+            self.say(node, DECIDE, text, UNITS)
         return replace(number(whole, value.behind, Kind.QUANTITY, digits), constant=value.constant)
 
     def huge(self, value: Value, digits: int, node: Expression) -> Value:

@@ -49,6 +49,10 @@ class Group:
     # Groups with how many digits more than theirs this one needs.
     finer_than: list[tuple["Group", int]] = field(default_factory=list)
     products: list[tuple["Group", "Group"]] = field(default_factory=list)
+    # What is added up in it: the factors of a step, and the digits of its constant.
+    steps: list[tuple[tuple["Group", ...], int]] = field(default_factory=list)
+    # Groups of which it is a square root.
+    roots: list["Group"] = field(default_factory=list)
     is_given: bool = False
     is_told: bool = False
     digits: int = 0
@@ -69,6 +73,8 @@ class Group:
             here.constants += there.constants
             here.finer_than += there.finer_than
             here.products += there.products
+            here.steps += there.steps
+            here.roots += there.roots
 
 
 @dataclass(eq=False)
