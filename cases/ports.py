@@ -13,6 +13,7 @@ from dataclasses import dataclass
 from pathlib import Path
 
 import files
+import portfloats
 from case import SECONDS, Case, differences
 
 HERE = Path(__file__).resolve().parent
@@ -21,7 +22,7 @@ REFUSED = re.compile(rb"[^:\n]+:\d+: error: E13 'BY_HAND_?' is not declared\n?")
 WARNING = re.compile(rb"[^:\n]+:\d+: warning: W[2-9] [^\n]+\n?")
 NEWLINES_AT_END = re.compile(rb'(?:\\n)+"')
 # Fewer than these would be cases that pass with nothing measured.
-LEAST_PAIRS, LEAST_WHOLE, LEAST_COMPLETE, LEAST_RUNS, LEAST_SAME = 67, 17, 11, 10, 150
+LEAST_PAIRS, LEAST_WHOLE, LEAST_COMPLETE, LEAST_RUNS, LEAST_SAME = 85, 37, 31, 10, 150
 # A longer source takes the port too long for a case.
 LONGEST = 20_000
 
@@ -32,6 +33,7 @@ def cases(root):
         yield whole(file)
         if file.with_suffix(".trace").exists():
             yield Run(f"{file.relative_to(root)}: its run", file, root)
+    yield from portfloats.cases(root)
     yield Included("ports: a file that stands beside the program is read, with its macros", root)
     yield Table("ports: a table has units and texts as words of a shell", root)
     yield Asked("ports: what snc says stands behind the notes", root)

@@ -40,10 +40,10 @@ def pieces(text: str) -> Iterator[tuple[Token, int]]:
         at = found.end() if found else at + 1
 
 
-def items_of(text: str, macros: dict) -> list[Item]:
-    """The parts of a piece of C, in their order."""
+def items_of(text: str, macros: dict, functions: set[str]) -> list[Item]:
+    """The parts of a piece of C, in their order; the functions are those that were taken before."""
     items: list[Item] = []
-    names: set[str] = set()
+    names = set(functions)
     waiting: list[tuple[Token, int]] = []
     depth = 0
     for token, at in pieces(text):

@@ -273,13 +273,12 @@ class Meetings:
     def keep_steps(self, node: Assignment, group: Group) -> None:
         """Keeps what is added up in a quantity, by `x += step` or `x = x + step`, where it is a product or a small part."""
         variable, terms = variable_of(node.left), terms_of(node.right)
-        steps = [it for it in terms if variable not in names_in(it)] if node.sign == "=" else terms
-        if node.sign == "=" and len(steps) == len(terms):
-            return
-        for told in map(self.told, steps):
+        is_sum = node.sign != "=" or (len(terms) > 1 and any(variable in names_in(it) for it in terms))
+        for term in terms if is_sum else ():
+            told = self.told(term)
             if isinstance(told, (Scaled, Product)):
                 found = as_product(told)
-                group.top().steps.append((found.factors, found.digits))
+                group.top().steps.append((found.factors, found.digits, variable in names_in(term)))
 
     def of_conditional(self, node: Conditional) -> Told:
         """Both of its values meet."""

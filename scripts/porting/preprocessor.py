@@ -297,7 +297,7 @@ class Reader:
 
     def read_functions(self, spelled: str) -> bool:
         """Takes functions of numbers in embedded C as functions of the program; whether there are any."""
-        items = items_of(spelled[2:-2], self.work.macros)
+        items = items_of(spelled[2:-2], self.work.macros, self.work.functions)
         at, line = 0, self.line
         for it in items:
             if not it.name:

@@ -79,11 +79,11 @@ class Readings(Formats):
     def clock(self, node: Call) -> Value:
         """`time` and its like: whole seconds."""
         self.has_arguments(node, 1)
-        self.clock_name = self.clock_name or self.free("clock")
         place = behind_and(node.arguments[0])
         is_read = isinstance(place, Number) or (isinstance(place, Name) and place.name == "NULL")
         if not is_read and place is node.arguments[0]:
             raise ByHand(f"function '{node.function}'")
+        self.clock_name = self.clock_name or self.free("clock")
         self.say(node, KNOW, f"{node.function}: whole seconds of the channel {CLOCK}, which the trace has to bring")
         if is_read:
             return Value(self.clock_name)

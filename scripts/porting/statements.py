@@ -3,7 +3,7 @@ import re
 from math import prod
 from typing import Optional
 
-from porting.binding import stores_in, variable_of
+from porting.binding import behind_and, stores_in, variable_of
 from porting.expressions import Expressions
 from porting.notes import BY_HAND, ByHand
 from porting.tokens import harmless
@@ -163,7 +163,7 @@ class Statements(Expressions):
     def emptied(self, node: Call) -> str:
         """`memset` with 0: a loop over the elements."""
         self.has_arguments(node, 2)
-        variable = variable_of(node.arguments[0])
+        variable = variable_of(behind_and(node.arguments[0]))
         if variable is None or variable.kind not in (Kind.WHOLE, Kind.QUANTITY, Kind.TEXT):
             raise ByHand(f"function '{node.function}'")
         if node.function == "memset" and self.value(node.arguments[1]).constant != 0:

@@ -49,8 +49,8 @@ class Group:
     # Groups with how many digits more than theirs this one needs.
     finer_than: list[tuple["Group", int]] = field(default_factory=list)
     products: list[tuple["Group", "Group"]] = field(default_factory=list)
-    # What is added up in it: the factors of a step, and the digits of its constant.
-    steps: list[tuple[tuple["Group", ...], int]] = field(default_factory=list)
+    # What is added up in it: the factors of a step, the digits of its constant, and whether the sum itself is in it, as in a mean.
+    steps: list[tuple[tuple["Group", ...], int, bool]] = field(default_factory=list)
     # Groups of which it is a square root.
     roots: list["Group"] = field(default_factory=list)
     is_given: bool = False
