@@ -22,7 +22,10 @@ REFUSED = re.compile(rb"[^:\n]+:\d+: error: E13 'BY_HAND_?' is not declared\n?")
 WARNING = re.compile(rb"[^:\n]+:\d+: warning: W[2-9] [^\n]+\n?")
 NEWLINES_AT_END = re.compile(rb'(?:\\n)+"')
 # Fewer than these would be cases that pass with nothing measured.
-LEAST_PAIRS, LEAST_WHOLE, LEAST_COMPLETE, LEAST_RUNS, LEAST_SAME = 85, 37, 31, 10, 150
+LEAST_PAIRS, LEAST_WHOLE, LEAST_COMPLETE, LEAST_RUNS, LEAST_SAME = 85, 37, 31, 13, 150
+# A row of the table of docs/PORTING.md: the program, and how many places of it are left by hand.
+ROW = re.compile(r"^\| `(\w+)` \| [^|]+ \| \d+ \| (\d+) \|$", re.MULTILINE)
+OF_TABLE = 20
 # A longer source takes the port too long for a case.
 LONGEST = 20_000
 
@@ -183,8 +186,23 @@ def missing(root, programs):
         (complete, LEAST_COMPLETE, "whole programs with nothing left by hand"),
         (sum(isinstance(it, Run) for it in cases(root)), LEAST_RUNS, "runs of whole programs"),
     )
+    wrong += wrong_of_table(root)
     wrong += [f"only {found} {what}" for found, least, what in counts if found < least]
     return [f"FAILED ports: {it}" for it in wrong]
+
+
+def wrong_of_table(root):
+    """Rows of the table of docs/PORTING.md that are other than what is left by hand in the whole programs."""
+    rows = [(name, int(here)) for name, here in ROW.findall((root / "docs/PORTING.md").read_text())]
+    notes = {name: (WHOLE / f"{name}.notes").read_text() for name, _ in rows if (WHOLE / f"{name}.notes").exists()}
+    wrong = [] if len(rows) == OF_TABLE else [f"docs/PORTING.md: {len(rows)} programs in the table, {OF_TABLE} are wanted"]
+    for name, here in rows:
+        found = notes[name].count(": by hand: ") if name in notes else None
+        wrong += [f"docs/PORTING.md: {name} has {found} places by hand, not {here}"] if found != here else []
+    complete = sum(here == 0 for _, here in rows)
+    if f"| nothing by hand | of twenty | 5 | {complete} |" not in (root / "docs/PORTING.md").read_text():
+        wrong.append(f"docs/PORTING.md: {complete} of the table have nothing by hand")
+    return wrong
 
 
 def wrong_of_pair(root, case, snc):

@@ -7,7 +7,7 @@ from typing import Optional
 
 from porting.binding import CONVERSION, behind_and, subscripts_of, variable_of
 from porting.formats import Formats
-from porting.notes import DECIDE, KNOW, ByHand
+from porting.notes import DECIDE, KNOW, OTHERWISE, ByHand
 from porting.parse_expressions import ASSIGNMENT
 from porting.tree import Call, Expression, Name, Number
 from porting.values import SUM, Value, held
@@ -44,7 +44,7 @@ class Readings(Formats):
         self.has_arguments(node, 1)
         name = self.reading(node, variable_of(node.arguments[0]), FIELDS[node.function])
         seconds = ", in whole seconds" if node.function == "pvTimeStamp" else ""
-        self.say(node, KNOW, f"{node.function}{seconds}: {CHANNEL}")
+        self.say(node, KNOW, f"{node.function}{seconds}: {CHANNEL}", OTHERWISE)
         return Value(name)
 
     def number_in(self, node: Call) -> Value:
@@ -84,7 +84,7 @@ class Readings(Formats):
         if not is_read and place is node.arguments[0]:
             raise ByHand(f"function '{node.function}'")
         self.clock_name = self.clock_name or self.free("clock")
-        self.say(node, KNOW, f"{node.function}: whole seconds of the channel {CLOCK}, which the trace has to bring")
+        self.say(node, KNOW, f"{node.function}: whole seconds of the channel {CLOCK}, which the trace has to bring", OTHERWISE)
         if is_read:
             return Value(self.clock_name)
         text = self.stored_to(place, Value(self.clock_name), node)
