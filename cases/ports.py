@@ -111,10 +111,10 @@ class Files:
 PROGRAM = """program p ("P=LAB:")
 option +s;
 double x; assign x to "{P}X"; string t; assign t to "{P}T"; int n; assign n to "{P}N"; double z; assign z to "Z";
-ss s { state w { when (x > 1.5 && z > 1e-8) { strcpy(t, "is high"); strcpy(t, "a,b"); } exit } }
+ss s { state w { when (x > 1.5 && z > 1e-8) { strcpy(t, "is high"); strcpy(t, "a,b: c"); strcpy(t, "no:1,yes"); } exit } }
 """
 WORDS = """--scale LAB:X=3
---enum 'LAB:T=is high:1'
+--enum 'LAB:T=is high:1,a,b: c:2'
 --scale Z=10
 """
 
@@ -126,7 +126,7 @@ class Table(Files):
         Path(folder, "p.st").write_text(PROGRAM)
         found = call(self.root, folder, "--snc=", "--table", "words", "p.st")
         words = Path(folder, "words").read_text()
-        is_told = b'p.st:1: know: text "a,b" has a comma or a colon: it is left out of the table\n' in found[2]
+        is_told = b'p.st:1: know: text "no:1,yes" has a number between a colon and a comma: it is left out of the table\n' in found[2]
         return "" if found[0] == 0 and words == WORDS and is_told else repr((found, words))
 
 

@@ -1,6 +1,7 @@
 """What a program is made of: its channels, state sets, states and clauses, as `snc --tables` tells them."""
 import re
 from dataclasses import dataclass, field
+from typing import Iterator
 
 LINK = re.compile(r'channel (\S+) (\d+) (\d+) "(.*)" (\S+) (\S+) (\d+)')
 CLAUSE = re.compile(r"when (\d+) (?:state (\S+)|(exit))")
@@ -22,6 +23,12 @@ class Channel:
     is_monitored: bool = False
     # Whether a put may wait for an answer: the source has `pvPut` of a variable of it with ASYNC.
     is_asking: bool = False
+
+    def places(self) -> Iterator[str]:
+        """The variables and elements that have its values, as `x` or `y[2]`."""
+        for variable in self.variables:
+            name, sign, first = variable.rstrip("]").partition("[")
+            yield from (f"{name}[{int(first) + it}]" for it in range(self.count)) if sign else (name,)
 
 
 @dataclass

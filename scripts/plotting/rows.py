@@ -4,7 +4,6 @@ from typing import Iterator, Optional
 
 from plotting.instants import Deed, Row
 from plotting.letters import escaped
-from plotting.text import saw
 from plotting.times import Times, grouped, many
 
 # Where a long name may be cut at the end of a line.
@@ -57,5 +56,5 @@ def deed(it: Deed) -> str:
     if it.clause:
         text += f' <span class="why nb">({it.clause})</span>'
     if it.saw:
-        text += f'<br><span class="why">since {escaped(saw(it))}</span>'
+        text += f'<br><span class="why">since {escaped(it.saw)}</span>'
     return text

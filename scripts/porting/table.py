@@ -1,4 +1,5 @@
 """Units and texts of a port as words for what makes its trace: `--scale NAME=K`, `--enum NAME=TEXT:N,..`."""
+import re
 import shlex
 
 from porting.notes import KNOW
@@ -6,7 +7,7 @@ from porting.port import Port
 from porting.readings import field_of
 from porting.variables import Kind
 
-NO_WORD = frozenset(",:")
+TWO = re.compile(r":-?\d{1,19},")
 
 
 def words(port: Port) -> list[str]:
@@ -29,11 +30,11 @@ def words(port: Port) -> list[str]:
 
 
 def texts_as_words(port: Port) -> str:
-    """The texts with their numbers, but those that have a sign of the list in them."""
+    """The texts with their numbers, but those that would read as two: a text may have commas and colons, but not `:1,`."""
     kept = []
     for text, number in port.legend.items():
-        if NO_WORD & set(text):
-            port.notes.add(1, KNOW, f'text "{text}" has a comma or a colon: it is left out of the table')
+        if TWO.search(text):
+            port.notes.add(1, KNOW, f'text "{text}" has a number between a colon and a comma: it is left out of the table')
         elif text:
             kept.append(f"{text}:{number}")
     return ",".join(kept)
