@@ -32,11 +32,14 @@ class Readings(Formats):
         """The variable that reads a field of the channels of another one."""
         if variable is None or variable.channels is None or not variable.channels.all_names():
             raise ByHand(f"function '{node.function}'")
-        name = self.readings.setdefault((variable, field), self.free(f"{variable.new_name}_{field.lower()}"))
         subscripts = subscripts_of(node.arguments[0])
         is_parted = variable.channels.is_list or variable.channels.elements
-        if is_parted and not subscripts:
+        if is_parted and (not subscripts or not variable.dimensions):
             raise ByHand(f"{node.function} of many channels")
+        free = self.free(f"{variable.new_name}_{field.lower()}")
+        # What can't be written is told here, where it is asked for.
+        self.reading_definition(free, variable, field)
+        name = self.readings.setdefault((variable, field), free)
         return name + (f"[{self.whole(self.value(subscripts[0])).text}]" if is_parted else "")
 
     def alarm(self, node: Call) -> Value:

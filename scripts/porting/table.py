@@ -1,7 +1,8 @@
-"""Units and texts of a port as words for what makes its trace: `--scale NAME=K`, `--enum NAME=TEXT:N,..`."""
+"""Units, texts and names of constants as words for what makes the trace or shows it: `--scale NAME=K`, `--enum NAME=TEXT:N,..`."""
 import re
 import shlex
 
+from porting.named import names_of_values
 from porting.notes import KNOW
 from porting.port import Port
 from porting.readings import field_of
@@ -14,6 +15,7 @@ def words(port: Port) -> list[str]:
     """The words, one for each channel, as a shell reads them."""
     found: dict[str, str] = {}
     texts = texts_as_words(port)
+    constants = names_of_values(port.program, port.tokens)
     for it in port.binding.variables():
         for name in it.channels.all_names() if it.channels else []:
             channel = port.filled(name)
@@ -21,6 +23,9 @@ def words(port: Port) -> list[str]:
                 found[channel] = f"--scale {shlex.quote(f'{channel}={it.digits()}')}"
             if it.kind is Kind.TEXT and texts:
                 found[channel] = f"--enum {shlex.quote(f'{channel}={texts}')}"
+            if it in constants:
+                names = ",".join(f"{name}:{value}" for value, name in constants[it].items())
+                found[channel] = f"--enum {shlex.quote(f'{channel}={names}')}"
     for variable, field in port.readings:
         if field == "NUMBER" and variable.number.digits():
             for name in variable.channels.all_names():
