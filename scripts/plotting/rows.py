@@ -6,8 +6,8 @@ from plotting.instants import Deed, Row
 from plotting.letters import escaped
 from plotting.times import Times, grouped, many
 
-# Where a long name may be cut at the end of a line.
-JOINT = re.compile(r"([:.])(?=[A-Za-z0-9_])")
+# Where a long name may be cut at the end of a line; a number is not.
+JOINT = re.compile(r"(:|(?<!\d)\.)(?=[A-Za-z0-9_])")
 
 
 def broken(text: str) -> str:

@@ -14,8 +14,8 @@ ROW = 16
 THIN, FLICKERING, LEAST_BLOCK = 3, 6, 6
 # So many changes in a block are told on top; a block that is not so wide has its count beside it.
 TOLD_ON_TOP, WITH_TEXT = 50, 110
-# By this part a loop at a steady rate may be off its usual time.
-UNEVEN = 0.25
+# By this part a loop at a steady rate may be off its usual time, and such a part of the picture it takes at least.
+UNEVEN, LONG_LOOP = 0.25, 4
 # A bar below this width has a mark that does not get lost.
 HAIR = 2
 
@@ -177,7 +177,8 @@ class SetDrawing:
         pace = f", about every {about(lasts / total)}" if lasts >= total else ""
         times = f"{grouped(total)} times {self.canvas.between(group.begin(), group.end())}"
         text = f"{self.lanes.name} changes its state {times}{pace}"
-        self.record.spots.add(Spot(group.begin(), LOOP if is_steady(group) else FLICKER, text, total))
+        is_long = lasts * LONG_LOOP >= self.record.stop() - self.record.begin()
+        self.record.spots.add(Spot(group.begin(), LOOP if is_long and is_steady(group) else FLICKER, text, total))
 
     def own(self) -> None:
         """Strokes below the rows: transitions from a state to itself."""
