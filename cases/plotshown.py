@@ -19,6 +19,7 @@ def cases():
     """All of them."""
     yield Plot("plot: a loop at a steady rate is no alarm, and one that comes and goes is", steady)
     yield Plot("plot: labels of printf do not overlap, whatever their letters are", labels)
+    yield Plot("plot: a condition stands in its row, with the names that the port left as comments", named)
     yield Addressed("plot: an address moves the picture and the table", addressed)
 
 
@@ -72,6 +73,30 @@ def labels(programs, folder):
             return f"the label at {x} begins at {begin:.0f}, where the one before ends at {ends[y]:.0f}"
         ends[y] = end
     return ""
+
+
+NAMED = """program p
+option +s;
+int c; assign c to "C"; monitor c; int m; assign m to "M"; int n;
+ss s {
+  /* when (never) */
+  state a { when (c == -2 /*UP*/ && m != 1 /*"is (high)"*/ // and more
+    && (n < 3 /* no name */)) { m = 1 /*"is (high)"*/; pvPut(m); } state b when (delay(1)) { printf("when (x)"); } state b }
+  state b { when () {} exit }
+}
+"""
+TOLD = (
+    '<span class="why">when c == UP &amp;&amp; m != &quot;is (high)&quot; &amp;&amp; (n &lt; 3 )</span>',
+    '<span class="why">since c=UP (-2), m=0, n=0</span>',
+)
+
+
+def named(programs, folder):
+    (folder / "p.st").write_text(NAMED)
+    trace = b"0 up C\n0 up M\n0 val C 0\n5 val C -2\n"
+    status, stdout, stderr = call(programs, folder, "--enum", "C=UP:-2,DOWN:0", "p.st", input=trace)
+    missing = [it for it in TOLD if it not in stdout.decode()]
+    return f"{missing} is not there: {stderr.decode()}" if status or missing else ""
 
 
 @dataclass

@@ -113,7 +113,9 @@ option +s;
 #define ON 1
 enum { OFF, WARM = -2 }; int m; assign m to "M"; monitor m; int k; assign k to "K";
 double x; assign x to "{P}X"; string t; assign t to "{P}T"; int n; assign n to "{P}N"; double z; assign z to "Z";
-ss s { state w { when (x > 1.5 && z > 1e-8) { if (m == ON || WARM != m) k = ON; switch (m) { case OFF: k = 2; } strcpy(t, "is high"); strcpy(t, "a,b: c"); strcpy(t, "no:1,yes"); } exit } }
+ss s { state w { when (x > 1.5 && z > 1e-8) {
+  if (m == ON || WARM != m) k = ON; switch (m) { case OFF: k = 2; }
+  strcpy(t, "is high"); strcpy(t, "a,b: c"); strcpy(t, "no:1,yes"); } exit } }
 """
 WORDS = """--enum M=WARM:-2,OFF:0,ON:1
 --scale LAB:X=3

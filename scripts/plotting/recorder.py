@@ -150,8 +150,9 @@ class Recorder:
         lanes.at_once += 1
         is_own = source == target
         clause, saw = clause_of(self.clause, lanes.of, source, target)
+        test = lanes.of.conditions.get((source, self.clause.number), "") if self.clause else ""
         self.clause = None
-        deed = Deed("go", f"{name}: {source} -> {target}", clause, self.saw(saw))
+        deed = Deed("go", f"{name}: {source} -> {target}", clause, self.saw(saw), test)
         self.record.instant.deed(deed, is_dull=is_own and lanes.at_once == 1)
         self.record.counts.transitions += is_drawn
         if not is_own and target in lanes.numbers:
