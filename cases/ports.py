@@ -13,6 +13,7 @@ from dataclasses import dataclass
 from pathlib import Path
 
 import files
+import portcuts
 import portfloats
 from case import SECONDS, Case, differences
 
@@ -37,6 +38,7 @@ def cases(root):
         if file.with_suffix(".trace").exists():
             yield Run(f"{file.relative_to(root)}: its run", file, root)
     yield from portfloats.cases(root)
+    yield portcuts.Cuts("ports: quotients that are cut, beside exact fractions", root)
     yield Included("ports: a file that stands beside the program is read, with its macros", root)
     yield Table("ports: a table has units and texts as words of a shell", root)
     yield Asked("ports: what snc says stands behind the notes", root)

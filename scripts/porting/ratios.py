@@ -1,4 +1,5 @@
 """Quotients that are cut to a whole number: they are kept exact up to the cut, as `(6 * x + 5) / 10`."""
+import re
 from dataclasses import dataclass, replace
 from fractions import Fraction
 from math import lcm
@@ -11,6 +12,7 @@ from porting.variables import Kind
 from porting.work import MOST_OF_UNIT
 
 SIGNS = ("+", "-", "*", "/")
+QUOTIENT = re.compile(r"/(?!\*)(?<!\*/)|%")
 
 
 @dataclass(frozen=True)
@@ -96,8 +98,9 @@ def multiple_of(factor: int, value: Optional[Value]) -> Value:
         return number(factor)
     if factor == 1:
         return value
-    text = value.text if value.tightness >= PRODUCT and not value.text.startswith("-") else f"({value.text})"
-    return Value(f"{factor} * {text}", PRODUCT)
+    # A quotient or a remainder of whole numbers is one before it is multiplied.
+    is_product = not QUOTIENT.search(value.text) and not value.text.startswith("-")
+    return Value(f"{factor} * {held(value, PRODUCT if is_product else PRODUCT + 1)}", PRODUCT)
 
 
 def times(left: Optional[Value], right: Optional[Value]) -> Optional[Value]:
