@@ -268,6 +268,8 @@ class Meetings:
             meet(left, right)
             if isinstance(left, Group):
                 self.keep_steps(node, left)
+            if isinstance(left, Group) and isinstance(right, Product) and node.sign == "=":
+                left.top().stored.append((right.factors, right.digits, False))
         return left
 
     def keep_steps(self, node: Assignment, group: Group) -> None:
@@ -279,6 +281,8 @@ class Meetings:
             if isinstance(told, (Scaled, Product)):
                 found = as_product(told)
                 group.top().steps.append((found.factors, found.digits, variable in names_in(term)))
+            elif isinstance(told, Group) and variable not in names_in(term):
+                group.top().is_sum = True
 
     def of_conditional(self, node: Conditional) -> Told:
         """Both of its values meet."""

@@ -88,7 +88,8 @@ def by_steps(groups: list[Group], note) -> None:
     """A quantity in which small steps are added up has so many digits that a step has 1000 units."""
     least = {id(group): group.digits for group in groups}
     for group in groups:
-        steps = [(factors, digits) for factors, digits, is_own in group.steps if is_own or all(it.top() is not group for it in factors)]
+        told = group.steps + (group.stored if group.is_sum else [])
+        steps = [(factors, digits) for factors, digits, is_own in told if is_own or all(it.top() is not group for it in factors)]
         wanted = max((digits_of_step(*it, least) for it in steps), default=0)
         if wanted <= group.digits or not names_of(group):
             continue

@@ -51,6 +51,9 @@ class Group:
     products: list[tuple["Group", "Group"]] = field(default_factory=list)
     # What is added up in it: the factors of a step, the digits of its constant, and whether the sum itself is in it, as in a mean.
     steps: list[tuple[tuple["Group", ...], int, bool]] = field(default_factory=list)
+    # Products that are stored in it as they are, and whether quantities are added up in it: then each of them is a step, too.
+    stored: list[tuple[tuple["Group", ...], int, bool]] = field(default_factory=list)
+    is_sum: bool = False
     # Groups of which it is a square root.
     roots: list["Group"] = field(default_factory=list)
     is_given: bool = False
@@ -75,6 +78,8 @@ class Group:
             here.products += there.products
             here.steps += there.steps
             here.roots += there.roots
+            here.stored += there.stored
+            here.is_sum = here.is_sum or there.is_sum
 
 
 @dataclass(eq=False)
