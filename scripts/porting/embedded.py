@@ -40,6 +40,17 @@ def pieces(text: str) -> Iterator[tuple[Token, int]]:
         at = found.end() if found else at + 1
 
 
+def is_cut(text: str) -> bool:
+    """Whether a piece of C can be cut into tokens: it has no line of the preprocessor, and no comment without an end."""
+    at = 0
+    while at < len(text):
+        found = PIECE.match(text, at)
+        if not found or found.lastgroup == "embedded" or text.startswith("/*", at) > (found.lastgroup == "comment"):
+            return False
+        at = found.end()
+    return True
+
+
 def items_of(text: str, macros: dict, functions: set[str]) -> list[Item]:
     """The parts of a piece of C, in their order; the functions are those that were taken before."""
     items: list[Item] = []
@@ -51,9 +62,10 @@ def items_of(text: str, macros: dict, functions: set[str]) -> list[Item]:
         depth += (token.spelled in ("{", "(", "[")) - (token.spelled in ("}", ")", "]"))
         is_body_end = token.is_sign("}") and any(it.is_sign("(") for it, _ in waiting)
         if depth <= 0 and (token.is_sign(";") or is_body_end):
-            name = function_of([it for it, _ in waiting], names, macros)
+            first, end = waiting[0][1], at + len(token.spelled)
+            name = function_of([it for it, _ in waiting], names, macros) if is_cut(text[first:end]) else ""
             names.add(name)
-            items.append(Item(name, waiting[0][1], at + len(token.spelled)))
+            items.append(Item(name, first, end))
             waiting, depth = [], 0
     if waiting:
         items.append(Item("", waiting[0][1], len(text)))

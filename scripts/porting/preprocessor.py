@@ -7,7 +7,7 @@ import re
 from dataclasses import dataclass, field
 from typing import Optional
 
-from porting.embedded import Nesting, commented_parts, items_of, statements_of
+from porting.embedded import Nesting, commented_parts, is_cut, items_of, statements_of
 from porting.macros import Macro, macros_of_c, written_out
 from porting.notes import BY_HAND, DECIDE, KNOW, NotUnderstood, Notes
 from porting.tokens import PIECE, Token, commented, harmless, without_comments
@@ -285,11 +285,14 @@ class Reader:
     def read_statements(self, spelled: str) -> bool:
         """Takes embedded C in a block as statements, if it can be."""
         is_line = spelled.startswith("%%")
-        inner = self.part(spelled[2:] if is_line else spelled[2:-2])
+        text = spelled[2:] if is_line else spelled[2:-2]
+        if not is_cut(text):
+            return False
+        inner = self.part(text)
         kept = statements_of(inner.tokens, self.work.functions)
         if not kept:
             return False
-        kept[0].before = f"{self.before}/* {spelled[:2]} */{kept[0].before or ' '}"
+        kept[0].before, kept[0].embedded = f"{self.before}/* {spelled[:2]} */{kept[0].before or ' '}", self.embedded
         self.tokens += kept
         self.before, self.embedded = inner.before if is_line else f"{inner.before}/* }}% */", ()
         self.pass_over("", spelled)
