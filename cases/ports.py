@@ -13,6 +13,8 @@ from dataclasses import dataclass
 from pathlib import Path
 
 import files
+import portcuts
+import portfloats
 from case import SECONDS, Case, differences
 
 HERE = Path(__file__).resolve().parent
@@ -23,7 +25,10 @@ WARNING = re.compile(rb"[^:\n]+:\d+: warning: W[2-9] [^\n]+\n?")
 TABLES = [b"--tables", b"p.st"]
 NEWLINES_AT_END = re.compile(rb'(?:\\n)+"')
 # Fewer than these would be cases that pass with nothing measured.
-LEAST_PAIRS, LEAST_WHOLE, LEAST_COMPLETE, LEAST_RUNS, LEAST_SAME = 67, 17, 11, 10, 150
+LEAST_PAIRS, LEAST_WHOLE, LEAST_COMPLETE, LEAST_RUNS, LEAST_SAME = 85, 37, 31, 13, 150
+# A row of the table of docs/PORTING.md: the program, and how many places of it are left by hand.
+ROW = re.compile(r"^\| `(\w+)` \| [^|]+ \| \d+ \| (\d+) \|$", re.MULTILINE)
+OF_TABLE = 20
 # A longer source takes the port too long for a case.
 LONGEST = 20_000
 
@@ -34,6 +39,8 @@ def cases(root):
         yield whole(file)
         if file.with_suffix(".trace").exists():
             yield Run(f"{file.relative_to(root)}: its run", file)
+    yield from portfloats.cases(root)
+    yield portcuts.Cuts("ports: quotients that are cut, beside exact fractions", root)
     yield Included("ports: a file that stands beside the program is read, with its macros")
     yield Table("ports: a table has units and texts as words of a shell")
     yield Asked("ports: what snc says stands behind the notes")
@@ -105,11 +112,16 @@ class Files:
 
 PROGRAM = """program p ("P=LAB:")
 option +s;
+#define ON 1
+enum { OFF, WARM = -2 }; int m; assign m to "M"; monitor m; int k; assign k to "K";
 double x; assign x to "{P}X"; string t; assign t to "{P}T"; int n; assign n to "{P}N"; double z; assign z to "Z";
-ss s { state w { when (x > 1.5 && z > 1e-8) { strcpy(t, "is high"); strcpy(t, "a,b"); } exit } }
+ss s { state w { when (x > 1.5 && z > 1e-8) {
+  if (m == ON || WARM != m) k = ON; switch (m) { case OFF: k = 2; }
+  strcpy(t, "is high"); strcpy(t, "a,b: c"); strcpy(t, "no:1,yes"); } exit } }
 """
-WORDS = """--scale LAB:X=3
---enum 'LAB:T=is high:1'
+WORDS = """--enum M=WARM:-2,OFF:0,ON:1
+--scale LAB:X=3
+--enum 'LAB:T=is high:1,a,b: c:2'
 --scale Z=10
 """
 
@@ -121,7 +133,7 @@ class Table(Files):
         Path(folder, "p.st").write_text(PROGRAM)
         found = call(programs["port"], folder, "--snc=", "--table", "words", "p.st")
         words = Path(folder, "words").read_text()
-        is_told = b'p.st:1: know: text "a,b" has a comma or a colon: it is left out of the table\n' in found[2]
+        is_told = b'p.st:1: know: text "no:1,yes" has a number between a colon and a comma: it is left out of the table\n' in found[2]
         return "" if found[0] == 0 and words == WORDS and is_told else repr((found, words))
 
 
@@ -181,8 +193,23 @@ def missing(root, programs):
         (complete, LEAST_COMPLETE, "whole programs with nothing left by hand"),
         (sum(isinstance(it, Run) for it in cases(root)), LEAST_RUNS, "runs of whole programs"),
     )
+    wrong += wrong_of_table(root)
     wrong += [f"only {found} {what}" for found, least, what in counts if found < least]
     return [f"FAILED ports: {it}" for it in wrong]
+
+
+def wrong_of_table(root):
+    """Rows of the table of docs/PORTING.md that are other than what is left by hand in the whole programs."""
+    rows = [(name, int(here)) for name, here in ROW.findall((root / "docs/PORTING.md").read_text())]
+    notes = {name: (WHOLE / f"{name}.notes").read_text() for name, _ in rows if (WHOLE / f"{name}.notes").exists()}
+    wrong = [] if len(rows) == OF_TABLE else [f"docs/PORTING.md: {len(rows)} programs in the table, {OF_TABLE} are wanted"]
+    for name, here in rows:
+        found = notes[name].count(": by hand: ") if name in notes else None
+        wrong += [f"docs/PORTING.md: {name} has {found} places by hand, not {here}"] if found != here else []
+    complete = sum(here == 0 for _, here in rows)
+    if f"| nothing by hand | of twenty | 5 | {complete} |" not in (root / "docs/PORTING.md").read_text():
+        wrong.append(f"docs/PORTING.md: {complete} of the table have nothing by hand")
+    return wrong
 
 
 def wrong_of_pair(case, programs):

@@ -3,7 +3,7 @@ import math
 from dataclasses import dataclass
 
 from plotting.buckets import Ticks
-from plotting.canvas import HEAD, LEFT, LETTER, WIDTH, Canvas, digits, move, shortened
+from plotting.canvas import HEAD, LEFT, WIDTH, Canvas, digits, move, shortened, width_of
 from plotting.letters import escaped
 from plotting.times import grouped, step_of
 
@@ -59,7 +59,7 @@ def lay(canvas: Canvas, said: Said, free: list) -> int:
     """Puts a mark with its text into the first line with room, where there is one; how many lines are in use."""
     x = canvas.x(said.time)
     text = shortened(said.text, MOST_LETTERS) + (f" (and {grouped(said.count - 1)} more)" if said.count > 1 else "")
-    wide = len(text) * LETTER + 14
+    wide = width_of(text) + 14
     is_right = x + wide < WIDTH
     line = next((it for it in range(LINES) if free[it] <= (x if is_right else x - wide)), None)
     hidden = ' display="none"' if line is None else ""

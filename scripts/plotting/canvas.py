@@ -9,6 +9,8 @@ from plotting.times import Times
 LEFT, WIDTH, RIGHT, HEAD = 220, 980, 10, 22
 # About how wide a letter is.
 LETTER = 5.9
+# The same for the text of a `printf`, letter by letter: of the widest ones, of capitals, of narrow ones, and of all others.
+WIDE, CAPITAL, THIN, MEAN = 10.5, 7.6, 4.4, 6.7
 # So many texts are drawn.
 MOST_TEXTS = 4000
 
@@ -101,6 +103,11 @@ class Canvas:
     def symbol(self, time: int, y: float, symbol: str, title: str) -> None:
         """One of the symbols at a time."""
         self.mark(time, y, f'<use href="#{symbol}"/>', title)
+
+
+def width_of(text: str) -> float:
+    """How wide a text is at most, in the letters of the page."""
+    return sum(WIDE if it in "MWmw%@" else THIN if it in " .,:;!|'()[]fijlrtI" else CAPITAL if it.isupper() else MEAN for it in text)
 
 
 def shortened(text: str, most: int, keeps_end: bool = False) -> str:

@@ -15,9 +15,10 @@ class Deed:
 
     kind: str
     text: str
-    # Of a transition the clause, as `clause 1`, and the values that its condition saw.
+    # Of a transition the clause, as `clause 1`, the values that its condition saw, and the condition.
     clause: str = ""
     saw: str = ""
+    test: str = ""
 
     def is_like(self, other: "Deed") -> bool:
         """Whether another deed is the same but for values that were seen."""

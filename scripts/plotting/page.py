@@ -11,7 +11,7 @@ from plotting import beside, channels, rows
 from plotting.canvas import HEAD, LEFT, RIGHT, WIDTH, Canvas, digits
 from plotting.letters import escaped
 from plotting.record import Record
-from plotting.spots import CHATTER, DOWN, FAULT
+from plotting.spots import CHATTER, FAULT, MILD
 from plotting.states import SetDrawing
 from plotting.summary import ending, summary
 from plotting.times import Times, stretch
@@ -92,7 +92,7 @@ def top(name: str, record: Record, times: Times) -> Iterator[str]:
         return
     yield '<ul class="spots">'
     for spot in spots:
-        mild = ' class="mild"' if spot.kind == DOWN else ""
+        mild = ' class="mild"' if spot.kind in MILD else ""
         yield f'<li><a href="#pic" data-t="{spot.time}"{mild}>{times.at(spot.time)}: {escaped(spot.text())}</a></li>'
     left_out = record.spots.left_out()
     yield (f"<li>and {left_out} more</li>" if left_out else "") + "</ul>\n"

@@ -1,6 +1,7 @@
 """What a program is made of: its channels, state sets, states and clauses, as `snc --tables` tells them."""
 import re
 from dataclasses import dataclass, field
+from typing import Iterator
 
 LINK = re.compile(r'channel (\S+) (\d+) (\d+) "(.*)" (\S+) (\S+) (\d+)')
 CLAUSE = re.compile(r"when (\d+) (?:state (\S+)|(exit))")
@@ -8,6 +9,9 @@ HEAD = re.compile(r'\bprogram\s+\w+\s*\(\s*((?:"(?:[^"\\\n]|\\.)*"\s*)+)\)')
 TEXT = re.compile(r'"((?:[^"\\\n]|\\.)*)"')
 COMMENT = re.compile(r'"(?:[^"\\\n]|\\.)*"|/\*.*?\*/|//[^\n]*', re.DOTALL)
 PUT = re.compile(r"\bpvPut\s*\(\s*(\w+)\b(?=[^;]*?,\s*ASYNC\s*\))")
+# A number with the name of its constant, or its text, as a comment behind it; the pieces of a source.
+NAMED = re.compile(r'-?\b\d\w* /\*("(?:[^"\\\n]|\\.)*"|[A-Za-z_]\w*)\*/')
+PIECE = re.compile(r'"(?:[^"\\\n]|\\.)*"|/\*.*?\*/|//[^\n]*|\w+|\s+|.', re.DOTALL)
 EXIT = "exit"
 
 
@@ -23,6 +27,12 @@ class Channel:
     # Whether a put may wait for an answer: the source has `pvPut` of a variable of it with ASYNC.
     is_asking: bool = False
 
+    def places(self) -> Iterator[str]:
+        """The variables and elements that have its values, as `x` or `y[2]`."""
+        for variable in self.variables:
+            name, sign, first = variable.rstrip("]").partition("[")
+            yield from (f"{name}[{int(first) + it}]" for it in range(self.count)) if sign else (name,)
+
 
 @dataclass
 class StateSet:
@@ -30,8 +40,9 @@ class StateSet:
 
     name: str
     states: list = field(default_factory=list)
-    # From a state and its target the numbers of the clauses that lead there.
+    # From a state and its target the numbers of the clauses that lead there; from a state and a number the condition.
     clauses: dict = field(default_factory=dict)
+    conditions: dict = field(default_factory=dict)
 
 
 @dataclass
@@ -48,6 +59,9 @@ def program_of(tables: str, source: str, macros: str) -> Program:
     made = Program()
     texts = macros_of(own_macros(source) + "," + macros)
     asking = set(PUT.findall(without_comments(source)))
+    tests = conditions_of(source)
+    # The tables have the clauses in the order of the source.
+    waiting = iter(tests if len(tests) == len(re.findall(r"^when ", tables, re.MULTILINE)) else ())
     for line in tables.splitlines():
         kind, _, rest = line.partition(" ")
         if kind == "program":
@@ -59,7 +73,7 @@ def program_of(tables: str, source: str, macros: str) -> Program:
         elif kind == "state":
             made.sets[-1].states.append(rest.split(" ")[0])
         elif kind == "when":
-            add_clause(made.sets[-1], line)
+            add_clause(made.sets[-1], line, next(waiting, ""))
     return made
 
 
@@ -76,10 +90,28 @@ def add_link(made: Program, line: str, texts: dict, asking: set) -> None:
     channel.is_asking |= variable in asking
 
 
-def add_clause(of: StateSet, line: str) -> None:
-    """Adds the number of a clause of the last state."""
+def add_clause(of: StateSet, line: str, condition: str) -> None:
+    """Adds the number of a clause of the last state, and its condition."""
     number, target, _ = CLAUSE.fullmatch(line).groups()
+    of.conditions[of.states[-1], int(number)] = condition
     of.clauses.setdefault((of.states[-1], target or EXIT), []).append(int(number))
+
+
+def conditions_of(source: str) -> list:
+    """The conditions of all clauses, with the names that stand as comments behind numbers in their places."""
+    found: list = []
+    depth, begins = 0, False
+    for piece in PIECE.findall(NAMED.sub(r"\1", source)):
+        if COMMENT.fullmatch(piece) and not piece.startswith('"'):
+            piece = " "
+        if depth:
+            depth += (piece == "(") - (piece == ")")
+            found[-1] += piece if depth else ""
+        elif begins and piece == "(":
+            depth = 1
+            found.append("")
+        begins = piece == "when" or (begins and piece.isspace())
+    return [" ".join(it.split()) for it in found]
 
 
 def without_comments(source: str) -> str:

@@ -9,8 +9,8 @@ from plotting.spots import DOWN, FAULT, REFUSED, Spot
 from plotting.trace import Event
 from plotting.values import Values
 
-# So many names that are no channels of the program are kept.
-MOST_UNKNOWN = 5
+# So many names that are no channels of the program are kept, and so many values of an array are told.
+MOST_UNKNOWN, MOST_VALUES = 5, 8
 
 
 def recorded(record: Record, values: Values, events: Iterator[Event], run: Iterator[bytes]) -> None:
@@ -37,6 +37,9 @@ class Recorder:
         self.record, self.part, self.values = record, record.part, values
         self.kinds = {"go": self.go, "put": self.put, "print": self.say}
         self.kinds |= {"start": self.start, "exit": self.leave, "fault": self.fault}
+        # The channels of which values are shown in another way than as whole numbers, by the variables that are linked to them.
+        told = {it.name: it.of for it in record.channels if values.is_told(it.name)}
+        self.channel_of = {variable: name for name, it in told.items() for variable in it.places()}
         # The clause whose transition comes next.
         self.clause: Optional[Clause] = None
         self.words = {"val": self.val, "up": self.up, "down": self.down, "done": self.done}
@@ -46,7 +49,7 @@ class Recorder:
     def event(self, event: Event) -> None:
         """Takes a line of the trace."""
         record = self.record
-        record.reach(event.time).line(event.line, event.text)
+        record.reach(event.time).line(event.line, self.told(event))
         if self.part.has(event.time):
             record.counts.lines += 1
             record.lines.add(event.time)
@@ -59,6 +62,27 @@ class Recorder:
         take = self.words[event.word]
         for it in lanes:
             take(it, event)
+
+    def told(self, event: Event) -> str:
+        """A line of the trace, with values as they are shown everywhere."""
+        if event.word != "val" or not self.values.is_told(event.name):
+            return event.text
+        return f"val {event.name} {self.shown(event.name, event.values)}"
+
+    def shown(self, name: str, values: list) -> str:
+        """The first values of a channel."""
+        return " ".join([self.values.full(name, int(it)) for it in values[:MOST_VALUES]] + [".."] * (len(values) > MOST_VALUES))
+
+    def saw(self, text: str) -> str:
+        """What a condition saw, as `x=7 y[2]=3`: each value as those of the channel of its variable are shown."""
+        return ", ".join(map(self.value_seen, text.split(" "))) if text else ""
+
+    def value_seen(self, text: str) -> str:
+        """One of these values."""
+        variable, sign, value = text.partition("=")
+        name = self.channel_of.get(variable)
+        is_number = value.removeprefix("-").isdigit()
+        return f"{variable}={self.values.full(name, int(value))}" if name and sign and is_number else text
 
     def unknown(self, event: Event) -> None:
         """A line names a channel that the program does not have."""
@@ -126,8 +150,9 @@ class Recorder:
         lanes.at_once += 1
         is_own = source == target
         clause, saw = clause_of(self.clause, lanes.of, source, target)
+        test = lanes.of.conditions.get((source, self.clause.number), "") if self.clause else ""
         self.clause = None
-        deed = Deed("go", f"{name}: {source} -> {target}", clause, saw)
+        deed = Deed("go", f"{name}: {source} -> {target}", clause, self.saw(saw), test)
         self.record.instant.deed(deed, is_dull=is_own and lanes.at_once == 1)
         self.record.counts.transitions += is_drawn
         if not is_own and target in lanes.numbers:
@@ -145,8 +170,7 @@ class Recorder:
         """A put. Of an array each element that is drawn has a lane of its own."""
         name, *texts = entry.rest.split(" ")
         self.record.counts.puts += self.part.has(entry.time)
-        shown = [self.values.full(name, int(it)) for it in texts[:8]] + [".."] * (len(texts) > 8)
-        self.record.instant.deed(Deed("put", f"{name} := {' '.join(shown)}"))
+        self.record.instant.deed(Deed("put", f"{name} := {self.shown(name, texts)}"))
         for lanes in self.record.by_channel.get(name, ()):
             if lanes.element < len(texts):
                 self.part.keep(lanes.asked, entry.time, int(texts[lanes.element]))

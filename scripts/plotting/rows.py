@@ -2,13 +2,16 @@
 import re
 from typing import Iterator, Optional
 
+from plotting.canvas import shortened
 from plotting.instants import Deed, Row
 from plotting.letters import escaped
-from plotting.text import saw
 from plotting.times import Times, grouped, many
 
-# Where a long name may be cut at the end of a line.
-JOINT = re.compile(r"([:.])(?=[A-Za-z0-9_])")
+# Where a long name may be cut at the end of a line; a number is not.
+JOINT = re.compile(r"(:|(?<!\d)\.)(?=[A-Za-z0-9_])")
+
+# So many letters of a condition are shown.
+LONGEST_TEST = 200
 
 
 def broken(text: str) -> str:
@@ -51,11 +54,13 @@ def deeds(row: Row) -> str:
 
 
 def deed(it: Deed) -> str:
-    """One deed, with the clause of a transition and what its condition saw."""
+    """One deed, with the clause of a transition, its condition and what that saw."""
     text = broken(it.text).replace(" -&gt; ", " &rarr; ") if it.kind == "go" else broken(it.text)
     text = f'<span class="{it.kind}">{text}</span>'
     if it.clause:
         text += f' <span class="why nb">({it.clause})</span>'
+    if it.test:
+        text += f'<br><span class="why">when {escaped(shortened(it.test, LONGEST_TEST))}</span>'
     if it.saw:
-        text += f'<br><span class="why">since {escaped(saw(it))}</span>'
+        text += f'<br><span class="why">since {escaped(it.saw)}</span>'
     return text

@@ -76,7 +76,9 @@
       var x = +it.dataset.x, text = it.querySelector('text');
       if (x < from || x > to) return;
       x = place(x);
-      var size = text.textContent.length * letter + 14, isRight = x + size < left + wide + 8, got = 0;
+      // Its width is measured where the browser can: only a text that is shown has one.
+      show(text, true);
+      var size = (text.getComputedTextLength() || text.textContent.length * letter) + 14, isRight = x + size < left + wide + 8, got = 0;
       while (got < free.length && free[got] > (isRight ? x : x - size)) got++;
       show(text, got < free.length);
       if (got < free.length) free[got] = isRight ? x + size : x + 6; else { got = 0; free[0] = Math.max(free[0], x + 6); }
@@ -162,12 +164,14 @@
     var frame = picture.getBoundingClientRect();
     return from + ((event.clientX - frame.left) * (left + wide + 10) / frame.width - left) * (to - from) / wide;
   }
-  // The part that the address names, as #1500-2600, in ms.
+  // The part that the address names, as #1500-2600, in ms: the picture shows it, and the table its first row.
   function named() {
     var found = /^#(\d+)-(\d+)$/.exec(location.hash);
     if (!found || +found[2] <= +found[1]) return;
     from = clip(pointOf(+found[1]), 0, full - least);
     to = clip(pointOf(+found[2]), from + least, full);
+    var row = rows.filter(function (it) { return +it.dataset.t >= +found[1] && +it.dataset.t <= +found[2]; })[0];
+    if (row) go(+row.dataset.t, true);
   }
   function size() { wide = Math.max(360, box.clientWidth - left - 12); draw(); }
 

@@ -2,8 +2,10 @@
 from dataclasses import dataclass
 from typing import Optional
 
-FAULT, CHATTER, FLICKER, REFUSED, DOWN = "fault", "chatter", "flicker", "refused", "down"
-ORDER = (FAULT, CHATTER, FLICKER, REFUSED, DOWN)
+FAULT, CHATTER, FLICKER, REFUSED, DOWN, LOOP = "fault", "chatter", "flicker", "refused", "down", "loop"
+ORDER = (FAULT, CHATTER, FLICKER, REFUSED, DOWN, LOOP)
+# Kinds of which a box is no alarm.
+MILD = (DOWN, LOOP)
 # So many of a kind are kept, and so many are told in all.
 KEPT, TOLD = 30, 8
 

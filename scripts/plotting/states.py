@@ -5,7 +5,7 @@ from plotting.buckets import Span
 from plotting.canvas import LEFT, LETTER, WIDTH, Canvas, block, digits, move, tip
 from plotting.groups import Group, groups
 from plotting.record import Record, SetLanes
-from plotting.spots import FLICKER, Spot
+from plotting.spots import FLICKER, LOOP, Spot
 from plotting.times import about, grouped, many, short, stretch
 
 COLOURS = ("#9ad0f5", "#f7c56b", "#8fd3b6", "#f3ee9a", "#e3b2cf", "#c9c9c9", "#b9b3ee", "#f2a583")
@@ -14,6 +14,8 @@ ROW = 16
 THIN, FLICKERING, LEAST_BLOCK = 3, 6, 6
 # So many changes in a block are told on top; a block that is not so wide has its count beside it.
 TOLD_ON_TOP, WITH_TEXT = 50, 110
+# By this part a loop at a steady rate may be off its usual time, and such a part of the picture it takes at least.
+UNEVEN, LONG_LOOP = 0.25, 4
 # A bar below this width has a mark that does not get lost.
 HAIR = 2
 
@@ -175,7 +177,8 @@ class SetDrawing:
         pace = f", about every {about(lasts / total)}" if lasts >= total else ""
         times = f"{grouped(total)} times {self.canvas.between(group.begin(), group.end())}"
         text = f"{self.lanes.name} changes its state {times}{pace}"
-        self.record.spots.add(Spot(group.begin(), FLICKER, text, total))
+        is_long = lasts * LONG_LOOP >= self.record.stop() - self.record.begin()
+        self.record.spots.add(Spot(group.begin(), LOOP if is_long and is_steady(group) else FLICKER, text, total))
 
     def own(self) -> None:
         """Strokes below the rows: transitions from a state to itself."""
@@ -186,3 +189,22 @@ class SetDrawing:
         canvas.path("own", steps, f"transitions of {self.lanes.name} from a state to itself: {grouped(lane.count)}")
         canvas.name(canvas.y + 6, "to itself", "tiny", LEFT - 6)
         canvas.y += 7
+
+
+def is_steady(group: Group) -> bool:
+    """Whether a block is a loop at a steady rate: each state takes about as long each time, or each column has as many changes."""
+    measured = defaultdict(list)
+    for span in group.spans[1:-1]:
+        length = span.end - span.begin
+        if span.bucket is None:
+            measured[span.value].append(length)
+        elif length:
+            measured["rate"].append(span.count / length)
+    return bool(measured) and all(is_even(it) for it in measured.values())
+
+
+def is_even(values: list) -> bool:
+    """Whether nine of ten values are about the one in the middle."""
+    middle = sorted(values)[len(values) // 2]
+    near = sum(abs(it - middle) <= UNEVEN * middle + 1 for it in values)
+    return near >= 0.9 * len(values)

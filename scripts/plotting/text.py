@@ -104,9 +104,4 @@ def of_row(row: Optional[Row], left_out: int) -> Iterator[str]:
 def of_deed(deed: Deed) -> str:
     """A deed in words."""
     clause = f" ({deed.clause})" if deed.clause else ""
-    return f"{deed.text}{clause}{f' since {saw(deed)}' if deed.saw else ''}"
-
-
-def saw(deed: Deed) -> str:
-    """The values that a condition saw."""
-    return deed.saw.replace(" ", ", ")
+    return f"{deed.text}{clause}{f' since {deed.saw}' if deed.saw else ''}"

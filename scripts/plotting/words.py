@@ -9,6 +9,8 @@ from plotting.values import Values
 
 LEAST_COLUMNS, MOST_COLUMNS, COLUMNS = 1, 8192, 2048
 MOST_DECIMALS = 18
+# A text with its number, and the comma behind it: the text may have commas and colons, too.
+ENTRY = re.compile(r"(.+?):(-?\d{1,19})(?:,(?!$)|$)")
 OPTION = re.compile(r"[+-][A-Za-z][A-Za-z+-]*|\+.*")
 
 
@@ -114,10 +116,7 @@ def decimals(text: str) -> tuple[str, int]:
 def texts(text: str) -> tuple[str, dict]:
     """The name and the texts of NAME=TEXT:N,TEXT:N."""
     name, _, pieces = text.partition("=")
-    found = {}
-    for piece in pieces.split(","):
-        shown, _, number = piece.rpartition(":")
-        if not name or not shown or not re.fullmatch(r"-?\d{1,19}", number):
-            raise argparse.ArgumentTypeError(f"'{text}' is not NAME=TEXT:N,..")
-        found[int(number)] = shown
+    found = {int(number): shown for shown, number in ENTRY.findall(pieces)}
+    if not name or not found or ENTRY.sub("", pieces):
+        raise argparse.ArgumentTypeError(f"'{text}' is not NAME=TEXT:N,..")
     return name, found

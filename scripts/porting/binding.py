@@ -2,8 +2,10 @@
 import re
 from typing import Iterator, Optional
 
+from porting.moved import Order
 from porting.tree import (
     Assign,
+    Assignment,
     Block,
     Call,
     Conditional,
@@ -19,27 +21,24 @@ from porting.tree import (
     Name,
     Node,
     Parentheses,
+    Postfix,
+    Prefix,
     Program,
     State,
     StateSet,
     Text,
     Values,
+    every,
 )
 from porting.variables import Channels, Kind, Owner, Variable
-from porting.words import PRINTERS, TEXT_COMPARISONS, TEXT_COPIES, TEXT_FORMATS
+from porting.words import CLOCKS, EMPTIERS, PARSERS, PRINTERS, SECONDS, TEXT_COMPARISONS, TEXT_COPIES, TEXT_FORMATS
 
 CONVERSION = re.compile(r"%[-+ #0]*(?:\d+|\*)?(?:\.(?:\d+|\*)?)?(?:hh|h|ll|l|L|z)?[diouxXeEfFgGcsp%]")
 TEXT_FUNCTIONS = TEXT_COPIES | TEXT_COMPARISONS | set(TEXT_FORMATS) | {"strlen", "strcat", "strncat", "strstr"}
+TEXT_READERS = PARSERS | {"sscanf"}
+# Functions that store to an argument.
+STORING = TEXT_COPIES | set(TEXT_FORMATS) | EMPTIERS | CLOCKS | {"pvGet", "pvGetQ", "sscanf"}
 Scope = dict[str, Variable]
-
-
-def every(node: Node) -> Iterator[Node]:
-    """A node and all that stand in it, in the order of the source."""
-    waiting = [node]
-    while waiting:
-        found = waiting.pop()
-        yield found
-        waiting += reversed(list(found.children()))
 
 
 def variable_of(place: Expression) -> Optional[Variable]:
@@ -52,8 +51,37 @@ def variable_of(place: Expression) -> Optional[Variable]:
         return variable_of(place.array)
     if isinstance(place, Member) and place.sign == ".":
         whole = variable_of(place.whole)
+        if whole and whole.kind is Kind.WHOLE and place.member == SECONDS:
+            return whole
         return whole.members.get(place.member) if whole and whole.members else None
     return None
+
+
+def behind_and(node: Expression) -> Expression:
+    """What stands behind `&`, where it does."""
+    return node.operand if isinstance(node, Prefix) and node.sign == "&" else node
+
+
+def stored_by(call: Call) -> Optional[Expression]:
+    """The place that a function of C stores to, or None."""
+    at = 2 if call.function == "sscanf" else 0
+    is_one = call.function in STORING and len(call.arguments) > at
+    return behind_and(call.arguments[at]) if is_one else None
+
+
+def stores_in(node: Node) -> Iterator[Variable]:
+    """The variables that an expression stores to."""
+    for it in every(node):
+        place = None
+        if isinstance(it, Assignment):
+            place = it.left
+        elif isinstance(it, (Prefix, Postfix)) and it.sign in ("++", "--"):
+            place = it.operand
+        elif isinstance(it, Call):
+            place = stored_by(it)
+        found = variable_of(place) if place is not None else None
+        if found:
+            yield found
 
 
 def subscripts_of(place: Expression) -> list[Expression]:
@@ -71,7 +99,8 @@ class Binding:
     def __init__(self, program: Program, structures: dict[str, list[Variable]], line_of):
         self.program, self.structures, self.line_of = program, structures, line_of
         functions = [it for it in program.definitions if isinstance(it, Function)]
-        self.functions = {it.name: it for it in functions if not it.is_behind_sets}
+        self.functions = {it.name: it for it in functions}
+        self.order = Order(program)
         self.flags = {name for it in every(program) if isinstance(it, EventFlags) for name in it.names}
         self.bind(program, [])
         self.find_texts()
@@ -142,6 +171,8 @@ class Binding:
                 yield node.result
             if isinstance(node, Declarator):
                 yield node.variable
+                if node.variable.number:
+                    yield node.variable.number
                 yield from (node.variable.members or {}).values()
 
     def find_texts(self) -> None:
@@ -165,6 +196,8 @@ class Binding:
             behind = TEXT_FORMATS.get(node.function)
             yield from (node.arguments[:1] if behind is not None else node.arguments[:2])
             yield from printed_texts(node, behind) if behind is not None else ()
+        if node.function in TEXT_READERS:
+            yield from node.arguments[:1]
         if node.function in PRINTERS:
             yield from printed_texts(node, PRINTERS[node.function])
         if node.function in self.functions:

@@ -1,29 +1,16 @@
-"""Calls of the built-in functions of SNL: puts, gets, connections, severities, delays."""
-import re
-from fractions import Fraction
+"""Calls of the built-in functions of SNL: puts, gets, connections."""
 from typing import Optional
 
 from porting.binding import subscripts_of, variable_of
-from porting.constants import decimal_text, nearest
-from porting.formats import Formats
-from porting.notes import DECIDE, KNOW, ByHand
+from porting.notes import DECIDE, KNOW, OTHERWISE, ByHand
 from porting.parse_expressions import COMMA, TIGHTNESS, WHOLE
+from porting.readings import Readings
 from porting.tree import Call, Expression
-from porting.values import SUM, Value, held
-from porting.variables import Kind, Variable
-
-FIELD = re.compile(r"\.[A-Z0-9_]+$")
-# A number of seconds that `delay` takes as it is, perhaps with the name of the constant.
-SECONDS = re.compile(r"(\d+\.?\d*|\.\d+)( /\*\w+\*/)?")
+from porting.values import Value
 
 
-class Calls(Formats):
+class Calls(Readings):
     """How built-in functions are written."""
-
-    def __init__(self, *given):
-        super().__init__(*given)
-        # Variables that need the severity or the status of their channels, with the field and the name of the copy.
-        self.alarms: dict[tuple[Variable, str], str] = {}
 
     def links(self, node: Expression) -> list[str]:
         """The places of the links that a call is of: one for each channel."""
@@ -48,18 +35,18 @@ class Calls(Formats):
     def put(self, node: Call) -> Value:
         """`pvPut` and `pvGet`: SYNC and timeouts are left out, and many channels have a call each."""
         self.has_arguments(node, 1)
-        links, mode = self.links(node.arguments[0]), ""
-        for it in node.arguments[1:]:
+        links, mode = self.links(node.arguments[0]), ", ASYNC" if node.waits else ""
+        for it in node.arguments[1:] if not node.waits else ():
             word = self.named(it)
             if word == "ASYNC" and node.function == "pvPut":
                 mode = ", ASYNC"
             elif word == "ASYNC":
                 self.say(node, KNOW, "ASYNC of pvGet is left out: the last value is there at once")
             elif word == "SYNC":
-                self.say(node, KNOW, "SYNC is left out: the program goes on at once")
+                self.say(node, KNOW, "SYNC is left out: the program goes on at once", OTHERWISE)
             elif word != "DEFAULT":
                 self.say(node, KNOW, f"timeout {word} is left out")
-        if len(links) == 1 and len(node.arguments) == 1 + bool(mode):
+        if len(links) == 1 and len(node.arguments) == 1 + bool(mode) and not node.waits:
             return Value(self.woven(node, [(node.arguments[0], links[0])]))
         texts = [f"{node.function}({it}{mode})" for it in links]
         return Value(", ".join(texts), WHOLE if len(links) == 1 else COMMA)
@@ -118,70 +105,6 @@ class Calls(Formats):
         self.say(node, KNOW, "pvAssignCount is pvChannelCount here")
         return Value("pvChannelCount()")
 
-    def alarm(self, node: Call) -> Value:
-        """`pvStatus` and `pvSeverity`: a channel of its own."""
-        self.has_arguments(node, 1)
-        variable = variable_of(node.arguments[0])
-        if variable is None or variable.channels is None or not variable.channels.all_names():
-            raise ByHand(f"function '{node.function}'")
-        field = "SEVR" if node.function == "pvSeverity" else "STAT"
-        name = self.alarms.setdefault((variable, field), self.free(f"{variable.new_name}_{field.lower()}"))
-        subscripts = subscripts_of(node.arguments[0])
-        is_parted = variable.channels.is_list or variable.channels.elements
-        if is_parted and not subscripts:
-            raise ByHand(f"{node.function} of many channels")
-        subscript = f"[{self.whole(self.value(subscripts[0])).text}]" if is_parted else ""
-        channel = "read from a channel of its own, which the trace has to bring before the value"
-        self.say(node, KNOW, f"{node.function}: {channel}")
-        return Value(f"{name}{subscript}")
-
-    def alarm_definitions(self) -> list[str]:
-        """The variables of severities and statuses."""
-        return [self.alarm_definition(name, *key) for key, name in self.alarms.items()]
-
-    def alarm_definition(self, name: str, variable: Variable, field: str) -> str:
-        """The variable of a severity or a status, with its channels."""
-
-        def channel(of: str) -> str:
-            """The name of the channel of the field, as a text."""
-            return f'"{FIELD.sub("", of)}.{field}"'
-
-        channels = variable.channels
-        if channels.elements:
-            places = [(self.whole(self.value(it)).text, channel(of)) for it, of in channels.elements]
-            assigns = "".join(f" assign {name}[{at}] to {of};" for at, of in places)
-            return f"int {name}[{self.size(variable.dimensions[0])}];{assigns} monitor {name};"
-        if channels.is_list:
-            names = ", ".join(channel(it) for it in channels.names)
-            return f"int {name}[{self.size(variable.dimensions[0])}]; assign {name} to {{{names}}}; monitor {name};"
-        return f"int {name}; assign {name} to {channel(channels.names[0])}; monitor {name};"
-
-    def delay(self, node: Call) -> Value:
-        """`delay`: constants to the millisecond, all else in whole seconds."""
-        self.has_arguments(node, 1)
-        argument = node.arguments[0]
-        found = self.value(argument)
-        if found.constant is not None and found.kind is Kind.QUANTITY:
-            return self.constant_delay(node, found)
-        if found.kind is Kind.WHOLE:
-            return Value(self.woven(node, [(argument, found.text)]))
-        if found.kind is not Kind.QUANTITY:
-            raise ByHand("a delay of what is no number")
-        if found.digits == 0:
-            return Value(f"delay({found.text})")
-        self.say(node, DECIDE, "delay of a quantity: only whole seconds are possible, and it is rounded up")
-        return Value(f"delay(({held(found, SUM)} + {10**found.digits - 1}) / {10**found.digits})")
-
-    def constant_delay(self, node: Call, found: Value) -> Value:
-        """A `delay` of a number with decimals."""
-        milliseconds = found.constant * 1000
-        spelled = self.spelled(node.arguments[0].first, node.arguments[0].end)
-        if SECONDS.fullmatch(spelled) and milliseconds.denominator == 1:
-            return self.as_it_is(node)
-        if milliseconds.denominator > 1:
-            self.say(node, KNOW, "delay to the millisecond")
-        return Value(f"delay({decimal_text(Fraction(nearest(milliseconds), 1000))}{found.behind})")
-
     def builtin(self, node: Call) -> Optional[Value]:
         """A call of a built-in function, or None where it is none."""
         readers = {
@@ -192,13 +115,13 @@ class Calls(Formats):
             self.nothing: ("pvPutCancel", "pvGetCancel", "pvFlush"),
             self.assigned: ("pvAssigned", "pvCount"),
             self.channel_count: ("pvAssignCount",),
-            self.alarm: ("pvStatus", "pvSeverity"),
-            self.delay: ("delay",),
+            self.alarm: ("pvStatus", "pvSeverity", "pvTimeStamp"),
+            self.clock: ("time", "epicsTimeGetCurrent"),
+            self.passed: ("difftime", "epicsTimeDiffInSeconds"),
+            self.scanned: ("sscanf",),
             self.as_it_is: ("pvChannelCount", "pvConnectCount", "efSet", "efClear", "efTest", "efTestAndClear"),
         }
         for reader, names in readers.items():
             if node.function in names:
                 return reader(node)
         return None
-
-

@@ -1,8 +1,8 @@
 """What definitions become: variables, options, channels, functions."""
 import re
 
+from porting.branches import Branches
 from porting.notes import KNOW, ByHand
-from porting.statements import Statements
 from porting.tree import (
     Assign,
     Declaration,
@@ -17,22 +17,20 @@ from porting.tree import (
     Stray,
     Unknown,
     Values,
+    flat,
 )
-from porting.units import flat
 from porting.variables import Kind, Variable
 from porting.words import LONG_TYPES
 from porting.work import unit_of
 
 
-BEHIND_SETS = "stands behind the state sets: put it in front of them"
 
-
-class Definitions(Statements):
+class Definitions(Branches):
     """How definitions are written."""
 
     def __init__(self, *given):
         super().__init__(*given)
-        # Lines that are added in front, for functions that stand where `snc` takes none.
+        # Lines that are added in front, for files that are left out.
         self.refused: list[str] = []
 
     def definition(self, node: Node) -> None:
@@ -79,12 +77,7 @@ class Definitions(Statements):
                     self.change(it.first, it.end, f'"{it.text}"')
 
     def function(self, node: Function) -> None:
-        """A function. Behind the state sets there is no room for one."""
-        if node.is_behind_sets:
-            self.leave(node, BEHIND_SETS, "", "")
-            if not self.settings.is_sketch:
-                self.refused.append(f"monitor {self.by_hand_word}; /* by hand: function '{node.name}' {BEHIND_SETS} */")
-            return
+        """A function."""
         self.change_type(node.first, node.type_end, node.result)
         for it in node.parameters:
             text = f"{self.new_type(it.variable)} {it.variable.name}{self.unit_comment(it.variable)}"
@@ -189,10 +182,9 @@ class Definitions(Statements):
             return self.woven(node, [(it, self.first_value(it, variable)) for it in node.items])
         if variable.kind is Kind.TEXT:
             return self.text(node).text
-        found = self.value(node, variable.digits() if variable.kind is Kind.QUANTITY else None)
         if variable.kind is Kind.QUANTITY:
-            return self.at(found, variable.digits(), node).text
-        return self.whole(found).text
+            return self.at(self.value(node, variable.digits()), variable.digits(), node).text
+        return self.cut(node).text
 
     def embedded_outside(self) -> None:
         """Notes embedded C that stands in no block."""

@@ -28,13 +28,11 @@ from porting.tree import (
     SizeOf,
     Text,
 )
-from porting.values import SUM, Value, held
+from porting.values import STORES, SUM, Value, common_digits, held
 from porting.variables import Kind
-from porting.words import BYTES, CONSTANTS, PREDEFINED
+from porting.words import BYTES, CONSTANTS, HUGE, PREDEFINED, SECONDS
 
 WHOLE_NUMBER = re.compile(r"(0[xX][0-9a-fA-F]+|\d+)([uUlL]*)")
-# What is different when it is done twice.
-STORES = re.compile(r"\+\+|--|[^=!<>]=[^=]|\w\(")
 ARITHMETIC = ("+", "-", "*", "/")
 
 
@@ -43,6 +41,8 @@ class Expressions(Functions):
 
     def value(self, node: Expression, wanted: Optional[int] = None) -> Value:
         """The value of an expression; `wanted` are the digits that it is asked for in, where that is known."""
+        if isinstance(node, Member) and isinstance(node.whole, Call) and node.member == SECONDS:
+            return self.value(node.whole)
         if isinstance(node, (Element, Member)):
             return self.place(node)
         plain = {Number: self.of_number, Character: self.of_character, Name: self.of_name, Postfix: self.of_postfix}
@@ -87,6 +87,8 @@ class Expressions(Functions):
         if node.name in CONSTANTS:
             found = CONSTANTS[node.name]
             return Value(f"{found} /*{node.name}*/", WHOLE if found >= 0 else PREFIX, constant=Fraction(found))
+        if node.name in HUGE:
+            return Value(None, kind=Kind.QUANTITY, constant=Fraction(10**300), behind=f" /*{node.name}*/")
         if node.name in self.binding.flags:
             return Value(spelled, kind=Kind.FLAG)
         raise ByHand(f"'{node.name}' is not declared")
@@ -128,14 +130,19 @@ class Expressions(Functions):
         back = "-" if node.sign == "++" else "+"
         return Value(f"({text}) {back} {unit}", SUM, Kind.QUANTITY, found.digits)
 
+    def in_parentheses(self, value: Value) -> Value:
+        """A value that is held together as a whole."""
+        return replace(value, text=held(value, WHOLE), tightness=WHOLE)
+
     def of_cast(self, node: Cast, wanted: Optional[int]) -> Value:
         """A cast: to a whole number it cuts."""
         if node.type.kind not in (Kind.WHOLE, Kind.QUANTITY, Kind.NOTHING):
             raise ByHand("a cast to a pointer or a structure")
+        if node.type.kind is Kind.WHOLE and self.ratio(node.operand) is not None:
+            return self.in_parentheses(self.cut(node.operand))
         found = self.value(node.operand, wanted)
         if node.type.kind is Kind.WHOLE and found.kind is Kind.QUANTITY:
-            whole = self.whole(found)
-            return replace(whole, text=held(whole, WHOLE), tightness=WHOLE)
+            return self.in_parentheses(self.whole(found))
         if node.type.kind is Kind.QUANTITY and found.kind is Kind.WHOLE:
             return replace(found, kind=Kind.QUANTITY)
         return found
@@ -206,7 +213,7 @@ class Expressions(Functions):
         if left.kind in (Kind.TEXT, Kind.BYTE):
             return self.text_stored(node, left)
         if node.sign == "=":
-            right = self.value(node.right, left.digits if left.kind is Kind.QUANTITY else None)
+            right = self.value(node.right, left.digits) if left.kind is Kind.QUANTITY else self.cut(node.right)
             return self.stored(node, left, right)
         return self.changed(node, left)
 
@@ -240,12 +247,3 @@ class Expressions(Functions):
         made = self.combined(sign, left, right, wanted, lambda one, other: f"{one} {sign} {other}", node)
         made = self.at(made, left.digits, node) if wanted is not None else self.whole(made)
         return Value(f"{left.text} = {made.text}", ASSIGNMENT, left.kind, left.digits)
-
-
-def common_digits(yes: Value, no: Value, wanted: Optional[int]) -> int:
-    """The digits of the two values of a conditional."""
-    variable = [it.digits for it in (yes, no) if it.constant is None]
-    constant = [max(decimals(it.constant) or 0, wanted or 0) for it in (yes, no) if it.constant is not None]
-    if variable and wanted is not None:
-        return max(*variable, wanted)
-    return max(variable + constant)

@@ -138,6 +138,7 @@ def put_back(made: list[Token], token: Token, waiting: list[Token]) -> None:
     if not made:
         if waiting:
             waiting[-1].before = token.before + waiting[-1].before
+            waiting[-1].embedded = token.embedded + waiting[-1].embedded
         return
     made[0].before = token.before
     made[0].embedded = token.embedded

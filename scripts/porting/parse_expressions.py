@@ -22,7 +22,7 @@ from porting.tree import (
     Values,
 )
 from porting.variables import Kind, Type
-from porting.words import QUANTITY_TYPES, SOFT_TYPES, TYPES
+from porting.words import QUANTITY_TYPES, SOFT_TYPES, TIMES, TYPES
 
 LEVELS = (
     ("||",),
@@ -235,6 +235,8 @@ class ExpressionParser:
                 word = "int"
             if word == "bool":
                 word = "int"
+            if word in TIMES:
+                word = "long"
             if word not in SOFT_TYPES:
                 words.append(word)
         spelled = " ".join(words) or "int"

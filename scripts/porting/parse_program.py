@@ -22,6 +22,7 @@ from porting.tree import (
     Stray,
 )
 from porting.variables import Kind, Owner, Type, Variable
+from porting.words import TIMES
 
 MEMBERS = "members become variables NAME_MEMBER"
 
@@ -160,6 +161,8 @@ class ProgramParser(StatementParser):
             return self.monitor()
         if self.word_is("evflag"):
             return self.event_flags()
+        if self.word_is("typename") and self.word_is(*TIMES, ahead=1):
+            return self.declaration(Owner.PROGRAM)
         if self.word_is("foreign", "typename", "declare", "typedef"):
             return self.left_out()
         raise ByHand(f"'{word}'")
@@ -219,7 +222,7 @@ class ProgramParser(StatementParser):
         while self.passes(","):
             names.append(self.name())
         self.expect(";")
-        return EventFlags(first, self.at, names)
+        return EventFlags(first, self.at, "evflag", names)
 
     def left_out(self) -> LeftOut:
         """Names and types of C."""

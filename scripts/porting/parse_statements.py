@@ -7,8 +7,10 @@ from porting.parse_expressions import ExpressionParser
 from porting.tree import (
     Action,
     Block,
+    Case,
     Declaration,
     Declarator,
+    Do,
     Enumeration,
     For,
     If,
@@ -16,6 +18,7 @@ from porting.tree import (
     Place,
     Plain,
     Return,
+    Switch,
     Unknown,
     Values,
     While,
@@ -82,19 +85,23 @@ class StatementParser(ExpressionParser):
         if self.next_is("{"):
             return self.block(owner)
         if self.passes(";"):
-            return Plain(first, self.at)
+            return Plain(first, self.at, "")
         if self.is_enumeration():
             return self.enumeration()
         if self.is_type():
             return self.declaration(owner)
         readers = {"if": self.branch, "while": self.loop, "for": self.counted_loop, "return": self.return_}
         reader = readers.get(self.token().spelled) if self.token().kind == "name" else None
+        if self.word_is("do") and (self.next_is("{", ahead=1) or self.token(1).kind == "name"):
+            reader = self.do_loop
+        if self.word_is("switch") and self.next_is("(", ahead=1):
+            reader = self.switch
         if reader:
             return reader(owner)
         if self.is_jump():
             while not self.passes(";"):
                 self.step()
-            return Plain(first, self.at)
+            return Plain(first, self.at, self.tokens[first].spelled)
         self.refuse_c()
         expression = self.expression()
         self.expect(";")
@@ -110,9 +117,7 @@ class StatementParser(ExpressionParser):
         """Refuses statements of C that SNL has not: each of their words may be a name, too."""
         word = self.token().spelled
         is_one = (
-            (word == "switch" and self.next_is("(", ahead=1))
-            or (word == "do" and (self.next_is("{", ahead=1) or self.token(1).kind == "name"))
-            or (word in ("goto", "case") and self.token(1).kind in ("name", "number", "character"))
+            (word in ("goto", "case") and self.token(1).kind in ("name", "number", "character"))
             or (self.token().kind == "name" and self.next_is(":", ahead=1))
         )
         if is_one:
@@ -141,6 +146,48 @@ class StatementParser(ExpressionParser):
         body = self.statement(owner)
         return While(first, self.at, condition, body)
 
+    def do_loop(self, owner: Owner) -> Node:
+        """`do`."""
+        first = self.at
+        self.step()
+        body = self.statement(owner)
+        if not self.word_is("while"):
+            raise ByHand("'do' without 'while'")
+        self.step()
+        self.expect("(")
+        condition = self.expression()
+        self.expect(")")
+        self.expect(";")
+        return Do(first, self.at, body, condition)
+
+    def switch(self, owner: Owner) -> Node:
+        """`switch`, with its cases."""
+        first, sections = self.at, []
+        self.step()
+        self.expect("(")
+        value = self.expression()
+        self.expect(")")
+        self.expect("{")
+        while not self.passes("}"):
+            sections.append(self.case(owner))
+        return Switch(first, self.at, value, sections)
+
+    def case(self, owner: Owner) -> Case:
+        """The labels of a `switch` that stand together, and the statements behind them."""
+        first, labels, items = self.at, [], []
+        while self.word_is("case", "default"):
+            is_default = self.step().spelled == "default"
+            labels.append(None if is_default else self.conditional())
+            self.expect(":")
+        if not labels:
+            raise ByHand("'switch' with a statement in front of its cases")
+        label_end = self.at
+        while not self.next_is("}") and not self.word_is("case", "default"):
+            if self.token().kind == "end":
+                raise ByHand("a 'switch' has no end")
+            items.append(self.statement(owner))
+        return Case(first, self.at, labels, label_end, items)
+
     def counted_loop(self, owner: Owner) -> Node:
         """`for`."""
         first, head = self.at, []
@@ -162,7 +209,9 @@ class StatementParser(ExpressionParser):
 
     def declaration(self, owner: Owner) -> Declaration:
         """Variables of one type."""
-        first, type_, type_end = self.at, self.type(), self.at
+        first = self.at
+        self.at += self.word_is("typename")
+        type_, type_end = self.type(), self.at
         declarators = [self.declarator(type_, owner)]
         while self.passes(","):
             declarators.append(self.declarator(type_, owner))

@@ -2,15 +2,16 @@
 from dataclasses import dataclass
 
 from porting.binding import Binding
-from porting.functions import HELPERS
-from porting.notes import BY_HAND, DECIDE, KNOW, NotUnderstood, Notes
+from porting.moved import comment_in_front
+from porting.notes import BY_HAND, DECIDE, KNOW, OTHERWISE, NotUnderstood, Notes
+from porting.numbers import HELPERS
 from porting.parse_program import ProgramParser
 from porting.preprocessor import Preprocessor
-from porting.sharing import Sharing
 from porting.tokens import harmless
 from porting.tree import Option, Program
 from porting.units import find_units, quantities_by_digits
 from porting.variables import Kind
+from porting.waiting import Waiting
 from porting.work import Settings, unit_of
 
 FROM_CHANNEL = "is a text that comes from a channel: the trace has to bring its number, as the list of texts at the top has it"
@@ -26,7 +27,7 @@ class Ported:
     port: "Port"
 
 
-class Port(Sharing):
+class Port(Waiting):
     """A port of a program."""
 
     def run(self) -> str:
@@ -47,7 +48,9 @@ class Port(Sharing):
             self.state_set(it)
         self.embedded_outside()
         self.frame(self.program)
-        return self.rendered()
+        text = self.rendered(0, len(self.tokens))
+        # Of functions that stood behind all else nothing is left.
+        return text.rstrip("\n") + "\n" if self.binding.order.moved else text
 
     def quantities(self) -> set[str]:
         """The names of all quantities."""
@@ -63,9 +66,7 @@ class Port(Sharing):
             for it in [*state.entries, *state.exits]:
                 self.statement(it, None)
             for clause in state.clauses:
-                if clause.condition is not None:
-                    self.condition(clause.condition)
-                self.statement(clause.block, None)
+                self.clause(clause, state)
 
     def frame(self, program: Program) -> None:
         """What stands behind the head of the program: an option, and lines that are added."""
@@ -77,11 +78,26 @@ class Port(Sharing):
         if not self.is_safe:
             option = " option +s;"
             text = "option +s is added: each state set has its own copy of the variables"
-            self.notes.add(self.tokens[program.word].line, KNOW, text)
-        lines = [*self.legend_lines(), *self.refused, *self.alarm_definitions(), *self.shared_lines(), *self.helper_lines()]
+            self.notes.add(self.tokens[program.word].line, KNOW, text, OTHERWISE)
+        lines = [*self.legend_lines(), *self.refused, *self.reading_definitions(), *self.shared_lines(), *self.helper_lines()]
         # Lines end as they do in the source.
         end = "\r\n" if any("\r\n" in it.before for it in self.tokens) else "\n"
-        self.behind[program.head_end] = option + "".join(f"{end}{it}" for it in lines)
+        self.behind[program.head_end] = option + "".join(f"{end}{it}" for it in [*lines, *self.moved_functions()])
+
+    def moved_functions(self) -> list[str]:
+        """The functions that are written in front. Where they stood, empty lines stay."""
+        texts = []
+        for name in self.binding.order.moved:
+            node = self.binding.functions[name]
+            token = self.tokens[node.first]
+            comment = "" if token.embedded else comment_in_front(token.before)
+            token.before = token.before.removesuffix(comment) + "\n" * comment.count("\n")
+            texts.append(comment + self.rendered(node.first, node.end).removeprefix(token.before))
+            lines = self.spelled(node.first, node.end).count("\n")
+            self.drop_changes(node)
+            self.changes[node.first] = (node.end, "\n" * lines)
+            self.say(node, KNOW, f"function '{name}' is moved in front of what calls it")
+        return texts
 
     def legend_lines(self) -> list[str]:
         """The units of quantities and the numbers of texts, as a comment."""
@@ -102,10 +118,10 @@ class Port(Sharing):
         names = {it: self.free(it) for it in HELPERS}
         return [line.format(**names) for it, lines in HELPERS.items() if it in self.helpers for line in lines]
 
-    def rendered(self) -> str:
-        """The text with all changes."""
-        parts, at = [], 0
-        while at < len(self.tokens):
+    def rendered(self, first: int, end: int) -> str:
+        """The text of tokens with all changes."""
+        parts, at = [], first
+        while at < end:
             token = self.tokens[at]
             parts += [token.before, self.in_front.get(at, "")]
             if at in self.changes:

@@ -7,6 +7,7 @@ import re
 from dataclasses import dataclass, field
 from typing import Optional
 
+from porting.embedded import Nesting, commented_parts, is_cut, items_of, statements_of
 from porting.macros import Macro, macros_of_c, written_out
 from porting.notes import BY_HAND, DECIDE, KNOW, NotUnderstood, Notes
 from porting.tokens import PIECE, Token, commented, harmless, without_comments
@@ -42,6 +43,8 @@ class Preprocessor:
     room: int = MOST
     # Lines of files that are not there.
     lines_by_hand: list[int] = field(default_factory=list)
+    # Functions of embedded C that are taken as functions of the program.
+    functions: set[str] = field(default_factory=set)
 
     def tokens(self, source: str) -> list[Token]:
         """The tokens of a program, with macros written out, and a token for the end."""
@@ -176,6 +179,7 @@ class Reader:
         self.has_directives, self.stays = has_directives, stays
         self.at, self.before, self.comment = 0, "", ""
         self.embedded: tuple[int, ...] = ()
+        self.nesting = Nesting()
         self.begins_line = True
         self.tokens: list[Token] = []
 
@@ -254,8 +258,13 @@ class Reader:
             self.pass_over("", spelled)
 
     def read_embedded(self, spelled: str) -> None:
-        """Embedded C becomes a comment. What it names as a constant is kept."""
+        """Embedded C: what is plain is taken as it is, all else becomes a comment. What it names as a constant is kept."""
         macros_of_c(spelled, self.line, self.work)
+        if self.nesting.is_in_block(self.tokens):
+            if self.read_statements(spelled):
+                return
+        elif not spelled.startswith("%%") and not self.stays and self.read_functions(spelled):
+            return
         in_front = self.before[self.before.rfind("\n") + 1 :]
         line = self.line
         self.at += len(spelled)
@@ -266,3 +275,49 @@ class Reader:
         else:
             self.pass_over(f"/* {harmless(spelled)} */", spelled)
         self.embedded += (line,)
+
+    def part(self, text: str) -> "Reader":
+        """The tokens of a part of embedded C that stands here, with what stands behind them."""
+        inner = Reader(self.work, text, self.line, has_directives=False, stays=self.stays)
+        inner.read()
+        return inner
+
+    def read_statements(self, spelled: str) -> bool:
+        """Takes embedded C in a block as statements, if it can be."""
+        is_line = spelled.startswith("%%")
+        text = spelled[2:] if is_line else spelled[2:-2]
+        if not is_cut(text):
+            return False
+        inner = self.part(text)
+        kept = statements_of(inner.tokens, self.work.functions)
+        if not kept:
+            return False
+        kept[0].before, kept[0].embedded = f"{self.before}/* {spelled[:2]} */{kept[0].before or ' '}", self.embedded
+        self.tokens += kept
+        self.before, self.embedded = inner.before if is_line else f"{inner.before}/* }}% */", ()
+        self.pass_over("", spelled)
+        return True
+
+    def read_functions(self, spelled: str) -> bool:
+        """Takes functions of numbers in embedded C as functions of the program; whether there are any."""
+        items = items_of(spelled[2:-2], self.work.macros, self.work.functions)
+        at, line = 0, self.line
+        for it in items:
+            if not it.name:
+                continue
+            self.work.functions.add(it.name)
+            first, end = it.first + 2, it.end + 2
+            self.pass_over(commented_parts(spelled[at:first]), spelled[at:first])
+            self.work.notes.add(self.line, KNOW, f"C function '{it.name}' is a function of the program here")
+            inner = self.part(spelled[first:end])
+            inner.tokens[0].before, inner.tokens[0].embedded = self.before + inner.tokens[0].before, self.embedded
+            self.tokens += inner.tokens
+            self.before, self.embedded = inner.before, ()
+            self.pass_over("", spelled[first:end])
+            at = end
+        if not at:
+            return False
+        self.pass_over(commented_parts(spelled[at:]), spelled[at:])
+        if any(not it.name for it in items):
+            self.embedded += (line,)
+        return True

@@ -2,10 +2,9 @@
 from dataclasses import dataclass, field
 from typing import Optional
 
-from porting.binding import every, subscripts_of, variable_of
+from porting.binding import behind_and, stored_by, subscripts_of, variable_of
 from porting.definitions import Definitions
-from porting.notes import DECIDE, KNOW
-from porting.statements import STORING
+from porting.notes import BROKEN, DECIDE, KNOW, OTHERWISE, REST
 from porting.tree import (
     Action,
     Assignment,
@@ -22,6 +21,7 @@ from porting.tree import (
     Postfix,
     Prefix,
     While,
+    every,
 )
 from porting.variables import Kind, Variable
 
@@ -50,6 +50,8 @@ class Sharing(Definitions):
         declarations = [it for it in self.program.definitions if isinstance(it, Declaration)]
         self.globals = dict.fromkeys(it.variable for one in declarations for it in one.declarators)
         self.function_uses: dict[str, Uses] = {}
+        # What is said of shared variables, with the variables of which it is.
+        self.shares: dict[tuple[str, str, int], list[Variable]] = {}
 
     def find_shared(self) -> None:
         """Marks the variables that state sets share, and notes each."""
@@ -64,23 +66,31 @@ class Sharing(Definitions):
             ]
             if setters and readers and variable.kind not in (Kind.UNKNOWN, Kind.CONSTANT):
                 self.share(variable, "', '".join(setters), "', '".join(readers))
+        self.tell_shared()
 
     def share(self, variable: Variable, setters: str, readers: str) -> None:
         """Shares a variable, or notes why it is not."""
-        front = f"'{variable.name}' is set in '{setters}' and read in '{readers}'"
+        front = f"set in '{setters}' and read in '{readers}'"
         copies = "each state set has a copy"
         is_free = variable.channels is None and not variable.members
+        kind, worth = DECIDE, OTHERWISE
         if self.is_safe:
-            self.notes.add(variable.line, DECIDE, f"{front}: {copies}, as the program says itself by +s")
+            text, worth = f"{front}: {copies}, as the program says itself by +s: it is never handed on", BROKEN
         elif is_free and self.is_scratch(variable):
-            self.notes.add(variable.line, KNOW, f"'{variable.name}' is set before it is read in each block: {copies}")
+            kind, text, worth = KNOW, f"set before it is read in each block: {copies}", REST
         elif is_free:
             variable.is_shared = True
-            self.notes.add(variable.line, KNOW, f"{front}: it is handed on by a link without a channel")
-        elif variable.is_monitored:
-            self.notes.add(variable.line, DECIDE, f"{front}: {copies}, until the next value comes")
+            kind, text = KNOW, f"{front}: it is handed on by a link without a channel"
         else:
-            self.notes.add(variable.line, DECIDE, f"{front}: {copies}")
+            text = f"{front}: {copies}" + (", until the next value comes" if variable.is_monitored else "")
+        self.shares.setdefault((kind, text, worth), []).append(variable)
+
+    def tell_shared(self) -> None:
+        """Notes what is shared: variables of which the same is said have one line."""
+        for (kind, text, worth), variables in self.shares.items():
+            names, is_one = ", ".join(f"'{it.name}'" for it in variables), len(variables) == 1
+            told = text if is_one else text.replace(": it is", ": they are").replace("before it is", "before they are")
+            self.notes.add(variables[0].line, kind, f"{names} {'is' if is_one else 'are'} {told}", worth)
 
     def uses(self, node: Node) -> Uses:
         """The uses in a node, with those of the functions that it calls."""
@@ -95,15 +105,16 @@ class Sharing(Definitions):
             self.store(found, node.operand)
         elif isinstance(node, Call):
             found.add(self.function_uses.get(node.function, Uses()))
-            if node.function in STORING and node.arguments:
-                place = node.arguments[0]
+            place = stored_by(node)
+            if place is not None:
                 self.store(found, place)
             if node.function == "pvPut":
                 return found
         elif isinstance(node, Name):
             self.read(found, node)
         for child in node.children():
-            for it in subscripts_of(child) if child is place else [child]:
+            is_place = place is not None and behind_and(child) is place
+            for it in subscripts_of(place) if is_place else [child]:
                 found.add(self.uses(it))
         return found
 

@@ -1,17 +1,18 @@
 """What statements become, and what is written where one is left by hand."""
 import re
-from typing import Iterator, Optional
+from math import prod
+from typing import Optional
 
-from porting.binding import every, variable_of
+from porting.binding import behind_and, stores_in, variable_of
 from porting.expressions import Expressions
 from porting.notes import BY_HAND, ByHand
 from porting.tokens import harmless
 from porting.tree import (
     Action,
-    Assignment,
     Block,
     Call,
     Declaration,
+    Do,
     Expression,
     For,
     Function,
@@ -19,31 +20,16 @@ from porting.tree import (
     Node,
     Place,
     Postfix,
-    Prefix,
     Return,
+    SizeOf,
+    Switch,
     Unknown,
     While,
 )
-from porting.variables import Kind, Variable
-from porting.words import TEXT_COPIES, TEXT_FORMATS
+from porting.variables import Kind
+from porting.words import BYTES, EMPTIERS
 
-STORING = TEXT_COPIES | set(TEXT_FORMATS) | {"pvGet", "pvGetQ"}
 LONGEST_QUOTE = 90
-
-
-def stores_in(node: Node) -> Iterator[Variable]:
-    """The variables that an expression stores to."""
-    for it in every(node):
-        place = None
-        if isinstance(it, Assignment):
-            place = it.left
-        elif isinstance(it, (Prefix, Postfix)) and it.sign in ("++", "--"):
-            place = it.operand
-        elif isinstance(it, Call) and it.function in STORING and it.arguments:
-            place = it.arguments[0]
-        found = variable_of(place) if place is not None else None
-        if found:
-            yield found
 
 
 class Statements(Expressions):
@@ -128,6 +114,8 @@ class Statements(Expressions):
             self.statement(node.body, function, False)
         elif isinstance(node, For):
             self.loop(node, function)
+        elif isinstance(node, (Switch, Do)):
+            self.of_c(node, function)
         elif isinstance(node, Return):
             self.returned(node, function)
         elif node is not None and self.is_enumeration(node):
@@ -157,8 +145,11 @@ class Statements(Expressions):
         if isinstance(expression, (Postfix, Call)):
             expression.alone = True
         try:
-            found = self.value(expression)
-            self.change(expression.first, expression.end, "0" if found.text is None else found.text)
+            if isinstance(expression, Call) and expression.function in EMPTIERS:
+                self.change(node.first, node.end, self.emptied(expression))
+            else:
+                found = self.value(expression)
+                self.change(expression.first, expression.end, "0" if found.text is None else found.text)
         except ByHand as cause:
             self.leave_statement(node, str(cause))
             return
@@ -168,6 +159,24 @@ class Statements(Expressions):
             self.behind[node.end - 1] = puts + ("" if is_in_block else " }")
             if not is_in_block:
                 self.in_front[node.first] = "{ " + self.in_front.get(node.first, "")
+
+    def emptied(self, node: Call) -> str:
+        """`memset` with 0: a loop over the elements."""
+        self.has_arguments(node, 2)
+        variable = variable_of(behind_and(node.arguments[0]))
+        if variable is None or variable.kind not in (Kind.WHOLE, Kind.QUANTITY, Kind.TEXT):
+            raise ByHand(f"function '{node.function}'")
+        if node.function == "memset" and self.value(node.arguments[1]).constant != 0:
+            raise ByHand("memset with another byte than 0")
+        if not variable.dimensions:
+            return f"{variable.new_name} = 0;"
+        count = prod(self.count(it) for it in variable.dimensions)
+        size, is_all = self.value(node.arguments[-1]).constant, isinstance(node.arguments[-1], SizeOf)
+        bytes_ = BYTES.get(variable.spelled_type)
+        if not is_all and (size is None or bytes_ is None or size % bytes_ or size > count * bytes_):
+            raise ByHand(f"{node.function} of a part of an array")
+        at, count = self.free("at"), count if is_all else int(size) // bytes_
+        return f"{{ int {at}; for ({at} = 0; {at} < {count}; {at}++) {variable.new_name}[{at}] = 0; }}"
 
     def loop(self, node: For, function: Optional[Function]) -> None:
         """A `for`: its head and its body."""
@@ -198,9 +207,13 @@ class Statements(Expressions):
             self.kept_apart(node.value, "a 'return': put it in a statement of its own")
             if result.kind is Kind.QUANTITY:
                 return self.at(self.value(node.value, result.digits()), result.digits(), node.value)
-            return self.whole(self.value(node.value))
+            return self.cut(node.value)
 
         self.expression(node.value, "0", write)
+
+    def of_c(self, node: Node, function: Optional[Function]) -> None:
+        """A `switch` or a `do`."""
+        raise NotImplementedError
 
     def is_enumeration(self, node: Node) -> bool:
         """Whether a node is an enumeration."""

@@ -1,17 +1,21 @@
-"""Units and texts of a port as words for what makes its trace: `--scale NAME=K`, `--enum NAME=TEXT:N,..`."""
+"""Units, texts and names of constants as words for what makes the trace or shows it: `--scale NAME=K`, `--enum NAME=TEXT:N,..`."""
+import re
 import shlex
 
+from porting.named import names_of_values
 from porting.notes import KNOW
 from porting.port import Port
+from porting.readings import field_of
 from porting.variables import Kind
 
-NO_WORD = frozenset(",:")
+TWO = re.compile(r":-?\d{1,19},")
 
 
 def words(port: Port) -> list[str]:
     """The words, one for each channel, as a shell reads them."""
     found: dict[str, str] = {}
     texts = texts_as_words(port)
+    constants = names_of_values(port.program, port.tokens)
     for it in port.binding.variables():
         for name in it.channels.all_names() if it.channels else []:
             channel = port.filled(name)
@@ -19,15 +23,23 @@ def words(port: Port) -> list[str]:
                 found[channel] = f"--scale {shlex.quote(f'{channel}={it.digits()}')}"
             if it.kind is Kind.TEXT and texts:
                 found[channel] = f"--enum {shlex.quote(f'{channel}={texts}')}"
+            if it in constants:
+                names = ",".join(f"{name}:{value}" for value, name in constants[it].items())
+                found[channel] = f"--enum {shlex.quote(f'{channel}={names}')}"
+    for variable, field in port.readings:
+        if field == "NUMBER" and variable.number.digits():
+            for name in variable.channels.all_names():
+                channel = port.filled(field_of(name, field))
+                found[channel] = f"--scale {shlex.quote(f'{channel}={variable.number.digits()}')}"
     return list(found.values())
 
 
 def texts_as_words(port: Port) -> str:
-    """The texts with their numbers, but those that have a sign of the list in them."""
+    """The texts with their numbers, but those that would read as two: a text may have commas and colons, but not `:1,`."""
     kept = []
     for text, number in port.legend.items():
-        if NO_WORD & set(text):
-            port.notes.add(1, KNOW, f'text "{text}" has a comma or a colon: it is left out of the table')
+        if TWO.search(text):
+            port.notes.add(1, KNOW, f'text "{text}" has a number between a colon and a comma: it is left out of the table')
         elif text:
             kept.append(f"{text}:{number}")
     return ",".join(kept)

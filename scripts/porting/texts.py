@@ -5,12 +5,30 @@ from typing import Optional
 
 from porting.binding import subscripts_of, variable_of
 from porting.notes import DECIDE, KNOW, ByHand
+from porting.parse_expressions import TIGHTNESS
 from porting.places import Places
 from porting.tokens import harmless
-from porting.tree import Call, Conditional, Element, Expression, Member, Name, Parentheses, Text
-from porting.values import EQUALITY, Value
+from porting.tree import (
+    Assignment,
+    Call,
+    Conditional,
+    Declarator,
+    Element,
+    Expression,
+    Member,
+    Name,
+    Node,
+    Parentheses,
+    Text,
+    every,
+    flat,
+)
+from porting.values import EQUALITY, STORES, Value
 from porting.variables import Kind
-from porting.words import MACRO_VALUES, TEXT_COMPARISONS
+from porting.words import MACRO_VALUES, TEXT_COMPARISONS, TEXT_COPIES, TEXT_FORMATS
+
+# A text has fewer letters than this.
+LONGEST_TEXT = 39
 
 
 class Texts(Places):
@@ -107,10 +125,48 @@ class Texts(Places):
         """A comparison of two texts."""
         if len(node.arguments) < 2:
             raise ByHand(f"arguments of '{node.function}'")
+        if node.function == "strncmp" and len(node.arguments) > 2:
+            front = self.front_of(node)
+            if front is not None:
+                return self.begins_with(node, *front, sign)
         left, right = self.text(node.arguments[0]), self.text(node.arguments[1])
-        if node.function != "strcmp":
+        if node.function not in ("strcmp", "strncmp"):
             self.say(node, DECIDE, f"{node.function}: the whole texts are compared, letter by letter")
         return Value(f"{left.text} {sign} {right.text}", EQUALITY)
+
+    def front_of(self, node: Call) -> Optional[tuple[Expression, str]]:
+        """The text that `strncmp` looks at, and how it has to begin; None where both are compared as a whole."""
+        count = self.value(node.arguments[2]).constant
+        for one, other in ((node.arguments[0], node.arguments[1]), (node.arguments[1], node.arguments[0])):
+            known = self.known_text(other)
+            if known is not None and count is not None:
+                return (one, known[: int(count)]) if count <= len(known) else None
+        if count is None or count < LONGEST_TEXT:
+            raise ByHand("strncmp of a part of a text")
+        return None
+
+    def begins_with(self, node: Call, place: Expression, front: str, sign: str) -> Value:
+        """Whether a text begins with another one: it is one of those of the program that do."""
+        found = [it for it in self.texts_of_program() if it.startswith(front)]
+        if not found:
+            raise ByHand(f'strncmp: no text of the program begins with "{front}"')
+        text = self.text(place).text
+        if STORES.search(text) and len(found) > 1:
+            raise ByHand("strncmp of what stores")
+        self.say(node, DECIDE, f'strncmp: of the texts of the program those that begin with "{front}": {len(found)}')
+        tests = [f"{text} {sign} {self.listed_text(it)}" for it in found]
+        if len(tests) == 1:
+            return Value(tests[0], EQUALITY)
+        return Value((" || " if sign == "==" else " && ").join(tests), TIGHTNESS["||" if sign == "==" else "&&"])
+
+    def texts_of_program(self) -> list[str]:
+        """The texts that the program stores, or compares as a whole."""
+        found: dict[str, None] = {}
+        for node in every(self.program):
+            for it in stored_texts(node):
+                if isinstance(it, Text):
+                    found[it.text] = None
+        return list(found)
 
     def copied(self, node: Call) -> Value:
         """`strcpy` and its like: an assignment."""
@@ -131,3 +187,21 @@ class Texts(Places):
         """Refuses a call with too few arguments."""
         if len(node.arguments) < least:
             raise ByHand(f"arguments of '{node.function}'")
+
+
+def stored_texts(node: Node) -> list[Expression]:
+    """What is stored as a text, or compared as one, in a node itself."""
+    if isinstance(node, Declarator):
+        return flat(node.first_value) if node.variable.kind is Kind.TEXT else []
+    if isinstance(node, Conditional):
+        return [node.yes, node.no]
+    if isinstance(node, Assignment):
+        return [node.right]
+    if not isinstance(node, Call):
+        return []
+    if node.function in TEXT_FORMATS:
+        at = TEXT_FORMATS[node.function]
+        return node.arguments[at : at + 1]
+    if node.function in TEXT_COPIES:
+        return node.arguments[1:2]
+    return node.arguments[:2] if node.function in TEXT_COMPARISONS and node.function != "strncmp" else []

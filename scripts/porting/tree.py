@@ -133,6 +133,8 @@ class Call(Expression):
     arguments: list[Expression]
     # Whether it is a whole statement.
     alone: bool = False
+    # Whether it is a put with SYNC for which a state waits.
+    waits: bool = False
 
 
 @dataclass(eq=False)
@@ -143,6 +145,9 @@ class Block(Node):
 @dataclass(eq=False)
 class Plain(Node):
     """What stays as it is: `;`, `break;`, `continue;`, `state NAME;`, or event flags."""
+
+    # `break`, `continue` or `state`, where it begins so.
+    word: str
 
 
 @dataclass(eq=False)
@@ -173,6 +178,29 @@ class For(Node):
     # What stands in its head: each of the three may be missing.
     head: list[Optional[Expression]]
     body: Node
+
+
+@dataclass(eq=False)
+class Do(Node):
+    body: Node
+    condition: Expression
+
+
+@dataclass(eq=False)
+class Case(Node):
+    """A part of a `switch`."""
+
+    # None stands for `default`.
+    labels: list[Optional[Expression]]
+    # Where its last label ends, with the colon.
+    label_end: int
+    items: list[Node]
+
+
+@dataclass(eq=False)
+class Switch(Node):
+    value: Expression
+    sections: list[Case]
 
 
 @dataclass(eq=False)
@@ -295,3 +323,19 @@ class Program(Node):
     head_end: int
     semicolon: Optional[int]
     macros: Optional[Text]
+
+
+def every(node: Node) -> Iterator[Node]:
+    """A node and all that stand in it, in the order of the source."""
+    waiting = [node]
+    while waiting:
+        found = waiting.pop()
+        yield found
+        waiting += reversed(list(found.children()))
+
+
+def flat(value: Optional[Expression]) -> list[Expression]:
+    """The values of a first value, without its braces."""
+    if isinstance(value, Values):
+        return [one for it in value.items for one in flat(it)]
+    return [value] if value is not None else []

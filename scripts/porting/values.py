@@ -1,10 +1,11 @@
 """Values as they are written in the port: in which unit, and how they are brought to another one."""
+import re
 from dataclasses import dataclass, replace
 from fractions import Fraction
 from typing import Callable, Optional
 
 from porting.constants import LIMIT, decimals, nearest, quotient, shown
-from porting.notes import DECIDE, KNOW, ByHand
+from porting.notes import DECIDE, KNOW, UNITS, ByHand
 from porting.parse_expressions import PREFIX, TIGHTNESS, WHOLE
 from porting.tree import Expression
 from porting.variables import Kind
@@ -13,6 +14,10 @@ from porting.work import MOST_OF_UNIT, Work, unit_of
 PRODUCT, SUM = TIGHTNESS["*"], TIGHTNESS["+"]
 COMPARISON, EQUALITY = TIGHTNESS["<"], TIGHTNESS["=="]
 HALF_LIMIT = 9
+# What stands for a constant that has no room: nine of them still have.
+HUGE_NUMBER = 10**18
+# What is different when it is done twice.
+STORES = re.compile(r"\+\+|--|[^=!<>]=[^=]|\w\(")
 
 
 @dataclass(frozen=True)
@@ -90,11 +95,19 @@ class Arithmetic(Work):
     def constant_at(self, value: Value, digits: int, node: Expression) -> Value:
         """A constant in the unit 10^-digits."""
         exact = value.constant * 10**digits
+        if abs(exact) >= LIMIT and abs(value.constant) >= HUGE_NUMBER:
+            return self.huge(value, digits, node)
         whole = nearest(exact)
         if exact.denominator > 1:
             text = f"constant {shown(value.constant)} is rounded to {whole} in the unit {unit_of(digits)}"
-            self.say(node, DECIDE, text)
+            self.say(node, DECIDE, text, UNITS)
         return replace(number(whole, value.behind, Kind.QUANTITY, digits), constant=value.constant)
+
+    def huge(self, value: Value, digits: int, node: Expression) -> Value:
+        """A constant that has no room, as 1.0e30 for no value: a number that is more than any value."""
+        found = HUGE_NUMBER if value.constant > 0 else -HUGE_NUMBER
+        self.say(node, DECIDE, f"constant {shown(value.constant)} has no room in the unit {unit_of(digits)}: {found} stands for it")
+        return replace(number(found, value.behind, Kind.QUANTITY, digits), constant=value.constant)
 
     def truth(self, value: Value) -> Value:
         """A value as a condition."""
@@ -243,3 +256,12 @@ def computed(sign: str, left: int, right: int) -> Optional[int]:
     if sign == "<<" and 0 <= right < 63:
         return left << right
     return quotient(left, right) if sign == "/" and right else None
+
+
+def common_digits(yes: Value, no: Value, wanted: Optional[int]) -> int:
+    """The digits of two values of which one is taken."""
+    variable = [it.digits for it in (yes, no) if it.constant is None]
+    constant = [max(decimals(it.constant) or 0, wanted or 0) for it in (yes, no) if it.constant is not None]
+    if variable and wanted is not None:
+        return max(*variable, wanted)
+    return max(variable + constant)

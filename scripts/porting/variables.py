@@ -49,6 +49,13 @@ class Group:
     # Groups with how many digits more than theirs this one needs.
     finer_than: list[tuple["Group", int]] = field(default_factory=list)
     products: list[tuple["Group", "Group"]] = field(default_factory=list)
+    # What is added up in it: the factors of a step, the digits of its constant, and whether the sum itself is in it, as in a mean.
+    steps: list[tuple[tuple["Group", ...], int, bool]] = field(default_factory=list)
+    # Products that are stored in it as they are, and whether quantities are added up in it: then each of them is a step, too.
+    stored: list[tuple[tuple["Group", ...], int, bool]] = field(default_factory=list)
+    is_sum: bool = False
+    # Groups of which it is a square root.
+    roots: list["Group"] = field(default_factory=list)
     is_given: bool = False
     is_told: bool = False
     digits: int = 0
@@ -69,6 +76,10 @@ class Group:
             here.constants += there.constants
             here.finer_than += there.finer_than
             here.products += there.products
+            here.steps += there.steps
+            here.roots += there.roots
+            here.stored += there.stored
+            here.is_sum = here.is_sum or there.is_sum
 
 
 @dataclass(eq=False)
@@ -109,6 +120,8 @@ class Variable:
     is_text: bool = False
     members: "Optional[dict[str, Variable]]" = None
     group: Optional[Group] = None
+    # The number that is written in it, where it is a text of a channel from which one is read.
+    number: "Optional[Variable]" = None
 
     def __post_init__(self):
         self.new_name = self.new_name or self.name

@@ -6,7 +6,7 @@ WHOLE_TYPES = frozenset(
 QUANTITY_TYPES = frozenset({"float", "double"})
 TYPES = WHOLE_TYPES | QUANTITY_TYPES | {"string", "void", "struct", "enum"}
 # Types of C that SNL has as names: they count as types only where a name stands behind them.
-SOFT_TYPES = frozenset({"const", "static", "signed", "bool", "volatile", "register"})
+SOFT_TYPES = frozenset({"const", "static", "signed", "bool", "volatile", "register", "time_t", "epicsTimeStamp", "TS_STAMP"})
 # What `snc` calls by another name, since its largest type is `long`.
 LONG_TYPES = frozenset(
     {"int64_t", "uint64_t", "unsigned long", "long long", "unsigned long long", "long int", "unsigned long int"}
@@ -39,10 +39,25 @@ PRINTERS = {
     "errPrintf": 3,
 }
 TEXT_COPIES = frozenset({"strcpy", "strncpy", "epicsStrnCpy"})
+# Functions that empty an array.
+EMPTIERS = frozenset({"memset", "bzero"})
+# Functions that tell the time, and the member of a time stamp that has its seconds.
+CLOCKS = frozenset({"time", "epicsTimeGetCurrent"})
+SECONDS = "secPastEpoch"
+# Types of times: whole seconds here.
+TIMES = frozenset({"time_t", "epicsTimeStamp", "TS_STAMP"})
+# Functions that read a number from the front of a text.
+PARSERS = frozenset({"atoi", "atol", "atof"})
 # Functions that write a text by a format, with the place of the format.
 TEXT_FORMATS = {"sprintf": 1, "snprintf": 2, "epicsSnprintf": 2}
 TEXT_COMPARISONS = frozenset({"strcmp", "strncmp", "strcasecmp", "epicsStrCaseCmp"})
 MACRO_VALUES = frozenset({"macValueGet", "seqMacGet", "seqMacValGet"})
 ABSOLUTES = frozenset({"fabs", "abs", "labs", "fabsf"})
+# Functions that round to the nearest whole number.
+ROUNDERS = frozenset({"rint", "round", "nint", "lround"})
+# Questions about numbers of C that have one answer here.
+NEVER = {"isnan": "FALSE", "isinf": "FALSE", "finite": "TRUE", "isfinite": "TRUE"}
+# Constants that stand for no value, or for more than any.
+HUGE = ("DBL_MAX", "FLT_MAX", "HUGE_VAL", "INFINITY", "HUGE")
 # Functions of C whose result has no unit that anything tells.
-TRANSCENDENTAL = frozenset("sqrt sin cos tan asin acos atan atan2 exp log log10 pow hypot".split())
+TRANSCENDENTAL = frozenset("sqrt sin cos tan asin acos atan atan2 exp log log10 hypot".split())

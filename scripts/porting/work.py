@@ -1,6 +1,8 @@
 """What all parts of a port share: the tokens, the tree, the notes, and the changes of the text."""
 import re
 from dataclasses import dataclass, field
+from fractions import Fraction
+from typing import Optional
 
 from porting.notes import KNOW, Notes
 from porting.tokens import Token, harmless
@@ -24,6 +26,10 @@ class Settings:
     units: dict[str, int] = field(default_factory=dict)
     finer: int = 0
     is_sketch: bool = False
+    # Delays of quantities that are told apart, in seconds.
+    delays: tuple[Fraction, ...] = ()
+    # Whether a state is made that waits for the answer to a put with SYNC.
+    waits: bool = False
 
 
 class Work:
@@ -45,9 +51,9 @@ class Work:
             name += "_"
         return name
 
-    def say(self, node: Node, kind: str, text: str) -> None:
+    def say(self, node: Node, kind: str, text: str, worth: Optional[int] = None) -> None:
         """Notes a text for the line in which a node begins."""
-        self.notes.add(self.tokens[node.first].line, kind, text)
+        self.notes.add(self.tokens[node.first].line, kind, text, worth)
 
     def spelled(self, first: int, end: int) -> str:
         """The source from a token up to another one, without what stands in front of it."""

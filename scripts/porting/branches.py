@@ -1,0 +1,105 @@
+"""`switch` and `do`, which SNL has not here: a chain of `if`, and a `while` that is left at its end. Lines stay."""
+from typing import Iterator, Optional
+
+from porting.notes import ByHand
+from porting.statements import Statements
+from porting.tree import Block, Case, Do, For, Function, Node, Plain, Return, Switch, While
+from porting.values import EQUALITY, STORES, held
+
+
+class Branches(Statements):
+    """How branches of C are written."""
+
+    def of_c(self, node: Node, function: Optional[Function]) -> None:
+        """A `switch` or a `do`."""
+        try:
+            if isinstance(node, Switch):
+                self.switch(node, function)
+            else:
+                self.do_loop(node, function)
+        except ByHand as cause:
+            self.leave_statement(node, str(cause))
+
+    def switch(self, node: Switch, function: Optional[Function]) -> None:
+        """`switch`: a chain of `if` in a block."""
+        for case in node.sections:
+            self.refuse_case(case, case is node.sections[-1])
+        found = self.whole(self.value(self.kept_apart(node.value, "a 'switch': put it in front")))
+        tested, front = held(found, EQUALITY), "{"
+        if STORES.search(tested):
+            tested = self.free("chosen")
+            front = f"{{ long {tested} = {found.text};"
+        tests = [[f"{tested} == {self.label(it)}" for it in case.labels if it is not None] for case in node.sections]
+        self.change(node.first, node.value.end + 2, front)
+        for at, case in enumerate(node.sections):
+            test = " || ".join(tests[at])
+            is_last = at == len(node.sections) - 1
+            if None in case.labels:
+                others = [one for other, them in enumerate(tests) if other != at for one in them]
+                test = "" if is_last else " && ".join(it.replace("==", "!=", 1) for it in others)
+            head = ("else " if at else "") + (f"if ({test}) " if test or not at else "") + "{"
+            self.change(case.first, case.label_end, head.replace("if () ", "if (TRUE) "))
+            for it in case.items:
+                self.statement(it, function)
+            self.end_case(case)
+
+    def label(self, node) -> str:
+        """The constant behind `case`."""
+        return held(self.whole(self.value(node)), EQUALITY + 1)
+
+    def refuse_case(self, case: Case, is_last: bool) -> None:
+        """Refuses a case that goes on in the next one, or ends in its midst."""
+        end = end_of(case.items)
+        others = [it for it in jumps_in(case, "break") if it is not end]
+        if others:
+            raise ByHand("'switch' with 'break' inside of an 'if'")
+        if not is_last and not (is_jump(end, "break", "continue", "state") or isinstance(end, Return)):
+            raise ByHand("'switch' with a case that goes on in the next one")
+
+    def end_case(self, case: Case) -> None:
+        """The bracket that ends a case, in the place of its `break`."""
+        end = end_of(case.items)
+        if is_jump(end, "break"):
+            is_inner = end is not case.items[-1]
+            self.changes[end.first] = (end.end, "" if is_inner else "}")
+            if not is_inner:
+                return
+        last = case.items[-1].end if case.items else case.label_end
+        self.behind[last - 1] = self.behind.get(last - 1, "") + " }"
+
+    def do_loop(self, node: Do, function: Optional[Function]) -> None:
+        """`do`: a `while` that always goes on, and is left where the condition does not hold."""
+        if list(jumps_in(node, "continue")):
+            raise ByHand("'continue' inside of a 'do'")
+        is_block = isinstance(node.body, Block)
+        is_once = self.spelled(node.condition.first, node.condition.end) == "0" and not list(jumps_in(node, "break"))
+        self.statement(node.body, function, is_block)
+        head = "" if is_once else "while (TRUE)"
+        self.change(node.first, node.first + 1, head if is_block else f"{head} {{".lstrip())
+        behind = node.body.end - is_block
+        if is_once:
+            self.change(behind, node.end, "}")
+            return
+        self.condition(node.condition)
+        self.change(behind, node.condition.first, "if (!(")
+        self.change(node.condition.end, node.end, ")) break; }")
+
+
+def end_of(items: list[Node]) -> Optional[Node]:
+    """The last statement of some, and of the block that they end with."""
+    last = items[-1] if items else None
+    return end_of(last.items) if isinstance(last, Block) and last.items else last
+
+
+def is_jump(node: Optional[Node], *words: str) -> bool:
+    """Whether a statement is a jump by one of those words."""
+    return isinstance(node, Plain) and node.word in words
+
+
+def jumps_in(node: Node, word: str) -> Iterator[Node]:
+    """The jumps by a word that go out of a node, and not out of a loop in it."""
+    for it in node.children():
+        if is_jump(it, word):
+            yield it
+        elif not isinstance(it, (While, For, Do)) and not (isinstance(it, Switch) and word == "break"):
+            yield from jumps_in(it, word)
