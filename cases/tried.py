@@ -12,6 +12,10 @@ SLOW = (
     "snl run: a dome that hunts",
     "traces.cases: a trace of many pieces",
     "faults.cases: a step more than the budget of an instant",
+    "search.cases: a gate valve that goes to and fro",
+    "search.cases: a dwell of 0",
+    "search.cases: the trace that is written",
+    "search.cases: a trace that cannot be written",
 )
 
 

@@ -125,7 +125,10 @@ fn run_over<R: Source + Drop>(
 ) -> Result<CoverAnswer, Status>
     requires { R.failures trace < 2 ^ 64 - 1 }
 {
-    cover(rt.alloc(), source, &call.job, trace, Nowhere).map_err(|_| Status::Memory)
+    match cover(rt.alloc(), source, &call.job, trace, Nowhere) {
+        Ok(answer) => Ok(answer),
+        Err(_) => Err(Status::Memory),
+    }
 }
 
 /// Runs the program of a call over the trace in a file.

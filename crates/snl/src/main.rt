@@ -26,14 +26,16 @@ use snc::Status;
 use snc_cli::{source_in, tell, words_of, write};
 use snl_args::{Call, CallFault, Word, read_call};
 use std::process::ExitCode;
+use std::time::Instant;
 use waiting::answered_waits;
 
 /// The version of the programs, that of the file VERSION.
 const VERSION: &str = "0.9.0";
 
 fn main(rt: HostRuntime) -> ExitCode {
+    let begun = Instant::now(&rt).ok();
     let code = match call_of(&rt) {
-        Ok(call) => answered(&rt, &call),
+        Ok(call) => answered(&rt, &call, begun),
         Err(status) => status.code(),
     };
     ExitCode::from(code)
@@ -72,8 +74,8 @@ fn told(rt: &HostRuntime, fault: &CallFault) -> Status {
     }
 }
 
-/// Does what a call asks for. Answers the exit status.
-fn answered(rt: &HostRuntime, call: &Call) -> u8 {
+/// Does what a call asks for that began at a time. Answers the exit status.
+fn answered(rt: &HostRuntime, call: &Call, begun: Option<Instant>) -> u8 {
     let source = match source_in(rt, "snl", call.job.file.as_str()) {
         Ok(source) => source,
         Err(status) => return status.code(),
@@ -90,7 +92,7 @@ fn answered(rt: &HostRuntime, call: &Call) -> u8 {
         notes,
     };
     match &call.search {
-        Some(words) => answered_search(rt, asked, words),
+        Some(words) => answered_search(rt, asked, words, begun),
         None => code_of(answered_word(rt, asked)),
     }
 }

@@ -5,28 +5,34 @@ use crate::outputs::{write_suite, write_trace};
 use snc::{Judgement, Status, judged, macros_of};
 use snc_cli::write;
 use snl_args::{Call, ChannelValues, SearchWords};
-use snl_search::{Bounds, Scouts, SearchAnswer, Watches, WishFault, WishedValues, Wishes, search};
+use snl_search::{
+    Bounds, Scouts, SearchAnswer, Verdict, Watches, WishFault, WishedValues, Wishes, search,
+};
 use std::alloc::{AllocError, Global};
 use std::fs::File;
 use std::io::{ErrorKind, IsTerminal};
 use std::time::{Duration, Instant};
 
+/// The check takes at most this part of the time that was searched before: it does each line once, and keeps no world.
+const CHECK: u32 = 2;
+
 /// The clock of a search, which tells once a second how far it has come where standard error is a terminal.
 #[derive(Drop)]
 struct Clock<'c> {
     rt: &'c HostRuntime,
-    /// When it began; None where there is no clock.
+    /// When the call began; None where there is no clock.
     begun: Option<Instant>,
     /// When that was told last.
     told: Option<Instant>,
-    /// How long it may take: half of the time, since the check behind it takes no longer.
+    /// How long the call may take.
     most: Duration,
+    /// How long it takes at most to check the levels that are whole.
+    check: Duration,
 }
 
 impl<'c> Clock<'c> {
-    /// A search that begins now.
-    fn new(rt: &'c HostRuntime, seconds: u32) -> Self {
-        let begun = Instant::now(rt).ok();
+    /// The clock of a call that began at a time.
+    fn new(rt: &'c HostRuntime, begun: Option<Instant>, seconds: u32) -> Self {
         let told = if rt.stderr().is_terminal() {
             begun
         } else {
@@ -36,7 +42,8 @@ impl<'c> Clock<'c> {
             rt,
             begun,
             told,
-            most: Duration::from_millis(u64::from(seconds) * 500),
+            most: Duration::from_secs(u64::from(seconds)),
+            check: Duration::from_secs(0),
         }
     }
 }
@@ -67,7 +74,23 @@ impl Watches for Clock<'_> {
             return true;
         };
         tell_progress(self.rt, &mut self.told, now, worlds, levels);
-        now.duration_since(begun) < self.most
+        now.duration_since(begun).saturating_add(self.check) < self.most
+    }
+
+    fn has_time(&mut self) -> bool {
+        let Some(begun) = self.begun else {
+            return true;
+        };
+        let Ok(now) = Instant::now(self.rt) else {
+            return true;
+        };
+        let passed = now.duration_since(begun);
+        let check = passed / CHECK;
+        let has_time = passed.saturating_add(check) < self.most;
+        if has_time {
+            self.check = check;
+        }
+        has_time
     }
 }
 
@@ -156,6 +179,10 @@ fn told_fault(rt: &HostRuntime, words: &SearchWords, fault: &WishFault) -> u8 {
             let _ = eprintln!(rt; "{name}:{fault}");
             Status::TraceFault.code()
         }
+        (WishFault::Late | WishFault::Large, _) => {
+            let _ = eprintln!(rt; "snl: {fault}");
+            Verdict::Stopped.code()
+        }
         _ => {
             let _ = eprintln!(rt; "snl: {fault}");
             Status::Usage.code()
@@ -169,34 +196,40 @@ fn searched<T: Scouts + Drop>(
     checked: Box<T>,
     call: &Call,
     words: &SearchWords,
+    begun: Option<Instant>,
 ) -> u8 {
     let wishes = match wished(rt, words) {
         Ok(wishes) => wishes,
         Err(status) => return status.code(),
     };
     let macros = macros_of(&call.job);
-    let mut clock = Clock::new(rt, words.seconds);
+    let clock = Clock::new(rt, begun, words.seconds);
     match search(
         rt.alloc(),
         checked,
         &macros,
         call.job.budget,
         &wishes,
-        &mut clock,
+        clock,
     ) {
         Ok(answer) => told_answer(rt, words, &answer),
         Err(fault) => told_fault(rt, words, &fault),
     }
 }
 
-/// `snl search`. Answers the status. The messages come behind the answer.
-pub fn answered_search(rt: &HostRuntime, asked: Asked, words: &SearchWords) -> u8 {
+/// `snl search`, of a call that began at a time. Answers the status. The messages come behind the answer.
+pub fn answered_search(
+    rt: &HostRuntime,
+    asked: Asked,
+    words: &SearchWords,
+    begun: Option<Instant>,
+) -> u8 {
     let Asked { source, call, .. } = asked;
     let file = call.job.file.as_bytes();
     match judged(rt.alloc(), source, file, call.job.options) {
         Ok(Judgement { messages, checked }) => {
             let code = match checked {
-                Some(checked) => searched(rt, checked, call, words),
+                Some(checked) => searched(rt, checked, call, words, begun),
                 None => Status::SourceErrors.code(),
             };
             if code != Status::Memory.code() {

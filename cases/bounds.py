@@ -1,0 +1,93 @@
+"""Cases of the bounds of `snl search` that no file of cases can have: how long a call takes, and how much memory."""
+import re
+import subprocess
+import tempfile
+import time
+from dataclasses import dataclass
+from pathlib import Path
+from typing import Callable
+
+from case import SECONDS
+from memory import peak
+
+# How many seconds a call may take beyond its bound: the cases run beside others.
+SLACK = 2
+# How many kilobytes a program takes that searches nothing.
+ITSELF = 4_000
+
+# Two state sets count what comes, so there is always a world that was not reached before.
+COUNTERS = """program counters option +s;
+int x; assign x to "X"; monitor x;
+int y; assign y to "Y"; monitor y;
+int n, m;
+ss one { state s { when (x > n) { n++; } state t when (delay(1)) { n += 2; } state t } state t { when (delay(2)) {} state s } }
+ss two { state s { when (y > 3) { m++; } state t } state t { when (delay(3)) { m += n; } state s } }
+"""
+# Where X is 1 an instant has no end but that of the budget.
+SPINNING = """program spinning option +s;
+int x; assign x to "X"; monitor x;
+ss a { state one { when (x) {} state two } state two { when (x) {} state one } }
+"""
+
+
+@dataclass
+class Bound:
+    name: str
+    # Gets the programs and a folder, and gives what is wrong, or nothing.
+    check: Callable
+    tool: str = "snl"
+    # Whether it measures memory, of which a build of bin/try has its own.
+    of_memory: bool = False
+
+    def failure(self, programs):
+        with tempfile.TemporaryDirectory(prefix="snlrun-") as folder:
+            wrong = self.check(programs, Path(folder))
+        return f"FAILED {self.name}\n  {wrong}" if wrong else None
+
+
+def cases():
+    yield Bound("snl search: --seconds holds while worlds are reached and checked", lambda *it: ends(*it, COUNTERS, 4, "--lines", "99"))
+    yield Bound("snl search: --seconds cuts an instant that takes longer", lambda *it: ends(*it, SPINNING, 1, "--budget", "1000000000"))
+    yield Bound("snl search: --seconds holds while a recorded trace is read", endless)
+    yield Bound("snl search: --memory holds", memory, of_memory=True)
+
+
+def searched(programs, folder, source, words, stdin=subprocess.DEVNULL):
+    """The answer of a search, what it said on standard error, its status and the seconds that it took."""
+    (folder / "p.st").write_text(source)
+    begun = time.monotonic()
+    ran = subprocess.run([programs["snl"], "search", *words, "p.st"], cwd=folder, stdin=stdin, capture_output=True, text=True, timeout=SECONDS)
+    return ran.stdout, ran.stderr, ran.returncode, time.monotonic() - begun
+
+
+def ends(programs, folder, source, seconds, *words):
+    """A search that is not whole ends in time, and says so; what it says is certain was checked."""
+    out, _, status, took = searched(programs, folder, source, ["--seconds", str(seconds), *words])
+    last = out.splitlines()[-1] if out else ""
+    if status != 7 or not re.match(r"not all was seen: (none up to \d+ lines? \(|nothing found in \d+ worlds?, 0 whole levels \(not certified)", last):
+        return f"status {status}, {last!r}"
+    return "" if took < seconds + SLACK else f"{took:.1f} seconds, and {seconds} were said"
+
+
+def endless(programs, folder):
+    """A recorded trace that has no end is not read for ever."""
+    with subprocess.Popen(["yes", "0 tick"], stdout=subprocess.PIPE) as lines:
+        out, said, status, took = searched(programs, folder, SPINNING, ["--seconds", "1", "--like", "/dev/stdin"], lines.stdout)
+        lines.kill()
+    wanted = "snl: not all was seen: time was over before the channels and their values were gathered\n"
+    if (out, said, status) != ("", wanted, 7):
+        return f"status {status}, {out!r}, {said!r}"
+    return "" if took < 1 + SLACK else f"{took:.1f} seconds, and 1 was said"
+
+
+def memory(programs, folder):
+    """A search takes no more than a tenth more than was said."""
+    (folder / "p.st").write_text(COUNTERS)
+    for megabytes in (20, 60):
+        words = ["search", "--memory", str(megabytes), "--lines", "99", "--seconds", "50", "p.st"]
+        ran = peak([programs["snl"], *words], folder, subprocess.DEVNULL)
+        if ran.status != 7 or not ran.last.startswith("not all was seen: none up to "):
+            return f"status {ran.status}, {ran.last!r}"
+        if not megabytes * 500 < ran.kilobytes < megabytes * 1_100 + ITSELF:
+            return f"{ran.kilobytes} kilobytes, and {megabytes} megabytes were said"
+    return ""
