@@ -57,10 +57,10 @@ def wrong_of_minutes(root):
     page = (root / "docs/DEVELOPING.md").read_text()
     longest = int(re.search(r"a proof of at most (\d+) minutes", page)[1])
     yield from (f"FAILED docs/DEVELOPING.md: the proof of {name} takes {it} minutes" for name, it in minutes.items() if it > longest)
-    for name, told in (("README.md", (root / "README.md").read_text()), ("docs/DEVELOPING.md", page)):
-        every = int(re.search(r"some (\d+) minutes of a processor", told)[1])
-        if abs(every - sum(minutes.values())) > 20:
-            yield f"FAILED {name}: proofs and tests take {sum(minutes.values()):.0f} minutes of a processor"
+    # Those of costs.txt were taken beside other work: alone they are a fifth less at most.
+    every = int(re.search(r"some (\d+) minutes of a processor", page)[1])
+    if not 0.8 * sum(minutes.values()) <= every <= sum(minutes.values()):
+        yield f"FAILED docs/DEVELOPING.md: proofs and tests take {sum(minutes.values()):.0f} minutes of a processor"
     untold = {it for it in below if not it.endswith("_tests")} ^ {name for name, _, _ in rows_of_stale(page)}
     yield from (f"FAILED docs/DEVELOPING.md: what a change of {it} makes stale does not stand there" for it in sorted(untold))
     for name, proof, stale in rows_of_stale(page):

@@ -1,7 +1,8 @@
 """Memory. A run takes none: snlrun asks for it as often over a trace of one line as over one of ten thousand. And each request of a
 call may be refused: the status is 4 then, nothing is written to any stream or file, and nothing of the trace is read, but by `snl`,
-which makes its answer behind the trace, and whose word `run` may have begun its lines. A call that answers otherwise than it has to,
-or whose requests nobody counted, is a failure, too.
+which makes its answer behind the trace, and whose word `run` may have begun its lines. A run that is folded may go on without the
+memory for a block: its lines stand for the same then. A file that a search cannot write is told, behind the answer. A call that
+answers otherwise than it has to, or whose requests nobody counted, is a failure, too.
 Where memory ends while tables are written, a beginning of them is left: no program shows that, so a test of snl_tests tells it."""
 import os
 import re
@@ -12,6 +13,8 @@ from dataclasses import dataclass
 from functools import lru_cache
 from pathlib import Path
 from typing import Callable, NamedTuple
+
+from folds import VALVE, unfolded
 
 HERE = Path(__file__).resolve().parent
 TABLES = HERE.parent / "docs/TABLES.md"
@@ -46,6 +49,8 @@ SOURCES = {
     "warned.st": SOURCE.replace("option +s;", "option -s; option +u; int unused;"),
     "waiting.st": SOURCE.replace('"q"', '"quiet"').replace('"p"', '"pp"'),
     "safe.st": SAFE,
+    # It opens and shuts until its budget is spent, in blocks that are folded.
+    "valve.st": VALVE.replace("V:P", "a").replace("V:OPEN", "p"),
     # No trace of a search, so it is not written over.
     "notes": "mine\n",
     "faulty.st": SAFE.replace("{} state b }", "{ x = 1 / (x - 6); } state b }"),
@@ -76,7 +81,7 @@ CALLS = (
     Call("snlrun", ["byte.st"], 1, 20, 1),
     Call("snc", ["--tables", "ten.st"], 1, 100, 2),
     Call("snlrun", ["warned.st"], 0, 100, 2),
-    Call("snc", ["functions.st"], 0, 100, 1),
+    Call("snc", ["--tables", "functions.st"], 0, 100, 1),
     Call("snlrun", ["functions.st"], 0, 100, 1),
     Call("snc", ["missing.st"], 3, 10, 1),
     Call("snc", ["--help"], 0, 10, 1),
@@ -89,7 +94,8 @@ CALLS = (
     Call("snl", ["cover", "--fail-under", "100", "r.st"], 1, 100, 1),
     Call("snl", ["graph", "warned.st"], 0, 100, 2),
     Call("snl", ["wait", "r.st"], 2, 5, 6),
-    Call("snl", ["run", "r.st"], 0, 100, 1),
+    Call("snl", ["run", "r.st"], 0, 100, 6),
+    Call("snl", ["run", "--budget", "40", "valve.st"], 5, 300, 3),
     Call("snl", ["run", "--whole", "functions.st"], 0, 100, 1),
     Call("snl", ["search", "--lines", "1", "safe.st"], 0, 300, 1),
     Call("snl", ["search", "--lines", "1", "--out", "found", "faulty.st"], 1, 300, 1, "found"),
@@ -101,6 +107,7 @@ INPUT_OUTPUT, OUT_OF_MEMORY = 3, 4
 NEVER = 10**9
 WITHOUT = "the answer is the same without it"
 UNWRITTEN = "the answer stands there, and it is told that the file could not be written"
+LATER = "the lines stand for the same, and a block is folded later"
 # The test of `snl_tests`, what it writes with the tables that are left where their call failed, and its status then.
 TEST = "tests::beginnings::tables_or_their_beginning"
 LEFT = re.compile(rb"left: (.*)\nthe test failed: [^\n]+\n", re.DOTALL)
@@ -172,7 +179,7 @@ def answered_otherwise(call, programs, folder):
     if not plain.wrote:
         yield "nothing is written where none is refused"
     found = [wrong_of(call, refused(program, folder, call, number), plain) for number in range(1, count + 1)]
-    let_through = {UNWRITTEN, *([WITHOUT] if found.count(WITHOUT) <= call.free else [])}
+    let_through = {UNWRITTEN, LATER, *([WITHOUT] if found.count(WITHOUT) <= call.free else [])}
     yield from (f"request {number} of {count} refused: {said}" for number, said in enumerate(found, 1) if said and said not in let_through)
     if call.written and not (plain.files and UNWRITTEN in found):
         yield f"{call.written} is not written, or no request comes while it is: {[*plain.files]}"
@@ -214,18 +221,30 @@ def refused(program, folder, call, number):
     """The answer of a call where a request is refused. What an earlier one wrote is taken away before it."""
     if call.written:
         shutil.rmtree(folder / call.written) if (folder / call.written).is_dir() else (folder / call.written).unlink(missing_ok=True)
-    before = contents(folder)
+    before = seen(folder)
     with open(folder / "trace", "rb") as stdin:
         run = called(program, folder, call.words, {"REFUSED": str(number)}, stdin=stdin)
         read = os.lseek(stdin.fileno(), 0, os.SEEK_CUR)
-    after = contents(folder)
-    files = {it: after.get(it) for it in {*before, *after} if before.get(it) != after.get(it)}
+    after = seen(folder)
+    changed = sorted(it for it in {*before, *after} if before.get(it) != after.get(it))
+    files = {os.path.relpath(it, folder): contents(it) for it in changed}
     return Answer(run.returncode, run.stdout, run.stderr, files, read)
 
 
-def contents(folder):
-    """The files below a folder with their bytes; a folder has none."""
-    return {str(it.relative_to(folder)): it.read_bytes() if it.is_file() else b"" for it in folder.rglob("*")}
+def seen(folder):
+    """What is below a folder: of each file its size and time."""
+    found = {}
+    for it in os.scandir(folder):
+        found[it.path] = () if it.is_dir() else (it.stat().st_size, it.stat().st_mtime_ns)
+        found.update(seen(it.path) if it.is_dir() else {})
+    return found
+
+
+def contents(path):
+    """The bytes of a file; a folder has none, and None stands for what is gone."""
+    if os.path.isdir(path):
+        return b""
+    return Path(path).read_bytes() if os.path.exists(path) else None
 
 
 def wrong_of(call, answer, plain):
@@ -235,11 +254,19 @@ def wrong_of(call, answer, plain):
     unwritten = INPUT_OUTPUT, plain.stdout, f"snl: cannot write {call.written}: out of memory\n".encode()
     if call.written and answer[:3] == unwritten and answer.files.items() <= plain.files.items():
         return UNWRITTEN
-    begun = call.words[0] == "run" and plain.stdout.startswith(answer.stdout) and answer.stdout[-1:] in (b"", b"\n")
+    is_run, is_folded = call.words[:1] == ["run"], "--whole" not in call.words
+    if is_run and is_folded and (answer.status, answer.stderr, answer.files) == (plain.status, b"", {}) and lines(answer) == lines(plain):
+        return LATER
+    begun = is_run and plain.stdout.startswith(answer.stdout) and answer.stdout[-1:] in (b"", b"\n")
     is_silent = not (answer.stderr or answer.files) and (begun or not answer.stdout)
     if answer.status == OUT_OF_MEMORY and is_silent and (answer.read == 0 or call.tool == "snl"):
         return None
     return f"status {answer.status}, {answer.stdout!r}, {answer.stderr!r}, {answer.files}, {answer.read} bytes read"
+
+
+def lines(answer):
+    """The lines that a run stands for, without their times."""
+    return unfolded(answer.stdout.decode().splitlines())
 
 
 def counted(program, folder, words, trace):
