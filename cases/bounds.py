@@ -23,10 +23,10 @@ int n, m;
 ss one { state s { when (x > n) { n++; } state t when (delay(1)) { n += 2; } state t } state t { when (delay(2)) {} state s } }
 ss two { state s { when (y > 3) { m++; } state t } state t { when (delay(3)) { m += n; } state s } }
 """
-# Where X is 1 an instant has no end but that of the budget.
-SPINNING = """program spinning option +s;
+# It wakes each millisecond, and so a line that comes after 10^12 of them runs past as many wakes.
+WAKING = """program waking option +s;
 int x; assign x to "X"; monitor x;
-ss a { state one { when (x) {} state two } state two { when (x) {} state one } }
+ss a { state one { when (delay(0.001)) {} state two } state two { when (delay(0.001)) {} state one } }
 """
 
 
@@ -47,7 +47,7 @@ class Bound:
 
 def cases():
     yield Bound("snl search: --seconds holds while worlds are reached and checked", lambda *it: ends(*it, COUNTERS, 4, "--lines", "99"))
-    yield Bound("snl search: --seconds cuts an instant that takes longer", lambda *it: ends(*it, SPINNING, 1, "--budget", "1000000000"))
+    yield Bound("snl search: --seconds cuts a line that runs past too many wakes", lambda *it: ends(*it, WAKING, 1, "--gaps", "1000000000000"))
     yield Bound("snl search: --seconds holds while a recorded trace is read", endless)
     yield Bound("snl search: --memory holds", memory, of_memory=True)
 
@@ -72,7 +72,7 @@ def ends(programs, folder, source, seconds, *words):
 def endless(programs, folder):
     """A recorded trace that has no end is not read for ever."""
     with subprocess.Popen(["yes", "0 tick"], stdout=subprocess.PIPE) as lines:
-        out, said, status, took = searched(programs, folder, SPINNING, ["--seconds", "1", "--like", "/dev/stdin"], lines.stdout)
+        out, said, status, took = searched(programs, folder, WAKING, ["--seconds", "1", "--like", "/dev/stdin"], lines.stdout)
         lines.kill()
     wanted = "snl: not all was seen: time was over before the channels and their values were gathered\n"
     if (out, said, status) != ("", wanted, 7):
