@@ -9,6 +9,7 @@ import re
 import shutil
 import subprocess
 import tempfile
+import threading
 from dataclasses import dataclass
 from functools import lru_cache
 from pathlib import Path
@@ -114,6 +115,8 @@ LEFT = re.compile(rb"left: (.*)\nthe test failed: [^\n]+\n", re.DOTALL)
 FAILED = 101
 # Of its requests so many are of no weight: it has a warning, and so messages that are let through (`Call.free`).
 FREE = 1
+# Who makes requests.so.
+MAKING = threading.Lock()
 
 
 @dataclass
@@ -146,8 +149,14 @@ def cases():
     yield Memory(f"requests.py: {TEST}", lambda programs, folder: tables_left(programs["snl_tests"], folder), "snlrun")
 
 
-@lru_cache
 def built():
+    """The folder of requests.so. Cases run beside each other, and one alone makes it: another one's would go with its last user."""
+    with MAKING:
+        return made()
+
+
+@lru_cache
+def made():
     """The folder of requests.so, which the compiler of the kit makes, beside the page that `rt doc` names; else that of the machine."""
     page = subprocess.run(["rt", "doc"], stdout=subprocess.PIPE, text=True).stdout.strip()
     clang = Path(page).parent / "toolchain/bin/clang"
