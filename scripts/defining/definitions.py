@@ -3,7 +3,7 @@ from defining import library, values
 from defining.names import Names
 from defining.parser import clause_of
 from defining.sources import NotUnderstood
-from defining.writing import Writer, library_name, python_name
+from defining.writing import Writer, inner_name, library_name, python_name
 
 # Definitions whose answers are kept while a program is run: they are asked the same again and again. What they give follows from what
 # they are given alone, as with all definitions.
@@ -68,6 +68,7 @@ class Definitions:
         exec(compile("\n".join(lines), str(key), "exec"), self.space)
         for codes, text in self.texts.items():
             self.space.setdefault(text, values.listed(list(codes)))
+        self.space[inner_name(key)] = self.space[name]
         if key.name in REMEMBERED or not takes:
             self.space[name] = self.remembering(self.space[name])
 
@@ -77,7 +78,7 @@ class Definitions:
         try:
             if len(patterns) != self.takes[key]:
                 raise NotUnderstood(f"it takes {self.takes[key]} arguments, and here {len(patterns)}")
-            writer, tests, scope = Writer(self.names, file, self.need, self.texts), [], {}
+            writer, tests, scope = Writer(self.names, file, self.need, self.texts, key), [], {}
             for at, pattern in enumerate(patterns):
                 writer.match(pattern, f"a{at}", tests, scope)
             text = writer.text(term, scope)

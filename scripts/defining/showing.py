@@ -3,7 +3,7 @@ from itertools import islice
 
 from defining.sources import NotUnderstood
 from defining.values import Function, Record, items_of
-from defining.writing import python_name
+from defining.writing import inner_name, python_name
 
 # So long is what is shown of a value at most, and so many levels of brackets.
 LONGEST, DEEPEST = 240, 5
@@ -76,9 +76,9 @@ class Calls:
     def __init__(self, definitions, name, most):
         """Puts a listener in the place of the definition, which hears so many calls."""
         self.key, self.most, self.heard, self.count = named(definitions, name), most, [], 0
-        place = python_name(self.key)
-        self.function = definitions.space[place]
-        definitions.space[place] = self.call
+        self.function = definitions.space[python_name(self.key)]
+        for place in (python_name(self.key), inner_name(self.key)):
+            definitions.space[place] = self.call
         self.name = self.key.name
 
     def call(self, *arguments):

@@ -6,13 +6,15 @@ import re
 from dataclasses import dataclass
 
 from defining.sources import NotUnderstood
-from defining.values import NONE, Record, listed, some
+from defining.values import NIL, NONE, Record, listed, some
 from defining.writing import attribute
 
 CRATE = "snl_syntax"
 MODULES = ("Expressions", "Declarations", "Statements", "Functions", "Definitions", "Programs")
-# The tree that is the last one.
+# The form of the last row.
 WHOLE = "ProgramTree"
+# Rows of lists, with how many parts they have.
+LISTS = {"nil": 0, "cons": 2}
 
 
 class BadTree(Exception):
@@ -49,9 +51,7 @@ class Trees:
 
     def __init__(self, names):
         """With the forms of the files of definitions of a repository."""
-        found = [it for module in MODULES for it in types_in(names.file(CRATE, module))]
-        self.forms = {it.name: it for it in found}
-        self.ends = {it.type: (it.name,) for it in found if it.type.endswith("List") and not it.parts}
+        self.forms = {it.name: it for module in MODULES for it in types_in(names.file(CRATE, module))}
 
     def program(self, text):
         """The tree of a program, of the text that `snl tree` wrote."""
@@ -59,70 +59,66 @@ class Trees:
             rows = json.loads(text)
         except ValueError as failed:
             raise BadTree(f"this is no JSON: {failed}") from None
-        if not isinstance(rows, list) or not rows:
-            raise BadTree("this is no list of trees")
-        made = []
+        if not isinstance(rows, list):
+            raise BadTree("this is no list of rows")
+        made = [("", None)]
         for row in rows:
-            made.append(self.node(row, made))
+            made.append(self.tree(row, made))
         form, tree = made[-1]
         if form != WHOLE:
-            raise BadTree(f"the last tree is {form}, and not {WHOLE}")
+            raise BadTree(f"the last row is no {WHOLE}")
         return tree
 
-    def node(self, row, made):
-        """A tree of those made before it, with the type that it has."""
-        form = self.form_of(row)
-        values = self.values_of(form, form.parts, row, made)
+    def tree(self, row, made):
+        """The tree of a row, with the type that it has; the rows before it were made."""
+        if not isinstance(row, list) or not row:
+            raise BadTree(f"this is no row: {row!r:.80}")
+        name, *parts = row
+        if name in LISTS and len(parts) == LISTS[name]:
+            return self.list_of(parts, made)
+        form = self.forms.get(name) if isinstance(name, str) else None
+        if not form or len(form.parts) != len(parts):
+            raise BadTree(f"there is no such tree: {row!r:.80}")
+        values = [self.value(type_text, part, made) for type_text, part in zip(form.parts, parts)]
         if form.names:
             return form.type, Record(**dict(zip(map(attribute, form.names), values)))
         return form.type, (form.name, *values)
 
-    def form_of(self, row):
-        """The form that a row says that it has."""
-        if not isinstance(row, dict) or row.keys() != {"form", "of"} or row["form"] not in self.forms:
-            raise BadTree(f"this is no tree: {row!r:.80}")
-        return self.forms[row["form"]]
+    def list_of(self, parts, made):
+        """A list: nothing, or its first thing and the rest, with the type of its things."""
+        if not parts:
+            return "List", NIL
+        first, rest = parts
+        kind, thing = ("Token", token_of(first)) if isinstance(first, list) else self.made_by(first, made)
+        kinds, things = self.made_by(rest, made)
+        if kinds not in ("List", f"List {kind}"):
+            raise BadTree(f"these belong to no list: {kind} and {kinds}")
+        return f"List {kind}", (thing, things)
 
-    def values_of(self, form, types, row, made):
-        """The values of the parts of a tree, by their types."""
-        parts = row["of"]
-        if not isinstance(parts, list) or len(parts) != len(types):
-            raise BadTree(f"{form.name} has {len(types)} parts: {row!r:.80}")
-        return [self.value(type_text, part, made) for type_text, part in zip(types, parts)]
+    def made_by(self, number, made):
+        """The tree of the row with a number, with its type."""
+        if type(number) is not int or not 1 <= number < len(made):
+            raise BadTree(f"no row before has the number {number!r:.80}")
+        return made[number]
 
     def value(self, type_text, part, made):
-        """A value of a type: a token, a truth value, something that may be missing, a list, or a tree by its number."""
+        """A value of a type: a token, a truth value, something that may be missing, or a tree by the number of its row."""
         word, _, inner = type_text.partition(" ")
         if word == "Option":
             return NONE if part is None else some(self.value(inner, part, made))
-        if word == "List" and isinstance(part, list):
-            return listed([self.value(inner, it, made) for it in part])
-        if word.endswith("List") and isinstance(part, list):
-            return self.row(word, part, made)
         if word == "Bool" and isinstance(part, bool):
             return part
-        if word == "Token" and isinstance(part, dict):
+        if word == "Token":
             return token_of(part)
-        if type(part) is int and 0 <= part < len(made) and made[part][0] == word:
-            return made[part][1]
-        raise BadTree(f"this is no {type_text}: {part!r:.80}")
-
-    def row(self, type_name, members, made):
-        """A list that is a type of its own: each member is a form with the rest behind its parts."""
-        rest = self.ends[type_name]
-        for at, member in enumerate(reversed(members)):
-            form = self.form_of(member)
-            has_rest = form.parts[-1:] == [type_name]
-            if form.type != type_name or not has_rest and at:
-                raise BadTree(f"this is no member of {type_name}: {member!r:.80}")
-            values = self.values_of(form, form.parts[:-1] if has_rest else form.parts, member, made)
-            rest = (form.name, *values, rest) if has_rest else (form.name, *values)
-        return rest
+        found, tree = self.made_by(part, made)
+        if found not in (type_text, "List") or found == "List" and word != "List":
+            raise BadTree(f"row {part} is {found}, and not {type_text}")
+        return tree
 
 
 def token_of(part):
     """A token: its kind, its text, a letter a byte, and its place."""
-    if part.keys() != {"kind", "text", "offset", "file", "line"}:
+    if not isinstance(part, list) or list(map(type, part)) != [str, str, int, int, int]:
         raise BadTree(f"this is no token: {part!r:.80}")
-    place = Record(offset=part["offset"], file=part["file"], line=part["line"])
-    return Record(kind=(part["kind"],), text=Record(now=listed(list(part["text"].encode("latin-1")))), pos=place)
+    kind, text, offset, file, line = part
+    return Record(kind=(kind,), text=Record(now=listed(list(text.encode("latin-1")))), pos=Record(offset=offset, file=file, line=line))

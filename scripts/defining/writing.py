@@ -22,6 +22,11 @@ def python_name(key):
     return attribute(f"{key.crate}__{key.module}__{key.name}".replace(".", "_"))
 
 
+def inner_name(key):
+    """The name by which a definition calls itself: what it gives on the way is not kept."""
+    return f"inner_{python_name(key)}"
+
+
 def library_name(name):
     """The Python name of what the standard library has."""
     return "library_" + attribute(name)
@@ -37,9 +42,9 @@ def fields_of(text, fields):
 class Writer:
     """Writes one clause of a file of definitions. `need` has to know how many arguments a definition takes."""
 
-    def __init__(self, names, file, need, texts):
-        """For a clause in this file; texts that it has are put into a dictionary."""
-        self.names, self.file, self.need, self.texts = names, file, need, texts
+    def __init__(self, names, file, need, texts, own):
+        """For a clause of a definition in this file; texts that it has are put into a dictionary."""
+        self.names, self.file, self.need, self.texts, self.own = names, file, need, texts, own
 
     # ---- patterns
 
@@ -203,7 +208,8 @@ class Writer:
         if isinstance(meaning, Library):
             name, takes = library_name(meaning.name), NAMES[meaning.name][0]
         else:
-            name, takes = python_name(meaning), self.need(meaning)
+            takes = self.need(meaning)
+            name = inner_name(meaning) if meaning == self.own else python_name(meaning)
         if len(arguments) < takes:
             given = f", ({', '.join(arguments)},)" if arguments else ""
             return f"Function({name}, {takes - len(arguments)}{given})"
