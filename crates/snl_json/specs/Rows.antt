@@ -23,13 +23,13 @@ abbrev pub letters : List ℕ → List ℕ
 letters text = flat_map encode_utf8 text
 
 -- A token: its kind, its text and its place, which is an offset, a file and a line.
-abbrev pub token_data : Token → Data
+unfoldable pub token_data : Token → Data
 token_data t =
     array (item (string (kind_name t.kind)) (item (string (letters t.text.now))
     (item (counted t.pos.offset) (item (counted t.pos.file) (item (counted t.pos.line) no_items)))))
 
 -- A part of a row: a tree by the number of its row, nothing, whether something is written, or a token.
-abbrev pub part_data : Part → Data
+unfoldable pub part_data : Part → Data
 part_data (part.Tree n) = counted n
 part_data part.Missing = null
 part_data (part.Flag b) = boolean b
@@ -40,11 +40,11 @@ abbrev pub parts_listed : List Part → List Data
 parts_listed parts = map part_data parts
 
 -- A row of a form with its parts, behind others.
-abbrev pub with_row : List ℕ → List Part → List Data → List Data
+unfoldable pub with_row : List ℕ → List Part → List Data → List Data
 with_row form parts rows = rows ++ array (items_of (string form ∷ parts_listed parts)) ∷ []
 
 -- The tree of the last row.
-abbrev pub last : List Data → Part
+unfoldable pub last : List Data → Part
 last rows = part.Tree (length rows)
 
 -- A token that may be missing.

@@ -1,8 +1,8 @@
 //! The rows of declarations.
 
-ghost use Rattle.std.specs.Prelude.{◌≡◌, map, IfOk, OnOk};
+ghost use Rattle.std.specs.Prelude.{◌≡◌, false, map, IfOk, OnOk};
 ghost use Rattle.snl_syntax.specs.view.Expressions.{boxed};
-ghost use Rattle.snl_syntax.specs.view.Declarations.{type_view, values_view, initialiser_view, declarator_view, declaration_view};
+ghost use Rattle.snl_syntax.specs.view.Declarations.{type_view, value_list, values_view, initialiser_view, declarator_view, declaration_view};
 ghost use Rattle.snl_syntax.specs.view.Shown.{shown};
 ghost use Rattle.snl_json.specs.Rows.{made, with_list, with_maybe, maybe_last};
 ghost use Rattle.snl_json.specs.Expressions.{with_expression};
@@ -43,7 +43,28 @@ fn put_before<'a>(
     Ok(())
 }
 
+/// Puts the rows of values behind others, with no comma behind the last one.
+#[tactic(auto, using(crate::proofs::Lists::last_rows, crate::proofs::Lists::none_rows))]
+fn put_apart<'a>(
+    alloc: Global,
+    values: &[Box<Expr<'a>>],
+    rows: &mut Vec<Value>,
+) -> Result<(), AllocError>
+    ensures { OnOk result (made rows.new.items
+        ≡ spec.with_values (value_list (map boxed values.now) false) (made rows.old.items)) }
+{
+    match values.split_last() {
+        Some((value, front)) => {
+            put_expression(alloc, value, rows)?;
+            put_one(alloc, "last_value", last(rows.as_slice()), rows)?;
+            put_before(alloc, front, rows)
+        }
+        None => put_empty(alloc, "no_values", rows),
+    }
+}
+
 /// Puts the rows of the values of a list in braces behind others.
+#[tactic(auto, using(crate::proofs::Lists::comma_rows))]
 fn put_values<'a>(
     alloc: Global,
     values: &Values<'a>,
@@ -52,16 +73,11 @@ fn put_values<'a>(
     ensures { OnOk result (made rows.new.items
         ≡ spec.with_values (values_view values.now) (made rows.old.items)) }
 {
-    match values.each.as_slice().split_last() {
-        Some((value, front)) if !values.comma => {
-            put_expression(alloc, value, rows)?;
-            put_one(alloc, "last_value", last(rows.as_slice()), rows)?;
-            put_before(alloc, front, rows)
-        }
-        _ => {
-            put_empty(alloc, "no_values", rows)?;
-            put_before(alloc, values.each.as_slice(), rows)
-        }
+    if values.comma {
+        put_empty(alloc, "no_values", rows)?;
+        put_before(alloc, values.each.as_slice(), rows)
+    } else {
+        put_apart(alloc, values.each.as_slice(), rows)
     }
 }
 
@@ -137,6 +153,7 @@ pub fn put_declaration<'a>(
 }
 
 /// Puts the rows of the sizes of a declared name behind others, the last one first.
+#[tactic(auto, using(crate::proofs::Lists::list_none))]
 fn put_sizes<'a>(
     alloc: Global,
     sizes: &[Box<Expr<'a>>],
@@ -155,6 +172,7 @@ fn put_sizes<'a>(
 }
 
 /// Puts the rows of declared names behind others, the last one first.
+#[tactic(auto, using(crate::proofs::Lists::list_none))]
 fn put_declarators<'a>(
     alloc: Global,
     declarators: &[Declarator<'a>],

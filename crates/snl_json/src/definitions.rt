@@ -29,6 +29,7 @@ fn put_place<'a>(
 }
 
 /// Puts the rows of a list of tokens behind others, the last one first.
+#[tactic(auto, using(crate::proofs::Lists::words_none))]
 fn put_words<'a>(
     alloc: Global,
     words: &[Token<'a>],
@@ -201,6 +202,7 @@ pub fn put_definition<'a>(
 }
 
 /// Puts the rows of definitions behind others, the last one first. Fails only where memory ends.
+#[tactic(auto, using(crate::proofs::Lists::list_none))]
 pub fn put_definitions<'a>(
     alloc: Global,
     definitions: &[Def<'a>],

@@ -80,6 +80,7 @@ pub fn put_expression<'a>(
 
 /// Puts the rows of operators with their operands behind others, the last one first.
 #[cycle(expression)]
+#[tactic(auto, using(crate::proofs::Lists::terms_none))]
 fn put_terms<'a>(
     alloc: Global,
     terms: &[Term<'a>],
@@ -112,6 +113,7 @@ fn put_term<'a>(
 
 /// Puts the rows of the arguments of a call behind others, the last one first.
 #[cycle(expression)]
+#[tactic(auto, using(crate::proofs::Lists::arguments_none))]
 fn put_arguments<'a>(
     alloc: Global,
     arguments: &[Argument<'a>],

@@ -25,6 +25,7 @@ pub enum Part<'a> {
 }
 
 /// The tree of the last row.
+#[tactic(auto, unfolding(crate::specs::Rows::last))]
 pub fn last<'a>(rows: &[Value]) -> Part<'a>
     ensures { result ≡ spec.last (made rows.now) }
 {
@@ -53,6 +54,7 @@ fn letters(alloc: Global, text: &[u8]) -> Result<String, AllocError>
 }
 
 /// A token: its kind, its text and its place. Fails only where memory ends.
+#[tactic(auto, unfolding(crate::specs::Rows::token_data))]
 fn token_value(alloc: Global, token: Token<'_>) -> Result<Value, AllocError>
     ensures { IfOk result (λ v. view v ≡ spec.token_data token.entry) }
 {
@@ -65,6 +67,7 @@ fn token_value(alloc: Global, token: Token<'_>) -> Result<Value, AllocError>
 }
 
 /// A part of a row. Fails only where memory ends.
+#[tactic(auto, unfolding(crate::specs::Rows::part_data))]
 fn part_value(alloc: Global, part: Part<'_>) -> Result<Value, AllocError>
     ensures { IfOk result (λ v. view v ≡ spec.part_data part.entry) }
 {
@@ -108,6 +111,7 @@ fn put_parts(
 }
 
 /// Puts a row behind others. Fails only where memory ends.
+#[tactic(auto, unfolding(crate::specs::Rows::with_row))]
 fn put_row(
     alloc: Global,
     form: &str,

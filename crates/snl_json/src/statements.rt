@@ -99,6 +99,7 @@ fn put_statement<'a>(
 
 /// Puts the rows of statements behind others, the last one first.
 #[cycle(statement)]
+#[tactic(auto, using(crate::proofs::Lists::statements_none))]
 fn put_statements<'a>(
     alloc: Global,
     statements: &[Stmt<'a>],
@@ -154,6 +155,7 @@ pub fn put_maybe_block<'a>(
 }
 
 /// Puts the rows of declarations behind others, the last one first.
+#[tactic(auto, using(crate::proofs::Lists::list_none))]
 fn put_declarations<'a>(
     alloc: Global,
     declarations: &[Declaration<'a>],

@@ -1,0 +1,10 @@
+use Rattle.std.proofs.Common.{◌≡◌, ◌∙◌, ap, arith, drop, map}
+use Rattle.snl_syntax.specs.view.Definitions.{definition_view}
+use Rattle.snl_json.specs.Rows.{made, with_list}
+use Rattle.snl_json.specs.Definitions.{with_definition}
+use Rattle.snl_json.proofs.definitions.put_definitions.Goals as goal
+
+pub returns : goal.returns
+returns c =
+    let none : c.loop-number.number ≡ 0 = omega (arith, c.loop-number-test.false) in
+    c.loop-number.invariant ∙ ap (λ n. with_list with_definition (map definition_view (drop n c.args.definitions.now)) (made c.args.rows.now.items)) none
