@@ -3,14 +3,21 @@ import os
 import sys
 from pathlib import Path
 
-from defining import calls, cases, edits, showing
+from defining import calls, cases, edits, running, showing
 from defining.definitions import NoClause
 from defining.running import Runner
 from defining.sources import NotUnderstood, path_of
 from defining.trees import BadTree, Trees
+from defining.values import bytes_of, items_of, listed as list_of
 
 # The options of this script, with how many words each takes.
-OPTIONS = {"--why": 1, "--first": 1, "--snl": 1, "--snlrun": 1, "--list": 0, "--cases": 0, "--all": 0, "--coverage": 0, "--edit": 3, "--slips": 0}
+OPTIONS = {
+    "--all": 0, "--cases": 0, "--coverage": 0, "--edit": 3, "--first": 1, "--footprint": 0, "--links": 0, "--list": 0, "--sites": 0,
+    "--slips": 0, "--snl": 1, "--snlrun": 1, "--tables": 0, "--why": 1,
+}  # fmt: skip
+# What is read off a tree without a run: of the tree alone, or of the tree and its links.
+OF_TREE = {"--tables": running.TABLES, "--sites": running.SITES}
+OF_LINKS = {"--footprint": running.FOOTPRINT}
 FIRST = 20
 
 
@@ -24,6 +31,9 @@ def parted(words):
     found, left, words = {}, [], list(words)
     while words:
         word = words.pop(0)
+        if word.partition("=")[0] in OPTIONS and "=" in word:
+            word, _, first = word.partition("=")
+            words.insert(0, first)
         if word not in OPTIONS:
             left.append(word)
             continue
@@ -68,6 +78,9 @@ def one_run(root, options, words):
     runner = Runner(root)
     call = calls.call_of(runner, [os.fsencode(it) for it in words])
     tree = Trees(runner.definitions.names).program(calls.tree_text(program(root, options, "snl"), call))
+    for option in ("--tables", "--sites", "--links", "--footprint"):
+        if option in options:
+            return write_of(runner, option, tree, call)
     heard = None
     if "--why" in options:
         most = int(options["--first"][0]) if "--first" in options else FIRST
@@ -79,6 +92,20 @@ def one_run(root, options, words):
         say(f"and {heard.count - len(heard.heard)} calls more")
     say(f"ended by {showing.shown(end)}")
     return runner.status(end)
+
+
+def write_of(runner, option, tree, call):
+    """Writes what is read off a tree: its tables, its sites, its links, or how many words it needs."""
+    if option in OF_TREE:
+        found = runner.call(OF_TREE[option], tree)
+    else:
+        links = runner.call(running.LINKS, tree, list_of(list(call.macros)))
+        found = runner.call(OF_LINKS[option], tree, links) if option in OF_LINKS else links
+    if option == "--tables":
+        sys.stdout.buffer.write(bytes_of(found))
+    else:
+        print("\n".join(map(showing.shown, [found] if type(found) is int else items_of(found))))
+    return 0
 
 
 def program(root, options, name):
@@ -121,17 +148,17 @@ def compared(root, options, words):
             different += 1
             print(f"DIFFERENT {it.name}: {told}", flush=True)
     print(f"{compare.runs} runs by the definitions, {different} different, {compare.skipped} skipped")
-    missed = unreached(runner.definitions, needed) if "--coverage" in options else 0
-    return 1 if different or missed or not compare.runs else 0
+    if "--coverage" in options:
+        write_unreached(runner.definitions, needed)
+    return 1 if different or not compare.runs else 0
 
 
-def unreached(definitions, needed):
-    """Writes the clauses that nothing reached; how many they are."""
+def write_unreached(definitions, needed):
+    """Writes the clauses that nothing reached."""
     rows = [(key, clause) for at, (key, clause) in enumerate(definitions.clauses) if key in needed and not definitions.reached[at]]
     for key, clause in rows:
         print(f"{path_of(key.crate, key.module)}:{clause.line} {' '.join(clause.text.split())}")
     print(f"{len(rows)} of {sum(key in needed for key, _ in definitions.clauses)} clauses are reached by no case")
-    return len(rows)
 
 
 def edited(root, options, words):

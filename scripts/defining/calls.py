@@ -98,7 +98,7 @@ def ran(words, **how):
 
 def tree_text(snl, call, **how):
     """The text of the tree of the program of a call. Where it is refused the call ends, and `snl` has told why."""
-    status, text = ran([os.fsencode(snl), *call.options, b"tree", b"--", call.file, *[call.macros] * bool(call.macros)], stdin=subprocess.DEVNULL, **how)
+    status, text = ran([os.fsencode(snl), *call.options, b"tree", b"--", call.file], stdin=subprocess.DEVNULL, **how)
     if status:
         raise Failed(None, status)
     return text

@@ -8,6 +8,7 @@ from defining.values import NIL, Record, applied, bytes_of, listed
 
 LINKS = Key("snl_channels", "Links", "links")
 TABLES = Key("snl_channels", "Tables", "tables")
+SITES = Key("snl_names", "Programs", "sites")
 OPTIONS = Key("snl_messages", "Silence", "options_in_force")
 WAITS = Key("snl_check", "Waits", "waits")
 TASK = Key("snl_machine", "MachineOf", "task_of")
