@@ -5,6 +5,7 @@ definitions: such ones are skipped and counted, unless all are asked for."""
 import importlib.machinery
 import importlib.util
 import os
+import subprocess
 import sys
 import tempfile
 from dataclasses import dataclass
@@ -120,7 +121,7 @@ class Comparer:
 
     def by_definitions(self, call, case, folder):
         """What the definitions give."""
-        tree = self.trees.program(calls.tree_text(self.snl, call, cwd=folder))
+        tree = self.trees.program(calls.tree_text(self.snl, call, cwd=folder, stderr=subprocess.DEVNULL))
         lines, end = self.runner.run(self.runner.load(tree, call.given, call.macros), case.trace, call.budget)
         said = f"trace:{end[1]}: {FAULTS[end[2][0]]}\n".encode() if end[0] == "TraceFault" else b""
         return Answer(lines, self.runner.status(end), said)

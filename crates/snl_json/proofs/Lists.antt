@@ -13,7 +13,7 @@ use Rattle.snl_syntax.specs.view.Declarations.{value_list, values_before}
 use Rattle.snl_syntax.specs.view.Expressions.{pair_of, list_before}
 use Rattle.snl_syntax.specs.view.Lists.{term_list, statement_list}
 use Rattle.snl_syntax.specs.view.Statements.{statement_view}
-use Rattle.snl_json.specs.Rows.{with_row, last, with_list, with_words}
+use Rattle.snl_json.specs.Rows.{with_row, last, with_things, with_tokens}
 use Rattle.snl_json.specs.Expressions.{with_expression, with_terms, with_arguments}
 use Rattle.snl_json.specs.Declarations.{with_values, with_before}
 use Rattle.snl_json.specs.Statements.{with_statements}
@@ -23,23 +23,23 @@ none : {A : Type 0} → (xs : List A) → drop (length xs) xs ≡ []
 none xs = drop_all (length xs) xs (omega arith)
 
 -- so a list begins with its end
-pub list_none : {A B : Type 0} (see : A → B) (put : B → List Data → List Data) (xs : List A) (rows : List Data) → with_list put (map see (drop (length xs) xs)) rows ≡ with_row (codes "nil") [] rows
-list_none see put xs rows = ap (λ l. with_list put (map see l) rows) (none xs)
+pub list_none : {A B : Type 0} (see : A → B) (put : B → List Data → List Data) (xs : List A) (rows : List Data) → with_things put (map see (drop (length xs) xs)) rows ≡ rows
+list_none see put xs rows = ap (λ l. with_things put (map see l) rows) (none xs)
 
 -- the same of tokens
-pub words_none : (xs : List Token) (rows : List Data) → with_words (drop (length xs) xs) rows ≡ with_row (codes "nil") [] rows
-words_none xs rows = ap (λ l. with_words l rows) (none xs)
+pub words_none : (xs : List Token) (rows : List Data) → with_tokens (drop (length xs) xs) rows ≡ rows
+words_none xs rows = ap (λ l. with_tokens l rows) (none xs)
 
 -- of terms
-pub terms_none : (xs : List Term) (rows : List Data) → with_terms (term_list (map pair_of (drop (length xs) xs))) rows ≡ with_row (codes "no_terms") [] rows
+pub terms_none : (xs : List Term) (rows : List Data) → with_terms (term_list (map pair_of (drop (length xs) xs))) rows ≡ rows
 terms_none xs rows = ap (λ l. with_terms (term_list (map pair_of l)) rows) (none xs)
 
 -- of arguments
-pub arguments_none : (xs : List Argument) (rows : List Data) → with_arguments (list_before (drop (length xs) xs) no_arguments) rows ≡ with_row (codes "no_arguments") [] rows
+pub arguments_none : (xs : List Argument) (rows : List Data) → with_arguments (list_before (drop (length xs) xs) no_arguments) rows ≡ rows
 arguments_none xs rows = ap (λ l. with_arguments (list_before l no_arguments) rows) (none xs)
 
 -- and of statements
-pub statements_none : (xs : List Stmt) (rows : List Data) → with_statements (statement_list (map statement_view (drop (length xs) xs))) rows ≡ with_row (codes "no_statements") [] rows
+pub statements_none : (xs : List Stmt) (rows : List Data) → with_statements (statement_list (map statement_view (drop (length xs) xs))) rows ≡ rows
 statements_none xs rows = ap (λ l. with_statements (statement_list (map statement_view l)) rows) (none xs)
 
 -- values with a comma behind each, in front of others

@@ -19,11 +19,11 @@ abbrev mutual
   with_expression (parenthesized e) rows = let inside = with_expression e rows in with_row (codes "parenthesized") (last inside ∷ []) inside
   with_expression (named t) rows = with_row (codes "named") (part.Word t ∷ []) rows
   with_expression (element x b e) rows = let index = with_expression e rows in with_row (codes "element") (part.Word x ∷ part.Word b ∷ last index ∷ []) index
-  with_expression (call f all) rows = let inside = with_arguments all rows in with_row (codes "call") (part.Word f ∷ last inside ∷ []) inside
+  with_expression (call f all) rows = let inside = with_arguments all (with_row (codes "no_arguments") [] rows) in with_row (codes "call") (part.Word f ∷ last inside ∷ []) inside
   with_expression (postfix e op) rows = let operand = with_expression e rows in with_row (codes "postfix") (last operand ∷ part.Word op ∷ []) operand
   with_expression (prefix op e) rows = let operand = with_expression e rows in with_row (codes "prefix") (part.Word op ∷ last operand ∷ []) operand
   with_expression (chain e rest) rows =
-      let first = with_expression e rows in let terms = with_terms rest first in with_row (codes "chain") (last first ∷ last terms ∷ []) terms
+      let first = with_expression e rows in let terms = with_terms rest (with_row (codes "no_terms") [] first) in with_row (codes "chain") (last first ∷ last terms ∷ []) terms
   with_expression (conditional c a b) rows =
       let condition = with_expression c rows in let yes = with_expression a condition in let no = with_expression b yes in
       with_row (codes "conditional") (last condition ∷ last yes ∷ last no ∷ []) no
@@ -31,16 +31,16 @@ abbrev mutual
       let target = with_expression e rows in let right = with_expression f target in
       with_row (codes "assignment") (last target ∷ part.Word op ∷ last right ∷ []) right
 
-  -- operators with their operands, the last one first
+  -- operators with their operands in front of the row of the empty list, the last one first
   pub with_terms : TermList → List Data → List Data
-  with_terms no_terms rows = with_row (codes "no_terms") [] rows
+  with_terms no_terms rows = rows
   with_terms (term op e rest) rows =
       let others = with_terms rest rows in let operand = with_expression e others in
       term_row op (last others) operand
 
-  -- the arguments of a call, the last one first
+  -- the arguments of a call likewise
   pub with_arguments : ArgumentList → List Data → List Data
-  with_arguments no_arguments rows = with_row (codes "no_arguments") [] rows
+  with_arguments no_arguments rows = rows
   with_arguments (value e rest) rows =
       let others = with_arguments rest rows in let given = with_expression e others in
       with_row (codes "value") (last given ∷ last others ∷ []) given

@@ -44,7 +44,7 @@ with_program p rows =
     (part.Word p.word ∷ part.Word p.name ∷ maybe_word p.macros ∷ last definitions ∷ maybe_last p.entry entry ∷ last sets ∷ maybe_last p.exit exit ∷ []) exit
 
 -- All rows of a program, of which the last one is the program's.
-abbrev pub program_data : ProgramTree → Data
+unfoldable pub program_data : ProgramTree → Data
 program_data p = array (items_of (with_program p []))
 
 -- The text of a program's tree.

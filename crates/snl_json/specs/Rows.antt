@@ -66,12 +66,24 @@ maybe_last (Some x) rows = last rows
 abbrev pub with_first : {A : Type 0} → (A → List Data → List Data) → A → List Data → List Data
 with_first put x rest = with_row (codes "cons") (last (put x rest) ∷ last rest ∷ []) (put x rest)
 
--- A list, its last thing first.
+-- Things in front of a list, the last one first.
+abbrev pub with_things : {A : Type 0} → (A → List Data → List Data) → List A → List Data → List Data
+with_things put [] rest = rest
+with_things put (x ∷ xs) rest = with_first put x (with_things put xs rest)
+
+-- The empty list.
+abbrev pub with_nil : List Data → List Data
+with_nil rows = with_row (codes "nil") [] rows
+
+-- A list.
 abbrev pub with_list : {A : Type 0} → (A → List Data → List Data) → List A → List Data → List Data
-with_list put [] rows = with_row (codes "nil") [] rows
-with_list put (x ∷ xs) rows = with_first put x (with_list put xs rows)
+with_list put xs rows = with_things put xs (with_nil rows)
+
+-- Tokens in front of a list, the last one first.
+abbrev pub with_tokens : List Token → List Data → List Data
+with_tokens [] rest = rest
+with_tokens (t ∷ ts) rest = let others = with_tokens ts rest in with_row (codes "cons") (part.Word t ∷ last others ∷ []) others
 
 -- A list of tokens.
 abbrev pub with_words : List Token → List Data → List Data
-with_words [] rows = with_row (codes "nil") [] rows
-with_words (t ∷ ts) rows = with_row (codes "cons") (part.Word t ∷ last (with_words ts rows) ∷ []) (with_words ts rows)
+with_words ts rows = with_tokens ts (with_nil rows)

@@ -38,9 +38,9 @@ abbrev mutual
       let header = with_header parts rows in let body = with_statement s header in
       with_row (codes "for_loop") (part.Word t ∷ last header ∷ last body ∷ []) body
 
-  -- statements, the last one first
+  -- statements in front of the row of the empty list, the last one first
   pub with_statements : StatementList → List Data → List Data
-  with_statements no_statements rows = with_row (codes "no_statements") [] rows
+  with_statements no_statements rows = rows
   with_statements (statement s rest) rows =
       let others = with_statements rest rows in let here = with_statement s others in
       with_row (codes "statement") (last here ∷ last others ∷ []) here
@@ -48,5 +48,5 @@ abbrev mutual
   -- a block
   pub with_block : BlockTree → List Data → List Data
   with_block (block ds all) rows =
-      let declared = with_list with_declaration ds rows in let inside = with_statements all declared in
+      let declared = with_list with_declaration ds rows in let inside = with_statements all (with_row (codes "no_statements") [] declared) in
       with_row (codes "block") (last declared ∷ last inside ∷ []) inside

@@ -1,10 +1,11 @@
 //! The rows of declarations.
 
-ghost use Rattle.std.specs.Prelude.{◌≡◌, false, map, IfOk, OnOk};
+ghost use Rattle.std.specs.Prelude.{◌≡◌, [], ◌∷◌, false, map, codes, IfOk, OnOk};
 ghost use Rattle.snl_syntax.specs.view.Expressions.{boxed};
 ghost use Rattle.snl_syntax.specs.view.Declarations.{type_view, value_list, values_view, initialiser_view, declarator_view, declaration_view};
 ghost use Rattle.snl_syntax.specs.view.Shown.{shown};
-ghost use Rattle.snl_json.specs.Rows.{made, with_list, with_maybe, maybe_last};
+ghost use Rattle.snl_json.specs.Rows.{made, with_row, with_list, with_maybe, maybe_last};
+ghost use Rattle.snl_json.specs.Rows.{last as spec_last};
 ghost use Rattle.snl_json.specs.Expressions.{with_expression};
 ghost use Rattle.snl_json.specs.Declarations as spec;
 
@@ -26,6 +27,15 @@ pub fn put_type<'a>(
     put_two(alloc, "TypeTree", Part::Word(type_name.word), maybe_word(type_name.second), rows)
 }
 
+/// Puts the row of a value with a comma behind it, that of the last row, in front of others.
+fn put_value(alloc: Global, others: Part<'_>, rows: &mut Vec<Value>) -> Result<(), AllocError>
+    ensures { OnOk result (made rows.new.items ≡ with_row (codes "value_before")
+        (spec_last (made rows.old.items) ∷ others.entry ∷ []) (made rows.old.items)) }
+{
+    let value = last(rows.as_slice());
+    put_two(alloc, "value_before", value, others, rows)
+}
+
 /// Puts the rows of values with a comma behind each in front of others, the last one first.
 fn put_before<'a>(
     alloc: Global,
@@ -38,13 +48,13 @@ fn put_before<'a>(
     for number in (0..values.len()).rev() {
         let others = last(rows.as_slice());
         put_expression(alloc, &values[number], rows)?;
-        put_two(alloc, "value_before", last(rows.as_slice()), others, rows)?;
+        put_value(alloc, others, rows)?;
     }
     Ok(())
 }
 
 /// Puts the rows of values behind others, with no comma behind the last one.
-#[tactic(auto, using(crate::proofs::Lists::last_rows, crate::proofs::Lists::none_rows))]
+#[tactic(auto, using(crate::proofs::Forms::apart_made, crate::proofs::Lists::none_rows))]
 fn put_apart<'a>(
     alloc: Global,
     values: &[Box<Expr<'a>>],

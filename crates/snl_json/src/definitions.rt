@@ -1,6 +1,8 @@
 //! The rows of definitions.
 
-ghost use Rattle.std.specs.Prelude.{◌≡◌, map, IfOk, OnOk};
+ghost use Rattle.std.specs.Prelude.{◌≡◌, map, codes, OnOk};
+ghost use Rattle.snl_syntax.specs.view.Declarations.{declaration_view};
+ghost use Rattle.snl_json.specs.Declarations.{with_declaration};
 ghost use Rattle.snl_syntax.specs.view.Definitions.{place_view, names_view, channels_view, assign_view, flag_view, sync_view, queue_view, setting_view, definition_view};
 ghost use Rattle.snl_syntax.specs.view.Shown.{shown};
 ghost use Rattle.snl_json.specs.Rows.{made, with_list, with_words, with_maybe, maybe_last};
@@ -11,7 +13,7 @@ use crate::expressions::put_maybe;
 use crate::functions::put_function;
 use crate::rows::{Part, last, maybe_word, put_empty, put_first, put_four, put_one, put_three, put_two};
 use serde_json::Value;
-use snl_syntax::{Assign, ChannelNames, Channels, Def, Flag, Place, Setting, Sync, SyncQueue};
+use snl_syntax::{Assign, ChannelNames, Channels, Declaration, Def, Flag, Place, Setting, Sync, SyncQueue};
 use snl_text::Token;
 use std::alloc::{AllocError, Global};
 
@@ -156,7 +158,34 @@ fn put_only(alloc: Global, form: &str, rows: &mut Vec<Value>) -> Result<(), Allo
     put_one(alloc, form, last(rows.as_slice()), rows)
 }
 
+/// Puts the rows of a declaration among definitions behind others.
+fn put_declared<'a>(
+    alloc: Global,
+    declaration: &Declaration<'a>,
+    rows: &mut Vec<Value>,
+) -> Result<(), AllocError>
+    ensures { OnOk result (made rows.new.items ≡ spec.with_only (codes "declaration")
+        (with_declaration (declaration_view declaration.now) (made rows.old.items))) }
+{
+    put_declaration(alloc, declaration, rows)?;
+    put_only(alloc, "declaration", rows)
+}
+
+/// Puts the rows of event flags behind others.
+fn put_flags<'a>(
+    alloc: Global,
+    names: &[Token<'a>],
+    rows: &mut Vec<Value>,
+) -> Result<(), AllocError>
+    ensures { OnOk result (made rows.new.items ≡ spec.with_only (codes "event_flags")
+        (with_words names.now (made rows.old.items))) }
+{
+    put_words(alloc, names, rows)?;
+    put_only(alloc, "event_flags", rows)
+}
+
 /// Puts the rows of a definition behind others. Fails only where memory ends.
+#[tactic(auto, using(crate::proofs::Forms::declaration_made, crate::proofs::Forms::flags_made))]
 pub fn put_definition<'a>(
     alloc: Global,
     definition: &Def<'a>,
@@ -167,8 +196,7 @@ pub fn put_definition<'a>(
 {
     match definition {
         Def::Declaration(declaration) => {
-            put_declaration(alloc, declaration, rows)?;
-            put_only(alloc, "declaration", rows)
+            put_declared(alloc, declaration, rows)
         }
         Def::Assign(assign) => {
             put_assign(alloc, assign, rows)?;
@@ -187,8 +215,7 @@ pub fn put_definition<'a>(
             put_only(alloc, "sync_queue", rows)
         }
         Def::EventFlags(names) => {
-            put_words(alloc, names.as_slice(), rows)?;
-            put_only(alloc, "event_flags", rows)
+            put_flags(alloc, names.as_slice(), rows)
         }
         Def::Setting(setting) => {
             put_setting(alloc, *setting, rows)?;

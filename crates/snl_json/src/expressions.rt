@@ -1,11 +1,11 @@
 //! The rows of expressions.
 
-ghost use Rattle.std.specs.Prelude.{◌≡◌, map, IfOk, OnOk};
+ghost use Rattle.std.specs.Prelude.{◌≡◌, [], map, codes, IfOk, OnOk};
 ghost use Rattle.snl_syntax.specs.Expressions.{no_arguments};
 ghost use Rattle.snl_syntax.specs.view.Expressions.{view, boxed, pair_of, argument_of, list_before};
 ghost use Rattle.snl_syntax.specs.view.Lists.{term_list};
 ghost use Rattle.snl_syntax.specs.view.Shown.{shown};
-ghost use Rattle.snl_json.specs.Rows.{made, with_maybe, maybe_last};
+ghost use Rattle.snl_json.specs.Rows.{made, with_row, with_maybe, maybe_last};
 ghost use Rattle.snl_json.specs.Expressions as spec;
 
 use crate::rows::{Part, last, put_empty, put_one, put_three, put_two};
@@ -16,6 +16,7 @@ use std::alloc::{AllocError, Global};
 
 /// Puts the rows of an expression behind others. Fails only where memory ends.
 #[cycle(expression)]
+#[tactic(auto, using(crate::proofs::Forms::call_made, crate::proofs::Forms::chain_made, crate::proofs::Forms::conditional_made))]
 pub fn put_expression<'a>(
     alloc: Global,
     expression: &Expr<'a>,
@@ -87,7 +88,8 @@ fn put_terms<'a>(
     rows: &mut Vec<Value>,
 ) -> Result<(), AllocError>
     ensures { OnOk result (made rows.new.items
-        ≡ spec.with_terms (term_list (map pair_of terms.now)) (made rows.old.items)) }
+        ≡ spec.with_terms (term_list (map pair_of terms.now))
+        (with_row (codes "no_terms") [] (made rows.old.items))) }
 {
     put_empty(alloc, "no_terms", rows)?;
     for number in (0..terms.len()).rev() {
@@ -120,7 +122,8 @@ fn put_arguments<'a>(
     rows: &mut Vec<Value>,
 ) -> Result<(), AllocError>
     ensures { OnOk result (made rows.new.items
-        ≡ spec.with_arguments (list_before arguments.now no_arguments) (made rows.old.items)) }
+        ≡ spec.with_arguments (list_before arguments.now no_arguments)
+        (with_row (codes "no_arguments") [] (made rows.old.items))) }
 {
     put_empty(alloc, "no_arguments", rows)?;
     for number in (0..arguments.len()).rev() {

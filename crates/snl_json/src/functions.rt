@@ -4,6 +4,7 @@ ghost use Rattle.std.specs.Prelude.{◌≡◌, map, IfOk, OnOk};
 ghost use Rattle.snl_syntax.specs.view.Declarations.{type_view};
 ghost use Rattle.snl_syntax.specs.view.Functions.{parameter_view, parameters_view, function_view};
 ghost use Rattle.snl_syntax.specs.view.Shown.{shown};
+ghost use Rattle.snl_syntax.specs.view.Statements.{block_view};
 ghost use Rattle.snl_json.specs.Rows.{made, with_list, with_maybe, maybe_last};
 ghost use Rattle.snl_json.specs.Declarations.{with_type};
 ghost use Rattle.snl_json.specs.Functions as spec;
@@ -12,7 +13,8 @@ use crate::declarations::put_type;
 use crate::rows::{Part, last, put_empty, put_first, put_four, put_two};
 use crate::statements::put_block;
 use serde_json::Value;
-use snl_syntax::{Function, Parameter, Parameters, TypeName};
+use snl_syntax::{Block, Function, Parameter, Parameters, TypeName};
+use snl_text::Token;
 use std::alloc::{AllocError, Global};
 
 /// Puts the rows of a parameter behind others.
@@ -61,6 +63,23 @@ fn put_maybe_type<'a>(
     }
 }
 
+/// Puts the rows of the body of a function behind others, of which the last one is that of its parameters, and the row of the function.
+fn put_body<'a>(
+    alloc: Global,
+    body: &Block<'a>,
+    words: Part<'a>,
+    name: Token<'a>,
+    rows: &mut Vec<Value>,
+) -> Result<(), AllocError>
+    ensures { OnOk result (made rows.new.items ≡ spec.with_body words.entry name.entry
+        (block_view body.now) (made rows.old.items)) }
+{
+    let parameters = last(rows.as_slice());
+    put_block(alloc, body, rows)?;
+    let body = last(rows.as_slice());
+    put_four(alloc, "FunctionTree", words, Part::Word(name), parameters, body, rows)
+}
+
 /// Puts the rows of a function behind others. Fails only where memory ends.
 pub fn put_function<'a>(
     alloc: Global,
@@ -72,9 +91,7 @@ pub fn put_function<'a>(
 {
     let words = put_maybe_type(alloc, function.type_name, rows)?;
     put_parameters(alloc, &function.parameters, rows)?;
-    let parameters = last(rows.as_slice());
-    put_block(alloc, &function.body, rows)?;
-    put_four(alloc, "FunctionTree", words, Part::Word(function.name), parameters, last(rows.as_slice()), rows)
+    put_body(alloc, &function.body, words, function.name, rows)
 }
 
 /// Puts the rows of parameters behind others, the last one first.

@@ -1,11 +1,11 @@
 //! The rows of statements.
 
-ghost use Rattle.std.specs.Prelude.{◌≡◌, map, IfOk, OnOk};
+ghost use Rattle.std.specs.Prelude.{◌≡◌, [], map, codes, IfOk, OnOk};
 ghost use Rattle.snl_syntax.specs.view.Declarations.{declaration_view};
 ghost use Rattle.snl_syntax.specs.view.Lists.{statement_list};
 ghost use Rattle.snl_syntax.specs.view.Statements.{statement_view, header_view, block_view};
 ghost use Rattle.snl_syntax.specs.view.Shown.{shown, held};
-ghost use Rattle.snl_json.specs.Rows.{made, with_list, with_maybe, maybe_last};
+ghost use Rattle.snl_json.specs.Rows.{made, with_row, with_list, with_maybe, maybe_last};
 ghost use Rattle.snl_json.specs.Declarations.{with_declaration};
 ghost use Rattle.snl_json.specs.Statements as spec;
 
@@ -33,6 +33,7 @@ fn put_header<'a>(
 
 /// Puts the rows of a statement behind others.
 #[cycle(statement)]
+#[tactic(auto, using(crate::proofs::Forms::nested_made, crate::proofs::Forms::return_made))]
 fn put_statement<'a>(
     alloc: Global,
     statement: &Stmt<'a>,
@@ -107,7 +108,7 @@ fn put_statements<'a>(
 ) -> Result<(), AllocError>
     ensures { OnOk result (made rows.new.items
         ≡ spec.with_statements (statement_list (map statement_view statements.now))
-        (made rows.old.items)) }
+        (with_row (codes "no_statements") [] (made rows.old.items))) }
 {
     put_empty(alloc, "no_statements", rows)?;
     for number in (0..statements.len()).rev() {
