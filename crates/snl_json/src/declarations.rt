@@ -24,7 +24,13 @@ pub fn put_type<'a>(
     ensures { OnOk result (made rows.new.items
         ≡ spec.with_type (type_view type_name.entry) (made rows.old.items)) }
 {
-    put_two(alloc, "TypeTree", Part::Word(type_name.word), maybe_word(type_name.second), rows)
+    put_two(
+        alloc,
+        "TypeTree",
+        Part::Word(type_name.word),
+        maybe_word(type_name.second),
+        rows,
+    )
 }
 
 /// Puts the row of a value with a comma behind it, that of the last row, in front of others.
@@ -144,7 +150,14 @@ fn put_declarator<'a>(
     put_sizes(alloc, declarator.sizes.as_slice(), rows)?;
     let sizes = last(rows.as_slice());
     let initial = put_maybe_initialiser(alloc, &declarator.initial, rows)?;
-    put_three(alloc, "DeclaratorTree", Part::Word(declarator.name), sizes, initial, rows)
+    put_three(
+        alloc,
+        "DeclaratorTree",
+        Part::Word(declarator.name),
+        sizes,
+        initial,
+        rows,
+    )
 }
 
 /// Puts the rows of a declaration behind others. Fails only where memory ends.

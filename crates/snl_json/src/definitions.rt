@@ -11,18 +11,18 @@ ghost use Rattle.snl_json.specs.Definitions as spec;
 use crate::declarations::put_declaration;
 use crate::expressions::put_maybe;
 use crate::functions::put_function;
-use crate::rows::{Part, last, maybe_word, put_empty, put_first, put_four, put_one, put_three, put_two};
+use crate::rows::{
+    Part, last, maybe_word, put_empty, put_first, put_four, put_one, put_three, put_two,
+};
 use serde_json::Value;
-use snl_syntax::{Assign, ChannelNames, Channels, Declaration, Def, Flag, Place, Setting, Sync, SyncQueue};
+use snl_syntax::{
+    Assign, ChannelNames, Channels, Declaration, Def, Flag, Place, Setting, Sync, SyncQueue,
+};
 use snl_text::Token;
 use std::alloc::{AllocError, Global};
 
 /// Puts the rows of a variable, or of an element of one, behind others.
-fn put_place<'a>(
-    alloc: Global,
-    place: &Place<'a>,
-    rows: &mut Vec<Value>,
-) -> Result<(), AllocError>
+fn put_place<'a>(alloc: Global, place: &Place<'a>, rows: &mut Vec<Value>) -> Result<(), AllocError>
     ensures { OnOk result (made rows.new.items
         ≡ spec.with_place (place_view place.now) (made rows.old.items)) }
 {
@@ -41,7 +41,13 @@ fn put_words<'a>(
 {
     put_empty(alloc, "nil", rows)?;
     for number in (0..words.len()).rev() {
-        put_two(alloc, "cons", Part::Word(words[number]), last(rows.as_slice()), rows)?;
+        put_two(
+            alloc,
+            "cons",
+            Part::Word(words[number]),
+            last(rows.as_slice()),
+            rows,
+        )?;
     }
     Ok(())
 }
@@ -56,7 +62,13 @@ fn put_channels<'a>(
         ≡ spec.with_channels (channels_view channels.now) (made rows.old.items)) }
 {
     put_names(alloc, &channels.names, rows)?;
-    put_two(alloc, "ChannelsTree", Part::Flag(channels.to), last(rows.as_slice()), rows)
+    put_two(
+        alloc,
+        "ChannelsTree",
+        Part::Flag(channels.to),
+        last(rows.as_slice()),
+        rows,
+    )
 }
 
 /// Puts the rows of the names of channels behind others.
@@ -95,7 +107,14 @@ fn put_assign<'a>(
         }
         None => Part::Missing,
     };
-    put_three(alloc, "AssignTree", Part::Word(assign.word), place, channels, rows)
+    put_three(
+        alloc,
+        "AssignTree",
+        Part::Word(assign.word),
+        place,
+        channels,
+        rows,
+    )
 }
 
 /// Puts the row of the name of an event flag behind others.
@@ -103,7 +122,13 @@ fn put_flag<'a>(alloc: Global, flag: Flag<'a>, rows: &mut Vec<Value>) -> Result<
     ensures { OnOk result (made rows.new.items
         ≡ spec.with_flag (flag_view flag.entry) (made rows.old.items)) }
 {
-    put_two(alloc, "FlagTree", Part::Flag(flag.to), Part::Word(flag.name), rows)
+    put_two(
+        alloc,
+        "FlagTree",
+        Part::Flag(flag.to),
+        Part::Word(flag.name),
+        rows,
+    )
 }
 
 /// Puts the rows of a `sync` behind others.
@@ -135,7 +160,15 @@ fn put_queue<'a>(
         }
         None => Part::Missing,
     };
-    put_four(alloc, "QueueTree", Part::Word(queue.word), place, flag, maybe_word(queue.size), rows)
+    put_four(
+        alloc,
+        "QueueTree",
+        Part::Word(queue.word),
+        place,
+        flag,
+        maybe_word(queue.size),
+        rows,
+    )
 }
 
 /// Puts the row of an option behind others.
@@ -147,7 +180,13 @@ fn put_setting<'a>(
     ensures { OnOk result (made rows.new.items
         ≡ spec.with_setting (setting_view setting.entry) (made rows.old.items)) }
 {
-    put_two(alloc, "SettingTree", Part::Word(setting.sign), Part::Word(setting.name), rows)
+    put_two(
+        alloc,
+        "SettingTree",
+        Part::Word(setting.sign),
+        Part::Word(setting.name),
+        rows,
+    )
 }
 
 /// Puts the row of a form behind others whose only part is the tree of the last row.
@@ -195,9 +234,7 @@ pub fn put_definition<'a>(
         ≡ spec.with_definition (definition_view definition.now) (made rows.old.items)) }
 {
     match definition {
-        Def::Declaration(declaration) => {
-            put_declared(alloc, declaration, rows)
-        }
+        Def::Declaration(declaration) => { put_declared(alloc, declaration, rows) }
         Def::Assign(assign) => {
             put_assign(alloc, assign, rows)?;
             put_only(alloc, "assign", rows)
@@ -214,9 +251,7 @@ pub fn put_definition<'a>(
             put_queue(alloc, queue, rows)?;
             put_only(alloc, "sync_queue", rows)
         }
-        Def::EventFlags(names) => {
-            put_flags(alloc, names.as_slice(), rows)
-        }
+        Def::EventFlags(names) => { put_flags(alloc, names.as_slice(), rows) }
         Def::Setting(setting) => {
             put_setting(alloc, *setting, rows)?;
             put_only(alloc, "setting", rows)

@@ -38,19 +38,44 @@ pub fn put_expression<'a>(
             index,
         } => {
             put_expression(alloc, index, rows)?;
-            put_three(alloc, "element", Part::Word(*name), Part::Word(*bracket), last(rows.as_slice()), rows)
+            put_three(
+                alloc,
+                "element",
+                Part::Word(*name),
+                Part::Word(*bracket),
+                last(rows.as_slice()),
+                rows,
+            )
         }
         Expr::Call(name, arguments) => {
             put_arguments(alloc, arguments.as_slice(), rows)?;
-            put_two(alloc, "call", Part::Word(*name), last(rows.as_slice()), rows)
+            put_two(
+                alloc,
+                "call",
+                Part::Word(*name),
+                last(rows.as_slice()),
+                rows,
+            )
         }
         Expr::Postfix(operand, operator) => {
             put_expression(alloc, operand, rows)?;
-            put_two(alloc, "postfix", last(rows.as_slice()), Part::Word(*operator), rows)
+            put_two(
+                alloc,
+                "postfix",
+                last(rows.as_slice()),
+                Part::Word(*operator),
+                rows,
+            )
         }
         Expr::Prefix(operator, operand) => {
             put_expression(alloc, operand, rows)?;
-            put_two(alloc, "prefix", Part::Word(*operator), last(rows.as_slice()), rows)
+            put_two(
+                alloc,
+                "prefix",
+                Part::Word(*operator),
+                last(rows.as_slice()),
+                rows,
+            )
         }
         Expr::Chain(first, terms) => {
             put_expression(alloc, first, rows)?;
@@ -64,7 +89,14 @@ pub fn put_expression<'a>(
             put_expression(alloc, yes, rows)?;
             let yes = last(rows.as_slice());
             put_expression(alloc, no, rows)?;
-            put_three(alloc, "conditional", condition, yes, last(rows.as_slice()), rows)
+            put_three(
+                alloc,
+                "conditional",
+                condition,
+                yes,
+                last(rows.as_slice()),
+                rows,
+            )
         }
         Expr::Assignment {
             target,
@@ -74,7 +106,14 @@ pub fn put_expression<'a>(
             put_expression(alloc, target, rows)?;
             let target = last(rows.as_slice());
             put_expression(alloc, value, rows)?;
-            put_three(alloc, "assignment", target, Part::Word(*operator), last(rows.as_slice()), rows)
+            put_three(
+                alloc,
+                "assignment",
+                target,
+                Part::Word(*operator),
+                last(rows.as_slice()),
+                rows,
+            )
         }
     }
 }
@@ -82,11 +121,7 @@ pub fn put_expression<'a>(
 /// Puts the rows of operators with their operands behind others, the last one first.
 #[cycle(expression)]
 #[tactic(auto, using(crate::proofs::Lists::terms_none))]
-fn put_terms<'a>(
-    alloc: Global,
-    terms: &[Term<'a>],
-    rows: &mut Vec<Value>,
-) -> Result<(), AllocError>
+fn put_terms<'a>(alloc: Global, terms: &[Term<'a>], rows: &mut Vec<Value>) -> Result<(), AllocError>
     ensures { OnOk result (made rows.new.items
         ≡ spec.with_terms (term_list (map pair_of terms.now))
         (with_row (codes "no_terms") [] (made rows.old.items))) }
@@ -110,7 +145,14 @@ fn put_term<'a>(
     ensures { OnOk result (made rows.new.items
         ≡ spec.term_row operator.entry others.entry (made rows.old.items)) }
 {
-    put_three(alloc, "term", Part::Word(operator), last(rows.as_slice()), others, rows)
+    put_three(
+        alloc,
+        "term",
+        Part::Word(operator),
+        last(rows.as_slice()),
+        others,
+        rows,
+    )
 }
 
 /// Puts the rows of the arguments of a call behind others, the last one first.

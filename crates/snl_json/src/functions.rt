@@ -27,7 +27,13 @@ fn put_parameter<'a>(
         ≡ spec.with_parameter (parameter_view parameter.now) (made rows.old.items)) }
 {
     put_type(alloc, parameter.type_name, rows)?;
-    put_two(alloc, "ParameterTree", last(rows.as_slice()), Part::Word(parameter.name), rows)
+    put_two(
+        alloc,
+        "ParameterTree",
+        last(rows.as_slice()),
+        Part::Word(parameter.name),
+        rows,
+    )
 }
 
 /// Puts the rows of what stands in the parentheses of a function behind others.
@@ -40,7 +46,13 @@ fn put_parameters<'a>(
         ≡ spec.with_parameters (parameters_view parameters.now) (made rows.old.items)) }
 {
     put_each_parameter(alloc, parameters.each.as_slice(), rows)?;
-    put_two(alloc, "ParametersTree", Part::Flag(parameters.void), last(rows.as_slice()), rows)
+    put_two(
+        alloc,
+        "ParametersTree",
+        Part::Flag(parameters.void),
+        last(rows.as_slice()),
+        rows,
+    )
 }
 
 /// Puts the row of the words of a type that may be missing behind others; how a row names it.
@@ -77,7 +89,15 @@ fn put_body<'a>(
     let parameters = last(rows.as_slice());
     put_block(alloc, body, rows)?;
     let body = last(rows.as_slice());
-    put_four(alloc, "FunctionTree", words, Part::Word(name), parameters, body, rows)
+    put_four(
+        alloc,
+        "FunctionTree",
+        words,
+        Part::Word(name),
+        parameters,
+        body,
+        rows,
+    )
 }
 
 /// Puts the rows of a function behind others. Fails only where memory ends.

@@ -7,7 +7,9 @@ ghost use Rattle.snl_json.specs.Programs as spec;
 
 use crate::definitions::put_definitions;
 use crate::expressions::put_maybe;
-use crate::rows::{Part, last, maybe_word, put_empty, put_first, put_four, put_one, put_seven, put_six};
+use crate::rows::{
+    Part, last, maybe_word, put_empty, put_first, put_four, put_one, put_seven, put_six,
+};
 use crate::statements::{put_block, put_maybe_block};
 use serde_json::Value;
 use snl_syntax::{Clause, Program, State, StateSet, Target};
@@ -41,15 +43,19 @@ fn put_clause<'a>(
     put_block(alloc, &clause.block, rows)?;
     let inside = last(rows.as_slice());
     put_target(alloc, clause.target, rows)?;
-    put_four(alloc, "ClauseTree", Part::Word(clause.word), condition, inside, last(rows.as_slice()), rows)
+    put_four(
+        alloc,
+        "ClauseTree",
+        Part::Word(clause.word),
+        condition,
+        inside,
+        last(rows.as_slice()),
+        rows,
+    )
 }
 
 /// Puts the rows of a state behind others.
-fn put_state<'a>(
-    alloc: Global,
-    state: &State<'a>,
-    rows: &mut Vec<Value>,
-) -> Result<(), AllocError>
+fn put_state<'a>(alloc: Global, state: &State<'a>, rows: &mut Vec<Value>) -> Result<(), AllocError>
     ensures { OnOk result (made rows.new.items
         ≡ spec.with_state (state_view state.now) (made rows.old.items)) }
 {
@@ -60,7 +66,17 @@ fn put_state<'a>(
     let clauses = last(rows.as_slice());
     let exit = put_maybe_block(alloc, &state.exit, rows)?;
     let (word, name) = (Part::Word(state.word), Part::Word(state.name));
-    put_six(alloc, "StateTree", word, name, definitions, entry, clauses, exit, rows)
+    put_six(
+        alloc,
+        "StateTree",
+        word,
+        name,
+        definitions,
+        entry,
+        clauses,
+        exit,
+        rows,
+    )
 }
 
 /// Puts the rows of a state set behind others.
@@ -76,7 +92,15 @@ fn put_state_set<'a>(
     let definitions = last(rows.as_slice());
     put_states(alloc, set.states.as_slice(), rows)?;
     let (word, name) = (Part::Word(set.word), Part::Word(set.name));
-    put_four(alloc, "StateSetTree", word, name, definitions, last(rows.as_slice()), rows)
+    put_four(
+        alloc,
+        "StateSetTree",
+        word,
+        name,
+        definitions,
+        last(rows.as_slice()),
+        rows,
+    )
 }
 
 /// Puts the rows of a program behind others. Fails only where memory ends.
@@ -96,7 +120,18 @@ pub fn put_program<'a>(
     let exit = put_maybe_block(alloc, &program.exit, rows)?;
     let (word, name) = (Part::Word(program.word), Part::Word(program.name));
     let macros = maybe_word(program.macros);
-    put_seven(alloc, "ProgramTree", word, name, macros, definitions, entry, sets, exit, rows)
+    put_seven(
+        alloc,
+        "ProgramTree",
+        word,
+        name,
+        macros,
+        definitions,
+        entry,
+        sets,
+        exit,
+        rows,
+    )
 }
 
 /// Puts the rows of clauses behind others, the last one first.

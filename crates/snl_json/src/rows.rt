@@ -96,11 +96,7 @@ fn put_part(alloc: Global, part: Part<'_>, row: &mut Vec<Value>) -> Result<(), A
 }
 
 /// Puts parts at the end of a row. Fails only where memory ends.
-fn put_parts(
-    alloc: Global,
-    parts: &[Part<'_>],
-    row: &mut Vec<Value>,
-) -> Result<(), AllocError>
+fn put_parts(alloc: Global, parts: &[Part<'_>], row: &mut Vec<Value>) -> Result<(), AllocError>
     ensures { OnOk result (made row.new.items
         ≡ made row.old.items ++ spec.parts_listed parts.now) }
 {
@@ -208,7 +204,12 @@ pub fn put_six<'a>(
     ensures { OnOk result (made rows.new.items ≡ spec.with_row form.now
         (first.entry ∷ second.entry ∷ third.entry ∷ fourth.entry ∷ fifth.entry ∷ sixth.entry ∷ []) (made rows.old.items)) }
 {
-    put_row(alloc, form, &[first, second, third, fourth, fifth, sixth], rows)
+    put_row(
+        alloc,
+        form,
+        &[first, second, third, fourth, fifth, sixth],
+        rows,
+    )
 }
 
 /// Puts a row of seven parts behind others.
@@ -227,7 +228,12 @@ pub fn put_seven<'a>(
     ensures { OnOk result (made rows.new.items ≡ spec.with_row form.now
         (first.entry ∷ second.entry ∷ third.entry ∷ fourth.entry ∷ fifth.entry ∷ sixth.entry ∷ seventh.entry ∷ []) (made rows.old.items)) }
 {
-    put_row(alloc, form, &[first, second, third, fourth, fifth, sixth, seventh], rows)
+    put_row(
+        alloc,
+        form,
+        &[first, second, third, fourth, fifth, sixth, seventh],
+        rows,
+    )
 }
 
 /// Puts the row of the list that begins with the tree of the last row, behind the tree that the others are. Fails only where memory

@@ -55,7 +55,13 @@ fn put_statement<'a>(
         Stmt::Break(word) => put_one(alloc, "break_loop", Part::Word(*word), rows),
         Stmt::Continue(word) => put_one(alloc, "continue_loop", Part::Word(*word), rows),
         Stmt::State { word, name } => {
-            put_two(alloc, "change_state", Part::Word(*word), Part::Word(*name), rows)
+            put_two(
+                alloc,
+                "change_state",
+                Part::Word(*word),
+                Part::Word(*name),
+                rows,
+            )
         }
         Stmt::Return { word, value } => {
             let value = put_maybe(alloc, value, rows)?;
@@ -77,7 +83,14 @@ fn put_statement<'a>(
             put_statement(alloc, first, rows)?;
             let first = last(rows.as_slice());
             put_statement(alloc, second, rows)?;
-            put_three(alloc, "if_else", condition, first, last(rows.as_slice()), rows)
+            put_three(
+                alloc,
+                "if_else",
+                condition,
+                first,
+                last(rows.as_slice()),
+                rows,
+            )
         }
         Stmt::While {
             word,
@@ -87,13 +100,27 @@ fn put_statement<'a>(
             put_expression(alloc, condition, rows)?;
             let condition = last(rows.as_slice());
             put_statement(alloc, body, rows)?;
-            put_three(alloc, "while_loop", Part::Word(*word), condition, last(rows.as_slice()), rows)
+            put_three(
+                alloc,
+                "while_loop",
+                Part::Word(*word),
+                condition,
+                last(rows.as_slice()),
+                rows,
+            )
         }
         Stmt::For { word, header, body } => {
             put_header(alloc, header, rows)?;
             let header = last(rows.as_slice());
             put_statement(alloc, body, rows)?;
-            put_three(alloc, "for_loop", Part::Word(*word), header, last(rows.as_slice()), rows)
+            put_three(
+                alloc,
+                "for_loop",
+                Part::Word(*word),
+                header,
+                last(rows.as_slice()),
+                rows,
+            )
         }
     }
 }
