@@ -58,6 +58,9 @@ def answered(root, words, usage):
     except (NotUnderstood, NoClause, BadTree) as failed:
         say(f"definitions: {failed}")
         return 2
+    except OSError as failed:
+        say(f"definitions: {failed.filename or 'a stream'}: {failed.strerror}")
+        return 3
 
 
 def answer(root, options, words):
@@ -83,7 +86,7 @@ def one_run(root, options, words):
             return write_of(runner, option, tree, call)
     heard = None
     if "--why" in options:
-        most = int(options["--first"][0]) if "--first" in options else FIRST
+        most = calls.number_of("--first", os.fsencode(options["--first"][0])) if "--first" in options else FIRST
         heard = showing.Calls(runner.definitions, options["--why"][0], most)
     lines, end = runner.run(runner.load(tree, call.given, call.macros), sys.stdin.buffer.read(), call.budget)
     sys.stdout.buffer.write("".join(heard.heard).encode() if heard else lines)

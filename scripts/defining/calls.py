@@ -67,9 +67,9 @@ def call_of(runner, words):
         if word == b"--":
             plain, rest = plain + rest, []
         elif word == b"--budget" and rest:
-            budget = number_of(rest.pop(0))
+            budget = number_of("--budget", rest.pop(0))
         elif word.startswith(b"--budget="):
-            budget = number_of(word.partition(b"=")[2])
+            budget = number_of("--budget", word.partition(b"=")[2])
         elif word.startswith(b"--"):
             raise Failed(f"definitions: {os.fsdecode(word)} is no word of this call", 2)
         else:
@@ -79,14 +79,14 @@ def call_of(runner, words):
     return Call(plain[0], plain[1] if plain[1:] else b"", budget, options, given)
 
 
-def number_of(word):
-    """The number that a word is."""
+def number_of(option, word):
+    """The number that the word behind an option is."""
     try:
         number = int(word)
     except ValueError:
         number = 0
     if not 1 <= number <= 1_000_000_000:
-        raise Failed(f"definitions: {os.fsdecode(word)} is no budget: a number from 1 to 1,000,000,000", 2)
+        raise Failed(f"definitions: {os.fsdecode(word)} behind {option} is no number from 1 to 1,000,000,000", 2)
     return number
 
 
