@@ -28,8 +28,8 @@ FAULTS = {
     "BadValue": "bad value",
     "OutOfRange": "value out of range",
 }
-# The statuses of a call whose program was run.
-RAN = (0, 5, 6)
+# The statuses of a call whose program was run, and that of a fault.
+RAN, FAULT = (0, 5, 6), 5
 
 
 @dataclass
@@ -85,31 +85,34 @@ class Comparer:
 
     def difference(self, case):
         """Where a case has another answer by the definitions, in words; nothing where it has the same, or is none of a run."""
-        with tempfile.TemporaryDirectory(prefix="definitions-") as folder:
-            Path(folder, "p.st").write_bytes(case.source)
-            if self.limited and self.is_long(case, folder):
-                self.skipped += 1
-                return None
-            wanted = self.answer(case.words, case.trace, folder)
-            if wanted.status not in RAN:
-                return None
-            self.runs += 1
-            return self.by_definitions(calls.call_of(self.runner, case.words), case, folder).difference(wanted)
-
-    def is_long(self, case, folder):
-        """Whether a trace is too long, or a run has a larger budget than the ticks of this limit and faults with these."""
-        lines = case.trace.split(b"\n")
-        if len(lines) > LINES or max(map(len, lines)) > BYTES:
-            return True
         try:
             call = calls.call_of(self.runner, case.words)
         except calls.Failed:
-            return False
-        if call.budget <= TICKS:
-            return False
-        words = [*call.options, b"--budget", b"%d" % TICKS, b"--", call.file, *[call.macros] * bool(call.macros)]
-        answer = self.answer(words, case.trace, folder)
-        return answer.status == 5 and answer.lines.endswith(SPENT)
+            return None
+        lines = case.trace.split(b"\n")
+        if self.limited and (len(lines) > LINES or max(map(len, lines)) > BYTES):
+            self.skipped += 1
+            return None
+        with tempfile.TemporaryDirectory(prefix="definitions-") as folder:
+            Path(folder, "p.st").write_bytes(case.source)
+            wanted = self.wanted(call, case, folder)
+            if wanted is None:
+                return None
+            self.runs += 1
+            return self.by_definitions(call, case, folder).difference(wanted)
+
+    def wanted(self, call, case, folder):
+        """What snlrun answers; None where it runs nothing, or where an instant has too many ticks: with fewer the run ends by a fault."""
+        if self.limited and call.budget > TICKS:
+            words = [*call.options, b"--budget", b"%d" % TICKS, b"--", call.file, *[call.macros] * bool(call.macros)]
+            first = self.answer(words, case.trace, folder)
+            if first.status == FAULT and first.lines.endswith(SPENT):
+                self.skipped += 1
+                return None
+            if first.status not in RAN:
+                return None
+        answer = self.answer(case.words, case.trace, folder)
+        return answer if answer.status in RAN else None
 
     def answer(self, words, trace, folder):
         """What snlrun answers."""
