@@ -202,7 +202,8 @@ fn put_declarators<'a>(
     rows: &mut Vec<Value>,
 ) -> Result<(), AllocError>
     ensures { OnOk result (made rows.new.items
-        ≡ with_list spec.with_declarator (map declarator_view declarators.now) (made rows.old.items)) }
+        ≡ with_list spec.with_declarator (map declarator_view declarators.now)
+        (made rows.old.items)) }
 {
     put_empty(alloc, "nil", rows)?;
     for number in (0..declarators.len()).rev() {

@@ -271,7 +271,8 @@ pub fn put_definitions<'a>(
     rows: &mut Vec<Value>,
 ) -> Result<(), AllocError>
     ensures { OnOk result (made rows.new.items
-        ≡ with_list spec.with_definition (map definition_view definitions.now) (made rows.old.items)) }
+        ≡ with_list spec.with_definition (map definition_view definitions.now)
+        (made rows.old.items)) }
 {
     put_empty(alloc, "nil", rows)?;
     for number in (0..definitions.len()).rev() {

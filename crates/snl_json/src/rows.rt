@@ -202,7 +202,8 @@ pub fn put_six<'a>(
     rows: &mut Vec<Value>,
 ) -> Result<(), AllocError>
     ensures { OnOk result (made rows.new.items ≡ spec.with_row form.now
-        (first.entry ∷ second.entry ∷ third.entry ∷ fourth.entry ∷ fifth.entry ∷ sixth.entry ∷ []) (made rows.old.items)) }
+        (first.entry ∷ second.entry ∷ third.entry ∷ fourth.entry ∷ fifth.entry ∷ sixth.entry ∷ [])
+        (made rows.old.items)) }
 {
     put_row(
         alloc,
@@ -226,7 +227,8 @@ pub fn put_seven<'a>(
     rows: &mut Vec<Value>,
 ) -> Result<(), AllocError>
     ensures { OnOk result (made rows.new.items ≡ spec.with_row form.now
-        (first.entry ∷ second.entry ∷ third.entry ∷ fourth.entry ∷ fifth.entry ∷ sixth.entry ∷ seventh.entry ∷ []) (made rows.old.items)) }
+        (first.entry ∷ second.entry ∷ third.entry ∷ fourth.entry ∷ fifth.entry ∷ sixth.entry
+        ∷ seventh.entry ∷ []) (made rows.old.items)) }
 {
     put_row(
         alloc,

@@ -190,7 +190,8 @@ fn put_declarations<'a>(
     rows: &mut Vec<Value>,
 ) -> Result<(), AllocError>
     ensures { OnOk result (made rows.new.items
-        ≡ with_list with_declaration (map declaration_view declarations.now) (made rows.old.items)) }
+        ≡ with_list with_declaration (map declaration_view declarations.now)
+        (made rows.old.items)) }
 {
     put_empty(alloc, "nil", rows)?;
     for number in (0..declarations.len()).rev() {
