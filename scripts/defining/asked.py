@@ -59,7 +59,7 @@ def answered(root, words, usage):
         say(f"definitions: {failed}")
         return 2
     except OSError as failed:
-        say(f"definitions: {failed.filename or 'a stream'}: {failed.strerror}")
+        say(f"definitions: {os.fsdecode(failed.filename or 'a stream')}: {failed.strerror}")
         return 3
 
 

@@ -1,7 +1,7 @@
 """Runs the programs of all cases by the definitions, and compares each with what `snlrun` writes.
 
-A run over more than 2,000 lines, over a line of more than 1,000 bytes, or of more than 200 ticks at an instant takes long by the
-definitions: such ones are skipped and counted, unless all are asked for."""
+A run over more than 2,000 lines, or of more than 200 ticks at an instant, takes long by the definitions: such ones are skipped and counted,
+unless all are asked for. One over a line of more than 1,000 bytes is always skipped: it takes memory by the square of the line."""
 import importlib.machinery
 import importlib.util
 import os
@@ -90,7 +90,7 @@ class Comparer:
         except calls.Failed:
             return None
         lines = case.trace.split(b"\n")
-        if self.limited and (len(lines) > LINES or max(map(len, lines)) > BYTES):
+        if max(map(len, lines)) > BYTES or self.limited and len(lines) > LINES:
             self.skipped += 1
             return None
         with tempfile.TemporaryDirectory(prefix="definitions-") as folder:
