@@ -13,6 +13,7 @@ SLOW = (
     "snl run: memory over many lines",
     "traces.cases: a trace of many pieces",
     "faults.cases: a step more than the budget of an instant",
+    "definitions: all cases by the definitions",
 )
 
 
