@@ -82,6 +82,8 @@ def of_page(root):
 def wrong_words(root, light):
     """Calls with words that are wrong."""
     arithmetic = "crates/snl_arithmetic/specs/Arithmetic.antt"
+    edit, placed = ["--edit", arithmetic, "= divided int_div x y"], f"definitions: {arithmetic}:58: computed"
+    unknown = "is no definition, no constructor and no name of the library that is known here\n"
     for words, said in (
         (["--why", "anything", light], "definitions: no definition under a run is called anything\n"),
         (["--why"], "definitions: --why takes 1 words\n"),
@@ -90,8 +92,8 @@ def wrong_words(root, light):
         ([], "definitions: the words are FILE and MACROS\n"),
         (["--whole", light], "definitions: --whole is no word of this call\n"),
         (["--edit", arithmetic, "no such text", "x"], f"definitions: {arithmetic} has 0 times: no such text\n"),
-        (["--edit", arithmetic, "= divided int_div x y", "= quotient x y"], f"definitions: {arithmetic}:58: computed: quotient is no definition, no constructor and no name of the library that is known here\n"),
-        (["--edit", arithmetic, "= divided int_div x y", "= divided (int_div x y"], f"definitions: {arithmetic}:58: computed: ) has to stand where None stands, near divided ( int_div x y\n"),
+        ([*edit, "= quotient x y"], f"{placed}: quotient {unknown}"),
+        ([*edit, "= divided (int_div x y"], f"{placed}: ) has to stand where None stands, near divided ( int_div x y\n"),
     ):
         name = " ".join(str(it).removeprefix(f"{root}/") for it in words) or "no words"
         yield Defined(f"definitions: {name}", root, words, "", said, 2)
@@ -100,7 +102,7 @@ def wrong_words(root, light):
     seen = "seen by docs/LANGUAGE.md: -7 % 2: line 2: 0 print s -3 by the definitions, 0 print s -1 by snlrun\n"
     yield Defined("definitions: an edit that is seen", root, edit, seen)
     edit = ["--edit", arithmetic, "computed_prefix _ x = Ok x", "computed_prefix _ x = Ok y", "LANGUAGE.md: -7"]
-    said = f"definitions: {arithmetic}:67: computed_prefix: y is no definition, no constructor and no name of the library that is known here\n"
+    said = f"definitions: {arithmetic}:67: computed_prefix: y {unknown}"
     yield Defined("definitions: an edit that names nothing", root, edit, "", said, 2)
 
 

@@ -3,7 +3,10 @@ import re
 
 from defining.library import SIGNS
 from defining.sources import NotUnderstood
-from defining.terms import Anything, Applied, Bound, Cases, Fields, FirstAndRest, If, Joined, Lambda, Let, Made, NewRecord, NoItem, Number, Parts, Text, Word
+from defining.terms import (
+    Anything, Applied, Bound, Cases, Fields, FirstAndRest,
+    If, Joined, Lambda, Let, Made, NewRecord, NoItem, Number, Parts, Text, Word,
+)
 from defining.tokens import Projection, codes_of, tokens_of
 
 # Words and signs at which a row of arguments ends.

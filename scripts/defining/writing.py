@@ -6,7 +6,10 @@ from itertools import count
 from defining.library import NAMES, PATTERNS, SIGNS
 from defining.names import Constructor, Key, Library
 from defining.sources import NotUnderstood
-from defining.terms import Anything, Applied, Bound, Cases, Fields, FirstAndRest, If, Joined, Lambda, Let, Made, NewRecord, NoItem, Number, Parts, Text, Word
+from defining.terms import (
+    Anything, Applied, Bound, Cases, Fields, FirstAndRest,
+    If, Joined, Lambda, Let, Made, NewRecord, NoItem, Number, Parts, Text, Word,
+)
 
 NUMBERED = count()
 
