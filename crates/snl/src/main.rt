@@ -13,6 +13,7 @@ mod overhearing;
 mod run;
 mod searching;
 mod traces;
+mod trees;
 mod waiting;
 
 use asked::Asked;
@@ -27,6 +28,7 @@ use snc_cli::{source_in, tell, words_of, write};
 use snl_args::{Call, CallFault, Word, read_call};
 use std::process::ExitCode;
 use std::time::Instant;
+use trees::answered_tree;
 use waiting::answered_waits;
 
 /// The version of the programs, that of the file VERSION.
@@ -110,6 +112,7 @@ fn answered_word(rt: &HostRuntime, asked: Asked) -> Result<Status, Status> {
         Word::Waits => answered_waits(rt, asked),
         Word::Run => answered_run(rt, asked),
         Word::Cover => Ok(answered_cover(rt, asked)),
+        Word::Tree => answered_tree(rt, asked),
         Word::Graph | Word::Search => answered_graph(rt, asked),
     }
 }

@@ -1,12 +1,12 @@
 //! What the words of a call ask for, and what may be wrong with them.
 
-use crate::commands::{for_cover, for_graph, for_run, over_trace};
+use crate::commands::{for_cover, for_graph, for_run, for_tree, over_trace};
 use crate::language::with_help;
 use crate::searches::{SearchWords, for_search, search_words};
 use crate::texts::{
     COVER_ABOUT, COVER_MORE, COVER_USAGE, GRAPH_ABOUT, GRAPH_MORE, GRAPH_USAGE, HELP, RUN_ABOUT,
-    RUN_MORE, RUN_USAGE, SEARCH_ABOUT, SEARCH_MORE, SEARCH_USAGE, WAITS_ABOUT, WAITS_MORE,
-    WAITS_USAGE, WORDS,
+    RUN_MORE, RUN_USAGE, SEARCH_ABOUT, SEARCH_MORE, SEARCH_USAGE, TREE_ABOUT, TREE_MORE,
+    TREE_USAGE, WAITS_ABOUT, WAITS_MORE, WAITS_USAGE, WORDS,
 };
 use clap::error::ErrorKind;
 use clap::{ArgMatches, Command, Error};
@@ -29,10 +29,12 @@ pub enum Word {
     Graph,
     /// Every trace over a small alphabet, the shortest first: `snl search [--never LINE].. FILE [MACROS]`.
     Search,
+    /// The tree of a program as JSON: `snl tree FILE [MACROS]`.
+    Tree,
 }
 
 /// The names of the words.
-const NAMES: [&str; 5] = ["waits", "run", "cover", "graph", "search"];
+const NAMES: [&str; 6] = ["waits", "run", "cover", "graph", "search", "tree"];
 
 /// What a call asks for.
 #[derive(Drop)]
@@ -86,6 +88,7 @@ fn word_of(name: &str) -> Option<Word> {
         "cover" => Some(Word::Cover),
         "graph" => Some(Word::Graph),
         "search" => Some(Word::Search),
+        "tree" => Some(Word::Tree),
         _ => None,
     }
 }
@@ -209,6 +212,28 @@ fn read_search(alloc: Global, words: &[&str], options: Options) -> Result<Call, 
     Ok(call)
 }
 
+/// What follows `tree`.
+fn read_tree(alloc: Global, words: &[&str], options: Options) -> Result<Call, CallFault> {
+    let command = for_tree(alloc, TREE_USAGE, TREE_ABOUT, TREE_MORE)?;
+    let matches = matches_in(alloc, command, words)?;
+    Ok(Call {
+        word: Word::Tree,
+        job: Job {
+            file: String::from_str(alloc, matches.get_str("FILE").unwrap_or(""))?,
+            options,
+            tables: false,
+            budget: DEFAULT_BUDGET,
+            macros: owned(alloc, matches.get_str("MACROS"))?,
+        },
+        progress: false,
+        is_whole: false,
+        traces: Vec::new(alloc),
+        fail_under: 0,
+        no_trace: false,
+        search: None,
+    })
+}
+
 /// What follows a word.
 fn read_word(
     alloc: Global,
@@ -222,6 +247,7 @@ fn read_word(
         Word::Cover => read_cover(alloc, words, options),
         Word::Graph => read_graph(alloc, words, options),
         Word::Search => read_search(alloc, words, options),
+        Word::Tree => read_tree(alloc, words, options),
     }
 }
 

@@ -104,6 +104,24 @@ pub(crate) fn over_trace<'a>(
         .arg(help_argument(alloc))
 }
 
+/// The command of `tree`: FILE and MACROS.
+pub(crate) fn for_tree<'a>(
+    alloc: Global,
+    usage: &'a str,
+    about: &'a str,
+    more: &'a str,
+) -> Result<Command<'a>, AllocError> {
+    Command::new(alloc, "snl")
+        .no_binary_name(true)
+        .disable_help_flag(true)
+        .override_usage(usage)
+        .about(about)
+        .after_help(more)
+        .arg(file_argument(alloc))?
+        .arg(macros_argument(alloc))?
+        .arg(help_argument(alloc))
+}
+
 /// The command of `run`.
 pub(crate) fn for_run<'a>(
     alloc: Global,

@@ -31,6 +31,7 @@ fn right_call(alloc: Global, word: Word, file: &str, trace: &str) -> Result<Stri
         Word::Cover => format!(in alloc;
             "A trace comes behind --trace: snl cover --trace {trace} {file}"
         ),
+        Word::Tree => format!(in alloc; "No trace is read: snl tree {file}"),
         Word::Search => format!(in alloc;
             "A recorded trace comes behind --like: snl search --like {trace} {file}"
         ),

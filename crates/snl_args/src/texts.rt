@@ -10,6 +10,7 @@ Look:
   waits  When a program begins over a trace, or what it still waits for
   cover  What of a program no run showed: clauses, states, channels
   graph  A picture of a program, for Graphviz
+  tree   The tree of a program as JSON, for scripts
 
 Run:
   run    A run with notes on what fired and why, blocks that repeat folded, and a summary
@@ -36,6 +37,7 @@ Look:
   waits  When a program begins over a trace, or what it still waits for
   cover  What of a program no run showed: clauses, states, channels
   graph  A picture of a program, for Graphviz
+  tree   The tree of a program as JSON, for scripts
 
 Run:
   run    A run with notes on what fired and why, blocks that repeat folded, and a summary
@@ -112,6 +114,21 @@ Example: snl graph light.st < light.trace | dot -Tsvg > light.svg
 
 Status: 0 done, 1 the program has errors, 2 the words of the call are wrong, 3 the file, the input or
 the output failed, 4 memory ran out, 5 the program faulted, 6 a line of the trace is bad.";
+
+/// What `snl tree --help` tells.
+pub(crate) const TREE_USAGE: &str = "snl tree [±X..] FILE [MACROS]";
+
+pub(crate) const TREE_ABOUT: &str = "\
+The tree of a program as JSON: a list of rows, of which each is a form with its parts and the last one is the
+program. docs/tools/tree.md tells what stands in a row.";
+
+pub(crate) const TREE_MORE: &str = "\
+No trace is read. MACROS change nothing.
+
+Example: snl tree light.st > light.json
+
+Status: 0 done, 1 the program has errors, 2 the words of the call are wrong, 3 the file or the output failed,
+4 memory ran out.";
 
 /// What `snl search --help` tells.
 pub(crate) const SEARCH_USAGE: &str =

@@ -1,0 +1,139 @@
+"""All cases and examples that run a program, by the definitions themselves: `scripts/definitions` reads these and executes them.
+
+Each run has to give the lines of snlrun, its status, and its words about a bad line of the trace. The clauses that no case reaches have to
+be those that docs/PROOFS.md lists, "Run what you believe". And each edit of `slips` has to be seen by the case that it names."""
+import re
+import subprocess
+import sys
+import tempfile
+from dataclasses import dataclass
+from pathlib import Path
+
+from case import differences
+
+SCRIPT = "scripts/definitions"
+SECONDS = 1200
+# How many runs there are at least.
+RUNS = 700
+SUMS = re.compile(r"(\d+) runs by the definitions, (\d+) different, (\d+) skipped")
+CLAUSES = re.compile(r"(\d+) of (\d+) clauses are reached by no case")
+ROW = re.compile(r"^\| `(crates/\S+)` \| `(.*?)` \| .+ \|$", re.MULTILINE)
+
+
+@dataclass
+class Defined:
+    """A call of the script, and what its output has to be: a text, or what a function says of it."""
+
+    name: str
+    root: Path
+    words: list
+    stdout: object
+    stderr: str = ""
+    status: int = 0
+    trace: bytes = b""
+    source: str = ""
+    tool: str = "snl"
+
+    def lacks(self):
+        """Python 3.11, where there is none."""
+        return "" if sys.version_info >= (3, 11) else "there is no Python 3.11 here"
+
+    def failure(self, programs):
+        """What is wrong, or nothing."""
+        named = [f"--{name}={programs[name]}" for name in ("snl", "snlrun")]
+        with tempfile.TemporaryDirectory(prefix="snlrun-") as folder:
+            Path(folder, "p.st").write_text(self.source)
+            call = [self.root / SCRIPT, *named, *self.words]
+            ran = subprocess.run(call, input=self.trace, capture_output=True, timeout=SECONDS, cwd=folder)
+        told, said = ran.stdout.decode(), ran.stderr.decode()
+        wrong = [f"status {ran.returncode}, not {self.status}: {said}"] if ran.returncode != self.status else []
+        wrong += self.stdout(self.root, told) if callable(self.stdout) else differences("stdout", self.stdout.encode(), ran.stdout)
+        if not callable(self.stdout):
+            wrong += differences("stderr", self.stderr.encode(), ran.stderr)
+        return "\n  ".join([f"FAILED {self.name}", *wrong]) if wrong else None
+
+
+def cases(root):
+    """One for all runs, one for all edits, and small calls."""
+    yield Defined("definitions: all cases by the definitions", root, ["--coverage"], wrong_with_runs)
+    yield Defined("definitions: edits of definitions", root, ["--slips"], wrong_with_slips)
+    yield from of_page(root)
+    light, trace = root / "examples/light.st", (root / "examples/light.trace").read_bytes()
+    yield Defined("definitions: a bad line", root, [light], "", "ended by TraceFault 1 BadTime\n", 6, b"x\n")
+    yield Defined("definitions: the first calls of one", root, ["--why", "Turn.fired", "--first", "1", light], wrong_with_call, trace=trace)
+    station = root / "examples/station/station.st"
+    yield Defined("definitions: tables", root, ["--tables", station], station.with_suffix(".tables").read_text())
+    yield Defined("definitions: how many words a program needs, as docs/CALL.md has it", root, ["--footprint", light], "21\n")
+    yield from wrong_words(root, light)
+
+
+def of_page(root):
+    """What docs/PROOFS.md shows: a program, its run, and the calls of a definition."""
+    page = (root / "docs/PROOFS.md").read_text().split("\n## Run what you believe\n")[1].split("\n## ")[0]
+    source = re.search(r"^```\n(program .*?)^```$", page, re.DOTALL | re.MULTILINE)[1]
+    trace = "".join(f"{it}\n" for it in re.findall(r"`(\d+ (?:up|val) A.*?)`", page)).encode()
+    shown = re.search(r"^```\n(\$ .*?)^```$", page, re.DOTALL | re.MULTILINE)[1]
+    for call, answer in re.findall(r"^\$ scripts/definitions (.*?) < .*\n((?:(?!\$ ).*\n)*)", shown, re.MULTILINE):
+        words = ["p.st" if it == "halves.st" else it for it in call.split()]
+        *lines, end = answer.splitlines(keepends=True)
+        yield Defined(f"definitions: docs/PROOFS.md, {call}", root, words, "".join(lines), end, trace=trace, source=source)
+
+
+def wrong_words(root, light):
+    """Calls with words that are wrong."""
+    arithmetic = "crates/snl_arithmetic/specs/Arithmetic.antt"
+    edit, placed = ["--edit", arithmetic, "= divided int_div x y"], f"definitions: {arithmetic}:58: computed"
+    unknown = "is no definition, no constructor and no name of the library that is known here\n"
+    for words, said in (
+        (["--why", "anything", light], "definitions: no definition under a run is called anything\n"),
+        (["--why"], "definitions: --why takes 1 words\n"),
+        (["--why", "computed", "--first", "x", light], "definitions: x behind --first is no number from 1 to 1,000,000,000\n"),
+        (["--budget", "0", light], "definitions: 0 behind --budget is no number from 1 to 1,000,000,000\n"),
+        ([], "definitions: the words are FILE and MACROS\n"),
+        (["--whole", light], "definitions: --whole is no word of this call\n"),
+        (["--edit", arithmetic, "no such text", "x"], f"definitions: {arithmetic} has 0 times: no such text\n"),
+        ([*edit, "= quotient x y"], f"{placed}: quotient {unknown}"),
+        ([*edit, "= divided (int_div x y"], f"{placed}: ) has to stand where None stands, near divided ( int_div x y\n"),
+    ):
+        name = " ".join(str(it).removeprefix(f"{root}/") for it in words) or "no words"
+        yield Defined(f"definitions: {name}", root, words, "", said, 2)
+    yield Defined("definitions: a file that is not there", root, ["q.st"], "", "snl: cannot read q.st\n", 3)
+    edit = ["--edit", arithmetic, "computed Percent x y = divided int_rem x y", "computed Percent x y = divided int_div x y", "LANGUAGE.md: -7"]
+    seen = "seen by docs/LANGUAGE.md: -7 % 2: line 2: 0 print s -3 by the definitions, 0 print s -1 by snlrun\n"
+    yield Defined("definitions: an edit that is seen", root, edit, seen)
+    edit = ["--edit", arithmetic, "computed_prefix _ x = Ok x", "computed_prefix _ x = Ok y", "LANGUAGE.md: -7"]
+    said = f"definitions: {arithmetic}:67: computed_prefix: y {unknown}"
+    yield Defined("definitions: an edit that names nothing", root, edit, "", said, 2)
+
+
+def wrong_with_call(root, told):
+    """What is wrong with a call of a definition that does not fit on a line: its name, an argument a line, and what it gives."""
+    lines = told.splitlines()
+    forms = ["fired", "  {set = 0; ", "  0", "  None", "  {time = 0; ", "  = Gives Stayed {time = 0; "]
+    return [] if len(lines) == len(forms) and all(map(str.startswith, lines, forms)) else [f"no call in {told[:400]!r}"]
+
+
+def wrong_with_runs(root, told):
+    """What is wrong with the output about all cases."""
+    sums, clauses = SUMS.search(told), CLAUSES.search(told)
+    if not sums or not clauses:
+        return [f"no sums in {told[-400:]!r}"]
+    wrong = [it for it in told.splitlines() if it.startswith("DIFFERENT")]
+    if int(sums[1]) < RUNS:
+        wrong.append(f"only {sums[1]} runs")
+    page = (root / "docs/PROOFS.md").read_text()
+    if f"{clauses[2]} clauses" not in page:
+        wrong.append(f"docs/PROOFS.md does not tell that there are {clauses[2]} clauses")
+    listed = set(ROW.findall(page))
+    found = {tuple(it.split(":", 1)[0:1]) + (it.split(" ", 1)[1],) for it in told.splitlines() if re.match(r"crates/\S+:\d+ ", it)}
+    wrong += [f"docs/PROOFS.md does not list a clause that no case reaches: {it}" for it in sorted(found - listed)]
+    return wrong + [f"docs/PROOFS.md lists a clause that is none, or that a case reaches: {it}" for it in sorted(listed - found)]
+
+
+def wrong_with_slips(root, told):
+    """What is wrong with the output about edits: each file of definitions under a run has one, but those that have no clauses."""
+    edited = set(re.findall(r"^file: (\S+)$", (root / "cases/slips").read_text(), re.MULTILINE))
+    needed = subprocess.run([root / SCRIPT, "--list"], capture_output=True, text=True, check=True).stdout
+    files = set(re.findall(r"^(crates/\S+\.antt):", needed, re.MULTILINE))
+    wrong = [it for it in told.splitlines() if it.startswith("NOT SEEN")]
+    return wrong + [f"cases/slips has no edit of {it}" for it in sorted(files - edited)]

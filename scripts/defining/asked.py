@@ -1,0 +1,198 @@
+"""What a call of `scripts/definitions` asks for, and its answer."""
+import os
+import sys
+from pathlib import Path
+
+from defining import calls, cases, edits, running, showing
+from defining.definitions import NoClause
+from defining.running import Runner
+from defining.sources import NotUnderstood, path_of
+from defining.trees import BadTree, Trees
+from defining.values import bytes_of, items_of, listed as list_of
+
+# The options of this script, with how many words each takes.
+OPTIONS = {
+    "--all": 0, "--cases": 0, "--coverage": 0, "--edit": 3, "--first": 1, "--footprint": 0, "--links": 0, "--list": 0, "--sites": 0,
+    "--slips": 0, "--snl": 1, "--snlrun": 1, "--tables": 0, "--why": 1,
+}  # fmt: skip
+# What is read off a tree without a run: of the tree alone, or of the tree and its links.
+OF_TREE = {"--tables": running.TABLES, "--sites": running.SITES}
+OF_LINKS = {"--footprint": running.FOOTPRINT}
+FIRST = 20
+
+
+def say(line):
+    """A line to standard error."""
+    print(line, file=sys.stderr, flush=True)
+
+
+def parted(words):
+    """The options of this script among some words, and the words that are left."""
+    found, left, words = {}, [], list(words)
+    while words:
+        word = words.pop(0)
+        if word.partition("=")[0] in OPTIONS and "=" in word:
+            word, _, first = word.partition("=")
+            words.insert(0, first)
+        if word not in OPTIONS:
+            left.append(word)
+            continue
+        if len(words) < OPTIONS[word]:
+            raise calls.Failed(f"definitions: {word} takes {OPTIONS[word]} words", 2)
+        found[word], words = words[: OPTIONS[word]], words[OPTIONS[word] :]
+    return found, left
+
+
+def answered(root, words, usage):
+    """Does what words ask for; the status."""
+    if not words or words[0] in ("--help", "-h"):
+        print(usage)
+        return 0 if words else 2
+    try:
+        options, left = parted(words)
+        return answer(root, options, left)
+    except calls.Failed as failed:
+        if failed.said:
+            say(failed.said)
+        return failed.status
+    except (NotUnderstood, NoClause, BadTree) as failed:
+        say(f"definitions: {failed}")
+        return 2
+    except OSError as failed:
+        say(f"definitions: {os.fsdecode(failed.filename or 'a stream')}: {failed.strerror}")
+        return 3
+
+
+def answer(root, options, words):
+    """The status of what is asked for."""
+    if "--list" in options:
+        return listed(Runner(root))
+    if "--slips" in options:
+        return slips(root, options)
+    if "--edit" in options:
+        return edited(root, options, words)
+    if "--cases" in options or "--all" in options or "--coverage" in options:
+        return compared(root, options, words)
+    return one_run(root, options, words)
+
+
+def one_run(root, options, words):
+    """Runs one program, and writes its lines, or the calls of a definition."""
+    runner = Runner(root)
+    call = calls.call_of(runner, [os.fsencode(it) for it in words])
+    tree = Trees(runner.definitions.names).program(calls.tree_text(program(root, options, "snl"), call))
+    for option in ("--tables", "--sites", "--links", "--footprint"):
+        if option in options:
+            return write_of(runner, option, tree, call)
+    heard = None
+    if "--why" in options:
+        most = calls.number_of("--first", os.fsencode(options["--first"][0])) if "--first" in options else FIRST
+        heard = showing.Calls(runner.definitions, options["--why"][0], most)
+    lines, end = runner.run(runner.load(tree, call.given, call.macros), sys.stdin.buffer.read(), call.budget)
+    sys.stdout.buffer.write("".join(heard.heard).encode() if heard else lines)
+    sys.stdout.flush()
+    if heard and heard.count > len(heard.heard):
+        say(f"and {heard.count - len(heard.heard)} calls more")
+    say(f"ended by {showing.shown(end)}")
+    return runner.status(end)
+
+
+def write_of(runner, option, tree, call):
+    """Writes what is read off a tree: its tables, its sites, its links, or how many words it needs."""
+    if option in OF_TREE:
+        found = runner.call(OF_TREE[option], tree)
+    else:
+        links = runner.call(running.LINKS, tree, list_of(list(call.macros)))
+        found = runner.call(OF_LINKS[option], tree, links) if option in OF_LINKS else links
+    if option == "--tables":
+        sys.stdout.buffer.write(bytes_of(found))
+    else:
+        print("\n".join(map(showing.shown, [found] if type(found) is int else items_of(found))))
+    return 0
+
+
+def program(root, options, name):
+    """Where a program stands."""
+    return calls.program(root, name, *options.get(f"--{name}", ()))
+
+
+def listed(runner):
+    """Writes the definitions under a run."""
+    definitions = runner.definitions
+    for key in sorted(definitions.takes, key=str):
+        print(f"{path_of(key.crate, key.module)}:{definitions.names.definition(key).line} {key.name}")
+    files = {(key.crate, key.module) for key in definitions.takes}
+    print(f"{len(definitions.takes)} definitions of {len(files)} files, {len(definitions.clauses)} clauses")
+    return 0
+
+
+def comparer(root, options, runner):
+    """What compares cases."""
+    trees = Trees(runner.definitions.names)
+    return cases.Comparer(runner, trees, program(root, options, "snl"), program(root, options, "snlrun"), "--all" not in options)
+
+
+def chosen(root, words):
+    """The cases whose name has one of some words; all, where there is none."""
+    return [it for it in cases.all_cases(Path(root)) if not words or any(word in it.name for word in words)]
+
+
+def compared(root, options, words):
+    """Runs cases, and tells those that differ; with --coverage the clauses that none reaches."""
+    runner = Runner(root)
+    compare, different = comparer(root, options, runner), 0
+    needed = set(runner.definitions.takes)
+    for it in chosen(root, words):
+        try:
+            told = compare.difference(it)
+        except (NoClause, BadTree) as failed:
+            told = str(failed)
+        if told:
+            different += 1
+            print(f"DIFFERENT {it.name}: {told}", flush=True)
+    print(f"{compare.runs} runs by the definitions, {different} different, {compare.skipped} skipped")
+    if "--coverage" in options:
+        write_unreached(runner.definitions, needed)
+    return 1 if different or not compare.runs else 0
+
+
+def write_unreached(definitions, needed):
+    """Writes the clauses that nothing reached."""
+    rows = [(key, clause) for at, (key, clause) in enumerate(definitions.clauses) if key in needed and not definitions.reached[at]]
+    for key, clause in rows:
+        print(f"{path_of(key.crate, key.module)}:{clause.line} {' '.join(clause.text.split())}")
+    print(f"{len(rows)} of {sum(key in needed for key, _ in definitions.clauses)} clauses are reached by no case")
+
+
+def edited(root, options, words):
+    """Tells by which case another text in a definition is seen."""
+    seen = seen_by(root, options, edits.Edit(*options["--edit"]), chosen(root, words))
+    print(f"seen by {seen}" if seen else "seen by no case")
+    return 0 if seen else 1
+
+
+def seen_by(root, options, edit, chosen_cases):
+    """The first case that sees an edit, with what differs."""
+    compare = comparer(root, options, Runner(root, edit))
+    for it in chosen_cases:
+        try:
+            told = compare.difference(it)
+        except (NoClause, TypeError, AttributeError, RecursionError, ZeroDivisionError, IndexError) as failed:
+            told = f"the run stops: {failed}"
+        if told:
+            return f"{it.name}: {told}"
+    return None
+
+
+def slips(root, options):
+    """Tries each edit of the table on the case that it names."""
+    every = {it.name: it for it in cases.all_cases(Path(root))}
+    rows, unseen = edits.table(Path(root, "cases/slips")), 0
+    for edit in rows:
+        if edit.case not in every:
+            raise calls.Failed(f"definitions: cases/slips: there is no case {edit.case}", 2)
+        if not seen_by(root, options, edit, [every[edit.case]]):
+            unseen += 1
+            print(f"NOT SEEN {edit.file}: {edit.old} -> {edit.new}: by {edit.case}", flush=True)
+    print(f"{len(rows)} edits of definitions, {unseen} not seen")
+    return 1 if unseen or not rows else 0
