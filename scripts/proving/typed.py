@@ -16,9 +16,12 @@ def words_of(crate):
         uses = ",".join(dict.fromkeys(["core", *it.of_kit, *(dep.name for dep in it.deps)]))
         words = without(words, ("--extern", f"{it.name}={it.rlib}"), ("-L", f"dependency={os.path.dirname(it.rlib)}"))
         words += ["--lib", f"{it.name}:{uses}={it.folder}/src/lib.rt"]
-    # What is read as a source names the kit's libraries itself.
-    more = {"core", *(name for it in new for name in it.of_kit)} - {*crate.of_kit} if new else ()
-    return words + [it for name in sorted(more) for it in ("--extern", f"{name}={KIT}/rlibs/{name}.rlib")]
+    # What is read as a source names the libraries that it stands on itself: those of the kit, and those below that are built.
+    more = {name: f"{KIT}/rlibs/{name}.rlib" for name in ("core", *(name for it in new for name in it.of_kit))} if new else {}
+    more |= {dep.name: dep.rlib for it in new for dep in it.deps if dep.is_built()}
+    for name in (*crate.of_kit, *(dep.name for dep in crate.deps)):
+        more.pop(name, None)
+    return words + [it for name in sorted(more) for it in ("--extern", f"{name}={more[name]}")]
 
 
 def without(words, *pairs):
