@@ -96,14 +96,16 @@ def wrong_words(root, light):
         ([*edit, "= divided (int_div x y"], f"{placed}: ) has to stand where None stands, near divided ( int_div x y\n"),
     ):
         name = " ".join(str(it).removeprefix(f"{root}/") for it in words) or "no words"
-        yield Defined(f"definitions: {name}", root, words, "", said, 2)
+        # A name is looked for, and a number is wrong, once the program has a tree.
+        front = "" if words[-1:] == [light] and words[0] == "--why" else "wrong words: "
+        yield Defined(f"definitions: {front}{name}", root, words, "", said, 2)
     yield Defined("definitions: a file that is not there", root, ["q.st"], "", "snl: cannot read q.st\n", 3)
     edit = ["--edit", arithmetic, "computed Percent x y = divided int_rem x y", "computed Percent x y = divided int_div x y", "LANGUAGE.md: -7"]
     seen = "seen by docs/LANGUAGE.md: -7 % 2: line 2: 0 print s -3 by the definitions, 0 print s -1 by snlrun\n"
     yield Defined("definitions: an edit that is seen", root, edit, seen)
     edit = ["--edit", arithmetic, "computed_prefix _ x = Ok x", "computed_prefix _ x = Ok y", "LANGUAGE.md: -7"]
     said = f"definitions: {arithmetic}:67: computed_prefix: y {unknown}"
-    yield Defined("definitions: an edit that names nothing", root, edit, "", said, 2)
+    yield Defined("definitions: wrong words: an edit that names nothing", root, edit, "", said, 2)
 
 
 def wrong_with_call(root, told):

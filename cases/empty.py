@@ -29,6 +29,7 @@ WITHOUT = {
     "scripts/more-edits: ": MADE,
     "plot: the pictures of the pages are small": "it reads files of docs/",
     ": cpp makes it of the program": "it tries cpp, and what examples/ has of it",
+    "definitions: wrong words: ": "it tries words of scripts/definitions that are wrong before a program is called",
     "| awk -f with-clock.awk": "it tries an awk script of the page alone",
     "ports: quotients that are cut, beside exact fractions": "it asks the modules of scripts/porting, and computes with what these write",
     "scripts/port --snc= ": "it tries scripts/port, which is told to ask no snc",

@@ -115,9 +115,11 @@ class Comparer:
         return answer if answer.status in RAN else None
 
     def answer(self, words, trace, folder):
-        """What snlrun answers."""
-        with tempfile.TemporaryFile() as said:
-            status, lines = calls.ran([os.fsencode(self.snlrun), *words], input=trace, cwd=folder, stderr=said)
+        """What snlrun answers. The trace comes from a file: snlrun may end before it has read all, and a pipe would break then."""
+        with tempfile.TemporaryFile() as stdin, tempfile.TemporaryFile() as said:
+            stdin.write(trace)
+            stdin.seek(0)
+            status, lines = calls.ran([os.fsencode(self.snlrun), *words], stdin=stdin, cwd=folder, stderr=said)
             said.seek(0)
             bad = [it for it in said.read().splitlines(keepends=True) if it.startswith(b"trace:")]
         return Answer(lines, status, b"".join(bad[-1:]))
