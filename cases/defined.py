@@ -1,7 +1,7 @@
 """All cases and examples that run a program, by the definitions themselves: `scripts/definitions` reads these and executes them.
 
 Each run has to give the lines of snlrun, its status, and its words about a bad line of the trace. The clauses that no case reaches have to
-be those that docs/PROOFS.md lists, "Run what you believe". And each edit of `slips` has to be seen by the case that it names."""
+be those that docs/DEFINITIONS.md lists. And each edit of `slips` has to be seen by the case that it names."""
 import re
 import subprocess
 import sys
@@ -68,15 +68,15 @@ def cases(root):
 
 
 def of_page(root):
-    """What docs/PROOFS.md shows: a program, its run, and the calls of a definition."""
-    page = (root / "docs/PROOFS.md").read_text().split("\n## Run what you believe\n")[1].split("\n## ")[0]
+    """What docs/DEFINITIONS.md shows: a program, its run, and the calls of a definition."""
+    page = (root / "docs/DEFINITIONS.md").read_text().split("\n## A definition that runs\n")[1].split("\n## ")[0]
     source = re.search(r"^```\n(program .*?)^```$", page, re.DOTALL | re.MULTILINE)[1]
     trace = "".join(f"{it}\n" for it in re.findall(r"`(\d+ (?:up|val) A.*?)`", page)).encode()
     shown = re.search(r"^```\n(\$ .*?)^```$", page, re.DOTALL | re.MULTILINE)[1]
     for call, answer in re.findall(r"^\$ scripts/definitions (.*?) < .*\n((?:(?!\$ ).*\n)*)", shown, re.MULTILINE):
         words = ["p.st" if it == "halves.st" else it for it in call.split()]
         *lines, end = answer.splitlines(keepends=True)
-        yield Defined(f"definitions: docs/PROOFS.md, {call}", root, words, "".join(lines), end, trace=trace, source=source)
+        yield Defined(f"definitions: docs/DEFINITIONS.md, {call}", root, words, "".join(lines), end, trace=trace, source=source)
 
 
 def wrong_words(root, light):
@@ -123,13 +123,13 @@ def wrong_with_runs(root, told):
     wrong = [it for it in told.splitlines() if it.startswith("DIFFERENT")]
     if int(sums[1]) < RUNS:
         wrong.append(f"only {sums[1]} runs")
-    page = (root / "docs/PROOFS.md").read_text()
+    page = (root / "docs/DEFINITIONS.md").read_text()
     if f"{clauses[2]} clauses" not in page:
-        wrong.append(f"docs/PROOFS.md does not tell that there are {clauses[2]} clauses")
+        wrong.append(f"docs/DEFINITIONS.md does not tell that there are {clauses[2]} clauses")
     listed = set(ROW.findall(page))
     found = {tuple(it.split(":", 1)[0:1]) + (it.split(" ", 1)[1],) for it in told.splitlines() if re.match(r"crates/\S+:\d+ ", it)}
-    wrong += [f"docs/PROOFS.md does not list a clause that no case reaches: {it}" for it in sorted(found - listed)]
-    return wrong + [f"docs/PROOFS.md lists a clause that is none, or that a case reaches: {it}" for it in sorted(listed - found)]
+    wrong += [f"docs/DEFINITIONS.md does not list a clause that no case reaches: {it}" for it in sorted(found - listed)]
+    return wrong + [f"docs/DEFINITIONS.md lists a clause that is none, or that a case reaches: {it}" for it in sorted(listed - found)]
 
 
 def wrong_with_slips(root, told):
