@@ -19,7 +19,6 @@ use snl_text::Pos;
 use std::alloc::{AllocError, Global};
 
 /// A program of which no error is said.
-#[derive(Drop)]
 pub struct Checked<'a> {
     program: Program<'a>,
     /// Those in force.
@@ -28,6 +27,17 @@ pub struct Checked<'a> {
     uses: UseTable,
     pub ghost accepted: { IsAccepted options program },
     ghost bound: { IsTableOf uses (program_view program) } by { Prim.hlevel props },
+}
+
+// Written out: a derived drop is proved anew wherever such a value ends.
+impl<'a> Drop for Checked<'a> {
+    fn drop(self) {
+        let Checked {
+            program: _,
+            options: _,
+            uses: _,
+        } = self;
+    }
 }
 
 impl<'a> Checked<'a> {

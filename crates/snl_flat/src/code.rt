@@ -10,7 +10,6 @@ use crate::starts::{ClauseStarts, Piece, StateStarts};
 use snl_meaning::{FunctionEntry, Instr};
 
 /// The flat code of a program. It owns all that it holds.
-#[derive(Drop)]
 pub struct Code {
     pub(crate) instrs: Vec<Instr>,
     /// The strings of the program, in the order of the source.
@@ -24,6 +23,21 @@ pub struct Code {
     pub(crate) exit: Option<usize>,
     /// Where the pieces of each state begin, by state set.
     pub(crate) sets: Vec<Vec<StateStarts>>,
+}
+
+// Written out: a derived drop is proved anew wherever such a value ends.
+impl Drop for Code {
+    fn drop(self) {
+        let Code {
+            instrs: _,
+            texts: _,
+            functions: _,
+            depth: _,
+            entry: _,
+            exit: _,
+            sets: _,
+        } = self;
+    }
 }
 
 impl Code {

@@ -13,7 +13,6 @@ use snl_schedule::Plan;
 use snl_vm::Memory;
 
 /// A program with the memory of its run. It owns all that it holds, and nothing of the source.
-#[derive(Drop)]
 pub struct Machine {
     /// What the state sets and the links are.
     pub(crate) plan: Plan,
@@ -29,4 +28,18 @@ pub struct Machine {
     ghost words: { footprint ≡ store_words memory.store + operand_words memory.operands },
     ghost room: { room_of memory.operands ≡ room_for code.depth (length code.functions.items) },
     ghost runs: { CanRunLoaded (loaded_by plan code) } by { loaded-fact (loaded_by plan code) },
+}
+
+// Written out: a derived drop is proved anew wherever such a value ends.
+impl Drop for Machine {
+    fn drop(self) {
+        let Machine {
+            plan: _,
+            code: _,
+            names: _,
+            budget: _,
+            memory: _,
+            footprint: _,
+        } = self;
+    }
 }

@@ -114,7 +114,6 @@ pub struct SetContext<'t> {
 }
 
 /// A program.
-#[derive(Drop)]
 pub struct Plan {
     /// As spelled in the source.
     pub name: Vec<u8>,
@@ -129,6 +128,20 @@ pub struct Plan {
     /// By channel: the numbers of its links.
     rows: Rows,
     ghost known: { HasRows rows links.items } by { Prim.hlevel props },
+}
+
+// Written out: a derived drop is proved anew wherever such a value ends.
+impl Drop for Plan {
+    fn drop(self) {
+        let Plan {
+            name: _,
+            links: _,
+            waits: _,
+            blocks: _,
+            sets: _,
+            rows: _,
+        } = self;
+    }
 }
 
 /// The channels of links.

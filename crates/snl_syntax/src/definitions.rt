@@ -5,7 +5,6 @@ use snl_text::Token;
 
 /// `decl | assign | monitor | sync | syncq | evflag`, in a program and in a state `option`, and in a
 /// program `fdef`.
-#[derive(Drop)]
 pub enum Def<'a> {
     Declaration(Declaration<'a>),
     Assign(Assign<'a>),
@@ -18,6 +17,22 @@ pub enum Def<'a> {
     Setting(Setting<'a>),
     /// `fdef`, only in a program.
     Function(Box<Function<'a>>),
+}
+
+// Written out: a derived drop is proved anew wherever such a value ends.
+impl<'a> Drop for Def<'a> {
+    fn drop(self) {
+        match self {
+            Def::Declaration(declaration) => drop(declaration),
+            Def::Assign(assign) => drop(assign),
+            Def::Monitor(place) => drop(place),
+            Def::Sync(sync) => drop(sync),
+            Def::SyncQueue(queue) => drop(queue),
+            Def::EventFlags(names) => drop(names),
+            Def::Setting(_) => {}
+            Def::Function(function) => drop(function),
+        }
+    }
 }
 
 /// `place : NAME [ '[' expr ']' ]`

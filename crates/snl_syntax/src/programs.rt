@@ -6,7 +6,6 @@ use snl_text::{Pos, Token};
 /// `program : 'program' NAME [ '(' STRING ')' ] pdef* [entry] ss+ [exit]`
 ///
 /// Beside its parts it has what the source held between and after its tokens.
-#[derive(Drop)]
 pub struct Program<'a> {
     /// `program`
     pub word: Token<'a>,
@@ -28,8 +27,26 @@ pub struct Program<'a> {
     pub beyond: Option<Pos>,
 }
 
+// Written out: a derived drop is proved anew wherever such a value ends.
+impl<'a> Drop for Program<'a> {
+    fn drop(self) {
+        let Program {
+            word: _,
+            name: _,
+            macros: _,
+            definitions: _,
+            entry: _,
+            state_sets: _,
+            exit: _,
+            embedded: _,
+            files: _,
+            token_count: _,
+            beyond: _,
+        } = self;
+    }
+}
+
 /// `ss : 'ss' NAME '{' def* state+ '}'`
-#[derive(Drop)]
 pub struct StateSet<'a> {
     /// `ss`
     pub word: Token<'a>,
@@ -40,8 +57,19 @@ pub struct StateSet<'a> {
     pub states: Vec<State<'a>>,
 }
 
+// Written out: a derived drop is proved anew wherever such a value ends.
+impl<'a> Drop for StateSet<'a> {
+    fn drop(self) {
+        let StateSet {
+            word: _,
+            name: _,
+            definitions: _,
+            states: _,
+        } = self;
+    }
+}
+
 /// `state : 'state' NAME '{' tdef* [entry] when* [exit] '}'`
-#[derive(Drop)]
 pub struct State<'a> {
     /// `state`
     pub word: Token<'a>,
@@ -53,14 +81,39 @@ pub struct State<'a> {
     pub exit: Option<Box<Block<'a>>>,
 }
 
+// Written out: a derived drop is proved anew wherever such a value ends.
+impl<'a> Drop for State<'a> {
+    fn drop(self) {
+        let State {
+            word: _,
+            name: _,
+            definitions: _,
+            entry: _,
+            clauses: _,
+            exit: _,
+        } = self;
+    }
+}
+
 /// `when : 'when' '(' [expr] ')' block ( 'state' NAME | 'exit' )`
-#[derive(Drop)]
 pub struct Clause<'a> {
     /// `when`
     pub word: Token<'a>,
     pub condition: Option<Box<Expr<'a>>>,
     pub block: Box<Block<'a>>,
     pub target: Target<'a>,
+}
+
+// Written out: a derived drop is proved anew wherever such a value ends.
+impl<'a> Drop for Clause<'a> {
+    fn drop(self) {
+        let Clause {
+            word: _,
+            condition: _,
+            block: _,
+            target: _,
+        } = self;
+    }
 }
 
 /// Where a [`Clause`] leads.

@@ -22,7 +22,6 @@ pub struct SetMemory {
 }
 
 /// All that a run reads and changes. Its vectors keep their lengths.
-#[derive(Drop)]
 pub struct Store {
     /// In milliseconds; that of the last event, and 0 before the first.
     pub time: u64,
@@ -61,6 +60,32 @@ pub struct Store {
     /// The number of a link that the start waited for when this was last looked at. No part of the world: it says only
     /// where to look first.
     pub awaited: usize,
+}
+
+// Written out: a derived drop is proved anew wherever such a value ends.
+impl Drop for Store {
+    fn drop(self) {
+        let Store {
+            time: _,
+            phase: _,
+            ticks: _,
+            wake: _,
+            due: _,
+            copies: _,
+            shared: _,
+            flags: _,
+            channels: _,
+            ups: _,
+            valued: _,
+            ties: _,
+            homes: _,
+            buffers: _,
+            marks: _,
+            queues: _,
+            waiting: _,
+            awaited: _,
+        } = self;
+    }
 }
 
 impl Store {
