@@ -32,7 +32,7 @@ use Rattle.snl_machine.specs.declared.machine.Machine.{Machine}
 use Rattle.snl_machine.specs.MachineOf.{Task, world_held}
 use Rattle.snl_meaning.specs.World.{World}
 use Rattle.snl_trace.specs.Run.{rules_by}
-use Rattle.snl_trace.specs.RunOver.{RunsOver, standing}
+use Rattle.snl_trace.specs.RunOver.{RunsOn, standing}
 use Rattle.snl_trace.specs.declared.runner.End.{End}
 use Rattle.snc.specs.declared.jobs.Status.TheVariants.{Well, SourceErrors}
 use Rattle.snl_channels.specs.Links.{links}
@@ -333,16 +333,16 @@ reported given asked word source text shown (Some c) w e = record {
 }
 
 -- a machine that was loaded begins in the first world of its program
-pub ran_first : (m : Machine) (task : Task) (first : World) (budget : ℕ) (end : End) (bytes : List ℕ) (left told told' : Option (List ℕ)) (w : World) → world_held m ≡ first
-    → RunsOver (rules_by task budget) end bytes left (standing [] 1 m told) w told'
-    → RunsOver (rules_by task budget) end bytes left (at_first first told) w told'
-ran_first m task first budget end bytes left told told' w is ran = subst (λ (v : World). RunsOver (rules_by task budget) end bytes left (at_first v told) w told') is ran
+pub ran_first : (m : Machine) (task : Task) (first : World) (budget : ℕ) (end : End) (old new : List ℕ) (ended : Bool) (told told' : Option (List ℕ)) (w : World) → world_held m ≡ first
+    → RunsOn (rules_by task budget) end old new ended (standing [] 1 m told) w told'
+    → RunsOn (rules_by task budget) end old new ended (at_first first told) w told'
+ran_first m task first budget end old new ended told told' w is ran = subst (λ (v : World). RunsOn (rules_by task budget) end old new ended (at_first v told) w told') is ran
 
-module _ {R S : Type 0} (source_rest : R → Option (List ℕ)) (source_failures : R → ℕ) (sink_told : S → Option (List ℕ)) (sink_failures : S → ℕ)
+module _ {R S : Type 0} (source_gave : R → List ℕ) (source_ended : R → Bool) (source_failures : R → ℕ) (sink_told : S → Option (List ℕ)) (sink_failures : S → ℕ)
     (given : Options) (word macros source text : List ℕ) (budget : ℕ) (trace trace' : R) (sink sink' : S) where
   -- a session on a source with an error
   pub session_refused : (checked : Option (Box Checked Global)) → checked ≡ None → IsJudged given word source text (tree_of checked) → trace' ≡ trace → sink' ≡ sink
-      → IsSession source_rest source_failures sink_told sink_failures given word macros source budget trace trace' sink sink' text None SourceErrors
+      → IsSession source_gave source_ended source_failures sink_told sink_failures given word macros source budget trace trace' sink sink' text None SourceErrors
   session_refused checked none w unread unwritten = record {
     names = w.names;
     messages = w.messages;
@@ -355,13 +355,13 @@ module _ {R S : Type 0} (source_rest : R → Option (List ℕ)) (source_failures
   -- a session that ran the program
   pub session_ran : (checked : Option (Box Checked Global)) (c : Box Checked Global) (end : End) → checked ≡ Some c → IsJudged given word source text (tree_of checked)
       → c.value.options ≡ options_in_force (program_view c.value.program) given
-      → IsRunOf source_rest source_failures sink_told sink_failures (program_view c.value.program) (links (program_view c.value.program) macros) (waits c.value.options) budget trace trace' sink sink' end
-      → IsSession source_rest source_failures sink_told sink_failures given word macros source budget trace trace' sink sink' text (Some end) (status_of end)
+      → IsRunOf source_gave source_ended source_failures sink_told sink_failures (program_view c.value.program) (links (program_view c.value.program) macros) (waits c.value.options) budget trace trace' sink sink' end
+      → IsSession source_gave source_ended source_failures sink_told sink_failures given word macros source budget trace trace' sink sink' text (Some end) (status_of end)
   session_ran checked c end some w are run =
       let v = subst (λ o. IsJudged given word source text (tree_of o)) some w in
       let whole = program_view c.value.program in
       let under = subst (λ o.
-      IsRunOf source_rest source_failures sink_told sink_failures whole (links whole macros) (waits o) budget trace trace' sink sink' end) are run in
+      IsRunOf source_gave source_ended source_failures sink_told sink_failures whole (links whole macros) (waits o) budget trace trace' sink sink' end) are run in
       record {
         names = v.names;
         messages = v.messages;

@@ -13,7 +13,7 @@ mod sessions;
 pub use jobs::{Report, Status};
 pub use messages::{Judgement, judged};
 pub use reports::report;
-pub use sessions::{macros_of, session};
+pub use sessions::{macros_of, session, status_of};
 pub use snc_args::{DEFAULT_BUDGET, Job, Tool, WordsFault, read_words};
 pub use snl_check::Options;
 pub use snl_machine::{Sink, SinkFault};

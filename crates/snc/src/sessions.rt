@@ -2,7 +2,8 @@
 
 ghost use Rattle.std.specs.Prelude.{◌≡◌, ◌-◌, ◌^◌, ◌<◌, ℕ, List, [], Option, IfOk, OnErr, string_bytes};
 ghost use Rattle.std.specs.Option.{option_map, unwrap_or};
-ghost use Rattle.snc.specs.Outcomes.{IsSession, status_of};
+ghost use Rattle.snc.specs.Outcomes as spec;
+ghost use Rattle.snc.specs.Outcomes.{IsSession};
 
 use crate::jobs::Status;
 use crate::messages::{Judgement, judged};
@@ -26,7 +27,7 @@ pub fn session<R: Source, S: Sink>(
 ) -> Result<(Vec<u8>, Option<End>, Status), AllocError>
     requires trace { R.failures trace.old < 2 ^ 64 - 1 }
     requires sink { S.failures sink.old < 2 ^ 64 - 1 }
-    ensures answer { IfOk result (λ r. IsSession R.rest R.failures S.told S.failures
+    ensures answer { IfOk result (λ r. IsSession R.gave R.ended R.failures S.told S.failures
         job.now.options (string_bytes job.now.file)
         (unwrap_or (option_map string_bytes job.now.macros) []) source.now job.now.budget
         trace.old trace.new sink.old sink.new r.0.items r.1 r.2) }
@@ -40,7 +41,7 @@ pub fn session<R: Source, S: Sink>(
     let macros = macros_of(job);
     let mut machine = loaded_from(alloc, checked, &macros, job.budget)?;
     let end = run(&mut machine, trace, sink);
-    Ok((messages, Some(end), status(end)))
+    Ok((messages, Some(end), status_of(end)))
 }
 
 /// The machine of what is in a box, which is dropped then.
@@ -69,9 +70,9 @@ pub fn macros_of(job: &Job) -> Macros<'_>
     }
 }
 
-/// The status of a run that ended so.
-fn status(end: End) -> Status
-    ensures { result ≡ status_of end }
+/// The status of a run that ended so, where all of its lines were written.
+pub fn status_of(end: End) -> Status
+    ensures { result ≡ spec.status_of end }
 {
     match end {
         End::TraceEnded | End::ProgramEnded => Status::Well,

@@ -1,5 +1,6 @@
 //! The words of a call, and what is said to who made it.
 
+use crate::output::Outlet;
 use snc::{Job, Status, Tool, WordsFault, read_words};
 use std::env;
 use std::io::{self, ErrorKind, Write};
@@ -53,12 +54,7 @@ fn told(rt: &HostRuntime, fault: &WordsFault) -> Status {
 ///
 /// Fails where standard output does.
 pub fn write(rt: &HostRuntime, text: &[u8]) -> io::Result<()> {
-    if text.is_empty() {
-        return Ok(());
-    }
-    let mut output = rt.stdout();
-    output.write_all(text)?;
-    output.flush()
+    Outlet::new(rt.stdout()).write_out(text)
 }
 
 /// Writes text to standard error. Where that fails, there is nobody left to tell, and the status says how it ended.

@@ -5,7 +5,9 @@
 mod calls;
 mod files;
 mod output;
+mod streams;
 
 pub use calls::{job_of, tell, words_of, write};
 pub use files::{source_in, source_of};
-pub use output::{Lines, Output, flush};
+pub use output::{Lines, Outlet};
+pub use streams::{Noted, Stream};

@@ -3,8 +3,11 @@
 //! Messages go to standard error; with `--tables` and no error the tables of the program go to standard output.
 #![tactic(auto)]
 
-use snc::{Job, Status, Tool, report};
-use snc_cli::{job_of, source_of, tell, write};
+mod reporting;
+
+use reporting::report_on;
+use snc::{Job, Status, Tool};
+use snc_cli::{Outlet, job_of, source_of};
 use std::process::ExitCode;
 
 fn main(rt: HostRuntime) -> ExitCode {
@@ -25,12 +28,9 @@ fn checked_file(rt: &HostRuntime, job: &Job) -> Status {
 
 /// Says what is to be said of a program, and writes its tables where the job asks for them.
 fn checked_source(rt: &HostRuntime, source: &[u8], job: &Job) -> Status {
-    let Ok(report) = report(rt.alloc(), source, job) else {
-        return Status::Memory;
-    };
-    tell(rt, report.messages.as_slice());
-    if write(rt, report.tables.as_slice()).is_err() {
-        return Status::InputOutput;
+    let mut outlet = Outlet::new(rt.stdout());
+    match report_on(rt, source, job, &mut outlet) {
+        Ok((_messages, status)) => status,
+        Err(_) => Status::Memory,
     }
-    report.status
 }

@@ -1,19 +1,18 @@
 //! `snl cover`: the traces of a call, one after the other, and the answer.
 
-ghost use Rattle.std.specs.Prelude.{◌-◌, ◌^◌, ◌<◌};
+ghost use Rattle.std.specs.Prelude.{◌≡◌, ◌-◌, ◌^◌, ◌<◌, []};
 
 use crate::asked::Asked;
 use crate::input::Input;
-use crate::overhearing::{bad_line_text, overheard};
+use crate::overhearing::bad_line_text;
 use crate::traces::TraceFile;
-use snc::Status;
+use snc::{Status, status_of};
 use snc_cli::{tell, write};
 use snl_args::Call;
 use snl_trace::{End, Source};
-use snl_views::{CoverAnswer, Coverage, Overheard, cover, coverage_text, gaps_of};
+use snl_views::{CoverAnswer, Coverage, Covered, Overheard, cover, coverage_text, gaps_of};
 use snl_watch::Nowhere;
 use std::alloc::AllocError;
-use std::cell::RefCell;
 
 /// What came of the traces so far.
 #[derive(Drop)]
@@ -27,22 +26,12 @@ struct Total {
     status: Status,
 }
 
-/// The status of a run that ended so.
-fn status_of(end: End) -> Status {
-    match end {
-        End::TraceEnded | End::ProgramEnded => Status::Well,
-        End::Fault(_, _) => Status::ProgramFault,
-        End::TraceFault(_, _) => Status::TraceFault,
-        End::SourceFailed | End::SinkFailed => Status::InputOutput,
-    }
-}
-
 /// Which of two statuses counts: the one of the greater rank.
 fn rank(status: Status) -> u8 {
     match status {
-        Status::TraceFault => 3,
-        Status::ProgramFault => 2,
-        Status::InputOutput => 1,
+        Status::InputOutput => 3,
+        Status::TraceFault => 2,
+        Status::ProgramFault => 1,
         _ => 0,
     }
 }
@@ -92,16 +81,15 @@ impl Total {
         Ok(())
     }
 
-    /// Takes in what came of a run over the trace of a name.
+    /// Takes in what came of a run over the trace of a name, where something came of it.
     fn take(
         &mut self,
         rt: &HostRuntime,
         name: &str,
-        answer: CoverAnswer,
-        heard: &RefCell<Overheard>,
+        covered: Option<Covered>,
+        heard: &Overheard,
     ) -> Result<(), Status> {
-        self.messages = answer.messages;
-        let Some(covered) = answer.covered else {
+        let Some(covered) = covered else {
             self.status = Status::SourceErrors;
             return Ok(());
         };
@@ -122,10 +110,11 @@ fn run_over<R: Source + Drop>(
     source: &[u8],
     call: &Call,
     trace: R,
-) -> Result<CoverAnswer, Status>
-    requires { R.failures trace < 2 ^ 64 - 1 }
+) -> Result<CoverAnswer<R, Nowhere>, Status>
+    requires trace { R.failures trace < 2 ^ 64 - 1 }
+    requires fresh { R.gave trace ≡ [] }
 {
-    match cover(rt.alloc(), source, &call.job, trace, Nowhere) {
+    match cover(rt.alloc(), source, &call.job, trace, Nowhere::new()) {
         Ok(answer) => Ok(answer),
         Err(_) => Err(Status::Memory),
     }
@@ -139,10 +128,10 @@ fn run_over_file(
     name: &str,
     total: &mut Total,
 ) -> Result<(), Status> {
-    let heard = overheard(rt)?;
-    let trace = TraceFile::open(rt, name, &heard)?;
+    let trace = TraceFile::open(rt, name)?;
     let answer = run_over(rt, source, call, trace)?;
-    total.take(rt, name, answer, &heard)
+    total.messages = answer.messages;
+    total.take(rt, name, answer.covered, answer.trace.heard())
 }
 
 /// Runs the program of a call over the trace on standard input.
@@ -152,10 +141,10 @@ fn run_over_input(
     call: &Call,
     total: &mut Total,
 ) -> Result<(), Status> {
-    let heard = overheard(rt)?;
-    let trace = Input::new(rt, call.progress, &heard);
+    let trace = Input::new(rt, call.progress)?;
     let answer = run_over(rt, source, call, trace)?;
-    total.take(rt, "trace", answer, &heard)
+    total.messages = answer.messages;
+    total.take(rt, "trace", answer.covered, answer.trace.heard())
 }
 
 /// Runs the program of a call over all its traces.
@@ -200,7 +189,7 @@ fn told(rt: &HostRuntime, total: &Total, asked: Asked) -> Status {
     }
     asked.tell(rt, total.messages.as_slice());
     tell(rt, total.bad_lines.as_slice());
-    if total.status == Status::Well {
+    if total.status == Status::Well || answered == Status::InputOutput {
         answered
     } else {
         total.status

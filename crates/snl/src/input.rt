@@ -1,14 +1,14 @@
 //! The trace on standard input.
 
-ghost use Rattle.std.specs.Prelude.{◌≡◌, ◌≤◌, length, IfSome};
+ghost use Rattle.std.specs.Prelude.{◌≡◌, [], IfOk};
 
-use crate::overhearing::overhear;
-use snc_cli::{Output, flush};
+use crate::overhearing::overheard;
+use snc::Status;
+use snc_cli::Stream;
 use snl_trace::{Source, SourceFault};
 use snl_views::Overheard;
 use snl_watch::Tally;
-use std::cell::RefCell;
-use std::io::{IsTerminal, Read, Stdin};
+use std::io::{IsTerminal, Stdin};
 use std::time::{Duration, Instant};
 
 /// How far the trace was read, and when that was told last.
@@ -18,48 +18,35 @@ struct Progress {
     told: Instant,
 }
 
-/// The trace on standard input. Where that is a terminal, the user is told so before the first read. If it is asked for,
-/// standard error tells once a second how many lines were read. Where an answer goes out meanwhile, that is written out before the
-/// trace is waited for: who feeds the trace line by line sees the lines of the answer as they come.
+/// The trace on standard input, which is overheard. Where that is a terminal, the user is told so before the first read. If it is
+/// asked for, standard error tells once a second how many lines were read.
 #[derive(Drop)]
 pub struct Input<'c> {
     rt: &'c HostRuntime,
-    input: Stdin,
-    failures: u64,
+    stream: Stream<Stdin>,
+    heard: Overheard,
     is_begun: bool,
     progress: Option<Progress>,
-    output: Option<&'c RefCell<Output>>,
-    heard: &'c RefCell<Overheard>,
 }
 
 impl<'c> Input<'c> {
-    /// Nothing was read yet. What is read is overheard, too.
-    pub fn new(rt: &'c HostRuntime, tells: bool, heard: &'c RefCell<Overheard>) -> Self
-        ensures { result.failures ≡ 0 }
+    /// Nothing was read yet. Fails only where memory ran out.
+    pub fn new(rt: &'c HostRuntime, tells: bool) -> Result<Self, Status>
+        ensures gave { IfOk result (λ input. input.stream.input.past.bytes ≡ []) }
+        ensures failures { IfOk result (λ input. input.stream.failures ≡ 0) }
     {
-        Input {
+        Ok(Input {
             rt,
-            heard,
-            input: rt.stdin(),
-            failures: 0,
+            stream: Stream::new(rt.stdin()),
+            heard: overheard(rt)?,
             is_begun: false,
             progress: if tells { begun(rt) } else { None },
-            output: None,
-        }
+        })
     }
 
-    /// The same, beside an answer that goes out meanwhile.
-    pub fn beside(
-        rt: &'c HostRuntime,
-        tells: bool,
-        heard: &'c RefCell<Overheard>,
-        output: &'c RefCell<Output>,
-    ) -> Self
-        ensures { result.failures ≡ 0 }
-    {
-        let mut input = Input::new(rt, tells, heard);
-        input.output = Some(output);
-        input
+    /// What was overheard of it.
+    pub fn heard(&self) -> &Overheard {
+        &self.heard
     }
 }
 
@@ -75,8 +62,8 @@ fn begun(rt: &HostRuntime) -> Option<Progress> {
 }
 
 /// Tells that the trace is read from a terminal, where it is.
-fn tell_terminal(rt: &HostRuntime, input: &Stdin) {
-    if input.is_terminal() {
+fn tell_terminal(rt: &HostRuntime) {
+    if rt.stdin().is_terminal() {
         let _ = eprintln!(rt; "snl: reading the trace from the terminal; end it by Ctrl-D");
     }
 }
@@ -96,40 +83,25 @@ fn count(rt: &HostRuntime, progress: &mut Progress, piece: &[u8]) {
     let _ = eprintln!(rt; "snl: {lines} lines read, the last at {last}");
 }
 
-/// Reads on, unless there is nobody left to read for.
-fn next_piece(input: &mut Stdin, output: Option<&RefCell<Output>>, room: &mut [u8]) -> Option<usize>
-    ensures { IfSome result (λ count. count ≤ length room.old) }
-{
-    if let Some(output) = output {
-        flush(output).ok()?;
-    }
-    input.read(room).ok()
-}
-
 impl Source for Input<'_> {
-    ghost use Rattle.std.specs.Prelude.{None};
+    ghost gave = { λ input. input.stream.input.past.bytes };
 
-    ghost rest = { λ _. None };
+    ghost ended = { λ input. input.stream.ended };
 
-    ghost failures = { λ input. input.failures };
+    ghost broke = { λ input. input.stream.broke };
+
+    ghost failures = { λ input. input.stream.failures };
 
     fn read(&mut self, room: &mut [u8]) -> Result<usize, SourceFault> {
         if !self.is_begun {
             self.is_begun = true;
-            tell_terminal(self.rt, &self.input);
+            tell_terminal(self.rt);
         }
-        match next_piece(&mut self.input, self.output, room) {
-            Some(size) => {
-                if let Some(progress) = &mut self.progress {
-                    count(self.rt, progress, &room[..size]);
-                }
-                overhear(self.heard, &room[..size]);
-                Ok(size)
-            }
-            None => {
-                self.failures += 1;
-                Err(SourceFault)
-            }
+        let size = self.stream.next(room)?;
+        if let Some(progress) = &mut self.progress {
+            count(self.rt, progress, &room[..size]);
         }
+        self.heard.take(&room[..size]);
+        Ok(size)
     }
 }

@@ -2,13 +2,12 @@
 
 use crate::asked::Asked;
 use crate::input::Input;
-use crate::overhearing::{clock_text, overheard, tell_bad_line};
+use crate::overhearing::{clock_text, tell_bad_line};
 use snc::{SinkFault, Status};
-use snc_cli::{Lines, Output, write};
+use snc_cli::{Lines, Outlet, write};
 use snl_trace::End;
 use snl_views::{Overheard, RunAnswer, run_folded, run_whole};
 use snl_watch::Nowhere;
-use std::cell::RefCell;
 use std::io::BufWriter;
 
 /// How many bytes of output are held back at most.
@@ -20,7 +19,7 @@ fn ended(
     rt: &HostRuntime,
     end: Option<End>,
     is_whole: bool,
-    heard: &RefCell<Overheard>,
+    heard: &Overheard,
 ) -> Result<bool, Status> {
     match end {
         Some(end) if is_whole => {
@@ -35,45 +34,52 @@ fn ended(
 fn told_run<K>(
     rt: &HostRuntime,
     asked: Asked,
-    answer: &RunAnswer<K>,
+    answer: &RunAnswer<Input<'_>, K>,
     finished: Result<(), SinkFault>,
-    heard: &RefCell<Overheard>,
 ) -> Result<Status, Status> {
+    let heard = answer.trace.heard();
     let is_whole = answer.is_whole && finished.is_ok();
     let is_written = ended(rt, answer.end, is_whole, heard)?;
     asked.tell(rt, answer.messages.as_slice());
     if let Some(end) = answer.end {
         tell_bad_line(rt, heard, end);
     }
-    match answer.status() {
-        Status::Well if !is_written => Ok(Status::InputOutput),
-        status => Ok(status),
+    if is_written {
+        Ok(answer.status())
+    } else {
+        Ok(Status::InputOutput)
     }
 }
 
 /// `snl run`.
 pub fn answered_run(rt: &HostRuntime, asked: Asked) -> Result<Status, Status> {
     let Asked { source, call, .. } = asked;
-    let Ok(writer) = BufWriter::with_capacity(rt.alloc(), OUTPUT_HELD, rt.stdout()) else {
+    let outlet = Outlet::new(rt.stdout());
+    let Ok(writer) = BufWriter::with_capacity(rt.alloc(), OUTPUT_HELD, outlet) else {
         return Err(Status::Memory);
     };
-    let heard = overheard(rt)?;
-    let output = RefCell::new(Output::new(writer));
-    let trace = Input::beside(rt, call.progress, &heard, &output);
-    let lines = Lines::new(&output);
+    let trace = Input::new(rt, call.progress)?;
+    let lines = Lines::new(writer);
     if call.is_whole {
         match run_whole(rt.alloc(), source, &call.job, trace, lines) {
-            Ok(answer) => {
+            Ok(mut answer) => {
                 let finished = answer.sink.finish();
-                told_run(rt, asked, &answer, finished, &heard)
+                told_run(rt, asked, &answer, finished)
             }
             Err(_) => Err(Status::Memory),
         }
     } else {
-        match run_folded(rt.alloc(), source, &call.job, trace, lines, Nowhere) {
-            Ok(answer) => {
+        match run_folded(
+            rt.alloc(),
+            source,
+            &call.job,
+            trace,
+            lines,
+            Nowhere::new(),
+        ) {
+            Ok(mut answer) => {
                 let finished = answer.sink.0.finish();
-                told_run(rt, asked, &answer, finished, &heard)
+                told_run(rt, asked, &answer, finished)
             }
             Err(_) => Err(Status::Memory),
         }

@@ -1,33 +1,32 @@
 //! A trace in a file.
 
-ghost use Rattle.std.specs.Prelude.{◌≡◌, ◌≤◌, length, IfOk, IfSome};
+ghost use Rattle.std.specs.Prelude.{◌≡◌, [], IfOk};
 
-use crate::overhearing::overhear;
+use crate::overhearing::overheard;
 use snc::Status;
+use snc_cli::Stream;
 use snl_trace::{Source, SourceFault};
 use snl_views::Overheard;
-use std::cell::RefCell;
 use std::fs::File;
-use std::io::Read;
 
-/// The trace in a file.
+/// The trace in a file, which is overheard.
 #[derive(Drop)]
-pub struct TraceFile<'c> {
-    file: File,
-    failures: u64,
-    heard: &'c RefCell<Overheard>,
+pub struct TraceFile {
+    stream: Stream<File>,
+    heard: Overheard,
 }
 
-impl<'c> TraceFile<'c> {
+impl TraceFile {
     /// The trace in a file, of which nothing was read yet. `InputOutput` where it cannot be opened: then standard error has
-    /// `snl: cannot read FILE`. What is read is overheard, too.
-    pub fn open(rt: &HostRuntime, path: &str, heard: &'c RefCell<Overheard>) -> Result<Self, Status>
-        ensures { IfOk result (λ trace. trace.failures ≡ 0) }
+    /// `snl: cannot read FILE`. `Memory` where memory ran out.
+    pub fn open(rt: &HostRuntime, path: &str) -> Result<Self, Status>
+        ensures gave { IfOk result (λ trace. trace.stream.input.past.bytes ≡ []) }
+        ensures failures { IfOk result (λ trace. trace.stream.failures ≡ 0) }
     {
+        let heard = overheard(rt)?;
         match File::open(rt, path) {
             Ok(file) => Ok(TraceFile {
-                file,
-                failures: 0,
+                stream: Stream::new(file),
                 heard,
             }),
             Err(_) => {
@@ -36,32 +35,25 @@ impl<'c> TraceFile<'c> {
             }
         }
     }
+
+    /// What was overheard of it.
+    pub fn heard(&self) -> &Overheard {
+        &self.heard
+    }
 }
 
-/// Reads on.
-fn next_piece(file: &mut File, room: &mut [u8]) -> Option<usize>
-    ensures { IfSome result (λ count. count ≤ length room.old) }
-{
-    file.read(room).ok()
-}
+impl Source for TraceFile {
+    ghost gave = { λ trace. trace.stream.input.past.bytes };
 
-impl Source for TraceFile<'_> {
-    ghost use Rattle.std.specs.Prelude.{None};
+    ghost ended = { λ trace. trace.stream.ended };
 
-    ghost rest = { λ _. None };
+    ghost broke = { λ trace. trace.stream.broke };
 
-    ghost failures = { λ trace. trace.failures };
+    ghost failures = { λ trace. trace.stream.failures };
 
     fn read(&mut self, room: &mut [u8]) -> Result<usize, SourceFault> {
-        match next_piece(&mut self.file, room) {
-            Some(size) => {
-                overhear(self.heard, &room[..size]);
-                Ok(size)
-            }
-            None => {
-                self.failures += 1;
-                Err(SourceFault)
-            }
-        }
+        let size = self.stream.next(room)?;
+        self.heard.take(&room[..size]);
+        Ok(size)
     }
 }

@@ -2,18 +2,17 @@
 
 use crate::asked::Asked;
 use crate::input::Input;
-use crate::overhearing::{clock_text, overheard, tell_bad_line};
+use crate::overhearing::{clock_text, tell_bad_line};
 use snc::Status;
 use snc_cli::write;
 use snl_trace::End;
 use snl_views::{Answer, Overheard, WaitsOutcome, waits};
-use std::cell::RefCell;
 
 /// Writes what came of a trace, unless that could not be read. Answers whether it was written, or that memory ran out.
 fn written(
     rt: &HostRuntime,
     outcome: &WaitsOutcome,
-    heard: &RefCell<Overheard>,
+    heard: &Overheard,
 ) -> Result<bool, Status> {
     if outcome.end == End::SourceFailed {
         return Ok(true);
@@ -27,9 +26,9 @@ fn written(
 fn told_waits(
     rt: &HostRuntime,
     asked: Asked,
-    answer: &Answer,
-    heard: &RefCell<Overheard>,
+    answer: &Answer<Input<'_>>,
 ) -> Result<Status, Status> {
+    let heard = answer.trace.heard();
     let Some(outcome) = &answer.outcome else {
         asked.tell(rt, answer.messages.as_slice());
         return Ok(answer.status());
@@ -37,20 +36,19 @@ fn told_waits(
     let is_written = written(rt, outcome, heard)?;
     asked.tell(rt, answer.messages.as_slice());
     tell_bad_line(rt, heard, outcome.end);
-    match answer.status() {
-        Status::TraceFault => Ok(Status::TraceFault),
-        status if is_written => Ok(status),
-        _ => Ok(Status::InputOutput),
+    if is_written {
+        Ok(answer.status())
+    } else {
+        Ok(Status::InputOutput)
     }
 }
 
 /// `snl waits`.
 pub fn answered_waits(rt: &HostRuntime, asked: Asked) -> Result<Status, Status> {
     let Asked { source, call, .. } = asked;
-    let heard = overheard(rt)?;
-    let trace = Input::new(rt, call.progress, &heard);
+    let trace = Input::new(rt, call.progress)?;
     match waits(rt.alloc(), source, &call.job, trace) {
-        Ok(answer) => told_waits(rt, asked, &answer, &heard),
+        Ok(answer) => told_waits(rt, asked, &answer),
         Err(_) => Err(Status::Memory),
     }
 }

@@ -1,12 +1,13 @@
--- What a source tells: the bytes that are left.
-use Rattle.std.specs.Prelude.{◌≡◌, ℕ, ◌<◌, ◌^◌, List, [], ◌++◌, Option, None, Some, length, take, drop}
+-- What a source gives by one answer.
+use Rattle.std.specs.Prelude.{ℕ, Bool, false, ◌==◌, ◌&&◌, List, [], Result, Ok, Err, nat_lt, take}
+use Rattle.snl_output.specs.declared.sources.SourceFault.{SourceFault}
 
--- the first n bytes of the room are the next n that were left, and none are where the source has ended
-abbrev pub IsGiven : Option (List ℕ) → ℕ → List ℕ → Option (List ℕ) → Type 0
-IsGiven None n room rest = rest ≡ None
-IsGiven (Some left) n room rest = (left ≡ take n room ++ drop n left) × (rest ≡ Some (drop n left)) × (n ≡ 0 → 0 < length room → left ≡ [])
+-- the bytes that an answer gives: so many from the front of the room; none where the read failed
+abbrev pub given : Result ℕ SourceFault → List ℕ → List ℕ
+given (Ok n) room = take n room
+given (Err fault) room = []
 
--- a source that tells its bytes has fewer than 2 ^ 63
-abbrev pub IsShort : Option (List ℕ) → Type 0
-IsShort None = Unit {0}
-IsShort (Some left) = length left < 2 ^ 63
+-- whether an answer says that no more bytes come: it gives none, and the room has a place for some
+abbrev pub says_end : Result ℕ SourceFault → ℕ → Bool
+says_end (Ok n) size = (n == 0) && nat_lt 0 size
+says_end (Err fault) size = false

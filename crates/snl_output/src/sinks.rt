@@ -47,10 +47,9 @@ pub struct Refused {
 }
 
 /// Where the lines of a run go. It may also hear which clauses fired and which puts were refused, beside the lines and in their
-/// order; one that wants lines alone says nothing of that.
+/// order, and when the run waits; one that wants lines alone says nothing of that.
 ///
-/// A sink may tell the bytes that it was given so far (one over a real stream tells nothing), and
-/// counts its failures.
+/// A sink may tell the bytes that it was given so far, and counts its failures.
 pub trait Sink {
     ghost use Rattle.std.specs.Prelude.{◌≡◌, ◌+◌, ◌-◌, ◌^◌, ◌<◌, ◌≤◌, ℕ, List, Option, IfOk, OnErr, length, take, if◌then◌else◌};
     ghost use Rattle.snl_output.specs.Devices.{told_more, write_fails};
@@ -79,6 +78,13 @@ pub trait Sink {
 
     /// Hears that a put was refused, where its line would be.
     fn refused(&mut self, _put: Refused)
+        ensures told { told self.new ≡ told self.old }
+        ensures failures { failures self.new ≡ failures self.old }
+    {}
+
+    /// Hears that the run now waits for more of its trace: a sink that holds lines back writes them out. Where it can't, its next
+    /// write fails.
+    fn wait(&mut self)
         ensures told { told self.new ≡ told self.old }
         ensures failures { failures self.new ≡ failures self.old }
     {}

@@ -9,14 +9,18 @@ pub struct SourceFault;
 
 /// Where a trace comes from.
 ///
-/// A source may tell the bytes that it still has, fewer than 2^63 (one over a real stream tells
-/// nothing), and counts its failures.
+/// A source tells the bytes that it gave up to now, fewer than 2^63, and of its last read whether that said that no more come, and
+/// whether it failed. It counts its failures.
 pub trait Source {
-    ghost use Rattle.std.specs.Prelude.{◌≡◌, ◌+◌, ◌-◌, ◌^◌, ◌<◌, ◌≤◌, ℕ, List, Option, IfOk, OnErr, length, is_err};
+    ghost use Rattle.std.specs.Prelude.{◌≡◌, ◌+◌, ◌-◌, ◌++◌, ◌^◌, ◌<◌, ◌≤◌, ℕ, Bool, List, IfOk, length, is_err};
     ghost use Rattle.snl_output.specs.Devices.{counted};
-    ghost use Rattle.snl_output.specs.Sources.{IsGiven, IsShort};
+    ghost use Rattle.snl_output.specs.Sources.{given, says_end};
 
-    ghost rest: { Self → Option (List ℕ) };
+    ghost gave: { Self → List ℕ };
+
+    ghost ended: { Self → Bool };
+
+    ghost broke: { Self → Bool };
 
     ghost failures: { Self → ℕ };
 
@@ -25,8 +29,9 @@ pub trait Source {
     fn read(&mut self, room: &mut [u8]) -> Result<usize, SourceFault>
         requires { failures self.old < 2 ^ 64 - 1 }
         ensures count { IfOk result (λ n. n ≤ length room.old) }
-        ensures given { IfOk result (λ n. IsGiven (rest self.old) n room.new (rest self.new)) }
-        ensures short { IsShort (rest self.old) }
-        ensures ungiven { OnErr result (rest self.new ≡ rest self.old) }
+        ensures gave { gave self.new ≡ gave self.old ++ given result room.new }
+        ensures ended { ended self.new ≡ says_end result (length room.old) }
+        ensures broke { broke self.new ≡ is_err result }
+        ensures short { length (gave self.new) < 2 ^ 63 }
         ensures failures { failures self.new ≡ counted (is_err result) (failures self.old) };
 }

@@ -1,3 +1,5 @@
+pub mod ByLineLaws
+pub mod EndLaws
 pub mod FieldLaws
 pub mod LineLaws
 pub mod NumberLaws

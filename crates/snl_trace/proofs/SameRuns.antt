@@ -1,5 +1,5 @@
 -- Rules that do the same in some worlds, which no line leaves, run the same over a trace.
-use Rattle.std.proofs.Common.{◌≡◌, ◌∙◌, ◌+◌, ℕ, List, [], ◌∷◌, Bool, Option, None, Some, Result, Ok, Err, refl, ap, subst, sym, length}
+use Rattle.std.proofs.Common.{◌≡◌, ◌∙◌, ◌+◌, ℕ, List, [], ◌∷◌, ◌++◌, Bool, Option, None, Some, Result, Ok, Err, refl, ap, subst, sym, length}
 use Rattle.snl_syntax.specs.Programs.{ProgramTree}
 use Rattle.snl_channels.specs.Links.{Link}
 use Rattle.snl_load.specs.Names.{position_of}
@@ -22,7 +22,7 @@ use Rattle.snl_trace.specs.declared.trace_faults.TraceFault.{TraceFault}
 use Rattle.snl_trace.specs.Grammar.{read_of}
 use Rattle.snl_output.specs.TraceLines.{lines_from, whole_lines}
 use Rattle.snl_trace.specs.Run.{Rules, run_from, line_done, done_by, end_by, or_rest, rules_by, rules_of}
-use Rattle.snl_trace.specs.RunOver.{Place, IsCutIn, RunsOver, standing}
+use Rattle.snl_trace.specs.RunOver.{Place, IsCutIn, EndsIn, RunsOver, RunsOn, standing}
 
 module _ (a b : Rules) (Is : World → Type 0) (reads : (ms : ℕ) (line : List ℕ) → a.read ms line ≡ b.read ms line)
     (acts : (ms : ℕ) (event : Event) (w : World) → Is w → a.act ms event w ≡ b.act ms event w)
@@ -101,43 +101,59 @@ module _ (a b : Rules) (Is : World → Type 0) (reads : (ms : ℕ) (line : List 
       Gave e w from.told told (run_from a from.number lines from.world) → Gave e w from.told told (run_from b from.number lines from.world)
   gave-same e lines from w told is h = subst (λ (r : Ran End). Gave e w from.told told r) (run-same from.number lines from.world is) h
 
-  -- a run over the bytes of a source
-  over-same : (e : End) (bytes : List ℕ) (left : Option (List ℕ)) (from : Place) (w : World) (told : Option (List ℕ)) → Is from.world →
-      RunsOver a e bytes left from w told → RunsOver b e bytes left from w told
-  over-same end.SourceFailed bytes left from w told is h = record {
-    came = h.came;
-    rest = h.rest;
-    are = h.are;
-    left_is = h.left_is;
+  -- how a run ends over bytes that a source gave
+  ends-same : (e : End) (lines : List (List ℕ)) (from : Place) (w : World) (told : Option (List ℕ)) → Is from.world →
+      EndsIn a e lines from w told → EndsIn b e lines from w told
+  ends-same end.SourceFailed lines from w told is h = h
+  ends-same end.TraceEnded lines from w told is h = gave-same end.TraceEnded lines from w told is h
+  ends-same end.ProgramEnded lines from w told is h = gave-same end.ProgramEnded lines from w told is h
+  ends-same (end.TraceFault number fault) lines from w told is h = gave-same (end.TraceFault number fault) lines from w told is h
+  ends-same (end.Fault fault line) lines from w told is h =
+      subst (λ (r : Ran End). Faulted fault line w from.told told r) (run-same from.number lines from.world is) h
+  ends-same end.SinkFailed lines from w told is h = cut-same lines from told is h
+
+  -- a run over them
+  over-same : (e : End) (came : List ℕ) (ended : Bool) (from : Place) (w : World) (told : Option (List ℕ)) → Is from.world →
+      RunsOver a e came ended from w told → RunsOver b e came ended from w told
+  over-same end.SourceFailed came ended from w told is h = record {
     short = h.short;
-    gave = gave-same end.TraceEnded (whole_lines h.came) from w told is h.gave;
+    gave = gave-same end.TraceEnded (whole_lines came) from w told is h.gave;
   }
-  over-same end.TraceEnded bytes left from w told is h = gave-same end.TraceEnded (lines_from [] bytes) from w told is h
-  over-same end.ProgramEnded bytes left from w told is h = gave-same end.ProgramEnded (lines_from [] bytes) from w told is h
-  over-same (end.TraceFault number fault) bytes left from w told is h = gave-same (end.TraceFault number fault) (lines_from [] bytes) from w told is h
-  over-same (end.Fault fault line) bytes left from w told is h =
-      subst (λ (r : Ran End). Faulted fault line w from.told told r) (run-same from.number (lines_from [] bytes) from.world is) h
-  over-same end.SinkFailed bytes left from w told is h = cut-same (lines_from [] bytes) from told is h
+  over-same end.TraceEnded came ended from w told is h = λ more may. ends-same end.TraceEnded (lines_from [] (came ++ more)) from w told is (h more may)
+  over-same end.ProgramEnded came ended from w told is h = λ more may. ends-same end.ProgramEnded (lines_from [] (came ++ more)) from w told is (h more may)
+  over-same (end.TraceFault number fault) came ended from w told is h = λ more may. ends-same (end.TraceFault number fault) (lines_from [] (came ++ more)) from w told is (h more may)
+  over-same (end.Fault fault line) came ended from w told is h = λ more may. ends-same (end.Fault fault line) (lines_from [] (came ++ more)) from w told is (h more may)
+  over-same end.SinkFailed came ended from w told is h = λ more may. ends-same end.SinkFailed (lines_from [] (came ++ more)) from w told is (h more may)
 
 -- a task runs over a trace as another one with the same channels and links, from each of some worlds in which lines do the same
 pub runs-as : (t u : Task) (budget : ℕ) (Is : World → Type 0) → t.channels ≡ u.channels → t.program.links ≡ u.program.links →
     ((ms : ℕ) (event : Event) (w : World) → Is w → line_of t.program budget ms event w ≡ line_of u.program budget ms event w) →
     ((ms : ℕ) (event : Event) (w : World) → Is w → Is (world_after (line_of u.program budget ms event w))) →
-    (e : End) (bytes : List ℕ) (left : Option (List ℕ)) (from : Place) (w : World) (told : Option (List ℕ)) → Is from.world →
-    RunsOver (rules_by t budget) e bytes left from w told → RunsOver (rules_by u budget) e bytes left from w told
+    (e : End) (came : List ℕ) (ended : Bool) (from : Place) (w : World) (told : Option (List ℕ)) → Is from.world →
+    RunsOver (rules_by t budget) e came ended from w told → RunsOver (rules_by u budget) e came ended from w told
 unfolding rules_by
-runs-as t u budget Is channels links acts stay e bytes left from w told is ran =
+runs-as t u budget Is channels links acts stay e came ended from w told is ran =
     over-same (rules_by t budget) (rules_by u budget) Is (λ ms line. λ j. read_of (position_of (channels j)) (is_event_fit (length (channels j)) (links j)) ms line)
-    acts stay e bytes left from w told is ran
+    acts stay e came ended from w told is ran
 
 -- a machine runs over a trace as each program does that it is a machine of
 pub as_its_program : (m : Machine) (p : ProgramTree) (ls : List Link) (waits : Bool) (budget : ℕ) → IsMachineOf p ls waits budget m →
-    (e : End) (bytes : List ℕ) (left told told' : Option (List ℕ)) (w : World) → RunsOver (rules_of m) e bytes left (standing [] 1 m told) w told' →
-    RunsOver (rules_by (task_of p ls waits) budget) e bytes left (standing [] 1 m told) w told'
-as_its_program m p ls waits budget made e bytes left told told' w ran =
+    (e : End) (came : List ℕ) (ended : Bool) (told told' : Option (List ℕ)) (w : World) → RunsOver (rules_of m) e came ended (standing [] 1 m told) w told' →
+    RunsOver (rules_by (task_of p ls waits) budget) e came ended (standing [] 1 m told) w told'
+as_its_program m p ls waits budget made e came ended told told' w ran =
     let runs = runs_its_program p ls waits budget m made in
     let meant =
     runs-as (task_held m) (task_of p ls waits) m.budget (AreReached p (states_held m)) runs.channels (λ j. (runs.program j).links) (runs.lines m.budget) (runs.stay m.budget)
-    e bytes left (standing [] 1 m told) w told' made.reached ran
+    e came ended (standing [] 1 m told) w told' made.reached ran
     in
-    subst (λ (n : ℕ). RunsOver (rules_by (task_of p ls waits) n) e bytes left (standing [] 1 m told) w told') made.budget_is meant
+    subst (λ (n : ℕ). RunsOver (rules_by (task_of p ls waits) n) e came ended (standing [] 1 m told) w told') made.budget_is meant
+
+-- and over what a source gave
+pub on_its_program : (m : Machine) (p : ProgramTree) (ls : List Link) (waits : Bool) (budget : ℕ) → IsMachineOf p ls waits budget m →
+    (e : End) (old new : List ℕ) (ended : Bool) (told told' : Option (List ℕ)) (w : World) → RunsOn (rules_of m) e old new ended (standing [] 1 m told) w told' →
+    RunsOn (rules_by (task_of p ls waits) budget) e old new ended (standing [] 1 m told) w told'
+on_its_program m p ls waits budget made e old new ended told told' w ran = record {
+  came = ran.came;
+  gave = ran.gave;
+  over = as_its_program m p ls waits budget made e ran.came ended told told' w ran.over;
+}

@@ -38,7 +38,7 @@ rest-ended P (Gives (Some e) x t) rest v text never next is =
 rest-ended P (Faults f line x t) rest v text never next is = absurd (cc)
 
 -- lines of which none ends the run are not too long
-done-short : (rules : Rules) → KnowsLong rules → (number : ℕ) (lines : List (List ℕ)) (w v : World) (text : List ℕ) →
+pub done-short : (rules : Rules) → KnowsLong rules → (number : ℕ) (lines : List (List ℕ)) (w v : World) (text : List ℕ) →
     run_from rules number lines w ≡ Gives end.TraceEnded v text → All IsShortEnough lines
 unfolding run_from
 done-short rules long number [] w v text is = All-nil IsShortEnough

@@ -7,7 +7,7 @@ use Rattle.snl_output.specs.declared.sources.SourceFault.{SourceFault}
 
 -- A feed gives as many bytes as are left, as a call gives, and as the room takes; at the call that fails, none.
 abbrev pub given_by : Feed → ℕ → Result ℕ SourceFault
-given_by f room = if f.fails_in == 1 then Err (record {}) else Ok (min (min (length f.left.now) f.most) room)
+given_by f room = if f.fails_in == 1 then Err (record {}) else Ok (min (min (length f.bytes.now - f.at) f.most) room)
 
 -- A sheet keeps of a piece as many bytes as a call takes and as there is room for. It fails where that are none of a piece that has some.
 abbrev pub kept_by : Sheet → ℕ → Result ℕ SinkFault

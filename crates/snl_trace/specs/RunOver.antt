@@ -1,5 +1,5 @@
 -- What a run did with the bytes of a trace, by the definition of the run.
-use Rattle.std.specs.Prelude.{◌≡◌, ℕ, ◌+◌, List, [], ◌∷◌, ◌++◌, Option, None, Some, All, length}
+use Rattle.std.specs.Prelude.{◌≡◌, ℕ, ◌+◌, Bool, true, false, List, [], ◌∷◌, ◌++◌, Option, None, Some, All, length}
 use Rattle.snl_machine.specs.declared.machine.Machine.{Machine}
 use Rattle.snl_machine.specs.MachineOf.{world_held}
 use Rattle.snl_output.specs.Devices.{told_more, IsCutShort}
@@ -10,7 +10,7 @@ use Rattle.snl_meaning.specs.World.{World}
 use Rattle.snl_trace.specs.declared.runner.End.{End}
 use Rattle.snl_trace.specs.declared.runner.End.TheVariants as end
 use Rattle.snl_output.specs.TraceLines.{IsShortEnough, lines_to, lines_from, whole_lines}
-use Rattle.snl_trace.specs.Run.{Rules, run_from, line_done}
+use Rattle.snl_trace.specs.Run.{Rules, run_from, line_done, rules_of}
 
 -- what is done of a line, by the answer how the run ends there; where the sink failed, it was told a prefix
 abbrev pub LineDoes : Option End → World → Option (List ℕ) → Option (List ℕ) → Ran (Option End) → Type 0
@@ -70,24 +70,37 @@ abbrev pub Takes : Rules → Option End → List ℕ → Place → Place → Typ
 Takes rules None bytes from to = Reaches rules bytes from to
 Takes rules (Some end) bytes from to = (more : List ℕ) → EndsIn rules end (lines_from from.begun (bytes ++ more)) from to.world to.told
 
--- The source failed: of the bytes that came no line is too long, also not the one that was broken off, and all was told
+-- The source failed: of the bytes that it gave no line is too long, also not the one that was broken off, and all was told
 -- that the lines give that came whole.
-pub record IsBroken (rules : Rules) (bytes : List ℕ) (left : Option (List ℕ)) (from : Place) (w : World) (told : Option (List ℕ)) : Type 0 where
-  pub came : List ℕ
-  pub rest : List ℕ
-  pub are : bytes ≡ came ++ rest
-  pub left_is : left ≡ Some rest
+pub record IsBroken (rules : Rules) (came : List ℕ) (from : Place) (w : World) (told : Option (List ℕ)) : Type 0 where
   pub short : All IsShortEnough (lines_from [] came)
   pub gave : Gave end.TraceEnded w from.told told (run_from rules from.number (whole_lines came) from.world)
 
--- a run over the bytes of a source, of which these are left
-abbrev pub RunsOver : Rules → End → List ℕ → Option (List ℕ) → Place → World → Option (List ℕ) → Type 0
-RunsOver rules end.SourceFailed bytes left from w told = IsBroken rules bytes left from w told
-RunsOver rules end.TraceEnded bytes left from w told = EndsIn rules end.TraceEnded (lines_from [] bytes) from w told
-RunsOver rules end.ProgramEnded bytes left from w told = EndsIn rules end.ProgramEnded (lines_from [] bytes) from w told
-RunsOver rules (end.Fault fault line) bytes left from w told = EndsIn rules (end.Fault fault line) (lines_from [] bytes) from w told
-RunsOver rules (end.TraceFault number fault) bytes left from w told = EndsIn rules (end.TraceFault number fault) (lines_from [] bytes) from w told
-RunsOver rules end.SinkFailed bytes left from w told = EndsIn rules end.SinkFailed (lines_from [] bytes) from w told
+-- what may follow the bytes that a source gave: nothing, where it has ended
+abbrev pub MayFollow : Bool → List ℕ → Type 0
+MayFollow true more = more ≡ []
+MayFollow false more = Unit {0}
+
+-- over the bytes that a source gave a run ended so, whatever may follow them
+abbrev pub EndsOver : Rules → End → List ℕ → Bool → Place → World → Option (List ℕ) → Type 0
+EndsOver rules e came ended from w told = (more : List ℕ) → MayFollow ended more → EndsIn rules e (lines_from [] (came ++ more)) from w told
+
+-- a run over the bytes that a source gave, which has ended or not. Of a trace that may go on no bytes are its end: so the trace
+-- ended only where the source did
+abbrev pub RunsOver : Rules → End → List ℕ → Bool → Place → World → Option (List ℕ) → Type 0
+RunsOver rules end.SourceFailed came ended from w told = IsBroken rules came from w told
+RunsOver rules e came ended from w told = EndsOver rules e came ended from w told
+
+-- The same of a run whose bytes were handed on by the line: where the source failed, nothing is said of a line that did not come whole.
+abbrev pub RunsByLine : Rules → End → List ℕ → Bool → Place → World → Option (List ℕ) → Type 0
+RunsByLine rules end.SourceFailed came ended from w told = Gave end.TraceEnded w from.told told (run_from rules from.number (whole_lines came) from.world)
+RunsByLine rules e came ended from w told = EndsOver rules e came ended from w told
+
+-- a source that had given some bytes gave more, and a run over these ended so
+pub record RunsOn (rules : Rules) (e : End) (old new : List ℕ) (ended : Bool) (from : Place) (w : World) (told : Option (List ℕ)) : Type 0 where
+  pub came : List ℕ
+  pub gave : new ≡ old ++ came
+  pub over : RunsOver rules e came ended from w told
 
 -- the text over the first of some lines is a prefix of the text over all
 abbrev pub TextBegins : Type 0
@@ -102,3 +115,14 @@ NothingFollows = (rules : Rules) (number : ℕ) (w : World) → run_from rules n
 abbrev pub RestGoesOn : Type 0
 RestGoesOn = (rules : Rules) (number : ℕ) (first rest : List (List ℕ)) (w v : World) (text : List ℕ) → run_from rules number first w ≡ Gives end.TraceEnded v text →
     run_from rules number (first ++ rest) w ≡ also text (run_from rules (number + length first) rest v)
+
+-- Where a source is known to have some bytes left behind those that it gave, and none where it has ended, the run over what it
+-- gave is the run over all, unless the source failed.
+abbrev pub RunsOverAll : Type 0
+RunsOverAll = (rules : Rules) (e : End) (came left : List ℕ) (ended : Bool) (from : Place) (w : World) (told : Option (List ℕ)) → (e ≡ end.SourceFailed → ⊥) →
+    (ended ≡ true → left ≡ []) → RunsOver rules e came ended from w told → EndsIn rules e (lines_from [] (came ++ left)) from w told
+
+-- A trace ends only where its source does.
+abbrev pub EndsWithItsSource : Type 0
+EndsWithItsSource = (m : Machine) (came : List ℕ) (ended : Bool) (from : Place) (w : World) (told : Option (List ℕ)) →
+    RunsOver (rules_of m) end.TraceEnded came ended from w told → ended ≡ true

@@ -1,7 +1,7 @@
 //! Laws of the definitions that the contract of `run` speaks of. Each function is its contract.
 
 ghost use Rattle.snl_trace.specs.Examples.{LineExamples, RunExamples, TimeExamples, ValueExamples};
-ghost use Rattle.snl_trace.specs.RunOver.{NothingFollows, RestGoesOn, TextBegins};
+ghost use Rattle.snl_trace.specs.RunOver.{EndsWithItsSource, NothingFollows, RestGoesOn, RunsOverAll, TextBegins};
 
 /// The text over the first lines of a trace is a prefix of the text over all of them.
 pub fn text_begins()
@@ -17,6 +17,16 @@ pub fn nothing_follows()
 /// world on.
 pub fn rest_goes_on()
     ensures { RestGoesOn }
+{}
+
+/// Where it is known what a source has left, the run over what it gave is the run over all.
+pub fn runs_over_all()
+    ensures { RunsOverAll }
+{}
+
+/// A trace ends only where its source does.
+pub fn ends_with_its_source()
+    ensures { EndsWithItsSource }
 {}
 
 /// What some fields are worth as values, and which are none.

@@ -1,8 +1,9 @@
 //! A source and a sink over bytes in memory. Each may fail at a call of a stated number.
 
-ghost use Rattle.std.specs.Prelude.{◌≡◌, ◌≤◌, ◌<◌, ◌-◌, ◌^◌, ◌++◌, [], length, take, Some, IfOk, OnErr, is_err, vec_capacity};
+ghost use Rattle.std.specs.Prelude.{◌≡◌, ◌≤◌, ◌<◌, ◌-◌, ◌^◌, ◌++◌, [], length, take, true, IfOk, OnErr, is_err, vec_capacity};
+ghost use Rattle.std.proofs.Props.{props};
 ghost use Rattle.snl_output.specs.Devices.{counted, write_fails};
-ghost use Rattle.snl_output.specs.Sources.{IsGiven};
+ghost use Rattle.snl_output.specs.Sources.{given, says_end};
 
 use snl_machine::{Sink, SinkFault};
 use snl_output::{Source, SourceFault};
@@ -11,13 +12,21 @@ use std::alloc::{AllocError, Global};
 /// A source over bytes in memory. It gives at most so many of them a call, and fails at no call but the one that it is told.
 #[derive(Drop)]
 pub struct Feed<'b> {
-    left: &'b [u8],
+    bytes: &'b [u8],
+    /// How many of them it gave.
+    at: usize,
+    /// Whether it said last that no more come.
+    ended: bool,
+    /// Whether its last call failed.
+    broke: bool,
     /// How many bytes a call gives at most.
     most: usize,
     /// Which of the calls to come fails, from 1; 0 where none does.
     fails_in: u64,
     failures: u64,
     ghost gives: { 0 < most },
+    ghost within: { at ≤ length bytes.now },
+    ghost over: { ended ≡ true → at ≡ length bytes.now } by { Prim.hlevel props },
 }
 
 impl<'b> Feed<'b> {
@@ -26,13 +35,17 @@ impl<'b> Feed<'b> {
     /// A source of these bytes that gives at most so many in one call.
     pub fn new(bytes: &'b [u8], most: usize) -> Self
         requires { 0 < most }
-        ensures bytes { result.left.now ≡ bytes.now }
+        ensures bytes { result.bytes.now ≡ bytes.now }
+        ensures at { result.at ≡ 0 }
         ensures most { result.most ≡ most }
         ensures fails_in { result.fails_in ≡ 0 }
         ensures failures { result.failures ≡ 0 }
     {
         Feed {
-            left: bytes,
+            bytes,
+            at: 0,
+            ended: false,
+            broke: false,
             most,
             fails_in: 0,
             failures: 0,
@@ -41,7 +54,10 @@ impl<'b> Feed<'b> {
 
     /// From now on the call of this number fails, from 1; none for 0. The calls behind it go on where it stood.
     pub fn fail(&mut self, call: u64)
-        ensures left { self.new.left.now ≡ self.old.left.now }
+        ensures bytes { self.new.bytes.now ≡ self.old.bytes.now }
+        ensures at { self.new.at ≡ self.old.at }
+        ensures ended { self.new.ended ≡ self.old.ended }
+        ensures broke { self.new.broke ≡ self.old.broke }
         ensures most { self.new.most ≡ self.old.most }
         ensures fails_in { self.new.fails_in ≡ call }
         ensures failures { self.new.failures ≡ self.old.failures }
@@ -53,31 +69,38 @@ impl<'b> Feed<'b> {
     pub fn give(&mut self, room: &mut [u8]) -> Result<usize, SourceFault>
         requires { self.old.failures < 2 ^ 64 - 1 }
         ensures answer { result ≡ given_by self.old (length room.old) }
-        ensures given { IfOk result (λ n. IsGiven (Some self.old.left.now) n room.new
-            (Some self.new.left.now)) }
-        ensures ungiven { OnErr result (self.new.left.now ≡ self.old.left.now) }
+        ensures bytes { self.new.bytes.now ≡ self.old.bytes.now }
+        ensures gave { take self.new.at self.new.bytes.now
+            ≡ take self.old.at self.old.bytes.now ++ given result room.new }
+        ensures ended { self.new.ended ≡ says_end result (length room.old) }
+        ensures broke { self.new.broke ≡ is_err result }
         ensures most { self.new.most ≡ self.old.most }
         ensures fails_in { self.new.fails_in ≡ self.old.fails_in - 1 }
         ensures failures { self.new.failures ≡ counted (is_err result) self.old.failures }
     {
-        let fails = self.fails_in == 1;
+        self.broke = self.fails_in == 1;
         self.fails_in = self.fails_in.saturating_sub(1);
-        if fails {
+        if self.broke {
+            self.ended = false;
             self.failures += 1;
             return Err(SourceFault);
         }
-        let count = self.left.len().min(self.most).min(room.len());
-        let (next, left) = self.left.split_at(count);
+        let (_gave, left) = self.bytes.split_at(self.at);
+        let count = left.len().min(self.most).min(room.len());
+        let (next, _left) = left.split_at(count);
         room[..count].copy_from_slice(next);
-        self.left = left;
+        self.ended = count == 0 && !room.is_empty();
+        self.at += count;
         Ok(count)
     }
 }
 
 impl Source for Feed<'_> {
-    ghost use Rattle.std.specs.Prelude.{Some};
+    ghost gave = { λ feed. take feed.at feed.bytes.now };
 
-    ghost rest = { λ feed. Some feed.left.now };
+    ghost ended = { λ feed. feed.ended };
+
+    ghost broke = { λ feed. feed.broke };
 
     ghost failures = { λ feed. feed.failures };
 

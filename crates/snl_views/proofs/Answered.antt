@@ -1,5 +1,6 @@
 -- What a word answers of a source, by what the rules say of it.
 use Rattle.std.proofs.Common.{◌≡◌, ℕ, List, Option, None, Some, IsSome, Box, Global, subst, refl, sym}
+use Rattle.std.specs.Option.{option_map}
 use Rattle.std.proofs.lemmas.Bool.{false≢true}
 use Rattle.snl_syntax.specs.Programs.{ProgramTree}
 use Rattle.snl_syntax.specs.view.Programs.{program_view}
@@ -8,7 +9,10 @@ use Rattle.snl_messages.specs.Silence.{options_in_force}
 use Rattle.snl_names.specs.declared.options.Options.{Options}
 use Rattle.snc.specs.Judging.{IsJudged}
 use Rattle.snl_views.specs.Answered.{IsAnswered, SaysIf}
-use Rattle.snl_views.proofs.Answering.{tree_of}
+
+-- the tree of a checked program, which stands in a box
+abbrev pub tree_of : Option (Box Checked Global) → Option ProgramTree
+tree_of checked = option_map (λ c. program_view c.value.program) checked
 
 module _ {O : Type 0} (IsRight : ProgramTree → Options → O → Type 0) (given : Options) (word source text : List ℕ) (said : Option O) where
   -- a source with an error

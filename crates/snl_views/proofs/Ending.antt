@@ -17,9 +17,9 @@ use Rattle.snl_machine.specs.declared.machine.Machine.{Machine}
 use Rattle.snl_output.specs.Devices.{told_more}
 use Rattle.snl_output.specs.Does.{Gave, text_of}
 use Rattle.snl_schedule.specs.Instant.{Program, is_ready}
-use Rattle.snl_output.specs.TraceLines.{lines_from}
+use Rattle.snl_output.specs.TraceLines.{lines_from, whole_lines}
 use Rattle.snl_trace.specs.Run.{Rules, line_done, or_rest, rules_by, run_from}
-use Rattle.snl_trace.specs.RunOver.{IsCutIn, Place, RunsOver}
+use Rattle.snl_trace.specs.RunOver.{IsCutIn, MayFollow, Place, RunsByLine}
 use Rattle.snl_trace.specs.declared.runner.End.{End}
 use Rattle.snl_trace.specs.declared.runner.End.TheVariants as end
 use Rattle.snl_trace.proofs.RunLaws.{run_from-append}
@@ -56,9 +56,9 @@ wrote-none t budget lines first w named waits none world is =
     }
 
 -- it came to an end of its own
-gave : (t : Task) (budget : ℕ) (e : End) (lines : List (List ℕ)) (first w : World) (named : List Awaited) → first.phase ≡ Waiting → named ≡ awaited t.program w →
+ended-itself : (t : Task) (budget : ℕ) (e : End) (lines : List (List ℕ)) (first w : World) (named : List Awaited) → first.phase ≡ Waiting → named ≡ awaited t.program w →
     Gave e w (Some []) (Some []) (run_from (rules_by t budget) 1 lines first) → IsAwaited (rules_by t budget) t.program first lines named
-gave t budget e lines first w named waits is did =
+ended-itself t budget e lines first w named waits is did =
     wrote-none t budget lines first w named waits (ap text_of did.is ∙ nothing-told did.text did.told) (ap world_after did.is) is
 
 -- what follows a line that was cut short is no empty text
@@ -86,16 +86,21 @@ cut-short t budget lines first named is cut = record {
 }
 
 -- by the way in which it ended
-pub awaits-by : (t : Task) (budget : ℕ) (e : End) (bytes : List ℕ) (left : Option (List ℕ)) (first w : World) (named : List Awaited) → first.phase ≡ Waiting →
-    named ≡ left_in e (awaited t.program w) → RunsOver (rules_by t budget) e bytes left (from_nothing first) w (Some []) →
-    Awaits (rules_by t budget) t.program e first (lines_from [] bytes) named
-awaits-by t budget end.SourceFailed bytes left first w named waits is ran = tt
-awaits-by t budget end.TraceEnded bytes left first w named waits is ran = gave t budget end.TraceEnded (lines_from [] bytes) first w named waits is ran
-awaits-by t budget end.ProgramEnded bytes left first w named waits is ran = gave t budget end.ProgramEnded (lines_from [] bytes) first w named waits is ran
-awaits-by t budget (end.TraceFault number fault) bytes left first w named waits is ran = gave t budget (end.TraceFault number fault) (lines_from [] bytes) first w named waits is ran
-awaits-by t budget (end.Fault fault line) bytes left first w named waits is ran =
-    wrote-none t budget (lines_from [] bytes) first w named waits (ap text_of ran.is ∙ nothing-told ran.text ran.told) (ap world_after ran.is) is
-awaits-by t budget end.SinkFailed bytes left first w named waits is ran = cut-short t budget (lines_from [] bytes) first named is ran
+pub awaits-by : (t : Task) (budget : ℕ) (e : End) (gave : List ℕ) (ended : Bool) (first w : World) (named : List Awaited) → first.phase ≡ Waiting →
+    named ≡ left_in e (awaited t.program w) → RunsByLine (rules_by t budget) e gave ended (from_nothing first) w (Some []) →
+    Awaits (rules_by t budget) t.program e first gave ended named
+awaits-by t budget end.SourceFailed gave ended first w named waits is ran = ended-itself t budget end.TraceEnded (whole_lines gave) first w named waits is ran
+awaits-by t budget end.TraceEnded gave ended first w named waits is ran = λ more may.
+    ended-itself t budget end.TraceEnded (lines_from [] (gave ++ more)) first w named waits is (ran more may)
+awaits-by t budget end.ProgramEnded gave ended first w named waits is ran = λ more may.
+    ended-itself t budget end.ProgramEnded (lines_from [] (gave ++ more)) first w named waits is (ran more may)
+awaits-by t budget (end.TraceFault number fault) gave ended first w named waits is ran = λ more may.
+    ended-itself t budget (end.TraceFault number fault) (lines_from [] (gave ++ more)) first w named waits is (ran more may)
+awaits-by t budget (end.Fault fault line) gave ended first w named waits is ran = λ more may.
+    let did = ran more may in
+    wrote-none t budget (lines_from [] (gave ++ more)) first w named waits (ap text_of did.is ∙ nothing-told did.text did.told) (ap world_after did.is) is
+awaits-by t budget end.SinkFailed gave ended first w named waits is ran = λ more may.
+    cut-short t budget (lines_from [] (gave ++ more)) first named is (ran more may)
 
 -- ---- the links of a machine
 

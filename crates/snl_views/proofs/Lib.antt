@@ -1,8 +1,8 @@
 pub mod Awaiting
+pub mod ByLines
 pub mod Still
 pub mod Silent
 pub mod Ending
-pub mod Answering
 pub mod RunAnswers
 pub mod Answered
 pub mod Counting

@@ -4,68 +4,62 @@ use Rattle.snl_syntax.specs.Programs.{ProgramTree}
 use Rattle.snl_check.specs.Waits.{waits}
 use Rattle.snl_channels.specs.Links.{Link, links}
 use Rattle.snl_load.specs.First.{first_world_of}
-use Rattle.snl_machine.specs.MachineOf.{IsMachineOf, task_of, world_held}
+use Rattle.snl_machine.specs.MachineOf.{IsMachineOf, world_held}
 use Rattle.snl_meaning.specs.World.{World}
 use Rattle.snl_messages.specs.Silence.{options_in_force}
 use Rattle.snl_names.specs.declared.options.Options.{Options}
-use Rattle.snl_trace.specs.Run.{rules_by}
-use Rattle.snl_trace.specs.RunOver.{RunsOver}
 use Rattle.snl_trace.specs.declared.runner.End.{End}
-use Rattle.snc.specs.Outcomes.{at_first}
-use Rattle.snl_views.specs.Runs.{IsRun, RunsLike}
+use Rattle.snl_views.specs.Answered.{IsAnswered}
+use Rattle.snl_views.specs.Runs.{EndsAt, RunsLike, RunsWith}
 use Rattle.snl_views.specs.Staged.{IsStage, IsStaged, StagedOn}
 use Rattle.snl_views.specs.declared.preparing.Prepared.{Prepared}
 use Rattle.snl_views.specs.declared.staging.Stage.{Stage}
 use Rattle.snl_views.specs.declared.staging.Staged.{Staged}
 
 -- a run, by other names of what was told
-pub runs-like : {R : Type 0} (source_rest : R → Option (List ℕ)) (whole : ProgramTree) (ls : List Link) (waiting : Bool) (budget : ℕ) (first world : World) (trace : R)
+pub runs-like : (whole : ProgramTree) (ls : List Link) (waiting : Bool) (budget : ℕ) (first world : World) (gave : List ℕ) (ended : Bool)
     (old told old' told' : Option (List ℕ)) (end : End) → old ≡ told → old' ≡ told' →
-    ((bytes : List ℕ) → source_rest trace ≡ Some bytes →
-    (left : Option (List ℕ)) × RunsOver (rules_by (task_of whole ls waiting) budget) end bytes left (at_first first old) world old') →
-    RunsLike source_rest whole ls waiting budget first trace told told' end
-runs-like source_rest whole ls waiting budget first world trace old told old' told' end is is' ran = record {
+    EndsAt whole ls waiting budget first gave ended old old' end world → RunsLike whole ls waiting budget first gave ended told told' end
+runs-like whole ls waiting budget first world gave ended old told old' told' end is is' ran = record {
   world = world;
-  ran = λ bytes rest.
-      subst (λ (t : Option (List ℕ)). (left : Option (List ℕ)) × RunsOver (rules_by (task_of whole ls waiting) budget) end bytes left (at_first first told) world t) is'
-      (subst (λ (t : Option (List ℕ)). (left : Option (List ℕ)) × RunsOver (rules_by (task_of whole ls waiting) budget) end bytes left (at_first first t) world old') is
-      (ran bytes rest));
+  ran = subst (λ (t : Option (List ℕ)). EndsAt whole ls waiting budget first gave ended told t end world) is'
+      (subst (λ (t : Option (List ℕ)). EndsAt whole ls waiting budget first gave ended t old' end world) is ran);
 }
 
 -- the same, of what was prepared, by another name of it
-pub runs-like-as : {R : Type 0} (source_rest : R → Option (List ℕ)) (before started : Prepared) (world : World) (trace : R) (old told old' told' : Option (List ℕ)) (end : End) →
+pub runs-like-as : (before started : Prepared) (world : World) (gave : List ℕ) (ended : Bool) (old told old' told' : Option (List ℕ)) (end : End) →
     started ≡ before → old ≡ told → old' ≡ told' →
-    ((p : ProgramTree) (ls : List Link) (waits : Bool) (budget : ℕ) → IsMachineOf p ls waits budget started.machine → (bytes : List ℕ) → source_rest trace ≡ Some bytes →
-    (left : Option (List ℕ)) × RunsOver (rules_by (task_of p ls waits) budget) end bytes left (at_first (world_held started.machine) old) world old') →
+    ((p : ProgramTree) (ls : List Link) (waits : Bool) (budget : ℕ) → IsMachineOf p ls waits budget started.machine →
+    EndsAt p ls waits budget (world_held started.machine) gave ended old old' end world) →
     (p : ProgramTree) (ls : List Link) (budget : ℕ) → IsMachineOf p ls before.waits budget before.machine →
-    RunsLike source_rest p ls before.waits budget (world_held before.machine) trace told told' end
-runs-like-as source_rest before started world trace old told old' told' end same is is' means =
+    RunsLike p ls before.waits budget (world_held before.machine) gave ended told told' end
+runs-like-as before started world gave ended old told old' told' end same is is' means =
     subst (λ (q : Prepared). (p : ProgramTree) (ls : List Link) (budget : ℕ) → IsMachineOf p ls q.waits budget q.machine →
-    RunsLike source_rest p ls q.waits budget (world_held q.machine) trace told told' end) same
-    (λ p ls budget made. runs-like source_rest p ls started.waits budget (world_held started.machine) world trace old told old' told' end is is'
+    RunsLike p ls q.waits budget (world_held q.machine) gave ended told told' end) same
+    (λ p ls budget made. runs-like p ls started.waits budget (world_held started.machine) world gave ended old told old' told' end is is'
     (means p ls started.waits budget made))
 
-module _ {R : Type 0} (source_rest : R → Option (List ℕ)) (given : Options) (word macros source : List ℕ) (budget : ℕ) (trace : R) (told told' : Option (List ℕ)) (s : Staged) where
+module _ (given : Options) (word macros source : List ℕ) (budget : ℕ) (gave : List ℕ) (ended : Bool) (told told' : Option (List ℕ)) (s : Staged) where
   -- a source with an error
-  pub refused-run : s.stage ≡ None → IsStaged given word macros source budget s → told' ≡ told →
-      IsRun source_rest given word macros source budget trace told told' s.messages.items None
-  refused-run none w same = record {
+  pub refused-run : s.stage ≡ None → IsStaged given word macros source budget s →
+      IsAnswered (RunsWith macros budget gave ended told told') given word source s.messages.items None
+  refused-run none w = record {
     names = w.names;
     messages = w.messages;
     tree = w.tree;
     finds = w.finds;
     text_is = w.text_is;
-    goes_on = (subst (λ (o : Option (Box Stage Global)). StagedOn given macros w.messages w.tree budget o) none w.staged, same);
+    says = subst (λ (o : Option (Box Stage Global)). StagedOn given macros w.messages w.tree budget o) none w.staged;
   }
 
   -- a program that was run, lent out of its box
   pub accepted-run : (stage : Box Stage Global) (lent : Stage) (end : End) → s.stage ≡ Some stage → lent ≡ stage.value → IsStaged given word macros source budget s →
       ((p : ProgramTree) (ls : List Link) (b : ℕ) → IsMachineOf p ls lent.prepared.waits b lent.prepared.machine →
-      RunsLike source_rest p ls lent.prepared.waits b (world_held lent.prepared.machine) trace told told' end) →
-      IsRun source_rest given word macros source budget trace told told' s.messages.items (Some end)
+      RunsLike p ls lent.prepared.waits b (world_held lent.prepared.machine) gave ended told told' end) →
+      IsAnswered (RunsWith macros budget gave ended told told') given word source s.messages.items (Some end)
   accepted-run stage lent end some same w lent_said =
       let said = subst (λ (q : Stage). (p : ProgramTree) (ls : List Link) (b : ℕ) → IsMachineOf p ls q.prepared.waits b q.prepared.machine →
-      RunsLike source_rest p ls q.prepared.waits b (world_held q.prepared.machine) trace told told' end) same lent_said in
+      RunsLike p ls q.prepared.waits b (world_held q.prepared.machine) gave ended told told' end) same lent_said in
       let on = subst (λ (o : Option (Box Stage Global)). StagedOn given macros w.messages w.tree budget o) some w.staged in
       let whole : ProgramTree = on.1.0 in
       let ls : List Link = links whole macros in
@@ -76,14 +70,14 @@ module _ {R : Type 0} (source_rest : R → Option (List ℕ)) (given : Options) 
         tree = w.tree;
         finds = w.finds;
         text_is = w.text_is;
-        goes_on = (
+        says = (
           on.0,
           (
             whole,
             (
               on.1.1.0,
-              subst (λ (b : Bool). RunsLike source_rest whole ls b budget (first_world_of whole ls) trace told told' end) staged.waits
-                  (subst (λ (f : World). RunsLike source_rest whole ls stage.value.prepared.waits budget f trace told told' end) staged.first (said whole ls budget staged.machine)),
+              subst (λ (b : Bool). RunsLike whole ls b budget (first_world_of whole ls) gave ended told told' end) staged.waits
+                  (subst (λ (f : World). RunsLike whole ls stage.value.prepared.waits budget f gave ended told told' end) staged.first (said whole ls budget staged.machine)),
             ),
           ),
         );

@@ -6,7 +6,9 @@ use Rattle.snl_meaning.specs.declared.ties.Tied.{Tied}
 use Rattle.snl_output.specs.Does.{text_of}
 use Rattle.snl_schedule.specs.Instant.{Program, is_so}
 use Rattle.snl_schedule.specs.declared.events.Event.{Event}
+use Rattle.snl_output.specs.TraceLines.{lines_from, whole_lines}
 use Rattle.snl_trace.specs.Run.{Rules, run_from}
+use Rattle.snl_trace.specs.RunOver.{MayFollow}
 use Rattle.snl_trace.specs.declared.runner.End.{End}
 use Rattle.snl_trace.specs.declared.runner.End.TheVariants as end
 use Rattle.snl_trace.specs.declared.trace_faults.TraceFault.{TraceFault}
@@ -59,7 +61,8 @@ pub record IsAwaited (rules : Rules) (p : Program) (first : World) (lines : List
   pub began : (text_of (run_from rules 1 lines first) ≡ [] → ⊥) → named ≡ []
   pub exactly : has_event rules first.time lines ≡ true → named ≡ [] ↔ (text_of (run_from rules 1 lines first) ≡ [] → ⊥)
 
--- The same by the way in which the run ended. Where the trace could not be read to its end, nothing is said.
-abbrev pub Awaits : Rules → Program → End → World → List (List ℕ) → List Awaited → Type 0
-Awaits rules p end.SourceFailed first lines named = Unit {0}
-Awaits rules p e first lines named = IsAwaited rules p first lines named
+-- The same of what a trace gave that has ended or not, by the way in which the run ended: whatever may follow these bytes; where the
+-- trace could not be read to its end, of the lines that came whole.
+abbrev pub Awaits : Rules → Program → End → World → List ℕ → Bool → List Awaited → Type 0
+Awaits rules p end.SourceFailed first gave ended named = IsAwaited rules p first (whole_lines gave) named
+Awaits rules p e first gave ended named = (more : List ℕ) → MayFollow ended more → IsAwaited rules p first (lines_from [] (gave ++ more)) named

@@ -1,11 +1,11 @@
 -- What of a program was seen in the lines of runs.
-use Rattle.std.specs.Prelude.{◌≡◌, ◌↔◌, ◌+◌, ◌-◌, ◌^◌, ℕ, List, [], ◌∷◌, ◌++◌, min}
-use Rattle.snl_watch.specs.Counts.{NoneShows}
+use Rattle.std.specs.Prelude.{◌≡◌, ◌+◌, ◌-◌, ◌^◌, ℕ, List, [], ◌∷◌, ◌++◌, min}
+use Rattle.snl_watch.specs.Counts.{lines_showing}
 
--- Counts of texts are right for some lines: each is 0 exactly if no line shows its text.
+-- Counts of texts are right for some lines: each says how many of them show its text. A count stops at the largest number of 64 bits.
 abbrev pub AreCounts : List (List ℕ) → List ℕ → List (List ℕ) → Type 0
 AreCounts [] [] lines = Unit {0}
-AreCounts (text ∷ texts) (n ∷ counts) lines = ((n ≡ 0) ↔ NoneShows text lines) × AreCounts texts counts lines
+AreCounts (text ∷ texts) (n ∷ counts) lines = (n ≡ min (lines_showing text lines) (2 ^ 64 - 1)) × AreCounts texts counts lines
 AreCounts [] (n ∷ counts) lines = ⊥
 AreCounts (text ∷ texts) [] lines = ⊥
 

@@ -11,5 +11,4 @@ pub mod Covers
 pub mod Graphs
 pub mod Pictures
 pub mod Ready
-pub mod Observed
 pub mod Shapes

@@ -3,10 +3,12 @@
 ghost use Rattle.std.specs.Prelude.{◌≡◌, ◌-◌, ◌^◌, ◌<◌, ℕ, Bool, List, [], Some, IfOk};
 ghost use Rattle.snl_syntax.specs.Programs.{ProgramTree};
 ghost use Rattle.snl_channels.specs.Links.{Link};
-ghost use Rattle.snl_machine.specs.MachineOf.{IsMachineOf, task_of, world_held};
-ghost use Rattle.snl_output.specs.TraceLines.{lines_from};
-ghost use Rattle.snl_trace.specs.Run.{rules_by};
-ghost use Rattle.snl_views.specs.Observed.{Covers};
+ghost use Rattle.snl_machine.specs.MachineOf.{IsMachineOf, world_held};
+ghost use Rattle.snl_output.specs.Devices.{counted};
+ghost use Rattle.snl_output.specs.TraceLines.{whole_lines};
+ghost use Rattle.snl_trace.specs.Ends.{sink_failed, source_failed};
+ghost use Rattle.snl_views.specs.Coverage.{AreCounts};
+ghost use Rattle.snl_views.specs.Runs.{RunsLike};
 ghost use Rattle.snl_views.specs.Shapes.{charted, go_texts};
 
 use crate::charting::Charted;
@@ -29,12 +31,14 @@ pub struct Covered {
     pub coverage: Coverage,
 }
 
-/// How a run over a whole trace ended, and what was counted in it.
+/// How a run over a whole trace ended, what was counted in it, and the two devices.
 #[derive(Drop)]
-struct Counted {
+struct Counted<R, S> {
     end: End,
     shown: Vec<u64>,
     trail: Trail,
+    trace: R,
+    sink: S,
 }
 
 /// Runs a machine over a trace, and counts the lines of the clauses of its chart.
@@ -45,15 +49,21 @@ fn counted_by<R: Source + Drop, S: Sink + Drop>(
     puts: &[PutChart],
     trace: R,
     sink: S,
-) -> Result<Counted, AllocError>
+) -> Result<Counted<R, S>, AllocError>
     requires trace { R.failures trace < 2 ^ 64 - 1 }
+    requires fresh { R.gave trace ≡ [] }
     requires sink { S.failures sink < 2 ^ 64 - 1 }
     requires untold { (text : List ℕ) → S.told sink ≡ Some text → text ≡ [] }
-    ensures { IfOk result (λ o. (p : ProgramTree) (ls : List Link) (waits : Bool) (budget : ℕ) →
-        IsMachineOf p ls waits budget machine.old → (bytes : List ℕ) →
-        R.rest trace ≡ Some bytes → S.told sink ≡ Some [] →
-        Covers (rules_by (task_of p ls waits) budget) o.end (world_held machine.old)
-        (lines_from [] bytes) (go_texts (charted chart.now)) o.shown.items) }
+    ensures ran { IfOk result (λ o. (p : ProgramTree) (ls : List Link) (waits : Bool)
+        (budget : ℕ) → IsMachineOf p ls waits budget machine.old → RunsLike p ls waits budget
+        (world_held machine.old) (R.gave o.trace) (R.ended o.trace) (S.told sink)
+        (S.told o.sink) o.end) }
+    ensures counts { IfOk result (λ o. (text : List ℕ) → S.told o.sink ≡ Some text →
+        AreCounts (go_texts (charted chart.now)) o.shown.items (whole_lines text)) }
+    ensures source { IfOk result (λ o. R.failures o.trace
+        ≡ counted (source_failed o.end) (R.failures trace)) }
+    ensures sink { IfOk result (λ o. S.failures o.sink
+        ≡ counted (sink_failed o.end) (S.failures sink)) }
 {
     let texts = go_texts(alloc, chart)?;
     let channels = no_puts(alloc, puts)?;
@@ -61,32 +71,39 @@ fn counted_by<R: Source + Drop, S: Sink + Drop>(
     let mut trace = trace;
     let mut watch = Watch::new(counter, sink);
     let end = run(machine, &mut trace, &mut watch);
-    let counter = watch.into_counter();
+    let (counter, sink) = watch.into_parts();
     let shown = counts_of(alloc, &counter, texts.as_slice())?;
     Ok(Counted {
         end,
         shown,
         trail: counter.into_trail(),
+        trace,
+        sink,
     })
 }
 
-/// Runs a program over a trace, and hears what it shows.
+/// Runs a program over a trace, and hears what it shows. Both devices are handed back.
 pub(crate) fn covered_by<R: Source + Drop, S: Sink + Drop>(
     alloc: Global,
     program: Charted,
     trace: R,
     sink: S,
-) -> Result<Covered, AllocError>
+) -> Result<(Covered, R, S), AllocError>
     requires trace { R.failures trace < 2 ^ 64 - 1 }
+    requires fresh { R.gave trace ≡ [] }
     requires sink { S.failures sink < 2 ^ 64 - 1 }
     requires untold { (text : List ℕ) → S.told sink ≡ Some text → text ≡ [] }
-    ensures chart { IfOk result (λ o. o.coverage.chart ≡ program.chart) }
-    ensures shown { IfOk result (λ o. (p : ProgramTree) (ls : List Link) (budget : ℕ) →
+    ensures chart { IfOk result (λ r. r.0.coverage.chart ≡ program.chart) }
+    ensures ran { IfOk result (λ r. (p : ProgramTree) (ls : List Link) (budget : ℕ) →
         IsMachineOf p ls program.prepared.waits budget program.prepared.machine →
-        (bytes : List ℕ) → R.rest trace ≡ Some bytes → S.told sink ≡ Some [] →
-        Covers (rules_by (task_of p ls program.prepared.waits) budget) o.end
-        (world_held program.prepared.machine) (lines_from [] bytes)
-        (go_texts (charted program.chart)) o.coverage.shown.items) }
+        RunsLike p ls program.prepared.waits budget (world_held program.prepared.machine)
+        (R.gave r.1) (R.ended r.1) (S.told sink) (S.told r.2) r.0.end) }
+    ensures counts { IfOk result (λ r. (text : List ℕ) → S.told r.2 ≡ Some text → AreCounts
+        (go_texts (charted program.chart)) r.0.coverage.shown.items (whole_lines text)) }
+    ensures source { IfOk result (λ r. R.failures r.1
+        ≡ counted (source_failed r.0.end) (R.failures trace)) }
+    ensures sink { IfOk result (λ r. S.failures r.2
+        ≡ counted (sink_failed r.0.end) (S.failures sink)) }
 {
     let Charted {
         mut prepared,
@@ -101,7 +118,7 @@ pub(crate) fn covered_by<R: Source + Drop, S: Sink + Drop>(
         trace,
         sink,
     )?;
-    Ok(Covered {
+    let covered = Covered {
         end: counted.end,
         coverage: Coverage {
             chart,
@@ -109,5 +126,6 @@ pub(crate) fn covered_by<R: Source + Drop, S: Sink + Drop>(
             shown: counted.shown,
             trail: counted.trail,
         },
-    })
+    };
+    Ok((covered, counted.trace, counted.sink))
 }

@@ -1,23 +1,22 @@
 //! `run`: a run for a person, with notes between its lines and a summary behind them.
 
-ghost use Rattle.std.specs.Prelude.{◌≡◌, ◌+◌, ◌-◌, ◌^◌, ◌<◌, ℕ, List, Option, Bool, [], Some, false, true, IfOk, IfSome, string_bytes};
+ghost use Rattle.std.specs.Prelude.{◌≡◌, ◌+◌, ◌-◌, ◌^◌, ◌<◌, ℕ, List, Bool, [], Some, false, true, IfNone, IfOk, IfSome, string_bytes};
 ghost use Rattle.std.specs.Option.{option_map, unwrap_or};
 ghost use Rattle.snl_syntax.specs.Programs.{ProgramTree};
 ghost use Rattle.snl_channels.specs.Links.{Link};
-ghost use Rattle.snl_machine.specs.MachineOf.{IsMachineOf, task_of, world_held};
+ghost use Rattle.snl_machine.specs.MachineOf.{IsMachineOf, world_held};
 ghost use Rattle.snl_output.specs.Devices.{counted};
-ghost use Rattle.snl_trace.specs.Ends.{sink_failed};
-ghost use Rattle.snl_trace.specs.Run.{rules_by};
-ghost use Rattle.snl_trace.specs.RunOver.{RunsOver, standing};
+ghost use Rattle.snl_trace.specs.Ends.{sink_failed, source_failed};
 ghost use Rattle.snl_watch.specs.Extra.{shown};
 ghost use Rattle.snl_watch.specs.Folding.{IsFolded};
-ghost use Rattle.snl_views.specs.Runs.{IsRun, RunsLike};
+ghost use Rattle.snl_views.specs.Answered.{IsAnswered};
+ghost use Rattle.snl_views.specs.Runs.{EndsAt, RunsLike, RunsWith, trace_failures};
 
 use crate::staging::{Stage, Staged, staged_of};
 use crate::starting::names_of;
 use crate::summaries::summary_of;
 use crate::telling::Scene;
-use snc::Status;
+use snc::{Status, status_of};
 use snc_args::Job;
 use snl_machine::{Machine, Sink};
 use snl_trace::{End, Source, run};
@@ -28,22 +27,25 @@ use std::mem;
 
 /// What `run` answers.
 #[derive(Drop)]
-pub struct RunAnswer<K> {
+pub struct RunAnswer<R, K> {
     /// A line for each message about the source.
     pub messages: Vec<u8>,
     /// How the run ended; None where a message is an error: then the trace was not read, and nothing was written.
     pub end: Option<End>,
     /// Whether all was written, with the summary.
     pub is_whole: bool,
+    /// The trace, read as far as it was.
+    pub trace: R,
     /// Where it was written.
     pub sink: K,
 }
 
 /// What came of a run.
 #[derive(Drop)]
-struct Ran {
+struct Ran<R> {
     end: End,
     heard: HeardTrace,
+    trace: R,
 }
 
 /// Runs a machine over a trace, line by line. Fails only where memory ran out.
@@ -53,15 +55,17 @@ fn ran_over<R: Source + Drop, S: Sink>(
     trace: R,
     sink: &mut S,
     moments: &RefCell<Moments>,
-) -> Result<Ran, AllocError>
+) -> Result<Ran<R>, AllocError>
     requires trace { R.failures trace < 2 ^ 64 - 1 }
+    requires fresh { R.gave trace ≡ [] }
     requires sink { S.failures sink.old < 2 ^ 64 - 1 }
     ensures means { IfOk result (λ ran. (p : ProgramTree) (ls : List Link) (waits : Bool)
-        (budget : ℕ) → IsMachineOf p ls waits budget machine.old → (bytes : List ℕ) →
-        R.rest trace ≡ Some bytes → (left : Option (List ℕ)) ×
-        RunsOver (rules_by (task_of p ls waits) budget) ran.end bytes left
-        (standing [] 1 machine.old (S.told sink.old)) (world_held machine.new)
-        (S.told sink.new)) }
+        (budget : ℕ) → IsMachineOf p ls waits budget machine.old →
+        EndsAt p ls waits budget (world_held machine.old) (R.gave ran.trace)
+        (R.ended ran.trace) (S.told sink.old) (S.told sink.new) ran.end
+        (world_held machine.new)) }
+    ensures source { IfOk result (λ ran. R.failures ran.trace
+        ≡ counted (source_failed ran.end) (R.failures trace)) }
     ensures failures { IfOk result (λ ran. S.failures sink.new
         ≡ counted (sink_failed ran.end) (S.failures sink.old)) }
 {
@@ -70,11 +74,12 @@ fn ran_over<R: Source + Drop, S: Sink>(
     let lines = ByLine::new(alloc, trace)?;
     let mut follower = Follower::new(lines, heard, moments);
     let end = run(machine, &mut follower, sink);
-    let heard = follower.into_heard();
+    let (lines, heard) = follower.into_parts();
+    let trace = lines.into_inner();
     if heard.ran_out() {
         return Err(AllocError);
     }
-    Ok(Ran { end, heard })
+    Ok(Ran { end, heard, trace })
 }
 
 /// Whether a run ended because its lines could not be written.
@@ -91,7 +96,8 @@ fn failed(end: End) -> bool
 fn summed<K: Sink>(teller: &mut Teller<'_, K>, end: End, summary: &[u8]) -> bool
     requires { sink_failed end ≡ false →
         K.failures teller.old.inner + teller.old.refused < 2 ^ 64 - 1 }
-    ensures { shown (K.told teller.new.inner) ≡ shown (K.told teller.old.inner) }
+    ensures told { shown (K.told teller.new.inner) ≡ shown (K.told teller.old.inner) }
+    ensures failed { sink_failed end ≡ true → result ≡ false }
 {
     if failed(end) {
         return false;
@@ -107,6 +113,7 @@ fn finished<K: Sink, W: Sink>(folder: &mut Folder<'_, K, W>, end: End, summary: 
     ensures folded { result ≡ true → (run output : List ℕ) →
         W.told folder.new.witness ≡ Some run → K.told folder.new.inner ≡ Some output →
         ∥ IsFolded run output ∥₁ }
+    ensures failed { sink_failed end ≡ true → result ≡ false }
 {
     if failed(end) {
         return false;
@@ -119,10 +126,11 @@ fn finished<K: Sink, W: Sink>(folder: &mut Folder<'_, K, W>, end: End, summary: 
 
 /// What was told of a run.
 #[derive(Drop)]
-struct Told<K> {
+struct Told<R, K> {
     end: End,
     /// Whether all was written, with the summary.
     is_whole: bool,
+    trace: R,
     sink: K,
 }
 
@@ -156,15 +164,19 @@ fn whole_of<R: Source + Drop, K: Sink + Drop>(
     stage: &mut Stage,
     trace: R,
     sink: K,
-) -> Result<Told<K>, AllocError>
+) -> Result<Told<R, K>, AllocError>
     requires trace { R.failures trace < 2 ^ 64 - 1 }
+    requires fresh_trace { R.gave trace ≡ [] }
     requires sink { K.failures sink < 2 ^ 64 - 1 }
     requires fresh { (text : List ℕ) → K.told sink ≡ Some text → text ≡ [] }
-    ensures { IfOk result (λ told. (p : ProgramTree) (ls : List Link) (budget : ℕ) →
+    ensures runs { IfOk result (λ told. (p : ProgramTree) (ls : List Link) (budget : ℕ) →
         IsMachineOf p ls stage.old.prepared.waits budget stage.old.prepared.machine →
-        RunsLike R.rest p ls stage.old.prepared.waits budget
-        (world_held stage.old.prepared.machine) trace (shown (K.told sink))
+        RunsLike p ls stage.old.prepared.waits budget (world_held stage.old.prepared.machine)
+        (R.gave told.trace) (R.ended told.trace) (shown (K.told sink))
         (shown (K.told told.sink)) told.end) }
+    ensures source { IfOk result (λ told. R.failures told.trace
+        ≡ counted (source_failed told.end) (R.failures trace)) }
+    ensures failed { IfOk result (λ told. sink_failed told.end ≡ true → told.is_whole ≡ false) }
 {
     let moments = RefCell::new(Moments::new(alloc)?);
     let notes = notes_of(alloc, stage, &moments)?;
@@ -176,13 +188,14 @@ fn whole_of<R: Source + Drop, K: Sink + Drop>(
         &mut teller,
         &moments,
     )?;
-    let Ran { end, heard } = ran;
+    let Ran { end, heard, trace } = ran;
     let scene = scene_of(source, stage);
     let summary = summary_of(alloc, scene, end, heard, teller.notes())?;
     let is_whole = summed(&mut teller, end, summary.as_slice());
     Ok(Told {
         end,
         is_whole,
+        trace,
         sink: teller.into_inner(),
     })
 }
@@ -195,16 +208,20 @@ fn folded_of<R: Source + Drop, K: Sink + Drop, W: Sink + Drop>(
     trace: R,
     sink: K,
     witness: W,
-) -> Result<Told<(K, W)>, AllocError>
+) -> Result<Told<R, (K, W)>, AllocError>
     requires trace { R.failures trace < 2 ^ 64 - 1 }
+    requires fresh_trace { R.gave trace ≡ [] }
     requires sinks { K.failures sink + W.failures witness < 2 ^ 64 - 1 }
     requires fresh { (text : List ℕ) → K.told sink ≡ Some text → text ≡ [] }
     requires unused { (text : List ℕ) → W.told witness ≡ Some text → text ≡ [] }
     ensures runs { IfOk result (λ told. (p : ProgramTree) (ls : List Link) (budget : ℕ) →
         IsMachineOf p ls stage.old.prepared.waits budget stage.old.prepared.machine →
-        RunsLike R.rest p ls stage.old.prepared.waits budget
-        (world_held stage.old.prepared.machine) trace (W.told witness) (W.told told.sink.1)
+        RunsLike p ls stage.old.prepared.waits budget (world_held stage.old.prepared.machine)
+        (R.gave told.trace) (R.ended told.trace) (W.told witness) (W.told told.sink.1)
         told.end) }
+    ensures source { IfOk result (λ told. R.failures told.trace
+        ≡ counted (source_failed told.end) (R.failures trace)) }
+    ensures failed { IfOk result (λ told. sink_failed told.end ≡ true → told.is_whole ≡ false) }
     ensures folded { IfOk result (λ told. told.is_whole ≡ true → (run output : List ℕ) →
         W.told told.sink.1 ≡ Some run → K.told told.sink.0 ≡ Some output →
         ∥ IsFolded run output ∥₁) }
@@ -219,7 +236,7 @@ fn folded_of<R: Source + Drop, K: Sink + Drop, W: Sink + Drop>(
         &mut folder,
         &moments,
     )?;
-    let Ran { end, heard } = ran;
+    let Ran { end, heard, trace } = ran;
     if folder.ran_out() {
         return Err(AllocError);
     }
@@ -229,6 +246,7 @@ fn folded_of<R: Source + Drop, K: Sink + Drop, W: Sink + Drop>(
     Ok(Told {
         end,
         is_whole,
+        trace,
         sink: folder.into_parts(),
     })
 }
@@ -236,21 +254,29 @@ fn folded_of<R: Source + Drop, K: Sink + Drop, W: Sink + Drop>(
 /// Reads and checks a program and, if it has no error, runs it over a trace, with notes between the lines of the run and a
 /// summary behind them. The lines that do not begin with `#` are those that `snlrun` writes.
 ///
-/// `job` has the options, the macros and the budget, as `snlrun` has them. The sink is one that nothing was written to. Fails
-/// only where memory ran out.
+/// `job` has the options, the macros and the budget, as `snlrun` has them. Nothing was read of the trace, and nothing was written
+/// to the sink; both are handed back. Fails only where memory ran out.
 pub fn run_whole<R: Source + Drop, K: Sink + Drop>(
     alloc: Global,
     source: &[u8],
     job: &Job,
     trace: R,
     sink: K,
-) -> Result<RunAnswer<K>, AllocError>
+) -> Result<RunAnswer<R, K>, AllocError>
     requires trace { R.failures trace < 2 ^ 64 - 1 }
+    requires fresh_trace { R.gave trace ≡ [] }
     requires sink { K.failures sink < 2 ^ 64 - 1 }
     requires fresh { (text : List ℕ) → K.told sink ≡ Some text → text ≡ [] }
-    ensures { IfOk result (λ answer. IsRun R.rest job.now.options (string_bytes job.now.file)
-        (unwrap_or (option_map string_bytes job.now.macros) []) source.now job.now.budget trace
-        (shown (K.told sink)) (shown (K.told answer.sink)) answer.messages.items answer.end) }
+    ensures run { IfOk result (λ a. IsAnswered
+        (RunsWith (unwrap_or (option_map string_bytes job.now.macros) []) job.now.budget
+        (R.gave a.trace) (R.ended a.trace) (shown (K.told sink)) (shown (K.told a.sink)))
+        job.now.options (string_bytes job.now.file) source.now a.messages.items a.end) }
+    ensures unread { IfOk result (λ a. IfNone a.end (a.trace ≡ trace)) }
+    ensures unwritten { IfOk result (λ a. IfNone a.end (a.sink ≡ sink)) }
+    ensures source { IfOk result (λ a. R.failures a.trace
+        ≡ trace_failures a.end (R.failures trace)) }
+    ensures failed { IfOk result (λ a. IfSome a.end (λ e. sink_failed e ≡ true →
+        a.is_whole ≡ false)) }
 {
     let Staged { messages, stage } = staged_of(alloc, source, job)?;
     let Some(mut stage) = stage else {
@@ -258,6 +284,7 @@ pub fn run_whole<R: Source + Drop, K: Sink + Drop>(
             messages,
             end: None,
             is_whole: true,
+            trace,
             sink,
         });
     };
@@ -266,6 +293,7 @@ pub fn run_whole<R: Source + Drop, K: Sink + Drop>(
         messages,
         end: Some(told.end),
         is_whole: told.is_whole,
+        trace: told.trace,
         sink: told.sink,
     })
 }
@@ -279,15 +307,22 @@ pub fn run_folded<R: Source + Drop, K: Sink + Drop, W: Sink + Drop>(
     trace: R,
     sink: K,
     witness: W,
-) -> Result<RunAnswer<(K, W)>, AllocError>
+) -> Result<RunAnswer<R, (K, W)>, AllocError>
     requires trace { R.failures trace < 2 ^ 64 - 1 }
+    requires fresh_trace { R.gave trace ≡ [] }
     requires sinks { K.failures sink + W.failures witness < 2 ^ 64 - 1 }
     requires fresh { (text : List ℕ) → K.told sink ≡ Some text → text ≡ [] }
     requires unused { (text : List ℕ) → W.told witness ≡ Some text → text ≡ [] }
-    ensures run { IfOk result (λ answer. IsRun R.rest job.now.options
-        (string_bytes job.now.file) (unwrap_or (option_map string_bytes job.now.macros) [])
-        source.now job.now.budget trace (W.told witness) (W.told answer.sink.1)
-        answer.messages.items answer.end) }
+    ensures run { IfOk result (λ a. IsAnswered
+        (RunsWith (unwrap_or (option_map string_bytes job.now.macros) []) job.now.budget
+        (R.gave a.trace) (R.ended a.trace) (W.told witness) (W.told a.sink.1))
+        job.now.options (string_bytes job.now.file) source.now a.messages.items a.end) }
+    ensures unread { IfOk result (λ a. IfNone a.end (a.trace ≡ trace)) }
+    ensures unwritten { IfOk result (λ a. IfNone a.end (a.sink.0 ≡ sink)) }
+    ensures source { IfOk result (λ a. R.failures a.trace
+        ≡ trace_failures a.end (R.failures trace)) }
+    ensures failed { IfOk result (λ a. IfSome a.end (λ e. sink_failed e ≡ true →
+        a.is_whole ≡ false)) }
     ensures folded { IfOk result (λ answer. IfSome answer.end (λ _. answer.is_whole ≡ true →
         (run output : List ℕ) → W.told answer.sink.1 ≡ Some run →
         K.told answer.sink.0 ≡ Some output → ∥ IsFolded run output ∥₁)) }
@@ -298,6 +333,7 @@ pub fn run_folded<R: Source + Drop, K: Sink + Drop, W: Sink + Drop>(
             messages,
             end: None,
             is_whole: true,
+            trace,
             sink: (sink, witness),
         });
     };
@@ -306,20 +342,19 @@ pub fn run_folded<R: Source + Drop, K: Sink + Drop, W: Sink + Drop>(
         messages,
         end: Some(told.end),
         is_whole: told.is_whole,
+        trace: told.trace,
         sink: told.sink,
     })
 }
 
-impl<K> RunAnswer<K> {
-    /// The status of a call: 0 where the trace or the program ended; 1 where the source has an error, 5 where the program
-    /// faulted, 6 where a line of the trace is bad, and 3 where the trace could not be read, or something not be written.
+impl<R, K> RunAnswer<R, K> {
+    /// The status of a call: 3 where the trace could not be read, or something not be written; else 0 where the trace or the
+    /// program ended, 1 where the source has an error, 5 where the program faulted, 6 where a line of the trace is bad.
     pub fn status(&self) -> Status {
         match self.end {
             None => Status::SourceErrors,
-            Some(End::TraceEnded | End::ProgramEnded) if self.is_whole => Status::Well,
-            Some(End::Fault(_, _)) => Status::ProgramFault,
-            Some(End::TraceFault(_, _)) => Status::TraceFault,
-            Some(_) => Status::InputOutput,
+            Some(_) if !self.is_whole => Status::InputOutput,
+            Some(end) => status_of(end),
         }
     }
 }

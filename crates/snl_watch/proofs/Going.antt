@@ -4,17 +4,17 @@ use Rattle.std.specs.Char.{is_ascii_digit}
 use Rattle.std.specs.List.{All, fold, list_all}
 use Rattle.std.proofs.Math.Seq.{take-nil}
 use Rattle.std.specs.Str.{bytes_eq}
-use Rattle.std.proofs.lemmas.Bool.{cases_Bool, cases_lt, cases_eq, and_parts, lt-ltb, le-ltb, not-true}
+use Rattle.std.proofs.lemmas.Bool.{false≢true, cases_Bool, cases_lt, cases_eq, and_parts, lt-ltb, le-ltb, not-true}
 use Rattle.std.proofs.lemmas.List.{length-take-le, take_all, take-append-le, length-set, get_or-set_same, get_or-set_other, get_or-replicate, length-replicate}
 use Rattle.std.proofs.lemmas.List.Quantifiers.{position-Some}
 use Rattle.std.proofs.lemmas.Slice.Eq.{bytes_eq-Decides}
 use Rattle.std.proofs.lemmas.List.Sums.{fold-append}
 use Rattle.std.proofs.lemmas.List.Folds.{list_all-append}
-use Rattle.snl_watch.specs.Counts.{Cut, Reading, after, NoneShows, behind_digits, count_at, count_in, counted, counted_at, counts_of, cut, cut_on, kept, no_cut, place_of, reading_of, step, with_byte, zeros}
+use Rattle.snl_watch.specs.Counts.{Cut, Reading, after, behind_digits, count_at, count_in, counted, counted_at, counts_of, cut, cut_on, kept, lines_showing, no_cut, place_of, reading_of, step, with_byte, zeros}
 use Rattle.snl_output.specs.Devices.{told_more}
 use Rattle.snl_watch.specs.Folding.{without_time}
 use Rattle.snl_watch.specs.Folds.{ends_line, is_in_line}
-use Rattle.snl_watch.specs.Laws.{CountsGoOn, UncountedIsUnseen, ZeroIsNone}
+use Rattle.snl_watch.specs.Laws.{CountsGoOn, CountsAreExact}
 
 -- what follows the digits, once a byte came that is behind a byte which is no digit
 behind-more : (xs : List ℕ) (b : ℕ) → list_all is_ascii_digit xs ≡ false → behind_digits (xs ++ b ∷ []) ≡ behind_digits xs ++ b ∷ []
@@ -97,65 +97,6 @@ other-stays : (counts : List ℕ) (p : Option ℕ) (key : ℕ) → (p ≡ Some k
 other-stays counts None key other = refl
 other-stays counts (Some k) key other = get_or-set_other counts k key _ 0 (λ e. other (ap (λ n. Some n) (sym e)))
 
--- what was counted is not 0
-key-counts : (counts : List ℕ) (key : ℕ) → key < length counts → count_at (counted_at counts (Some key)) key ≡ 0 → ⊥
-key-counts counts key within none =
-    let is : count_at (counted_at counts (Some key)) key ≡ min (count_at counts key + 1) (2 ^ 64 - 1) = get_or-set_same counts key _ 0 within in
-    let zero-min : min (count_at counts key + 1) (2 ^ 64 - 1) ≡ 0 = sym is ∙ none in
-    absurd (omega (arith, zero-min))
-
--- whether a place is that of a key
-cases-place : (p : Option ℕ) (key : ℕ) → (p ≡ Some key) ⊎ (p ≡ Some key → ⊥)
-cases-place None key = inr (λ e. absurd (cc))
-cases-place (Some k) key = elim (cases_eq k key) [
-  | inl same ↦ inl (ap (λ n. Some n) same)
-  | inr other ↦ inr (λ e. other (some-same k key e))
-]
-  where
-    some-same : (a b : ℕ) → Some a ≡ Some b → a ≡ b
-    some-same a b e = cc
-
--- what is not 0 stays so
-not-zero : (keys : List (List ℕ)) (room key : ℕ) (lines : List (List ℕ)) (counts : List ℕ) → key < length keys → length counts ≡ length keys →
-    (count_at counts key ≡ 0 → ⊥) → count_at (fold (one keys room) counts lines) key ≡ 0 → ⊥
-not-zero keys room key [] counts within size some none = some none
-not-zero keys room key (line ∷ lines) counts within size some none =
-    let p = place_of keys (take room (behind_digits line)) in
-    not-zero keys room key lines (counted_at counts p) within (length-counted counts p ∙ size)
-    (λ zeroed. elim (cases-place p key) [
-      | inl is ↦ key-counts counts key (omega (arith, size)) (ap (λ q. count_at (counted_at counts q) key) (sym is) ∙ zeroed)
-      | inr other ↦ some (sym (other-stays counts p key other) ∙ zeroed)
-    ]) none
-
--- a line does not show the key
-abbrev IsOther : List (List ℕ) → ℕ → ℕ → List ℕ → Type 0
-IsOther keys room key line = place_of keys (take room (behind_digits line)) ≡ Some key → ⊥
-
--- where it is 0 at the end, no line shows the key
-none-shows : (keys : List (List ℕ)) (room key : ℕ) (lines : List (List ℕ)) (counts : List ℕ) → key < length keys → length counts ≡ length keys →
-    count_at (fold (one keys room) counts lines) key ≡ 0 → All (IsOther keys room key) lines
-none-shows keys room key [] counts within size none j d below is = absurd (omega (arith, below))
-none-shows keys room key (line ∷ lines) counts within size none zero d below is =
-    not-zero keys room key lines (one keys room counts line) within (length-counted counts (place_of keys (take room (behind_digits line))) ∙ size)
-    (λ zeroed. key-counts counts key (omega (arith, size)) (ap (λ q. count_at (counted_at counts q) key) (sym is) ∙ zeroed)) none
-none-shows keys room key (line ∷ lines) counts within size none (suc j) d below is =
-    none-shows keys room key lines (one keys room counts line) within (length-counted counts (place_of keys (take room (behind_digits line))) ∙ size) none j d (omega (arith, below)) is
-
--- and where no line shows it, it stays 0
-stays-zero : (keys : List (List ℕ)) (room key : ℕ) (lines : List (List ℕ)) (counts : List ℕ) → count_at counts key ≡ 0 → All (IsOther keys room key) lines →
-    count_at (fold (one keys room) counts lines) key ≡ 0
-stays-zero keys room key [] counts none others = none
-stays-zero keys room key (line ∷ lines) counts none others =
-    let here : IsOther keys room key line = others 0 [] (omega arith) in
-    stays-zero keys room key lines (one keys room counts line) (other-stays counts (place_of keys (take room (behind_digits line))) key here ∙ none)
-    (λ j d below. others (suc j) d (omega (arith, below)))
-
--- a count is 0 exactly if no line has the key
-pub zero-is-none : ZeroIsNone
-zero-is-none keys room key lines within =
-    let begin : count_at (zeros keys) key ≡ 0 = get_or-replicate (length keys) key 0 0 within in
-    (none-shows keys room key lines (zeros keys) within (length-replicate (length keys) 0), stays-zero keys room key lines (zeros keys) begin)
-
 -- ---- a text that goes on
 
 -- the cut of a text that goes on
@@ -233,14 +174,33 @@ is-counted keys room counts key n is = elim (cases_lt (length key) room) [
     none-is : None ≡ Some n → ⊥
     none-is e = absurd (cc)
 
--- a text that is counted came 0 times exactly if no line shows it
-pub uncounted-is-unseen : UncountedIsUnseen
-uncounted-is-unseen keys room lines key n is =
+-- a key has as many more as lines show it
+count-exact : (keys : List (List ℕ)) (room key : ℕ) (text : List ℕ) (lines : List (List ℕ)) (counts : List ℕ) → length text < room → place_of keys text ≡ Some key →
+    length counts ≡ length keys → count_at counts key ≤ 2 ^ 64 - 1 →
+    count_at (fold (one keys room) counts lines) key ≡ min (count_at counts key + lines_showing text lines) (2 ^ 64 - 1)
+count-exact keys room key text [] counts few found size fits = omega (arith, fits)
+count-exact keys room key text (line ∷ lines) counts few found size fits =
+    let rest = behind_digits line in
+    let p = place_of keys (take room rest) in
+    let within : key < length counts = omega (arith, size, place-within keys text key found) in
+    let on = count-exact keys room key text lines (counted_at counts p) few found (length-counted counts p ∙ size) in
+    elim (cases_Bool (bytes_eq rest text)) [
+      | inl shows ↦ (let here : p ≡ Some key = shows-left keys room key rest text few found ((bytes_eq-Decides rest text).0 shows) in
+          let more : count_at (counted_at counts p) key ≡ min (count_at counts key + 1) (2 ^ 64 - 1) =
+          ap (λ q. count_at (counted_at counts q) key) here ∙ get_or-set_same counts key _ 0 within in
+          on (omega (arith, more)) ∙ rw shows (omega (arith, more)))
+      | inr other ↦ (let isnt : p ≡ Some key → ⊥ = λ is. absurd (false≢true (sym other ∙ (bytes_eq-Decides rest text).1 (shows-right keys room key rest text few found is))) in
+          let same : count_at (counted_at counts p) key ≡ count_at counts key = other-stays counts p key isnt in
+          on (omega (arith, same, fits)) ∙ rw other (omega (arith, same)))
+    ]
+
+-- a text that is counted has as many as lines show it
+pub counts-are-exact : CountsAreExact
+counts-are-exact keys room lines key n is =
     let c = is-counted keys room (counts_of keys room lines) key n is in
-    let both = zero-is-none keys room c.place lines (place-within keys key c.place c.found) in (
-      λ zero j d below same. both.0 (c.count ∙ zero) j d below (shows-left keys room c.place _ key c.few c.found same),
-      λ none. sym c.count ∙ both.1 (λ j d below place. none j d below (shows-right keys room c.place _ key c.few c.found place)),
-    )
+    let begin : count_at (zeros keys) c.place ≡ 0 = get_or-replicate (length keys) c.place 0 0 (place-within keys key c.place c.found) in
+    let all = count-exact keys room c.place key lines (zeros keys) c.few c.found (length-replicate (length keys) 0) (omega (arith, begin)) in
+    omega (arith, c.count, all, begin)
 
 -- ---- a line that comes whole
 

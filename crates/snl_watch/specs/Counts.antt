@@ -35,9 +35,10 @@ abbrev pub behind_digits : List ℕ → List ℕ
 behind_digits [] = []
 behind_digits (byte ∷ bytes) = if is_ascii_digit byte then behind_digits bytes else byte ∷ bytes
 
--- No line shows a text: none has it behind its digits.
-abbrev pub NoneShows : List ℕ → List (List ℕ) → Type 0
-NoneShows text lines = All (λ line. behind_digits line ≡ text → ⊥) lines
+-- How many lines show a text: have it behind their digits.
+abbrev pub lines_showing : List ℕ → List (List ℕ) → ℕ
+lines_showing text [] = 0
+lines_showing text (line ∷ lines) = (if bytes_eq (behind_digits line) text then 1 else 0) + lines_showing text lines
 
 -- ---- counts
 

@@ -1,14 +1,14 @@
 //! A source that gives one line a call.
 
-ghost use Rattle.std.specs.Prelude.{◌≡◌, ◌-◌, ◌^◌, ◌<◌, ℕ, List, [], false, true, ◌⊎◌, length, ◌++◌, Some, IfOk, OnOk, is_err, IsTrue, IsFalse, ◌≤◌};
+ghost use Rattle.std.specs.Prelude.{◌≡◌, ◌≢◌, ◌-◌, ◌^◌, ◌<◌, ◌==◌, ◌&&◌, [], false, true, ◌⊎◌, length, ◌++◌, take, All, nat_lt, IfOk, OnOk, is_err, IsTrue, IsFalse, ◌≤◌};
 ghost use Rattle.std.proofs.Props.{props};
 ghost use Rattle.snl_output.specs.Devices.{counted};
-ghost use Rattle.snl_output.specs.Sources.{IsGiven, IsShort};
-ghost use Rattle.snl_watch.specs.Window.{window, behind};
+ghost use Rattle.snl_watch.specs.Window.{window};
 
 use crate::held::Held;
 use crate::line_ends::front_line;
 use snl_output::{Source, SourceFault};
+use snl_past::Past;
 use std::alloc::{AllocError, Global};
 
 /// Gives the bytes of another source, at most one line a call: up to its newline, where the room takes that. So whoever reads
@@ -22,10 +22,17 @@ pub struct ByLine<R: Source> {
     held: Held,
     /// Whether the source has come to its end.
     ended: bool,
-    ghost over: { ended ≡ true → (text : List ℕ) → R.rest inner ≡ Some text
-        → text ≡ [] } by { Prim.hlevel props },
-    ghost short: { 0 < length (window held) → (text : List ℕ) → R.rest inner ≡ Some text
-        → length (window held ++ text) < 2 ^ 63 } by { Prim.hlevel props },
+    /// Whether it said last that no more come.
+    said: bool,
+    /// Whether its last read failed.
+    is_broken: bool,
+    past: Past,
+    ghost gave: { R.gave inner ≡ past.bytes ++ window held },
+    ghost short: { length (R.gave inner) < 2 ^ 63 },
+    ghost over: { ended ≡ true → R.ended inner ≡ true } by { Prim.hlevel props },
+    ghost last: { said ≡ true → ended ≡ true } by { Prim.hlevel props },
+    ghost empty: { said ≡ true → window held ≡ [] } by { Prim.hlevel props },
+    ghost partial: { is_broken ≡ true → All (λ byte. byte ≢ 10) (window held) } by { Prim.hlevel props },
 }
 
 impl<R: Source> ByLine<R> {
@@ -33,14 +40,17 @@ impl<R: Source> ByLine<R> {
     pub fn new(alloc: Global, inner: R) -> Result<Self, AllocError>
     where
         R: Drop,
-        ensures rest { IfOk result (λ lines. behind (window lines.held) (R.rest lines.inner)
-            ≡ R.rest inner) }
-        ensures failures { IfOk result (λ lines. R.failures lines.inner ≡ R.failures inner) }
+        requires fresh { R.gave inner ≡ [] }
+        ensures inner { IfOk result (λ lines. lines.inner ≡ inner) }
+        ensures past { IfOk result (λ lines. lines.past.bytes ≡ []) }
     {
         Ok(ByLine {
             held: Held::new(alloc)?,
             inner,
             ended: false,
+            said: false,
+            is_broken: false,
+            past: Past::new(),
         })
     }
 
@@ -50,6 +60,7 @@ impl<R: Source> ByLine<R> {
             ⊎ (0 < length (window self.now.held)) }
         ensures open { IsFalse result → self.now.ended ≡ false }
         ensures room { IsFalse result → length (window self.now.held) < 65536 }
+        ensures none { IsFalse result → All (λ byte. byte ≢ 10) (window self.now.held) }
     {
         self.ended || self.held.has_line()
     }
@@ -59,32 +70,44 @@ impl<R: Source> ByLine<R> {
         requires failures { R.failures self.old.inner < 2 ^ 64 - 1 }
         requires open { self.old.ended ≡ false }
         requires room { length (window self.old.held) < 65536 }
-        ensures same { behind (window self.new.held) (R.rest self.new.inner)
-            ≡ behind (window self.old.held) (R.rest self.old.inner) }
-        ensures short { IsShort (behind (window self.old.held) (R.rest self.old.inner)) }
+        requires none { All (λ byte. byte ≢ 10) (window self.old.held) }
+        ensures past { self.new.past.bytes ≡ self.old.past.bytes }
+        ensures said { self.new.said ≡ false }
+        ensures broke { self.new.is_broken ≡ is_err result }
         ensures more { OnOk result ((self.new.ended ≡ true)
             ⊎ (length (window self.old.held) < length (window self.new.held))) }
         ensures failures { R.failures self.new.inner
             ≡ counted (is_err result) (R.failures self.old.inner) }
     {
-        let count = self.held.take_from(&mut self.inner)?;
-        if count == 0 {
-            self.ended = true;
+        self.said = false;
+        match self.held.take_from(&mut self.inner) {
+            Ok(count) => {
+                self.is_broken = false;
+                if count == 0 {
+                    self.ended = true;
+                }
+                Ok(())
+            }
+            Err(fault) => {
+                self.is_broken = true;
+                Err(fault)
+            }
         }
-        Ok(())
     }
 
     /// Asks the source until a line is there.
     pub(crate) fn fill(&mut self) -> Result<(), SourceFault>
         requires { R.failures self.old.inner < 2 ^ 64 - 1 }
-        ensures same { behind (window self.new.held) (R.rest self.new.inner)
-            ≡ behind (window self.old.held) (R.rest self.old.inner) }
-        ensures short { IsShort (behind (window self.old.held) (R.rest self.old.inner)) }
+        ensures past { self.new.past.bytes ≡ self.old.past.bytes }
+        ensures said { self.new.said ≡ false }
+        ensures broke { self.new.is_broken ≡ is_err result }
         ensures some { OnOk result ((self.new.ended ≡ true)
             ⊎ (0 < length (window self.new.held))) }
         ensures failures { R.failures self.new.inner
             ≡ counted (is_err result) (R.failures self.old.inner) }
     {
+        self.said = false;
+        self.is_broken = false;
         while !self.is_ready() {
             self.refill()?;
         }
@@ -104,16 +127,36 @@ impl<R: Source> ByLine<R> {
         requires within { most ≤ length (window self.old.held) }
         requires some { most ≡ 0 → window self.old.held ≡ [] }
         ensures count { result ≤ length room.old }
-        ensures given { IsGiven (behind (window self.old.held) (R.rest self.old.inner)) result
-            room.new (behind (window self.new.held) (R.rest self.new.inner)) }
+        ensures past { self.new.past.bytes ≡ self.old.past.bytes ++ take result room.new }
+        ensures said { self.new.said ≡ ((result == 0) && nat_lt 0 (length room.old)) }
+        ensures broke { self.new.is_broken ≡ false }
+        ensures short { length self.new.past.bytes < 2 ^ 63 }
         ensures failures { R.failures self.new.inner ≡ R.failures self.old.inner }
     {
-        self.held.give(most, room)
+        self.said = false;
+        self.is_broken = false;
+        let count = self.held.give(most, room);
+        self.past.note(&room[..count]);
+        self.said = count == 0 && !room.is_empty();
+        count
+    }
+
+    /// The source. What it gave is what was given on and, behind it, what is held.
+    pub fn into_inner(self) -> R
+    where
+        R: Drop,
+        ensures { result ≡ self.inner }
+    {
+        self.inner
     }
 }
 
 impl<R: Source> Source for ByLine<R> {
-    ghost rest = { λ lines. behind (window lines.held) (R.rest lines.inner) };
+    ghost gave = { λ lines. lines.past.bytes };
+
+    ghost ended = { λ lines. lines.said };
+
+    ghost broke = { λ lines. lines.is_broken };
 
     ghost failures = { λ lines. R.failures lines.inner };
 

@@ -221,4 +221,8 @@ impl<K: Sink, W: Sink> Sink for Folder<'_, K, W> {
     fn refused(&mut self, put: Refused) {
         self.notes.refused(put);
     }
+
+    fn wait(&mut self) {
+        self.inner.wait();
+    }
 }

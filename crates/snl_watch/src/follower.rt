@@ -1,7 +1,6 @@
 //! A source that tells which lines of a trace it gave last.
 
 ghost use Rattle.std.specs.Prelude.{◌≡◌, ◌≤◌, [], length};
-ghost use Rattle.snl_watch.specs.Window.{window, behind};
 
 use crate::by_line::ByLine;
 use crate::heard::HeardTrace;
@@ -70,18 +69,22 @@ impl<'c, R: Source> Follower<'c, R> {
         }
     }
 
-    /// What was heard.
-    pub fn into_heard(self) -> HeardTrace
-    where
-        R: Drop,
-        ensures { result ≡ self.entry.heard }
+    /// The lines, and what was heard.
+    pub fn into_parts(self) -> (ByLine<R>, HeardTrace)
+        ensures lines { result.0 ≡ self.entry.lines }
+        ensures heard { result.1 ≡ self.entry.heard }
     {
-        self.heard
+        let Follower { lines, heard, .. } = self;
+        (lines, heard)
     }
 }
 
 impl<R: Source> Source for Follower<'_, R> {
-    ghost rest = { λ f. behind (window f.lines.held) (R.rest f.lines.inner) };
+    ghost gave = { λ f. f.lines.past.bytes };
+
+    ghost ended = { λ f. f.lines.said };
+
+    ghost broke = { λ f. f.lines.is_broken };
 
     ghost failures = { λ f. R.failures f.lines.inner };
 

@@ -1,6 +1,6 @@
 //! Bytes that came from a source and were not given on yet.
 
-ghost use Rattle.std.specs.Prelude.{◌≡◌, ◌+◌, ◌-◌, ◌^◌, ◌<◌, ◌≤◌, ◌++◌, ◌⊎◌, [], false, length, take, slice_range, IfOk, IfSome, IsTrue, IsFalse, is_err, OnErr, ℕ, List, Some};
+ghost use Rattle.std.specs.Prelude.{◌≡◌, ◌≢◌, ◌+◌, ◌-◌, ◌^◌, ◌<◌, ◌≤◌, ◌++◌, ◌⊎◌, [], false, length, take, drop, slice_range, All, IfOk, IfSome, IsTrue, IsFalse, is_err, OnErr, true, ℕ, List};
 
 use memchr::memrchr;
 use snl_output::{Source, SourceFault};
@@ -22,11 +22,13 @@ pub(crate) struct Held {
     ghost within: { from ≤ to },
     ghost ends: { to ≤ 65536 },
     ghost lines: { lines_end ≤ to },
+    ghost rest: { All (λ byte. byte ≢ 10) (drop lines_end (take to bytes.items)) },
 }
 
 /// Where the last line ends that a text has whole; 0 where it has none.
 fn last_end(text: &[u8]) -> usize
-    ensures { result ≤ length text.now }
+    ensures within { result ≤ length text.now }
+    ensures rest { All (λ byte. byte ≢ 10) (drop result text.now) }
 {
     match memrchr(b'\n', text) {
         Some(at) => at + 1,
@@ -35,9 +37,8 @@ fn last_end(text: &[u8]) -> usize
 }
 
 impl Held {
-    ghost use Rattle.snl_watch.specs.Window.{behind, window};
+    ghost use Rattle.snl_watch.specs.Window.{window};
     ghost use Rattle.snl_output.specs.Devices.{counted};
-    ghost use Rattle.snl_output.specs.Sources.{IsShort};
 
     /// Holds nothing. Fails only where memory ran out.
     pub(crate) fn new(alloc: Global) -> Result<Self, AllocError>
@@ -62,6 +63,7 @@ impl Held {
     pub(crate) fn has_line(&self) -> bool
         ensures some { IsTrue result → 0 < length (window self.now) }
         ensures none { IsFalse result → length (window self.now) < 65536 }
+        ensures rest { IsFalse result → All (λ byte. byte ≢ 10) (window self.now) }
     {
         self.len() == ROOM || self.from < self.lines_end
     }
@@ -90,6 +92,7 @@ impl Held {
 
     /// Moves what is held to the front.
     fn compact(&mut self)
+        requires { All (λ byte. byte ≢ 10) (window self.old) }
         ensures same { window self.new ≡ window self.old }
         ensures front { self.new.from ≡ 0 }
     {
@@ -100,18 +103,18 @@ impl Held {
         self.lines_end = 0;
     }
 
-    /// Asks a source once for more, and holds that behind what is held; answers how many bytes came.
+    /// Asks a source once for more, and holds that behind what is held, which has no whole line; answers how many bytes came.
     pub(crate) fn take_from<R: Source>(&mut self, source: &mut R) -> Result<usize, SourceFault>
         requires failures { R.failures source.old < 2 ^ 64 - 1 }
         requires room { length (window self.old) < 65536 }
-        ensures same { behind (window self.new) (R.rest source.new)
-            ≡ behind (window self.old) (R.rest source.old) }
+        requires partial { All (λ byte. byte ≢ 10) (window self.old) }
+        ensures gave { (front : List ℕ) → R.gave source.old ≡ front ++ window self.old →
+            R.gave source.new ≡ front ++ window self.new }
         ensures size { IfOk result (λ n. length (window self.new)
             ≡ length (window self.old) + n) }
         ensures kept { OnErr result (window self.new ≡ window self.old) }
-        ensures over { IfOk result (λ n. n ≡ 0 → (text : List ℕ) →
-            R.rest source.new ≡ Some text → text ≡ []) }
-        ensures short { IsShort (R.rest source.old) }
+        ensures ended { IfOk result (λ n. n ≡ 0 → R.ended source.new ≡ true) }
+        ensures short { length (R.gave source.new) < 2 ^ 63 }
         ensures failures { R.failures source.new
             ≡ counted (is_err result) (R.failures source.old) }
     {

@@ -21,18 +21,22 @@ impl<R: Source> Listener<R> {
         Listener { inner, heard }
     }
 
-    /// What was heard.
-    pub fn into_heard(self) -> HeardTrace
-    where
-        R: Drop,
-        ensures { result ≡ self.heard }
+    /// The source that it listened to, and what was heard.
+    pub fn into_parts(self) -> (R, HeardTrace)
+        ensures inner { result.0 ≡ self.inner }
+        ensures heard { result.1 ≡ self.heard }
     {
-        self.heard
+        let Listener { inner, heard } = self;
+        (inner, heard)
     }
 }
 
 impl<R: Source> Source for Listener<R> {
-    ghost rest = { λ listener. R.rest listener.inner };
+    ghost gave = { λ listener. R.gave listener.inner };
+
+    ghost ended = { λ listener. R.ended listener.inner };
+
+    ghost broke = { λ listener. R.broke listener.inner };
 
     ghost failures = { λ listener. R.failures listener.inner };
 

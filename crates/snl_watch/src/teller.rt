@@ -165,4 +165,8 @@ impl<K: Sink> Sink for Teller<'_, K> {
     fn refused(&mut self, put: Refused) {
         self.notes.refused(put);
     }
+
+    fn wait(&mut self) {
+        self.inner.wait();
+    }
 }

@@ -30,14 +30,14 @@ impl<K: Sink> Watch<K> {
         Watch { counter, inner }
     }
 
-    /// The counts: those of the lines of what the sink behind it tells, where it tells that.
-    pub fn into_counter(self) -> Counter
-    where
-        K: Drop,
-        ensures { (text : List ℕ) → K.told self.inner ≡ Some text → seen result
-            ≡ reading_of (names_in result.keys) result.room (cut text) }
+    /// The counts, those of the lines of what the sink behind it tells, where it tells that; and that sink.
+    pub fn into_parts(self) -> (Counter, K)
+        ensures counts { (text : List ℕ) → K.told self.inner ≡ Some text → seen result.0
+            ≡ reading_of (names_in result.0.keys) result.0.room (cut text) }
+        ensures inner { result.1 ≡ self.inner }
     {
-        self.counter
+        let Watch { counter, inner } = self;
+        (counter, inner)
     }
 }
 
@@ -59,5 +59,9 @@ impl<K: Sink> Sink for Watch<K> {
 
     fn refused(&mut self, put: Refused) {
         self.inner.refused(put);
+    }
+
+    fn wait(&mut self) {
+        self.inner.wait();
     }
 }

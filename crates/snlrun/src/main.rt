@@ -3,13 +3,12 @@
 //! The lines of the run go to standard output, messages to standard error.
 #![tactic(auto)]
 
-mod input;
+mod calling;
 
-use input::Trace;
-use snc::{Job, Status, Tool, session};
-use snc_cli::{Lines, Output, job_of, source_of, tell};
+use calling::session_on;
+use snc::{Job, Status, Tool};
+use snc_cli::{Lines, Outlet, Stream, job_of, source_of, tell};
 use snl_trace::End;
-use std::cell::RefCell;
 use std::io::BufWriter;
 use std::process::ExitCode;
 
@@ -35,23 +34,21 @@ fn run_file(rt: &HostRuntime, job: &Job) -> Status {
 /// Runs a program over standard input, and says what is to be said of it. The messages come behind the run, and the line
 /// that tells of a bad line of the trace comes last.
 fn run_over_input(rt: &HostRuntime, source: &[u8], job: &Job) -> Status {
-    let Ok(writer) = BufWriter::with_capacity(rt.alloc(), OUTPUT_HELD, rt.stdout()) else {
+    let outlet = Outlet::new(rt.stdout());
+    let Ok(writer) = BufWriter::with_capacity(rt.alloc(), OUTPUT_HELD, outlet) else {
         return Status::Memory;
     };
-    let output = RefCell::new(Output::new(writer));
-    let mut trace = Trace::new(rt.stdin(), &output);
-    let mut lines = Lines::new(&output);
-    let Ok((messages, end, status)) = session(rt.alloc(), source, job, &mut trace, &mut lines)
-    else {
+    let mut trace = Stream::new(rt.stdin());
+    let mut lines = Lines::new(writer);
+    let Ok(called) = session_on(rt.alloc(), source, job, &mut trace, &mut lines) else {
         return Status::Memory;
     };
-    let finished = lines.finish();
-    tell(rt, messages.as_slice());
-    if finished.is_err() {
+    tell(rt, called.messages.as_slice());
+    if !called.is_out {
         return Status::InputOutput;
     }
-    if let Some(End::TraceFault(number, fault)) = end {
+    if let Some(End::TraceFault(number, fault)) = called.end {
         let _ = eprintln!(rt; "trace:{number}: {fault}");
     }
-    status
+    called.status
 }

@@ -1,45 +1,27 @@
 //! Runs by `session`: worked examples, budgets, and devices that cut the bytes or fail.
 
-ghost use Rattle.std.specs.Prelude.{◌<◌, ◌≤◌};
+ghost use Rattle.std.specs.Prelude.{◌≡◌, ◌<◌};
 
 use crate::tests::job;
 use snc::{DEFAULT_BUDGET, Status, session};
 use snl_machine::Fault;
 use snl_tests::PROGRAM;
-use snl_trace::{End, Feed, Sheet, Source, SourceFault, TraceFault};
+use snl_trace::{End, Feed, Sheet, TraceFault};
 use std::alloc::{AllocError, Global};
 use std::process::Abort;
 use std::test::Fail;
 
-/// A trace in pieces. Behind its last byte it ends, or fails.
-#[derive(Drop)]
-struct Pieces<'b> {
-    feed: Feed<'b>,
-    breaks: bool,
-    failures: u64,
-    ghost counts: { feed.failures ≤ failures },
-}
-
-impl Source for Pieces<'_> {
-    ghost use Rattle.std.specs.Prelude.{None};
-
-    ghost rest = { λ _. None };
-
-    ghost failures = { λ pieces. pieces.failures };
-
-    fn read(&mut self, room: &mut [u8]) -> Result<usize, SourceFault> {
-        match self.feed.read(room) {
-            Ok(0) if self.breaks => {
-                self.failures += 1;
-                Err(SourceFault)
-            }
-            Ok(count) => Ok(count),
-            Err(fault) => {
-                self.failures += 1;
-                Err(fault)
-            }
-        }
+/// A trace in pieces of at most so many bytes. Behind its last byte it ends, or fails.
+fn pieces<'b>(bytes: &'b [u8], most: usize, breaks: bool) -> Feed<'b>
+    requires { 0 < most }
+    ensures { result.failures ≡ 0 }
+{
+    let mut feed = Feed::new(bytes, most);
+    if breaks {
+        let calls = bytes.len().div_ceil(most) as u64;
+        feed.fail(calls.saturating_add(1));
     }
+    feed
 }
 
 /// A run: what goes in, what comes out, and how it ends.
@@ -63,11 +45,7 @@ impl Row {
         requires { 0 < most }
     {
         let job = job(alloc, self.budget)?;
-        let mut trace = Pieces {
-            feed: Feed::new(self.trace, most),
-            breaks: self.breaks,
-            failures: 0,
-        };
+        let mut trace = pieces(self.trace, most, self.breaks);
         let mut sheet = Sheet::new(alloc, self.room, most)?;
         let (_messages, end, status) = session(alloc, self.program, &job, &mut trace, &mut sheet)?;
         let (lines, trace) = (self.lines, self.trace);
@@ -269,11 +247,7 @@ fn lines_that_a_broken_trace_begins(rt: HostRuntime) -> Result<(), Fail> {
         (32_769, End::TraceFault(1, TraceFault::LineTooLong)),
     ] {
         let begun = vec![in rt.alloc(); b'#'; count]?;
-        let mut trace = Pieces {
-            feed: Feed::new(begun.as_slice(), 1_000),
-            breaks: true,
-            failures: 0,
-        };
+        let mut trace = pieces(begun.as_slice(), 1_000, true);
         let mut sheet = Sheet::new(rt.alloc(), 100, 100)?;
         let (_, end, _) = session(rt.alloc(), PROGRAM, &job, &mut trace, &mut sheet)?;
         assert_eq!(rt; end, Some(wanted), "behind {count} bytes");

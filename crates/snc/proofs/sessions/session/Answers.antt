@@ -34,22 +34,24 @@ returns-clause-answer g c =
     let made : IsLoaded whole macros waiting budget machine =
     subst (λ (t : List ℕ). IsLoaded whole t waiting budget machine) c.macros_of-macros.ensures c.in_ok-machine.ensures in
     let end = c.run-end.result in
-    let left = g.R.Source.rest c.run-end.new.source in
+    let old = g.R.Source.gave c.args.trace.now in
+    let new = g.R.Source.gave c.run-end.new.source in
+    let ended = g.R.Source.ended c.run-end.new.source in
     let told = g.S.Sink.told c.args.sink.now in
     let told_then = g.S.Sink.told c.run-end.new.sink in
     let world = world_held c.run-end.new.machine in
-    let run : IsRunOf g.R.Source.rest g.R.Source.failures g.S.Sink.told g.S.Sink.failures whole (links whole macros) waiting budget
+    let run : IsRunOf g.R.Source.gave g.R.Source.ended g.R.Source.failures g.S.Sink.told g.S.Sink.failures whole (links whole macros) waiting budget
     c.args.trace.now c.run-end.new.source c.args.sink.now c.run-end.new.sink end = record {
       world = world;
-      ran = λ bytes are. ran_first machine (task_of whole ls waiting) (first_world_of whole ls) budget end bytes left told told_then world made.first
-          (c.run-end.ensures.means whole ls waiting budget made.made bytes are);
+      ran = ran_first machine (task_of whole ls waiting) (first_world_of whole ls) budget end old new ended told told_then world made.first
+          (c.run-end.ensures.means whole ls waiting budget made.made);
       source_counted = c.run-end.ensures.source;
       sink_counted = c.run-end.ensures.sink;
     } in
-    let session = session_ran g.R.Source.rest g.R.Source.failures g.S.Sink.told g.S.Sink.failures given word macros source text budget
+    let session = session_ran g.R.Source.gave g.R.Source.ended g.R.Source.failures g.S.Sink.told g.S.Sink.failures given word macros source text budget
     c.args.trace.now c.run-end.new.source c.args.sink.now c.run-end.new.sink checked first end some judged
     (subst (λ o. IfSome o (λ k. k.value.options ≡ options_in_force (program_view k.value.program) given)) some c.in_ok-messages.ensures.options)
     run in
     subst (λ (s : Status).
-    IsSession g.R.Source.rest g.R.Source.failures g.S.Sink.told g.S.Sink.failures given word macros source budget
-    c.args.trace.now c.run-end.new.source c.args.sink.now c.run-end.new.sink text (Some end) s) (sym c.status.ensures) session
+    IsSession g.R.Source.gave g.R.Source.ended g.R.Source.failures g.S.Sink.told g.S.Sink.failures given word macros source budget
+    c.args.trace.now c.run-end.new.source c.args.sink.now c.run-end.new.sink text (Some end) s) (sym c.status_of.ensures) session

@@ -8,7 +8,7 @@ use Rattle.snl_trace.proofs.runner.run_counted.Given as goal
 -- the bytes that were read were taken in, and no more lines have ended than that
 abbrev pub invariant-loop-reads : goal.invariant-loop-reads
 invariant-loop-reads g l = record {
-  way : IsUnderWay (rules_of l.initial.machine) (g.R.Source.rest l.initial.source) (g.R.Source.rest l.source) l._reads
+  way : IsUnderWay (rules_of l.initial.machine) (g.R.Source.gave l.initial.source) (g.R.Source.gave l.source) l._reads
       (standing [] 1 l.initial.machine (g.S.Sink.told l.initial.sink))
       (standing l.reading.line.items l.reading.number l.machine (g.S.Sink.told l.sink));
   fixed : fixed_of l.machine ≡ fixed_of l.initial.machine;

@@ -7,7 +7,7 @@ use Rattle.snc.specs.Judging.{IsJudged}
 use Rattle.snl_views.specs.Charted.{IsChartedProgram}
 use Rattle.snl_views.specs.Ready.{IsReady}
 use Rattle.snl_views.proofs.Answered.{accepted, refused}
-use Rattle.snl_views.proofs.Answering.{tree_of}
+use Rattle.snl_views.proofs.Answered.{tree_of}
 use Rattle.snl_views.proofs.readying.ready_of.Goals as goal
 
 -- it has no error

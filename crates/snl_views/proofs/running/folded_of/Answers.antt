@@ -7,7 +7,8 @@ pub returns-clause-runs : goal.returns-clause-runs
 returns-clause-runs g c =
     let first = ap g.W.Sink.told c.in_ok-folder.ensures.witness in
     let last = sym (ap g.W.Sink.told c.into_parts.ensures.witness ∙ c.finished-is_whole.ensures.told) in
-    runs-like-as g.R.Source.rest c.args.stage.now.prepared c.notes_of.new.stage.prepared (world_held c.ran_over.new.machine) c.args.trace _ _ _ _ c.in_ok-ran.ran.end
+    let trace = c.in_ok-ran.ran.trace in
+    runs-like-as c.args.stage.now.prepared c.notes_of.new.stage.prepared (world_held c.ran_over.new.machine) (g.R.Source.gave trace) (g.R.Source.ended trace) _ _ _ _ c.in_ok-ran.ran.end
     c.in_ok-notes.ensures first last c.in_ok-ran.ensures.means
 
 pub returns-clause-folded : goal.returns-clause-folded

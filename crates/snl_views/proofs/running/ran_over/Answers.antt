@@ -1,8 +1,22 @@
-use Rattle.std.proofs.Common.{◌≡◌, ◌∙◌, ap}
-use Rattle.snl_watch.specs.Window.{behind, window}
+use Rattle.std.proofs.Common.{◌≡◌, ◌∙◌, ℕ, Bool, List, [], ap, subst, sym}
+use Rattle.snl_machine.specs.MachineOf.{task_of, world_held}
+use Rattle.snl_trace.specs.Run.{rules_by}
+use Rattle.snl_trace.specs.RunOver.{standing}
+use Rattle.snl_watch.specs.Window.{window}
+use Rattle.snl_views.specs.Runs.{EndsAt}
+use Rattle.snl_views.proofs.ByLines.{by-line-on}
 use Rattle.snl_views.proofs.running.ran_over.Goals as goal
 
+-- what was handed on and what is held are all that the trace gave
 pub returns-clause-means : goal.returns-clause-means
-returns-clause-means g c = λ p ls waits budget is bytes rest.
-    let tells = ap (λ l. behind (window l.held) (g.R.Source.rest l.inner)) c.new-follower.ensures.lines ∙ c.in_ok-lines.ensures.rest ∙ rest in
-    (_, c.run-end.ensures.means p ls waits budget is bytes tells)
+returns-clause-means g c = λ p ls waits budget is.
+    let before = c.new-follower.result.lines in
+    let lines = c.run-end.new.source.lines in
+    let old = g.S.Sink.told c.args.sink.now in
+    let new = g.S.Sink.told c.run-end.new.sink in
+    let fresh = ap (λ l. l.past.bytes) c.new-follower.ensures.lines ∙ c.in_ok-lines.ensures.past in
+    let back = c.into_inner-trace.ensures ∙ ap (λ l. l.inner) c.into_parts-lines.ensures.lines in
+    subst (λ t. EndsAt p ls waits budget (world_held c.args.machine.now) (g.R.Source.gave t) (g.R.Source.ended t) old new c.run-end.result (world_held c.run-end.new.machine)) (sym back)
+    (by-line-on (rules_by (task_of p ls waits) budget) c.run-end.result before.past.bytes lines.past.bytes (window lines.held) (g.R.Source.gave lines.inner) lines.said
+    (g.R.Source.ended lines.inner) lines.is_broken (standing [] 1 c.args.machine.now old) (world_held c.run-end.new.machine) new fresh lines.gave lines.empty (λ s. lines.over (lines.last s))
+    c.run-end.ensures.broke lines.partial (c.run-end.ensures.means p ls waits budget is))

@@ -1,27 +1,27 @@
-use Rattle.std.proofs.Common.{◌≡◌, List, [], ℕ, Option, None, Some, refl, string_bytes}
+use Rattle.std.proofs.Common.{◌≡◌, List, [], ℕ, Option, None, Some, string_bytes}
 use Rattle.std.specs.Option.{option_map, unwrap_or}
 use Rattle.snl_watch.specs.Extra.{shown}
 use Rattle.snl_views.proofs.RunAnswers.{accepted-run, refused-run}
 use Rattle.snl_views.proofs.running.run_whole.Goals as goal
 
 -- the program was run
-pub returns : goal.returns
-returns g c =
+pub returns-clause-run : goal.returns-clause-run
+returns-clause-run g c =
     let job = c.args.job.now in
     let macros : List ℕ = unwrap_or (option_map string_bytes job.macros) [] in
     let staged = c.in_ok-messages.field-0 in
+    let trace = c.in_ok-told.told.trace in
     let some : staged.stage ≡ Some c.in-Some.stage = cc in
-    accepted-run g.R.Source.rest job.options (string_bytes job.file) macros c.args.source.now job.budget c.args.trace
+    accepted-run job.options (string_bytes job.file) macros c.args.source.now job.budget (g.R.Source.gave trace) (g.R.Source.ended trace)
     (shown (g.K.Sink.told c.args.sink)) (shown (g.K.Sink.told c.in_ok-told.told.sink)) staged
-    c.in-Some.stage c.as_mut.result.now c.in_ok-told.told.end some c.as_mut.ensures.value c.in_ok-messages.ensures c.in_ok-told.ensures
+    c.in-Some.stage c.as_mut.result.now c.in_ok-told.told.end some c.as_mut.ensures.value c.in_ok-messages.ensures c.in_ok-told.ensures.runs
 
 -- it has an error
-pub returns-in_default : goal.returns-in_default
-returns-in_default g c =
+pub returns-in_default-clause-run : goal.returns-in_default-clause-run
+returns-in_default-clause-run g c =
     let job = c.args.job.now in
     let macros : List ℕ = unwrap_or (option_map string_bytes job.macros) [] in
     let staged = c.in_ok-messages.field-0 in
     let none : staged.stage ≡ None = cc in
-    refused-run g.R.Source.rest job.options (string_bytes job.file) macros c.args.source.now job.budget c.args.trace
-    (shown (g.K.Sink.told c.args.sink)) (shown (g.K.Sink.told c.args.sink)) staged
-    none c.in_ok-messages.ensures refl
+    refused-run job.options (string_bytes job.file) macros c.args.source.now job.budget (g.R.Source.gave c.args.trace) (g.R.Source.ended c.args.trace)
+    (shown (g.K.Sink.told c.args.sink)) (shown (g.K.Sink.told c.args.sink)) staged none c.in_ok-messages.ensures

@@ -13,7 +13,7 @@ use Rattle.snl_meaning.specs.World.{World}
 use Rattle.snc.specs.Judging.{IsJudged}
 use Rattle.snl_views.specs.Prepared.{IsPrepared}
 use Rattle.snl_views.specs.Staged.{IsStage}
-use Rattle.snl_views.proofs.Answering.{tree_of}
+use Rattle.snl_views.proofs.Answered.{tree_of}
 use Rattle.snl_views.proofs.staging.staged_of.Goals as goal
 
 -- the program is loaded

@@ -11,14 +11,15 @@ use Rattle.snl_load.specs.Meaning.{program_meaning}
 use Rattle.snl_machine.specs.MachineOf.{IsMachineOf, task_of, world_held}
 use Rattle.snl_meaning.specs.World.{World}
 use Rattle.snl_meaning.specs.declared.live.Live.TheVariants.{Waiting}
-use Rattle.snl_output.specs.TraceLines.{lines_from}
 use Rattle.snl_trace.specs.Run.{rules_by}
 use Rattle.snc.specs.Judging.{IsJudged}
-use Rattle.snl_views.specs.Answers.{AwaitsOn}
+use Rattle.snl_views.specs.Answers.{AwaitsOver}
 use Rattle.snl_views.specs.Awaits.{Awaits}
 use Rattle.snl_views.specs.Prepared.{IsPrepared}
+use Rattle.snl_views.specs.Runs.{RunsLike}
 use Rattle.snl_views.specs.declared.preparing.Prepared.{Prepared}
-use Rattle.snl_views.proofs.Answering.{accepted, refused, tree_of}
+use Rattle.snl_views.specs.declared.waiting.WaitsOutcome.{WaitsOutcome}
+use Rattle.snl_views.proofs.Answered.{accepted, refused, tree_of}
 use Rattle.snl_views.proofs.waiting.waits.Goals as goal
 
 -- the machine has not begun
@@ -27,8 +28,8 @@ outcome_of-requires-clause-waiting g c =
     subst (λ (q : Prepared). (world_held q.machine).phase ≡ Waiting) (sym c.as_mut.ensures.value) (ap (λ (w : World). w.phase) c.in_ok-prepared.ensures.machine.first)
 
 -- the program was run up to its start
-pub returns : goal.returns
-returns g c =
+pub returns-clause-answer : goal.returns-clause-answer
+returns-clause-answer g c =
     let source = c.args.source.now in
     let given = c.args.job.now.options in
     let budget = c.args.job.now.budget in
@@ -42,26 +43,30 @@ returns g c =
     let under = subst (λ (o : Option (Box Checked Global)). IfSome o (λ k. k.value.options ≡ options_in_force (program_view k.value.program) given)) some c.in_ok-messages.ensures.options in
     let whole = program_view first.value.program in
     let ls = links whole macros in
-    let waiting = waits first.value.options in
     let prepared = c.in_ok-prepared.prepared.value in
     let machine = prepared.machine in
     let made : IsPrepared first.value macros budget prepared = subst (λ (t : List ℕ). IsPrepared first.value t budget prepared) c.macros_of-macros.ensures c.in_ok-prepared.ensures in
     let outcome = c.in_ok-outcome.outcome in
+    let gave = g.R.Source.gave c.in_ok-outcome.trace in
+    let ended = g.R.Source.ended c.in_ok-outcome.trace in
     let items = outcome.awaited.items in
-    let lent_said = subst (λ (q : Prepared). (p : ProgramTree) (ls : List Link) (b : ℕ) → IsMachineOf p ls q.waits b q.machine → (bytes : List ℕ) → g.R.Source.rest c.args.trace ≡ Some bytes →
-    Awaits (rules_by (task_of p ls q.waits) b) (program_meaning p ls q.waits) outcome.end (world_held q.machine) (lines_from [] bytes) items) c.as_mut.ensures.value c.in_ok-outcome.ensures in
-    let named : AwaitsOn g.R.Source.rest first.value macros budget c.args.trace outcome = λ bytes is.
+    let lent_ran = subst (λ (q : Prepared). (p : ProgramTree) (ls : List Link) (b : ℕ) → IsMachineOf p ls q.waits b q.machine →
+    RunsLike p ls q.waits b (world_held q.machine) gave ended (Some []) (Some []) outcome.end) c.as_mut.ensures.value c.in_ok-outcome.ensures.ran in
+    let lent_said = subst (λ (q : Prepared). (p : ProgramTree) (ls : List Link) (b : ℕ) → IsMachineOf p ls q.waits b q.machine →
+    Awaits (rules_by (task_of p ls q.waits) b) (program_meaning p ls q.waits) outcome.end (world_held q.machine) gave ended items) c.as_mut.ensures.value c.in_ok-outcome.ensures.named in
     let as_machine = subst (λ (b : Bool). IsMachineOf whole ls b budget machine) (sym made.waits) made.machine.made in
-    let said = lent_said whole ls budget as_machine bytes is in
-    subst (λ (b : Bool). Awaits (rules_by (task_of whole ls b) budget) (program_meaning whole ls b) outcome.end (first_world_of whole ls) (lines_from [] bytes) items) made.waits
-    (subst (λ (w : World). Awaits (rules_by (task_of whole ls prepared.waits) budget) (program_meaning whole ls prepared.waits) outcome.end w (lines_from [] bytes) items)
-    made.machine.first said) in
-    accepted g.R.Source.rest given word macros source budget c.args.trace (record { messages = found.messages; outcome = Some outcome }) found.checked first outcome some judged under
-    named refl
+    let over : AwaitsOver macros budget gave ended whole first.value.options outcome = record {
+      ran = subst (λ (b : Bool). RunsLike whole ls b budget (first_world_of whole ls) gave ended (Some []) (Some []) outcome.end) made.waits
+          (subst (λ (w : World). RunsLike whole ls prepared.waits budget w gave ended (Some []) (Some []) outcome.end) made.machine.first (lent_ran whole ls budget as_machine));
+      named = subst (λ (b : Bool). Awaits (rules_by (task_of whole ls b) budget) (program_meaning whole ls b) outcome.end (first_world_of whole ls) gave ended items) made.waits
+          (subst (λ (w : World). Awaits (rules_by (task_of whole ls prepared.waits) budget) (program_meaning whole ls prepared.waits) outcome.end w gave ended items)
+          made.machine.first (lent_said whole ls budget as_machine));
+    } in
+    accepted (AwaitsOver macros budget gave ended) given word source found.messages.items (Some outcome) found.checked first outcome some judged under over refl
 
 -- it has an error
-pub returns-in_default : goal.returns-in_default
-returns-in_default g c =
+pub returns-in_default-clause-answer : goal.returns-in_default-clause-answer
+returns-in_default-clause-answer g c =
     let source = c.args.source.now in
     let given = c.args.job.now.options in
     let macros : List ℕ = unwrap_or (option_map string_bytes c.args.job.now.macros) [] in
@@ -70,4 +75,4 @@ returns-in_default g c =
     let judged : IsJudged given word source found.messages.items (tree_of found.checked) =
     subst (λ (w : List ℕ). IsJudged given w source found.messages.items (tree_of found.checked)) c.as_bytes.ensures.value c.in_ok-messages.ensures.judged in
     let none : found.checked ≡ None = cc in
-    refused g.R.Source.rest given word macros source c.args.job.now.budget c.args.trace (record { messages = found.messages; outcome = None }) found.checked none judged refl
+    refused (AwaitsOver macros c.args.job.now.budget (g.R.Source.gave c.args.trace) (g.R.Source.ended c.args.trace)) given word source found.messages.items None found.checked none judged refl

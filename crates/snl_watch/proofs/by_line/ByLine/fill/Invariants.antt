@@ -1,10 +1,12 @@
-use Rattle.std.proofs.Common.{◌≡◌, ◌+◌, ◌-◌, ◌<◌, ℕ, length, if◌then◌else◌}
-use Rattle.snl_watch.specs.Window.{window, behind}
+use Rattle.std.proofs.Common.{◌≡◌, ◌+◌, ◌-◌, false, length, if◌then◌else◌}
+use Rattle.snl_watch.specs.Window.{window}
 use Rattle.snl_watch.proofs.by_line.ByLine.fill.Given as goal
 
 abbrev pub invariant-loop-self : goal.invariant-loop-self
 invariant-loop-self g l = record {
-  same : behind (window l.self.held) (g.R.Source.rest l.self.inner) ≡ behind (window l.initial.self.held) (g.R.Source.rest l.initial.self.inner);
+  past : l.self.past.bytes ≡ l.initial.self.past.bytes;
+  said : l.self.said ≡ false;
+  broke : l.self.is_broken ≡ false;
   none_failed : g.R.Source.failures l.self.inner ≡ g.R.Source.failures l.initial.self.inner;
 }
 

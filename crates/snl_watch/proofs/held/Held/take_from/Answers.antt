@@ -1,11 +1,11 @@
-use Rattle.std.proofs.Common.{◌≡◌, ◌≤◌, ◌∙◌, ◌++◌, ◌+◌, ◌-◌, ap, sym, arith, drop, length, length-drop, ℕ, List, slice_range, take}
+use Rattle.std.proofs.Common.{◌≡◌, ◌≤◌, ◌∙◌, ◌++◌, ◌+◌, ◌-◌, ap, sym, arith, append_assoc, append-nil, drop, length, length-drop, ℕ, List, slice_range, take}
 use Rattle.std.proofs.lemmas.List.{length-take-le, with_items_is}
-use Rattle.snl_watch.specs.Window.{behind, window}
-use Rattle.snl_watch.proofs.Windows.{as-long, held-more, held-stays, moved}
+use Rattle.snl_watch.specs.Window.{window}
+use Rattle.snl_watch.proofs.Windows.{as-long, held-more, held-stays}
 use Rattle.snl_watch.proofs.held.Held.take_from.Goals as goal
 
-pub returns-in_err-count-clause-same : goal.returns-in_err-count-clause-same
-returns-in_err-count-clause-same g c =
+pub returns-in_err-count-clause-gave : goal.returns-in_err-count-clause-gave
+returns-in_err-count-clause-gave g c =
     let m = c.compact.new.self in
     let xs : List ℕ = c.deref_mut.result.now in
     let ys : List ℕ = c.read.new.room in
@@ -16,10 +16,10 @@ returns-in_err-count-clause-same g c =
     let written = with_items_is m.bytes ws (long ∙ all ∙ sym m.bytes.ok.0) in
     let kept = held-stays xs (ys ++ drop (length xs - m.to) (drop m.to xs)) m.from m.to within in
     let held = ap (λ l. slice_range l m.from m.to) written ∙ kept ∙ ap (λ l. slice_range l m.from m.to) c.deref_mut.ensures.value ∙ c.compact.ensures.same in
-    ap (λ w. behind w (g.R.Source.rest c.read.new.self)) held ∙ ap (behind (window c.args.self.now)) c.in_err-count.ensures.ungiven
+    λ front is. c.in_err-count.ensures.gave ∙ append-nil (g.R.Source.gave c.args.source.now) ∙ is ∙ ap (λ w. front ++ w) (sym held)
 
-pub returns-clause-same : goal.returns-clause-same
-returns-clause-same g c =
+pub returns-clause-gave : goal.returns-clause-gave
+returns-clause-gave g c =
     let m = c.compact.new.self in
     let xs : List ℕ = c.deref_mut.result.now in
     let ys : List ℕ = c.read.new.room in
@@ -31,5 +31,5 @@ returns-clause-same g c =
     let written = with_items_is m.bytes (take m.to xs ++ (ys ++ post)) (as-long xs ys m.to within size ∙ all ∙ sym m.bytes.ok.0) in
     let held = held-more xs ys post m.from m.to n m.within within (omega (arith, c.in_ok-count.ensures.count, c.read.auto.room)) in
     let before = ap (λ l. slice_range l m.from m.to) c.deref_mut.ensures.value ∙ c.compact.ensures.same in
-    ap (λ w. behind w (g.R.Source.rest c.read.new.self)) (ap (λ l. slice_range l m.from (m.to + n)) written ∙ held ∙ ap (λ l. l ++ take n ys) before)
-    ∙ moved (window c.args.self.now) ys n (g.R.Source.rest c.args.source.now) (g.R.Source.rest c.read.new.self) c.in_ok-count.ensures.given
+    let come = ap (λ l. slice_range l m.from (m.to + n)) written ∙ held ∙ ap (λ l. l ++ take n ys) before in
+    λ front is. c.in_ok-count.ensures.gave ∙ ap (λ z. z ++ take n ys) is ∙ append_assoc front (window c.args.self.now) (take n ys) ∙ ap (λ w. front ++ w) (sym come)
