@@ -2,6 +2,7 @@
 import re
 import sys
 
+import ports
 import requests
 
 ONES = "zero one two three four five six seven eight nine".split()
@@ -31,6 +32,16 @@ def numbers(root):
     promises = len(re.findall(r"^\d+\. \*\*", (root / "docs/PROMISES.md").read_text(), re.MULTILINE))
     refused, ported = len(requests.CALLS), {kind: len([*(root / "cases/port").glob(f"*.{kind}")]) for kind in ("st", "trace")}
     yield "README.md", f"has the {NUMBERS[promises]} promises"
+    # That these numbers are right, ports.py, defined.py and wrong_of_minutes see.
+    hands = [int(it) for _, it in ports.ROW.findall((root / "docs/PORTING.md").read_text())]
+    left = [it for it in hands if it]
+    yield "README.md", f"leaves nothing by hand in {hands.count(0)} of {len(hands)} programs"
+    yield "README.md", f"and {NUMBERS[sum(left)]} place in the other:" if len(left) == 1 else f"in the other {NUMBERS[len(left)]}"
+    clauses = re.search(r"(\d+) clauses", (root / "docs/DEFINITIONS.md").read_text())[1]
+    yield "README.md", f"its {clauses} clauses can be run"
+    minutes = re.search(r"some \d+ minutes of a processor", (root / "docs/DEVELOPING.md").read_text())[0]
+    yield "README.md", f"| `.ci/run` | all proofs, tests and cases, from nothing | an hour on four processors: {minutes} |"
+    yield "docs/START.md", f"all proofs, tests and cases, from nothing: {minutes}, "
     yield "docs/PROMISES.md", f"of {NUMBERS[refused]} calls of the programs"
     yield "cases/README.md", f"of {NUMBERS[refused]} calls, and of a test"
     yield "cases/README.md", f"{NUMBERS[ported['st']]} whole programs, as people write them"
@@ -113,10 +124,10 @@ def wrong_of_crates(root):
     figure = re.search(r"^```\n.*?^```$", architecture, re.MULTILINE | re.DOTALL)[0]
     unseen = [it for it in crates if not it.endswith("_tests") and not re.search(rf"\b{it}\b", figure)]
     yield from (f"FAILED docs/ARCHITECTURE.md: the figure lacks {it}" for it in unseen)
-    table = (root / "README.md").read_text().split("\n## The crates\n")[1].split("\n## ")[0]
+    table = architecture.split("\n## The crates\n")[1].split("\n## ")[0]
     listed = re.findall(r"`(\w+)`", " ".join(re.findall(r"^\| (`.*?) \|", table, re.MULTILINE)))
     if sorted(listed) != sorted(crates):
-        yield f"FAILED README.md: the table of crates lacks one, has one that is not there, or one twice: {set(listed) ^ set(crates)}"
+        yield f"FAILED docs/ARCHITECTURE.md: the table of crates lacks one, has one that is not there, or one twice: {set(listed) ^ set(crates)}"
     decisions = (root / "docs/DECISIONS.md").read_text()
     heads = [name for head in re.findall(r"^## (`.*)$", decisions, re.MULTILINE) for name in re.findall(r"`(\w+)`", head)]
     if sorted(heads) != sorted(crates):

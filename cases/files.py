@@ -139,13 +139,16 @@ def of_tables(name, source, tables, stderr=b""):
     return Case(name, source, words=[b"--tables", b"p.st"], tool="snc", stdout=tables, stderr=stderr)
 
 
-def not_in_readme(root):
-    """A run of an example that the README calls, and whose output does not stand there in a block of its own."""
-    readme = (root / "README.md").read_text()
-    called = re.findall(r"^bin/(?:try )?snlrun examples/\S+\.st < (examples/\S+)\.trace$", readme, re.MULTILINE)
-    outputs = {it: (root / f"{it}.out").read_text() for it in called}
-    missing = [it for it, lines in outputs.items() if f"```\n{lines}```\n" not in readme]
-    return [f"FAILED README.md: it has not what {it}.out has" for it in missing] + ["FAILED README.md: it calls no example"] * (not called)
+def not_on_its_page(root):
+    """A run of an example that the README or docs/START.md calls, and whose output does not stand there in a block of its own."""
+    for name in ("README.md", "docs/START.md"):
+        page = (root / name).read_text()
+        called = re.findall(r"^bin/(?:try )?snlrun examples/\S+\.st < (examples/\S+)\.trace$", page, re.MULTILINE)
+        if not called:
+            yield f"FAILED {name}: it calls no example"
+        for it in called:
+            if f"```\n{(root / f'{it}.out').read_text()}```\n" not in page:
+                yield f"FAILED {name}: it has not what {it}.out has"
 
 
 def not_from_log(root):

@@ -1,4 +1,4 @@
-"""Cases from docs/PORTING.md: its programs over its traces, and each form of its table with the message named.
+"""Cases from docs/PORTING.md and docs/BY_HAND.md: their programs over their traces, and each form of a table with the message named.
 
 A block `snl` is the program of the blocks behind it: `said` has the messages of `snc`, and `out` the run over the last `trace`.
 `shell.py` runs the calls.
@@ -7,6 +7,7 @@ import re
 
 from case import Case
 
+PAGES = ("docs/PORTING.md", "docs/BY_HAND.md")
 BLOCK = re.compile(r"^```(\w*)\n(.*?)^```\n", re.MULTILINE | re.DOTALL)
 ROW = re.compile(r"^\| `([^`]+)` \| `(E\d+)` \|", re.MULTILINE)
 # The first with a form among the definitions, the second with one in a block.
@@ -26,31 +27,31 @@ ss s { state w { when (x) { %s } exit } }
 
 
 def examples(root):
-    page = text_of(root)
-    program = trace = ""
-    for kind, text in BLOCK.findall(page):
-        if kind == "snl":
-            program = text
-        elif kind == "trace":
-            trace = text
-        elif kind == "said":
-            yield said(program, text)
-        elif kind == "out":
-            yield Case(named(program), program.encode(), trace.encode(), words=[b"-w", b"p.st"], stdout=text.encode())
+    for page in PAGES:
+        program = trace = ""
+        for kind, text in BLOCK.findall((root / page).read_text()):
+            if kind == "snl":
+                program = text
+            elif kind == "trace":
+                trace = text
+            elif kind == "said":
+                yield said(named(page, program), program, text)
+            elif kind == "out":
+                yield Case(named(page, program), program.encode(), trace.encode(), words=[b"-w", b"p.st"], stdout=text.encode())
 
 
-def said(program, text):
+def said(name, program, text):
     status = int(" error: " in text)
-    return Case(f"{named(program)}, checked", program.encode(), b"", stderr=text.encode(), statuses=(status,), tool="snc")
+    return Case(f"{name}, checked", program.encode(), b"", stderr=text.encode(), statuses=(status,), tool="snc")
 
 
-def named(program):
-    return "docs/PORTING.md: " + re.search(r"program (\w+)", program)[0]
+def named(page, program):
+    return f"{page}: " + re.search(r"program (\w+)", program)[0]
 
 
 def missing(root, programs):
-    """Forms of the table without their message, and programs of which nothing is said."""
-    page = text_of(root)
+    """Forms of a table without their message, and programs of which nothing is said."""
+    page = "".join((root / it).read_text() for it in PAGES)
     rows = ROW.findall(page)
     found = [f"{form} has not {message}" for form, message in rows if not has_message(programs, form, message)]
     if len(rows) < 15:
@@ -63,7 +64,7 @@ def missing(root, programs):
     for kind, behind in zip(kinds, [*kinds[1:], None]):
         if kind == "snl" and behind not in ("said", "out", "trace", "sh"):
             found.append("a program has nothing behind it")
-    return [f"FAILED docs/PORTING.md: {it}" for it in found]
+    return [f"FAILED {' and '.join(PAGES)}: {it}" for it in found]
 
 
 def has_message(programs, form, message):
@@ -75,6 +76,3 @@ def has_message(programs, form, message):
             return True
     return False
 
-
-def text_of(root):
-    return (root / "docs/PORTING.md").read_text()

@@ -25,11 +25,13 @@ Recommends: python3 (>= 3.11)
 Suggests: python3-pyepics
 Section: science
 Priority: optional
-Description: State Notation Language programs, checked and run over traces
- The State Notation Language is the language of the EPICS sequencer. The
- compiler, snlc, says all that is wrong with a program. snlrun takes one and a
- recorded trace, and prints what the program would have done. snl tells why it
- did that, what no trace showed, and searches short traces for a fault.
+Description: dry runs of EPICS sequencer programs on recorded data
+ See what programs in the State Notation Language, that of the EPICS sequencer,
+ would have done, why, and what input breaks them. The compiler, snlc, says all
+ that is wrong with a program. snlrun takes one and a recorded trace, and prints
+ what the program would have done. snl tells why it did that, and what no trace
+ showed (coverage), and tries short traces for one that breaks it (bounded model
+ checking, with a counterexample).
  .
  The scripts snl-plot, snl-port, snl-record and snl-live draw a run, port a
  program, record a trace, and run a program beside a control system.
