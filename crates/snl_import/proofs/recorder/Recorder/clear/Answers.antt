@@ -1,0 +1,5 @@
+use Rattle.snl_import.proofs.TraceLaws.{nothing-is}
+use Rattle.snl_import.proofs.recorder.Recorder.clear.Goals as goal
+
+pub invariant_of-self-clause-events : goal.invariant_of-self-clause-events
+invariant_of-self-clause-events c = nothing-is (c.args.self.now.last, c.args.self.now.written) c.clear.new.self.items c.clear.ensures.items

@@ -1,0 +1,33 @@
+//! Recorded logs: what their lines say of channels, and the numbers that they spell.
+//!
+//! What is read here is what `camonitor`, `caget` and archivers write. Nothing here knows what a trace is.
+#![tactic(auto)]
+
+mod archive;
+mod camonitor;
+mod dates;
+mod export;
+mod fields;
+mod held;
+mod json;
+pub mod laws;
+mod log;
+mod numbers;
+mod places;
+mod rows;
+mod samples;
+mod severities;
+mod stamps;
+mod table;
+mod texts;
+mod units;
+mod values;
+
+pub use held::Values;
+pub use log::{Form, Log};
+pub use numbers::number_of;
+pub use places::Scaled;
+pub use rows::Row;
+pub use samples::{Cause, LogLine, Said, Sample, Severity, Stamp};
+pub use units::Units;
+pub use values::{Read, items_of, values_of};
