@@ -4,6 +4,7 @@
 #![tactic(auto)]
 
 mod asked;
+mod checking;
 mod covering;
 mod graphing;
 mod input;
@@ -17,6 +18,7 @@ mod trees;
 mod waiting;
 
 use asked::Asked;
+use checking::{answered_check, check_lints};
 use covering::answered_cover;
 use graphing::answered_graph;
 use macros::{check_macros, notes_of};
@@ -51,6 +53,7 @@ fn call_of(rt: &HostRuntime) -> Result<Call, Status> {
         Ok(call) => {
             check_macros(rt, &call)?;
             check_outputs(rt, &call)?;
+            check_lints(rt, &call)?;
             Ok(call)
         }
         Err(fault) => Err(told(rt, &fault)),
@@ -93,9 +96,10 @@ fn answered(rt: &HostRuntime, call: &Call, begun: Option<Instant>) -> u8 {
         call,
         notes,
     };
-    match &call.search {
-        Some(words) => answered_search(rt, asked, words, begun),
-        None => code_of(answered_word(rt, asked)),
+    match (&call.search, &call.check) {
+        (Some(words), _) => answered_search(rt, asked, words, begun),
+        (None, Some(words)) => code_of(answered_check(rt, asked, words)),
+        (None, None) => code_of(answered_word(rt, asked)),
     }
 }
 
@@ -106,13 +110,13 @@ fn code_of(done: Result<Status, Status>) -> u8 {
     }
 }
 
-/// Does what a word asks for that is not a search.
+/// Does what a word asks for that is neither a search nor a check.
 fn answered_word(rt: &HostRuntime, asked: Asked) -> Result<Status, Status> {
     match asked.call.word {
         Word::Waits => answered_waits(rt, asked),
         Word::Run => answered_run(rt, asked),
         Word::Cover => Ok(answered_cover(rt, asked)),
         Word::Tree => answered_tree(rt, asked),
-        Word::Graph | Word::Search => answered_graph(rt, asked),
+        Word::Graph | Word::Search | Word::Check => answered_graph(rt, asked),
     }
 }

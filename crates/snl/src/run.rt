@@ -69,14 +69,7 @@ pub fn answered_run(rt: &HostRuntime, asked: Asked) -> Result<Status, Status> {
             Err(_) => Err(Status::Memory),
         }
     } else {
-        match run_folded(
-            rt.alloc(),
-            source,
-            &call.job,
-            trace,
-            lines,
-            Nowhere::new(),
-        ) {
+        match run_folded(rt.alloc(), source, &call.job, trace, lines, Nowhere::new()) {
             Ok(mut answer) => {
                 let finished = answer.sink.0.finish();
                 told_run(rt, asked, &answer, finished)

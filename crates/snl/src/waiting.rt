@@ -9,11 +9,7 @@ use snl_trace::End;
 use snl_views::{Answer, Overheard, WaitsOutcome, waits};
 
 /// Writes what came of a trace, unless that could not be read. Answers whether it was written, or that memory ran out.
-fn written(
-    rt: &HostRuntime,
-    outcome: &WaitsOutcome,
-    heard: &Overheard,
-) -> Result<bool, Status> {
+fn written(rt: &HostRuntime, outcome: &WaitsOutcome, heard: &Overheard) -> Result<bool, Status> {
     if outcome.end == End::SourceFailed {
         return Ok(true);
     }

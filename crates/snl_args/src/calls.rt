@@ -1,12 +1,13 @@
 //! What the words of a call ask for, and what may be wrong with them.
 
+use crate::checks::{CheckWords, check_words, for_check};
 use crate::commands::{for_cover, for_graph, for_run, for_tree, over_trace};
 use crate::language::with_help;
 use crate::searches::{SearchWords, for_search, search_words};
 use crate::texts::{
-    COVER_ABOUT, COVER_MORE, COVER_USAGE, GRAPH_ABOUT, GRAPH_MORE, GRAPH_USAGE, HELP, RUN_ABOUT,
-    RUN_MORE, RUN_USAGE, SEARCH_ABOUT, SEARCH_MORE, SEARCH_USAGE, TREE_ABOUT, TREE_MORE,
-    TREE_USAGE, WAITS_ABOUT, WAITS_MORE, WAITS_USAGE, WORDS,
+    CHECK_ABOUT, CHECK_MORE, CHECK_USAGE, COVER_ABOUT, COVER_MORE, COVER_USAGE, GRAPH_ABOUT,
+    GRAPH_MORE, GRAPH_USAGE, HELP, RUN_ABOUT, RUN_MORE, RUN_USAGE, SEARCH_ABOUT, SEARCH_MORE,
+    SEARCH_USAGE, TREE_ABOUT, TREE_MORE, TREE_USAGE, WAITS_ABOUT, WAITS_MORE, WAITS_USAGE, WORDS,
 };
 use clap::error::ErrorKind;
 use clap::{ArgMatches, Command, Error};
@@ -31,10 +32,12 @@ pub enum Word {
     Search,
     /// The tree of a program as JSON: `snl tree FILE [MACROS]`.
     Tree,
+    /// The messages about a program, and what is seldom meant: `snl check [--no-lint NAME].. [--strict] FILE`.
+    Check,
 }
 
 /// The names of the words.
-const NAMES: [&str; 6] = ["waits", "run", "cover", "graph", "search", "tree"];
+const NAMES: [&str; 7] = ["waits", "run", "cover", "graph", "search", "tree", "check"];
 
 /// What a call asks for.
 #[derive(Drop)]
@@ -55,6 +58,8 @@ pub struct Call {
     pub no_trace: bool,
     /// What a search is asked for, where one is.
     pub search: Option<SearchWords>,
+    /// What a check is asked for, where one is.
+    pub check: Option<CheckWords>,
 }
 
 /// Why words ask for nothing that is to be done. `Display` gives the text for the user.
@@ -89,6 +94,7 @@ fn word_of(name: &str) -> Option<Word> {
         "graph" => Some(Word::Graph),
         "search" => Some(Word::Search),
         "tree" => Some(Word::Tree),
+        "check" => Some(Word::Check),
         _ => None,
     }
 }
@@ -153,6 +159,7 @@ fn call_in(
         fail_under: 0,
         no_trace: false,
         search: None,
+        check: None,
     })
 }
 
@@ -173,7 +180,7 @@ fn read_run(alloc: Global, words: &[&str], options: Options) -> Result<Call, Cal
 }
 
 /// Texts of the caller's own.
-fn all_owned(alloc: Global, texts: &[&str]) -> Result<Vec<String>, AllocError> {
+pub(crate) fn all_owned(alloc: Global, texts: &[&str]) -> Result<Vec<String>, AllocError> {
     let mut list = Vec::new(alloc);
     for text in texts {
         list.push(String::from_str(alloc, text)?)?;
@@ -212,18 +219,22 @@ fn read_search(alloc: Global, words: &[&str], options: Options) -> Result<Call, 
     Ok(call)
 }
 
-/// What follows `tree`.
-fn read_tree(alloc: Global, words: &[&str], options: Options) -> Result<Call, CallFault> {
-    let command = for_tree(alloc, TREE_USAGE, TREE_ABOUT, TREE_MORE)?;
-    let matches = matches_in(alloc, command, words)?;
+/// What a word without a trace has, as a command found it.
+fn call_without_trace(
+    alloc: Global,
+    word: Word,
+    file: &str,
+    macros: Option<&str>,
+    options: Options,
+) -> Result<Call, AllocError> {
     Ok(Call {
-        word: Word::Tree,
+        word,
         job: Job {
-            file: String::from_str(alloc, matches.get_str("FILE").unwrap_or(""))?,
+            file: String::from_str(alloc, file)?,
             options,
             tables: false,
             budget: DEFAULT_BUDGET,
-            macros: owned(alloc, matches.get_str("MACROS"))?,
+            macros: owned(alloc, macros)?,
         },
         progress: false,
         is_whole: false,
@@ -231,7 +242,27 @@ fn read_tree(alloc: Global, words: &[&str], options: Options) -> Result<Call, Ca
         fail_under: 0,
         no_trace: false,
         search: None,
+        check: None,
     })
+}
+
+/// What follows `tree`.
+fn read_tree(alloc: Global, words: &[&str], options: Options) -> Result<Call, CallFault> {
+    let command = for_tree(alloc, TREE_USAGE, TREE_ABOUT, TREE_MORE)?;
+    let matches = matches_in(alloc, command, words)?;
+    let file = matches.get_str("FILE").unwrap_or("");
+    let macros = matches.get_str("MACROS");
+    Ok(call_without_trace(alloc, Word::Tree, file, macros, options)?)
+}
+
+/// What follows `check`.
+fn read_check(alloc: Global, words: &[&str], options: Options) -> Result<Call, CallFault> {
+    let command = for_check(alloc, CHECK_USAGE, CHECK_ABOUT, CHECK_MORE)?;
+    let matches = matches_in(alloc, command, words)?;
+    let file = matches.get_str("FILE").unwrap_or("");
+    let mut call = call_without_trace(alloc, Word::Check, file, None, options)?;
+    call.check = Some(check_words(alloc, &matches)?);
+    Ok(call)
 }
 
 /// What follows a word.
@@ -248,6 +279,7 @@ fn read_word(
         Word::Graph => read_graph(alloc, words, options),
         Word::Search => read_search(alloc, words, options),
         Word::Tree => read_tree(alloc, words, options),
+        Word::Check => read_check(alloc, words, options),
     }
 }
 

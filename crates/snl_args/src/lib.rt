@@ -5,6 +5,7 @@
 #![tactic(auto)]
 
 mod calls;
+mod checks;
 mod commands;
 mod language;
 mod misplaced;
@@ -12,5 +13,6 @@ mod searches;
 mod texts;
 
 pub use calls::{Call, CallFault, Word, read_call};
+pub use checks::CheckWords;
 pub use misplaced::misplaced_text;
 pub use searches::{ChannelValues, SearchWords};

@@ -32,6 +32,7 @@ fn right_call(alloc: Global, word: Word, file: &str, trace: &str) -> Result<Stri
             "A trace comes behind --trace: snl cover --trace {trace} {file}"
         ),
         Word::Tree => format!(in alloc; "No trace is read: snl tree {file}"),
+        Word::Check => format!(in alloc; "No trace is read: snl check {file}"),
         Word::Search => format!(in alloc;
             "A recorded trace comes behind --like: snl search --like {trace} {file}"
         ),

@@ -7,6 +7,7 @@ The companion of snc and snlrun: what goes round a dry run of a program in the S
 Usage: snl [+X|-X].. WORD [OPTIONS] ..
 
 Look:
+  check  The messages about a program, and what in it is seldom meant
   waits  When a program begins over a trace, or what it still waits for
   cover  What of a program no run showed: clauses, states, channels
   graph  A picture of a program, for Graphviz
@@ -34,6 +35,7 @@ pub(crate) const WORDS: &str = "
 Usage: snl [+X|-X].. WORD [OPTIONS] ..
 
 Look:
+  check  The messages about a program, and what in it is seldom meant
   waits  When a program begins over a trace, or what it still waits for
   cover  What of a program no run showed: clauses, states, channels
   graph  A picture of a program, for Graphviz
@@ -129,6 +131,23 @@ Example: snl tree light.st > light.json
 
 Status: 0 done, 1 the program has errors, 2 the words of the call are wrong, 3 the file or the output failed,
 4 memory ran out.";
+
+/// What `snl check --help` tells.
+pub(crate) const CHECK_USAGE: &str =
+    "snl check [±X..] [--no-lint NAME|NAME=LINE].. [--strict] FILE";
+
+pub(crate) const CHECK_ABOUT: &str = "\
+The messages of snc about a program, and behind them what in it is no error and seldom meant, a line each, with the
+name of the lint in brackets.";
+
+pub(crate) const CHECK_MORE: &str = "\
+No trace is read. The lints are itself, shared, stale, unread, unput, equals, comma and answered; docs/tools/check.md
+tells of each.
+
+Example: snl check --no-lint unread light.st
+
+Status: 0 done, 1 the program has errors, or with --strict a lint says something, 2 the words of the call are wrong,
+3 the file or the output failed, 4 memory ran out.";
 
 /// What `snl search --help` tells.
 pub(crate) const SEARCH_USAGE: &str =

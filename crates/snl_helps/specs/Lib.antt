@@ -1,0 +1,3 @@
+pub mod Examples
+pub mod Helps
+pub mod Names

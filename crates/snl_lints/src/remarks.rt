@@ -1,0 +1,263 @@
+//! The lints, and what they remark on a program.
+
+ghost use Rattle.std.specs.Prelude.{◌≡◌, ◌++◌, OnOk, IfOk};
+ghost use Rattle.std.specs.List.{flat_map};
+ghost use Rattle.snl_syntax.specs.view.Programs.{program_view};
+ghost use Rattle.snl_names.specs.UseTables.{IsTableOf, declared_at};
+ghost use Rattle.snl_lints.specs.FactTables.{AreBlank, known_in, known_by_tables};
+ghost use Rattle.snl_lints.specs.Lints as spec;
+
+use crate::facts::{Fact, Facts};
+use crate::parts::touches_of;
+use crate::tables::{Tables, note_all};
+use crate::touches::Touch;
+use snl_names::{Query, UseTable};
+use snl_syntax::Program;
+use snl_text::{Pos, Token};
+use std::alloc::{AllocError, Global};
+
+/// What is no error and seldom meant. docs/tools/check.md tells each by its name.
+#[derive(Clone, Copy)]
+pub enum Lint {
+    /// A clause leads back to its own state, which has an `entry` or `exit` block that is not done then.
+    Itself,
+    /// A variable is set in one state set and read in another, and each has a copy of its own.
+    Shared,
+    /// A variable of a channel is read, and nothing gives it a value.
+    Stale,
+    /// A variable is monitored, and is not read and sets no event flag.
+    Unread,
+    /// A variable of a channel is set, and is never put.
+    Unput,
+    /// A condition is an assignment.
+    Equals,
+    /// A condition is `a, b`.
+    Comma,
+    /// `pvPutComplete` of a variable that is never put with the word `ASYNC`.
+    Answered,
+}
+
+/// What a lint remarks, and where.
+#[derive(Clone, Copy)]
+pub struct Remark<'a> {
+    /// Which lint it is.
+    pub lint: Lint,
+    /// Where it is said: at a name, or at an operator of a condition.
+    pub token: Token<'a>,
+}
+
+/// Adds a remark at a token, where a test holds.
+fn push_when<'a>(
+    token: Token<'a>,
+    lint: Lint,
+    test: bool,
+    remarks: &mut Vec<Remark<'a>>,
+) -> Result<(), AllocError>
+    ensures { OnOk result (remarks.new.items
+        ≡ remarks.old.items ++ spec.when test lint token.entry) }
+{
+    if test {
+        remarks.push(Remark { lint, token })?;
+    }
+    Ok(())
+}
+
+/// Whether something brings a variable the value of its channel.
+fn is_refreshed(facts: &Facts, variable: usize) -> bool
+    ensures { result ≡ spec.is_refreshed (known_in facts.now) variable }
+{
+    facts.is_done(Fact::Monitored, variable) || facts.is_done(Fact::Got, variable)
+}
+
+/// Whether a variable of a channel is read, and nothing gives it a value.
+fn is_stale(facts: &Facts, variable: usize) -> bool
+    ensures { result ≡ spec.is_stale (known_in facts.now) variable }
+{
+    facts.is_done(Fact::Assigned, variable)
+        && facts.is_done(Fact::Read, variable)
+        && !facts.is_done(Fact::Set, variable)
+        && !is_refreshed(facts, variable)
+}
+
+/// Whether a variable of a channel is set, and is never put.
+fn is_unput(facts: &Facts, variable: usize) -> bool
+    ensures { result ≡ spec.is_unput (known_in facts.now) variable }
+{
+    facts.is_done(Fact::Assigned, variable)
+        && facts.is_done(Fact::Set, variable)
+        && !facts.is_done(Fact::Put, variable)
+        && !is_refreshed(facts, variable)
+}
+
+/// Whether there is a variable, and it is never read and sets no event flag.
+fn is_unread(facts: &Facts, place: Option<Pos>) -> bool
+    ensures { result ≡ spec.of_meant (spec.is_unread (known_in facts.now)) place }
+{
+    match place {
+        Some(place) => {
+            !facts.is_done(Fact::Read, place.offset) && !facts.is_done(Fact::Flagged, place.offset)
+        }
+        None => false,
+    }
+}
+
+/// Whether there is a variable, and it is never put with the word `ASYNC`.
+fn is_answered(facts: &Facts, place: Option<Pos>) -> bool
+    ensures { result ≡ spec.of_meant (spec.is_answered (known_in facts.now)) place }
+{
+    match place {
+        Some(place) => !facts.is_done(Fact::PutAsync, place.offset),
+        None => false,
+    }
+}
+
+/// Adds what is remarked at a declared name.
+fn push_declared<'a>(
+    token: Token<'a>,
+    tables: &Tables,
+    remarks: &mut Vec<Remark<'a>>,
+) -> Result<(), AllocError>
+    ensures { OnOk result (remarks.new.items
+        ≡ remarks.old.items ++ spec.at_declared (known_by_tables tables.now) token.entry) }
+{
+    let variable = token.pos.offset;
+    push_when(token, Lint::Shared, tables.is_shared(variable), remarks)?;
+    push_when(
+        token,
+        Lint::Stale,
+        is_stale(&tables.facts, variable),
+        remarks,
+    )?;
+    push_when(
+        token,
+        Lint::Unput,
+        is_unput(&tables.facts, variable),
+        remarks,
+    )
+}
+
+/// Adds what is remarked at the name in a `monitor`.
+fn push_monitored<'a>(
+    token: Token<'a>,
+    facts: &Facts,
+    uses: &UseTable,
+    remarks: &mut Vec<Remark<'a>>,
+) -> Result<(), AllocError>
+    ensures { OnOk result (remarks.new.items ≡ remarks.old.items
+        ++ spec.at_monitored (declared_at uses.now) (known_in facts.now) token.entry) }
+{
+    let test = is_unread(facts, uses.declared(token.pos.offset));
+    push_when(token, Lint::Unread, test, remarks)
+}
+
+/// Adds what is remarked at the name in a call.
+fn push_asked<'a>(
+    token: Token<'a>,
+    query: Query,
+    facts: &Facts,
+    uses: &UseTable,
+    remarks: &mut Vec<Remark<'a>>,
+) -> Result<(), AllocError>
+    ensures { OnOk result (remarks.new.items ≡ remarks.old.items
+        ++ spec.at_asked (declared_at uses.now) (known_in facts.now) query token.entry) }
+{
+    match query {
+        Query::PvPutComplete => {
+            let test = is_answered(facts, uses.declared(token.pos.offset));
+            push_when(token, Lint::Answered, test, remarks)
+        }
+        _ => Ok(()),
+    }
+}
+
+/// Adds what is remarked at one touch.
+fn push_remarks_at<'a>(
+    touch: &Touch<'a>,
+    tables: &Tables,
+    uses: &UseTable,
+    remarks: &mut Vec<Remark<'a>>,
+) -> Result<(), AllocError>
+    ensures { OnOk result (remarks.new.items ≡ remarks.old.items
+        ++ spec.remarks_at (declared_at uses.now) (known_by_tables tables.now) touch.now) }
+{
+    match touch {
+        Touch::Declares(name) => push_declared(*name, tables, remarks),
+        Touch::Monitors(name) => push_monitored(*name, &tables.facts, uses, remarks),
+        Touch::Asks(query, name) => push_asked(*name, *query, &tables.facts, uses, remarks),
+        Touch::Equals(operator) => push_when(*operator, Lint::Equals, true, remarks),
+        Touch::Comma(operator) => push_when(*operator, Lint::Comma, true, remarks),
+        Touch::Returns(name) => push_when(*name, Lint::Itself, true, remarks),
+        _ => Ok(()),
+    }
+}
+
+/// Adds what is remarked at these touches.
+fn push_remarks<'a>(
+    touches: &[Touch<'a>],
+    tables: &Tables,
+    uses: &UseTable,
+    remarks: &mut Vec<Remark<'a>>,
+) -> Result<(), AllocError>
+    ensures { OnOk result (remarks.new.items ≡ remarks.old.items
+        ++ flat_map (spec.remarks_at (declared_at uses.now) (known_by_tables tables.now))
+        touches.now) }
+{
+    for touch in touches {
+        push_remarks_at(touch, tables, uses, remarks)?;
+    }
+    Ok(())
+}
+
+/// Fills the tables, and adds what is remarked.
+fn push_all<'a>(
+    alloc: Global,
+    program: &Program<'a>,
+    touches: &[Touch<'a>],
+    uses: &UseTable,
+    tables: &mut Tables,
+    remarks: &mut Vec<Remark<'a>>,
+) -> Result<(), AllocError>
+    requires { AreBlank tables.old }
+    ensures { OnOk result (remarks.new.items ≡ remarks.old.items
+        ++ spec.remarks_by (declared_at uses.now) (program_view program.now) touches.now) }
+{
+    note_all(alloc, program, touches, uses, tables)?;
+    push_remarks(touches, tables, uses, remarks)?;
+    Ok(())
+}
+
+/// Adds what is remarked, by tables of its own.
+fn push_by_tables<'a>(
+    alloc: Global,
+    program: &Program<'a>,
+    touches: &[Touch<'a>],
+    uses: &UseTable,
+    remarks: &mut Vec<Remark<'a>>,
+) -> Result<(), AllocError>
+    ensures { OnOk result (remarks.new.items ≡ remarks.old.items
+        ++ spec.remarks_by (declared_at uses.now) (program_view program.now) touches.now) }
+{
+    let mut tables = Tables::new(alloc);
+    let pushed = push_all(alloc, program, touches, uses, &mut tables, remarks);
+    drop(tables);
+    pushed
+}
+
+/// What the lints remark on a program, in the order of the source (docs/tools/check.md has the lints).
+///
+/// `uses` is the table of the program's names. What is remarked on a program that the check refuses may follow from what is
+/// wrong there. The only error is that memory ends.
+pub fn remarks_of<'a>(
+    alloc: Global,
+    program: &Program<'a>,
+    uses: &UseTable,
+) -> Result<Vec<Remark<'a>>, AllocError>
+    requires { IsTableOf uses.now (program_view program.now) }
+    ensures { IfOk result (λ remarks. remarks.items
+        ≡ spec.remarks_of (program_view program.now)) }
+{
+    let touches = touches_of(alloc, program)?;
+    let mut remarks = Vec::new(alloc);
+    push_by_tables(alloc, program, touches.as_slice(), uses, &mut remarks)?;
+    Ok(remarks)
+}

@@ -1,0 +1,177 @@
+//! What a piece of a program does with a variable.
+
+ghost use Rattle.std.specs.Prelude.{◌≡◌, ◌∷◌, ◌++◌, map, OnOk};
+ghost use Rattle.snl_syntax.specs.view.Expressions.{pair_of, list_before};
+ghost use Rattle.snl_syntax.specs.view.Lists.{term_list};
+ghost use Rattle.snl_syntax.specs.Expressions.{no_arguments};
+ghost use Rattle.snl_lints.specs.Touches as spec;
+
+use snl_names::{Builtin, Query, has_async, is_step};
+use snl_syntax::{Argument, Term};
+use snl_text::{Kind, Token};
+use std::alloc::AllocError;
+
+/// What a piece of a program does, by the token at which it is told.
+#[derive(Clone, Copy)]
+pub enum Touch<'a> {
+    /// A variable is declared by this name.
+    Declares(Token<'a>),
+    /// An `assign` names it, with some channel.
+    Assigns(Token<'a>),
+    /// A `monitor` names it.
+    Monitors(Token<'a>),
+    /// A `sync` or a `syncQ` with an event flag names it.
+    Flags(Token<'a>),
+    /// Its value is read.
+    Reads(Token<'a>),
+    /// It is set: the target of an assignment, or of `++` or `--`.
+    Sets(Token<'a>),
+    /// It is put, with the word `ASYNC` or without.
+    Puts(Token<'a>, bool),
+    /// It is the argument of a function that asks something of a channel, a queue or an event flag.
+    Asks(Query, Token<'a>),
+    /// A condition is an assignment, with this operator.
+    Equals(Token<'a>),
+    /// A condition is `a, b`, with this comma.
+    Comma(Token<'a>),
+    /// A clause leads back to its own state, of this name, and leaves an `entry` or `exit` block out.
+    Returns(Token<'a>),
+}
+
+/// What an expression stands for.
+#[derive(Clone, Copy)]
+pub enum Role {
+    /// Its value.
+    Value,
+    /// What decides in a clause, an `if`, a `while` or a `for`.
+    Condition,
+    /// A variable that is set.
+    Target,
+    /// A channel that is put, with the word `ASYNC` or without.
+    Put(bool),
+    /// A channel, a queue or an event flag.
+    Asked(Query),
+}
+
+/// Adds what a name does that stands for this. Fails only where memory ends.
+pub fn push_name<'a>(
+    name: Token<'a>,
+    role: Role,
+    found: &mut Vec<Touch<'a>>,
+) -> Result<(), AllocError>
+    ensures { OnOk result (found.new.items ≡ found.old.items ++ spec.at_name role name.entry) }
+{
+    let touch = match role {
+        Role::Value | Role::Condition => Touch::Reads(name),
+        Role::Target => Touch::Sets(name),
+        Role::Put(is_async) => Touch::Puts(name, is_async),
+        Role::Asked(query) => Touch::Asks(query, name),
+    };
+    found.push(touch)?;
+    Ok(())
+}
+
+/// Adds that a condition is an assignment, where it is one. Fails only where memory ends.
+pub fn push_assignment<'a>(
+    operator: Token<'a>,
+    role: Role,
+    found: &mut Vec<Touch<'a>>,
+) -> Result<(), AllocError>
+    ensures { OnOk result (found.new.items ≡ found.old.items
+        ++ spec.at_assignment role operator.entry) }
+{
+    if let Role::Condition = role {
+        found.push(Touch::Equals(operator))?;
+    }
+    Ok(())
+}
+
+/// Adds a comma, if the operator is one.
+fn push_if_comma<'a>(operator: Token<'a>, found: &mut Vec<Touch<'a>>) -> Result<(), AllocError>
+    ensures { OnOk result (found.new.items ≡ found.old.items ++ spec.when_comma operator.entry) }
+{
+    if let Kind::Comma = operator.kind {
+        found.push(Touch::Comma(operator))?;
+    }
+    Ok(())
+}
+
+/// Adds the first operator of a chain, if it is a comma.
+fn push_first_comma<'a>(terms: &[Term<'a>], found: &mut Vec<Touch<'a>>) -> Result<(), AllocError>
+    ensures { OnOk result (found.new.items ≡ found.old.items
+        ++ spec.first_comma (term_list (map pair_of terms.now))) }
+{
+    match terms {
+        [first, ..] => push_if_comma(first.operator, found),
+        [] => Ok(()),
+    }
+}
+
+/// Adds that a condition is `a, b`, where it is one. Fails only where memory ends.
+pub fn push_comma<'a>(
+    terms: &[Term<'a>],
+    role: Role,
+    found: &mut Vec<Touch<'a>>,
+) -> Result<(), AllocError>
+    ensures { OnOk result (found.new.items ≡ found.old.items
+        ++ spec.at_comma role (term_list (map pair_of terms.now))) }
+{
+    match role {
+        Role::Condition => push_first_comma(terms, found),
+        _ => Ok(()),
+    }
+}
+
+/// Whether the word `ASYNC` stands behind the first argument.
+fn is_async_behind(first: &Argument, behind: &[Argument]) -> bool
+    ensures { result ≡ spec.is_async_put (list_before (first.now ∷ behind.now) no_arguments) }
+{
+    match first {
+        Argument::Value(_) => has_async(behind),
+        Argument::Text(_) => false,
+    }
+}
+
+/// The same of all arguments of a put.
+fn is_async_put(arguments: &[Argument]) -> bool
+    ensures { result ≡ spec.is_async_put (list_before arguments.now no_arguments) }
+{
+    match arguments {
+        [first, behind @ ..] => is_async_behind(first, behind),
+        [] => false,
+    }
+}
+
+/// What the arguments of a call stand for.
+pub fn role_in(builtin: Option<Builtin>, arguments: &[Argument]) -> Role
+    ensures { result ≡ spec.role_in builtin (list_before arguments.now no_arguments) }
+{
+    match builtin {
+        Some(Builtin::PvPut) => Role::Put(is_async_put(arguments)),
+        Some(Builtin::Ask(query)) => Role::Asked(query),
+        _ => Role::Value,
+    }
+}
+
+/// What stands behind a prefix operator stands for.
+pub fn role_under(operator: Kind) -> Role
+    ensures { result ≡ spec.role_under operator }
+{
+    if is_step(operator) {
+        Role::Target
+    } else {
+        Role::Value
+    }
+}
+
+impl Role {
+    /// That of what stands in parentheses.
+    pub fn in_parentheses(self) -> Role
+        ensures { result ≡ spec.in_parentheses self }
+    {
+        match self {
+            Role::Condition => Role::Value,
+            other => other,
+        }
+    }
+}
