@@ -15,6 +15,19 @@ SCRIPT = "scripts/definitions"
 SECONDS = 1200
 # How many runs there are at least.
 RUNS = 700
+# Programs whose words are counted.
+QUEUED = """program u option +s; int x; assign x to "a"; monitor x; evflag f; syncQ x to f 2;
+ss s { state w { when (delay(1.0) && pvGetQ(x)) { printf("%d %d", x, efTest(f)); } state w } }
+"""
+TWO_SETS = """program g option +s; int x; assign x; monitor x;
+ss one { state a { when (delay(1)) { x = 5; } state b } state b { when (delay(1)) { pvPut(x); } state c } state c { when (FALSE) {} state c } }
+ss two { state w { when (x == 5) { printf("saw %d\\n", x); } state z } state z { when (FALSE) {} state z } }
+"""
+CALLS = """program f option +s; int x; assign x to "a"; monitor x;
+int twice(int n) { return n * 2; }
+int add(int n, int m) { int i; for (i = 0; i < m; i++) n = n + 1; return n; }
+ss s { state w { when (twice(x) > 5) { printf("%d", add(x, 2)); } exit } }
+"""
 SUMS = re.compile(r"(\d+) runs by the definitions, (\d+) different, (\d+) skipped")
 CLAUSES = re.compile(r"(\d+) of (\d+) clauses are reached by no case")
 ROW = re.compile(r"^\| `(crates/\S+)` \| `(.*?)` \| .+ \|$", re.MULTILINE)
@@ -64,7 +77,22 @@ def cases(root):
     station = root / "examples/station/station.st"
     yield Defined("definitions: tables", root, ["--tables", station], station.with_suffix(".tables").read_text())
     yield Defined("definitions: how many words a program needs, as docs/CALL.md has it", root, ["--footprint", light], "21\n")
+    yield from footprints(root)
     yield from wrong_words(root, light)
+
+
+def footprints(root):
+    """How many words programs need, added up by hand. Each has five single words; `printf`, `==`, `>` and a call hold two operands at once."""
+    for what, words, source in (
+        # A copy of one variable, a buffer, a queue of two items, a mark, whether the link waits, a state and its entry, a flag, a channel.
+        ("a queue and a flag", 1 + 1 + 2 + 1 + 1 + 2 + 1 + 2 + 5 + 2, QUEUED),
+        # Two copies of one variable, a buffer, two marks, whether the link waits, two states and their entries.
+        ("two state sets and no channel", 2 + 1 + 2 + 1 + 4 + 5 + 2, TWO_SETS),
+        # A copy of one variable, a parameter of the one function, two and a variable of the other, a place to return to for each, a
+        # buffer, a mark, whether the link waits, a state and its entry, a channel.
+        ("two functions", 1 + 4 + 2 + 1 + 1 + 1 + 2 + 2 + 5 + 2, CALLS),
+    ):
+        yield Defined(f"definitions: how many words a program with {what} needs", root, ["--footprint", "p.st"], f"{words}\n", source=source)
 
 
 def of_page(root):

@@ -1,24 +1,28 @@
-//! What only calls can show: budgets, devices that fail or cut, messages and tables, what words ask for.
+//! What only calls can show: that each call of the library succeeds, and devices in memory that cut the bytes or fail.
 //!
-//! What a program's text shows stands in the folder `cases/` at the root, and runs on the built program.
+//! What a source, a trace or the words of a call show stands in the folder `cases/` at the root, and runs on the built programs.
 
 use snc::{Job, Options};
 use std::alloc::{AllocError, Global};
 
-mod devices;
-mod runs;
-mod sources;
+mod reports;
+mod sessions;
 mod words;
 
 /// What is to be said of [`snl_tests::PROGRAM`].
 pub const WARNING: &[u8] = b"p.st:12: warning: W7 state 'hi' has no clauses\n";
 
-pub fn job(alloc: Global, budget: u32) -> Result<Job, AllocError> {
+/// A source with an error, and what is to be said of it.
+pub const REFUSED: &[u8] = b"program p option +s; ss s { state a { when (x) {} exit } }";
+
+pub const ERROR: &[u8] = b"p.st:1: error: E13 'x' is not declared\n";
+
+pub fn job(alloc: Global, tables: bool) -> Result<Job, AllocError> {
     Ok(Job {
         file: String::from_str(alloc, "p.st")?,
         options: Options::none(),
-        tables: false,
-        budget,
+        tables,
+        budget: 10,
         macros: None,
     })
 }

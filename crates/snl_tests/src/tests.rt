@@ -1,11 +1,8 @@
-//! What only calls can show: places in bytes, small tables, each call that a user of the crates makes.
+//! What only calls can show: each call that a user of the crates makes, places in bytes, small tables.
 
 mod beginnings;
-mod calls;
-mod footprints;
-mod functions;
-mod hearing;
+mod machines;
+mod made;
 mod programs;
-mod snapshots;
 mod tables;
 mod tokens;

