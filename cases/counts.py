@@ -9,6 +9,8 @@ ONES = "zero one two three four five six seven eight nine".split()
 TEENS = "ten eleven twelve thirteen fourteen fifteen sixteen seventeen eighteen nineteen".split()
 # The words of the numbers below fifty, as pages say them.
 NUMBERS = [*ONES, *TEENS, *(f"{tens}-{one}" if at else tens for tens in ("twenty", "thirty", "forty") for at, one in enumerate(ONES))]
+# How many lines a page has at most.
+LINES = 800
 FUNCTION = re.compile(r"^\s*(?:pub(?:\(\w+\))? )?(?:const |unsafe )*fn \w", re.MULTILINE)
 
 
@@ -21,6 +23,8 @@ def missing(root):
             yield f"FAILED {page}: it does not say `{wanted}`"
     yield from wrong_of_sizes(root)
     yield from wrong_of_minutes(root)
+    long = [it for it in root.glob("docs/**/*.md") if it.read_text().count("\n") > LINES]
+    yield from (f"FAILED {it.relative_to(root)}: it has more than {LINES} lines" for it in sorted(long))
     steps = (root / "docs/DEVELOPING.md").read_text().split("\n## A change, step by step\n")[1].split("\n## ")[0]
     for name in sorted({*re.findall(r"`(?:\S*/)?(\w+\.(?:rt|antt))`", steps)}):
         if not any(root.glob(f"crates/*/*/**/{name}")):
@@ -39,6 +43,8 @@ def numbers(root):
     yield "README.md", f"and {NUMBERS[sum(left)]} place in the other:" if len(left) == 1 else f"in the other {NUMBERS[len(left)]}"
     clauses = re.search(r"(\d+) clauses", (root / "docs/DEFINITIONS.md").read_text())[1]
     yield "README.md", f"its {clauses} clauses can be run"
+    night = re.search(r"the picture of a night, ([\d,]+ lines) .* (a page of \d+ kB)", (root / "docs/BENCHMARKS.md").read_text())
+    yield "docs/PLOT.md", f"A night of {night[1]} is {night[2]}"
     minutes = re.search(r"some \d+ minutes of a processor", (root / "docs/DEVELOPING.md").read_text())[0]
     yield "README.md", f"| `.ci/run` | all proofs, tests and cases, from nothing | an hour on four processors: {minutes} |"
     yield "docs/START.md", f"all proofs, tests and cases, from nothing: {minutes}, "

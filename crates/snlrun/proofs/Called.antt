@@ -31,8 +31,7 @@ module _ {R S : Type 0} (gave : R → List ℕ) (ended : R → Bool) (source_fai
       Goes given macros messages tree budget (gave trace') (ended trace') (took sink') end status
   goes messages tree None on = (on.0, on.1, ap gave on.2 ∙ unread, ap took on.3 ∙ unwritten)
   goes messages tree (Some e) on =
-      let ls = links on.2.whole macros in
-      (
+      let ls = links on.2.whole macros in (
         on.0,
         on.1,
         record {
