@@ -355,7 +355,8 @@ module _ {R S : Type 0} (source_gave : R → List ℕ) (source_ended : R → Boo
   -- a session that ran the program
   pub session_ran : (checked : Option (Box Checked Global)) (c : Box Checked Global) (end : End) → checked ≡ Some c → IsJudged given word source text (tree_of checked)
       → c.value.options ≡ options_in_force (program_view c.value.program) given
-      → IsRunOf source_gave source_ended source_failures sink_told sink_failures (program_view c.value.program) (links (program_view c.value.program) macros) (waits c.value.options) budget trace trace' sink sink' end
+      → IsRunOf source_gave source_ended source_failures sink_told sink_failures (program_view c.value.program) (links (program_view c.value.program) macros)
+      (waits c.value.options) budget trace trace' sink sink' end
       → IsSession source_gave source_ended source_failures sink_told sink_failures given word macros source budget trace trace' sink sink' text (Some end) (status_of end)
   session_ran checked c end some w are run =
       let v = subst (λ o. IsJudged given word source text (tree_of o)) some w in
