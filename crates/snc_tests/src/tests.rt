@@ -1,15 +1,22 @@
-//! What only calls can show: that each call of the library succeeds, and devices in memory that cut the bytes or fail.
+//! What only calls can show: each call that a user of the crates makes succeeds, places in bytes, small tables, and devices in memory
+//! that cut the bytes or fail.
 //!
 //! What a source, a trace or the words of a call show stands in the folder `cases/` at the root, and runs on the built programs.
 
 use snc::{Job, Options};
 use std::alloc::{AllocError, Global};
 
+mod beginnings;
+mod machines;
+mod made;
+mod programs;
 mod reports;
 mod sessions;
+mod tables;
+mod tokens;
 mod words;
 
-/// What is to be said of [`snl_tests::PROGRAM`].
+/// What is to be said of [`crate::PROGRAM`].
 pub const WARNING: &[u8] = b"p.st:12: warning: W7 state 'hi' has no clauses\n";
 
 /// A source with an error, and what is to be said of it.

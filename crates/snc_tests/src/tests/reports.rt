@@ -1,8 +1,8 @@
 //! What `report` says of a source, and its tables where they are asked for.
 
+use crate::PROGRAM;
 use crate::tests::{ERROR, REFUSED, WARNING, job};
 use snc::{Status, report};
-use snl_tests::PROGRAM;
 use std::alloc::Global;
 use std::process::Abort;
 use std::test::Fail;

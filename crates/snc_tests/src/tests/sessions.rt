@@ -2,9 +2,9 @@
 
 ghost use Rattle.std.specs.Prelude.{◌<◌};
 
+use crate::PROGRAM;
 use crate::tests::{ERROR, REFUSED, WARNING, job};
 use snc::{Status, session};
-use snl_tests::PROGRAM;
 use snl_trace::{End, Feed, Sheet};
 use std::alloc::Global;
 use std::process::Abort;
