@@ -1,7 +1,6 @@
 -- Laws of runs that are folded.
-use Rattle.std.proofs.Common.{◌≡◌, ◌==◌, ◌≤◌, ◌<◌, ◌+◌, ◌-◌, ℕ, suc, zero, Bool, true, false, List, [], ◌∷◌, ◌++◌, Option, None, Some, Result, Ok, Err, length, take, drop, map, refl, sym, ap, ◌∙◌, arith, append_assoc, append-nil, length-append, inl, inr, if◌then◌else◌, subst}
+use Rattle.std.proofs.Common.{◌≡◌, ◌≤◌, ◌<◌, ◌+◌, ◌-◌, ℕ, true, false, List, [], ◌∷◌, ◌++◌, Option, None, Some, Result, Ok, Err, length, take, drop, map, refl, sym, ap, ◌∙◌, arith, append_assoc, append-nil, length-append, if◌then◌else◌, subst}
 use Rattle.std.specs.Prelude.{All, slice_get}
-use Rattle.std.proofs.lemmas.Bool.{cases_Bool, eqb-true}
 use Rattle.std.proofs.lemmas.List.{map-append, take-append-drop, length-map}
 use Rattle.std.proofs.lemmas.List.Elements.{All-append, All-cons, All-nil, All-push}
 use Rattle.circular_buffer.proofs.Places.{slice_get-append_right}
@@ -15,84 +14,18 @@ use Rattle.std.proofs.Math.Logic.{∥∥₁_map}
 use Rattle.snl_output.specs.Lines.{joined}
 use Rattle.snl_watch.specs.Blocks.{is_none, told_again}
 use Rattle.snl_watch.specs.Extra.{are_dropped, start}
-use Rattle.snl_watch.specs.Folding.{again_line, IsFolded, IsNoted, Piece, Again, Line, Note, last_of, lines_behind, lines_of, repeated, unfolded, unfolded_behind, without_time, written}
-use Rattle.snl_watch.specs.Folds.{Folds, TellsMore, ends_line, is_in_line, lines_on, pieces_of, texts_of}
+use Rattle.snl_watch.specs.Folding.{IsFolded, IsNoted, Piece, Line, Note, StandFor, last_of, lines_behind, lines_of, repeated, without_time, written}
+use Rattle.snl_watch.specs.Folds.{Folds, TellsMore, ends_line, is_in_line, lines_held, lines_on, pieces_of, texts_of, unfolded}
 use Rattle.snl_watch.specs.Recents.{recent_texts}
 use Rattle.snl_watch.specs.Turning.{Turning}
 use Rattle.snl_watch.specs.declared.block.Block.{Block}
 use Rattle.snl_watch.specs.declared.recent.Recent.{Recent}
 use Rattle.snl_output.proofs.Writing.{told_more-nil, told_more-told_more}
 use Rattle.std.proofs.Math.Seq.{take-append-add}
+use Rattle.snl_watch.proofs.FoldTexts.{again-noted, again_of, released, released-lines, written-append}
 use Rattle.snl_watch.proofs.LineLaws.{goes-on-unended}
-use Rattle.snl_watch.proofs.TurningLaws.{begins, turned-whole, turns}
-
--- pieces, and more of them
-pub joined-append : (xs ys : List (List ℕ)) → joined (xs ++ ys) ≡ joined xs ++ joined ys
-joined-append [] ys = refl
-joined-append (x ∷ xs) ys = ap (λ t. x ++ t) (joined-append xs ys) ∙ sym (append_assoc x (joined xs) (joined ys))
-
--- what more pieces write
-pub written-append : (xs ys : List Piece) → joined (map written (xs ++ ys)) ≡ joined (map written xs) ++ joined (map written ys)
-written-append xs ys = ap joined (map-append written xs ys) ∙ joined-append (map written xs) (map written ys)
-
--- the lines that more pieces stand for
-pub unfolded-append : (done : List (List ℕ)) (xs ys : List Piece) → unfolded_behind done (xs ++ ys) ≡ unfolded_behind (unfolded_behind done xs) ys
-unfolded-append done [] ys = refl
-unfolded-append done (Line note line ∷ xs) ys = unfolded-append (done ++ without_time line ∷ []) xs ys
-unfolded-append done (Note text ∷ xs) ys = unfolded-append done xs ys
-unfolded-append done (Again size times until ∷ xs) ys = unfolded-append (done ++ repeated times (last_of size done)) xs ys
-
--- lines that were held stand for themselves
-pub unfolded-held : (done : List (List ℕ)) (held : List (List ℕ × List ℕ)) → unfolded_behind done (pieces_of held) ≡ done ++ texts_of held
-unfolded-held done [] = sym (append-nil done)
-unfolded-held done (h ∷ held) = unfolded-held (done ++ without_time h.1 ∷ []) held ∙ append_assoc done (without_time h.1 ∷ []) (texts_of held)
-
--- what is told of a block that came again
-abbrev pub again_of : Block → List Piece
-again_of b = if b.times == 0 then [] else Again b.size b.times b.until.items ∷ []
-
--- its text
-pub again-written : (b : Block) → joined (map written (again_of b)) ≡ told_again b
-again-written b = elim (cases_Bool (b.times == 0)) [
-  | inl none ↦ rw none refl
-  | inr some ↦ rw some (append-nil (again_line b.size b.times b.until.items))
-]
-
--- the lines that it stands for
-pub again-unfolded : (done : List (List ℕ)) (b : Block) → unfolded_behind done (again_of b) ≡ done ++ repeated b.times (last_of b.size done)
-again-unfolded done b = elim (cases_Bool (b.times == 0)) [
-  | inl none ↦ rw none (sym (append-nil done) ∙ ap (λ k. done ++ repeated k (last_of b.size done)) (sym (eqb-true b.times 0 none)))
-  | inr some ↦ rw some refl
-]
-
--- it has no notes
-pub again-noted : (b : Block) → All IsNoted (again_of b)
-again-noted b = elim (cases_Bool (b.times == 0)) [
-  | inl none ↦ rw none (All-nil IsNoted)
-  | inr some ↦ rw some (All-cons IsNoted (Again b.size b.times b.until.items) [] tt (All-nil IsNoted))
-]
-
--- what is written of a block, with more behind it
-pub released : (b : Block) (held more : List Piece) → b.held.items ≡ joined (map written held) →
-    joined (map written (again_of b ++ (held ++ more))) ≡ (told_again b ++ b.held.items) ++ joined (map written more)
-released b held more is =
-    written-append (again_of b) (held ++ more)
-    ∙ ap (λ t. t ++ joined (map written (held ++ more))) (again-written b)
-    ∙ ap (λ t. told_again b ++ t) (written-append held more ∙ ap (λ t. t ++ joined (map written more)) (sym is))
-    ∙ sym (append_assoc (told_again b) b.held.items (joined (map written more)))
-
--- the lines that all stand for, once a block is released
-pub released-lines : (all : List (List ℕ)) (pieces : List Piece) (held : List (List ℕ × List ℕ)) (b : Block) (more : List Piece) →
-    Turning all (unfolded pieces) b.size b.times (texts_of held) → unfolded (pieces ++ (again_of b ++ (pieces_of held ++ more))) ≡ unfolded_behind all more
-released-lines all pieces held b more t =
-    let done : List (List ℕ) = unfolded pieces in
-    let again : List (List ℕ) = repeated b.times (last_of b.size done) in
-    let whole : (done ++ again) ++ texts_of held ≡ all = append_assoc done again (texts_of held) ∙ sym t.all_is in
-    unfolded-append [] pieces (again_of b ++ (pieces_of held ++ more))
-    ∙ unfolded-append done (again_of b) (pieces_of held ++ more)
-    ∙ ap (λ d. unfolded_behind d (pieces_of held ++ more)) (again-unfolded done b)
-    ∙ unfolded-append (done ++ again) (pieces_of held) more
-    ∙ ap (λ d. unfolded_behind d more) (unfolded-held (done ++ again) held ∙ whole)
+use Rattle.snl_watch.proofs.StandLaws.{folded-more, held-more, stand-released}
+use Rattle.snl_watch.proofs.TurningLaws.{turned-whole, turns}
 
 -- a line that was ended is one more
 pub cut-ended : (run line rest : List ℕ) (lines : List (List ℕ)) → lines_of (run ++ rest) ≡ lines ++ lines_on line rest → ends_line line ≡ true →
@@ -162,6 +95,10 @@ printed run output line note recent recent' block block' f ends is_note knows si
       held_noted = All-nil IsNoted;
       held_is = held;
       count_is = count;
+      told = f.lines ++ line ∷ [];
+      folded = [];
+      stand = stand-released f.lines f.told f.folded f.pieces more f.held block (line ∷ []) f.stand f.lines_are f.turning (λ before. (line ∷ [], ([], (refl, (refl, refl)))));
+      lines_are = sym (append-nil (f.lines ++ line ∷ []));
       turning = begins-at (map without_time (f.lines ++ line ∷ [])) (unfolded pieces) block'.size block'.times done times
           (omega (arith, size, ap length all, ap length known.is, length-append known.older (recent_texts recent')));
       known = all ∙ known.is;
@@ -209,6 +146,10 @@ held-line run output line note recent recent' block block' n f ends is_note kept
       held_is = held ∙ ap (λ t. t ++ (note ++ line)) f.held_is ∙ ap (λ t. joined (map written (pieces_of f.held)) ++ t) (sym (append-nil (note ++ line)))
           ∙ sym (written-append (pieces_of f.held) (Line note line ∷ [])) ∙ ap (λ ps. joined (map written ps)) (sym (map-append (λ h. Line h.0 h.1) f.held one));
       count_is = omega (arith, count, f.count_is, length-append f.held one);
+      told = f.told;
+      folded = f.folded;
+      stand = f.stand;
+      lines_are = held-more f.lines f.told f.folded f.held note line f.lines_are;
       turning = turning-as _ _ _ _ _ _ _ _ _ (sym all) (sym size) (sym times) (sym (map-append (λ h. without_time h.1) f.held one)) turned;
       known = all ∙ known.is;
     }
@@ -241,6 +182,10 @@ held-whole run output line note recent recent' block block' n f ends kept some w
       held_noted = All-nil IsNoted;
       held_is = held;
       count_is = count;
+      told = f.told;
+      folded = f.folded ++ (lines_held f.held ++ line ∷ []);
+      stand = f.stand;
+      lines_are = folded-more f.lines f.told f.folded f.held line f.lines_are;
       turning = turning-as _ _ _ _ _ _ _ _ _ (sym all) (sym size) (sym times) refl again;
       known = all ∙ known.is;
     }
@@ -268,6 +213,10 @@ took run output line piece recent block f unended within = record {
   held_noted = f.held_noted;
   held_is = f.held_is;
   count_is = f.count_is;
+  told = f.told;
+  folded = f.folded;
+  stand = f.stand;
+  lines_are = f.lines_are;
   turning = f.turning;
   known = f.known;
 }
@@ -285,6 +234,10 @@ nothing recent block none is = record {
   held_noted = All-nil IsNoted;
   held_is = is.3;
   count_is = is.2;
+  told = [];
+  folded = [];
+  stand = refl;
+  lines_are = refl;
   turning = begins-at [] [] block.size block.times refl is.1 (omega (arith, is.0));
   known = sym none;
 }
@@ -293,7 +246,6 @@ nothing recent block none is = record {
 pub finished : (run output waiting notes : List ℕ) (recent : Recent) (block : Block) → Folds run output [] recent block → are_dropped start waiting ≡ true →
     are_dropped start notes ≡ true → IsFolded run ((output ++ (told_again block ++ block.held.items)) ++ (waiting ++ notes))
 finished run output waiting notes recent block f is_waiting is_note =
-    let texts : List (List ℕ) = map without_time f.lines in
     let more : List Piece = Note waiting ∷ Note notes ∷ [] in
     let pieces : List Piece = f.pieces ++ (again_of block ++ (pieces_of f.held ++ more)) in
     let rest : List ℕ = told_again block ++ block.held.items in
@@ -306,7 +258,8 @@ finished run output waiting notes recent block f is_waiting is_note =
       output_is = append_assoc output rest (waiting ++ notes) ∙ ap (λ t. t ++ (rest ++ (waiting ++ notes))) f.output_is ∙ sym text;
       noted = All-append IsNoted f.pieces (again_of block ++ (pieces_of f.held ++ more)) f.noted (All-append IsNoted (again_of block) (pieces_of f.held ++ more) (again-noted block)
           (All-append IsNoted (pieces_of f.held) more f.held_noted (All-cons IsNoted (Note waiting) (Note notes ∷ []) is_waiting (All-cons IsNoted (Note notes) [] is_note (All-nil IsNoted)))));
-      unfolds = released-lines texts f.pieces f.held block more f.turning ∙ ap (map without_time) (sym all);
+      stand = subst (λ (l : List (List ℕ)). StandFor [] pieces l) (append-nil f.lines ∙ sym all)
+          (stand-released f.lines f.told f.folded f.pieces more f.held block [] f.stand f.lines_are f.turning (λ before. ([], ([], (refl, (refl, ([], ([], (refl, (refl, refl))))))))));
     }
 
 -- a sink that was told two texts more, and one that was told none
@@ -370,6 +323,10 @@ recents-as run output line recent recent' block same f = record {
   held_noted = f.held_noted;
   held_is = f.held_is;
   count_is = f.count_is;
+  told = f.told;
+  folded = f.folded;
+  stand = f.stand;
+  lines_are = f.lines_are;
   turning = f.turning;
   known = f.known ∙ ap (λ t. f.older ++ map (λ text. text.items) t.items) (sym same);
 }

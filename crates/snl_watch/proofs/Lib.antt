@@ -1,5 +1,8 @@
 pub mod ExtraLaws
+pub mod FoldTexts
+pub mod StandLaws
 pub mod FoldLaws
+pub mod FoldExamples
 pub mod LineLaws
 pub mod TurningLaws
 pub mod Windows

@@ -1,5 +1,5 @@
 -- Lines of a run in which blocks that repeat are told by one line.
-use Rattle.std.specs.Prelude.{◌≡◌, ◌==◌, ◌≢◌, ◌-◌, ℕ, Bool, true, zero, suc, List, [], ◌∷◌, ◌++◌, length, drop, map, codes, decimal, if◌then◌else◌, All}
+use Rattle.std.specs.Prelude.{◌≡◌, ◌==◌, ◌-◌, ℕ, true, zero, suc, List, [], ◌∷◌, ◌++◌, length, drop, map, codes, decimal, if◌then◌else◌, All}
 use Rattle.std.specs.Char.{is_ascii_digit}
 use Rattle.snl_output.specs.Lines.{joined}
 use Rattle.snl_watch.specs.Extra.{are_dropped, start}
@@ -44,16 +44,18 @@ repeated (suc n) xs = repeated n xs ++ xs
 abbrev pub last_of : {A : Type 0} → ℕ → List A → List A
 last_of n xs = drop (length xs - n) xs
 
--- The lines that pieces stand for, without their times, behind those of earlier ones.
-abbrev pub unfolded_behind : List (List ℕ) → List Piece → List (List ℕ)
-unfolded_behind done [] = done
-unfolded_behind done (Line note line ∷ pieces) = unfolded_behind (done ++ without_time line ∷ []) pieces
-unfolded_behind done (Note text ∷ pieces) = unfolded_behind done pieces
-unfolded_behind done (Again size times until ∷ pieces) = unfolded_behind (done ++ repeated times (last_of size done)) pieces
+-- The lines that a piece stands for, behind some whose texts without times are known: a line for itself; a note for none; and a fold
+-- for the last ones in front of it, so many times, whatever their times are.
+abbrev pub StandsFor : (before : List (List ℕ)) → Piece → (lines : List (List ℕ)) → Type 0
+StandsFor before (Line note line) lines = lines ≡ line ∷ []
+StandsFor before (Note text) lines = lines ≡ []
+StandsFor before (Again size times until) lines = map without_time lines ≡ repeated times (last_of size before)
 
--- The lines that pieces stand for, without their times.
-abbrev pub unfolded : List Piece → List (List ℕ)
-unfolded pieces = unfolded_behind [] pieces
+-- Those that pieces stand for, one after another.
+abbrev pub StandFor : (before : List (List ℕ)) → List Piece → (lines : List (List ℕ)) → Type 0
+StandFor before [] lines = lines ≡ []
+StandFor before (piece ∷ pieces) lines =
+    (first : List (List ℕ)) × ((rest : List (List ℕ)) × ((lines ≡ first ++ rest) × (StandsFor before piece first × StandFor (before ++ map without_time first) pieces rest)))
 
 -- What stands behind how often it comes.
 abbrev pub more_words : ℕ → List ℕ
@@ -77,9 +79,10 @@ IsNoted (Line note line) = are_dropped start note ≡ true
 IsNoted (Note text) = are_dropped start text ≡ true
 IsNoted (Again size times until) = Unit {0}
 
--- A run and what was written in its place: pieces that stand for the lines of the run, but for their times.
+-- A run and what was written in its place: pieces that stand for the lines of the run. So each line that is written is one of the run,
+-- with its time, and lines are left out only where a fold tells of them.
 pub record IsFolded (run output : List ℕ) : Type 0 where
   pub pieces : List Piece
   pub output_is : output ≡ joined (map written pieces)
   pub noted : All IsNoted pieces
-  pub unfolds : unfolded pieces ≡ map without_time (lines_of run)
+  pub stand : StandFor [] pieces (lines_of run)

@@ -1,6 +1,7 @@
 pub mod Blocks
 pub mod Extra
 pub mod Folding
+pub mod FoldExamples
 pub mod Folds
 pub mod Places
 pub mod Recents

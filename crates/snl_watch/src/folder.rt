@@ -1,6 +1,6 @@
 //! A sink that folds blocks of lines that repeat.
 
-ghost use Rattle.std.specs.Prelude.{◌≡◌, ◌-◌, ◌+◌, ◌^◌, ◌<◌, ◌≤◌, ℕ, List, [], ◌++◌, Some, false, true, is_err, length, take, IfOk, OnOk, OnErr};
+ghost use Rattle.std.specs.Prelude.{◌≡◌, ◌↔◌, ◌-◌, ◌+◌, ◌^◌, ◌<◌, ◌≤◌, ℕ, List, [], ◌++◌, Some, IsTrue, false, true, is_err, length, take, IfOk, OnOk, OnErr};
 ghost use Rattle.std.proofs.Props.{props};
 ghost use Rattle.snl_output.specs.Devices.{Wrote, counted, told_more, write_fails};
 ghost use Rattle.snl_watch.specs.Extra.{are_dropped, start};
@@ -157,6 +157,9 @@ impl<'c, K: Sink, W: Sink> Folder<'c, K, W> {
         ensures told { W.told self.new.witness ≡ W.told self.old.witness }
         ensures folded { OnOk result ((run output : List ℕ) → W.told self.new.witness ≡ Some run
             → K.told self.new.inner ≡ Some output → ∥ IsFolded run output ∥₁) }
+        ensures sent { OnOk result (K.failures self.new.inner + (W.failures self.new.witness
+            + self.new.refused) ≡ K.failures self.old.inner + (W.failures self.old.witness
+            + self.old.refused)) }
     {
         self.settle()?;
         if !self.line.is_empty() || self.is_over {
@@ -166,6 +169,13 @@ impl<'c, K: Sink, W: Sink> Folder<'c, K, W> {
         self.notes.put_noted(&mut self.note);
         self.block.write(&mut self.inner)?;
         write_last(self.note.as_slice(), noted(notes), &mut self.inner)
+    }
+
+    /// Whether each piece that it did not take was one that the sink or the witness did not take.
+    pub fn is_faithful(&self) -> bool
+        ensures { IsTrue result ↔ (self.now.refused ≡ 0) }
+    {
+        self.refused == 0
     }
 
     /// What is noted, and what is known of the run.

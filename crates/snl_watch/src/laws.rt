@@ -1,5 +1,6 @@
-//! Laws of counts. A function is its contract.
+//! Laws of counts, and of what is folded. A function is its contract.
 
+ghost use Rattle.snl_watch.specs.FoldExamples.{FoldExamples};
 ghost use Rattle.snl_watch.specs.Laws.{CountsAreExact, CountsGoOn, CutIsWholeLines};
 
 /// What is known of a text and of the text that follows is what is known of both.
@@ -15,4 +16,9 @@ pub fn counts_are_exact()
 /// The lines that ended in a text are its whole lines.
 pub fn cut_is_whole_lines()
     ensures { CutIsWholeLines }
+{}
+
+/// Small runs, and pieces that stand for their lines or do not.
+pub fn fold_examples()
+    ensures { FoldExamples }
 {}

@@ -1,6 +1,6 @@
 //! A sink that writes extra lines between those of a run.
 
-ghost use Rattle.std.specs.Prelude.{◌≡◌, ◌-◌, ◌+◌, ◌^◌, ◌<◌, ◌≤◌, ℕ, List, [], Some, is_err, length, take, IfOk, OnErr};
+ghost use Rattle.std.specs.Prelude.{◌≡◌, ◌↔◌, ◌-◌, ◌+◌, ◌^◌, ◌<◌, ◌≤◌, ℕ, List, [], Some, IsTrue, is_err, length, take, IfOk, OnOk, OnErr};
 ghost use Rattle.std.proofs.Props.{props};
 ghost use Rattle.snl_output.specs.Devices.{counted, told_more, write_fails};
 ghost use Rattle.snl_watch.specs.Extra.{kept_from, place_after, shown, start};
@@ -105,12 +105,21 @@ impl<'c, K: Sink> Teller<'c, K> {
     pub fn tell(&mut self, lines: &[u8]) -> Result<(), SinkFault>
         requires { K.failures self.old.inner + self.old.refused < 2 ^ 64 - 1 }
         ensures told { shown (K.told self.new.inner) ≡ shown (K.told self.old.inner) }
+        ensures sent { OnOk result (K.failures self.new.inner ≡ K.failures self.old.inner) }
+        ensures refused { self.new.refused ≡ self.old.refused }
     {
         if self.place.within {
             return Err(SinkFault);
         }
         self.settle()?;
         self.send(lines)
+    }
+
+    /// Whether each piece that it did not take was one that the sink behind it did not take.
+    pub fn is_faithful(&self) -> bool
+        ensures { IsTrue result ↔ (self.now.refused ≡ 0) }
+    {
+        self.refused == 0
     }
 
     /// What is noted, and what is known of the run.
