@@ -7,4 +7,5 @@ pub mod RunAnswers
 pub mod Answered
 pub mod Counting
 pub mod CoverRuns
+pub mod RunnerLaws
 pub mod Texts

@@ -1,5 +1,6 @@
 -- What `run` answers of a source, by what the rules say of it and by what its run told.
-use Rattle.std.proofs.Common.{◌≡◌, ℕ, Bool, List, Option, None, Some, Box, Global, subst}
+use Rattle.std.proofs.Common.{◌≡◌, ◌∙◌, ℕ, Bool, true, false, List, Option, None, Some, Box, Global, refl, subst, sym}
+use Rattle.std.proofs.lemmas.Bool.{true≢false}
 use Rattle.snl_syntax.specs.Programs.{ProgramTree}
 use Rattle.snl_check.specs.Waits.{waits}
 use Rattle.snl_channels.specs.Links.{Link, links}
@@ -8,6 +9,7 @@ use Rattle.snl_machine.specs.MachineOf.{IsMachineOf, world_held}
 use Rattle.snl_meaning.specs.World.{World}
 use Rattle.snl_messages.specs.Silence.{options_in_force}
 use Rattle.snl_names.specs.declared.options.Options.{Options}
+use Rattle.snl_output.specs.Devices.{counted}
 use Rattle.snl_trace.specs.declared.runner.End.{End}
 use Rattle.snl_views.specs.Answered.{IsAnswered}
 use Rattle.snl_views.specs.Runs.{EndsAt, RunsLike, RunsWith}
@@ -25,6 +27,11 @@ runs-like whole ls waiting budget first world gave ended old told old' told' end
   ran = subst (λ (t : Option (List ℕ)). EndsAt whole ls waiting budget first gave ended told t end world) is'
       (subst (λ (t : Option (List ℕ)). EndsAt whole ls waiting budget first gave ended t old' end world) is ran);
 }
+
+-- a sink of which all was taken failed no more than before its run
+pub none-failed : (failed is_whole : Bool) (before after : ℕ) → is_whole ≡ true → (failed ≡ true → is_whole ≡ false) → after ≡ counted failed before → after ≡ before
+none-failed true is_whole before after whole so is = absurd (true≢false (sym whole ∙ so refl))
+none-failed false is_whole before after whole so is = is
 
 -- the same, of what was prepared, by another name of it
 pub runs-like-as : (before started : Prepared) (world : World) (gave : List ℕ) (ended : Bool) (old told old' told' : Option (List ℕ)) (end : End) →

@@ -5,10 +5,8 @@ pub mod Prepared
 pub mod Runs
 pub mod Staged
 pub mod Answered
-pub mod Charted
 pub mod Coverage
-pub mod Covers
 pub mod Graphs
 pub mod Pictures
-pub mod Ready
+pub mod Runners
 pub mod Shapes

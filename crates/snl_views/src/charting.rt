@@ -1,17 +1,15 @@
 //! The chart of a checked program, made while the program is lent.
 
 ghost use Rattle.std.specs.Prelude.{IfOk};
-ghost use Rattle.snl_views.specs.Charted.{IsCharted, IsChartedProgram};
+ghost use Rattle.snl_views.specs.Runners.{IsCharted};
 
 use crate::charts::{Chart, chart_of};
 use crate::conditions::Conditions;
 use crate::coverage::PutChart;
-use crate::lending::Lends;
-use crate::preparing::{Prepared, prepared_with};
 use crate::puts::{put_charts, put_names};
 use indexmap::IndexSet;
 use snl_check::Checked;
-use snl_links::{Link, Macros, links};
+use snl_links::Link;
 use snl_text::lex;
 use std::alloc::{AllocError, Global};
 
@@ -64,26 +62,15 @@ fn chart_by<'a>(
     Ok((chart, puts))
 }
 
-/// A program that can run, with its chart.
+/// A chart, and the channels that a `pvPut` names.
 #[derive(Drop)]
-pub struct Charted {
-    /// What its run needs.
-    pub prepared: Prepared,
-    /// Its state sets, states and clauses.
+pub(crate) struct Outline {
     pub chart: Chart,
-    /// The channels that a `pvPut` names.
     pub puts: Vec<PutChart>,
 }
 
-/// A chart, and the channels that a `pvPut` names.
-#[derive(Drop)]
-struct Outline {
-    chart: Chart,
-    puts: Vec<PutChart>,
-}
-
 /// The chart of a checked program that is lent, and the channels that it puts, by its links.
-fn outline_of<'a>(
+pub(crate) fn outline_of<'a>(
     alloc: Global,
     checked: &Checked<'a>,
     source: &[u8],
@@ -95,38 +82,4 @@ fn outline_of<'a>(
     let (chart, declared) = chart_by(alloc, checked, &marks)?;
     let puts = put_charts(alloc, source, links, &declared)?;
     Ok(Outline { chart, puts })
-}
-
-/// A checked program that is lent, as it can run, with its chart. The machine is made last: nothing fails while it is owned.
-fn charted_of<'a>(
-    alloc: Global,
-    checked: &Checked<'a>,
-    source: &[u8],
-    macros: &Macros,
-    budget: u32,
-) -> Result<Charted, AllocError>
-    ensures { IfOk result (IsChartedProgram checked.now macros.now.text.now budget) }
-{
-    let links = links(alloc, checked, macros)?;
-    let Outline { chart, puts } = outline_of(alloc, checked, source, links.as_slice())?;
-    let prepared = prepared_with(alloc, checked, links, macros, budget)?;
-    Ok(Charted {
-        prepared,
-        chart,
-        puts,
-    })
-}
-
-impl<'a> Lends<Charted> for Checked<'a> {
-    ghost lent = { IsChartedProgram };
-
-    fn lend(
-        &self,
-        alloc: Global,
-        source: &[u8],
-        macros: &Macros,
-        budget: u32,
-    ) -> Result<Charted, AllocError> {
-        charted_of(alloc, self, source, macros, budget)
-    }
 }

@@ -4,6 +4,7 @@ ghost use Rattle.std.specs.Prelude.{◌≡◌};
 ghost use Rattle.snl_views.specs.Coverage.{both};
 
 use crate::charts::Chart;
+use crate::seen::Seen;
 use snl_watch::Trail;
 
 /// A channel that a `pvPut` names.
@@ -43,7 +44,7 @@ fn add_counts(counts: &mut Vec<u64>, others: &[u64])
 
 impl Coverage {
     /// Adds what was seen of the same program in another run.
-    pub fn add(&mut self, other: &Coverage)
+    pub(crate) fn add(&mut self, other: &Seen)
         ensures shown { self.new.shown.items ≡ both self.old.shown.items other.now.shown.items }
         ensures chart { self.new.chart ≡ self.old.chart }
     {

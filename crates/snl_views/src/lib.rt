@@ -1,7 +1,8 @@
 //! What the words of the companion do: from the bytes of a program and those of a trace to an answer with its text.
 //!
-//! `waits` says when a program began, or what it still waits for where a trace ends. `run_whole` and `run_folded`
-//! run it with notes and a summary for a person. `cover` says what of a program a run never showed, and `graph` draws it.
+//! `waits` says when a program began, or what it still waits for where a trace ends. `run_whole` and `run_folded` run it with notes
+//! and a summary for a person. A `Runner` runs it over one trace after another: `gaps_of` says what of the program these runs never
+//! showed, and `graph` draws it.
 #![tactic(auto)]
 
 mod awaited;
@@ -12,26 +13,26 @@ mod clock;
 mod conditions;
 pub mod cover_laws;
 mod coverage;
-mod covering;
 mod drawing;
 mod escaped;
 mod go_lines;
 mod graphing;
 mod hints;
+mod launching;
 pub mod laws;
 mod legends;
 mod lending;
 mod missed;
 mod missing;
-mod observing;
 mod overheard;
 mod pictures;
 mod picturing;
 mod pieces;
 mod preparing;
 mod puts;
-mod readying;
+mod runner;
 mod running;
+mod seen;
 mod staging;
 mod starting;
 mod summaries;
@@ -44,13 +45,13 @@ mod watching;
 pub use awaited::Awaited;
 pub use charts::{ArrowChart, Chart, SetChart, StateChart};
 pub use coverage::{Coverage, PutChart};
-pub use covering::{CoverAnswer, cover};
-pub use graphing::{Drawing, GraphAnswer, graph};
+pub use graphing::{Drawing, graph};
+pub use launching::{RunnerAnswer, runner_of};
 pub use missed::{Gaps, Missed, Share, gaps_of};
 pub use missing::coverage_text;
-pub use observing::Covered;
 pub use overheard::Overheard;
 pub use pictures::{Arrow, Cluster, Node, Picture};
+pub use runner::{Covered, Runner};
 pub use running::{RunAnswer, run_folded, run_whole};
 pub use unused_macros::macro_notes;
 pub use waiting::{Answer, WaitsOutcome, waits};

@@ -20,24 +20,6 @@ pub struct Prepared {
     pub waits: bool,
 }
 
-/// What the run of a checked program needs that is lent, with its links.
-pub(crate) fn prepared_with<'a>(
-    alloc: Global,
-    checked: &Checked<'a>,
-    links: Vec<Link>,
-    macros: &Macros,
-    budget: u32,
-) -> Result<Prepared, AllocError>
-    ensures { IfOk result (IsPrepared checked.now macros.now.text.now budget) }
-{
-    let machine = checked.machine(alloc, macros, budget)?;
-    Ok(Prepared {
-        links,
-        machine,
-        waits: checked.waits(),
-    })
-}
-
 /// What the run of a checked program needs that is lent.
 pub(crate) fn prepared_of<'a>(
     alloc: Global,
@@ -48,7 +30,12 @@ pub(crate) fn prepared_of<'a>(
     ensures { IfOk result (IsPrepared checked.now macros.now.text.now budget) }
 {
     let links = links(alloc, checked, macros)?;
-    prepared_with(alloc, checked, links, macros, budget)
+    let machine = checked.machine(alloc, macros, budget)?;
+    Ok(Prepared {
+        links,
+        machine,
+        waits: checked.waits(),
+    })
 }
 
 impl<'a> Lends<Prepared> for Checked<'a> {

@@ -92,20 +92,22 @@ fn failed(end: End) -> bool
     }
 }
 
-/// Tells a summary behind a run, unless the sink has failed. Answers whether all of it went out.
+/// Tells a summary behind a run, unless the sink has failed. Answers whether all was taken, that of the run too.
 fn summed<K: Sink>(teller: &mut Teller<'_, K>, end: End, summary: &[u8]) -> bool
     requires { sink_failed end ≡ false →
         K.failures teller.old.inner + teller.old.refused < 2 ^ 64 - 1 }
     ensures told { shown (K.told teller.new.inner) ≡ shown (K.told teller.old.inner) }
     ensures failed { sink_failed end ≡ true → result ≡ false }
+    ensures sent { result ≡ true → K.failures teller.new.inner
+        ≡ K.failures teller.old.inner + teller.old.refused }
 {
-    if failed(end) {
+    if failed(end) || !teller.is_faithful() {
         return false;
     }
     teller.tell(summary).is_ok()
 }
 
-/// Ends a run that is folded, with a summary, unless the sink has failed. Answers whether all of it went out.
+/// Ends a run that is folded, with a summary, unless the sink has failed. Answers whether all was taken, that of the run too.
 fn finished<K: Sink, W: Sink>(folder: &mut Folder<'_, K, W>, end: End, summary: &[u8]) -> bool
     requires { sink_failed end ≡ false → K.failures folder.old.inner
         + (W.failures folder.old.witness + folder.old.refused) < 2 ^ 64 - 1 }
@@ -114,12 +116,15 @@ fn finished<K: Sink, W: Sink>(folder: &mut Folder<'_, K, W>, end: End, summary: 
         W.told folder.new.witness ≡ Some run → K.told folder.new.inner ≡ Some output →
         ∥ IsFolded run output ∥₁ }
     ensures failed { sink_failed end ≡ true → result ≡ false }
+    ensures sent { result ≡ true → K.failures folder.new.inner
+        + W.failures folder.new.witness ≡ K.failures folder.old.inner
+        + (W.failures folder.old.witness + folder.old.refused) }
 {
     if failed(end) {
         return false;
     }
     match folder.finish(summary) {
-        Ok(()) => true,
+        Ok(()) => folder.is_faithful(),
         Err(_) => false,
     }
 }
@@ -177,6 +182,8 @@ fn whole_of<R: Source + Drop, K: Sink + Drop>(
     ensures source { IfOk result (λ told. R.failures told.trace
         ≡ counted (source_failed told.end) (R.failures trace)) }
     ensures failed { IfOk result (λ told. sink_failed told.end ≡ true → told.is_whole ≡ false) }
+    ensures whole { IfOk result (λ told. told.is_whole ≡ true →
+        K.failures told.sink ≡ K.failures sink) }
 {
     let moments = RefCell::new(Moments::new(alloc)?);
     let notes = notes_of(alloc, stage, &moments)?;
@@ -225,6 +232,8 @@ fn folded_of<R: Source + Drop, K: Sink + Drop, W: Sink + Drop>(
     ensures folded { IfOk result (λ told. told.is_whole ≡ true → (run output : List ℕ) →
         W.told told.sink.1 ≡ Some run → K.told told.sink.0 ≡ Some output →
         ∥ IsFolded run output ∥₁) }
+    ensures whole { IfOk result (λ told. told.is_whole ≡ true → K.failures told.sink.0
+        + W.failures told.sink.1 ≡ K.failures sink + W.failures witness) }
 {
     let moments = RefCell::new(Moments::new(alloc)?);
     let notes = notes_of(alloc, stage, &moments)?;
@@ -277,6 +286,8 @@ pub fn run_whole<R: Source + Drop, K: Sink + Drop>(
         ≡ trace_failures a.end (R.failures trace)) }
     ensures failed { IfOk result (λ a. IfSome a.end (λ e. sink_failed e ≡ true →
         a.is_whole ≡ false)) }
+    ensures whole { IfOk result (λ a. a.is_whole ≡ true →
+        K.failures a.sink ≡ K.failures sink) }
 {
     let Staged { messages, stage } = staged_of(alloc, source, job)?;
     let Some(mut stage) = stage else {
@@ -326,6 +337,8 @@ pub fn run_folded<R: Source + Drop, K: Sink + Drop, W: Sink + Drop>(
     ensures folded { IfOk result (λ answer. IfSome answer.end (λ _. answer.is_whole ≡ true →
         (run output : List ℕ) → W.told answer.sink.1 ≡ Some run →
         K.told answer.sink.0 ≡ Some output → ∥ IsFolded run output ∥₁)) }
+    ensures whole { IfOk result (λ a. a.is_whole ≡ true → K.failures a.sink.0
+        + W.failures a.sink.1 ≡ K.failures sink + W.failures witness) }
 {
     let Staged { messages, stage } = staged_of(alloc, source, job)?;
     let Some(mut stage) = stage else {

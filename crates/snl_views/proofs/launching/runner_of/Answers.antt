@@ -4,11 +4,10 @@ use Rattle.snl_messages.specs.Silence.{options_in_force}
 use Rattle.snl_syntax.specs.view.Programs.{program_view}
 use Rattle.snl_check.specs.declared.checked.Checked.{Checked}
 use Rattle.snc.specs.Judging.{IsJudged}
-use Rattle.snl_views.specs.Charted.{IsChartedProgram}
-use Rattle.snl_views.specs.Ready.{IsReady}
+use Rattle.snl_views.specs.Runners.{IsBoxedRunner, IsFreshRunner}
 use Rattle.snl_views.proofs.Answered.{accepted, refused}
 use Rattle.snl_views.proofs.Answered.{tree_of}
-use Rattle.snl_views.proofs.readying.ready_of.Goals as goal
+use Rattle.snl_views.proofs.launching.runner_of.Goals as goal
 
 -- it has no error
 pub returns : goal.returns
@@ -24,12 +23,10 @@ returns c =
     let first = c.in-Some.checked in
     let some : found.checked ≡ Some first = cc in
     let under = subst (λ (o : Option (Box Checked Global)). IfSome o (λ k. k.value.options ≡ options_in_force (program_view k.value.program) given)) some c.in_ok-messages.ensures.options in
-    let program = c.in_ok-program.program in
-    let made : IsChartedProgram first.value macros budget program =
-    subst (λ (t : List ℕ). IsChartedProgram first.value t budget program) c.macros_of-macros.ensures c.in_ok-program.ensures in
-    let right : IsReady macros budget (program_view first.value.program) first.value.options program =
-    record { machine = made.prepared.machine; waits = made.prepared.waits; shape = made.chart } in
-    accepted (IsReady macros budget) given word source found.messages.items (Some program) found.checked first program some judged under right refl
+    let runner = c.in_ok-runner.runner in
+    let made : IsFreshRunner first.value macros budget runner.value =
+    subst (λ (t : List ℕ). IsFreshRunner first.value t budget runner.value) c.macros_of-macros.ensures c.in_ok-runner.ensures in
+    accepted (IsBoxedRunner macros budget) given word source found.messages.items (Some runner) found.checked first runner some judged under made refl
 
 -- it has an error
 pub returns-in_default : goal.returns-in_default
@@ -42,4 +39,4 @@ returns-in_default c =
     let judged : IsJudged given word source found.messages.items (tree_of found.checked) =
     subst (λ (w : List ℕ). IsJudged given w source found.messages.items (tree_of found.checked)) c.as_bytes.ensures.value c.in_ok-messages.ensures.judged in
     let none : found.checked ≡ None = cc in
-    refused (IsReady macros c.args.job.now.budget) given word source found.messages.items None found.checked none judged refl
+    refused (IsBoxedRunner macros c.args.job.now.budget) given word source found.messages.items None found.checked none judged refl
