@@ -1,7 +1,7 @@
 -- The column behind one more byte.
 use Rattle.std.proofs.Common.{◌≡◌, ℕ, ◌+◌, ◌==◌, suc, Bool, true, false, List, slice_index, if◌then◌else◌, refl, sym, ap, ◌∙◌, arith, add-one}
 use Rattle.std.proofs.lemmas.Bool.Decides.{nat_tests}
-use Rattle.snl_lints.specs.Lines.{column_at}
+use Rattle.snl_lints.specs.Columns.{column_at}
 
 -- numbers that are tested equal
 same_number : (n k : ℕ) → (n == k) ≡ true → n ≡ k

@@ -10,7 +10,8 @@ use Rattle.snl_syntax.specs.Programs.{to_state, StateTree, StateSetTree, Program
 use Rattle.snl_lints.specs.declared.remarks.Lint.{Lint}
 use Rattle.snl_lints.specs.declared.remarks.Lint.TheVariants as lint
 use Rattle.snl_lints.specs.Lints.{remarks_of}
-use Rattle.snl_lints.specs.Lines.{column_of, line_of}
+use Rattle.snl_lints.specs.Columns.{column_of}
+use Rattle.snl_lints.specs.Lines.{line_of}
 
 -- ---- pieces
 
@@ -172,4 +173,5 @@ pub record ColumnExamples : Type 0 where
   pub behind_two : column_of (codes "ab\nc") 2 ≡ 3
   pub on_second_line : column_of (codes "ab\nc") 3 ≡ 1
   pub at_end : column_of (codes "ab\nc") 4 ≡ 2
+  pub past_end : column_of (codes "ab\nc") 9 ≡ 2
   pub line : line_of (codes "int x;") [] (codes "p.st") (record { lint = lint.Unput; token = x 4 }) ≡ codes "p.st:1:5: warning: 'x' is set and never put [unput]\n"

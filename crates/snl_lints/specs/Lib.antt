@@ -1,4 +1,5 @@
 pub mod Apart
+pub mod Columns
 pub mod Doers
 pub mod Examples
 pub mod Facts

@@ -1,9 +1,10 @@
 -- The text of remarks: a line for each, `FILE:LINE:COLUMN: warning: TEXT [NAME]`.
-use Rattle.std.specs.Prelude.{ℕ, zero, suc, ◌-◌, ◌==◌, Bool, ◌||◌, List, [], ◌∷◌, ◌++◌, Option, None, Some, length, take, slice_index, slice_index_or, bytes_eq, if◌then◌else◌, codes, decimal}
+use Rattle.std.specs.Prelude.{ℕ, ◌-◌, ◌==◌, Bool, ◌||◌, List, [], ◌∷◌, ◌++◌, Option, None, Some, slice_index_or, bytes_eq, if◌then◌else◌, codes, decimal}
 use Rattle.std.specs.List.{concat, flat_map, list_any}
 use Rattle.snl_lints.specs.declared.remarks.Lint.{Lint}
 use Rattle.snl_lints.specs.declared.remarks.Lint.TheVariants.{Itself, Shared, Stale, Unread, Unput, Equals, Comma, Answered}
 use Rattle.snl_lints.specs.declared.remarks.Remark.{Remark}
+use Rattle.snl_lints.specs.Columns.{column_of}
 
 -- ---- names and words
 
@@ -46,15 +47,6 @@ words_of Comma = codes "' in a condition: what stands before it decides nothing;
 words_of Answered = codes "' is never put with ASYNC, so pvPutComplete is always 1"
 
 -- ---- places
-
--- The column of the place behind so many bytes of a text: 1 at its start and behind a newline, and one more behind any other byte.
-abbrev pub column_at : List ℕ → ℕ → ℕ
-column_at text zero = 1
-column_at text (suc k) = if slice_index text k == 10 then 1 else suc (column_at text k)
-
--- The column of an offset, in bytes from 1 on.
-abbrev pub column_of : List ℕ → ℕ → ℕ
-column_of source offset = column_at (take offset source) (length (take offset source))
 
 -- What a file is called: the one that was read by the word of the call, and one that markers named, from 1 on, by its name.
 abbrev pub file_name : List ℕ → List (List ℕ) → ℕ → List ℕ

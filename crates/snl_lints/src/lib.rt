@@ -1,6 +1,7 @@
 //! Lints: what a program does that is no error, and that is seldom meant.
 #![tactic(auto)]
 
+mod columns;
 mod doers;
 mod expressions;
 mod facts;
@@ -12,5 +13,6 @@ mod statements;
 mod tables;
 mod touches;
 
-pub use lines::{Text, lines_of, lint_named};
+pub use columns::{Counted, column_at};
+pub use lines::{Text, file_name, is_silenced, lines_of, lint_named, name_of, words_of};
 pub use remarks::{Lint, Remark, remarks_of};

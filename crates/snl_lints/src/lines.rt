@@ -1,9 +1,11 @@
 //! The text of remarks: a line for each.
 
-ghost use Rattle.std.specs.Prelude.{◌≡◌, [], ◌∷◌, ◌++◌, map, take, length, OnOk, IfOk, codes, decimal, string_bytes};
+ghost use Rattle.std.specs.Prelude.{◌≡◌, [], ◌∷◌, ◌++◌, map, OnOk, IfOk, codes, decimal, string_bytes};
 ghost use Rattle.std.specs.List.{concat};
+ghost use Rattle.snl_lints.specs.Columns.{IsCounted};
 ghost use Rattle.snl_lints.specs.Lines as spec;
 
+use crate::columns::{Counted, column_at};
 use crate::remarks::{Lint, Remark};
 use itoa::Buffer;
 use std::alloc::{AllocError, Global};
@@ -54,7 +56,7 @@ pub fn lint_named(name: &[u8]) -> Option<Lint>
 }
 
 /// The name of a lint.
-fn name_of(lint: Lint) -> &'static [u8]
+pub fn name_of(lint: Lint) -> &'static [u8]
     ensures { result.now ≡ spec.name_of lint }
 {
     match lint {
@@ -70,7 +72,7 @@ fn name_of(lint: Lint) -> &'static [u8]
 }
 
 /// What a remark says behind the token that it quotes.
-fn words_of(lint: Lint) -> &'static [u8]
+pub fn words_of(lint: Lint) -> &'static [u8]
     ensures { result.now ≡ spec.words_of lint }
 {
     match lint {
@@ -91,8 +93,8 @@ fn words_of(lint: Lint) -> &'static [u8]
     }
 }
 
-/// What a file is called.
-fn file_name<'t>(text: Text<'t, 't>, file: usize) -> &'t [u8]
+/// What a file is called, by its number: 0 is the file that was read.
+pub fn file_name<'t>(text: Text<'t, 't>, file: usize) -> &'t [u8]
     ensures { result.now ≡ spec.file_name text.entry.file.now (map
         (λ name. name.now) text.entry.marked.now) file }
 {
@@ -103,39 +105,6 @@ fn file_name<'t>(text: Text<'t, 't>, file: usize) -> &'t [u8]
         Some(name) => name,
         None => text.file,
     }
-}
-
-/// At most so many of the first bytes.
-fn front(source: &[u8], count: usize) -> &[u8]
-    ensures { result.now ≡ take count source.now }
-{
-    if count < source.len() {
-        &source[..count]
-    } else {
-        source
-    }
-}
-
-/// The column of the end of a text.
-#[tactic(auto, using(crate::proofs::ColumnLaws::column_newline, crate::proofs::ColumnLaws::column_more))]
-fn end_column(text: &[u8]) -> usize
-    ensures { result ≡ spec.column_at text.now (length text.now) }
-{
-    let mut column = 1;
-    for at in (0..text.len()).rev() {
-        if text[at] == b'\n' {
-            return column;
-        }
-        column += 1;
-    }
-    column
-}
-
-/// The column of an offset, in bytes from 1 on.
-fn column_of(source: &[u8], offset: usize) -> usize
-    ensures { result ≡ spec.column_of source.now offset }
-{
-    end_column(front(source, offset))
 }
 
 /// Adds pieces, one behind the other.
@@ -180,16 +149,23 @@ fn push_words<'t>(out: &mut Vec<u8>, words: &'t [u8], name: &'t [u8]) -> Result<
     push_all(out, &[words, b" [", name, b"]\n"])
 }
 
-/// Adds the line of a remark.
-fn push_line(out: &mut Vec<u8>, text: Text, remark: &Remark) -> Result<(), AllocError>
-    ensures { OnOk result (out.new.items ≡ out.old.items
+/// Adds the line of a remark, whose column is counted from a place on, mostly that of the remark before.
+fn push_line(
+    out: &mut Vec<u8>,
+    text: Text,
+    counted: &mut Counted,
+    remark: &Remark,
+) -> Result<(), AllocError>
+    requires { IsCounted text.source.now counted.old }
+    ensures counted { IsCounted text.entry.source.now counted.new }
+    ensures line { OnOk result (out.new.items ≡ out.old.items
         ++ spec.line_of text.entry.source.now (map (λ name. name.now) text.entry.marked.now)
         text.entry.file.now remark.now) }
 {
     let pos = remark.token.pos;
     let file = file_name(text, pos.file);
-    let column = column_of(text.source, pos.offset);
-    push_place(out, file, pos.line, column, remark.token.text)?;
+    *counted = column_at(text.source, *counted, pos.offset);
+    push_place(out, file, pos.line, counted.column, remark.token.text)?;
     push_words(out, words_of(remark.lint), name_of(remark.lint))
 }
 
@@ -231,8 +207,8 @@ fn is_line_among(
     Ok(is_among(names, word.as_slice()))
 }
 
-/// Whether what a lint says on a line is silenced, by the name of the lint or by `NAME=LINE`.
-fn is_silenced(
+/// Whether what a lint says on a line is silenced, by the name of the lint or by `NAME=LINE`. The only error is that memory ends.
+pub fn is_silenced(
     alloc: Global,
     silenced: &[String],
     lint: Lint,
@@ -255,16 +231,19 @@ fn push_unless(
     out: &mut Vec<u8>,
     silenced: &[String],
     text: Text,
+    counted: &mut Counted,
     remark: &Remark,
 ) -> Result<(), AllocError>
-    ensures { OnOk result (out.new.items ≡ out.old.items
+    requires { IsCounted text.source.now counted.old }
+    ensures counted { IsCounted text.entry.source.now counted.new }
+    ensures line { OnOk result (out.new.items ≡ out.old.items
         ++ spec.line_unless (map string_bytes silenced.now) text.entry.source.now
         (map (λ name. name.now) text.entry.marked.now) text.entry.file.now remark.now) }
 {
     if is_silenced(alloc, silenced, remark.lint, remark.token.pos.line)? {
         Ok(())
     } else {
-        push_line(out, text, remark)
+        push_line(out, text, counted, remark)
     }
 }
 
@@ -280,8 +259,9 @@ fn push_lines(
         ++ spec.remarks_text (map string_bytes silenced.now) text.entry.source.now
         (map (λ name. name.now) text.entry.marked.now) text.entry.file.now remarks.now) }
 {
+    let mut counted = Counted::start();
     for remark in remarks {
-        push_unless(alloc, out, silenced, text, remark)?;
+        push_unless(alloc, out, silenced, text, &mut counted, remark)?;
     }
     Ok(())
 }
