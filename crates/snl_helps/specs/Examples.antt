@@ -32,6 +32,7 @@ pub record LineExamples : Type 0 where
 -- A call of each group, names, and some of which nothing is known.
 pub record NameExamples : Type 0 where
   pub text : call_help_at (codes "strcpy") ≡ Some (codes "no texts: a number with a legend, as x = 1; /* open */")
+  pub reading : call_help_at (codes "sscanf") ≡ Some (codes "no texts: a channel that brings the number itself")
   pub channel : call_help_at (codes "pvSeverity") ≡ Some (codes "a channel of its own, NAME.SEVR, with a monitor: 0 to 3")
   pub number : call_help_at (codes "epicsThreadSleep") ≡ Some (codes "a state of its own, and when (delay(SECONDS))")
   pub other_call : call_help_at (codes "half") ≡ None

@@ -23,6 +23,17 @@ channel_help name =
     else (if bytes_eq name (codes "pvSync") then Some (codes "a definition: sync NAME to FLAG;")
     else (if bytes_eq name (codes "macValueGet") then Some (codes "a macro stands in the names of channels alone: {NAME}") else number_help name))))))
 
+-- Of a function that reads or measures texts, else as above.
+abbrev pub reading_help : List ℕ → Option (List ℕ)
+reading_help name =
+    if bytes_eq name (codes "sscanf") then Some (codes "no texts: a channel that brings the number itself")
+    else (if bytes_eq name (codes "atoi") then Some (codes "no texts: a channel that brings the number itself")
+    else (if bytes_eq name (codes "atof") then Some (codes "no texts: a channel that brings the number itself")
+    else (if bytes_eq name (codes "strlen") then Some (codes "no texts: a number with a legend, as 0 for an empty one")
+    else (if bytes_eq name (codes "strcat") then Some (codes "no texts: printf the numbers themselves")
+    else (if bytes_eq name (codes "snprintf") then Some (codes "no texts: printf the numbers themselves")
+    else (if bytes_eq name (codes "memset") then Some (codes "a while, or an assignment for each element") else channel_help name))))))
+
 -- What helps at a call of a function with this name that is not known, where something is: first of a function of texts, else as above.
 abbrev pub call_help_at : List ℕ → Option (List ℕ)
 call_help_at name =
@@ -32,7 +43,7 @@ call_help_at name =
     else (if bytes_eq name (codes "strncmp") then Some (codes "no texts: compare the numbers that stand for them")
     else (if bytes_eq name (codes "sprintf") then Some (codes "no texts: printf the numbers themselves")
     else (if bytes_eq name (codes "seqLog") then Some (codes "printf, which writes a line of its own")
-    else (if bytes_eq name (codes "errlogPrintf") then Some (codes "printf, which writes a line of its own") else channel_help name))))))
+    else (if bytes_eq name (codes "errlogPrintf") then Some (codes "printf, which writes a line of its own") else reading_help name))))))
 
 -- What helps at a name that is not declared, where something is known: of a constant of C or of the sequencer.
 abbrev pub name_help_at : List ℕ → Option (List ℕ)

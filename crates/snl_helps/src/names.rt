@@ -50,6 +50,29 @@ fn channel_help(name: &[u8]) -> Option<&'static [u8]>
     }
 }
 
+/// Of a function that reads or measures texts, else of the others.
+fn reading_help(name: &[u8]) -> Option<&'static [u8]>
+    ensures { option_map (λ help. help.now) result ≡ spec.reading_help name.now }
+{
+    if name == b"sscanf".as_slice() {
+        Some(b"no texts: a channel that brings the number itself")
+    } else if name == b"atoi".as_slice() {
+        Some(b"no texts: a channel that brings the number itself")
+    } else if name == b"atof".as_slice() {
+        Some(b"no texts: a channel that brings the number itself")
+    } else if name == b"strlen".as_slice() {
+        Some(b"no texts: a number with a legend, as 0 for an empty one")
+    } else if name == b"strcat".as_slice() {
+        Some(b"no texts: printf the numbers themselves")
+    } else if name == b"snprintf".as_slice() {
+        Some(b"no texts: printf the numbers themselves")
+    } else if name == b"memset".as_slice() {
+        Some(b"a while, or an assignment for each element")
+    } else {
+        channel_help(name)
+    }
+}
+
 /// What helps at a call of a function that is not known (docs/MESSAGES.md, E16), by its name; none where nothing is known.
 pub fn call_help_at(name: &[u8]) -> Option<&'static [u8]>
     ensures { option_map (λ help. help.now) result ≡ spec.call_help_at name.now }
@@ -69,7 +92,7 @@ pub fn call_help_at(name: &[u8]) -> Option<&'static [u8]>
     } else if name == b"errlogPrintf".as_slice() {
         Some(b"printf, which writes a line of its own")
     } else {
-        channel_help(name)
+        reading_help(name)
     }
 }
 
