@@ -1,0 +1,2 @@
+" scripts/editors makes this file.
+autocmd BufRead,BufNewFile *.st setfiletype snl
