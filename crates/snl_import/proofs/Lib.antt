@@ -1,2 +1,4 @@
+pub mod CommentLaws
 pub mod LineLaws
 pub mod TraceLaws
+pub mod WrittenLaws

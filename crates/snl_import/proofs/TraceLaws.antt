@@ -1,5 +1,5 @@
 -- Laws of texts that are traces.
-use Rattle.std.proofs.Common.{◌≡◌, ◌==◌, ◌&&◌, ◌≤◌, ◌+◌, ◌<◌, ℕ, zero, suc, Bool, true, false, List, [], ◌∷◌, ◌++◌, Option, None, Some, Result, Ok, Err, nat_lt, length, refl, sym, ap, ◌∙◌, subst, arith, append_assoc, append-nil, inl, inr, if◌then◌else◌}
+use Rattle.std.proofs.Common.{◌≡◌, ◌==◌, ◌&&◌, ◌≤◌, ◌+◌, ◌<◌, ℕ, zero, suc, Bool, true, false, not, List, [], ◌∷◌, ◌++◌, Option, None, Some, Result, Ok, Err, nat_lt, length, refl, sym, ap, ◌∙◌, subst, arith, append_assoc, append-nil, inl, inr, if◌then◌else◌}
 use Rattle.std.specs.List.{list_all}
 use Rattle.std.proofs.lemmas.Bool.{and_parts, true≢false, ne_eqb, cases_Bool}
 use Rattle.snl_output.specs.TraceLines.{lines_to, whole_lines, without_return}
@@ -10,12 +10,13 @@ use Rattle.snl_trace.specs.declared.trace_faults.TraceFault.TheVariants.{NotAsci
 use Rattle.snl_written.specs.Events.{IsEventLine}
 use Rattle.snl_import.specs.declared.happenings.Happening.{Happening}
 use Rattle.snl_import.specs.declared.happenings.Happening.TheVariants as happenings
+use Rattle.snl_import.specs.Comments.{is_within}
 use Rattle.snl_import.specs.Trace.{Heard, told_by, value_count, heard_then, hears, rest_from, AreEvents, EventsGoOn}
 
 -- ---- lines
 
 -- the lines of a text that goes on
-lines-append : (begun xs ys : List ℕ) → lines_to (λ _. []) begun (xs ++ ys) ≡ lines_to (λ _. []) begun xs ++ lines_to (λ _. []) (rest_from begun xs) ys
+pub lines-append : (begun xs ys : List ℕ) → lines_to (λ _. []) begun (xs ++ ys) ≡ lines_to (λ _. []) begun xs ++ lines_to (λ _. []) (rest_from begun xs) ys
 unfolding lines_to
 lines-append begun [] ys = refl
 lines-append begun (x ∷ xs) ys = elim (cases_Bool (x == 10)) [
@@ -24,26 +25,22 @@ lines-append begun (x ∷ xs) ys = elim (cases_Bool (x == 10)) [
 ]
 
 -- what is left of it
-rest-append : (begun xs ys : List ℕ) → rest_from begun (xs ++ ys) ≡ rest_from (rest_from begun xs) ys
+pub rest-append : (begun xs ys : List ℕ) → rest_from begun (xs ++ ys) ≡ rest_from (rest_from begun xs) ys
 rest-append begun [] ys = refl
 rest-append begun (x ∷ xs) ys = elim (cases_Bool (x == 10)) [
   | inl ends ↦ rw ends (rest-append [] xs ys)
   | inr other ↦ rw other (rest-append (begun ++ x ∷ []) xs ys)
 ]
 
--- no byte of a line is a newline
-abbrev is_within : ℕ → Bool
-is_within byte = if byte == 10 then false else true
-
 -- such a byte is none
 within-other : (b : ℕ) → is_within b ≡ true → (b == 10) ≡ false
 within-other b within = elim (cases_Bool (b == 10)) [
-  | inl ends ↦ absurd (let none : false ≡ true = sym (ap (λ (c : Bool). if c then false else true) ends) ∙ within in cc)
+  | inl ends ↦ absurd (let none : false ≡ true = sym (ap not ends) ∙ within in cc)
   | inr other ↦ other
 ]
 
 -- a line and its newline
-line-whole : (begun line : List ℕ) → list_all is_within line ≡ true → lines_to (λ _. []) begun (line ++ 10 ∷ []) ≡ (begun ++ line) ∷ []
+pub line-whole : (begun line : List ℕ) → list_all is_within line ≡ true → lines_to (λ _. []) begun (line ++ 10 ∷ []) ≡ (begun ++ line) ∷ []
 unfolding lines_to
 line-whole begun [] none = ap (λ z. z ∷ []) (sym (append-nil begun))
 line-whole begun (x ∷ xs) none =
@@ -51,7 +48,7 @@ line-whole begun (x ∷ xs) none =
     rw (within-other x parts.0) (line-whole (begun ++ x ∷ []) xs parts.1 ∙ ap (λ z. z ∷ []) (append_assoc begun (x ∷ []) xs))
 
 -- nothing is left behind it
-line-rest : (begun line : List ℕ) → list_all is_within line ≡ true → rest_from begun (line ++ 10 ∷ []) ≡ []
+pub line-rest : (begun line : List ℕ) → list_all is_within line ≡ true → rest_from begun (line ++ 10 ∷ []) ≡ []
 line-rest begun [] none = refl
 line-rest begun (x ∷ xs) none =
     let parts = and_parts (is_within x) (list_all is_within xs) none in
@@ -105,7 +102,7 @@ then-append (Ok None) from others more mid to is go = absurd (cc)
 then-append (Ok (Some event)) from others more mid to is go = go (event.0, from.1 + value_count event.1) is
 
 -- behind lines others are heard as from there on
-hears-append : (from : Heard) (ls ms : List (List ℕ)) (mid : Heard) → hears from ls ≡ Some mid → hears from (ls ++ ms) ≡ hears mid ms
+pub hears-append : (from : Heard) (ls ms : List (List ℕ)) (mid : Heard) → hears from ls ≡ Some mid → hears from (ls ++ ms) ≡ hears mid ms
 hears-append from [] ms mid is = let same : from ≡ mid = cc in ap (λ h. hears h ms) same
 hears-append from (l ∷ ls) ms mid is =
     then-append (told_of from.0 l) from (λ h. hears h ls) (λ h. hears h (ls ++ ms)) mid (hears mid ms) is (λ h same. hears-append h ls ms mid same)

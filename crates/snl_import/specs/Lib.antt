@@ -1,3 +1,5 @@
+pub mod Comments
 pub mod Counts
 pub mod Opening
 pub mod Trace
+pub mod Written

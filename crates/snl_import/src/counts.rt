@@ -13,6 +13,8 @@ pub enum Left {
     NoValue(Cause),
     /// No line of a trace can have its name or its time, or as many values.
     Unfit,
+    /// It was not the last one of its channel before the trace begins.
+    Early,
 }
 
 /// How many values were left out, by their causes.
@@ -28,6 +30,8 @@ pub struct LeftOut {
     pub empty: u64,
     /// Those that no line of a trace can have.
     pub unfit: u64,
+    /// Those before the trace begins that were not the last ones of their channels.
+    pub early: u64,
 }
 
 impl LeftOut {
@@ -43,6 +47,7 @@ impl LeftOut {
             Left::NoValue(Cause::NoNumber) => all.no_number += 1,
             Left::NoValue(Cause::Empty) => all.empty += 1,
             Left::Unfit => all.unfit += 1,
+            Left::Early => all.early += 1,
         }
         all
     }
@@ -85,6 +90,7 @@ impl Counts {
                 no_number: 0,
                 empty: 0,
                 unfit: 0,
+                early: 0,
             },
         }
     }

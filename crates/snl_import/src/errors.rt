@@ -2,6 +2,7 @@
 
 ghost use Rattle.std.specs.Prelude.{◌≡◌, ◌+◌, IfOk};
 
+use snl_output::SinkFault;
 use std::alloc::{AllocError, AllocFailed};
 use thiserror::Error;
 
@@ -17,6 +18,9 @@ pub enum ImportError {
     /// A log cannot be read on: the number of it, from 0 on.
     #[error("a log cannot be read")]
     Unreadable(usize),
+    /// What was written could not be handed on.
+    #[error("the trace cannot be written")]
+    Unwritable,
 }
 
 impl From<AllocError> for ImportError {
@@ -36,6 +40,16 @@ impl<T: Drop> From<AllocFailed<T>> for ImportError {
 
     fn from(_: AllocFailed<T>) -> Self {
         ImportError::Memory
+    }
+}
+
+impl From<SinkFault> for ImportError {
+    ghost use Rattle.snl_import.specs.declared.errors.ImportError.TheVariants.{Unwritable};
+
+    ghost from_gives = { λ _ error. error ≡ Unwritable };
+
+    fn from(_: SinkFault) -> Self {
+        ImportError::Unwritable
     }
 }
 

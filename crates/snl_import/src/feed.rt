@@ -1,44 +1,158 @@
 //! A log on its way: its next line, and when that is.
 
-ghost use Rattle.std.specs.Prelude.{◌≡◌, ◌+◌, ◌<◌, IfOk, IfSome, length, if◌then◌else◌};
+ghost use Rattle.std.specs.Prelude.{◌≡◌, ◌+◌, ◌<◌, IfOk, IfSome, OnOk, length, if◌then◌else◌};
 
 use crate::errors::ImportError;
 use crate::importer::Importer;
+use crate::misreads::Misreads;
+use crate::opening::Opening;
 use snl_logs::{Log, LogLine};
 use std::alloc::{AllocError, Global};
-use std::io::{self, BufRead};
+use std::io::{self, BufRead, ErrorKind, Read};
+use std::mem;
+
+/// How many bytes of a line are read; no line of a trace is made of a longer one.
+const LINE: u64 = 1_048_576;
+
+/// How many lines of a log are read at most to see where the trace begins.
+const FRONT: usize = 65_536;
 
 /// A log on its way: its next line, and when that is.
 #[derive(Drop)]
 pub struct Feed<R: BufRead> {
     input: R,
+    /// How its file is called.
+    file: Vec<u8>,
     log: Log,
-    /// The next line; empty at the end.
+    /// The lines that were read to see where the trace begins, and how many of them were the next one since.
+    front: Vec<Vec<u8>>,
+    passed: usize,
+    /// The next line; empty at the end. It has the number `number`, from 1 on.
     line: Vec<u8>,
+    number: u64,
     /// When it is: no line is before one in front of it.
     time: u64,
+    /// By how many nanoseconds its times are moved.
+    shift: i64,
+    misreads: Misreads,
+    /// Whether a sample of it had a number.
+    has_number: bool,
+}
+
+/// The channel that a file is named after: its name without the folder and without what stands behind its last point.
+fn channel_of(file: &[u8]) -> &[u8] {
+    let name = match file.iter().rposition(|byte| *byte == b'/') {
+        Some(place) => &file[place + 1..],
+        None => file,
+    };
+    match name.iter().rposition(|byte| *byte == b'.') {
+        Some(place) => &name[..place],
+        None => name,
+    }
+}
+
+/// Whether a line was cut off where no more of it is read.
+fn is_cut(line: &[u8]) -> bool {
+    line.len() as u64 >= LINE && line.last() != Some(&b'\n')
+}
+
+/// Reads the next line, with its newline. At the end it is empty.
+fn read_line<R: BufRead>(input: &mut R, line: &mut Vec<u8>) -> io::Result<()> {
+    line.clear();
+    input.by_ref().take(LINE).read_until(b'\n', line)?;
+    if is_cut(line.as_slice()) {
+        input.skip_until(b'\n')?;
+    }
+    Ok(())
+}
+
+/// What a line of a log says whose times are moved by so many nanoseconds.
+fn said_by<'l>(log: &'l Log, line: &'l [u8], shift: i64) -> LogLine<'l> {
+    if is_cut(line) {
+        LogLine::Unknown
+    } else {
+        log.said(line).moved(shift)
+    }
 }
 
 impl<R: BufRead + Drop> Feed<R> {
-    /// A log of which no line was read yet. Where its lines name no channel, they are of this one.
-    pub fn new(alloc: Global, input: R, channel: &[u8]) -> Result<Feed<R>, AllocError> {
+    /// A log of which no line was read yet, by the name of its file. Where its lines name no channel, they are of the one that the file
+    /// is named after. Its times are moved by so many nanoseconds.
+    pub fn new(alloc: Global, input: R, file: &[u8], shift: i64) -> Result<Feed<R>, AllocError> {
         Ok(Feed {
             input,
-            log: Log::new(alloc, channel)?,
+            file: Vec::from_slice(alloc, file)?,
+            log: Log::new(alloc, channel_of(file))?,
+            front: Vec::new(alloc),
+            passed: 0,
             line: Vec::new(alloc),
+            number: 0,
             time: 0,
+            shift,
+            misreads: Misreads::new(alloc),
+            has_number: false,
         })
     }
 
-    /// Reads the next line. At the end of the log it is empty.
+    /// How its file is called.
+    pub fn file(&self) -> &[u8] {
+        self.file.as_slice()
+    }
+
+    /// The lines that were not understood.
+    pub fn misreads(&self) -> &Misreads {
+        &self.misreads
+    }
+
+    /// Whether a sample of it had a number.
+    pub fn has_number(&self) -> bool {
+        self.has_number
+    }
+
+    /// Reads ahead, before the first line is taken, to see where the trace begins.
+    pub fn look(&mut self, alloc: Global, opening: &mut Opening) -> io::Result<()> {
+        for _ in 0..FRONT {
+            if opening.is_over() || !self.look_on(alloc, opening)? {
+                break;
+            }
+        }
+        self.log = Log::new(alloc, channel_of(self.file.as_slice()))?;
+        Ok(())
+    }
+
+    /// Reads a line ahead. Answers whether there was one.
+    fn look_on(&mut self, alloc: Global, opening: &mut Opening) -> io::Result<bool> {
+        let mut line = Vec::new(alloc);
+        read_line(&mut self.input, &mut line)?;
+        if line.is_empty() {
+            return Ok(false);
+        }
+        self.log.note(alloc, line.as_slice())?;
+        opening.look(alloc, &said_by(&self.log, line.as_slice(), self.shift))?;
+        self.front.push(line).map_err(|_| AllocError)?;
+        Ok(true)
+    }
+
+    /// Goes on to the next line. At the end of the log it is empty.
     pub fn advance(&mut self, alloc: Global) -> io::Result<()> {
-        self.line.clear();
-        self.input.read_until(b'\n', &mut self.line)?;
+        self.next_line()?;
+        self.number = self.number.saturating_add(1);
         self.log.note(alloc, self.line.as_slice())?;
-        if let Some(time) = self.log.said(self.line.as_slice()).time() {
+        if let Some(time) = self.said().time() {
             self.time = self.time.max(time);
         }
         Ok(())
+    }
+
+    /// Puts the next line in its place.
+    fn next_line(&mut self) -> io::Result<()> {
+        if let Some(line) = self.front.get_mut(self.passed) {
+            self.passed += 1;
+            mem::swap(&mut self.line, line);
+            line.clear();
+            return Ok(());
+        }
+        read_line(&mut self.input, &mut self.line)
     }
 
     /// Whether the log has ended.
@@ -48,12 +162,34 @@ impl<R: BufRead + Drop> Feed<R> {
 
     /// What the next line says.
     pub fn said(&self) -> LogLine {
-        self.log.said(self.line.as_slice())
+        said_by(&self.log, self.line.as_slice(), self.shift)
     }
 
     /// When the next line is, in nanoseconds.
     pub fn time(&self) -> u64 {
         self.time
+    }
+
+    /// Notes what became of the next line: whether it was understood, and whether a sample of it had a number.
+    fn note(
+        &mut self,
+        alloc: Global,
+        is_understood: bool,
+        has_number: bool,
+    ) -> Result<(), AllocError> {
+        self.has_number = self.has_number || has_number;
+        if is_understood {
+            return Ok(());
+        }
+        self.misreads.add(alloc, self.number, self.line.as_slice())
+    }
+}
+
+/// Why a log cannot be read on.
+pub fn fault_of(error: io::Error, place: usize) -> ImportError {
+    match error.kind() {
+        ErrorKind::OutOfMemory => ImportError::Memory,
+        _ => ImportError::Unreadable(place),
     }
 }
 
@@ -70,22 +206,47 @@ pub fn next_of<R: BufRead + Drop>(feeds: &[Feed<R>]) -> Option<usize>
     next.map(|(place, _)| place)
 }
 
-/// Takes in the next line of several logs, the earliest first. Answers whether there was one: at the end of all logs there is none.
+/// Takes in what the next line of a log says.
+fn take_line<R: BufRead + Drop>(
+    alloc: Global,
+    feed: &mut Feed<R>,
+    importer: &mut Importer,
+) -> Result<(), ImportError>
+    ensures lines { OnOk result (importer.new.counts.lines ≡ importer.old.counts.lines + 1) }
+    ensures first { importer.new.recorder.first ≡ importer.old.recorder.first }
+    ensures before { importer.new.recorder.before ≡ importer.old.recorder.before }
+{
+    let numbers = importer.numbers();
+    let line = feed.said();
+    let is_understood = !matches!(line, LogLine::Unknown);
+    importer.take(line)?;
+    feed.note(alloc, is_understood, importer.numbers() > numbers)?;
+    Ok(())
+}
+
+/// Takes in the next line of several logs, the earliest first, up to a time. Answers whether there was one: at the end of all logs, or
+/// behind that time, there is none.
 pub fn take_next<R: BufRead + Drop>(
     alloc: Global,
     feeds: &mut [Feed<R>],
+    until: u64,
     importer: &mut Importer,
 ) -> Result<bool, ImportError>
     ensures lines { IfOk result (λ is_one. importer.new.counts.lines
         ≡ importer.old.counts.lines + (if is_one then 1 else 0)) }
+    ensures first { importer.new.recorder.first ≡ importer.old.recorder.first }
+    ensures before { importer.new.recorder.before ≡ importer.old.recorder.before }
 {
     let Some(place) = next_of(feeds) else {
         return Ok(false);
     };
     let feed = &mut feeds[place];
-    importer.take(feed.said())?;
-    if feed.advance(alloc).is_err() {
-        return Err(ImportError::Unreadable(place));
+    if feed.time() > until {
+        return Ok(false);
     }
-    Ok(true)
+    take_line(alloc, feed, importer)?;
+    match feed.advance(alloc) {
+        Ok(()) => Ok(true),
+        Err(error) => Err(fault_of(error, place)),
+    }
 }

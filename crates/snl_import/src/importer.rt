@@ -1,5 +1,8 @@
 //! What logs say of channels, written as a trace.
 
+mod beginning;
+mod beside;
+
 ghost use Rattle.std.specs.Prelude.{◌≡◌, ◌+◌, OnOk};
 ghost use Rattle.snl_import.specs.Trace.{AreEvents};
 
@@ -9,10 +12,25 @@ use crate::errors::ImportError;
 use crate::happenings::Happening;
 use crate::recorder::Recorder;
 use snl_logs::{Cause, LogLine, Row, Said, Sample, Severity, Stamp, Values};
-use std::alloc::{AllocError, Global};
+use std::alloc::Global;
 
 /// Nanoseconds of a millisecond.
 const MILLISECOND: u64 = 1_000_000;
+
+/// Nanoseconds of a second.
+const SECOND: u64 = 1_000_000_000;
+
+/// How many milliseconds a time may be before that of the line in front of it, and nothing is told.
+const USUAL: u64 = 10_000;
+
+/// Where a trace begins.
+#[derive(Clone, Copy, Debug, PartialEq, Eq)]
+pub struct Begin {
+    /// The time of 0 ms, in the nanoseconds of the logs.
+    pub time: u64,
+    /// Whether of what comes before it only the last value of each channel is written. Else all of that stands at 0 ms.
+    pub is_cut: bool,
+}
 
 /// What logs say of channels, written as a trace. Whatever the lines of the logs are, each was understood or is counted, each of their
 /// values is one `val` line or is counted as left out, and what was written are events that a run takes.
@@ -24,16 +42,24 @@ pub struct Importer {
     channels: Channels,
     /// The values of the sample that is written.
     values: Values,
-    /// The time of 0 ms, in the nanoseconds of the logs.
-    begin: u64,
-    /// Whether alarms are written, as channels `NAME.SEVR`.
-    tells_severity: bool,
+    /// The number of what is told beside it: an alarm, a time.
+    beside: Values,
+    begin: Begin,
+    /// Whether the trace has not begun: values are held until it does.
+    is_holding: bool,
+    /// The second of the clock that was told last, where the clock is told.
+    second: Option<u64>,
+    /// How many samples had numbers.
+    numbers: u64,
+    /// How many times were more than some seconds before that of the line in front, and by how many milliseconds at most.
+    late: u64,
+    latest: u64,
     ghost agree: { counts.written ≡ recorder.written },
 }
 
 impl Importer {
-    /// Nothing was read. 0 ms is a time of the logs, in nanoseconds. Alarms are written where that is asked for.
-    pub fn new(alloc: Global, begin: u64, tells_severity: bool) -> Importer
+    /// Nothing was read. What is known of channels is theirs when the trace begins.
+    pub fn new(alloc: Global, channels: Channels, begin: Begin) -> Importer
         ensures first { result.recorder.first ≡ 0 }
         ensures before { result.recorder.before ≡ 0 }
         ensures lines { result.counts.lines ≡ 0 }
@@ -42,16 +68,23 @@ impl Importer {
             alloc,
             recorder: Recorder::new(alloc),
             counts: Counts::new(),
-            channels: Channels::new(alloc),
+            channels,
             values: Values::new(alloc),
+            beside: Values::new(alloc),
             begin,
-            tells_severity,
+            is_holding: true,
+            second: None,
+            numbers: 0,
+            late: 0,
+            latest: 0,
         }
     }
 
     /// Takes in a line of a log: what it says is written. An error leaves it counted, or not; what was written stays a trace.
     pub fn take(&mut self, line: LogLine) -> Result<(), ImportError>
         ensures lines { OnOk result (self.new.counts.lines ≡ self.old.counts.lines + 1) }
+        ensures first { self.new.recorder.first ≡ self.old.recorder.first }
+        ensures before { self.new.recorder.before ≡ self.old.recorder.before }
     {
         match line {
             LogLine::Sample(sample) => {
@@ -73,33 +106,36 @@ impl Importer {
         }
     }
 
-    /// The values of a channel are multiplied by a power of ten.
-    pub fn set_scale(&mut self, name: &[u8], scale: i64) -> Result<(), ImportError>
-        ensures counts { self.new.counts ≡ self.old.counts }
-    {
-        self.channels.set_scale(self.alloc, name, scale)?;
-        Ok(())
-    }
-
-    /// A text of a channel stands for a number.
-    pub fn set_word(&mut self, name: &[u8], text: &[u8], value: i64) -> Result<(), ImportError>
-        ensures counts { self.new.counts ≡ self.old.counts }
-    {
-        self.channels.set_word(self.alloc, name, text, value)?;
-        Ok(())
-    }
-
     /// A time in the milliseconds of the trace. One that the log does not tell is that of the event before.
     fn ms_of(&self, stamp: Stamp) -> u64 {
         match stamp {
-            Stamp::At(nanos) => nanos.saturating_sub(self.begin) / MILLISECOND,
+            Stamp::At(nanos) => nanos.saturating_sub(self.begin.time) / MILLISECOND,
             Stamp::Untold => 0,
+        }
+    }
+
+    /// Notes a time that is far before that of the event in front.
+    fn note_late(&mut self, stamp: Stamp)
+        ensures counts { self.new.counts ≡ self.old.counts }
+        ensures first { self.new.recorder.first ≡ self.old.recorder.first }
+        ensures before { self.new.recorder.before ≡ self.old.recorder.before }
+    {
+        let Stamp::At(nanos) = stamp else {
+            return;
+        };
+        let last = self.recorder.last().saturating_mul(MILLISECOND);
+        let late = self.begin.time.saturating_add(last).saturating_sub(nanos) / MILLISECOND;
+        if late > USUAL {
+            self.late = self.late.saturating_add(1);
+            self.latest = self.latest.max(late);
         }
     }
 
     /// Writes what a line of a table says.
     fn write_row(&mut self, row: Row) -> Result<(), ImportError>
         ensures lines { self.new.counts.lines ≡ self.old.counts.lines }
+        ensures first { self.new.recorder.first ≡ self.old.recorder.first }
+        ensures before { self.new.recorder.before ≡ self.old.recorder.before }
     {
         let mut row = row;
         while let Some(cell) = row.next_cell() {
@@ -113,104 +149,110 @@ impl Importer {
     /// Writes what a sample says.
     fn write_sample(&mut self, sample: &Sample) -> Result<(), ImportError>
         ensures lines { self.new.counts.lines ≡ self.old.counts.lines }
+        ensures first { self.new.recorder.first ≡ self.old.recorder.first }
+        ensures before { self.new.recorder.before ≡ self.old.recorder.before }
     {
-        let ms = self.ms_of(sample.stamp);
+        if self.is_holding && self.is_begun_by(sample.stamp) {
+            self.begin()?;
+        }
         match sample.said {
-            Said::Lost => self.write_lost(ms, sample.name),
-            Said::Value(text, severity) => {
-                self.write_state(ms, sample.name, severity)?;
-                self.write_text(ms, sample.name, text)
-            }
-            Said::Items(text, severity) => {
-                self.write_state(ms, sample.name, severity)?;
-                self.write_items(ms, sample.name, text)
-            }
+            Said::Lost => self.write_lost(sample),
+            Said::Value(_, severity) | Said::Items(_, severity) => self.write_said(
+                sample, severity,
+            ),
         }
     }
 
-    /// The channel of a name is connected, and has an alarm or none: that is written, where it is new.
-    fn write_state(&mut self, ms: u64, name: &[u8], severity: Severity) -> Result<(), ImportError>
+    /// Whether the trace begins at a time, or before.
+    fn is_begun_by(&self, stamp: Stamp) -> bool {
+        match stamp {
+            Stamp::At(time) => !self.begin.is_cut || time >= self.begin.time,
+            Stamp::Untold => !self.begin.is_cut,
+        }
+    }
+
+    /// The channel of a sample is not connected: that is written, if it was.
+    fn write_lost(&mut self, sample: &Sample) -> Result<(), ImportError>
         ensures lines { self.new.counts.lines ≡ self.old.counts.lines }
+        ensures first { self.new.recorder.first ≡ self.old.recorder.first }
+        ensures before { self.new.recorder.before ≡ self.old.recorder.before }
     {
-        self.write_up(ms, name)?;
-        if self.tells_severity && self.channels.set_severity(self.alloc, name, severity)? {
-            let name = with_suffix(self.alloc, name)?;
-            self.write_up(ms, name.as_slice())?;
-            self.write_severity(ms, name.as_slice(), severity)?;
+        let Some(channel) = self.channels.channel(self.alloc, sample.name)? else {
+            return Ok(());
+        };
+        let losses = channel.lose();
+        if self.is_holding {
+            return Ok(());
+        }
+        let ms = self.ms_of(sample.stamp);
+        self.write_clock(ms)?;
+        if losses.was_up {
+            self.recorder.add(ms, sample.name, Happening::Down)?;
+        }
+        self.write_losses(ms, sample.name, losses)
+    }
+
+    /// Writes what a sample says that has a value, or holds that until the trace begins.
+    fn write_said(&mut self, sample: &Sample, severity: Severity) -> Result<(), ImportError>
+        ensures lines { self.new.counts.lines ≡ self.old.counts.lines }
+        ensures first { self.new.recorder.first ≡ self.old.recorder.first }
+        ensures before { self.new.recorder.before ≡ self.old.recorder.before }
+    {
+        let Some(channel) = self.channels.channel(self.alloc, sample.name)? else {
+            return self.leave(Left::Unfit);
+        };
+        let news = channel.take(self.alloc, &sample.said, severity, &mut self.values)?;
+        self.numbers = self.numbers.saturating_add(u64::from(news.why.is_none()));
+        if self.is_holding {
+            return self.hold(sample.name, news.why);
+        }
+        if !news.is_up {
+            self.note_late(sample.stamp);
+        }
+        let ms = self.ms_of(sample.stamp);
+        self.write_clock(ms)?;
+        self.write_state(ms, sample.name, news)?;
+        if news.tells_time {
+            self.write_time(ms, sample.name, sample.stamp)?;
+        }
+        match news.why {
+            Some(cause) => self.leave(Left::NoValue(cause)),
+            None => self.write_values(ms, sample.name),
+        }
+    }
+
+    /// Holds the values that were read until the trace begins, or counts why there are none.
+    fn hold(&mut self, name: &[u8], why: Option<Cause>) -> Result<(), ImportError>
+        ensures lines { self.new.counts.lines ≡ self.old.counts.lines }
+        ensures first { self.new.recorder.first ≡ self.old.recorder.first }
+        ensures before { self.new.recorder.before ≡ self.old.recorder.before }
+    {
+        if let Some(cause) = why {
+            return self.leave(Left::NoValue(cause));
+        }
+        let Some(channel) = self.channels.channel(self.alloc, name)? else {
+            return self.leave(Left::Unfit);
+        };
+        if channel.hold(self.alloc, self.values.as_slice())? {
+            return self.leave(Left::Early);
         }
         Ok(())
     }
 
-    /// Writes an alarm, as the value of a channel.
-    fn write_severity(
-        &mut self,
-        ms: u64,
-        name: &[u8],
-        severity: Severity,
-    ) -> Result<(), ImportError>
+    /// Counts a value that is left out.
+    fn leave(&mut self, left: Left) -> Result<(), ImportError>
         ensures lines { self.new.counts.lines ≡ self.old.counts.lines }
+        ensures recorder { self.new.recorder ≡ self.old.recorder }
     {
-        self.values.clear();
-        self.values.push(number_of(severity))?;
-        self.write_values(ms, name)
-    }
-
-    /// The channel of a name is not connected: that is written, if it was.
-    fn write_lost(&mut self, ms: u64, name: &[u8]) -> Result<(), ImportError>
-        ensures lines { self.new.counts.lines ≡ self.old.counts.lines }
-    {
-        if self.channels.set_up(self.alloc, name, false)? {
-            self.recorder.add(ms, name, Happening::Down)?;
-        }
+        self.counts = self.counts.with_left(left)?;
         Ok(())
-    }
-
-    /// The channel of a name is connected: that is written, if it was not.
-    fn write_up(&mut self, ms: u64, name: &[u8]) -> Result<(), ImportError>
-        ensures lines { self.new.counts.lines ≡ self.old.counts.lines }
-    {
-        if self.channels.set_up(self.alloc, name, true)? {
-            self.recorder.add(ms, name, Happening::Up)?;
-        }
-        Ok(())
-    }
-
-    /// Writes a value as a text spells it, or counts that it was left out.
-    fn write_text(&mut self, ms: u64, name: &[u8], text: &[u8]) -> Result<(), ImportError>
-        ensures lines { self.new.counts.lines ≡ self.old.counts.lines }
-    {
-        let why = self
-            .channels
-            .read(self.alloc, name, text, &mut self.values)?;
-        self.write_read(ms, name, why)
-    }
-
-    /// The same of values with commas between them.
-    fn write_items(&mut self, ms: u64, name: &[u8], text: &[u8]) -> Result<(), ImportError>
-        ensures lines { self.new.counts.lines ≡ self.old.counts.lines }
-    {
-        let why = self
-            .channels
-            .read_items(self.alloc, name, text, &mut self.values)?;
-        self.write_read(ms, name, why)
-    }
-
-    /// Writes the values that were read, or counts why there are none.
-    fn write_read(&mut self, ms: u64, name: &[u8], why: Option<Cause>) -> Result<(), ImportError>
-        ensures lines { self.new.counts.lines ≡ self.old.counts.lines }
-    {
-        match why {
-            Some(cause) => {
-                self.counts = self.counts.with_left(Left::NoValue(cause))?;
-                Ok(())
-            }
-            None => self.write_values(ms, name),
-        }
     }
 
     /// Writes the values that were read, or counts that they were left out.
     fn write_values(&mut self, ms: u64, name: &[u8]) -> Result<(), ImportError>
         ensures lines { self.new.counts.lines ≡ self.old.counts.lines }
+        ensures first { self.new.recorder.first ≡ self.old.recorder.first }
+        ensures before { self.new.recorder.before ≡ self.old.recorder.before }
     {
         let written = self.counts.with_written()?;
         let left = self.counts.with_left(Left::Unfit)?;
@@ -225,7 +267,8 @@ impl Importer {
 
     /// What was written since the text was taken the last time: events that a run takes.
     pub fn text(&self) -> &[u8]
-        ensures { AreEvents (self.now.recorder.first, self.now.recorder.before) result.now
+        ensures value { result.now ≡ self.now.recorder.text.items }
+        ensures events { AreEvents (self.now.recorder.first, self.now.recorder.before) result.now
             (self.now.recorder.last, self.now.counts.written) }
     {
         self.recorder.text()
@@ -236,6 +279,7 @@ impl Importer {
         ensures counts { self.new.counts ≡ self.old.counts }
         ensures first { self.new.recorder.first ≡ self.old.recorder.last }
         ensures before { self.new.recorder.before ≡ self.old.counts.written }
+        ensures last { self.new.recorder.last ≡ self.old.recorder.last }
     {
         self.recorder.clear();
     }
@@ -251,21 +295,21 @@ impl Importer {
     {
         self.counts
     }
-}
 
-/// The number of an alarm.
-fn number_of(severity: Severity) -> i64 {
-    match severity {
-        Severity::None => 0,
-        Severity::Minor => 1,
-        Severity::Major => 2,
-        Severity::Invalid => 3,
+    /// The time of the last event, in milliseconds.
+    pub fn last(&self) -> u64
+        ensures { result ≡ self.now.recorder.last }
+    {
+        self.recorder.last()
     }
-}
 
-/// The name of the channel of an alarm.
-fn with_suffix(alloc: Global, name: &[u8]) -> Result<Vec<u8>, AllocError> {
-    let mut suffixed = Vec::from_slice(alloc, name)?;
-    suffixed.extend_from_slice(b".SEVR")?;
-    Ok(suffixed)
+    /// How many samples had numbers.
+    pub fn numbers(&self) -> u64 {
+        self.numbers
+    }
+
+    /// How many times were far before that of the line in front, and by how many milliseconds at most.
+    pub fn lateness(&self) -> (u64, u64) {
+        (self.late, self.latest)
+    }
 }

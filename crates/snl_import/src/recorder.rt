@@ -69,9 +69,17 @@ impl Recorder {
         Ok(true)
     }
 
+    /// The time of the last event.
+    pub fn last(&self) -> u64
+        ensures { result ≡ self.now.last }
+    {
+        self.last
+    }
+
     /// What was written since it was taken the last time: whole lines, each an event.
     pub fn text(&self) -> &[u8]
-        ensures { AreEvents (self.now.first, self.now.before) result.now
+        ensures value { result.now ≡ self.now.text.items }
+        ensures events { AreEvents (self.now.first, self.now.before) result.now
             (self.now.last, self.now.written) }
     {
         self.text.as_slice()

@@ -1,8 +1,14 @@
-//! What a user is told of channels: what was rounded, and which texts stand for no number.
+//! What a user is told of logs: lines that were not understood, what was rounded, what has no number, and how many of each.
 
 use crate::channels::{Channel, Channels};
+use crate::counts::{Counts, LeftOut};
+use crate::feed::Feed;
+use crate::importer::Importer;
+use crate::misreads::{Misread, Misreads};
+use crate::preface::hexadecimal;
 use itoa::Buffer;
 use std::alloc::{AllocError, Global};
+use std::io::BufRead;
 
 /// Adds pieces to a text.
 fn push_all(text: &mut Vec<u8>, pieces: &[&[u8]]) -> Result<(), AllocError> {
@@ -12,38 +18,45 @@ fn push_all(text: &mut Vec<u8>, pieces: &[&[u8]]) -> Result<(), AllocError> {
     Ok(())
 }
 
+/// Adds the bytes of a log, with `\xNN` in the place of each that does something to a terminal.
+fn push_shown(text: &mut Vec<u8>, bytes: &[u8]) -> Result<(), AllocError> {
+    for byte in bytes {
+        if byte.is_ascii_control() {
+            let (high, low) = (hexadecimal(*byte >> 4), hexadecimal(*byte & 15));
+            push_all(text, &[b"\\x", &[high, low]])?;
+        } else {
+            text.push(*byte)?;
+        }
+    }
+    Ok(())
+}
+
+/// Adds a number.
+fn push_number(text: &mut Vec<u8>, number: u64) -> Result<(), AllocError> {
+    let mut digits = Buffer::new();
+    text.extend_from_slice(digits.format(number).as_bytes())
+}
+
 /// Adds a line on the values of a channel that were rounded.
 fn push_rounded(text: &mut Vec<u8>, name: &[u8], rounded: u64) -> Result<(), AllocError> {
-    let mut digits = Buffer::new();
-    let count = digits.format(rounded).as_bytes();
-    push_all(
-        text,
-        &[
-            name,
-            b": ",
-            count,
-            b" values were rounded; --scale ",
-            name,
-            b"=K keeps K digits behind the point\n",
-        ],
-    )
+    push_shown(text, name)?;
+    push_all(text, &[b": rounded: "])?;
+    push_number(text, rounded)?;
+    push_all(text, &[b"; --scale "])?;
+    push_shown(text, name)?;
+    push_all(text, &[b"=K keeps K digits behind the point\n"])
 }
 
 /// Adds a line on a text of a channel that stands for no number.
 fn push_unknown(text: &mut Vec<u8>, name: &[u8], unknown: &[u8]) -> Result<(), AllocError> {
-    push_all(
-        text,
-        &[
-            name,
-            b": '",
-            unknown,
-            b"' stands for no number; --enum '",
-            name,
-            b"=",
-            unknown,
-            b":N' gives it one\n",
-        ],
-    )
+    push_shown(text, name)?;
+    push_all(text, &[b": no number: "])?;
+    push_shown(text, unknown)?;
+    push_all(text, &[b"; --enum '"])?;
+    push_shown(text, name)?;
+    push_all(text, &[b"="])?;
+    push_shown(text, unknown)?;
+    push_all(text, &[b":N' gives it one\n"])
 }
 
 /// Adds what there is to tell of a channel.
@@ -57,11 +70,118 @@ fn push_channel(text: &mut Vec<u8>, name: &[u8], channel: &Channel) -> Result<()
     }
 }
 
-/// What a user is told of channels, a line each: how many values were rounded, and the first text that stands for no number.
-pub fn notes_of(alloc: Global, channels: &Channels) -> Result<Vec<u8>, AllocError> {
-    let mut text = Vec::new(alloc);
+/// Adds what there is to tell of channels: how many values were rounded, and the first text that stands for no number.
+fn push_channels(text: &mut Vec<u8>, channels: &Channels) -> Result<(), AllocError> {
     for (name, channel) in channels.by_name().iter() {
-        push_channel(&mut text, name.as_slice(), channel)?;
+        push_channel(text, name.as_slice(), channel)?;
     }
+    Ok(())
+}
+
+/// Adds a line that was not understood.
+fn push_misread(text: &mut Vec<u8>, file: &[u8], misread: &Misread) -> Result<(), AllocError> {
+    push_shown(text, file)?;
+    push_all(text, &[b":"])?;
+    push_number(text, misread.number)?;
+    push_all(text, &[b": not understood: "])?;
+    push_shown(text, misread.shown())?;
+    push_all(text, &[b"\n"])
+}
+
+/// Adds the first lines of a log that were not understood.
+fn push_misreads(text: &mut Vec<u8>, file: &[u8], misreads: &Misreads) -> Result<(), AllocError> {
+    for misread in &misreads.first {
+        push_misread(text, file, misread)?;
+    }
+    Ok(())
+}
+
+/// Adds what there is to tell of a log.
+fn push_feed<R: BufRead + Drop>(text: &mut Vec<u8>, feed: &Feed<R>) -> Result<(), AllocError> {
+    push_misreads(text, feed.file(), feed.misreads())?;
+    let more = feed.misreads().more();
+    if more > 0 {
+        push_shown(text, feed.file())?;
+        push_all(text, &[b": not understood: "])?;
+        push_number(text, more)?;
+        push_all(text, &[b" more\n"])?;
+    }
+    if feed.has_number() {
+        return Ok(());
+    }
+    push_shown(text, feed.file())?;
+    push_all(text, &[b": no value was read\n"])
+}
+
+/// Adds what there is to tell of logs.
+fn push_feeds<R: BufRead + Drop>(text: &mut Vec<u8>, feeds: &[Feed<R>]) -> Result<(), AllocError> {
+    for feed in feeds {
+        push_feed(text, feed)?;
+    }
+    Ok(())
+}
+
+/// Adds a line on times that go back.
+fn push_late(text: &mut Vec<u8>, late: u64, latest: u64) -> Result<(), AllocError> {
+    if late == 0 {
+        return Ok(());
+    }
+    push_all(text, &[b"times that go back by more than 10 s: "])?;
+    push_number(text, late)?;
+    push_all(text, &[b", by up to "])?;
+    push_number(text, latest / 1000)?;
+    push_all(
+        text,
+        &[b" s; each stands at the time of the line in front\n"],
+    )
+}
+
+/// Adds a count with what is counted, behind a comma.
+fn push_count(text: &mut Vec<u8>, count: u64, what: &[u8]) -> Result<(), AllocError> {
+    if count == 0 {
+        return Ok(());
+    }
+    push_all(text, &[b", "])?;
+    push_number(text, count)?;
+    push_all(text, &[b" ", what])
+}
+
+/// Adds how many values were left out, by their causes.
+fn push_left(text: &mut Vec<u8>, left: &LeftOut) -> Result<(), AllocError> {
+    push_count(text, left.no_number, b"without a number")?;
+    push_count(text, left.not_finite, b"nan or infinite")?;
+    push_count(text, left.too_large, b"beyond 64 bits")?;
+    push_count(text, left.empty, b"empty")?;
+    push_count(text, left.unfit, b"that no line of a trace can have")?;
+    push_count(text, left.early, b"before --from")
+}
+
+/// Adds the last line: how many lines were read, and how many values were written and left out.
+fn push_sums(text: &mut Vec<u8>, counts: &Counts) -> Result<(), AllocError> {
+    push_all(text, &[b"lines: "])?;
+    push_number(text, counts.lines)?;
+    push_count(text, counts.unknown, b"not understood")?;
+    push_all(text, &[b"; values: "])?;
+    push_number(text, counts.values)?;
+    push_all(text, &[b", "])?;
+    push_number(text, counts.written)?;
+    push_all(text, &[b" written"])?;
+    push_left(text, &counts.left)?;
+    push_all(text, &[b"\n"])
+}
+
+/// What a user is told of logs, as lines: what was not understood, which log had no value, what was rounded, which texts stand for no
+/// number, and last how many lines were read and how many values were written and left out.
+pub fn notes_of<R: BufRead + Drop>(
+    alloc: Global,
+    importer: &Importer,
+    feeds: &[Feed<R>],
+) -> Result<Vec<u8>, AllocError> {
+    let mut text = Vec::new(alloc);
+    push_feeds(&mut text, feeds)?;
+    push_channels(&mut text, importer.channels())?;
+    let (late, latest) = importer.lateness();
+    push_late(&mut text, late, latest)?;
+    push_sums(&mut text, &importer.counts())?;
     Ok(text)
 }

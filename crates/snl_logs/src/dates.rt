@@ -67,3 +67,30 @@ pub fn day_of(year: u64, month: u64, day: u64) -> Option<u64>
     }
     Some(days_before_year(year) - 719_162 + days_before_month(year, month) + day - 1)
 }
+
+/// The month and the day in it of a day of a year, from 0 on.
+fn month_of(year: u64, day: u64) -> (u64, u64) {
+    let mut left = day;
+    for month in 1..12u64 {
+        let days = days_in(year, month);
+        if left < days {
+            return (month, left.saturating_add(1));
+        }
+        left -= days;
+    }
+    (12, left.saturating_add(1))
+}
+
+/// The year, the month and the day of a day behind 1 January 1970; None behind the year 2500.
+pub fn date_of(days: u64) -> Option<(u64, u64, u64)> {
+    let mut left = days;
+    for year in 1970..2501u64 {
+        let size = if is_leap(year) { 366 } else { 365 };
+        if left < size {
+            let (month, day) = month_of(year, left);
+            return Some((year, month, day));
+        }
+        left -= size;
+    }
+    None
+}

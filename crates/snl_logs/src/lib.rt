@@ -5,6 +5,7 @@
 
 mod archive;
 mod camonitor;
+mod clock;
 mod dates;
 mod export;
 mod fields;
@@ -13,9 +14,12 @@ mod json;
 pub mod laws;
 mod log;
 mod numbers;
+mod patterns;
 mod places;
+mod ratios;
 mod rows;
 mod samples;
+mod scales;
 mod severities;
 mod stamps;
 mod table;
@@ -23,11 +27,15 @@ mod texts;
 mod units;
 mod values;
 
+pub use clock::time_text;
 pub use held::Values;
 pub use log::{Form, Log};
 pub use numbers::number_of;
+pub use patterns::Pattern;
 pub use places::Scaled;
 pub use rows::Row;
 pub use samples::{Cause, LogLine, Said, Sample, Severity, Stamp};
-pub use units::Units;
+pub use scales::Scale;
+pub use stamps::moment_of;
+pub use units::{Units, Word};
 pub use values::{Read, items_of, values_of};

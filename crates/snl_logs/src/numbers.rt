@@ -1,7 +1,9 @@
 //! The numbers that a log spells.
 
 use crate::places::{Scaled, moved};
+use crate::ratios::multiplied;
 use crate::samples::Cause;
+use crate::scales::Scale;
 use crate::texts::{digits_of, spelled};
 use itoa::Buffer;
 
@@ -85,20 +87,36 @@ fn exponent_of(text: &[u8]) -> Result<i64, Cause> {
     }
 }
 
-/// The decimal number of a word behind its sign, its point moved to the right.
-fn decimal(is_negative: bool, word: &[u8], right: i64) -> Result<Scaled, Cause> {
+/// The number that digits in front of a point and behind it spell times a power of ten, in the scale of a channel.
+fn scaled(
+    is_negative: bool,
+    whole: &[u8],
+    fraction: &[u8],
+    exponent: i64,
+    scale: Scale,
+) -> Result<Scaled, Cause> {
+    let right = scale.power.saturating_add(exponent);
+    if scale.is_power() {
+        moved(is_negative, whole, fraction, right)
+    } else {
+        multiplied(is_negative, whole, fraction, right, scale)
+    }
+}
+
+/// The decimal number of a word behind its sign, in the scale of a channel.
+fn decimal(is_negative: bool, word: &[u8], scale: Scale) -> Result<Scaled, Cause> {
     let (whole, behind) = digits_of(word);
     let (fraction, behind) = fraction_of(behind);
     if whole.is_empty() && fraction.is_empty() {
         return Err(Cause::NoNumber);
     }
     let exponent = exponent_of(behind)?;
-    moved(is_negative, whole, fraction, right.saturating_add(exponent))
+    scaled(is_negative, whole, fraction, exponent, scale)
 }
 
-/// The number of a word times a power of ten, as a whole number: halves go away from 0. A decimal number may have a sign, a point and
-/// an exponent; `0x`, `0o` and `0b` name a base.
-pub fn number_of(word: &[u8], scale: i64) -> Result<Scaled, Cause> {
+/// The number of a word in the scale of a channel, as a whole number: halves go away from 0. A decimal number may have a sign, a point
+/// and an exponent; `0x`, `0o` and `0b` name a base.
+pub fn number_of(word: &[u8], scale: Scale) -> Result<Scaled, Cause> {
     let (is_negative, bare) = sign_of(word);
     if is_not_finite(bare) {
         return Err(Cause::NotFinite);
@@ -107,7 +125,8 @@ pub fn number_of(word: &[u8], scale: i64) -> Result<Scaled, Cause> {
         Some((base, digits)) => {
             let mut room = Buffer::new();
             let number = number_in(base, digits)?;
-            moved(is_negative, room.format(number).as_bytes(), b"", scale)
+            let digits = room.format(number).as_bytes();
+            scaled(is_negative, digits, b"", 0, scale)
         }
         None => decimal(is_negative, bare, scale),
     }

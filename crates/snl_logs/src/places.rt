@@ -119,7 +119,7 @@ fn are_zeros(digits: &[u8]) -> bool {
 }
 
 /// A size with its sign, if it fits 64 bits.
-fn signed(size: u64, is_negative: bool) -> Option<i64>
+pub fn signed(size: u64, is_negative: bool) -> Option<i64>
     ensures { result ≡ spec.signed is_negative size }
 {
     if is_negative {

@@ -28,6 +28,14 @@ impl<'l> Row<'l> {
         }
     }
 
+    /// The same row by another clock, so many nanoseconds later or earlier.
+    pub fn moved(self, nanos: i64) -> Row<'l> {
+        Row {
+            stamp: self.stamp.moved(nanos),
+            ..self
+        }
+    }
+
     /// When.
     pub fn stamp(&self) -> Stamp {
         self.stamp

@@ -11,6 +11,16 @@ pub enum Stamp {
     Untold,
 }
 
+impl Stamp {
+    /// The same time by another clock, so many nanoseconds later or earlier.
+    pub fn moved(self, nanos: i64) -> Stamp {
+        match self {
+            Stamp::At(time) => Stamp::At(time.saturating_add_signed(nanos)),
+            Stamp::Untold => Stamp::Untold,
+        }
+    }
+}
+
 /// How severe an alarm is.
 #[derive(Clone, Copy, Debug, PartialEq, Eq)]
 pub enum Severity {
@@ -59,7 +69,19 @@ pub enum LogLine<'l> {
     Unknown,
 }
 
-impl LogLine<'_> {
+impl<'l> LogLine<'l> {
+    /// The same line by another clock, so many nanoseconds later or earlier.
+    pub fn moved(self, nanos: i64) -> LogLine<'l> {
+        match self {
+            LogLine::Sample(sample) => LogLine::Sample(Sample {
+                stamp: sample.stamp.moved(nanos),
+                ..sample
+            }),
+            LogLine::Row(row) => LogLine::Row(row.moved(nanos)),
+            LogLine::Silent | LogLine::Unknown => self,
+        }
+    }
+
     /// When what it says happened, in nanoseconds, if it tells that.
     pub fn time(&self) -> Option<u64> {
         let stamp = match self {

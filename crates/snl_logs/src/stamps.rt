@@ -165,3 +165,21 @@ pub fn time_of(text: &[u8]) -> Option<u64> {
         _ => None,
     }
 }
+
+/// The time that a word of a call is: a date and a time of day, seconds since 1970, or with a `+` seconds since a log begins that tells no
+/// date.
+pub fn moment_of(word: &[u8]) -> Option<u64> {
+    match word {
+        [b'+', behind @ ..] => match seconds(behind)? {
+            (nanos, b"") => RELATIVE.checked_add(nanos),
+            _ => None,
+        },
+        _ => time_of(word),
+    }
+}
+
+/// Whether a time is of a log that tells no date: these count from a time in September 2001, some months at most to
+/// each side.
+pub fn is_relative(time: u64) -> bool {
+    time.abs_diff(RELATIVE) < 10_000_000 * SECOND
+}

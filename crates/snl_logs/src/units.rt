@@ -1,19 +1,25 @@
 //! In which unit a channel is told, and which numbers its texts stand for.
 
+use crate::patterns::Pattern;
+use crate::scales::Scale;
 use std::alloc::{AllocError, Global};
 
 /// A text of a channel, and the number that it stands for.
 #[derive(Drop)]
-struct Word {
-    text: Vec<u8>,
-    value: i64,
+pub struct Word {
+    /// The text.
+    pub text: Vec<u8>,
+    /// The number.
+    pub value: i64,
 }
 
 /// In which unit a channel is told, and which numbers its texts stand for.
 #[derive(Drop)]
 pub struct Units {
-    /// The power of ten that its values are multiplied by.
-    pub scale: i64,
+    /// What its values are multiplied by.
+    pub scale: Scale,
+    /// The form of the texts that are 1; all others are 0.
+    pub pattern: Option<Pattern>,
     words: Vec<Word>,
 }
 
@@ -21,7 +27,8 @@ impl Units {
     /// Values as they are, and no texts.
     pub fn new(alloc: Global) -> Units {
         Units {
-            scale: 0,
+            scale: Scale::of_power(0),
+            pattern: None,
             words: Vec::new(alloc),
         }
     }
@@ -33,8 +40,16 @@ impl Units {
         Ok(())
     }
 
+    /// The texts that stand for numbers, in their order.
+    pub fn words(&self) -> &[Word] {
+        self.words.as_slice()
+    }
+
     /// The number that a text stands for.
     pub fn value_of(&self, text: &[u8]) -> Option<i64> {
+        if let Some(pattern) = &self.pattern {
+            return Some(i64::from(pattern.matches(text)));
+        }
         for word in &self.words {
             if word.text.as_slice() == text {
                 return Some(word.value);

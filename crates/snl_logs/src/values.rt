@@ -5,6 +5,7 @@ use crate::held::Values;
 use crate::numbers::number_of;
 use crate::places::Scaled;
 use crate::samples::Cause;
+use crate::scales::Scale;
 use crate::texts::{spelled, trimmed_start, word_of};
 use crate::units::Units;
 use std::alloc::AllocError;
@@ -31,7 +32,7 @@ pub fn values_of(text: &[u8], units: &Units, values: &mut Values) -> Result<Read
 }
 
 /// The value of a word.
-fn one_value(word: &[u8], scale: i64, values: &mut Values) -> Result<Read, AllocError> {
+fn one_value(word: &[u8], scale: Scale, values: &mut Values) -> Result<Read, AllocError> {
     match number_of(word, scale) {
         Ok(Scaled { value, is_cut }) => {
             values.push(value)?;
@@ -45,7 +46,7 @@ fn one_value(word: &[u8], scale: i64, values: &mut Values) -> Result<Read, Alloc
 fn array_values(
     count: &[u8],
     text: &[u8],
-    scale: i64,
+    scale: Scale,
     values: &mut Values,
 ) -> Result<Read, AllocError> {
     let Some(count) = spelled(count) else {
