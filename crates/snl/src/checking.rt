@@ -1,12 +1,24 @@
 //! `snl check`.
 
-use crate::asked::Asked;
+use crate::noting::{in_front, notes_on};
 use snc::{Judgement, Status, judged};
 use snc_cli::write;
-use snl_args::{Call, CheckWords};
-use snl_check::Checked;
+use snl_args::{CheckWords, Format};
+use snl_check::{Checked, Options};
 use snl_lints::{Text, lines_of, lint_named, remarks_of};
+use snl_notes::objects_of;
 use std::alloc::{AllocError, Global};
+
+/// A source, what its file is called, and the options of the call.
+#[derive(Clone, Copy)]
+pub struct Piece<'c> {
+    /// The bytes of the file.
+    pub source: &'c [u8],
+    /// The word that names it.
+    pub file: &'c [u8],
+    /// The options of the language that the call gives.
+    pub options: Options,
+}
 
 /// What lints remark on. A function that owns a whole checked program is dear to prove; one that owns a value of a type parameter is not.
 trait Remarked {
@@ -14,7 +26,7 @@ trait Remarked {
     fn remark_lines(
         &self,
         alloc: Global,
-        silenced: &[String],
+        words: &CheckWords,
         source: &[u8],
         file: &[u8],
     ) -> Result<Vec<u8>, AllocError>;
@@ -24,7 +36,7 @@ impl<'a> Remarked for Checked<'a> {
     fn remark_lines(
         &self,
         alloc: Global,
-        silenced: &[String],
+        words: &CheckWords,
         source: &[u8],
         file: &[u8],
     ) -> Result<Vec<u8>, AllocError> {
@@ -35,7 +47,11 @@ impl<'a> Remarked for Checked<'a> {
             file,
             marked: program.files.as_slice(),
         };
-        lines_of(alloc, silenced, text, remarks.as_slice())
+        let silenced = words.silenced.as_slice();
+        match words.format {
+            Format::Json => objects_of(alloc, silenced, text, remarks.as_slice()),
+            Format::Text | Format::Gcc => lines_of(alloc, silenced, text, remarks.as_slice()),
+        }
     }
 }
 
@@ -66,10 +82,7 @@ fn tell_unknown(rt: &HostRuntime, name: &str) {
 }
 
 /// Sees that each name of `--no-lint` is one of a lint. Where one is not, standard error tells which there are.
-pub fn check_lints(rt: &HostRuntime, call: &Call) -> Result<(), Status> {
-    let Some(words) = &call.check else {
-        return Ok(());
-    };
+pub fn check_lints(rt: &HostRuntime, words: &CheckWords) -> Result<(), Status> {
     match first_unknown(words.silenced.as_slice()) {
         Some(name) => {
             tell_unknown(rt, name);
@@ -82,17 +95,19 @@ pub fn check_lints(rt: &HostRuntime, call: &Call) -> Result<(), Status> {
 /// Writes the messages and the lines of the lints.
 fn told_remarks<T: Remarked + Drop>(
     rt: &HostRuntime,
-    asked: Asked,
+    piece: Piece,
     words: &CheckWords,
     messages: &[u8],
     checked: Box<T>,
 ) -> Status {
-    let silenced = words.silenced.as_slice();
-    let file = asked.call.job.file.as_bytes();
-    let Ok(lines) = checked.remark_lines(rt.alloc(), silenced, asked.source, file) else {
+    let Ok(lines) = checked.remark_lines(rt.alloc(), words, piece.source, piece.file) else {
         return Status::Memory;
     };
-    if write(rt, messages).is_err() || write(rt, lines.as_slice()).is_err() {
+    let status = told_messages(rt, piece, words.format, messages);
+    if status != Status::Well {
+        return status;
+    }
+    if write(rt, lines.as_slice()).is_err() {
         return Status::InputOutput;
     }
     if words.is_strict && !lines.is_empty() {
@@ -102,29 +117,36 @@ fn told_remarks<T: Remarked + Drop>(
     }
 }
 
-/// Writes the messages alone, about a program that has an error.
-fn told_messages(rt: &HostRuntime, messages: &[u8]) -> Status {
-    match write(rt, messages) {
-        Ok(()) => Status::SourceErrors,
-        Err(_) => Status::InputOutput,
+/// Writes the messages, and a note on each behind them.
+fn told_messages(rt: &HostRuntime, piece: Piece, format: Format, messages: &[u8]) -> Status {
+    let Ok(notes) = notes_on(rt, piece, format, messages) else {
+        return Status::Memory;
+    };
+    if write(rt, in_front(format, messages)).is_ok() && write(rt, notes.as_slice()).is_ok() {
+        Status::Well
+    } else {
+        Status::InputOutput
     }
 }
 
-/// `snl check`: writes what `snc` tells of a program, and behind it what lints remark, where no message is an error.
-pub fn answered_check(
-    rt: &HostRuntime,
-    asked: Asked,
-    words: &CheckWords,
-) -> Result<Status, Status> {
-    let job = &asked.call.job;
-    match judged(rt.alloc(), asked.source, job.file.as_bytes(), job.options) {
+/// The same of a program that has an error.
+fn told_errors(rt: &HostRuntime, piece: Piece, format: Format, messages: &[u8]) -> Status {
+    match told_messages(rt, piece, format, messages) {
+        Status::Well => Status::SourceErrors,
+        failed => failed,
+    }
+}
+
+/// Writes what `snc` tells of a program, behind it a note on each message, and what lints remark, where no message is an error.
+pub fn answered_check(rt: &HostRuntime, piece: Piece, words: &CheckWords) -> Status {
+    match judged(rt.alloc(), piece.source, piece.file, piece.options) {
         Ok(Judgement { messages, checked }) => {
             let messages = messages.as_slice();
-            Ok(match checked {
-                Some(checked) => told_remarks(rt, asked, words, messages, checked),
-                None => told_messages(rt, messages),
-            })
+            match checked {
+                Some(checked) => told_remarks(rt, piece, words, messages, checked),
+                None => told_errors(rt, piece, words.format, messages),
+            }
         }
-        Err(_) => Err(Status::Memory),
+        Err(_) => Status::Memory,
     }
 }

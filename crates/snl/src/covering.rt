@@ -8,19 +8,15 @@ use crate::overhearing::bad_line_text;
 use crate::traces::TraceFile;
 use snc::{Status, status_of};
 use snc_cli::{tell, write};
-use snl_args::Call;
+use snl_args::CoverWords;
 use snl_trace::{End, Source};
-use snl_views::{CoverAnswer, Coverage, Covered, Overheard, cover, coverage_text, gaps_of};
+use snl_views::{Coverage, Overheard, Runner, RunnerAnswer, coverage_text, gaps_of, runner_of};
 use snl_watch::Nowhere;
 use std::alloc::AllocError;
 
-/// What came of the traces so far.
+/// How the runs over the traces so far ended.
 #[derive(Drop)]
 struct Total {
-    /// The messages about the source; each run finds the same.
-    messages: Vec<u8>,
-    /// What the runs showed; None before the first.
-    coverage: Option<Coverage>,
     /// The lines about bad lines of traces.
     bad_lines: Vec<u8>,
     status: Status,
@@ -40,8 +36,6 @@ impl Total {
     /// Nothing came yet.
     fn new(rt: &HostRuntime) -> Total {
         Total {
-            messages: Vec::new(rt.alloc()),
-            coverage: None,
             bad_lines: Vec::new(rt.alloc()),
             status: Status::Well,
         }
@@ -81,86 +75,73 @@ impl Total {
         Ok(())
     }
 
-    /// Takes in what came of a run over the trace of a name, where something came of it.
+    /// Takes in how a run over the trace of a name ended.
     fn take(
         &mut self,
         rt: &HostRuntime,
         name: &str,
-        covered: Option<Covered>,
+        end: End,
         heard: &Overheard,
     ) -> Result<(), Status> {
-        let Some(covered) = covered else {
-            self.status = Status::SourceErrors;
-            return Ok(());
-        };
-        let mended = bad_line_text(rt, heard, covered.end);
-        self.note(rt, name, covered.end, mended.as_slice())?;
-        if let Some(coverage) = &mut self.coverage {
-            coverage.add(&covered.coverage);
-            return Ok(());
-        }
-        self.coverage = Some(covered.coverage);
-        Ok(())
+        let mended = bad_line_text(rt, heard, end);
+        self.note(rt, name, end, mended.as_slice())
     }
 }
 
-/// What came of the program of a call over a trace.
-fn run_over<R: Source + Drop>(
-    rt: &HostRuntime,
-    source: &[u8],
-    call: &Call,
-    trace: R,
-) -> Result<CoverAnswer<R, Nowhere>, Status>
-    requires trace { R.failures trace < 2 ^ 64 - 1 }
-    requires fresh { R.gave trace ≡ [] }
+/// Runs a program over a trace; answers how that ended.
+fn run_over<R: Source>(rt: &HostRuntime, runner: &mut Runner, trace: &mut R) -> Result<End, Status>
+    requires trace { R.failures trace.old < 2 ^ 64 - 1 }
+    requires fresh { R.gave trace.old ≡ [] }
 {
-    match cover(rt.alloc(), source, &call.job, trace, Nowhere::new()) {
-        Ok(answer) => Ok(answer),
+    match runner.over(rt.alloc(), trace, Nowhere::new()) {
+        Ok(run) => Ok(run.end),
         Err(_) => Err(Status::Memory),
     }
 }
 
-/// Runs the program of a call over the trace in a file.
+/// Runs a program over the trace in a file.
 fn run_over_file(
     rt: &HostRuntime,
-    source: &[u8],
-    call: &Call,
+    runner: &mut Runner,
     name: &str,
     total: &mut Total,
 ) -> Result<(), Status> {
-    let trace = TraceFile::open(rt, name)?;
-    let answer = run_over(rt, source, call, trace)?;
-    total.messages = answer.messages;
-    total.take(rt, name, answer.covered, answer.trace.heard())
+    let mut trace = TraceFile::open(rt, name)?;
+    let end = run_over(rt, runner, &mut trace)?;
+    total.take(rt, name, end, trace.heard())
 }
 
-/// Runs the program of a call over the trace on standard input.
+/// Runs a program over the trace on standard input; whether to tell how far that was read.
 fn run_over_input(
     rt: &HostRuntime,
-    source: &[u8],
-    call: &Call,
+    runner: &mut Runner,
+    tells: bool,
     total: &mut Total,
 ) -> Result<(), Status> {
-    let trace = Input::new(rt, call.progress)?;
-    let answer = run_over(rt, source, call, trace)?;
-    total.messages = answer.messages;
-    total.take(rt, "trace", answer.covered, answer.trace.heard())
+    let mut trace = Input::new(rt, tells)?;
+    let end = run_over(rt, runner, &mut trace)?;
+    total.take(rt, "trace", end, trace.heard())
 }
 
-/// Runs the program of a call over all its traces.
-fn run_over_all(rt: &HostRuntime, source: &[u8], call: &Call) -> Result<Total, Status> {
+/// Runs a program over all traces of a call.
+fn run_over_all(
+    rt: &HostRuntime,
+    runner: &mut Runner,
+    words: &CoverWords,
+    tells: bool,
+) -> Result<Total, Status> {
     let mut total = Total::new(rt);
-    if call.traces.is_empty() {
-        run_over_input(rt, source, call, &mut total)?;
+    if words.traces.is_empty() {
+        run_over_input(rt, runner, tells, &mut total)?;
     }
-    for name in &call.traces {
-        run_over_file(rt, source, call, name.as_str(), &mut total)?;
+    for name in &words.traces {
+        run_over_file(rt, runner, name.as_str(), &mut total)?;
     }
     Ok(total)
 }
 
 /// Writes what was missed; answers the status of that: whether less was taken than the call asks.
-fn write_answer(rt: &HostRuntime, coverage: &Coverage, call: &Call) -> Status {
+fn write_answer(rt: &HostRuntime, coverage: &Coverage, fail_under: u32) -> Status {
     let Ok(gaps) = gaps_of(rt.alloc(), coverage) else {
         return Status::Memory;
     };
@@ -170,24 +151,25 @@ fn write_answer(rt: &HostRuntime, coverage: &Coverage, call: &Call) -> Status {
     if write(rt, text.as_slice()).is_err() {
         return Status::InputOutput;
     }
-    if gaps.is_below(call.fail_under) {
+    if gaps.is_below(fail_under) {
         return Status::SourceErrors;
     }
     Status::Well
 }
 
-/// Tells what came of all traces. The messages come behind the answer, and what is told of bad lines of traces comes last.
-fn told(rt: &HostRuntime, total: &Total, asked: Asked) -> Status {
-    let answered = match &total.coverage {
-        Some(coverage) if total.status != Status::InputOutput => write_answer(
-            rt, coverage, asked.call,
-        ),
-        _ => Status::Well,
-    };
+/// Tells what came of all traces, once an answer was written or not. The messages come behind it, and what is told of bad lines of
+/// traces comes last. Where memory ran out nothing is told.
+fn told(
+    rt: &HostRuntime,
+    asked: Asked,
+    messages: &[u8],
+    answered: Status,
+    total: &Total,
+) -> Status {
     if answered == Status::Memory {
         return answered;
     }
-    asked.tell(rt, total.messages.as_slice());
+    asked.tell(rt, messages);
     tell(rt, total.bad_lines.as_slice());
     if total.status == Status::Well || answered == Status::InputOutput {
         answered
@@ -197,9 +179,24 @@ fn told(rt: &HostRuntime, total: &Total, asked: Asked) -> Status {
 }
 
 /// `snl cover`.
-pub fn answered_cover(rt: &HostRuntime, asked: Asked) -> Status {
-    match run_over_all(rt, asked.source, asked.call) {
-        Ok(total) => told(rt, &total, asked),
-        Err(status) => status,
-    }
+pub fn answered_cover(
+    rt: &HostRuntime,
+    asked: Asked,
+    words: &CoverWords,
+) -> Result<Status, Status> {
+    let Asked { source, call, .. } = asked;
+    let Ok(RunnerAnswer { messages, runner }) = runner_of(rt.alloc(), source, &call.job) else {
+        return Err(Status::Memory);
+    };
+    let messages = messages.as_slice();
+    let Some(mut runner) = runner else {
+        asked.tell(rt, messages);
+        return Ok(Status::SourceErrors);
+    };
+    let total = run_over_all(rt, runner.as_mut(), words, call.progress)?;
+    let answered = match total.status {
+        Status::InputOutput => Status::Well,
+        _ => write_answer(rt, runner.coverage(), words.fail_under),
+    };
+    Ok(told(rt, asked, messages, answered, &total))
 }

@@ -9,16 +9,19 @@ mod covering;
 mod graphing;
 mod input;
 mod macros;
+mod noting;
 mod outputs;
 mod overhearing;
 mod run;
 mod searching;
+mod sources;
 mod traces;
+mod tracing;
 mod trees;
 mod waiting;
 
 use asked::Asked;
-use checking::{answered_check, check_lints};
+use checking::check_lints;
 use covering::answered_cover;
 use graphing::answered_graph;
 use macros::{check_macros, notes_of};
@@ -28,8 +31,10 @@ use searching::answered_search;
 use snc::Status;
 use snc_cli::{source_in, tell, words_of, write};
 use snl_args::{Call, CallFault, Word, read_call};
+use sources::answered_checks;
 use std::process::ExitCode;
 use std::time::Instant;
+use tracing::{answered_trace, check_times};
 use trees::answered_tree;
 use waiting::answered_waits;
 
@@ -51,12 +56,22 @@ fn call_of(rt: &HostRuntime) -> Result<Call, Status> {
     let words = words_of(rt)?;
     match read_call(rt.alloc(), words.as_slice(), VERSION) {
         Ok(call) => {
-            check_macros(rt, &call)?;
-            check_outputs(rt, &call)?;
-            check_lints(rt, &call)?;
+            check_words(rt, &call)?;
             Ok(call)
         }
         Err(fault) => Err(told(rt, &fault)),
+    }
+}
+
+/// Sees that what the words of a call name is such a thing. Where it is not, the user is told.
+fn check_words(rt: &HostRuntime, call: &Call) -> Result<(), Status> {
+    check_macros(rt, call)?;
+    match &call.word {
+        Word::Search(words) => check_outputs(rt, call, words),
+        Word::Check(words) => check_lints(rt, words),
+        Word::Trace(words) => check_times(rt, words),
+        Word::Waits | Word::Run(_) | Word::Cover(_) | Word::Graph(_) => Ok(()),
+        Word::Tree => Ok(()),
     }
 }
 
@@ -81,6 +96,15 @@ fn told(rt: &HostRuntime, fault: &CallFault) -> Status {
 
 /// Does what a call asks for that began at a time. Answers the exit status.
 fn answered(rt: &HostRuntime, call: &Call, begun: Option<Instant>) -> u8 {
+    match &call.word {
+        Word::Check(words) => answered_checks(rt, call, words).code(),
+        Word::Trace(words) => code_of(answered_trace(rt, words)),
+        _ => answered_program(rt, call, begun),
+    }
+}
+
+/// Does what a call asks for of a program, and answers the exit status.
+fn answered_program(rt: &HostRuntime, call: &Call, begun: Option<Instant>) -> u8 {
     let source = match source_in(rt, "snl", call.job.file.as_str()) {
         Ok(source) => source,
         Err(status) => return status.code(),
@@ -96,11 +120,7 @@ fn answered(rt: &HostRuntime, call: &Call, begun: Option<Instant>) -> u8 {
         call,
         notes,
     };
-    match (&call.search, &call.check) {
-        (Some(words), _) => answered_search(rt, asked, words, begun),
-        (None, Some(words)) => code_of(answered_check(rt, asked, words)),
-        (None, None) => code_of(answered_word(rt, asked)),
-    }
+    answered_word(rt, asked, begun)
 }
 
 /// The exit status of what was done, or of why it could not be done.
@@ -110,13 +130,16 @@ fn code_of(done: Result<Status, Status>) -> u8 {
     }
 }
 
-/// Does what a word asks for that is neither a search nor a check.
-fn answered_word(rt: &HostRuntime, asked: Asked) -> Result<Status, Status> {
-    match asked.call.word {
-        Word::Waits => answered_waits(rt, asked),
-        Word::Run => answered_run(rt, asked),
-        Word::Cover => Ok(answered_cover(rt, asked)),
-        Word::Tree => answered_tree(rt, asked),
-        Word::Graph | Word::Search | Word::Check => answered_graph(rt, asked),
+/// Does what a word asks for of a program, and answers the exit status.
+fn answered_word(rt: &HostRuntime, asked: Asked, begun: Option<Instant>) -> u8 {
+    match &asked.call.word {
+        Word::Waits => code_of(answered_waits(rt, asked)),
+        Word::Run(is_whole) => code_of(answered_run(rt, asked, *is_whole)),
+        Word::Cover(words) => code_of(answered_cover(rt, asked, words)),
+        Word::Graph(no_trace) => code_of(answered_graph(rt, asked, *no_trace)),
+        Word::Search(words) => answered_search(rt, asked, words, begun),
+        Word::Tree => code_of(answered_tree(rt, asked)),
+        Word::Check(words) => answered_checks(rt, asked.call, words).code(),
+        Word::Trace(words) => code_of(answered_trace(rt, words)),
     }
 }

@@ -158,10 +158,7 @@ fn check_cover(
 }
 
 /// Sees that a search may write what its words name, before it begins. Where it may not, standard error tells why.
-pub fn check_outputs(rt: &HostRuntime, call: &Call) -> Result<(), Status> {
-    let Some(words) = &call.search else {
-        return Ok(());
-    };
+pub fn check_outputs(rt: &HostRuntime, call: &Call, words: &SearchWords) -> Result<(), Status> {
     if let Some(path) = &words.out {
         check_out(rt, call, words, path.as_str())?;
     }

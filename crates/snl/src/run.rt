@@ -51,8 +51,8 @@ fn told_run<K>(
     }
 }
 
-/// `snl run`.
-pub fn answered_run(rt: &HostRuntime, asked: Asked) -> Result<Status, Status> {
+/// `snl run`; whether no block of lines is folded.
+pub fn answered_run(rt: &HostRuntime, asked: Asked, is_whole: bool) -> Result<Status, Status> {
     let Asked { source, call, .. } = asked;
     let outlet = Outlet::new(rt.stdout());
     let Ok(writer) = BufWriter::with_capacity(rt.alloc(), OUTPUT_HELD, outlet) else {
@@ -60,7 +60,7 @@ pub fn answered_run(rt: &HostRuntime, asked: Asked) -> Result<Status, Status> {
     };
     let trace = Input::new(rt, call.progress)?;
     let lines = Lines::new(writer);
-    if call.is_whole {
+    if is_whole {
         match run_whole(rt.alloc(), source, &call.job, trace, lines) {
             Ok(mut answer) => {
                 let finished = answer.sink.finish();

@@ -7,12 +7,17 @@
 mod calls;
 mod checks;
 mod commands;
+mod explains;
 mod language;
 mod misplaced;
 mod searches;
 mod texts;
+mod traces;
+mod words;
 
-pub use calls::{Call, CallFault, Word, read_call};
-pub use checks::CheckWords;
+pub use calls::{Call, CallFault, read_call};
+pub use checks::{CheckWords, Format};
 pub use misplaced::misplaced_text;
 pub use searches::{ChannelValues, SearchWords};
+pub use traces::{NamedNumber, NamedText, TraceWords};
+pub use words::{CoverWords, Word};

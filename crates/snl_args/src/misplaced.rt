@@ -1,6 +1,7 @@
 //! A word in the place of MACROS that gives no macro a value, and the call that was meant.
 
-use crate::calls::{Call, Word};
+use crate::calls::Call;
+use crate::words::Word;
 use std::alloc::{AllocError, Global};
 
 /// Whether a shell takes a character as it is.
@@ -17,23 +18,24 @@ fn quoted(alloc: Global, word: &str) -> Result<String, AllocError> {
 }
 
 /// How a trace is given to a word, with the right call.
-fn right_call(alloc: Global, word: Word, file: &str, trace: &str) -> Result<String, AllocError> {
+fn right_call(alloc: Global, word: &Word, file: &str, trace: &str) -> Result<String, AllocError> {
     match word {
         Word::Waits => format!(in alloc;
             "The trace comes on standard input: snl waits {file} < {trace}"
         ),
-        Word::Run => format!(in alloc;
+        Word::Run(_) => format!(in alloc;
             "The trace comes on standard input: snl run {file} < {trace}"
         ),
-        Word::Graph => format!(in alloc;
+        Word::Graph(_) => format!(in alloc;
             "The trace comes on standard input: snl graph {file} < {trace}"
         ),
-        Word::Cover => format!(in alloc;
+        Word::Cover(_) => format!(in alloc;
             "A trace comes behind --trace: snl cover --trace {trace} {file}"
         ),
         Word::Tree => format!(in alloc; "No trace is read: snl tree {file}"),
-        Word::Check => format!(in alloc; "No trace is read: snl check {file}"),
-        Word::Search => format!(in alloc;
+        Word::Check(_) => format!(in alloc; "No trace is read: snl check {file}"),
+        Word::Trace(_) => format!(in alloc; "A log stands behind the word: snl trace {trace}"),
+        Word::Search(_) => format!(in alloc;
             "A recorded trace comes behind --like: snl search --like {trace} {file}"
         ),
     }
@@ -44,7 +46,7 @@ fn right_call(alloc: Global, word: Word, file: &str, trace: &str) -> Result<Stri
 pub fn misplaced_text(alloc: Global, call: &Call, macros: &str) -> Result<String, AllocError> {
     let file = quoted(alloc, call.job.file.as_str())?;
     let trace = quoted(alloc, macros)?;
-    let call = right_call(alloc, call.word, file.as_str(), trace.as_str())?;
+    let call = right_call(alloc, &call.word, file.as_str(), trace.as_str())?;
     format!(in alloc;
         "error: '{macros}' stands in the place of MACROS, which are NAME=VALUE,..\n\n{call}\n\n\
          For more information, try '--help'.\n"

@@ -48,7 +48,7 @@ pub struct SearchWords {
 }
 
 /// An option with a text.
-fn text_argument<'a>(
+pub(crate) fn text_argument<'a>(
     alloc: Global,
     name: &'static str,
     value: &'static str,
@@ -178,7 +178,7 @@ pub(crate) fn for_search<'a>(
 }
 
 /// The error of an option whose text is none.
-fn bad_text(alloc: Global, option: &str, text: &str, form: &str) -> CallFault {
+pub(crate) fn bad_text(alloc: Global, option: &str, text: &str, form: &str) -> CallFault {
     match format!(in alloc; "error: '--{option} {text}' is not {form}\n") {
         Ok(text) => CallFault::Usage(text),
         Err(_) => CallFault::Memory,

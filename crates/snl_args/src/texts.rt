@@ -7,17 +7,21 @@ The companion of snc and snlrun: what goes round a dry run of a program in the S
 Usage: snl [+X|-X].. WORD [OPTIONS] ..
 
 Look:
-  check  The messages about a program, and what in it is seldom meant
-  waits  When a program begins over a trace, or what it still waits for
-  cover  What of a program no run showed: clauses, states, channels
-  graph  A picture of a program, for Graphviz
-  tree   The tree of a program as JSON, for scripts
+  check   The messages about a program, and what in it is seldom meant
+  explain The section of the manual about a message or a lint
+  waits   When a program begins over a trace, or what it still waits for
+  cover   What of a program no run showed: clauses, states, channels
+  graph   A picture of a program, for Graphviz
+  tree    The tree of a program as JSON, for scripts
+
+Record:
+  trace   Recorded logs of channels as a trace: camonitor, CSV, JSON, exports
 
 Run:
-  run    A run with notes on what fired and why, blocks that repeat folded, and a summary
+  run     A run with notes on what fired and why, blocks that repeat folded, and a summary
 
 Search:
-  search Traces over a small alphabet, the shortest first, for what must not happen
+  search  Traces over a small alphabet, the shortest first, for what must not happen
 
 snl WORD --help tells what a word takes, with an example, and snl --version the version.
 
@@ -35,17 +39,21 @@ pub(crate) const WORDS: &str = "
 Usage: snl [+X|-X].. WORD [OPTIONS] ..
 
 Look:
-  check  The messages about a program, and what in it is seldom meant
-  waits  When a program begins over a trace, or what it still waits for
-  cover  What of a program no run showed: clauses, states, channels
-  graph  A picture of a program, for Graphviz
-  tree   The tree of a program as JSON, for scripts
+  check   The messages about a program, and what in it is seldom meant
+  explain The section of the manual about a message or a lint
+  waits   When a program begins over a trace, or what it still waits for
+  cover   What of a program no run showed: clauses, states, channels
+  graph   A picture of a program, for Graphviz
+  tree    The tree of a program as JSON, for scripts
+
+Record:
+  trace   Recorded logs of channels as a trace: camonitor, CSV, JSON, exports
 
 Run:
-  run    A run with notes on what fired and why, blocks that repeat folded, and a summary
+  run     A run with notes on what fired and why, blocks that repeat folded, and a summary
 
 Search:
-  search Traces over a small alphabet, the shortest first, for what must not happen
+  search  Traces over a small alphabet, the shortest first, for what must not happen
 
 For more information, try 'snl --help'.
 ";
@@ -134,7 +142,7 @@ Status: 0 done, 1 the program has errors, 2 the words of the call are wrong, 3 t
 
 /// What `snl check --help` tells.
 pub(crate) const CHECK_USAGE: &str =
-    "snl check [±X..] [--no-lint NAME|NAME=LINE].. [--strict] FILE";
+    "snl check [±X..] [--format text|gcc|json] [--no-lint NAME|NAME=LINE].. [--strict] FILE..";
 
 pub(crate) const CHECK_ABOUT: &str = "\
 The messages of snc about a program, and behind them what in it is no error and seldom meant, a line each, with the
@@ -148,6 +156,19 @@ Example: snl check --no-lint unread light.st
 
 Status: 0 done, 1 the program has errors, or with --strict a lint says something, 2 the words of the call are wrong,
 3 the file or the output failed, 4 memory ran out.";
+
+/// What `snl explain --help` tells.
+pub(crate) const EXPLAIN_USAGE: &str = "snl explain NAME";
+
+pub(crate) const EXPLAIN_ABOUT: &str = "\
+The section of the manual about a message or a lint: when it comes, an example, and what to do.";
+
+pub(crate) const EXPLAIN_MORE: &str = "\
+No file is read. snl check writes the numbers and the names.
+
+Example: snl explain E20
+
+Status: 0 done, 2 there is no such message or lint, 3 the output failed, 4 memory ran out.";
 
 /// What `snl search --help` tells.
 pub(crate) const SEARCH_USAGE: &str =
@@ -169,3 +190,20 @@ Example: snl search --never 'put LAB:LAMP 1' light.st
 Status: 0 no such trace does what must not happen, 1 something was found, or the program has errors, 2 the words of
 the call are wrong, 3 a file or the output failed, 4 memory ran out, 6 a line of TRACE is bad, 7 a bound stopped it, or the
 program cannot begin, or no line can come behind the start.";
+
+/// What `snl trace --help` tells.
+pub(crate) const TRACE_USAGE: &str =
+    "snl trace [--units FILE] [--scale NAME=K].. [--enum NAME=TEXT:N,..].. [--value NAME=N].. [--offset FILE=+HH:MM].. [--lead S] [--severity] \
+     [--from T] [--to T] LOG..";
+
+pub(crate) const TRACE_ABOUT: &str = "\
+A trace of recorded logs. Their forms are told by their first lines: camonitor, caget -t, archiver CSV and JSON, exports of
+Phoebus, and tables with a column for the time and one for each channel. Several logs are merged by time.";
+
+pub(crate) const TRACE_MORE: &str = "\
+The trace goes to standard output. Standard error tells what was not understood, rounded or left out, and in its last line how
+many values were written.
+
+Example: snl trace --scale LAB:VOLTAGE=3 light.log > light.trace
+
+Status: 0 done, 1 a log gave no value, 2 the words of the call are wrong, 3 a file or the output failed, 4 memory ran out.";

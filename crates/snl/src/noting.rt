@@ -1,0 +1,41 @@
+//! The notes on the messages about a source.
+
+use crate::checking::Piece;
+use snl_args::Format;
+use snl_notes::{Form, Read, notes_of};
+use std::alloc::AllocError;
+
+/// How notes are written in a format.
+fn form_of(format: Format) -> Form {
+    match format {
+        Format::Text => Form::Text,
+        Format::Gcc => Form::Gcc,
+        Format::Json => Form::Json,
+    }
+}
+
+/// A note on each message, where there are some. The only error is that memory ends.
+pub fn notes_on(
+    rt: &HostRuntime,
+    piece: Piece,
+    format: Format,
+    messages: &[u8],
+) -> Result<Vec<u8>, AllocError> {
+    if messages.is_empty() {
+        return Ok(Vec::new(rt.alloc()));
+    }
+    let read = Read {
+        source: piece.source,
+        file: piece.file,
+        form: form_of(format),
+    };
+    notes_of(rt.alloc(), read, piece.options)
+}
+
+/// The messages as they stand in front of the notes: none where these have all that they say.
+pub fn in_front(format: Format, messages: &[u8]) -> &[u8] {
+    match format {
+        Format::Text => messages,
+        Format::Gcc | Format::Json => &[],
+    }
+}
