@@ -1,7 +1,8 @@
-"""All cases and examples that run a program, by the definitions themselves: `scripts/definitions` reads these and executes them.
+"""All cases and examples by the definitions themselves: `scripts/definitions` reads these and executes them.
 
-Each run has to give the lines of snlrun, its status, and its words about a bad line of the trace. The clauses that no case reaches have to
-be those that docs/DEFINITIONS.md lists. And each edit of `slips` has to be seen by the case that it names."""
+Each run has to give the lines of snlrun, its status, and its words about a bad line of the trace; each source the messages and the tables of
+snc. The clauses that no case reaches have to be those that docs/DEFINITIONS.md lists, with their counts, and 3 of 100 at most. And each edit
+of `slips` has to be seen by the case that it names."""
 import re
 import subprocess
 import sys
@@ -13,8 +14,12 @@ from case import differences
 
 SCRIPT = "scripts/definitions"
 SECONDS = 1200
-# How many runs there are at least.
-RUNS = 700
+# How many runs and how many sources there are at least; and of a hundred clauses so many at most may be reached by no case.
+RUNS, SOURCES, UNREACHED = 700, 4_000, 3
+# The definitions of the words of a call, which the script asks beside a run.
+OF_CALLS = "crates/snc_args/specs/Options.antt"
+# Files of definitions without an edit: what it says is seen at sources alone that take too long, of more than 65,536 tokens.
+WITHOUT_EDIT = {"crates/snl_messages/specs/Given.antt"}
 # Programs whose words are counted.
 QUEUED = """program u option +s; int x; assign x to "a"; monitor x; evflag f; syncQ x to f 2;
 ss s { state w { when (delay(1.0) && pvGetQ(x)) { printf("%d %d", x, efTest(f)); } state w } }
@@ -28,8 +33,13 @@ int twice(int n) { return n * 2; }
 int add(int n, int m) { int i; for (i = 0; i < m; i++) n = n + 1; return n; }
 ss s { state w { when (twice(x) > 5) { printf("%d", add(x, 2)); } exit } }
 """
-SUMS = re.compile(r"(\d+) runs by the definitions, (\d+) different, (\d+) skipped")
-CLAUSES = re.compile(r"(\d+) of (\d+) clauses are reached by no case")
+# A program that the rules refuse.
+REFUSED = """program r option +s;
+ss s { state a { when () { printf("%d", unknown()); } exit } }
+"""
+SUMS = re.compile(r"(\d+) runs and the messages about (\d+) sources by the definitions, (\d+) different, (\d+) skipped")
+CLAUSES = re.compile(r"^((\d+) of (\d+) clauses (?:under a run|in all)) are reached by no case$", re.MULTILINE)
+COUNTS = re.compile(r"^\d+ definitions of \d+ files (?:under a run|in all), \d+ clauses$", re.MULTILINE)
 ROW = re.compile(r"^\| `(crates/\S+)` \| `(.*?)` \| .+ \|$", re.MULTILINE)
 
 
@@ -53,7 +63,7 @@ class Defined:
 
     def failure(self, programs):
         """What is wrong, or nothing."""
-        named = [f"--{name}={programs[name]}" for name in ("snl", "snlrun")]
+        named = [f"--{name}={programs[name]}" for name in ("snl", "snlrun", "snc")]
         with tempfile.TemporaryDirectory(prefix="snlrun-") as folder:
             Path(folder, "p.st").write_text(self.source)
             call = [self.root / SCRIPT, *named, *self.words]
@@ -78,6 +88,7 @@ def cases(root):
     yield Defined("definitions: tables", root, ["--tables", station], station.with_suffix(".tables").read_text())
     yield Defined("definitions: how many words a program needs, as docs/CALL.md has it", root, ["--footprint", light], "21\n")
     yield from footprints(root)
+    yield from of_source(root)
     yield from wrong_words(root, light)
 
 
@@ -93,6 +104,19 @@ def footprints(root):
         ("two functions", 1 + 4 + 2 + 1 + 1 + 1 + 2 + 2 + 5 + 2, CALLS),
     ):
         yield Defined(f"definitions: how many words a program with {what} needs", root, ["--footprint", "p.st"], f"{words}\n", source=source)
+
+
+def of_source(root):
+    """What is said of a source, and a run of a program that the rules refuse."""
+    ran, said = "0 start r\n0 print s 0\n0 go s a exit\n0 exit r\n", "p.st:2: error: E16 unknown function 'unknown'\n"
+    yield Defined("definitions: no program: messages about a source", root, ["--messages", "p.st"], said, "", 1, source=REFUSED)
+    name, ended = "definitions: no program: one that the rules refuse", "ended by ProgramEnded\n"
+    yield Defined(name, root, ["--refused", "p.st"], ran, ended, trace=b"0 tick\n", source=REFUSED)
+    no_tree = "definitions: the source has no tree: token 1 cannot stand there\n"
+    yield Defined("definitions: no program: a source without a tree", root, ["--refused", "p.st"], "", no_tree, 1, source="program 1")
+    no_program = "definitions: the tokens spell no program; where they begin to spell none is not computed\n"
+    name = "definitions: no program: messages about a source without a tree"
+    yield Defined(name, root, ["--messages", "p.st"], "", no_program, 2, source="program 1")
 
 
 def of_page(root):
@@ -129,7 +153,7 @@ def wrong_words(root, light):
         yield Defined(f"definitions: {front}{name}", root, words, "", said, 2)
     yield Defined("definitions: a file that is not there", root, ["q.st"], "", "snl: cannot read q.st\n", 3)
     edit = ["--edit", arithmetic, "computed Percent x y = divided int_rem x y", "computed Percent x y = divided int_div x y", "LANGUAGE.md: -7"]
-    seen = "seen by docs/LANGUAGE.md: -7 % 2: line 2: 0 print s -3 by the definitions, 0 print s -1 by snlrun\n"
+    seen = "seen by docs/LANGUAGE.md: -7 % 2: line 2: 0 print s -3 by the definitions, and not 0 print s -1\n"
     yield Defined("definitions: an edit that is seen", root, edit, seen)
     edit = ["--edit", arithmetic, "computed_prefix _ x = Ok x", "computed_prefix _ x = Ok y", "LANGUAGE.md: -7"]
     said = f"definitions: {arithmetic}:67: computed_prefix: y {unknown}"
@@ -145,15 +169,14 @@ def wrong_with_call(root, told):
 
 def wrong_with_runs(root, told):
     """What is wrong with the output about all cases."""
-    sums, clauses = SUMS.search(told), CLAUSES.search(told)
-    if not sums or not clauses:
+    sums, clauses = SUMS.search(told), CLAUSES.findall(told)
+    if not sums or len(clauses) != 2:
         return [f"no sums in {told[-400:]!r}"]
     wrong = [it for it in told.splitlines() if it.startswith("DIFFERENT")]
-    if int(sums[1]) < RUNS:
-        wrong.append(f"only {sums[1]} runs")
+    wrong += [f"only {sums[at]} {what}" for at, what, least in ((1, "runs", RUNS), (2, "sources", SOURCES)) if int(sums[at]) < least]
+    wrong += [f"more than {UNREACHED} of 100: {all_of_it}" for all_of_it, few, many in clauses if int(few) * 100 > int(many) * UNREACHED]
     page = (root / "docs/DEFINITIONS.md").read_text()
-    if f"{clauses[2]} clauses" not in page:
-        wrong.append(f"docs/DEFINITIONS.md does not tell that there are {clauses[2]} clauses")
+    wrong += [f"docs/DEFINITIONS.md does not tell: {it[0]}" for it in clauses if it[0] not in " ".join(page.split())]
     listed = set(ROW.findall(page))
     found = {tuple(it.split(":", 1)[0:1]) + (it.split(" ", 1)[1],) for it in told.splitlines() if re.match(r"crates/\S+:\d+ ", it)}
     wrong += [f"docs/DEFINITIONS.md does not list a clause that no case reaches: {it}" for it in sorted(found - listed)]
@@ -161,9 +184,15 @@ def wrong_with_runs(root, told):
 
 
 def wrong_with_slips(root, told):
-    """What is wrong with the output about edits: each file of definitions under a run has one, but those that have no clauses."""
+    """What is wrong with the output about edits: each file of definitions that are run has one, but those that have no clauses. The counts of
+    definitions stand on the page, and that of the clauses under a run in the README."""
     edited = set(re.findall(r"^file: (\S+)$", (root / "cases/slips").read_text(), re.MULTILINE))
     needed = subprocess.run([root / SCRIPT, "--list"], capture_output=True, text=True, check=True).stdout
     files = set(re.findall(r"^(crates/\S+\.antt):", needed, re.MULTILINE))
     wrong = [it for it in told.splitlines() if it.startswith("NOT SEEN")]
-    return wrong + [f"cases/slips has no edit of {it}" for it in sorted(files - edited)]
+    wrong += [f"cases/slips has no edit of {it}" for it in sorted(files - edited - WITHOUT_EDIT)]
+    wrong += [f"cases/slips has edits of {it}, of which no definition is run" for it in sorted(edited - files - {OF_CALLS})]
+    counts, page = COUNTS.findall(needed), (root / "docs/DEFINITIONS.md").read_text()
+    wrong += [f"docs/DEFINITIONS.md does not tell: {it}" for it in counts if it not in " ".join(page.split())]
+    clauses = f"its {counts[0].split(', ')[1]} can be run"
+    return wrong + [f"the README does not tell that {clauses}"] * (clauses not in (root / "README.md").read_text())

@@ -3,7 +3,8 @@ import os
 import sys
 from pathlib import Path
 
-from defining import calls, cases, edits, running, showing
+from defining import calls, cases, checks, edits, running, showing
+from defining.checks import Checker
 from defining.definitions import NoClause
 from defining.running import Runner
 from defining.sources import NotUnderstood, path_of
@@ -13,7 +14,7 @@ from defining.values import bytes_of, items_of, listed as list_of
 # The options of this script, with how many words each takes.
 OPTIONS = {
     "--all": 0, "--cases": 0, "--coverage": 0, "--edit": 3, "--first": 1, "--footprint": 0, "--links": 0, "--list": 0, "--sites": 0,
-    "--slips": 0, "--snl": 1, "--snlrun": 1, "--tables": 0, "--why": 1,
+    "--messages": 0, "--refused": 0, "--slips": 0, "--snc": 1, "--snl": 1, "--snlrun": 1, "--tables": 0, "--why": 1,
 }  # fmt: skip
 # What is read off a tree without a run: of the tree alone, or of the tree and its links.
 OF_TREE = {"--tables": running.TABLES, "--sites": running.SITES}
@@ -73,14 +74,26 @@ def answer(root, options, words):
         return edited(root, options, words)
     if "--cases" in options or "--all" in options or "--coverage" in options:
         return compared(root, options, words)
-    return one_run(root, options, words)
+    return messages(root, words) if "--messages" in options else one_run(root, options, words)
+
+
+def messages(root, words):
+    """Writes the messages about a source, as snc does; the status is that of snc, or 2 where it can't be told what is said."""
+    runner = Runner(root)
+    call = calls.call_of(runner, [os.fsencode(it) for it in words])
+    report = Checker(runner).report(Path(os.fsdecode(call.file)).read_bytes(), call.given, call.file)
+    if report is None:
+        say("definitions: the tokens spell no program; where they begin to spell none is not computed")
+        return 2
+    sys.stdout.buffer.write(report.text)
+    return runner.call(running.CODE, report.status)
 
 
 def one_run(root, options, words):
     """Runs one program, and writes its lines, or the calls of a definition."""
     runner = Runner(root)
     call = calls.call_of(runner, [os.fsencode(it) for it in words])
-    tree = Trees(runner.definitions.names).program(calls.tree_text(program(root, options, "snl"), call))
+    tree = tree_of(root, options, runner, call)
     for option in ("--tables", "--sites", "--links", "--footprint"):
         if option in options:
             return write_of(runner, option, tree, call)
@@ -95,6 +108,17 @@ def one_run(root, options, words):
         say(f"and {heard.count - len(heard.heard)} calls more")
     say(f"ended by {showing.shown(end)}")
     return runner.status(end)
+
+
+def tree_of(root, options, runner, call):
+    """The tree of a program: that of `snl tree`; with --refused that which its tokens spell, so also of one that the rules refuse."""
+    if "--refused" not in options:
+        return Trees(runner.definitions.names).program(calls.tree_text(program(root, options, "snl"), call))
+    checker = Checker(runner)
+    try:
+        return checker.tree(checker.reading(Path(os.fsdecode(call.file)).read_bytes()))
+    except (checks.NoTokens, checks.NoTree) as failed:
+        raise calls.Failed(f"definitions: the source has no tree: {failed}", 1) from None
 
 
 def write_of(runner, option, tree, call):
@@ -117,31 +141,41 @@ def program(root, options, name):
 
 
 def listed(runner):
-    """Writes the definitions under a run."""
-    definitions = runner.definitions
-    for key in sorted(definitions.takes, key=str):
-        print(f"{path_of(key.crate, key.module)}:{definitions.names.definition(key).line} {key.name}")
-    files = {(key.crate, key.module) for key in definitions.takes}
-    print(f"{len(definitions.takes)} definitions of {len(files)} files, {len(definitions.clauses)} clauses")
+    """Writes the definitions that are run: those of a run, and behind them those that say more of a source."""
+    definitions, shown = runner.definitions, set()
+    for what, needed in needed_by(runner):
+        for key in sorted(needed - shown, key=str):
+            print(f"{path_of(key.crate, key.module)}:{definitions.names.definition(key).line} {key.name}")
+        shown |= needed
+        files, clauses = {(key.crate, key.module) for key in needed}, sum(key in needed for key, _ in definitions.clauses)
+        print(f"{len(needed)} definitions of {len(files)} files {what}, {clauses} clauses")
     return 0
+
+
+def needed_by(runner):
+    """The definitions that are needed: for runs, and for all that is computed of a source."""
+    of_runs = set(runner.definitions.takes)
+    for key in checks.NEEDED:
+        runner.definitions.function(key)
+    return ("under a run", of_runs), ("in all", set(runner.definitions.takes))
 
 
 def comparer(root, options, runner):
     """What compares cases."""
-    trees = Trees(runner.definitions.names)
-    return cases.Comparer(runner, trees, program(root, options, "snl"), program(root, options, "snlrun"), "--all" not in options)
+    programs = {name: program(root, options, name) for name in ("snl", "snlrun", "snc")}
+    return cases.Comparer(runner, Trees(runner.definitions.names), programs, "--all" not in options)
 
 
 def chosen(root, words):
     """The cases whose name has one of some words; all, where there is none."""
-    return [it for it in cases.all_cases(Path(root)) if not words or any(word in it.name for word in words)]
+    return (it for it in cases.all_cases(Path(root)) if not words or any(word in it.name for word in words))
 
 
 def compared(root, options, words):
     """Runs cases, and tells those that differ; with --coverage the clauses that none reaches."""
     runner = Runner(root)
+    needed = needed_by(runner)
     compare, different = comparer(root, options, runner), 0
-    needed = set(runner.definitions.takes)
     for it in chosen(root, words):
         try:
             told = compare.difference(it)
@@ -150,48 +184,55 @@ def compared(root, options, words):
         if told:
             different += 1
             print(f"DIFFERENT {it.name}: {told}", flush=True)
-    print(f"{compare.runs} runs by the definitions, {different} different, {compare.skipped} skipped")
+    sums = f"{compare.runs} runs and the messages about {compare.sources} sources by the definitions"
+    print(f"{sums}, {different} different, {compare.skipped} skipped")
     if "--coverage" in options:
         write_unreached(runner.definitions, needed)
-    return 1 if different or not compare.runs else 0
+    return 1 if different or not compare.runs + compare.sources else 0
 
 
 def write_unreached(definitions, needed):
-    """Writes the clauses that nothing reached."""
-    rows = [(key, clause) for at, (key, clause) in enumerate(definitions.clauses) if key in needed and not definitions.reached[at]]
+    """Writes the clauses that nothing reached, and how many they are of those under a run, and of all."""
+    rows = [(key, clause) for at, (key, clause) in enumerate(definitions.clauses) if key in needed[-1][1] and not definitions.reached[at]]
     for key, clause in rows:
         print(f"{path_of(key.crate, key.module)}:{clause.line} {' '.join(clause.text.split())}")
-    print(f"{len(rows)} of {sum(key in needed for key, _ in definitions.clauses)} clauses are reached by no case")
+    for what, keys in needed:
+        total, unreached = sum(key in keys for key, _ in definitions.clauses), sum(key in keys for key, _ in rows)
+        print(f"{unreached} of {total} clauses {what} are reached by no case")
 
 
 def edited(root, options, words):
     """Tells by which case another text in a definition is seen."""
-    seen = seen_by(root, options, edits.Edit(*options["--edit"]), chosen(root, words))
+    runner = Runner(root)
+    needed_by(runner)
+    seen = seen_by(root, options, runner, edits.Edit(*options["--edit"]), chosen(root, words))
     print(f"seen by {seen}" if seen else "seen by no case")
     return 0 if seen else 1
 
 
-def seen_by(root, options, edit, chosen_cases):
+def seen_by(root, options, runner, edit, chosen_cases):
     """The first case that sees an edit, with what differs."""
-    compare = comparer(root, options, Runner(root, edit))
-    for it in chosen_cases:
-        try:
-            told = compare.difference(it)
-        except (NoClause, TypeError, AttributeError, RecursionError, ZeroDivisionError, IndexError) as failed:
-            told = f"the run stops: {failed}"
-        if told:
-            return f"{it.name}: {told}"
+    with runner.with_edit(edit):
+        compare = comparer(root, options, runner)
+        for it in chosen_cases:
+            try:
+                told = compare.difference(it)
+            except (NoClause, TypeError, AttributeError, RecursionError, ZeroDivisionError, IndexError) as failed:
+                told = f"the run stops: {failed}"
+            if told:
+                return f"{it.name}: {told}"
     return None
 
 
 def slips(root, options):
     """Tries each edit of the table on the case that it names."""
-    every = {it.name: it for it in cases.all_cases(Path(root))}
+    runner, every = Runner(root), {it.name: it for it in cases.all_cases(Path(root))}
+    needed_by(runner)
     rows, unseen = edits.table(Path(root, "cases/slips")), 0
     for edit in rows:
         if edit.case not in every:
             raise calls.Failed(f"definitions: cases/slips: there is no case {edit.case}", 2)
-        if not seen_by(root, options, edit, [every[edit.case]]):
+        if not seen_by(root, options, runner, edit, [every[edit.case]]):
             unseen += 1
             print(f"NOT SEEN {edit.file}: {edit.old} -> {edit.new}: by {edit.case}", flush=True)
     print(f"{len(rows)} edits of definitions, {unseen} not seen")

@@ -9,6 +9,7 @@ from defining.values import bytes_of, items_of, listed
 
 # Where a program stands below the repository, once it is built: by proofs, or else by `bin/try`.
 BUILT = {
+    "snc": ("crates/snc_main/out/snc", "crates/snc_main/out/snc_main", "crates/snc_main/out/try/snc"),
     "snl": ("crates/snl/out/snl", "crates/snl/out/try/snl"),
     "snlrun": ("crates/snlrun/out/snlrun", "crates/snlrun/out/try/snlrun"),
 }

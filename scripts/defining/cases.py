@@ -1,7 +1,9 @@
-"""Runs the programs of all cases by the definitions, and compares each with what `snlrun` writes.
+"""Asks all cases of the definitions: the run of each program beside that of `snlrun`, the messages and tables of each source beside
+those of `snc`.
 
-A run over more than 2,000 lines, or of more than 200 ticks at an instant, takes long by the definitions: such ones are skipped and counted,
-unless all are asked for. One over a line of more than 1,000 bytes is always skipped: it takes memory by the square of the line."""
+A run over more than 2,000 lines, or of more than 200 ticks at an instant, takes long by the definitions, and so do the messages about a source
+of more than 4,500 bytes: such ones are skipped and counted, unless all are asked for. A run over a line of more than 1,000 bytes is always
+skipped: it takes memory by the square of the line."""
 import importlib.machinery
 import importlib.util
 import os
@@ -12,9 +14,13 @@ from dataclasses import dataclass
 from pathlib import Path
 
 from defining import calls
+from defining.checks import Checker
+from defining.values import some
 
-# So many lines of a trace, bytes of a line, and ticks of an instant at most.
-LINES, BYTES, TICKS = 2_000, 1_000, 200
+# So many lines of a trace, bytes of a line, ticks of an instant, and bytes of a source at most.
+LINES, BYTES, TICKS, SOURCE = 2_000, 1_000, 200, 4_500
+# Each event of a trace of so few lines is asked whether it fits the machine.
+SHORT = 40
 # How the line of a fault ends where more ticks are wanted.
 SPENT = b" budget spent\n"
 # What snlrun says of a bad line of a trace (docs/TRACE.md, "Bad lines"), by the fault that the definitions give.
@@ -30,16 +36,33 @@ FAULTS = {
 }
 # The statuses of a call whose program was run, and that of a fault.
 RAN, FAULT = (0, 5, 6), 5
+# The statuses of a call of snc that judged a source, and that of one that is accepted.
+JUDGED, ACCEPTED = (0, 1), 0
+# What snc says where tokens spell no program.
+NO_PROGRAM = (b": error: E01 ", b": error: E02 ")
+TOOLS = ("snlrun", "snc", "snl")
+# Programs that the rules refuse, with what the definitions say that they do.
+REFUSED = "cases/refused.runs"
 
 
 @dataclass
 class Case:
-    """A run of a case: its name, its source, the words of its call and its trace."""
+    """A run of a case: its name, its source, the words of its call and its trace; and its answer, where the rules refuse the program."""
 
     name: str
     source: bytes
     words: list
     trace: bytes
+    answer: object = None
+
+
+@dataclass
+class Source:
+    """A source of a case with the options of its call: its messages are compared."""
+
+    name: str
+    source: bytes
+    words: list
 
 
 @dataclass
@@ -55,36 +78,91 @@ class Answer:
         left, right = self.lines.split(b"\n"), other.lines.split(b"\n")
         for number, (one, two) in enumerate(zip(left + [b"(no line)"], right + [b"(no line)"]), 1):
             if one != two:
-                return f"line {number}: {one.decode('latin-1')} by the definitions, {two.decode('latin-1')} by snlrun"
+                return f"line {number}: {one.decode('latin-1')} by the definitions, and not {two.decode('latin-1')}"
         one, two = (f"status {it.status} {it.said.decode('latin-1').strip()}".strip() for it in (self, other))
-        return None if one == two else f"{one} by the definitions, {two} by snlrun"
+        return None if one == two else f"{one} by the definitions, and not {two}"
 
 
-def all_cases(root):
-    """The runs of `cases/` and of the examples: those cases that call snlrun with a file of their own."""
+def stored_cases(root):
+    """The cases of `cases/` and of the examples that call a program with a source of their own."""
     sys.path[:0] = [str(root / "cases"), str(root / "cases/epics")]
     loader = importlib.machinery.SourceFileLoader("cases_run", str(root / "cases/run"))
     module = importlib.util.module_from_spec(importlib.util.spec_from_loader("cases_run", loader))
     loader.exec_module(module)
     from case import Case as Stored
 
-    for it in module.cases_of(root):
-        if type(it) is Stored and it.tool == "snlrun" and b"--help" not in it.words and b"--version" not in it.words:
+    return [it for it in module.cases_of(root) if type(it) is Stored and it.tool in TOOLS]
+
+
+def all_cases(root):
+    """The runs of all cases, those of programs that the rules refuse, and each source once with each choice of options."""
+    stored, seen = stored_cases(root), set()
+    for it in stored:
+        if it.tool == "snlrun" and b"--help" not in it.words and b"--version" not in it.words:
             trace = it.trace.read_bytes() if isinstance(it.trace, Path) and it.trace.is_file() else it.trace
             if isinstance(trace, bytes):
                 yield Case(it.name, it.source, it.words, trace)
+    refused = [*refused_runs(root)]
+    yield from refused
+    for it in [*stored, *refused]:
+        words = [word for word in it.words if word[:1] in (b"+", b"-") and word[1:2] not in (b"", b"-")]
+        if it.source and (it.source, *words) not in seen:
+            seen.add((it.source, *words))
+            yield Source(f"messages: {it.name}", it.source, words)
+
+
+def refused_runs(root):
+    """Runs of programs that the rules refuse: each definition has an answer for every tree, and these are the answers."""
+    import files
+
+    for it in files.cases(root / REFUSED):
+        yield Case(it.name, it.source, it.words, it.trace, Answer(it.stdout, it.statuses[0], it.stderr))
 
 
 class Comparer:
-    """Runs cases by the definitions and by snlrun."""
+    """Asks cases of the definitions, and compares."""
 
-    def __init__(self, runner, trees, snl, snlrun, limited=True):
-        """With the built programs; a case that takes too long is skipped where runs are limited."""
-        self.runner, self.trees, self.snl, self.snlrun, self.limited = runner, trees, snl, snlrun, limited
-        self.runs, self.skipped = 0, 0
+    def __init__(self, runner, trees, programs, limited=True):
+        """With the built programs by their names; a case that takes too long is skipped where cases are limited."""
+        self.runner, self.trees, self.programs, self.limited = runner, trees, programs, limited
+        self.checker, self.runs, self.sources, self.skipped = Checker(runner), 0, 0, 0
 
     def difference(self, case):
-        """Where a case has another answer by the definitions, in words; nothing where it has the same, or is none of a run."""
+        """Where a case has another answer by the definitions, in words; nothing where it has the same, or asks for none."""
+        return self.of_source(case) if isinstance(case, Source) else self.of_run(case)
+
+    # ---- messages
+
+    def of_source(self, case):
+        """The same of the messages about a source."""
+        if self.limited and len(case.source) > SOURCE:
+            self.skipped += 1
+            return None
+        try:
+            call = calls.call_of(self.runner, [*case.words, b"p.st"])
+        except calls.Failed:
+            return None
+        with tempfile.TemporaryDirectory(prefix="definitions-") as folder:
+            Path(folder, "p.st").write_bytes(case.source)
+            words = [os.fsencode(self.programs["snc"]), *call.options, b"--tables", b"p.st"]
+            snc = subprocess.run(words, stdin=subprocess.DEVNULL, capture_output=True, timeout=calls.SECONDS, cwd=folder)
+            if snc.returncode not in JUDGED:
+                return None
+            self.sources += 1
+            report = self.checker.report(case.source, call.given, b"p.st")
+            if report is None:
+                return None if any(it in snc.stderr for it in NO_PROGRAM) else f"no program by the definitions, and not {snc.stderr!r}"
+            for one, two in ((report.text, snc.stderr), (report.tables, snc.stdout)):
+                if one != two:
+                    return f"{one!r} by the definitions, and not {two!r}"
+            if snc.returncode == ACCEPTED and some(self.tree(call, folder)) != report.tree:
+                return "another tree by the definitions than by snl"
+        return None
+
+    # ---- runs
+
+    def of_run(self, case):
+        """The same of a run."""
         try:
             call = calls.call_of(self.runner, case.words)
         except calls.Failed:
@@ -95,11 +173,20 @@ class Comparer:
             return None
         with tempfile.TemporaryDirectory(prefix="definitions-") as folder:
             Path(folder, "p.st").write_bytes(case.source)
-            wanted = self.wanted(call, case, folder)
+            wanted = case.answer or self.wanted(call, case, folder)
             if wanted is None:
                 return None
             self.runs += 1
-            return self.by_definitions(call, case, folder).difference(wanted)
+            tree = self.checker.tree(self.checker.reading(case.source)) if case.answer else self.tree(call, folder)
+            loaded = self.runner.load(tree, call.given, call.macros)
+            said = self.by_definitions(loaded, call, case).difference(wanted)
+        if not said and len(lines) < SHORT and not self.runner.all_fit(loaded, case.trace, call.budget):
+            return "an event of the trace does not fit the machine"
+        return said
+
+    def tree(self, call, folder):
+        """The tree of a program, as `snl tree` writes it."""
+        return self.trees.program(calls.tree_text(self.programs["snl"], call, cwd=folder, stderr=subprocess.DEVNULL))
 
     def wanted(self, call, case, folder):
         """What snlrun answers; None where it runs nothing, or where an instant has too many ticks: with fewer the run ends by a fault."""
@@ -119,14 +206,13 @@ class Comparer:
         with tempfile.TemporaryFile() as stdin, tempfile.TemporaryFile() as said:
             stdin.write(trace)
             stdin.seek(0)
-            status, lines = calls.ran([os.fsencode(self.snlrun), *words], stdin=stdin, cwd=folder, stderr=said)
+            status, lines = calls.ran([os.fsencode(self.programs["snlrun"]), *words], stdin=stdin, cwd=folder, stderr=said)
             said.seek(0)
             bad = [it for it in said.read().splitlines(keepends=True) if it.startswith(b"trace:")]
         return Answer(lines, status, b"".join(bad[-1:]))
 
-    def by_definitions(self, call, case, folder):
+    def by_definitions(self, loaded, call, case):
         """What the definitions give."""
-        tree = self.trees.program(calls.tree_text(self.snl, call, cwd=folder, stderr=subprocess.DEVNULL))
-        lines, end = self.runner.run(self.runner.load(tree, call.given, call.macros), case.trace, call.budget)
+        lines, end = self.runner.run(loaded, case.trace, call.budget)
         said = f"trace:{end[1]}: {FAULTS[end[2][0]]}\n".encode() if end[0] == "TraceFault" else b""
         return Answer(lines, self.runner.status(end), said)

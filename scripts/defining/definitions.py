@@ -1,8 +1,10 @@
 """Definitions as Python functions: each is written when another one needs it first, clause by clause."""
+from contextlib import contextmanager
+
 from defining import library, values
 from defining.names import Names
 from defining.parser import clause_of
-from defining.sources import NotUnderstood
+from defining.sources import NotUnderstood, file_of
 from defining.writing import Writer, inner_name, library_name, python_name
 
 # Definitions whose answers are kept while a program is run: they are asked the same again and again. What they give follows from what
@@ -108,6 +110,22 @@ class Definitions:
         """Forgets what was kept of a program."""
         for answers in self.kept:
             answers.clear()
+
+    @contextmanager
+    def with_text(self, crate, module, text):
+        """Has another text in the place of a file of definitions for a while: its definitions that are needed are written anew."""
+        file, takes, space = self.names.file(crate, module), dict(self.takes), dict(self.space)
+        self.names.files[crate, module] = other = file_of(crate, module, text)
+        try:
+            for key in [it for it in takes if (it.crate, it.module) == (crate, module)]:
+                self.write(key, other, self.names.definition(key))
+            self.forget()
+            yield
+        finally:
+            self.names.files[crate, module], self.takes = file, takes
+            self.space.clear()
+            self.space.update(space)
+            self.forget()
 
     def function(self, key):
         """A definition, ready to be applied."""

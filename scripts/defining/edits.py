@@ -2,9 +2,12 @@
 
 `cases/slips` has a table of such edits, one a file of definitions: a line `file: PATH`, a line `old: TEXT`, a line `new: TEXT`, and `case: NAME`,
 the name of a case that has another answer then."""
+import re
 from dataclasses import dataclass
 
 from defining.calls import Failed
+
+FILE = re.compile(r"crates/(?P<crate>\w+)/specs/(?P<module>[\w/]+)\.antt")
 
 
 @dataclass
@@ -16,16 +19,22 @@ class Edit:
     new: str
     case: str = ""
 
-    def apply(self, names):
-        """Puts the new text into the file as it is read."""
+    def place(self):
+        """The crate of the file, and its module."""
+        found = FILE.fullmatch(self.file)
+        if not found:
+            raise Failed(f"definitions: {self.file} is no file of definitions", 2)
+        return found["crate"], found["module"].replace("/", ".")
+
+    def text(self, names):
+        """The text of the file with the new text in it."""
         try:
             text = names.text_of(self.file)
         except OSError as failed:
             raise Failed(f"definitions: {self.file}: {failed.strerror}", 2) from None
         if text.count(self.old) != 1:
             raise Failed(f"definitions: {self.file} has {text.count(self.old)} times: {self.old}", 2)
-        whole = names.text_of
-        names.text_of = lambda path: text.replace(self.old, self.new) if path == self.file else whole(path)
+        return text.replace(self.old, self.new)
 
 
 def table(path):

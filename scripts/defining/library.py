@@ -34,6 +34,36 @@ def with_item(values, index, item):
     return listed(items)
 
 
+def without(values, count):
+    """The list without so many items at its front."""
+    while values and count > 0:
+        values, count = values[1], count - 1
+    return values
+
+
+def take(count, values):
+    """So many items at the front of a list."""
+    items = []
+    while values and len(items) < count:
+        items.append(values[0])
+        values = values[1]
+    return listed(items)
+
+
+def compared(left, right):
+    """How two numbers stand to each other."""
+    return ("Less",) if left < right else ("Greater",) if right < left else ("Equal",)
+
+
+def lists_compared(compare, left, right):
+    """The same of two lists: by the first items that differ, or else the shorter one is less."""
+    for both in zip(items_of(left), items_of(right)):
+        found = applied(compare, *both)
+        if found != ("Equal",):
+            return found
+    return compared(len(items_of(left)), len(items_of(right)))
+
+
 def split_at(test, values):
     """The parts of a list between the items that pass a test."""
     parts = [[]]
@@ -127,7 +157,7 @@ LISTS = {
     "append": (2, appended),
     "concat": (1, joined),
     "count_by": (2, lambda test, values: len(items_of(kept(test, values)))),
-    "drop": (2, lambda count, values: listed(items_of(values)[count:])),
+    "drop": (2, lambda count, values: without(values, count)),
     "filter": (2, kept),
     "filter_map": (2, lambda function, values: listed([it[1] for it in items_of(mapped(function, values)) if it != NONE])),
     "flat_map": (2, lambda function, values: joined(mapped(function, values))),
@@ -138,16 +168,20 @@ LISTS = {
     "map": (2, mapped),
     "pointwise": (3, pointwise),
     "position": (2, position),
+    "position_or_len": (2, lambda test, values: len(items_of(values)) if position(test, values) == NONE else position(test, values)[1]),
     "prefix_len": (2, prefix_length),
     "replicate": (2, lambda count, item: listed([item] * count)),
     "reverse": (1, lambda values: listed(items_of(values)[::-1])),
     "slice_get": (2, option_at),
+    "slice_cmp": (3, lists_compared),
     "slice_index": (2, lambda values, index: item_at(values, index, 0)),
     "slice_index_or": (3, item_at),
+    "slice_range": (3, lambda values, start, end: listed(items_of(values)[start:end])),
     "slice_set": (3, with_item),
     "slice_split": (2, split_at),
+    "starts_with": (3, lambda test, values, front: pointwise(test, take(len(items_of(front)), values), front)),
     "sum_by": (2, lambda function, values: sum(applied(function, item) for item in items_of(values))),
-    "take": (2, lambda count, values: listed(items_of(values)[:count])),
+    "take": (2, take),
 }
 TEXTS = {
     "bytes_eq": (2, lambda left, right: left == right),
@@ -175,6 +209,7 @@ NUMBERS = {
     "nat_eq": (2, lambda left, right: left == right),
     "nat_le": (2, lambda left, right: left <= right),
     "nat_lt": (2, lambda left, right: left < right),
+    "nat_cmp": (2, compared),
     "neg_ℤ": (1, lambda value: -value),
     "negsuc": (1, lambda number: -number - 1),
     "pos": (1, lambda number: number),
@@ -183,25 +218,36 @@ NUMBERS = {
     "zero": (0, lambda: 0),
 }
 CHOICES = {
+    "IsTrue": (1, lambda value: value),
+    "Unit": (0, lambda: True),
+    "beq": (2, lambda left, right: left == right),
     "false": (0, lambda: False),
     "is_none": (1, lambda value: value == NONE),
     "is_some": (1, lambda value: value != NONE),
     "not": (1, lambda value: not value),
     "option_and_then": (2, lambda function, value: NONE if value == NONE else applied(function, value[1])),
     "option_map": (2, option_map),
+    "ordering_then": (2, lambda first, second: second if first == ("Equal",) else first),
     "option_or": (2, lambda first, second: second if first == NONE else first),
     "sameb": (3, lambda decides, left, right: left[0] == right[0]),
     "the_type": (0, lambda: NIL),
     "true": (0, lambda: True),
+    "⊥": (0, lambda: False),
     "unwrap_or": (2, lambda value, otherwise: otherwise if value == NONE else value[1]),
 }
 NAMES = {**LISTS, **TEXTS, **NUMBERS, **CHOICES}
 # Constructors of the library that stay constructors, with how many arguments they have.
-CONSTRUCTORS = {"Some": 1, "None": 0, "Ok": 1, "Err": 1, "inl": 1, "inr": 1}
+CONSTRUCTORS = {"Some": 1, "None": 0, "Ok": 1, "Err": 1, "inl": 1, "inr": 1, "Less": 0, "Equal": 0, "Greater": 0}
 # Constructors of what is no tuple here: numbers and truth values.
 PATTERNS = {"true": 0, "false": 0, "zero": 0, "suc": 1, "pos": 1, "negsuc": 1}
 # Signs between two operands: how tightly each holds, on which side operands group, and what stands for it.
+# Of a relation that can be decided, what it says is True or False.
 SIGNS = {
+    "⊎": (15, "right", "({0} or {1})"),
+    "×": (20, "right", "({0} and {1})"),
+    "≡": (40, "none", "({0} == {1})"),
+    "≤": (40, "none", "({0} <= {1})"),
+    "<": (40, "none", "({0} < {1})"),
     ">>=": (10, "left", "{0} >>= {1}"),
     "+ℤ": (6, "left", "({0} + {1})"),
     "-ℤ": (6, "left", "({0} - {1})"),

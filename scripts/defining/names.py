@@ -38,7 +38,7 @@ class Key:
 
 
 # What no file imports.
-BUILT_IN = {"tt": Constructor("tt", 0)}
+BUILT_IN = {"tt": Constructor("tt", 0), "⊥": Library("⊥"), "Unit": Library("Unit")}
 
 
 class Names:

@@ -203,7 +203,7 @@ class Parser:
 
 def clause_of(definition, clause, is_constructor):
     """The patterns of a clause of a definition, and its term."""
-    text, *steps = re.split(r"\bdo *\n", clause.text)
+    text, *steps = re.split(r"\bdo *\n", clause.text.replace("Unit {0}", "Unit"))
     if len(steps) > 1:
         raise NotUnderstood("a clause may have one do")
     tokens = tokens_of(text)

@@ -1,10 +1,11 @@
 """Runs a program by the definitions, as the headline has it: links, options, what the program means, its first world, the run over the
 lines of a trace."""
+from contextlib import contextmanager
 from dataclasses import dataclass
 
 from defining.definitions import Definitions
 from defining.names import Key
-from defining.values import NIL, Record, applied, bytes_of, listed
+from defining.values import NIL, NONE, Record, applied, bytes_of, items_of, listed
 
 LINKS = Key("snl_channels", "Links", "links")
 TABLES = Key("snl_channels", "Tables", "tables")
@@ -16,6 +17,7 @@ FIRST = Key("snl_load", "First", "first_world_of")
 RULES = Key("snl_trace", "Run", "rules_by")
 RUN = Key("snl_trace", "Run", "run_from")
 LINES = Key("snl_output", "TraceLines", "lines_from")
+FITS = Key("snl_schedule", "Event", "is_event_fit")
 FOOTPRINT = Key("snl_machine", "Footprint", "footprint")
 STATUS = Key("snc", "Outcomes", "status_of")
 CODE = Key("snc", "Outcomes", "code_of")
@@ -37,11 +39,9 @@ class Loaded:
 class Runner:
     """The definitions that a run needs."""
 
-    def __init__(self, root, edit=None):
-        """Reads and writes them, once for many programs; with an edit in one of the files."""
+    def __init__(self, root):
+        """Reads and writes them, once for many programs."""
         self.definitions = Definitions(root)
-        if edit:
-            edit.apply(self.definitions.names)
         self.functions = {key: self.definitions.function(key) for key in NEEDED}
 
     def call(self, key, *arguments):
@@ -49,6 +49,17 @@ class Runner:
         if key not in self.functions:
             self.functions[key] = self.definitions.function(key)
         return applied(self.functions[key], *arguments)
+
+    @contextmanager
+    def with_edit(self, edit):
+        """Has another text in a definition for a while."""
+        functions = self.functions
+        with self.definitions.with_text(*edit.place(), edit.text(self.definitions.names)):
+            self.functions = {}
+            try:
+                yield
+            finally:
+                self.functions = functions
 
     def load(self, tree, given, macros):
         """A program with the options and the macros of a call."""
@@ -64,6 +75,20 @@ class Runner:
         if ran[0] == "Gives":
             return bytes_of(ran[3]), ran[1]
         return bytes_of(ran[4]), ("Fault", ran[1], ran[2])
+
+    def all_fit(self, loaded, trace, budget):
+        """Whether each event that the lines of a trace tell fits the machine of a program, as `Machine::event` asks: up to the first bad line."""
+        fits = self.call(FITS, len(items_of(loaded.task.channels)), loaded.task.program.links)
+        rules, last = self.call(RULES, loaded.task, budget), 0
+        for line in items_of(self.call(LINES, NIL, listed(list(trace)))):
+            read = applied(rules.read, last, line)
+            if read[0] == "Err":
+                break
+            if read[1] != NONE:
+                last, event = read[1][1]
+                if not applied(fits, event):
+                    return False
+        return True
 
     def status(self, end):
         """The status of a call of snlrun whose run ended so."""

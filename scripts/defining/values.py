@@ -14,6 +14,12 @@ class Record:
         """A record with these fields."""
         self.__dict__.update(fields)
 
+    def __eq__(self, other):
+        """Whether all fields are equal."""
+        return self is other or type(other) is Record and self.__dict__ == other.__dict__
+
+    __hash__ = object.__hash__
+
     def but(self, **fields):
         """The same record with other values in some fields."""
         made = Record.__new__(Record)
