@@ -25,7 +25,7 @@ WARNING = re.compile(rb"[^:\n]+:\d+: warning: W[2-9] [^\n]+\n?")
 TABLES = [b"--tables", b"p.st"]
 NEWLINES_AT_END = re.compile(rb'(?:\\n)+"')
 # Fewer than these would be cases that pass with nothing measured.
-LEAST_PAIRS, LEAST_WHOLE, LEAST_COMPLETE, LEAST_RUNS, LEAST_SAME = 85, 37, 31, 13, 150
+LEAST_PAIRS, LEAST_WHOLE, LEAST_COMPLETE, LEAST_RUNS, LEAST_SAME = 97, 44, 39, 13, 150
 # A row of the table of docs/PORTING.md: the program, and how many places of it are left by hand.
 ROW = re.compile(r"^\| `(\w+)` \| [^|]+ \| \d+ \| (\d+) \|$", re.MULTILINE)
 OF_TABLE = 20
@@ -41,8 +41,10 @@ def cases(root):
             yield Run(f"{file.relative_to(root)}: its run", file)
     yield from portfloats.cases(root)
     yield portcuts.Cuts("ports: quotients that are cut, beside exact fractions", root)
+    yield portcuts.Chains("ports: quotients that are stored, beside exact fractions", root)
     yield Included("ports: a file that stands beside the program is read, with its macros")
     yield Table("ports: a table has units and texts as words of a shell")
+    yield Units("ports: a file of units has what was chosen for each channel")
     yield Asked("ports: what snc says stands behind the notes")
 
 
@@ -134,7 +136,58 @@ class Table(Files):
         found = call(programs["port"], folder, "--snc=", "--table", "words", "p.st")
         words = Path(folder, "words").read_text()
         is_told = b'p.st:1: know: text "no:1,yes" has a number between a colon and a comma: it is left out of the table\n' in found[2]
+        is_told = is_told and found[2].startswith(OF_BEFORE)
         return "" if found[0] == 0 and words == WORDS and is_told else repr((found, words))
+
+
+OF_UNITS = """program p ("P=LAB:, Q=B:")
+option +s;
+#define ON 1
+enum { OFF, WARM = -2 }; int m; assign m to "M"; monitor m; int k; assign k to "K"; double one; assign one to "ONE"; monitor one;
+double x; assign x to "{P}X"; monitor x; string t; assign t to "{P}T"; double z[2]; assign z to {"Z1", "Z2"}; string r; assign r to "{Q}R.AINP"; monitor r;
+string q; assign q to "Q"; monitor q; string w; assign w to "W"; monitor w; string e; assign e to "E"; monitor e; time_t now; double v; double u;
+ss s { state w { when (x > 1.5 && z[0] > 1e-8 && !strncmp(r, "OK\\r", 2) && strstr(q, "a*b") && strcmp(e, "\\x41 \\"b\\"\\101") == 0) {
+  if (m == ON || WARM != m) k = pvSeverity(x) + pvSeverity(z[1]) + pvStatus(x); switch (m) { case OFF: k = 2; }
+  now = time(0) - pvTimeStamp(x); sscanf(w, "%lf %lf", &v, &u); if (v > 0.00001) one = u;
+  strcpy(t, "is high"); strcpy(t, "a,b: c"); strcpy(t, "no:1,yes"); strcpy(t, "50% of 'it'"); pvPut(one);
+} exit } }
+"""
+LINES_OF_UNITS = """enum M WARM:-2,OFF:0,ON:1
+scale ONE 1
+scale HALL:X 1000
+enum HALL:T :0,is\\x20high:1,a\\x2cb\\x3a\\x20c:2,no\\x3a1\\x2cyes:3,50\\x25\\x20of\\x20\\x27it\\x27:4
+scale Z1 10000000000
+scale Z2 10000000000
+text B:R.AINP OK*
+text Q *a\\x2ab*
+text W *
+text E A\\x20\\x22b\\x22A
+severity HALL:X.SEVR
+severity Z1.SEVR
+severity Z2.SEVR
+time HALL:X.TIME
+scale W.NUMBER 10000000
+scale W.NUMBER2 1
+time CLOCK
+"""
+OF_BEFORE = b"port: --table is the word of before: --units UNITS writes one file for all tools\n"
+
+
+class Units(Files):
+    """The file of units, with macros of the call in the names of channels."""
+
+    def wrong(self, folder, programs):
+        Path(folder, "p.st").write_text(OF_UNITS)
+        words = ("--snc=", "--units", "units", "--unit", "one=0", "--unit", "w_number2=0", "--macros", " P=HALL: ", "p.st")
+        status, made, said = call(programs["port"], folder, *words)
+        lines = Path(folder, "units").read_text()
+        if status or lines != LINES_OF_UNITS or not made or b": by hand: " in said:
+            return repr((status, said, lines))
+        wrong = call(programs["port"], folder, "--snc=", "--macros", "P", "p.st")
+        if wrong[0] != 2 or not wrong[2].endswith(b"port: error: argument --macros: 'P' is not M=TEXT\n"):
+            return repr(wrong)
+        nowhere = call(programs["port"], folder, "--snc=", "--units", "gone/units", "p.st")
+        return "" if nowhere[0] == 3 and nowhere[2] == b"port: cannot write to gone/units\n" else repr(nowhere)
 
 
 INCLUDED = {

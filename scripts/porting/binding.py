@@ -69,19 +69,24 @@ def stored_by(call: Call) -> Optional[Expression]:
     return behind_and(call.arguments[at]) if is_one else None
 
 
+def all_stored_by(call: Call) -> list[Expression]:
+    """All places that a function of C stores to."""
+    first = stored_by(call)
+    more = call.arguments[3:] if call.function == "sscanf" else []
+    return [*([first] if first is not None else []), *(behind_and(it) for it in more)]
+
+
 def stores_in(node: Node) -> Iterator[Variable]:
     """The variables that an expression stores to."""
     for it in every(node):
-        place = None
+        places: list[Expression] = []
         if isinstance(it, Assignment):
-            place = it.left
+            places = [it.left]
         elif isinstance(it, (Prefix, Postfix)) and it.sign in ("++", "--"):
-            place = it.operand
+            places = [it.operand]
         elif isinstance(it, Call):
-            place = stored_by(it)
-        found = variable_of(place) if place is not None else None
-        if found:
-            yield found
+            places = all_stored_by(it)
+        yield from (found for found in map(variable_of, places) if found)
 
 
 def subscripts_of(place: Expression) -> list[Expression]:
@@ -171,8 +176,7 @@ class Binding:
                 yield node.result
             if isinstance(node, Declarator):
                 yield node.variable
-                if node.variable.number:
-                    yield node.variable.number
+                yield from node.variable.numbers
                 yield from (node.variable.members or {}).values()
 
     def find_texts(self) -> None:

@@ -2,6 +2,7 @@
 from typing import Iterator, Optional
 
 from porting.notes import ByHand
+from porting.parse_expressions import TIGHTNESS
 from porting.statements import Statements
 from porting.tree import Block, Case, Do, For, Function, Node, Plain, Return, Switch, While
 from porting.values import EQUALITY, STORES, held
@@ -21,9 +22,10 @@ class Branches(Statements):
             self.leave_statement(node, str(cause))
 
     def switch(self, node: Switch, function: Optional[Function]) -> None:
-        """`switch`: a chain of `if` in a block."""
-        for case in node.sections:
-            self.refuse_case(case, case is node.sections[-1])
+        """`switch`: a chain of `if` in a block. Where a case goes on in the next one, or ends in its midst, a loop that is left."""
+        if not all(is_closed(it, it is node.sections[-1]) for it in node.sections):
+            self.switch_with_loop(node, function)
+            return
         found = self.whole(self.value(self.kept_apart(node.value, "a 'switch': put it in front")))
         tested, front = held(found, EQUALITY), "{"
         if STORES.search(tested):
@@ -43,18 +45,31 @@ class Branches(Statements):
                 self.statement(it, function)
             self.end_case(case)
 
+    def switch_with_loop(self, node: Switch, function: Optional[Function]) -> None:
+        """`switch` as a loop that is done once: the first case is chosen, those behind it follow, and `break` leaves the loop."""
+        if any(list(jumps_in(it, "continue")) for it in node.sections):
+            raise ByHand("'switch' with a case that goes on in the next one, and 'continue'")
+        found = self.whole(self.value(self.kept_apart(node.value, "a 'switch': put it in front")))
+        tested, front, chosen = held(found, EQUALITY), "{ ", self.free("section")
+        if STORES.search(tested):
+            tested = self.free("chosen")
+            front = f"{{ long {tested} = {found.text}; "
+        tests, other = "", len(node.sections) + 1
+        for at, case in enumerate(node.sections, 1):
+            them = [f"{tested} == {self.label(it)}" for it in case.labels if it is not None]
+            tests += f"{' || '.join(them)} ? {at} : " if them else ""
+            other = at if None in case.labels else other
+            self.change(case.first, case.label_end, f"if ({chosen} <= {at}) {{")
+            for it in case.items:
+                self.statement(it, function)
+            last = case.items[-1].end if case.items else case.label_end
+            self.behind[last - 1] = self.behind.get(last - 1, "") + " }"
+        self.change(node.first, node.value.end + 2, f"{front}int {chosen} = {tests}{other}; while (TRUE) {{")
+        self.change(node.end - 1, node.end, "break; } }")
+
     def label(self, node) -> str:
         """The constant behind `case`."""
         return held(self.whole(self.value(node)), EQUALITY + 1)
-
-    def refuse_case(self, case: Case, is_last: bool) -> None:
-        """Refuses a case that goes on in the next one, or ends in its midst."""
-        end = end_of(case.items)
-        others = [it for it in jumps_in(case, "break") if it is not end]
-        if others:
-            raise ByHand("'switch' with 'break' inside of an 'if'")
-        if not is_last and not (is_jump(end, "break", "continue", "state") or isinstance(end, Return)):
-            raise ByHand("'switch' with a case that goes on in the next one")
 
     def end_case(self, case: Case) -> None:
         """The bracket that ends a case, in the place of its `break`."""
@@ -70,7 +85,8 @@ class Branches(Statements):
     def do_loop(self, node: Do, function: Optional[Function]) -> None:
         """`do`: a `while` that always goes on, and is left where the condition does not hold."""
         if list(jumps_in(node, "continue")):
-            raise ByHand("'continue' inside of a 'do'")
+            self.do_that_goes_on(node, function)
+            return
         is_block = isinstance(node.body, Block)
         is_once = self.spelled(node.condition.first, node.condition.end) == "0" and not list(jumps_in(node, "break"))
         self.statement(node.body, function, is_block)
@@ -83,6 +99,22 @@ class Branches(Statements):
         self.condition(node.condition)
         self.change(behind, node.condition.first, "if (!(")
         self.change(node.condition.end, node.end, ")) break; }")
+
+    def do_that_goes_on(self, node: Do, function: Optional[Function]) -> None:
+        """`do` with `continue`: a `while` that does not ask the first time."""
+        place = "the end of a 'do': put it in its block"
+        test = held(self.truth(self.value(self.kept_apart(node.condition, place))), TIGHTNESS["||"])
+        again = self.free("again")
+        self.statement(node.body, function, False)
+        self.change(node.first, node.first + 1, f"{{ int {again} = FALSE; while (!{again} || {test}) {{ {again} = TRUE;")
+        self.change(node.body.end, node.end, "} }")
+
+
+def is_closed(case: Case, is_last: bool) -> bool:
+    """Whether a case of a `switch` ends with a jump, and has no `break` in its midst."""
+    end = end_of(case.items)
+    others = [it for it in jumps_in(case, "break") if it is not end]
+    return not others and (is_last or is_jump(end, "break", "continue", "state") or isinstance(end, Return))
 
 
 def end_of(items: list[Node]) -> Optional[Node]:

@@ -7,6 +7,7 @@ from porting.parse_expressions import COMMA, TIGHTNESS, WHOLE
 from porting.readings import Readings
 from porting.tree import Call, Expression
 from porting.values import Value
+from porting.words import SLEEPERS
 
 
 class Calls(Readings):
@@ -100,6 +101,16 @@ class Calls(Readings):
             found = self.count(variable.dimensions[0]) if variable.dimensions else 1
         return Value(f"{found} /*{self.named(node)}*/")
 
+    def slept(self, node: Call) -> Value:
+        """A wait in the midst of a block."""
+        self.has_arguments(node, 1)
+        if not node.alone:
+            raise ByHand(f"function '{node.function}'")
+        if not node.waits:
+            text = f"{self.named(node)} is left out: the program goes on at once (--sync wait makes a state that waits)"
+            self.say(node, DECIDE, text)
+        return Value(f"0 /*{self.named(node)}*/")
+
     def channel_count(self, node: Call) -> Value:
         """`pvAssignCount`."""
         self.say(node, KNOW, "pvAssignCount is pvChannelCount here")
@@ -119,6 +130,7 @@ class Calls(Readings):
             self.clock: ("time", "epicsTimeGetCurrent"),
             self.passed: ("difftime", "epicsTimeDiffInSeconds"),
             self.scanned: ("sscanf",),
+            self.slept: tuple(SLEEPERS),
             self.as_it_is: ("pvChannelCount", "pvConnectCount", "efSet", "efClear", "efTest", "efTestAndClear"),
         }
         for reader, names in readers.items():

@@ -183,7 +183,11 @@ class Definitions(Branches):
         if variable.kind is Kind.TEXT:
             return self.text(node).text
         if variable.kind is Kind.QUANTITY:
-            return self.at(self.value(node, variable.digits()), variable.digits(), node).text
+            self.is_first_value = True
+            try:
+                return self.at(self.value(node, variable.digits()), variable.digits(), node).text
+            finally:
+                self.is_first_value = False
         return self.cut(node).text
 
     def embedded_outside(self) -> None:

@@ -9,6 +9,7 @@ from porting.constants import decimals, literal
 from porting.functions import Functions
 from porting.notes import ByHand
 from porting.parse_expressions import ASSIGNMENT, COMMA, CONDITIONAL, PREFIX, WHOLE
+from porting.ratios import has_quotient
 from porting.tree import (
     Assignment,
     Binary,
@@ -60,11 +61,11 @@ class Expressions(Functions):
         value, is_real = literal(node.spelled)
         behind = self.tokens[node.first].behind
         if is_real:
-            return Value(None, kind=Kind.QUANTITY, constant=value, behind=behind)
+            return Value(None, kind=Kind.QUANTITY, constant=value, behind=behind, spelled=node.spelled)
         found = WHOLE_NUMBER.fullmatch(node.spelled)
         suffix = "L" if found and "l" in found[2].lower() else ""
         suffix = found[2] if found and found[2] in ("l", "L") else suffix
-        return Value((found[1] + suffix if found else node.spelled) + behind, constant=value)
+        return Value((found[1] + suffix if found else node.spelled) + behind, constant=value, behind=behind, spelled=node.spelled)
 
     def of_character(self, node: Character) -> Value:
         """A character is the number of its byte."""
@@ -107,10 +108,13 @@ class Expressions(Functions):
         constant = None
         if found.constant is not None and node.sign in ("+", "-"):
             constant = -found.constant if node.sign == "-" else found.constant
+        spelled, behind = found.spelled, found.behind
+        if node.sign == "-":
+            spelled, behind = spelled and f"-{spelled}", behind.replace("/*", "/*-", 1)
         if found.kind is Kind.QUANTITY and constant is not None:
-            return Value(None, kind=Kind.QUANTITY, constant=constant, behind=found.behind)
+            return Value(None, kind=Kind.QUANTITY, constant=constant, behind=behind, spelled=spelled)
         text = self.woven(node, [(node.operand, held(found, PREFIX))])
-        return Value(text, PREFIX, found.kind, found.digits, constant)
+        return Value(text, PREFIX, found.kind, found.digits, constant, behind if constant is not None else "", spelled)
 
     def of_postfix(self, node: Postfix) -> Value:
         """`x++` and `x--`."""
@@ -167,6 +171,13 @@ class Expressions(Functions):
             for call, other in ((node.left, node.right), (node.right, node.left)):
                 if self.is_comparison(call) and self.value(other).constant == 0:
                     return self.compared(call, node.sign)
+            answer = self.answered(node, True)
+            if answer:
+                return answer
+        if node.sign in ("*", "/") and (has_quotient(node.left) or has_quotient(node.right)):
+            found = self.in_one_quotient(node, wanted)
+            if found:
+                return found
         if node.sign in ARITHMETIC:
             inner = None if wanted is None else wanted + (2 if node.sign in "*/" else 0)
         else:

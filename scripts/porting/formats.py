@@ -6,14 +6,13 @@ from porting.binding import CONVERSION, subscripts_of, variable_of
 from porting.constants import decimals
 from porting.notes import DECIDE, KNOW, ByHand
 from porting.parse_expressions import ASSIGNMENT, COMMA
-from porting.texts import Texts
+from porting.questions import Questions
+from porting.texts import BYTE
 from porting.tree import Call, Expression
 from porting.values import Value, held
 from porting.variables import Kind
-from porting.words import PRINTERS, TEXT_FORMATS
+from porting.words import PRINTERS, TEXT_FORMATS, TIME_FORMATS
 
-# A piece of a format: an escape, or any other byte.
-PIECE = re.compile(r"\\(?:[0-7]{1,3}|x[0-9a-fA-F]+|.)|.", re.DOTALL)
 KEPT_ESCAPES = ("\\n", "\\t", "\\\\", '\\"')
 DROPPED_AT_END = ("\\n", "\\r")
 # The digits of a constant whose decimals never end, where it is printed.
@@ -33,18 +32,18 @@ class Printed:
 
 def escapes_kept(text: str) -> str:
     """A text with the escapes that `snc` has."""
-    return "".join(it for it in PIECE.findall(text) if not it.startswith("\\") or it in KEPT_ESCAPES)
+    return "".join(it for it in BYTE.findall(text) if not it.startswith("\\") or it in KEPT_ESCAPES)
 
 
 def without_newline(text: str) -> str:
     """A format without newlines at its end: each `printf` has a line of its own."""
-    pieces = PIECE.findall(text)
+    pieces = BYTE.findall(text)
     while pieces and pieces[-1] in DROPPED_AT_END:
         pieces.pop()
     return "".join(pieces)
 
 
-class Formats(Texts):
+class Formats(Questions):
     """How formats are read and written."""
 
     def printed(self, node: Call, format_at: int) -> str:
@@ -113,6 +112,11 @@ class Formats(Texts):
             made.format += escapes_kept(known.replace("%", "%%"))
             made.is_other = True
             return
+        if isinstance(argument, Call) and argument.function == "pvMessage":
+            self.say(argument, KNOW, "pvMessage: no message is written")
+            made.format += "(message)"
+            made.is_other = True
+            return
         if isinstance(argument, Call) and argument.function == "pvName":
             self.convert_name(argument, made)
             return
@@ -146,7 +150,9 @@ class Formats(Texts):
         if pattern is None:
             raise ByHand("a format that is no constant")
         given = node.arguments[at + 1 :]
-        if not given:
+        if node.function in TIME_FORMATS:
+            self.say(node, DECIDE, "a time as a text: the number is that of its format")
+        if not given or node.function in TIME_FORMATS:
             return Value(f"{place} = {self.listed_text(pattern)}", ASSIGNMENT, Kind.TEXT)
         texts = [it for it in given if self.is_text(it) and self.known_text(it) is None]
         if len(texts) == 1 and pattern.startswith("%s"):

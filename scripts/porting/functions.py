@@ -57,6 +57,8 @@ class Functions(Numbers):
             return self.text_made(node)
         if node.function in TEXT_COMPARISONS:
             return Value(f"({self.compared(node, '!=').text})")
+        if node.function == "strstr":
+            return self.found_in(node)
         if node.function == "strlen":
             return self.length(node)
         return self.parsed(node) if node.function in PARSERS else None

@@ -86,15 +86,26 @@ def replaced(token: Token, macro: Macro, waiting: list[Token]) -> list[Token]:
         behind = (f" /*{token.spelled}*/" if is_shown else "") + token.behind
     else:
         arguments, behind = arguments_of(waiting)
+        names, arguments = with_rest(macro.parameters, arguments, token.line)
         made = []
         for part in macro.body:
-            if part.kind == "name" and part.spelled in macro.parameters[: len(arguments)]:
-                made += placed(arguments[macro.parameters.index(part.spelled)], part, token.line)
+            if part.kind == "name" and part.spelled in names[: len(arguments)]:
+                made += placed(arguments[names.index(part.spelled)], part, token.line)
             else:
                 made.append(part.copy(token.line, part.before))
     if made:
         made[-1].behind += behind
     return made
+
+
+def with_rest(names: list[str], arguments: list[list[Token]], line: int) -> tuple[list[str], list[list[Token]]]:
+    """The parameters of a macro and its arguments; all of them that `...` stands for are one, with commas."""
+    if not names or not names[-1].endswith("..."):
+        return names, arguments
+    count, rest = len(names) - 1, []
+    for argument in arguments[count:]:
+        rest += ([Token("sign", ",", "", line)] if rest else []) + argument
+    return [*names[:count], names[-1][:-3].strip() or "__VA_ARGS__"], [*arguments[:count], rest]
 
 
 def placed(argument: list[Token], part: Token, line: int) -> list[Token]:

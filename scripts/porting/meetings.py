@@ -74,6 +74,13 @@ class Product:
 
 
 @dataclass(frozen=True)
+class Quotient:
+    """A quotient by a quantity, of the quantities in it."""
+
+    groups: tuple[Group, ...]
+
+
+@dataclass(frozen=True)
 class Root:
     """A square root of a quantity."""
 
@@ -88,7 +95,7 @@ class Plain:
 
 
 WHOLE, OTHER = Plain(True), Plain(False)
-Told = Union[Group, Constant, Scaled, Product, Root, Plain]
+Told = Union[Group, Constant, Scaled, Product, Quotient, Root, Plain]
 
 
 def is_small(told: Told) -> bool:
@@ -112,7 +119,8 @@ def meet(left: Told, right: Told) -> Told:
     for one, other in ((left, right), (right, left)):
         if isinstance(one, Scaled):
             return other if isinstance(other, Scaled) and other.digits > one.digits else one
-    return OTHER if OTHER in (left, right) else WHOLE
+    quotients = [it for it in (left, right) if isinstance(it, Quotient)]
+    return quotients[0] if quotients else OTHER if OTHER in (left, right) else WHOLE
 
 
 def join_to(group: Group, other: Told) -> None:
@@ -124,6 +132,8 @@ def join_to(group: Group, other: Told) -> None:
     elif isinstance(other, Product):
         if other.is_plain():
             group.top().products.append(other.factors)
+    elif isinstance(other, Quotient):
+        group.top().quotients.append(other.groups)
     elif isinstance(other, Root):
         group.top().roots.append(other.group)
     elif isinstance(other, Scaled):
@@ -134,6 +144,11 @@ def times(left: Told, right: Told, is_product: bool) -> Told:
     """What a product or a quotient tells."""
     if isinstance(left, Constant) and isinstance(right, Constant) and (is_product or right.value != 0):
         return folded(left, right, is_product)
+    above, below = groups_in(left), groups_in(right)
+    if isinstance(left, Quotient) or isinstance(right, Quotient) or (below and not is_product):
+        if not is_product and isinstance(left, Group) and isinstance(right, Group):
+            left.top().over.append(right)
+        return Quotient(above + below)
     for one, other in ((left, right), (right, left)):
         is_in_reach = is_product or one is left
         if isinstance(one, (Group, Scaled, Product)) and is_factor(other) and is_in_reach:
@@ -148,6 +163,13 @@ def times(left: Told, right: Told, is_product: bool) -> Told:
         one, other = as_product(left), as_product(right)
         return Product(one.factors + other.factors, one.digits + other.digits)
     return WHOLE if left == right == WHOLE else OTHER
+
+
+def groups_in(told: Told) -> tuple[Group, ...]:
+    """The quantities in what is told."""
+    if isinstance(told, (Group, Scaled, Product)):
+        return as_product(told).factors
+    return told.groups if isinstance(told, Quotient) else ()
 
 
 def is_factor_of_whole(told: Told) -> bool:
@@ -315,12 +337,13 @@ class Meetings:
         text = variable_of(node.arguments[0])
         if text is None or text.kind is not Kind.TEXT or text.channels is None:
             return WHOLE
-        if text.number is None:
-            text.number = Variable(f"{text.name}_number", Kind.QUANTITY, "double", [], text.line, Owner.PROGRAM)
-        if node.function == "sscanf" and len(node.arguments) == 3:
-            meet(text.number.group, self.told(behind_and(node.arguments[2])))
-            return WHOLE
-        return text.number.group
+        places = node.arguments[2:] if node.function == "sscanf" else []
+        for at in range(len(text.numbers), max(len(places), 1)):
+            name = f"{text.name}_number{at + 1 if at else ''}"
+            text.numbers.append(Variable(name, Kind.QUANTITY, "double", [], text.line, Owner.PROGRAM))
+        for number, place in zip(text.numbers, places):
+            meet(number.group, self.told(behind_and(place)))
+        return WHOLE if places else text.numbers[0].group
 
 
 def power(below: Told, above: Told) -> Told:

@@ -106,7 +106,9 @@ class Numbers(Delays):
     def root(self, node: Call, wanted: Optional[int]) -> Value:
         """`sqrt`, rounded down."""
         self.has_arguments(node, 1)
-        found = self.value(node.arguments[0], wanted)
+        # A root has half of the digits of what it is of.
+        inner = None if wanted is None else min(2 * wanted, self.most_digits)
+        found = self.value(node.arguments[0], inner)
         if found.constant is not None or found.kind not in (Kind.WHOLE, Kind.QUANTITY):
             raise ByHand("sqrt of a constant")
         digits = max(found.digits, self.least_digits) if wanted is None else wanted
@@ -115,8 +117,8 @@ class Numbers(Delays):
         self.say(node, KNOW, f"sqrt is rounded down in the unit {unit_of(digits)}")
         if up > self.most_digits:
             self.say(node, DECIDE, f"sqrt: what is in it, times 10^{up}, has to stay below 9.2e18")
-        inner = held(found, ASSIGNMENT) if up == 0 else f"{held(found, PRODUCT)} * {10**up}"
-        return Value(f"{self.helper('root')}({inner})", kind=Kind.QUANTITY, digits=digits)
+        text = held(found, ASSIGNMENT) if up == 0 else f"{held(found, PRODUCT)} * {10**up}"
+        return Value(f"{self.helper('root')}({text})", kind=Kind.QUANTITY, digits=digits)
 
     def power(self, node: Call, wanted: Optional[int]) -> Value:
         """`pow` with a constant above: a product, or a constant."""

@@ -144,6 +144,9 @@ class ExpressionParser:
         """`sizeof` of a type or of an expression."""
         first = self.at
         self.step()
+        if not self.next_is("("):
+            operand = self.prefixed()
+            return SizeOf(first, self.at, None, operand)
         self.expect("(")
         if self.is_type():
             type_, operand = self.type(), None

@@ -1,15 +1,16 @@
 """The whole port of a program: its parts in their order, and the text of the new one."""
+import re
 from dataclasses import dataclass
 
 from porting.binding import Binding
 from porting.moved import comment_in_front
-from porting.notes import BY_HAND, DECIDE, KNOW, OTHERWISE, NotUnderstood, Notes
+from porting.notes import BY_HAND, DECIDE, KNOW, OTHERWISE, NotUnderstood, Notes, place_at, places_of
 from porting.numbers import HELPERS
 from porting.parse_program import ProgramParser
 from porting.preprocessor import Preprocessor
 from porting.tokens import harmless
 from porting.tree import Option, Program
-from porting.units import find_units, quantities_by_digits
+from porting.units import find_units, join_channels, quantities_by_digits
 from porting.variables import Kind
 from porting.waiting import Waiting
 from porting.work import Settings, unit_of
@@ -30,11 +31,16 @@ class Ported:
 class Port(Waiting):
     """A port of a program."""
 
+    # The file and the number of each line of the source, as markers in it say.
+    places: list[tuple[str, int]] = []
+
     def run(self) -> str:
         """Ports all parts of the program, and gives the new text."""
+        self.find_questions()
         for it in self.binding.variables():
-            if it.kind is Kind.TEXT and it.is_monitored:
+            if it.kind is Kind.TEXT and it.is_monitored and it.pattern is None:
                 self.notes.add(it.line, DECIDE, f"'{it.name}' {FROM_CHANNEL}")
+        join_channels(list(self.binding.variables()), self.filled, self.notes.add)
         find_units(self.binding, self.settings.units, self.settings.finer, self.notes.add)
         self.find_shared()
         for it in self.program.definitions:
@@ -82,7 +88,22 @@ class Port(Waiting):
         lines = [*self.legend_lines(), *self.refused, *self.reading_definitions(), *self.shared_lines(), *self.helper_lines()]
         # Lines end as they do in the source.
         end = "\r\n" if any("\r\n" in it.before for it in self.tokens) else "\n"
-        self.behind[program.head_end] = option + "".join(f"{end}{it}" for it in [*lines, *self.moved_functions()])
+        added = [*lines, *self.moved_functions()]
+        text = "".join(f"{end}{it}" for it in added)
+        self.behind[program.head_end] = option + text + (self.back_to_source(program, end) if added else "")
+
+    def back_to_source(self, program: Program, end: str) -> str:
+        """A marker behind what is added, so that the lines that follow have the numbers of the source."""
+        at, line = program.head_end + 1, self.tokens[program.head_end].line
+        rest = self.tokens[at].before + (self.tokens[at + 1].before if at == program.semicolon else "")
+        if re.match(r"[ \t]*\r?\n", rest):
+            return end + self.marker(line + 1) if self.marker(line + 1) else ""
+        return end + self.marker(line) + end if self.marker(line) else ""
+
+    def marker(self, line: int) -> str:
+        """The marker in front of a line of the source; nothing where the name of the file can't stand in one."""
+        file, number = place_at(self.places, line)
+        return "" if re.search(r'["\\\n]', file) else f'# {number} "{file}"'
 
     def moved_functions(self) -> list[str]:
         """The functions that are written in front. Where they stood, empty lines stay."""
@@ -92,7 +113,8 @@ class Port(Waiting):
             token = self.tokens[node.first]
             comment = "" if token.embedded else comment_in_front(token.before)
             token.before = token.before.removesuffix(comment) + "\n" * comment.count("\n")
-            texts.append(comment + self.rendered(node.first, node.end).removeprefix(token.before))
+            marker = self.marker(token.line - comment.count("\n"))
+            texts.append((f"{marker}\n" if marker else "") + comment + self.rendered(node.first, node.end).removeprefix(token.before))
             lines = self.spelled(node.first, node.end).count("\n")
             self.drop_changes(node)
             self.changes[node.first] = (node.end, "\n" * lines)
@@ -106,6 +128,8 @@ class Port(Waiting):
         if len(self.legend) > 1:
             texts = (f'{number} "{harmless(text)}"' for text, number in self.legend.items())
             lines.append("texts: " + ", ".join(texts))
+        asked = [f'{it.new_name} "{harmless(it.pattern.shown())}"' for it in self.binding.variables() if it.pattern]
+        lines += [f"1 where the text is so: {', '.join(asked)}"] if asked else []
         return ["/* By port:", *(f"   {it}" for it in lines[:-1]), f"   {lines[-1]} */"] if lines else []
 
     def shared_lines(self) -> list[str]:
@@ -161,6 +185,7 @@ def ported(source: str, path: str, settings: Settings) -> Ported:
         return tokens[node.first].line
 
     port = Port(tokens, program, notes, settings, Binding(program, parser.structures, line_of))
+    port.places = places_of(source, path)
     for _ in preprocessor.lines_by_hand if not settings.is_sketch else ():
         port.refused.append(f"monitor {port.by_hand_word}; /* by hand: a file is left out */")
     return Ported(port.run(), notes, port)

@@ -5,13 +5,22 @@ from fractions import Fraction
 from math import lcm
 from typing import Optional
 
+from porting.binding import variable_of
 from porting.calls import Calls
-from porting.tree import Binary, Cast, Expression, Parentheses, Prefix
-from porting.values import PRODUCT, STORES, SUM, Value, held, number
+from porting.notes import DECIDE
+from porting.tree import Binary, Call, Cast, Expression, Number, Parentheses, Prefix
+from porting.values import HALF_LIMIT, PRODUCT, STORES, SUM, Value, held, number
 from porting.variables import Kind
+from porting.words import TRANSCENDENTAL
 from porting.work import MOST_OF_UNIT
 
 SIGNS = ("+", "-", "*", "/")
+# The factor at most of what stands above in a quotient, and below.
+MOST_OF_FACTOR = 10**12
+# The tokens at most of a quotient that is rounded once.
+LONGEST = 60
+# Functions whose result has decimals.
+OF_DECIMALS = TRANSCENDENTAL | {"fabs", "fmod", "fmin", "fmax", "floor", "ceil", "pow", "atof", "trunc", "rint"}
 QUOTIENT = re.compile(r"/(?!\*)(?<!\*/)|%")
 
 
@@ -46,6 +55,37 @@ class Ratios(Calls):
         is_one = found is not None and found.is_real and found.top is not None
         return found if is_one and found.digits <= MOST_OF_UNIT else None
 
+    def in_one_quotient(self, node: Expression, wanted: Optional[int]) -> Optional[Value]:
+        """A quotient that is multiplied or divided again, rounded once; None where it has no room so."""
+        is_short = node.end - node.first <= LONGEST
+        found = self.ratio_of(node) if is_short and self.is_of_decimals(node) else None
+        if found is None or not found.is_real or found.top is found.bottom or found.digits > MOST_OF_UNIT:
+            return None
+        digits = self.least_digits if wanted is None else min(wanted, self.most_digits)
+        scale = found.scale * 10**digits
+        if not 0 < abs(scale.numerator) <= MOST_OF_FACTOR or scale.denominator > MOST_OF_FACTOR:
+            return None
+        top, bottom = self.written_ratio(replace(found, scale=scale))
+        if bottom == "1":
+            return Value(top.text, top.tightness, Kind.QUANTITY, digits)
+        if abs(scale.numerator) > 10**HALF_LIMIT:
+            self.say(node, DECIDE, f"a quotient: what stands above, times {abs(scale.numerator)}, has to stay below 9.2e18")
+        return Value(self.rounded(top.text, bottom, node), kind=Kind.QUANTITY, digits=digits)
+
+    def is_of_decimals(self, node: Expression) -> bool:
+        """Whether an expression has a number with decimals in it, and not in a subscript or an argument."""
+        if isinstance(node, (Parentheses, Prefix, Binary)):
+            return any(self.is_of_decimals(it) for it in node.children())
+        if isinstance(node, Cast):
+            return node.type.kind is Kind.QUANTITY
+        if isinstance(node, Number):
+            return bool(re.search(r"[.eE]", node.spelled)) and not node.spelled.lower().startswith("0x")
+        if isinstance(node, Call):
+            function = self.binding.functions.get(node.function)
+            return function.result.kind is Kind.QUANTITY if function else node.function in OF_DECIMALS
+        variable = variable_of(node)
+        return variable is not None and variable.kind is Kind.QUANTITY
+
     def ratio_of(self, node: Expression) -> Optional[Ratio]:
         """A part of a quotient."""
         if isinstance(node, Parentheses) and has_quotient(node):
@@ -56,6 +96,8 @@ class Ratios(Calls):
         if isinstance(node, Prefix) and node.sign == "-" and has_quotient(node):
             found = self.ratio_of(node.operand)
             return found and replace(found, scale=-found.scale)
+        if isinstance(node, Binary) and node.sign == "*" and not has_quotient(node):
+            return self.product_of_ratio(node)
         if isinstance(node, Binary) and node.sign in SIGNS and has_quotient(node):
             left, right = self.ratio_of(node.left), self.ratio_of(node.right)
             if left is None or right is None:
@@ -64,6 +106,14 @@ class Ratios(Calls):
                 return joined(node.sign, left, right)
             return self.part_of_ratio(node)
         return self.part_of_ratio(node)
+
+    def product_of_ratio(self, node: Binary) -> Optional[Ratio]:
+        """A product in a quotient: a constant with decimals goes into the scale, so that it needs no digits of its own."""
+        sides = [self.value(it) for it in (node.left, node.right)]
+        if sum(it.constant is not None and it.kind is Kind.QUANTITY for it in sides) != 1:
+            return self.part_of_ratio(node)
+        left, right = self.ratio_of(node.left), self.ratio_of(node.right)
+        return None if left is None or right is None else joined("*", left, right)
 
     def part_of_ratio(self, node: Expression) -> Optional[Ratio]:
         """An expression without a quotient of decimals in it."""

@@ -8,7 +8,7 @@ from typing import Optional
 from porting.binding import CONVERSION, behind_and, subscripts_of, variable_of
 from porting.formats import Formats
 from porting.notes import DECIDE, KNOW, OTHERWISE, ByHand
-from porting.parse_expressions import ASSIGNMENT
+from porting.parse_expressions import ASSIGNMENT, COMMA
 from porting.tree import Call, Expression, Name, Number
 from porting.values import SUM, Value, held
 from porting.variables import Kind, Variable
@@ -50,26 +50,30 @@ class Readings(Formats):
         self.say(node, KNOW, f"{node.function}{seconds}: {CHANNEL}", OTHERWISE)
         return Value(name)
 
-    def number_in(self, node: Call) -> Value:
-        """The number that is written in a text from a channel."""
+    def number_in(self, node: Call, at: int = 0) -> Value:
+        """A number that is written in a text from a channel, from the first one on."""
         variable = variable_of(node.arguments[0])
-        if variable is None or variable.number is None:
+        if variable is None or at >= len(variable.numbers):
             raise ByHand(f"function '{node.function}'")
-        name = self.reading(node, variable, "NUMBER")
-        variable.number.new_name = self.readings[variable, "NUMBER"]
-        self.say(node, DECIDE, f"{node.function}: the number in the text is {CHANNEL.replace('the value', 'the text')}")
-        return Value(name, kind=Kind.QUANTITY, digits=variable.number.digits())
+        field = number_field(at)
+        name = self.reading(node, variable, field)
+        variable.numbers[at].new_name = self.readings[variable, field]
+        what = "number in the text is read from a channel" if at == 0 else "numbers in the text are read from channels"
+        self.say(node, DECIDE, f"{node.function}: the {what} of {'its' if at == 0 else 'their'} own, which the trace has to bring before the text")
+        return Value(name, kind=Kind.QUANTITY, digits=variable.numbers[at].digits())
 
     def scanned(self, node: Call) -> Value:
-        """`sscanf` of one number: it is taken as found always."""
+        """`sscanf` of numbers: they are taken as found always."""
         self.has_arguments(node, 3)
-        words = [it for it in CONVERSION.findall(self.known_text(node.arguments[1]) or "") if not it.endswith("%")]
-        place = behind_and(node.arguments[2])
-        if len(node.arguments) != 3 or len(words) != 1 or words[0][-1] not in "diuefgEG" or place is node.arguments[2]:
-            raise ByHand("sscanf of other than one number")
-        found = self.number_in(node)
-        text = self.stored_to(place, found, node)
-        return Value(text, ASSIGNMENT) if node.alone else Value(f"({text}, 1)")
+        words = [it for it in CONVERSION.findall(self.known_text(node.arguments[1]) or "") if not it.endswith("%") and "*" not in it]
+        places = [behind_and(it) for it in node.arguments[2:]]
+        are_places = all(place is not it for place, it in zip(places, node.arguments[2:]))
+        if len(words) != len(places) or any(it[-1] not in "diuefgEG" for it in words) or not are_places:
+            raise ByHand("sscanf of other than numbers")
+        texts = [self.stored_to(it, self.number_in(node, at), node) for at, it in enumerate(places)]
+        if len(texts) == 1 and node.alone:
+            return Value(texts[0], ASSIGNMENT)
+        return Value(", ".join(texts), COMMA) if node.alone else Value(f"({', '.join(texts)}, {len(texts)})")
 
     def stored_to(self, place: Expression, found: Value, node: Call) -> str:
         """A store of a number to a place."""
@@ -120,6 +124,11 @@ class Readings(Formats):
             names = ", ".join(channel(it) for it in channels.names)
             return f"{type_} {name}[{self.size(variable.dimensions[0])}]; assign {name} to {{{names}}}; monitor {name};"
         return f"{type_} {name}; assign {name} to {channel(channels.names[0])}; monitor {name};"
+
+
+def number_field(at: int) -> str:
+    """The field of a number in a text: NUMBER, and then NUMBER2."""
+    return f"NUMBER{at + 1 if at else ''}"
 
 
 def field_of(channel: str, field: str) -> str:

@@ -1,8 +1,7 @@
 """Variables that state sets share: without safe mode they become links without a channel, which hand values on."""
 from dataclasses import dataclass, field
-from typing import Optional
 
-from porting.binding import behind_and, stored_by, subscripts_of, variable_of
+from porting.binding import all_stored_by, behind_and, subscripts_of, variable_of
 from porting.definitions import Definitions
 from porting.notes import BROKEN, DECIDE, KNOW, OTHERWISE, REST
 from porting.tree import (
@@ -95,9 +94,9 @@ class Sharing(Definitions):
     def uses(self, node: Node) -> Uses:
         """The uses in a node, with those of the functions that it calls."""
         found = Uses()
-        place: Optional[Node] = None
+        places: list[Expression] = []
         if isinstance(node, Assignment):
-            place = node.left
+            places = [node.left]
             self.store(found, node.left)
             if node.sign != "=":
                 self.read(found, node.left)
@@ -105,15 +104,16 @@ class Sharing(Definitions):
             self.store(found, node.operand)
         elif isinstance(node, Call):
             found.add(self.function_uses.get(node.function, Uses()))
-            place = stored_by(node)
-            if place is not None:
-                self.store(found, place)
+            places = all_stored_by(node)
+            for it in places:
+                self.store(found, it)
             if node.function == "pvPut":
                 return found
         elif isinstance(node, Name):
             self.read(found, node)
         for child in node.children():
-            is_place = place is not None and behind_and(child) is place
+            place = behind_and(child) if isinstance(child, Expression) else child
+            is_place = any(it is place for it in places)
             for it in subscripts_of(place) if is_place else [child]:
                 found.add(self.uses(it))
         return found

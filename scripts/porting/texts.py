@@ -27,6 +27,8 @@ from porting.values import EQUALITY, STORES, Value
 from porting.variables import Kind
 from porting.words import MACRO_VALUES, TEXT_COMPARISONS, TEXT_COPIES, TEXT_FORMATS
 
+# A byte of a text, as C spells it.
+BYTE = re.compile(r"\\(?:[0-7]{1,3}|x[0-9a-fA-F]+|.)|.", re.DOTALL)
 # A text has fewer letters than this.
 LONGEST_TEXT = 39
 
@@ -40,6 +42,7 @@ class Texts(Places):
         macros = self.program.macros.text if self.program.macros else ""
         pairs = [it.split("=", 1) for it in macros.split(",") if "=" in it]
         self.macro_values = {name.strip(): value.strip() for name, value in pairs}
+        self.macro_values.update(self.settings.macros)
 
     def number_of(self, text: str) -> int:
         """The number of a text, which is put on the list where it has none."""
@@ -80,7 +83,8 @@ class Texts(Places):
         if not isinstance(name, Text):
             return None
         value = self.macro_values.get(name.text, "")
-        self.say(node, DECIDE, f"macro '{name.text}' is taken as '{value}', as behind the program's name")
+        where = "--macros says" if name.text in self.settings.macros else "behind the program's name"
+        self.say(node, DECIDE, f"macro '{name.text}' is taken as '{value}', as {where}")
         return value
 
     def channel_name(self, node: Call) -> Optional[str]:
@@ -119,7 +123,7 @@ class Texts(Places):
 
     def is_comparison(self, node: Expression) -> bool:
         """Whether an expression is a comparison of texts."""
-        return isinstance(node, Call) and node.function in TEXT_COMPARISONS
+        return isinstance(node, Call) and (node.function in TEXT_COMPARISONS or node.function == "strstr")
 
     def compared(self, node: Call, sign: str) -> Value:
         """A comparison of two texts."""
@@ -140,7 +144,8 @@ class Texts(Places):
         for one, other in ((node.arguments[0], node.arguments[1]), (node.arguments[1], node.arguments[0])):
             known = self.known_text(other)
             if known is not None and count is not None:
-                return (one, known[: int(count)]) if count <= len(known) else None
+                letters = BYTE.findall(known)
+                return (one, "".join(letters[: int(count)])) if count <= len(letters) else None
         if count is None or count < LONGEST_TEXT:
             raise ByHand("strncmp of a part of a text")
         return None
@@ -178,6 +183,10 @@ class Texts(Places):
     def length(self, node: Call) -> Value:
         """`strlen`: whether a text is empty."""
         self.has_arguments(node, 1)
+        known = self.known_text(node.arguments[0])
+        if known is not None:
+            found = len(BYTE.findall(known))
+            return Value(f"{found} /*{self.named(node)}*/", constant=Fraction(found))
         if not self.is_text(node.arguments[0]):
             raise ByHand("function 'strlen'")
         self.say(node, DECIDE, "strlen is 1 where the text is not empty")

@@ -2,14 +2,15 @@
 
 Quantities that are added, compared or assigned to one another have one K. It is at least 3, so large that each constant that
 meets them is whole, and at least 100 units (1000 where its decimals never end), and at most 12. Where small steps are added up,
-it is so large that a step of the usual size has 1000 units.
+it is so large that a step of the usual size has 1000 units. What no constant tells has the unit of the product or the quotient that
+is stored in it, or of what it is divided by.
 """
 from fractions import Fraction
 
 from porting.binding import Binding
 from porting.constants import decimals
 from porting.meetings import Meetings
-from porting.notes import DECIDE, KNOW, UNITS
+from porting.notes import DECIDE, KNOW, OTHERWISE, UNITS
 from porting.variables import Group, Kind, Owner, Variable
 from porting.work import LEAST_DIGITS, MOST_DIGITS, unit_of
 
@@ -17,6 +18,10 @@ from porting.work import LEAST_DIGITS, MOST_DIGITS, unit_of
 OF_FACTOR, OF_STEP = 2, 3
 # The digits at most that a step asks for, so that products with what is added up have room.
 MOST_OF_STEP = 10
+# The digits at most that a quotient gets from what is in it.
+MOST_OF_QUOTIENT = 6
+# What a channel is that has values of a kind.
+KINDS = {Kind.WHOLE: "a whole number", Kind.QUANTITY: "a quantity", Kind.TEXT: "a text"}
 
 
 def needed(constant: Fraction) -> int:
@@ -34,6 +39,23 @@ def names_of(group: Group) -> list[str]:
     return sorted({it.new_name for it in group.members if it.owner is not Owner.RESULT})
 
 
+def join_channels(variables: list[Variable], filled, note) -> None:
+    """Quantities of one channel have one unit. A channel of which numbers of two kinds are read, or texts too, is told."""
+    readers: dict[str, list[Variable]] = {}
+    for it in variables:
+        for name in it.channels.all_names() if it.channels else []:
+            readers.setdefault(filled(name).removesuffix(".VAL"), []).append(it)
+    for channel, them in readers.items():
+        quantities = [it for it in them if it.kind is Kind.QUANTITY]
+        for it in quantities[1:]:
+            quantities[0].group.join(it.group)
+        first = {it.kind: it for it in reversed(them) if it.kind in KINDS}
+        if len(first) > 1:
+            told = ", ".join(f"{KINDS[kind]} for '{it.name}'" for kind, it in first.items())
+            text = f"channel {channel} is {told}: a trace has one number for all of them"
+            note(max(it.line for it in first.values()), DECIDE, text, OTHERWISE)
+
+
 def find_units(binding: Binding, units: dict[str, int], finer: int, note) -> None:
     """Gives each group of quantities its digits, and notes where nothing tells them. `note` gets a line, a kind and a text."""
     Meetings(binding)
@@ -47,6 +69,8 @@ def find_units(binding: Binding, units: dict[str, int], finer: int, note) -> Non
     by_factors(groups)
     for group in sorted(groups, key=lambda it: not it.products):
         by_products(group, note)
+    for group in groups:
+        by_quotients(group)
     by_steps(groups, note)
     tell_unknown(groups, note)
     for group in groups:
@@ -82,6 +106,15 @@ def by_products(group: Group, note) -> None:
         what = "product" if sums else "root"
         text = f"{', '.join(names_of(group))}: the unit of a {what} is taken, {unit_of(group.digits)}"
         note(group.members[0].line, DECIDE, text, UNITS)
+
+
+def by_quotients(group: Group) -> None:
+    """A quotient that no constant tells has the digits of what is in it, but not very many, and what stands above those of below."""
+    if group.is_told:
+        return
+    parts = [it.top().digits for them in group.quotients for it in them]
+    below = [it.top().digits for it in group.over]
+    group.digits = max(group.digits, min(max(parts, default=0), MOST_OF_QUOTIENT), *below)
 
 
 def by_steps(groups: list[Group], note) -> None:

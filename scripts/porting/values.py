@@ -32,8 +32,9 @@ class Value:
     # K where its unit is 10^-K.
     digits: int = 0
     constant: Optional[Fraction] = None
-    # The comment that names the constant.
+    # The comment that names the constant, and how the source spells one with decimals.
     behind: str = ""
+    spelled: str = ""
 
 
 def held(value: Value, tightness: int) -> str:
@@ -55,6 +56,8 @@ class Arithmetic(Work):
     def __init__(self, *given):
         super().__init__(*given)
         self.helpers: set[str] = set()
+        # Whether a first value is written: numbers stay bare there.
+        self.is_first_value = False
 
     def helper(self, name: str) -> str:
         """The name of a function of the port, which is written in front."""
@@ -101,7 +104,9 @@ class Arithmetic(Work):
         if exact.denominator > 1:
             text = f"constant {shown(value.constant)} is rounded to {whole} in the unit {unit_of(digits)}"
             self.say(node, DECIDE, text, UNITS)
-        return replace(number(whole, value.behind, Kind.QUANTITY, digits), constant=value.constant)
+        is_other = bool(value.spelled) and bool(digits) and whole != 0 and not self.is_first_value
+        behind = value.behind or (f" /*{value.spelled}*/" if is_other else "")
+        return replace(number(whole, behind, Kind.QUANTITY, digits), constant=value.constant)
 
     def huge(self, value: Value, digits: int, node: Expression) -> Value:
         """A constant that has no room, as 1.0e30 for no value: a number that is more than any value."""

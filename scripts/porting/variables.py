@@ -54,6 +54,9 @@ class Group:
     # Products that are stored in it as they are, and whether quantities are added up in it: then each of them is a step, too.
     stored: list[tuple[tuple["Group", ...], int, bool]] = field(default_factory=list)
     is_sum: bool = False
+    # The quantities of quotients that are stored in it, and those by which it is divided.
+    quotients: list[tuple["Group", ...]] = field(default_factory=list)
+    over: list["Group"] = field(default_factory=list)
     # Groups of which it is a square root.
     roots: list["Group"] = field(default_factory=list)
     is_given: bool = False
@@ -79,6 +82,8 @@ class Group:
             here.steps += there.steps
             here.roots += there.roots
             here.stored += there.stored
+            here.quotients += there.quotients
+            here.over += there.over
             here.is_sum = here.is_sum or there.is_sum
 
 
@@ -120,8 +125,10 @@ class Variable:
     is_text: bool = False
     members: "Optional[dict[str, Variable]]" = None
     group: Optional[Group] = None
-    # The number that is written in it, where it is a text of a channel from which one is read.
-    number: "Optional[Variable]" = None
+    # What is asked of it, where it is a text of a channel of which one thing alone is.
+    pattern: Optional[object] = None
+    # The numbers that are written in it, where it is a text of a channel from which some are read.
+    numbers: "list[Variable]" = field(default_factory=list)
 
     def __post_init__(self):
         self.new_name = self.new_name or self.name

@@ -1,12 +1,14 @@
 """With `--sync wait`: a put with SYNC becomes one with ASYNC at the end of its block, and a state that waits for the answer."""
 import re
 from fractions import Fraction
+from typing import Optional
 
 from porting.binding import variable_of
 from porting.constants import decimal_text, nearest
 from porting.notes import KNOW, OTHERWISE
 from porting.sharing import Sharing
 from porting.tree import Action, Call, Clause, Declaration, Name, Node, State
+from porting.words import SLEEPERS
 
 # What the sequencer waits at most for an answer, where nothing is said.
 SECONDS = "10"
@@ -34,7 +36,14 @@ class Waiting(Sharing):
         leads_back = self.tokens[clause.end - 1].spelled == self.tokens[state.first + 1].spelled
         if any(isinstance(it, Declaration) for it in items) or (leads_back and (state.entries or state.exits)):
             return []
-        return [it for it in items if isinstance(it, Action) and self.is_put_that_waits(it.expression)]
+        return [it for it in items if isinstance(it, Action) and (self.is_put_that_waits(it.expression) or self.slept_seconds(it.expression))]
+
+    def slept_seconds(self, node: Node) -> Optional[Fraction]:
+        """The seconds that a function of C waits, where they are a constant, to the millisecond; None where there is none."""
+        if not isinstance(node, Call) or node.function not in SLEEPERS or len(node.arguments) != 1:
+            return None
+        found = self.value(node.arguments[0]).constant
+        return None if found is None else Fraction(nearest(found * SLEEPERS[node.function] * 1000), 1000) or None
 
     def is_put_that_waits(self, node: Node) -> bool:
         """Whether an expression is a `pvPut` with SYNC of a place that other states see, too."""
@@ -71,9 +80,13 @@ class Waiting(Sharing):
 
     def waiting_state(self, name: str, put: Call, rest: str, target: str) -> str:
         """A state that waits for the answer to a put, and goes on after some seconds without one."""
+        block = f"{{ {rest} }}" if rest else "{}"
+        seconds = self.slept_seconds(put)
+        if seconds is not None:
+            self.say(put, KNOW, f"{self.named(put)}: a state waits so long", OTHERWISE)
+            return f" state {name} {{ when (delay({decimal_text(seconds)})) {block} {target} }}"
         answered, late = self.asked_of(put), self.timeout_of(put)
         self.say(put, KNOW, "SYNC: a state waits for the answer, which the trace brings by a line done", OTHERWISE)
-        block = f"{{ {rest} }}" if rest else "{}"
         return f" state {name} {{ when ({answered} || {late}) {block} {target} }}"
 
     def asked_of(self, put: Call) -> str:

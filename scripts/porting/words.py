@@ -1,4 +1,5 @@
 """Words of SNL and of C that the port knows: types, their sizes, constants, and functions that print."""
+from fractions import Fraction
 
 WHOLE_TYPES = frozenset(
     "char short int long unsigned int8_t uint8_t int16_t uint16_t int32_t uint32_t int64_t uint64_t".split()
@@ -49,7 +50,11 @@ TIMES = frozenset({"time_t", "epicsTimeStamp", "TS_STAMP"})
 # Functions that read a number from the front of a text.
 PARSERS = frozenset({"atoi", "atol", "atof"})
 # Functions that write a text by a format, with the place of the format.
-TEXT_FORMATS = {"sprintf": 1, "snprintf": 2, "epicsSnprintf": 2}
+TEXT_FORMATS = {"sprintf": 1, "snprintf": 2, "epicsSnprintf": 2, "strftime": 2, "epicsTimeToStrftime": 2}
+# Those that write a time.
+TIME_FORMATS = frozenset({"strftime", "epicsTimeToStrftime"})
+# Functions that wait in the midst of a block, and of how many seconds the unit of their argument is.
+SLEEPERS = {"epicsThreadSleep": Fraction(1), "sleep": Fraction(1), "usleep": Fraction(1, 10**6), "taskDelay": Fraction(1, 60)}
 TEXT_COMPARISONS = frozenset({"strcmp", "strncmp", "strcasecmp", "epicsStrCaseCmp"})
 MACRO_VALUES = frozenset({"macValueGet", "seqMacGet", "seqMacValGet"})
 ABSOLUTES = frozenset({"fabs", "abs", "labs", "fabsf"})

@@ -30,6 +30,8 @@ class Settings:
     delays: tuple[Fraction, ...] = ()
     # Whether a state is made that waits for the answer to a put with SYNC.
     waits: bool = False
+    # The texts of macros in the names of channels, as the call of the program gives them.
+    macros: dict[str, str] = field(default_factory=dict)
 
 
 class Work:
