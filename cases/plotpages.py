@@ -30,7 +30,7 @@ ELEMENTS = {
     "a": "href data-t class",
     "div": "class tabindex role aria-label",
     "button": "data-k",
-    "svg": "id role aria-label data-l data-w data-h data-t0 data-t1 data-zero data-days data-rows data-col "
+    "svg": "id role aria-label data-l data-w data-h data-t0 data-t1 data-zero data-days data-rows data-col data-foot "
     "width height viewbox xmlns class x y preserveaspectratio",
     "defs": "",
     "pattern": "id width height patternunits patterntransform",
@@ -110,6 +110,8 @@ def read_page(data):
     hashes = {it: base64.b64encode(hashlib.sha256(body.encode()).digest()).decode() for it, body in page.inside.items()}
     policy = f"default-src 'none'; style-src 'sha256-{hashes['style']}'; script-src 'sha256-{hashes['script']}'"
     page.wrong += [] if f'<meta http-equiv="Content-Security-Policy" content="{policy}">' in text else ["the policy"]
+    # In a browser that makes pages dark the picture has to bring its own ground.
+    page.wrong += [] if '</defs>\n<rect width="100%" height="100%" fill="#fff"/>\n' in text else ["the ground of the picture"]
     page.wrong += [] if text.index("Content-Security") < text.index("<style>") else ["the policy comes late"]
     begin, end = text.index('<svg id="pic"'), text.index("</svg>\n<details")
     try:

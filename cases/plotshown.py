@@ -65,6 +65,10 @@ def labels(programs, folder):
     found = [(float(x), y, side, text) for x, y, side, hidden, text in LABEL.findall(stdout.decode()) if not hidden]
     if status or len(found) < 5:
         return f"{len(found)} labels: {stderr.decode()}"
+    lines = {y for _, y, _, _ in found}
+    bare = {y for _, y, _, hidden, _ in LABEL.findall(stdout.decode()) if hidden}
+    if not bare or bare & lines:
+        return f"marks without texts stand in {bare}, and texts in {lines}"
     ends: dict = {}
     for x, y, side, shown in found:
         wide = 14 + sum(WIDE_LETTERS.get(it, 6.7) for it in shown)

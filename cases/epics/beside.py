@@ -11,7 +11,7 @@ from typing import Callable
 
 from server import environment, serving
 from stage import EXAMPLES, HERE, NotSo, Stage, comments, events, failed, is_rising, untimed
-from wire import Channel
+from wire import TYPES, Channel
 
 INSTALL = "apt-get install -y --no-install-recommends python3-pyepics"
 # A case that fails is tried again where it did not come to run for so many ms: a delay of the program may have been over by that.
@@ -111,6 +111,7 @@ def cases():
         ("ten channels of all types, answers, a server that dies and comes back", of_permit, permit),
         ("light: the lamp goes and comes back, a put is refused", of_light, light),
         ("a program that ends or faults right behind a put", of_last, last),
+        ("time stamps, the clock, and the texts of an enumeration, by a file of units", of_stamps, stamps),
     ):
         yield Beside(f"scripts/epics: {name}", channels, check)
 
@@ -288,6 +289,40 @@ def of_turn(turn, place):
     """The lines of a run for a turn."""
     moves = [f"put LAB:PLACE {place}", "go drive rests moves", f"put LAB:REPORT {turn}", "go drive moves tells"]
     return [*moves, f"print drive told {turn}", "go drive tells rests"]
+
+
+STAMP, EPOCH = 1_100_000_000, 631_152_000
+
+
+def of_stamps():
+    """A channel of each type with a stamp, and an enumeration with texts."""
+    found = [Channel(f"LAB:{it.upper()}", it, ["7" if it == "string" else 7]) for it in TYPES]
+    for it in found:
+        it.stamp = STAMP
+    found[TYPES.index("enum")].values, found[TYPES.index("enum")].states = [1], ["Shut", "Not Open"]
+    return found
+
+
+def stamps(stage, server):
+    """Each value with its stamp in front, whatever its type is; the enumeration by its text."""
+    names = [f"LAB:{it.upper()}" for it in TYPES]
+    lines = [f"time {it}.TIME" for it in names] + ["time CLOCK", "enum LAB:STRING 7:7", "enum LAB:ENUM Not\\x20Open:5,Shut:6"]
+    (stage.folder / "u").write_text("".join(f"{it}\n" for it in lines))
+    script = stage.start("record", "--units", "u", "CLOCK", *names, *(f"{it}.TIME" for it in names))
+
+    def values():
+        """The lines of values, but for those of the clock."""
+        return [it for it in events(script.text("out")) if it.startswith("val ") and "CLOCK" not in it]
+
+    stage.wait("all values", lambda: len(values()) == 2 * len(names))
+    server.channels["LAB:ENUM"].stamp = STAMP + 9
+    server.call(server.set, "LAB:ENUM", [0])
+    stage.wait("two more", lambda: len(values()) == 2 * len(names) + 2)
+    stage.same("the status", [script.end()], [0])
+    of_names = {it: 5 if it == "LAB:ENUM" else 7 for it in names}
+    wanted = [it for name, value in of_names.items() for it in (f"val {name}.TIME {STAMP + EPOCH}", f"val {name} {value}")]
+    stage.same("the values", sorted(values()[:-2]), sorted(wanted))
+    stage.same("the last ones", values()[-2:], [f"val LAB:ENUM.TIME {STAMP + EPOCH + 9}", "val LAB:ENUM 6"])
 
 
 LAST = """program last

@@ -125,7 +125,7 @@ def wrong(stage):
         (("record", "A B"), 2, "a trace cannot name the channel 'A B'"),
         (("record", "A", "--seconds", "0"), 2, "argument --seconds"),
         (("record", "A", "--put"), 2, "unrecognized arguments: --put"),
-        (("live", "--", "snlrun"), 2, "the following arguments are required: --tables"),
+        (("live", "--", "snlrun"), 2, "no word of the call is the source of a program: name it by --program"),
         ((*live,), 2, "the following arguments are required: WORD"),
         ((*live, "--", "./no-such-program"), 3, "live.py: ./no-such-program: No such file or directory"),
         ((*live, "--keep", "no/folder", "--", "true"), 3, "live.py: no/folder: No such file or directory"),

@@ -107,7 +107,7 @@ class Circuit(asyncio.Protocol):
 
     def read(self, kind, count, one, two, _payload):
         """The values of a channel, once."""
-        if one in self.channels and kind <= wire.LAST_WITH_STAMP:
+        if one in self.channels and (kind <= wire.LAST_WITH_STAMP or kind == wire.WITH_TEXTS):
             body, many = self.channels[one][0].body(kind, count)
             self.say(wire.READ_NOTIFY, body, kind, many, wire.NORMAL, two)
         else:

@@ -16,6 +16,7 @@ SECONDS = 120
 # The first comment of a trace, and that it is late.
 HEAD = re.compile(r"(live|record)\.py \d+\.\d+\.\d+(, program \w+)?, \d{4}-\d\d-\d\dT\d\d:\d\d:\d\d[+-]\d{4}"
                   r"(, SHA-256 of \S+ [0-9a-f]{64})?, called with .+")  # fmt: skip
+ZERO = re.compile(r"zero \d{4}-\d\d-\d\dT\d\d:\d\d:\d\d\.\d{3}[+-]\d\d:\d\d")
 BEHIND = re.compile(r"behind by \d+ ms at \d+; \d+ events wait")
 
 
@@ -84,9 +85,9 @@ class Stage:
         path.write_bytes(ran.stdout)
         return path
 
-    def live(self, program, *words, snlrun=(), **how):
-        """Starts live.py over a program, with words in front of `--` and behind the program."""
-        words = ("--tables", self.tables(program), "--keep", "live.kept", "--force", *words)
+    def live(self, program, *words, snlrun=(), has_tables=True, **how):
+        """Starts live.py over a program, with words in front of `--` and behind the program; with tables, as by the old word."""
+        words = (*(("--tables", self.tables(program)) if has_tables else ()), "--keep", "live.kept", "--force", *words)
         return self.start("live", *words, "--", self.programs["snlrun"], program, *snlrun, **how)
 
     def wait(self, what, is_so):
@@ -139,11 +140,11 @@ def events(text):
 
 
 def comments(text):
-    """The comments of a trace behind the first one, which tells whence it is; but those that a circuit is gone, which name the
+    """The comments of a trace behind the first two, which tell whence it is and the date of 0 ms; but those that a circuit is gone, which name the
     machine by its name or by its number, and those that it is busy."""
-    head, *found = [line[2:] for line in text.splitlines() if line.startswith("#")] or [""]
-    if not HEAD.fullmatch(head):
-        raise NotSo(f"the first comment is {head}")
+    head, zero, *found = [line[2:] for line in text.splitlines() if line.startswith("#")] or ["", ""]
+    if not HEAD.fullmatch(head) or not ZERO.fullmatch(zero):
+        raise NotSo(f"the first comments are {head} and {zero}")
     found = [it for it in found if not BEHIND.fullmatch(it)]
     return [it for it in found if not re.fullmatch(r"\S+:\d+: Virtual circuit disconnect", it)]
 

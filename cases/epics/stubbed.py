@@ -56,9 +56,9 @@ def recorded(stage, last, *words):
     return events(script.text("out")), script.text("said").splitlines()
 
 
-def lived(stage, program, last, *words, status=0, snlrun=()):
+def lived(stage, program, last, *words, status=0, snlrun=(), **how):
     """The lines of a run over the play up to a last event of the trace; and the script, ended, with its replay compared."""
-    script = stage.live(program, *words, snlrun=snlrun)
+    script = stage.live(program, *words, snlrun=snlrun, **how)
     stage.wait(f"the line {last}", lambda: last in untimed(script.text("kept")))
     stage.same("the status", [script.end()], [status])
     again = stage.replayed(program, script.path("kept"), *snlrun)

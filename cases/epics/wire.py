@@ -12,7 +12,9 @@ CODES = ("40s", "h", "f", "H", "B", "i", "d")
 # Bytes between severity or stamp and the value, of each type.
 AFTER_STATUS = (0, 0, 0, 0, 1, 0, 4)
 AFTER_STAMP = (0, 2, 0, 2, 3, 0, 4)
-LAST_WITH_STAMP = 20  # TIME_DOUBLE
+LAST_WITH_STAMP, WITH_TEXTS = 20, 24  # TIME_DOUBLE, GR_ENUM
+# An enumeration has so many texts at most, of so many bytes.
+MOST_TEXTS, LENGTH_OF_TEXT = 16, 26
 MASKS = {"h": 0xFFFF, "H": 0xFFFF, "B": 0xFF, "i": 0xFFFFFFFF}
 
 
@@ -64,6 +66,8 @@ class Channel:
         self.access = 1 if is_read_only else 3
         # Whether searches for it are answered, how many of the next puts are refused, whether the answers of puts are held back.
         self.is_there, self.refusals, self.holds = True, 0, False
+        # The seconds of its time stamp, from the begin of 1990 on, and its texts, where it is an enumeration.
+        self.stamp, self.states = 0, []
 
     def read(self, values):
         """Values of a put as those of the channel: whole numbers where it has no fraction, cut off towards 0."""
@@ -79,7 +83,10 @@ class Channel:
         if form == 1:
             bytes_ = bytes(4 + AFTER_STATUS[base])
         elif form == 2:
-            bytes_ = bytes(12 + AFTER_STAMP[base])
+            bytes_ = struct.pack(">HHII", 0, 0, self.stamp, 0) + bytes(AFTER_STAMP[base])
+        elif kind == WITH_TEXTS:
+            texts = [it.encode().ljust(LENGTH_OF_TEXT, b"\0") for it in self.states]
+            bytes_ = struct.pack(">HHH", 0, 0, len(texts)) + b"".join(texts).ljust(MOST_TEXTS * LENGTH_OF_TEXT, b"\0")
         for value in values:
             bytes_ += self.packed(CODES[base], value)
         # A client that asks for so many values gets so many, and no values take the bytes of one.

@@ -7,6 +7,7 @@ The types are told by their names in Channel Access, as `double` and `enum`.
 import ctypes
 import os
 import struct
+from dataclasses import dataclass
 
 from threads import stay, sweep
 
@@ -22,6 +23,13 @@ TYPES = ("string", "short", "float", "enum", "char", "long", "double")
 CODES = {"string": "40s", "short": "h", "float": "f", "enum": "H", "char": "i", "long": "i", "double": "d"}
 # CA_OP_PUT and the masks of cadef.h, and a status of caerr.h.
 PUT, VALUE_AND_ALARM, NORMAL = 1, 5, 1
+# What is added to the number of a type where values come with their status and stamp, and how many bytes stand in front of them then.
+WITH_STAMP = 14
+FRONTS = {"string": 12, "short": 14, "float": 12, "enum": 14, "char": 12, "long": 12, "double": 16}
+# A value of an enumeration with its texts: behind their number so many have room, each so many bytes.
+TEXTS_OF_ENUM, FRONT_OF_TEXTS, MOST_TEXTS, LENGTH_OF_TEXT = 24, 6, 16, 26
+# Stamps count seconds from the begin of 1990 on; here they count from 1970 on.
+EPOCH = 631_152_000
 # The form of a channel that is not connected: no type, no values.
 NO_FORM = -1, 0
 
@@ -45,6 +53,24 @@ class Came(ctypes.Structure):
                 ("values", ctypes.c_void_p), ("status", ctypes.c_int)]
 
 
+@dataclass(slots=True)
+class Takes:
+    """How the values of a channel are taken."""
+
+    name: str
+    kind: str
+    code: str
+    # The most that are taken; None stands for all.
+    most: "int | None"
+    # The channel that has its time stamps, if there is one, and the bytes in front of values then.
+    stamp: str = ""
+    front: int = 0
+
+    def size(self):
+        """The bytes of a value."""
+        return struct.calcsize(self.code)
+
+
 class Channels:
     """Channels by their names. Threads of the library call the methods `on_..`, which only hand on what they are told: so what
     happens gets its time right where the library tells it."""
@@ -56,16 +82,17 @@ class Channels:
         self.wanted, self.happened, self.chids, self.names, self.subscriptions = wanted, happened, {}, {}, {}
         # By the name of a channel that is connected: the number of its type, and how many values it has at most.
         self.forms = {}
-        # By the number of a channel that is subscribed to: its name, its type, the size of a value, the most that are taken.
-        self.takes = {}
+        # By the number of a channel that is subscribed to: how its values are taken. By its name: the channel of its time stamps.
+        self.takes, self.stamps = {}, {record: name for name, record in wanted.stamps.items()}
         try:
             ca.initialize_libca()
         except ca.ChannelAccessException as fault:
             raise Missing(str(fault)) from fault
         self.handler = ctypes.CFUNCTYPE(None, Trouble)(self.on_trouble)
         self.value_handler = ctypes.CFUNCTYPE(None, Came)(self.on_values)
+        self.texts_handler = ctypes.CFUNCTYPE(None, Came)(self.on_texts)
         ca.libca.ca_add_exception_event(self.handler, None)
-        for name in wanted.channels:
+        for name in wanted.records():
             self.chids[name] = chid = ca.create_channel(name, callback=self.on_connection)
             self.names[chid.value] = name
         ca.flush_io()
@@ -78,7 +105,9 @@ class Channels:
         # One that is gone again already has no type.
         if kind >= 0:
             self.forms[pvname] = kind, most
-        self.happened("up" if conn else "down", pvname, kind=TYPES[kind] if 0 <= kind < len(TYPES) else "")
+        for name in (pvname, self.stamps.get(pvname)):
+            if name in self.wanted.channels:
+                self.happened("up" if conn else "down", name, kind=TYPES[kind] if 0 <= kind < len(TYPES) else "")
 
     def form(self, name, chid):
         """The number of the type of a channel that is connected, and how many values it has at most. The library is asked once."""
@@ -95,26 +124,49 @@ class Channels:
         The thread of the loop calls it for the line `up`, so values come behind that. Of a channel that is only put to no value
         is asked for.
         """
-        if name in self.subscriptions or name in self.wanted.unread or not kind:
+        record = self.wanted.stamps.get(name, name)
+        if record in self.subscriptions or name in self.wanted.unread or not kind:
             return
-        chid, asked = self.chids[name], TYPES.index("long" if kind == "char" else kind)
-        self.takes[chid.value] = name, kind, struct.calcsize(CODES[kind]), self.wanted.channels[name]
-        self.subscriptions[name] = number = ctypes.c_void_p()
+        chid, asked = self.chids[record], "long" if kind == "char" else kind
+        takes = Takes(record, kind, CODES[kind], None)
+        if record not in self.wanted.channels or record in self.wanted.unread:
+            takes.most = 0
+        elif self.wanted.channels[record] is not None:
+            takes.most = self.wanted.channels[record]
+        if record in self.stamps:
+            takes.stamp, takes.front = self.stamps[record], FRONTS[asked]
+        if kind == "enum" and record in self.wanted.texts and record not in self.wanted.named:
+            # The answer comes in front of the first value, since a server answers in order.
+            ca.libca.ca_array_get_callback(TEXTS_OF_ENUM, ctypes.c_ulong(1), chid, self.texts_handler, None)
+        self.takes[chid.value] = takes
+        self.subscriptions[record] = number = ctypes.c_void_p()
         whole, mask = ctypes.c_ulong(0), ctypes.c_long(VALUE_AND_ALARM)
-        call = asked, whole, chid, mask, self.value_handler, None, ctypes.byref(number)
-        status = ca.libca.ca_create_subscription(*call)
+        form = TYPES.index(asked) + (WITH_STAMP if takes.stamp else 0)
+        status = ca.libca.ca_create_subscription(form, whole, chid, mask, self.value_handler, None, ctypes.byref(number))
         if status != NORMAL:
-            self.happened("#", f"{name}: {ca.message(status)}")
+            self.happened("#", f"{record}: {ca.message(status)}")
         ca.flush_io()
+
+    def on_texts(self, it):
+        """The texts of an enumeration came."""
+        stay()
+        if it.status == NORMAL:
+            data = ctypes.string_at(it.values, FRONT_OF_TEXTS + MOST_TEXTS * LENGTH_OF_TEXT)
+            (count,) = struct.unpack_from("h", data, 4)
+            begins = range(FRONT_OF_TEXTS, FRONT_OF_TEXTS + LENGTH_OF_TEXT * max(0, min(count, MOST_TEXTS)), LENGTH_OF_TEXT)
+            self.wanted.states[self.names[it.chid]] = [os.fsdecode(data[at : at + LENGTH_OF_TEXT].split(b"\0")[0]) for at in begins]
 
     def on_values(self, it):
         """Values came. A status that is not normal says that they can't be read now."""
         stay()
         if it.status == NORMAL:
-            name, kind, size, most = self.takes[it.chid]
-            count = it.count if most is None else min(it.count, most)
-            data = ctypes.string_at(it.values, count * size) if count else b""
-            self.happened("val", name, values_in(data, kind, count), kind)
+            takes = self.takes[it.chid]
+            count = it.count if takes.most is None else min(it.count, takes.most)
+            data = ctypes.string_at(it.values, takes.front + count * takes.size()) if takes.front or count else b""
+            if takes.stamp:
+                self.happened("val", takes.stamp, [struct.unpack_from("I", data, 4)[0] + EPOCH], "long")
+            if takes.most != 0:
+                self.happened("val", takes.name, values_in(data[takes.front :], takes.kind, count), takes.kind)
 
     def flush(self):
         """Sends what may still wait in a buffer of the library."""

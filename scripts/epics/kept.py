@@ -7,6 +7,7 @@ import shlex
 import stat
 import sys
 import time
+from datetime import datetime, timezone
 from pathlib import Path
 
 # The bytes of a comment that every reader of traces takes.
@@ -88,11 +89,12 @@ def dated(pattern):
     return path
 
 
-def head(script, wanted, source):
-    """The first comment of a trace: the script, its version, the program, the date with its zone, the words of the call, and the
-    SHA-256 of a source, of which the name and the bytes are given."""
+def head(script, wanted, source, zero):
+    """The first comments of a trace. One has the script, its version, the program, the date with its zone, the words of the call, and
+    the SHA-256 of a source, of which the name and the bytes are given; the other the date at 0 ms, given in ms since 1970."""
     version = VERSION.read_text().strip() if VERSION.exists() else "of no version"
     program = f", program {wanted.program}" if wanted.program else ""
     sum_ = f", SHA-256 of {source[0]} {hashlib.sha256(source[1]).hexdigest()}" if source else ""
     text = f"# {script} {version}{program}, {time.strftime('%Y-%m-%dT%H:%M:%S%z')}{sum_}, called with {shlex.join(sys.argv[1:])}"
-    return "".join(it if " " <= it <= "~" else it.encode("unicode_escape").decode() for it in text)[:ROOM]
+    date = datetime.fromtimestamp(zero / 1000, timezone.utc).astimezone().isoformat(timespec="milliseconds")
+    return ["".join(it if " " <= it <= "~" else it.encode("unicode_escape").decode() for it in text)[:ROOM], f"# zero {date}"]

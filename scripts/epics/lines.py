@@ -2,6 +2,7 @@
 from collections import Counter
 
 from values import FRACTIONS, whole
+from words import units
 
 # The bytes of a line behind the longest time.
 ROOM = 32768 - 17
@@ -16,9 +17,12 @@ class Refused(Exception):
 class Lines:
     """Makes lines of events. A line that begins with `#` is a comment."""
 
-    def __init__(self, wanted):
-        """Lines of the channels that a call asked for."""
-        self.wanted = wanted
+    def __init__(self, wanted, zero):
+        """Lines of the channels that a call asked for. At 0 the clock of the machine had `zero` ms since 1970."""
+        self.wanted, self.zero = wanted, zero
+        # Enumerations of which it was told how they are taken; the second that the channel of the clock has.
+        self.told = set()
+        self.second = None
         # Channels that are connected, that ever were, that ever gave a number; when one went down; what was left out last.
         self.up, self.seen, self.numbered, self.down, self.lost = set(), set(), set(), {}, {}
         # How often values were left out or cut off, and how many lines of values there are.
@@ -30,8 +34,25 @@ class Lines:
         self.last = max(self.last, at)
         return f"{self.last} {text}"
 
+    def clock(self, at):
+        """The lines of the channel of the clock up to a time: one for each second, at which it begins."""
+        if not self.wanted.has_clock:
+            return
+        if self.second is None:
+            self.second = self.zero // 1000
+            self.up.add(units.CLOCK)
+            self.seen.add(units.CLOCK)
+            self.numbered.add(units.CLOCK)
+            yield self.timed(0, f"up {units.CLOCK}")
+            yield self.timed(0, f"val {units.CLOCK} {self.second}")
+        for second in range(self.second + 1, (self.zero + at) // 1000 + 1):
+            self.second = second
+            yield self.timed(1000 * second - self.zero, f"val {units.CLOCK} {second}")
+
     def lines(self, event):
         """The lines of an event, with their times. A line that begins with `#` is a comment and has none."""
+        if event.word != "#":
+            yield from self.clock(event.at)
         for text in self.of(event):
             yield text if text[0] == "#" else self.timed(event.at, text)
 
@@ -52,22 +73,31 @@ class Lines:
 
     def connected(self, name, kind):
         """The lines of a channel that is up; a second `up` says nothing."""
-        has_texts = name in self.wanted.texts
-        if kind == "string" and not has_texts:
+        if kind == "string" and name not in self.wanted.texts and name not in self.wanted.patterns and name not in self.wanted.stamps:
             raise Refused(f"{name} has texts: give their numbers by --enum {name}=TEXT:N,.. or leave it out")
         if name in self.up:
             return
-        if name not in self.seen and kind in FRACTIONS and name not in self.wanted.powers:
-            yield f"# {name} has a fraction and is rounded to whole numbers: --scale {name}=K keeps K decimals"
-        if name not in self.seen and kind != "string" and has_texts:
-            yield f"# {name} has numbers and no texts: its --enum is not used"
+        yield from () if name in self.seen or name in self.wanted.stamps else self.meant(name, kind)
         self.up.add(name)
         self.seen.add(name)
         yield f"up {name}"
 
+    def meant(self, name, kind):
+        """What to say of a channel whose values are taken in another way than may be meant."""
+        if kind in FRACTIONS and name not in self.wanted.scales:
+            yield f"# {name} has a fraction and is rounded to whole numbers: --scale {name}=K keeps K decimals"
+        if kind != "string" and name in self.wanted.named:
+            yield f"# {name} has numbers and no texts: its --enum is not used"
+        elif kind != "string" and name in self.wanted.patterns:
+            yield f"# {name} has numbers and no texts: what --units asks of it is not asked"
+
     def value(self, event):
         """The lines of values that came. Values that have no number are left out, and told when the last ones had."""
         name, values = event.name, event.values[: self.wanted.channels[event.name]]
+        if event.kind == "enum" and name in self.wanted.texts and name not in self.told | self.wanted.named:
+            self.told.add(name)
+            if not self.wanted.has_states(name):
+                yield f"# {name} is an enumeration with other texts than those of --units: its index is taken"
         numbers = [self.number(name, it, event.kind) for it in values]
         if None in numbers or not numbers:
             self.left_out[name] += 1
@@ -82,9 +112,14 @@ class Lines:
 
     def number(self, name, value, kind):
         """The number of one value, or None."""
+        if kind == "string" and name in self.wanted.patterns:
+            return int(self.wanted.patterns[name].matches(value))
         if kind == "string":
             return self.wanted.texts[name].get(value)
-        return whole(value, kind, 0 if kind == "enum" else self.wanted.powers.get(name, 0))
+        if kind == "enum" and self.wanted.has_states(name):
+            states = self.wanted.states[name]
+            return self.wanted.texts[name].get(states[value]) if value < len(states) else None
+        return whole(value, kind, 1 if kind == "enum" else self.wanted.scales.get(name, 1))
 
     def fitting(self, front, numbers):
         """A line with as many numbers as there is room for."""

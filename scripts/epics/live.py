@@ -1,13 +1,13 @@
 #!/usr/bin/python3
 """Runs a program beside a control system, by Channel Access: what happens on its channels goes as a trace into a running `snlrun`.
 
-    live.py [--put] [--keep TRACE [--force]] [--tick MS] [--late MS] [--late-stop MS] [--scale NAME=K]..
-            [--enum NAME=TEXT:N,..].. [--macros M=TEXT,..] --tables FILE -- snlrun PROGRAM [MACROS]
+    live.py [--put] [--keep TRACE [--force]] [--tick MS] [--late MS] [--late-stop MS] [--units FILE] [--scale NAME=K]..
+            [--enum NAME=TEXT:N,..].. [--program FILE [--macros M=TEXT,..]] -- snlrun PROGRAM [MACROS]
 
-The lines of the run come on standard output. Its puts are only shown: with --put each of them is put on its channel.
+The lines of the run come on standard output. Its puts are only shown: with --put each of them is put on its channel. The channels
+are those of PROGRAM.
 
-    bin/snc --tables light.st > light.tables
-    scripts/epics/live.py --put --tables light.tables --keep light.trace -- bin/snlrun light.st
+    scripts/epics/live.py --put --keep light.trace -- bin/snlrun light.st
     bin/snlrun light.st < light.trace                  the same lines once more, byte for byte
 
 TRACE is what `snlrun` was given: what happened, and a `tick` each 20 ms (--tick), so that a `delay` is over in time. Signs as %Y
@@ -46,16 +46,16 @@ class Live:
 
     def __init__(self, loop, wanted, channels, run, keep):
         """`keep` is the file of the trace, or nothing."""
-        self.loop, self.lines, self.channels, self.run, self.keep = loop, Lines(wanted), channels, run, keep
+        self.loop, self.lines, self.channels, self.run, self.keep = loop, Lines(wanted, loop.zero), channels, run, keep
         self.waits, self.shown = Waits(wanted, self.lines), Shown(1, self.missed, self.unshown)
         # What puts, or nothing where puts are only shown; how late all is; why no line can be shown any more; and the times of
         # what waited at the end.
         self.puts, self.lag, self.fault, self.lost = None, None, None, []
 
     def begin(self, lag, head):
-        """Writes the first comment, and begins to listen and to look how late all is."""
+        """Writes the first comments, and begins to listen and to look how late all is."""
         self.lag = lag
-        self.write([head])
+        self.write([*head, *self.lines.clock(0)])
         self.run.listen(self.heard, self.loop.end, ca.use_initial_context)  # each thread has to ask for the library's
         lag.watch(self.run.process)
 
@@ -74,8 +74,10 @@ class Live:
 
     def on_period(self):
         """Lets time pass: by a line, where no event waits that has a time itself."""
-        ticks = [self.lines.timed(self.loop.now(), "tick")] if self.loop.events.empty() else []
-        self.write(self.notes() + ticks)
+        now, time = self.loop.now(), []
+        if self.loop.events.empty():
+            time = [*self.lines.clock(now), self.lines.timed(now, "tick")]
+        self.write(self.notes() + time)
         self.channels.flush()
         for text in self.lines.late(self.loop.now(), self.waits):
             say(text)
@@ -182,7 +184,7 @@ class Live:
 
 def parser():
     """The words that it knows."""
-    found = words.parser_of(__doc__, is_needed=True)
+    found = words.parser_of(__doc__)
     found.add_argument("--put", action="store_true", help="puts are put on their channels, and not only shown")
     found.add_argument("--keep", metavar="TRACE", help="keeps the trace of the run in this file; %%Y and such are the date")
     found.add_argument("--force", action="store_true", help="--keep writes over a file that is there")
@@ -196,14 +198,21 @@ def parser():
 def read(known):
     """The words of the call, what they ask for, and the file of the program where it is one of them."""
     given = known.parse_args()
-    wanted = words.wanted(known, given)
+    path, own = words.program_in(given.call[1:]) or ("", "")
+    if not given.program and not given.tables:
+        if not path:
+            known.error("no word of the call is the source of a program: name it by --program")
+        given.program = path
+    wanted = words.wanted(known, given, own=own)
+    if given.tables:
+        say(words.OLD)
     if given.force and not given.keep:
         known.error("--force says nothing without --keep")
     try:
         given.keep = given.keep and kept.dated(given.keep)
     except ValueError as fault:
         known.error(str(fault))
-    source = words.source_of(wanted, given.call[1:])
+    source = words.source_of(wanted, [*given.call[1:], *filter(None, [given.program])])
     wanted.unread = words.unread(wanted, source)
     return given, wanted, source
 
@@ -226,7 +235,7 @@ def began(given, wanted, source, loop):
     if given.put:
         live.puts = Puts(channels, wanted, words.asking(wanted, source))
     loop.give_up = live.give_up
-    live.begin(Lag(loop, say, given.late, given.late_stop), kept.head("live.py", wanted, source))
+    live.begin(Lag(loop, say, given.late, given.late_stop), kept.head("live.py", wanted, source, loop.zero))
     say("puts go to their channels" if given.put else "puts are only shown: --put puts them")
     return live
 

@@ -31,6 +31,8 @@ class Loop:
         """It ends after so many seconds; a period has so many seconds as well."""
         self.events, self.seconds, self.period = queue.SimpleQueue(), seconds, period
         self.start, self.is_ending, self.ended, self.give_up = time.monotonic(), False, None, lambda: None
+        # The ms since 1970 at the start, by the clock of the machine.
+        self.zero = time.time_ns() // 1_000_000
         # When events were taken last.
         self.taken = 0
 

@@ -22,7 +22,7 @@ class Puts:
 
     def __init__(self, channels, wanted, asking):
         """`asking` are the channels whose puts ask for an answer. What was wanted tells the units and the texts of numbers."""
-        self.channels, self.powers, self.asking = channels, wanted.powers, asking
+        self.channels, self.wanted, self.asking = channels, wanted, asking
         # Of each channel of texts: the text of a number. Where several have one number, the first of them.
         self.texts = {name: {number: text for text, number in reversed(it.items())} for name, it in wanted.texts.items()}
         self.handler = ctypes.CFUNCTYPE(None, dbr.event_handler_args)(self.on_answer)
@@ -33,7 +33,7 @@ class Puts:
         """Puts numbers on a channel, and does not wait. One that is not connected gets nothing."""
         chid = self.channels.chids.get(name)
         if chid is None:
-            self.tell(name, "it is no channel of --tables")
+            self.tell(name, "it is no channel of the program that can be put to")
         elif ca.libca.ca_state(chid) != dbr.CS_CONN:
             self.tell(name, "it is not connected")
         else:
@@ -47,10 +47,11 @@ class Puts:
 
     def as_sent(self, name, form, numbers):
         """The type and the values that are sent to a channel of this type, or nothing and why not."""
-        if form == dbr.STRING:
+        if form == dbr.STRING or self.wanted.has_states(name):
             texts = [self.texts.get(name, {}).get(it) for it in numbers]
             if None in texts:
-                return None, f"no text of --enum has the number {numbers[texts.index(None)]}"
+                word = "--units" if name in self.wanted.texts and name not in self.wanted.named else "--enum"
+                return None, f"no text of {word} has the number {numbers[texts.index(None)]}"
             return dbr.STRING, (len(texts) * Text).from_buffer_copy(b"".join(os.fsencode(it).ljust(40, b"\0") for it in texts))
         kind, values = self.as_numbers(name, form, numbers)
         if kind is None:
@@ -59,9 +60,9 @@ class Puts:
 
     def as_numbers(self, name, form, numbers):
         """The type and the numbers that are sent; the server makes of them what the channel is. No type where nothing fits."""
-        power = self.powers.get(name, 0)
-        if power or form in (dbr.FLOAT, dbr.DOUBLE):
-            return dbr.DOUBLE, [unscaled(it, power) for it in numbers]
+        scale = self.wanted.scales.get(name, 1)
+        if scale != 1 or form in (dbr.FLOAT, dbr.DOUBLE):
+            return dbr.DOUBLE, [unscaled(it, scale) for it in numbers]
         return dbr.LONG if all(it in INTEGERS for it in numbers) else None, numbers
 
     def send(self, name, chid, kind, data):

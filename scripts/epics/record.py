@@ -1,17 +1,17 @@
 #!/usr/bin/python3
 """Records a trace of a control system's channels, by Channel Access, until Ctrl-C.
 
-    record.py [--scale NAME=K].. [--enum NAME=TEXT:N,..].. [--macros M=TEXT,..] [--tables FILE] [NAME..] > TRACE
+    record.py [--program FILE [--macros M=TEXT,..]] [--units FILE] [--scale NAME=K].. [--enum NAME=TEXT:N,..].. [NAME..] > TRACE
 
 The channels are the NAMEs, and those of a program:
 
-    bin/snc --tables light.st | scripts/epics/record.py --tables - --scale LAB:VOLTAGE=3 > light.trace
+    scripts/epics/record.py --program light.st --scale LAB:VOLTAGE=3 > light.trace
     bin/snlrun light.st < light.trace
 
 A time is that at which something arrives here, in milliseconds from the start. Values are whole numbers: of a channel with a
 fraction, value * 10^K is rounded, halves away from 0, with K = 0 where --scale does not say it. Enumerations give their
-index, texts the number that --enum names. What is left out stands in the trace as a comment, and on standard error. What has
-arrived when Ctrl-C comes is written before the end.
+index, texts the number that --enum names. --units FILE says all that of a program that was ported. What is left out stands in
+the trace as a comment, and on standard error. What has arrived when Ctrl-C comes is written before the end.
 """
 import sys
 
@@ -34,7 +34,7 @@ class Record:
 
     def __init__(self, loop, wanted):
         """Nothing is asked for yet."""
-        self.loop, self.wanted, self.lines = loop, wanted, Lines(wanted)
+        self.loop, self.wanted, self.lines = loop, wanted, Lines(wanted, loop.zero)
         self.trace, self.channels = kept.Kept(1, name_of(1, "standard output")), None
         loop.give_up = self.give_up
 
@@ -57,7 +57,9 @@ class Record:
             yield line
 
     def on_period(self):
-        """Looks after the library, and for channels that are not there."""
+        """Looks after the library, and for channels that are not there. The clock goes on where no event waits."""
+        if self.loop.events.empty():
+            self.write(list(self.lines.clock(self.loop.now())))
         self.channels.flush()
         for text in self.lines.late(self.loop.now()):
             say(text)
@@ -70,14 +72,14 @@ class Record:
 
     def follow(self):
         """Writes what happens until the loop ends, and what had happened by then. The last line has the time of the end."""
-        self.write([kept.head("record.py", self.wanted, None)])
+        self.write([*kept.head("record.py", self.wanted, None, self.loop.zero), *self.lines.clock(0)])
         self.channels = Channels(self.wanted, self.loop.happened)
         self.loop.run(self.on_events, self.on_period)
         self.loop.end()
         for event in self.loop.left():
             if self.loop.waited(event):
                 self.write(list(self.told(event)))
-        self.write([self.lines.timed(self.loop.ended, "tick")])
+        self.write([*self.lines.clock(self.loop.ended), self.lines.timed(self.loop.ended, "tick")])
 
     def give_up(self):
         """Tells what is lost by a second Ctrl-C."""
@@ -104,6 +106,8 @@ def main():
     wanted = words.wanted(parser, given, given.names)
     if not wanted.channels:
         parser.error("no channel is named")
+    if given.tables:
+        say(words.OLD)
     if sys.stdout is None:
         say("standard output is closed")
         say.finish()

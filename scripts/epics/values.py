@@ -1,12 +1,11 @@
-"""Whole numbers of what channels hold, and back again. Of a channel with a fraction come thousandths, say, for the power 3."""
+"""Whole numbers of what channels hold, and back again. Of a channel with a fraction come thousandths, say, for the scale 1000."""
 import struct
-from decimal import ROUND_HALF_UP, Context, Decimal
+from decimal import Decimal
+from fractions import Fraction
 
 # The types of Channel Access that have a fraction.
 FRACTIONS = ("float", "double")
-# Digits enough for each double times a power of 10 that ends up in 64 bits.
-EXACTLY = Context(prec=400, rounding=ROUND_HALF_UP)
-DIGITS_OF_64_BITS = 19
+BITS_64 = range(-(2**63), 2**63)
 
 
 def shortest(value, kind):
@@ -19,17 +18,19 @@ def shortest(value, kind):
     return Decimal(repr(float(value)))
 
 
-def whole(value, kind, power):
-    """The whole number next to a value times 10^power, halves away from 0. None where there is none, or none of 64 bits."""
-    if not power and kind not in FRACTIONS:
+def whole(value, kind, scale):
+    """The whole number next to a value times a scale, halves away from 0. None where there is none, or none of 64 bits."""
+    if scale == 1 and kind not in FRACTIONS:
         return int(value)  # of 32 bits at most
     number = shortest(value, kind) if kind in FRACTIONS else Decimal(int(value))
-    if not number.is_finite() or number.adjusted() + power >= DIGITS_OF_64_BITS:
+    if not number.is_finite():
         return None
-    found = int(EXACTLY.to_integral_value(EXACTLY.scaleb(number, power)))
-    return found if -(2**63) <= found < 2**63 else None
+    exact = Fraction(number) * scale
+    found = (2 * abs(exact.numerator) + exact.denominator) // (2 * exact.denominator)
+    found = -found if exact < 0 else found
+    return found if found in BITS_64 else None
 
 
-def unscaled(number, power):
-    """The double next to a number that counts in units of 10^-power."""
-    return float(EXACTLY.scaleb(Decimal(number), -power))
+def unscaled(number, scale):
+    """The double next to a number that counts in units of one part of a scale."""
+    return float(number / Fraction(scale))

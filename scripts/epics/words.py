@@ -2,9 +2,14 @@
 import argparse
 import os
 import re
+import subprocess
 import sys
 from dataclasses import dataclass, field
+from fractions import Fraction
 from pathlib import Path
+
+sys.path.insert(0, str(Path(__file__).resolve().parent.parent))
+from shared import macros, programs, units  # noqa: E402
 
 LINK = re.compile(r'channel (\S+) (\d+) (\d+) "(.*)" (\S+) (\S+) \d+')
 MACRO = re.compile(r"\{([^{}]*)\}")
@@ -12,7 +17,10 @@ MACRO = re.compile(r"\{([^{}]*)\}")
 SAYABLE = re.compile(r"[!-~]+")
 # The bytes of a text of Channel Access, and the ms of a day.
 TEXT, DAY = 39, 86_400_000
-COMMENT = re.compile(r'"(?:[^"\\\n]|\\.)*"|/\*.*?\*/|//[^\n]*', re.DOTALL)
+
+
+# What is said where a call has the old word.
+OLD = "note: --tables goes on; --program FILE takes the source itself, with its macros"
 
 
 @dataclass
@@ -35,10 +43,17 @@ class Wanted:
 
     # The channels in their order, each with the most values that a program takes of it; None where nothing tells.
     channels: dict = field(default_factory=dict)
-    # Of a channel the power of 10 that it is taken times.
-    powers: dict = field(default_factory=dict)
-    # Of a channel of texts the number of each text.
+    # Of a channel what it is taken times.
+    scales: dict = field(default_factory=dict)
+    # Of a channel of texts the number of each text, or what it is asked; and the channels that a word gives texts.
     texts: dict = field(default_factory=dict)
+    patterns: dict = field(default_factory=dict)
+    named: set = field(default_factory=set)
+    # The texts of the indices of enumerations, as their servers tell them.
+    states: dict = field(default_factory=dict)
+    # Channels of whole seconds: the clock, and those of time stamps, each with the channel of the record.
+    has_clock: bool = False
+    stamps: dict = field(default_factory=dict)
     # The name of the program, and the links of its variables that have a channel.
     program: str = ""
     links: list = field(default_factory=list)
@@ -49,16 +64,28 @@ class Wanted:
         """The channels of some variables."""
         return {it.name for it in self.links if it.variable in variables}
 
+    def has_states(self, name):
+        """Whether the texts of an enumeration are those that have numbers: then these count, and else its indices."""
+        texts = self.texts.get(name, {}) if name not in self.named else {}
+        return any(it in texts for it in self.states.get(name, ()))
 
-def parser_of(text, is_needed=False):
-    """The words that both scripts know, and the text as their help. `is_needed` says that there have to be tables."""
+    def records(self):
+        """The channels of the control system: all but those of times, and those whose time stamps are taken."""
+        own = [it for it in self.channels if it not in self.stamps and not (self.has_clock and it == units.CLOCK)]
+        return dict.fromkeys([*own, *self.stamps.values()])
+
+
+def parser_of(text):
+    """The words that both scripts know, and the text as their help."""
     parser = argparse.ArgumentParser(description=text, formatter_class=argparse.RawDescriptionHelpFormatter)
-    tables = "the channels are those of this program; - is standard input"
-    parser.add_argument("--tables", metavar="FILE", required=is_needed, help=tables)
-    parser.add_argument("--macros", default="", metavar="M=TEXT,..", help="what stands for {M} in the names of --tables")
+    parser.add_argument("--program", metavar="FILE", help="the channels are those of this program, a source")
+    parser.add_argument("--macros", default="", metavar="M=TEXT,..", help="what stands for {M} in the names of channels")
+    parser.add_argument("--units", metavar="FILE", help="what the numbers of channels stand for, as port --units writes it")
     parser.add_argument("--scale", action="append", default=[], metavar="NAME=K", help="NAME is taken times 10^K")
     parser.add_argument("--enum", action="append", default=[], metavar="NAME=TEXT:N,..", help="NAME has texts; TEXT is N")
     parser.add_argument("--seconds", type=seconds, default=float("inf"), metavar="S", help="ends after so many seconds")
+    parser.add_argument("--tables", metavar="FILE", help="what snc --tables wrote, in the place of --program; - is standard input")
+    parser.add_argument("--snc", metavar="PATH", help="the program snc that is asked of FILE, in place of the one that belongs to the script")
     return parser
 
 
@@ -83,54 +110,105 @@ def milliseconds(text):
     return number(text, DAY)
 
 
-def wanted(parser, given, names=()):
-    """What the words ask for. The parser ends the call, with the status 2, where they make no sense."""
+def wanted(parser, given, names=(), own=""):
+    """What the words ask for; `own` are macros of the call of a program. The parser ends the call, with the status 2, where they
+    make no sense."""
     found = Wanted()
     try:
-        if given.tables:
-            add_tables(found, given.tables, macros_of(given.macros))
+        if given.program and given.tables:
+            raise ValueError("--tables: --program has the channels already")
+        texts = macros_of(given.macros)
+        if given.program:
+            add_tables(found, tables_of(given.program, given.snc), given.program, {**macros_in(given.program), **macros.macros_of(own), **texts})
+        elif given.tables:
+            add_tables(found, lines_in(given.tables), given.tables, texts)
         for name in names:
             add_channel(found, name, None)
-        found.powers = dict(power_of(found, it) for it in given.scale)
-        found.texts = dict(texts_of(found, it) for it in given.enum)
-    except (ValueError, OSError) as fault:
+        if given.units:
+            add_units(found, given.units)
+        found.scales |= dict(scale_of(found, it) for it in given.scale)
+        for it in given.enum:
+            name, numbers = texts_of(found, it)
+            found.texts[name] = numbers
+            found.named.add(name)
+    except units.Wrong as wrong:
+        parser.exit(2, f"{wrong}\n")
+    except (ValueError, OSError, programs.NotBuilt) as fault:
         parser.error(str(fault))
     return found
 
 
 def macros_of(text):
     """The texts of macros, as `snlrun` reads them: blanks round a name and a text do not count."""
-    found = {}
     for piece in filter(None, map(str.strip, text.split(","))):
-        name, sign, value = piece.partition("=")
-        if not sign:
+        if "=" not in piece:
             raise ValueError(f"--macros: {piece} is not M=TEXT")
-        found[name.strip()] = value.strip()
-    return found
+    return macros.macros_of(text)
 
 
-def add_tables(found, path, macros):
-    """Adds the channels that a file of tables names, with the macros replaced. A link without a name has no channel."""
+def macros_in(path):
+    """The macros that the source of a program has behind its name."""
+    return macros.macros_of(macros.own_macros(Path(path).read_bytes().decode("latin-1")))
+
+
+def tables_of(path, snc):
+    """What `snc --tables` says of a source."""
+    with open(path, "rb"):  # where it can't be read, that is said of it
+        ran = subprocess.run([programs.found("snc", snc), "--tables", path], capture_output=True, check=False)
+    if ran.returncode:
+        raise ValueError(f"--program: snc refuses {path}\n{ran.stderr.decode(errors='replace').rstrip()}")
+    return ran.stdout.decode("latin-1").splitlines()
+
+
+def lines_in(path):
+    """The lines of a file, or of standard input."""
     if path == "-":
-        lines = sys.stdin.read().splitlines()
-    else:
-        with open(path) as file:
-            lines = file.read().splitlines()
+        return sys.stdin.read().splitlines()
+    with open(path) as file:
+        return file.read().splitlines()
+
+
+def add_tables(found, lines, path, macros_there):
+    """Adds the channels that tables name, with the macros replaced. A link without a name has no channel."""
     if not lines or not re.fullmatch(r"program \S+", lines[0]):
         raise ValueError(f"--tables: {path} has not what `snc --tables` writes")
     found.program = lines[0].split()[1]
     for link in filter(None, map(LINK.fullmatch, lines)):
         variable, first, count, spelled, monitor, flag = link.groups()
         for macro in MACRO.findall(spelled):
-            if macro not in macros:
+            if macro not in macros_there:
                 raise ValueError(f"what stands for {{{macro}}} in {spelled}? Give it by --macros {macro}=..")
-        name = MACRO.sub(lambda it: macros[it[1]], spelled)
+        name = macros.filled(spelled, macros_there)
         if name:
             add_channel(found, name, int(count))
             found.links.append(Link(variable, int(first), name, monitor != "-", flag != "-"))
     for link in found.links:
         is_one = sum(it.variable == link.variable for it in found.links) == 1
         link.shown = link.variable if is_one else f"{link.variable}[{link.first}]"
+
+
+def add_units(found, path):
+    """Takes what a file of units says of the channels. Others of a program, as of a call with other macros, would be in vain."""
+    there = units.units_of(path)
+    strange = sorted(there.names() - set(found.channels))
+    if strange and found.program:
+        more = f", nor {len(strange) - 1} others that are named there" if len(strange) > 1 else ""
+        raise ValueError(f"--units {path}: {found.program} has no channel {strange[0]}{more}")
+    found.scales = {name: it for name, it in there.scales.items() if name in found.channels}
+    for name, numbers in there.texts.items():
+        found.texts |= {name: {as_here(it): number for it, number in numbers.items()}} if name in found.channels else {}
+    for name, it in there.patterns.items():
+        found.patterns |= {name: units.Pattern([as_here(piece) for piece in it.pieces])} if name in found.channels else {}
+    for name in there.times & set(found.channels):
+        if name == units.CLOCK:
+            found.has_clock = True
+        else:
+            found.stamps[name] = name.removesuffix(units.STAMP)
+
+
+def as_here(text):
+    """A text with a letter for each byte, as Channel Access hands it on."""
+    return os.fsdecode(text.encode("latin-1"))
 
 
 def add_channel(found, name, count):
@@ -149,12 +227,12 @@ def named(found, word, option):
     return name, rest
 
 
-def power_of(found, word):
-    """The channel and the power of NAME=K."""
+def scale_of(found, word):
+    """The channel of NAME=K, and 10^K."""
     name, power = named(found, word, "--scale")
     if not re.fullmatch(r"-?\d{1,2}", power):
         raise ValueError(f"--scale {word}: {power} is no whole number of at most two digits")
-    return name, int(power)
+    return name, Fraction(10) ** int(power)
 
 
 def texts_of(found, word):
@@ -174,19 +252,34 @@ def texts_of(found, word):
 
 def source_of(found, paths):
     """The name and the bytes of that file which is the program's source; nothing where none is."""
-    for path in paths:
-        try:
-            data = Path(path).read_bytes() if Path(path).is_file() else b""
-        except OSError:
-            continue
+    for path, data in files_of(paths):
         if re.search(rf"\bprogram\s+{re.escape(found.program)}\b", code_of(data)):
             return path, data
     return None
 
 
+def program_in(call):
+    """Which word of a call is the source of a program, and the macros behind it; nothing where none is."""
+    for path, data in files_of(call):
+        if re.search(r"\bprogram\s+[A-Za-z_]\w*", code_of(data)):
+            behind = call[call.index(path) + 1 :]
+            return path, behind[0] if behind and "=" in behind[0] else ""
+    return None
+
+
+def files_of(paths):
+    """Files that can be read, each with its bytes."""
+    for path in paths:
+        try:
+            if Path(path).is_file():
+                yield path, Path(path).read_bytes()
+        except OSError:
+            continue
+
+
 def code_of(data):
     """The text of a source without its comments and texts in quotes."""
-    return COMMENT.sub(" ", data.decode(errors="replace"))
+    return macros.COMMENT.sub(" ", data.decode(errors="replace"))
 
 
 def asking(found, source):

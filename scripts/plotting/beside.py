@@ -7,7 +7,8 @@ from plotting.canvas import HEAD, LEFT, WIDTH, Canvas, digits, move, shortened, 
 from plotting.letters import escaped
 from plotting.times import grouped, step_of
 
-# Prints stand in so many lines, so high each; of one so many letters are shown, and those that are so near are one.
+# Prints stand in so many lines, so high each, and those without room for their texts in one more. Of one so many letters are shown, and
+# those that are so near are one.
 LINES, LINE, MOST_LETTERS, NEAR = 3, 14, 90, 9
 # The height of a row of strokes.
 STROKES = 12
@@ -56,15 +57,18 @@ def prints(canvas: Canvas, lane: Ticks) -> int:
 
 
 def lay(canvas: Canvas, said: Said, free: list) -> int:
-    """Puts a mark with its text into the first line with room, where there is one; how many lines are in use."""
+    """Puts a mark with its text into the first line with room; where there is none, without it into the last line. How many lines are in
+    use."""
     x = canvas.x(said.time)
     text = shortened(said.text, MOST_LETTERS) + (f" (and {grouped(said.count - 1)} more)" if said.count > 1 else "")
     wide = width_of(text) + 14
     is_right = x + wide < WIDTH
     line = next((it for it in range(LINES) if free[it] <= (x if is_right else x - wide)), None)
     hidden = ' display="none"' if line is None else ""
-    line = line or 0
-    free[line] = max(free[line], x + 8 if hidden or not is_right else x + wide)
+    if line is None:
+        line = LINES
+    else:
+        free[line] = x + wide if is_right else x + 8
     place = 'x="7" y="4"' if is_right else 'x="-7" y="4" text-anchor="end"'
     inner = f'<use href="#say"/><text class="say" {place}{hidden}>{escaped(text)}</text>'
     canvas.mark(said.time, canvas.y + 8 + line * LINE, inner, f"{canvas.at(said.time)}: {text}", "pr")
@@ -90,9 +94,11 @@ def axis(canvas: Canvas, height: int) -> str:
     """The axis, which the script draws anew when one zooms."""
     step = step_of(canvas.end - canvas.begin, MOST_MARKS)
     marks = []
-    for time in range(-(-canvas.begin // step) * step, canvas.end + 1, step):
+    for time in canvas.times.marks(canvas.begin, canvas.end, step):
         x = canvas.x(time)
         anchor = "start" if x < NEAR_END else "end" if x > WIDTH - NEAR_END else "middle"
         text = f'<text y="-3" text-anchor="{anchor}">{escaped(canvas.times.at(time, step))}</text>'
+        ms = canvas.times.beside(time)
+        text += f'<text class="ms" y="{height - HEAD + 10}" text-anchor="{anchor}">{ms}</text>' if ms else ""
         marks.append(f'<g class="tick" transform="translate({digits(LEFT + x)},{HEAD})"><path d="M0 0V{height - HEAD}"/>{text}</g>')
     return f'<g id="axis">{"".join(marks)}</g>'

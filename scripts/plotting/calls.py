@@ -8,14 +8,8 @@ from pathlib import Path
 from typing import BinaryIO, Iterator, Optional
 
 from plotting import notes
+from shared import programs
 
-# Where a program stands from the folder of the script in this repository, once it is built: by proofs, or else by `bin/try`.
-BUILT = {
-    "snc": ("../crates/snc_main/out/snc", "../crates/snc_main/out/snc_main", "../crates/snc_main/out/try/snc"),
-    "snl": ("../crates/snl/out/snl", "../crates/snl/out/try/snl"),
-}
-# The folder of the script where it is installed, and where the programs stand then.
-INSTALLED, PROGRAMS = "lib/snlrun", "bin"
 # So much of the end of a run is looked at for how it ended.
 END = 1 << 16
 # The bytes of a source at most, as `snc` has it; of a line of a run, which a `printf` of such a source never comes to; and of a
@@ -32,17 +26,12 @@ class Failed(Exception):
         self.said, self.status = said, status
 
 
-def found(folder: Path, name: str, given: Optional[str]) -> str:
-    """The program of that name: the one that was given, or the one that belongs to the script. Programs of PATH are not taken,
-    since `snc` may be that of EPICS there."""
-    if given:
-        return os.path.abspath(given)
-    is_installed = str(folder).endswith(INSTALLED)
-    places = (f"{PROGRAMS}/{name}",) if is_installed else BUILT[name]
-    for it in places:
-        if os.access(folder / it, os.X_OK):
-            return str(folder / it)
-    raise Failed([f"plot: {name} is not built here: call bin/{name} or bin/try {name} once, or name one by --{name} PATH"], 3)
+def found(name: str, given: Optional[str]) -> str:
+    """The program of that name: the one that was given, or the one that belongs to the script."""
+    try:
+        return programs.found(name, given)
+    except programs.NotBuilt as it:
+        raise Failed([f"plot: {it}"], 3) from None
 
 
 def seekable(stream: BinaryIO, name: str, longest: int) -> BinaryIO:

@@ -18,6 +18,8 @@ from plotting.times import Times, stretch
 from plotting.words import Wanted
 
 HERE = Path(__file__).resolve().parent
+# The room for the ms below the picture, where times are told as a clock.
+FOOT = 14
 # So many lines through all rows, for faults and chatter.
 MOST_LINES = 6
 BUTTONS = (
@@ -38,6 +40,7 @@ SYMBOLS = (
     '<g id="pass"><rect x="-2" y="-6" width="4" height="12" rx="1" fill="#1b1b1b" stroke="#fff" stroke-width=".8"/></g>',
     '<g id="bang"><path d="M0-12L-5-21H5Z" fill="#a8003b"/></g>',
 )
+GROUND = '<rect width="100%" height="100%" fill="#fff"/>'
 HELP = """Each state of a state set has a row; a bar says how long it held. Hatched: so many changes that single ones cannot be
 drawn; their number stands there. Small strokes under the rows: transitions from a state to itself. Dashed brown with a
 triangle: what the program asked, by puts. Solid blue: what the trace told. A filled block: more than four changes in one
@@ -55,7 +58,7 @@ def pieces(name: str, record: Record, times: Times, wanted: Wanted) -> Iterator[
     lines = drawn(canvas, record, channels.View(wanted.values, wanted.scales))
     style, script = (f"\n{(HERE / it).read_text()}" for it in ("style.css", "script.js"))
     yield from head(name, style, script)
-    yield from top(name, record, times)
+    yield from top(name, record, times, wanted.note)
     yield '<div class="both">\n'
     yield '<div class="pic" tabindex="0" role="region" aria-label="Timeline; the table has the same in words">\n'
     yield from controls()
@@ -81,12 +84,13 @@ def head(name: str, style: str, script: str) -> Iterator[str]:
     yield f"<title>Run of {escaped(name)}</title>\n<style>{style}</style></head>\n<body>\n"
 
 
-def top(name: str, record: Record, times: Times) -> Iterator[str]:
+def top(name: str, record: Record, times: Times, note: str) -> Iterator[str]:
     """How it ended, how much there was, and boxes for what matters."""
     text, is_bad = ending(record, times)
     kind = "ended bad" if is_bad else "ended"
     yield f'<h1>Run of {escaped(name)}</h1>\n<p class="{kind}">{escaped(text)}</p>\n'
     yield f'<p class="sum">{escaped(" ".join(summary(record, times)))}</p>\n'
+    yield f'<p class="sum note">{escaped(note)}</p>\n' if note else ""
     spots = record.spots.told()
     if not spots:
         return
@@ -131,11 +135,14 @@ def picture(canvas: Canvas, record: Record, lines: int) -> Iterator[str]:
     """The picture itself."""
     height, wide = int(canvas.y + 4), LEFT + WIDTH + RIGHT
     zero = canvas.times.zero_ms()
-    data = f'data-l="{LEFT}" data-w="{WIDTH}" data-h="{height}" data-t0="{canvas.begin}" data-t1="{canvas.end}" data-zero="{zero}"'
-    data += f' data-days="{int(canvas.times.has_days)}" data-rows="{lines}" data-col="{record.clock.width}"'
-    size = f'width="{wide}" height="{height}" viewBox="0 0 {wide} {height}"'
+    foot = 0 if zero is None else FOOT
+    data = f'data-l="{LEFT}" data-w="{WIDTH}" data-h="{height}" data-t0="{canvas.begin}" data-t1="{canvas.end}"'
+    data += f' data-zero="{"" if zero is None else zero}" data-days="{int(canvas.times.has_days)}" data-foot="{foot}"'
+    data += f' data-rows="{lines}" data-col="{record.clock.width}"'
+    size = f'width="{wide}" height="{height + foot}" viewBox="0 0 {wide} {height + foot}"'
     yield f'<svg id="pic" role="img" aria-label="Timeline of the run" {data} {size} xmlns="http://www.w3.org/2000/svg">\n'
-    yield f"<defs>{''.join(SYMBOLS)}</defs>\n<g>"
+    # The ground is a part of the picture: a browser that makes pages dark changes the texts and grounds round it, and none in it.
+    yield f"<defs>{''.join(SYMBOLS)}</defs>\n{GROUND}\n<g>"
     yield from canvas.left
     yield f"</g>\n{beside.axis(canvas, height)}\n"
     box = f'x="{LEFT}" y="0" width="{WIDTH}" height="{height}" viewBox="0 0 {WIDTH} {height}"'

@@ -3,14 +3,15 @@ import re
 from dataclasses import dataclass, field
 from typing import Iterator
 
+from plotting.named import values_of_variables
+from plotting.values import Values
+from shared.macros import COMMENT, filled, macros_of, own_macros, without_comments
+
 LINK = re.compile(r'channel (\S+) (\d+) (\d+) "(.*)" (\S+) (\S+) (\d+)')
 CLAUSE = re.compile(r"when (\d+) (?:state (\S+)|(exit))")
-HEAD = re.compile(r'\bprogram\s+\w+\s*\(\s*((?:"(?:[^"\\\n]|\\.)*"\s*)+)\)')
-TEXT = re.compile(r'"((?:[^"\\\n]|\\.)*)"')
-COMMENT = re.compile(r'"(?:[^"\\\n]|\\.)*"|/\*.*?\*/|//[^\n]*', re.DOTALL)
 PUT = re.compile(r"\bpvPut\s*\(\s*(\w+)\b(?=[^;]*?,\s*ASYNC\s*\))")
-# A number with the name of its constant, or its text, as a comment behind it; the pieces of a source.
-NAMED = re.compile(r'-?\b\d\w* /\*("(?:[^"\\\n]|\\.)*"|[A-Za-z_]\w*)\*/')
+# A number with the name of its constant, its text, or what it was before a port, as a comment behind it; the pieces of a source.
+NAMED = re.compile(r'-?\b\d\w* /\*("(?:[^"\\\n]|\\.)*"|[A-Za-z_]\w*|-?\d+\.?\d*(?:[eE][+-]?\d+)?)\*/')
 PIECE = re.compile(r'"(?:[^"\\\n]|\\.)*"|/\*.*?\*/|//[^\n]*|\w+|\s+|.', re.DOTALL)
 EXIT = "exit"
 
@@ -52,11 +53,13 @@ class Program:
     name: str = ""
     channels: dict = field(default_factory=dict)
     sets: list = field(default_factory=list)
+    # How values of variables are shown, as far as comments tell it.
+    values: Values = field(default_factory=Values)
 
 
 def program_of(tables: str, source: str, macros: str) -> Program:
     """The program of what `snc --tables` wrote, of its source and of the macros of the call."""
-    made = Program()
+    made = Program(values=values_of_variables(source))
     texts = macros_of(own_macros(source) + "," + macros)
     asking = set(PUT.findall(without_comments(source)))
     tests = conditions_of(source)
@@ -112,30 +115,3 @@ def conditions_of(source: str) -> list:
             found.append("")
         begins = piece == "when" or (begins and piece.isspace())
     return [" ".join(it.split()) for it in found]
-
-
-def without_comments(source: str) -> str:
-    """A source with a blank for each comment, and with its texts."""
-    return COMMENT.sub(lambda it: it[0] if it[0].startswith('"') else " ", source)
-
-
-def own_macros(source: str) -> str:
-    """The text of the macros that a program has behind its name."""
-    head = HEAD.search(without_comments(source))
-    return "".join(TEXT.findall(head[1])) if head else ""
-
-
-def macros_of(text: str) -> dict:
-    """The value of each macro that a text defines; of one name the last counts."""
-    found = {}
-    for piece in text.split(","):
-        name, sign, value = piece.partition("=")
-        name = name.strip(" \t\r\n\f\v")
-        if sign and re.fullmatch(r"[A-Za-z0-9_]+", name):
-            found[name] = value.strip(" \t\r\n\f\v")
-    return found
-
-
-def filled(spelled: str, texts: dict) -> str:
-    """A name with the values of its macros. A value is not searched again, and a macro without one stands for nothing."""
-    return re.sub(r"\{([^}]*)\}", lambda it: texts.get(it[1], ""), spelled)

@@ -2,20 +2,20 @@
 from typing import Iterator, Optional
 
 from plotting.instants import Deed
+from plotting.named import Variables
 from plotting.notes import Clause, Ending, Entry, Refusal, entries
 from plotting.program import StateSet
 from plotting.record import ChannelLanes, Record, SetLanes
 from plotting.spots import DOWN, FAULT, REFUSED, Spot
 from plotting.trace import Event
-from plotting.values import Values
 
 # So many names that are no channels of the program are kept, and so many values of an array are told.
 MOST_UNKNOWN, MOST_VALUES = 5, 8
 
 
-def recorded(record: Record, values: Values, events: Iterator[Event], run: Iterator[bytes]) -> None:
+def recorded(record: Record, variables: Variables, events: Iterator[Event], run: Iterator[bytes]) -> None:
     """Fills a record. At one time the lines of the trace come first; lines of the run at other times are those of wakes."""
-    ending, recorder = Ending(), Recorder(record, values)
+    ending, recorder = Ending(), Recorder(record, variables)
     lines = entries(run, ending)
     entry = next(lines, None)
     for event in events:
@@ -32,14 +32,11 @@ def recorded(record: Record, values: Values, events: Iterator[Event], run: Itera
 class Recorder:
     """Puts lines where they belong."""
 
-    def __init__(self, record: Record, values: Values):
+    def __init__(self, record: Record, variables: Variables):
         """The record that is filled, and how values are told in its table."""
-        self.record, self.part, self.values = record, record.part, values
+        self.record, self.part, self.variables, self.values = record, record.part, variables, variables.values
         self.kinds = {"go": self.go, "put": self.put, "print": self.say}
         self.kinds |= {"start": self.start, "exit": self.leave, "fault": self.fault}
-        # The channels of which values are shown in another way than as whole numbers, by the variables that are linked to them.
-        told = {it.name: it.of for it in record.channels if values.is_told(it.name)}
-        self.channel_of = {variable: name for name, it in told.items() for variable in it.places()}
         # The clause whose transition comes next.
         self.clause: Optional[Clause] = None
         self.words = {"val": self.val, "up": self.up, "down": self.down, "done": self.done}
@@ -79,10 +76,9 @@ class Recorder:
 
     def value_seen(self, text: str) -> str:
         """One of these values."""
-        variable, sign, value = text.partition("=")
-        name = self.channel_of.get(variable)
-        is_number = value.removeprefix("-").isdigit()
-        return f"{variable}={self.values.full(name, int(value))}" if name and sign and is_number else text
+        place, _, value = text.partition("=")
+        shown = self.variables.full(place, int(value)) if value.removeprefix("-").isdigit() else None
+        return text if shown is None else f"{place}={shown}"
 
     def unknown(self, event: Event) -> None:
         """A line names a channel that the program does not have."""
@@ -152,7 +148,7 @@ class Recorder:
         clause, saw = clause_of(self.clause, lanes.of, source, target)
         test = lanes.of.conditions.get((source, self.clause.number), "") if self.clause else ""
         self.clause = None
-        deed = Deed("go", f"{name}: {source} -> {target}", clause, self.saw(saw), test)
+        deed = Deed("go", f"{name}: {source} -> {target}", clause, self.saw(saw), self.variables.condition(test))
         self.record.instant.deed(deed, is_dull=is_own and lanes.at_once == 1)
         self.record.counts.transitions += is_drawn
         if not is_own and target in lanes.numbers:

@@ -29,7 +29,9 @@ def rows(record_rows: Iterator[Optional[Row]], left_out: int, times: Times) -> I
             continue
         more = f'<br><span class="why">{many(row.count, "time")}, up to {times.at(row.last)}</span>' if row.count > 1 else ""
         dull = ' class="dull"' if row.is_dull else ""
-        cells = f'<td>{times.at(row.time)}</td><td class="why">{causes(row)}</td><td>{deeds(row)}{more}</td>'
+        beside = times.beside(row.time)
+        time = times.at(row.time) + (f'<br><span class="why">{beside}</span>' if beside else "")
+        cells = f'<td>{time}</td><td class="why">{causes(row)}</td><td>{deeds(row)}{more}</td>'
         yield f'<tr data-t="{row.time}"{dull}>{cells}</tr>\n'
     if row is None:
         yield '<tr><td colspan="3" class="why">The program did nothing.</td></tr>\n'

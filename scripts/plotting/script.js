@@ -3,7 +3,7 @@
   'use strict';
   var picture = document.getElementById('pic'), plot = document.getElementById('plot'), box = document.querySelector('.pic');
   var data = picture.dataset, left = +data.l, full = +data.w, height = +data.h, first = +data.t0, last = +data.t1, head = 22;
-  var zero = data.zero === '' ? null : +data.zero, letter = 5.9;
+  var zero = data.zero === '' ? null : +data.zero, foot = +data.foot, letter = 5.9;
   // The part that is shown, in points of the whole picture; the width that it has; the time that is marked.
   var from = 0, to = full, wide = full, marked = null, isMoved = false;
   // A part has a column or a few at least.
@@ -42,7 +42,7 @@
   function draw() {
     var scale = wide / (to - from);
     picture.setAttribute('width', left + wide + 10);
-    picture.setAttribute('viewBox', '0 0 ' + (left + wide + 10) + ' ' + height);
+    picture.setAttribute('viewBox', '0 0 ' + (left + wide + 10) + ' ' + (height + foot));
     plot.setAttribute('width', wide);
     plot.setAttribute('viewBox', from + ' 0 ' + (to - from) + ' ' + height);
     picture.classList.toggle('zoomed', scale > 3 * wide / full);
@@ -68,10 +68,10 @@
     if (isSeen) it.setAttribute('transform', 'translate(' + place(x) + ',' + it.dataset.y + ')');
     show(it, isSeen);
   }
-  // Prints go into the first line with room.
+  // Prints go into the first line with room; those without room for their texts into the fourth line, where there is one.
   function placePrints() {
-    var free = [];
-    for (var i = 0; i < +data.rows; i++) free.push(-1e9);
+    var free = [], lines = Math.min(+data.rows, 3), spare = +data.rows > lines;
+    for (var i = 0; i < lines; i++) free.push(-1e9);
     prints.forEach(function (it) {
       var x = +it.dataset.x, text = it.querySelector('text');
       if (x < from || x > to) return;
@@ -81,7 +81,7 @@
       var size = (text.getComputedTextLength() || text.textContent.length * letter) + 14, isRight = x + size < left + wide + 8, got = 0;
       while (got < free.length && free[got] > (isRight ? x : x - size)) got++;
       show(text, got < free.length);
-      if (got < free.length) free[got] = isRight ? x + size : x + 6; else { got = 0; free[0] = Math.max(free[0], x + 6); }
+      if (got < free.length) free[got] = isRight ? x + size : x + 6; else if (spare) got = lines; else { got = 0; free[0] = Math.max(free[0], x + 6); }
       text.setAttribute('x', isRight ? 7 : -7);
       text.setAttribute('text-anchor', isRight ? 'start' : 'end');
       it.setAttribute('transform', 'translate(' + x + ',' + (34 + 14 * got) + ')');
@@ -96,10 +96,14 @@
   function drawAxis() {
     var step = stepOf(timeOf(to) - timeOf(from), wide / (zero !== null && +data.days ? 135 : 105));
     axis.textContent = '';
-    for (var time = Math.ceil(timeOf(from) / step) * step; time <= timeOf(to); time += step) {
+    // Where there is a clock its marks are round ones, and the ms of the trace stand below.
+    var off = zero === null ? 0 : zero;
+    for (var time = Math.ceil((timeOf(from) + off) / step) * step - off; time <= timeOf(to); time += step) {
       var x = place(pointOf(time)), group = child(axis, 'g', { 'class': 'tick', transform: 'translate(' + x + ',' + head + ')' });
+      var anchor = x < left + 20 ? 'start' : x > left + wide - 30 ? 'end' : 'middle';
       child(group, 'path', { d: 'M0 0V' + (height - head) });
-      child(group, 'text', { y: -3, 'text-anchor': x < left + 20 ? 'start' : x > left + wide - 30 ? 'end' : 'middle' }).textContent = told(time);
+      child(group, 'text', { y: -3, 'text-anchor': anchor }).textContent = told(time);
+      if (foot) child(group, 'text', { 'class': 'ms', y: height - head + 10, 'text-anchor': anchor }).textContent = time + ' ms';
     }
   }
   function child(parent, name, attributes) {
@@ -113,7 +117,7 @@
     show(cross, isSeen);
     if (!isSeen) return;
     cross.setAttribute('transform', 'translate(' + place(x) + ',0)');
-    cross.lastChild.textContent = told(marked);
+    cross.lastChild.textContent = told(marked) + (foot ? ', ' + marked + ' ms' : '');
     cross.lastChild.setAttribute('text-anchor', place(x) > left + wide - 70 ? 'end' : 'start');
   }
 

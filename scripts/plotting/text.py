@@ -9,11 +9,12 @@ from plotting.summary import ending, summary
 from plotting.times import Times
 
 
-def lines(name: str, record: Record, times: Times) -> Iterator[str]:
+def lines(name: str, record: Record, times: Times, note: str) -> Iterator[str]:
     """All lines of a picture."""
     begin, end = record.begin(), record.stop()
     yield f"run {name}"
     yield f"end {plain(ending(record, times)[0])}"
+    yield from [f"note {plain(note)}"] if note else []
     yield f"part {begin} {end} {record.clock.width}"
     for it in summary(record, times):
         yield f"sum {plain(it)}"

@@ -28,9 +28,9 @@ def step_of(length: int, most: int) -> int:
 class Times:
     """Times of a run as they are told: as a stretch from 0 on, or as a clock where the time at 0 is known."""
 
-    def __init__(self, zero: Optional[datetime.datetime]):
-        """The clock at 0 ms, or None."""
-        self.zero = zero
+    def __init__(self, zero: Optional[datetime.datetime], zone: str = ""):
+        """The clock at 0 ms, or None, and its zone where that is known."""
+        self.zero, self.zone = zero, zone
         self.has_days = False
 
     def span(self, begin: int, end: int) -> None:
@@ -54,13 +54,22 @@ class Times:
         if self.zero is None:
             return ""
         try:
-            return f" on {(self.zero + datetime.timedelta(milliseconds=ms)).date()}"
+            date = (self.zero + datetime.timedelta(milliseconds=ms)).date()
+            return f" on {date}{f' ({self.zone})' if self.zone else ''}"
         except OverflowError:
             return ""
 
-    def zero_ms(self) -> str:
-        """The clock at 0 in ms from 1970 on, or nothing."""
-        return "" if self.zero is None else str((self.zero - EPOCH) // datetime.timedelta(milliseconds=1))
+    def zero_ms(self) -> Optional[int]:
+        """The clock at 0 in ms from 1970 on, or None."""
+        return None if self.zero is None else (self.zero - EPOCH) // datetime.timedelta(milliseconds=1)
+
+    def beside(self, ms: int) -> str:
+        """What stands beside a time that is told as a clock: the ms of the trace; nothing beside another."""
+        return "" if self.zero is None else f"{ms} ms"
+
+    def marks(self, begin: int, end: int, step: int) -> range:
+        """The times of an axis that are multiples of a step, by the clock where there is one."""
+        return range(begin + (-begin - (self.zero_ms() or 0)) % step, end + 1, step)
 
 
 def decimal(ms: int) -> str:

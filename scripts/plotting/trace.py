@@ -1,5 +1,7 @@
 """Reads a trace, line by line, from a file that others read at the same time."""
+import datetime
 import os
+import re
 from dataclasses import dataclass
 from typing import Iterator, Optional
 
@@ -10,6 +12,10 @@ FIELDS = {b"up": (3, 3), b"down": (3, 3), b"done": (3, 3), b"tick": (2, 2), b"va
 LONGEST = 32768
 # How much of a line is shown.
 SHOWN = 100
+
+
+# A comment at the front that tells the date of 0 ms.
+ZERO = re.compile(rb"# zero (\d{4}-\d\d-\d\dT\d\d:\d\d:\d\d(?:\.\d{1,6})?)(Z|[+-]\d\d:\d\d)?\r?")
 
 
 @dataclass
@@ -35,6 +41,20 @@ def lines_of(file: int, start: int) -> Iterator[bytes]:
         yield from whole
     if rest:
         yield rest
+
+
+def zero_of(lines: Iterator[bytes]) -> "tuple[datetime.datetime, str] | None":
+    """The date of 0 ms, and its zone as it is written, where a comment in front of the first event tells it."""
+    for line in lines:
+        if line[:1] != b"#" and line.strip():
+            return None
+        it = ZERO.fullmatch(line)
+        try:
+            if it:
+                return datetime.datetime.fromisoformat(it[1].decode()), (it[2] or b"").decode()
+        except ValueError:
+            return None
+    return None
 
 
 def events(lines: Iterator[bytes], bad: Optional[int]) -> Iterator[Event]:

@@ -3,10 +3,12 @@ import argparse
 import datetime
 import re
 from dataclasses import dataclass, field
+from fractions import Fraction
 
 from plotting.record import Part
 from plotting.values import Values
 
+NO_CLOCK = "none"
 LEAST_COLUMNS, MOST_COLUMNS, COLUMNS = 1, 8192, 2048
 MOST_DECIMALS = 18
 # A text with its number, and the comma behind it: the text may have commas and colons, too.
@@ -26,11 +28,16 @@ class Wanted:
     part: Part
     only: list
     columns: int
-    zero: "datetime.datetime | None"
+    # The clock at 0 ms; None where the trace tells it, and `NO_CLOCK` for none at all.
+    zero: "datetime.datetime | str | None"
     values: Values
+    # A file of units, which adds to the values.
+    units: "str | None" = None
     # The scale of channels: `log` or `linear`.
     scales: dict = field(default_factory=dict)
     form: str = "html"
+    # A sentence for the top of the page.
+    note: str = ""
     # The text of a run in the place of a call, and the programs in the place of those built here.
     run: "str | None" = None
     snc: "str | None" = None
@@ -46,14 +53,14 @@ def wanted(words: list) -> Wanted:
         parser.error("FILE has to be a file: the trace comes on standard input")
     if None not in (given.low, given.high) and given.low > given.high:
         parser.error("--from is behind --to")
-    values = Values(dict(given.scale), {})
+    values = Values({name: Fraction(10**digits) for name, digits in given.scale}, {})
     for name, texts in given.enum:
         values.texts.setdefault(name, {}).update(texts)
     scales = {it: "log" for it in given.log} | {it: "linear" for it in given.linear}
     part = Part(given.low, given.high)
     return Wanted(
-        given.file, given.macros, options, given.budget, part, given.only, given.columns, given.zero, values, scales,
-        given.format, given.run, given.snc, given.snl,
+        given.file, given.macros, options, given.budget, part, given.only, given.columns, given.zero, values, given.units,
+        scales, given.format, given.note, given.run, given.snc, given.snl,
     )  # fmt: skip
 
 
@@ -68,12 +75,14 @@ def parser_of() -> argparse.ArgumentParser:
     add("--to", dest="high", type=time, metavar="MS", help="draw up to this time")
     add("--only", metavar="NAME", help="draw this channel, element NAME[K] or state set; again for more", **many)
     add("--columns", type=columns, default=COLUMNS, metavar="N", help=f"columns of the picture at most [{COLUMNS}]")
-    add("--zero", type=date, metavar="DATE", help="the clock at 0 ms, as 2026-03-02T21:00:00: times are told as a clock")
+    add("--zero", type=date, metavar="DATE", help="the clock at 0 ms, as 2026-03-02T21:00:00, in the place of that which the trace tells; or none")
     add("--enum", type=texts, metavar="NAME=TEXT:N,..", help="of this channel the value N is shown as TEXT", **many)
     add("--scale", type=decimals, metavar="NAME=K", help="values of this channel have K decimals", **many)
+    add("--units", metavar="FILE", help="what the values of channels stand for, as the port writes it by --units")
     add("--log", metavar="NAME", help="draw this channel on a logarithmic scale", **many)
     add("--linear", metavar="NAME", help="draw this channel on a linear scale", **many)
     add("--format", choices=("html", "text"), default="html", help="a page, or its lanes as lines of text [html]")
+    add("--note", default="", metavar="TEXT", help="a sentence that stands at the top of the page")
     add("--budget", default="", metavar="N", help="the ticks that an instant may take")
     add("--run", metavar="FILE", help="take the run that `snl run --whole` or snlrun wrote, and call neither")
     add("--snc", metavar="PATH", help="the program snc, in place of the one that was built here")
@@ -97,8 +106,10 @@ def columns(text: str) -> int:
     return int(text)
 
 
-def date(text: str) -> datetime.datetime:
-    """A date with a time, of which the zone does not count."""
+def date(text: str) -> "datetime.datetime | str":
+    """A date with a time, of which the zone does not count; or the word for none."""
+    if text == NO_CLOCK:
+        return text
     try:
         return datetime.datetime.fromisoformat(text).replace(tzinfo=None)
     except ValueError:

@@ -2,6 +2,7 @@
 import ctypes
 import json
 import os
+import struct
 import threading
 from collections import Counter
 
@@ -11,6 +12,8 @@ TYPES = ["string", "short", "float", "enum", "char", "long", "double"]
 # How the library hands values on, of each type.
 CODES = ctypes.c_char * 40, ctypes.c_int16, ctypes.c_float, ctypes.c_uint16, ctypes.c_uint8, ctypes.c_int32, ctypes.c_double
 NORMAL, PUT_FAIL, PUT = 1, 160, 1
+# What is added to a type whose values come with a stamp, and the bytes in front of them then.
+WITH_STAMP, FRONTS = 14, (12, 14, 12, 14, 15, 12, 16)
 MESSAGES = {PUT_FAIL: "Channel write request failed"}
 
 
@@ -33,6 +36,8 @@ class Channel:
         """A channel that is not connected yet."""
         self.name, self.chid, self.callback, self.on_value = name, chid, callback, None
         self.kind, self.count, self.is_up, self.refuses, self.holds = 0, 1, False, False, False
+        # The seconds of the stamp of its values, and the texts of an enumeration.
+        self.stamp, self.states = 0, []
 
 
 class Library:
@@ -85,22 +90,34 @@ class Library:
         return NORMAL
 
     def ca_create_subscription(self, kind, _count, chid, _mask, handler, _user, _number):
-        """Somebody wants the values of a channel."""
+        """Somebody wants the values of a channel, perhaps with their stamps."""
+        plain = kind % WITH_STAMP
 
         def on_value(values):
             """Hands values on as the bytes that they are."""
-            values = [it.encode() for it in values] if kind == 0 else values
-            data = (len(values) * CODES[kind])()
+            values = [it.encode() for it in values] if plain == 0 else values
+            data = (len(values) * CODES[plain])()
             for at, it in enumerate(values):
-                if kind == 0:
+                if plain == 0:
                     data[at].value = it
                 else:
                     data[at] = it
-            handler(handler.argtypes[0](None, chid.value, kind, len(values), ctypes.addressof(data), NORMAL))
+            stamp = self.channels[chid.value].stamp
+            front = struct.pack("HHII", 0, 0, stamp, 0).ljust(FRONTS[plain], b"\0") if kind >= WITH_STAMP else b""
+            handed = ctypes.create_string_buffer(front + bytes(data))
+            handler(handler.argtypes[0](None, chid.value, kind, len(values), ctypes.addressof(handed), NORMAL))
 
         with self.condition:
             self.channels[chid.value].on_value = on_value
             self.condition.notify_all()
+        return NORMAL
+
+    def ca_array_get_callback(self, _kind, _count, chid, handler, _user):
+        """Somebody wants the texts of an enumeration, which come in front of all values."""
+        states = self.channels[chid.value].states
+        data = struct.pack("hhh", 0, 0, len(states)) + b"".join(it.encode().ljust(26, b"\0") for it in states)
+        handed = ctypes.create_string_buffer(data, 6 + 16 * 26 + 2)
+        handler(handler.argtypes[0](None, chid.value, 24, 1, ctypes.addressof(handed), NORMAL))
         return NORMAL
 
     def count(self, channel):
@@ -143,6 +160,10 @@ class Library:
                 kind, *count = rest.split()
                 channel.kind, channel.count = TYPES.index(kind), int(count[0]) if count else 1
             channel.callback(pvname=channel.name, chid=channel.chid, conn=channel.is_up)
+        elif word == "states":
+            channel.states = json.loads(rest)
+        elif word == "stamp":
+            channel.stamp = int(rest)
         elif word == "refuse":
             channel.refuses = True
         elif word == "hold":
