@@ -40,7 +40,8 @@ def numbers(root):
     hands = [int(it) for _, it in ports.ROW.findall((root / "docs/PORTING.md").read_text())]
     left = [it for it in hands if it]
     yield "README.md", f"leaves nothing by hand in {hands.count(0)} of {len(hands)} programs"
-    yield "README.md", f"and {NUMBERS[sum(left)]} place in the other:" if len(left) == 1 else f"in the other {NUMBERS[len(left)]}"
+    if left:
+        yield "README.md", f"and {NUMBERS[sum(left)]} place in the other:" if len(left) == 1 else f"in the other {NUMBERS[len(left)]}"
     clauses = re.search(r"(\d+) clauses", (root / "docs/DEFINITIONS.md").read_text())[1]
     yield "README.md", f"its {clauses} clauses can be run"
     night = re.search(r"the picture of a night, ([\d,]+ lines) .* (a page of \d+ kB)", (root / "docs/BENCHMARKS.md").read_text())
@@ -115,7 +116,7 @@ def wrong_of_words(root):
 
 def words_of(root):
     """The words of snl."""
-    listed = re.search(r"^const NAMES: .* = \[(.*)\];$", (root / "crates/snl_args/src/calls.rt").read_text(), re.MULTILINE)
+    listed = re.search(r"^pub\(crate\) const NAMES: .*? = \[(.*?)\];$", (root / "crates/snl_args/src/words.rt").read_text(), re.MULTILINE | re.DOTALL)
     return re.findall(r"\w+", listed[1])
 
 

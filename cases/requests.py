@@ -3,7 +3,7 @@ call may be refused: the status is 4 then, nothing is written to any stream or f
 which makes its answer behind the trace, and whose word `run` may have begun its lines. A run that is folded may go on without the
 memory for a block: its lines stand for the same then. A file that a search cannot write is told, behind the answer. A call that
 answers otherwise than it has to, or whose requests nobody counted, is a failure, too.
-Where memory ends while tables are written, a beginning of them is left: no program shows that, so a test of snl_tests tells it."""
+Where memory ends while tables are written, a beginning of them is left: no program shows that, so a test of snc_tests tells it."""
 import os
 import re
 import shutil
@@ -109,7 +109,7 @@ NEVER = 10**9
 WITHOUT = "the answer is the same without it"
 UNWRITTEN = "the answer stands there, and it is told that the file could not be written"
 LATER = "the lines stand for the same, and a block is folded later"
-# The test of `snl_tests`, what it writes with the tables that are left where their call failed, and its status then.
+# The test of `snc_tests`, what it writes with the tables that are left where their call failed, and its status then.
 TEST = "tests::beginnings::tables_or_their_beginning"
 LEFT = re.compile(rb"left: (.*)\nthe test failed: [^\n]+\n", re.DOTALL)
 FAILED = 101
@@ -146,7 +146,7 @@ def cases():
         yield Memory(f"requests.py: {words}", lambda *it, of=call: answered_otherwise(of, *it), call.tool)
     for name in ("r.st", "functions.st"):
         yield Memory(f"requests.py: {name} over one line and over ten thousand", lambda *it, of=name: more_over_a_long_trace(of, *it), "snlrun")
-    yield Memory(f"requests.py: {TEST}", lambda programs, folder: tables_left(programs["snl_tests"], folder), "snlrun")
+    yield Memory(f"requests.py: {TEST}", lambda programs, folder: tables_left(programs["snc_tests"], folder), "snlrun")
 
 
 def built():
@@ -197,7 +197,7 @@ def answered_otherwise(call, programs, folder):
 def tables_left(tests, folder):
     """Where a request of the test is refused, it fails, and tells the tables that are left or not; once at least some are."""
     if not os.access(tests, os.X_OK):
-        yield f"there is no program {tests}: build it by `rt ci`, or by `rt test` in the crate snl_tests"
+        yield f"there is no program {tests}: build it by `rt ci`, or by `rt test` in the crate snc_tests"
         return
     status, count, _ = counted(tests, folder, [TEST], "")
     whole = re.findall(rb"^```\n(.*?)^```$", TABLES.read_bytes(), re.DOTALL | re.MULTILINE)[1]
