@@ -6,9 +6,9 @@ import re
 import subprocess
 from dataclasses import dataclass, field
 
-# The titles of lists of words in the texts of clap and of argparse, and of the three groups of the words of snl.
+# The titles of lists of words in the texts of clap and of argparse, and of the four groups of the words of snl.
 LISTS = {"Arguments": "arguments", "positional arguments": "arguments", "Options": "options", "options": "options"}
-LISTS |= dict.fromkeys(("Look", "Run", "Search"), "words")
+LISTS |= dict.fromkeys(("Look", "Record", "Run", "Search"), "words")
 # An item begins at one of these columns; what stands further to the right goes on with the one before.
 COLUMNS = (2, 6)
 LEADS = {"Usage": "usage", "usage": "usage", "Example": "example", "Status": "status", "Licence": "licence"}

@@ -22,8 +22,8 @@ ROOT = Path(__file__).resolve().parent.parent.parent
 SCRIPTS = {
     "snl-plot": ("plot", "snl-plot interlock.st < interlock.trace > run.html"),
     "snl-port": ("port", "snl-port --sketch pump.i > pump.st"),
-    "snl-record": ("epics/record.py", "snlc --tables light.st | snl-record --tables - > light.trace"),
-    "snl-live": ("epics/live.py", "snlc --tables light.st > light.tables\nsnl-live --tables light.tables -- snlrun light.st"),
+    "snl-record": ("epics/record.py", "snl-record --program light.st > light.trace"),
+    "snl-live": ("epics/live.py", "snl-live --keep light.trace -- snlrun light.st"),
 }
 # What is called by another name where it is installed.
 RENAMED = {
