@@ -37,13 +37,10 @@ use Rattle.snl_json.specs.Definitions.{with_only, with_definition}
 use Rattle.snl_json.proofs.Lists.{last_rows}
 
 -- a call
-pub call_made : (e : Expr) (f : Token) (v : Vec Argument Global) (items : List Argument) (rows inside : List Data)
-    → e ≡ Call f v → items ≡ v.items → inside ≡ with_arguments (list_before items no_arguments) (with_row (codes "no_arguments") [] rows)
-    → with_row (codes "call") (part.Word f ∷ last inside ∷ []) inside ≡ with_expression (view e) rows
-call_made e f v items rows inside ee ei made =
-    let begun = with_row (codes "no_arguments") [] rows in
-    ap (λ r. with_row (codes "call") (part.Word f ∷ last r ∷ []) r) (made ∙ ap (λ l. with_arguments (list_before l no_arguments) begun) ei)
-    ∙ ap (λ x. with_expression x rows) (sym (ap view ee ∙ view_call f v))
+pub call_made : (e : Expr) (f : Token) (v : Vec Argument Global) (items : List Argument) (rows : List Data)
+    → e ≡ Call f v → items ≡ v.items → with_expression (call f (list_before items no_arguments)) rows ≡ with_expression (view e) rows
+call_made e f v items rows ee ei =
+    ap (λ l. with_expression (call f (list_before l no_arguments)) rows) ei ∙ ap (λ x. with_expression x rows) (sym (ap view ee ∙ view_call f v))
 
 -- a chain
 pub chain_made : (e d : Expr) (b : Box Expr Global) (v : Vec Term Global) (items : List Term) (rows first all : List Data)

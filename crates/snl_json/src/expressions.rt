@@ -1,11 +1,13 @@
 //! The rows of expressions.
 
-ghost use Rattle.std.specs.Prelude.{◌≡◌, [], map, codes, IfOk, OnOk};
+ghost use Rattle.std.specs.Prelude.{◌≡◌, [], ◌∷◌, map, codes, IfOk, OnOk};
+ghost use Rattle.snl_syntax.specs.Expressions as tree;
 ghost use Rattle.snl_syntax.specs.Expressions.{no_arguments};
 ghost use Rattle.snl_syntax.specs.view.Expressions.{view, boxed, pair_of, argument_of, list_before};
 ghost use Rattle.snl_syntax.specs.view.Lists.{term_list};
 ghost use Rattle.snl_syntax.specs.view.Shown.{shown};
 ghost use Rattle.snl_json.specs.Rows.{made, with_row, with_maybe, maybe_last};
+ghost use Rattle.snl_json.specs.Rows.{last as spec_last};
 ghost use Rattle.snl_json.specs.Expressions as spec;
 
 use crate::rows::{Part, last, put_empty, put_one, put_three, put_two};
@@ -28,55 +30,15 @@ pub fn put_expression<'a>(
     match expression {
         Expr::Constant(token) => put_one(alloc, "constant", Part::Word(*token), rows),
         Expr::Named(token) => put_one(alloc, "named", Part::Word(*token), rows),
-        Expr::Parenthesized(inside) => {
-            put_expression(alloc, inside, rows)?;
-            put_one(alloc, "parenthesized", last(rows.as_slice()), rows)
-        }
+        Expr::Parenthesized(inside) => put_parenthesized(alloc, inside, rows),
         Expr::Element {
             name,
             bracket,
             index,
-        } => {
-            put_expression(alloc, index, rows)?;
-            put_three(
-                alloc,
-                "element",
-                Part::Word(*name),
-                Part::Word(*bracket),
-                last(rows.as_slice()),
-                rows,
-            )
-        }
-        Expr::Call(name, arguments) => {
-            put_arguments(alloc, arguments.as_slice(), rows)?;
-            put_two(
-                alloc,
-                "call",
-                Part::Word(*name),
-                last(rows.as_slice()),
-                rows,
-            )
-        }
-        Expr::Postfix(operand, operator) => {
-            put_expression(alloc, operand, rows)?;
-            put_two(
-                alloc,
-                "postfix",
-                last(rows.as_slice()),
-                Part::Word(*operator),
-                rows,
-            )
-        }
-        Expr::Prefix(operator, operand) => {
-            put_expression(alloc, operand, rows)?;
-            put_two(
-                alloc,
-                "prefix",
-                Part::Word(*operator),
-                last(rows.as_slice()),
-                rows,
-            )
-        }
+        } => put_element(alloc, index, *name, *bracket, rows),
+        Expr::Call(name, arguments) => put_call(alloc, arguments.as_slice(), *name, rows),
+        Expr::Postfix(operand, operator) => put_postfix(alloc, operand, *operator, rows),
+        Expr::Prefix(operator, operand) => put_prefix(alloc, operand, *operator, rows),
         Expr::Chain(first, terms) => {
             put_expression(alloc, first, rows)?;
             let first = last(rows.as_slice());
@@ -89,14 +51,8 @@ pub fn put_expression<'a>(
             put_expression(alloc, yes, rows)?;
             let yes = last(rows.as_slice());
             put_expression(alloc, no, rows)?;
-            put_three(
-                alloc,
-                "conditional",
-                condition,
-                yes,
-                last(rows.as_slice()),
-                rows,
-            )
+            let no = last(rows.as_slice());
+            put_three(alloc, "conditional", condition, yes, no, rows)
         }
         Expr::Assignment {
             target,
@@ -106,16 +62,111 @@ pub fn put_expression<'a>(
             put_expression(alloc, target, rows)?;
             let target = last(rows.as_slice());
             put_expression(alloc, value, rows)?;
-            put_three(
-                alloc,
-                "assignment",
-                target,
-                Part::Word(*operator),
-                last(rows.as_slice()),
-                rows,
-            )
+            put_assigned(alloc, target, *operator, rows)
         }
     }
+}
+
+/// Puts the rows of an expression in parentheses behind others.
+#[cycle(expression)]
+fn put_parenthesized<'a>(
+    alloc: Global,
+    inside: &Expr<'a>,
+    rows: &mut Vec<Value>,
+) -> Result<(), AllocError>
+    ensures { OnOk result (made rows.new.items
+        ≡ spec.with_expression (tree.parenthesized (view inside.now)) (made rows.old.items)) }
+{
+    put_expression(alloc, inside, rows)?;
+    put_one(alloc, "parenthesized", last(rows.as_slice()), rows)
+}
+
+/// Puts the rows of an element of an array behind others.
+#[cycle(expression)]
+fn put_element<'a>(
+    alloc: Global,
+    index: &Expr<'a>,
+    name: Token<'a>,
+    bracket: Token<'a>,
+    rows: &mut Vec<Value>,
+) -> Result<(), AllocError>
+    ensures { OnOk result (made rows.new.items ≡ spec.with_expression
+        (tree.element name.entry bracket.entry (view index.now)) (made rows.old.items)) }
+{
+    put_expression(alloc, index, rows)?;
+    let index = last(rows.as_slice());
+    let name = Part::Word(name);
+    put_three(alloc, "element", name, Part::Word(bracket), index, rows)
+}
+
+/// Puts the rows of a call with its arguments behind others.
+#[cycle(expression)]
+fn put_call<'a>(
+    alloc: Global,
+    arguments: &[Argument<'a>],
+    name: Token<'a>,
+    rows: &mut Vec<Value>,
+) -> Result<(), AllocError>
+    ensures { OnOk result (made rows.new.items ≡ spec.with_expression
+        (tree.call name.entry (list_before arguments.now no_arguments)) (made rows.old.items)) }
+{
+    put_arguments(alloc, arguments, rows)?;
+    let given = last(rows.as_slice());
+    put_two(alloc, "call", Part::Word(name), given, rows)
+}
+
+/// Puts the rows of an operand with the `++` or `--` behind it behind others.
+#[cycle(expression)]
+fn put_postfix<'a>(
+    alloc: Global,
+    operand: &Expr<'a>,
+    operator: Token<'a>,
+    rows: &mut Vec<Value>,
+) -> Result<(), AllocError>
+    ensures { OnOk result (made rows.new.items ≡ spec.with_expression
+        (tree.postfix (view operand.now) operator.entry) (made rows.old.items)) }
+{
+    put_expression(alloc, operand, rows)?;
+    let operand = last(rows.as_slice());
+    put_two(alloc, "postfix", operand, Part::Word(operator), rows)
+}
+
+/// Puts the rows of an operand with the operator in front of it behind others.
+#[cycle(expression)]
+fn put_prefix<'a>(
+    alloc: Global,
+    operand: &Expr<'a>,
+    operator: Token<'a>,
+    rows: &mut Vec<Value>,
+) -> Result<(), AllocError>
+    ensures { OnOk result (made rows.new.items ≡ spec.with_expression
+        (tree.prefix operator.entry (view operand.now)) (made rows.old.items)) }
+{
+    put_expression(alloc, operand, rows)?;
+    let operand = last(rows.as_slice());
+    put_two(alloc, "prefix", Part::Word(operator), operand, rows)
+}
+
+/// Puts the row of an assignment, whose right side is the last row, behind others.
+fn put_assigned<'a>(
+    alloc: Global,
+    target: Part<'a>,
+    operator: Token<'a>,
+    rows: &mut Vec<Value>,
+) -> Result<(), AllocError>
+    ensures { OnOk result (made rows.new.items ≡ with_row (codes "assignment")
+        (target.entry ∷ Part.Word operator.entry ∷ spec_last (made rows.old.items) ∷ [])
+        (made rows.old.items)) }
+{
+    let value = last(rows.as_slice());
+    put_three(
+        alloc,
+        "assignment",
+        target,
+        Part::Word(operator),
+        value,
+        rows,
+    )
 }
 
 /// Puts the rows of operators with their operands behind others, the last one first.
