@@ -1,0 +1,4 @@
+pub mod CureLaws
+pub mod ExampleLaws
+pub mod NoCureLaws
+pub mod ReachLaws

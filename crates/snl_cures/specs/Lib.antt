@@ -1,0 +1,3 @@
+pub mod Cures
+pub mod Examples
+pub mod Reaching
