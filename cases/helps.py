@@ -3,6 +3,7 @@
 The tables were written before the helps. Of each table some sources may have no such help, so that a help that is wrong is no cheaper
 than none; how many is told below.
 """
+import json
 import re
 import subprocess
 import tempfile
@@ -16,9 +17,13 @@ from case import SECONDS
 HERE = Path(__file__).resolve().parent
 TABLES = HERE / "wrong"
 HELP = b"  = help: "
+CURE = "is a '}' missing in front of it?"
+LONGEST = "cures are tried, and further faults told, for sources of at most 200000 bytes"
+# What is told of a source that is longer, in each format.
+UNTRIED = {"text": f"  = note: {LONGEST}\n", "gcc": f"p.st:10:3: note: {LONGEST}\n", "json": f',"{LONGEST}"]}}\n'}
 BYTE = re.compile(rb"\\x([0-9A-F]{2})")
 # Fewer sources that have the words would be a loss, and fewer that there are a table that is not read.
-LEAST = {"sources": (40, 40), "ports": (18, 20)}
+LEAST = {"sources": (40, 40), "ports": (18, 20), "cures": (24, 28)}
 
 
 def cases(_root):
@@ -26,7 +31,9 @@ def cases(_root):
     for name in LEAST:
         yield Helps(f"snl check: the words of the remedy, of cases/wrong/{name}.table", name)
     yield Folder("snl check: the programs of a folder, in the order of their names")
-    yield Long("snl check: a thousand remarks on a line of a megabyte, and fifteen thousand messages")
+    yield Long("snl check: a thousand remarks on a line of a megabyte, and fifteen thousand messages on another")
+    yield Edited("snl check --format json: with the changes that it tells, the first fault is gone, or stands farther on")
+    yield Large("snl check: cures of a source of 100 kB within two seconds, and none of one that is longer than 200,000 bytes")
 
 
 def entries(table):
@@ -102,9 +109,11 @@ class Long:
     def failure(self, programs):
         monitors = "".join(f'int x{at}; assign x{at} to "X{at}"; monitor x{at};' + " " * 880 for at in range(1000))
         names = "".join(f"n{at}x = 1;" for at in range(15_000))
+        spread = "".join(f"n{at}x = 1;" + " " * 52 for at in range(15_000))
         sources = {
             "remarks": f"program p option +s; {monitors} ss s {{ state a {{ when () {{ }} exit }} }}",
             "messages": f"program p option +s; int x; ss s {{ state a {{ when () {{ {names} }} exit }} }}",
+            "columns": f"program p option +s; int x; ss s {{ state a {{ when () {{ {spread} }} exit }} }}",
         }
         slow = 20 if tried.is_one(programs["snl"]) else 1
         wrong = []
@@ -113,7 +122,82 @@ class Long:
                 Path(folder, "p.st").write_text(source)
                 _, lines, _, seconds = checked(programs["snl"], folder, "--format=gcc", "p.st")
             places = [int(it.split(":")[2]) for it in lines.splitlines()]
-            texts = {"remarks": "is monitored and never read [unread]", "messages": "is not declared [E13]"}
-            if len(places) < 1000 or places != sorted(places) or lines.count(texts[name]) < 1000 or seconds > 4 * slow:
+            text = "is monitored and never read [unread]" if name == "remarks" else "is not declared [E13]"
+            if len(places) < 1000 or places != sorted(places) or lines.count(text) < 1000 or seconds > 4 * slow:
                 wrong.append(f"{name}: {len(places)} lines after {seconds:.1f} s")
+        return "\n  ".join([f"FAILED {self.name}", *wrong]) if wrong else None
+
+
+def objects_on(snl, source):
+    """The objects that are told of a source."""
+    with tempfile.TemporaryDirectory(prefix="snl-") as folder:
+        Path(folder, "p.st").write_bytes(source)
+        return [json.loads(it) for it in checked(snl, folder, "--format=json", "p.st")[1].splitlines()]
+
+
+def with_edit(source, edit):
+    """A source with a change."""
+    lines = source.split(b"\n")
+    line = lines[edit["line"] - 1]
+    lines[edit["line"] - 1] = line[: edit["column"] - 1] + edit["text"].encode() + line[edit["end"] - 1 :]
+    return b"\n".join(lines)
+
+
+@dataclass
+class Edited:
+    """The sources of all tables, each with the changes that are told of it."""
+
+    name: str
+    tool: str = "snl"
+
+    def failure(self, programs):
+        tried_now, wrong = 0, []
+        for name, _, source in (it for table in LEAST for it in entries((TABLES / f"{table}.table").read_bytes())):
+            told = objects_on(programs["snl"], source)
+            for edit in (told[0].get("edits", []) if told else []):
+                tried_now += 1
+                left = [it for it in objects_on(programs["snl"], with_edit(source, edit)) if it["name"] == "E01"]
+                if left and (left[0]["line"], left[0]["column"]) <= (told[0]["line"], told[0]["column"]):
+                    wrong.append(f"{name}: {edit} leaves {left[0]}")
+        if tried_now < 20:
+            wrong.append(f"only {tried_now} changes")
+        return "\n  ".join([f"FAILED {self.name}", *wrong]) if wrong else None
+
+
+def state_of(at):
+    """A state of a large program, on three lines."""
+    return f"  state s{at} {{\n    when (x > {at}) {{ x = x + {at}; pvPut(x); }} state s{at + 1}\n  }}\n"
+
+
+def large(states, lacks):
+    """A program with so many states, of which one lacks its last brace."""
+    parts = [state_of(at) if at != lacks else state_of(at).replace("\n  }", "\n") for at in range(states)]
+    return f'program p option +s;\nint x; assign x to "X";\nss s {{\n{"".join(parts)}  state s{states} {{ when () {{ }} exit }}\n}}\n'
+
+
+@dataclass
+class Large:
+    """Large programs that lack a brace: at their begin, in their midst and at their end."""
+
+    name: str
+    tool: str = "snl"
+
+    def failure(self, programs):
+        slow = 20 if tried.is_one(programs["snl"]) else 1
+        wrong = []
+        for lacks in (1, 700, 1399):
+            with tempfile.TemporaryDirectory(prefix="snl-") as folder:
+                Path(folder, "p.st").write_text(source := large(1400, lacks))
+                _, lines, _, seconds = checked(programs["snl"], folder, "p.st")
+            here = f"p.st:{3 + 3 * (lacks + 1) + 1}:3: E01 syntax error at 'state'\n"
+            if len(source) < 100_000 or here not in lines or "  = help: is a '}' missing in front of it?\n" not in lines or seconds > 2 * slow:
+                wrong.append(f"{len(source)} bytes: {lines[:300]!r} after {seconds:.1f} s")
+        for length, is_tried in ((200_000, True), (200_001, False), (1_048_576, False)):
+            source = large(3, 1)
+            with tempfile.TemporaryDirectory(prefix="snl-") as folder:
+                Path(folder, "p.st").write_text(source + " " * (length - len(source)))
+                lines = {it: checked(programs["snl"], folder, f"--format={it}", "p.st")[1] for it in ("text", "gcc", "json")}
+            for kind, line in UNTRIED.items():
+                if (line in lines[kind]) == is_tried or (CURE in lines[kind]) != is_tried:
+                    wrong.append(f"{length} bytes, {kind}: {lines[kind]!r}")
         return "\n  ".join([f"FAILED {self.name}", *wrong]) if wrong else None

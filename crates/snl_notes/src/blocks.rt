@@ -1,24 +1,21 @@
 //! Notes as blocks of lines, and as lines of a compiler.
 
+use crate::advice::Advice;
+use crate::columns::Columns;
 use crate::excerpts::push_excerpt;
-use crate::forms::{Form, Name, Said, Sheet, letter_of, severity_of};
-use crate::helps::{Help, push_all, push_help, push_words};
+use crate::forms::{Form, Name, Note, Said, Sheet, condition_of, letter_of, severity_of};
+use crate::helps::{Help, push_all, push_help, push_three, push_words};
 use crate::objects::push_object;
 use itoa::Buffer;
-use snl_lints::{Counted, column_at, file_name};
+use snl_lints::file_name;
 use std::alloc::AllocError;
 
 /// Adds `FILE:LINE:COLUMN: `.
-fn push_place<'t>(
-    out: &mut Vec<u8>,
-    file: &'t [u8],
-    line: &'t [u8],
-    column: usize,
-) -> Result<(), AllocError> {
+fn push_place(out: &mut Vec<u8>, note: Note) -> Result<(), AllocError> {
     let mut digits = Buffer::new();
-    let column = digits.format(column).as_bytes();
-    push_all(out, &[file, b":", line, b":", column, b": "])?;
-    Ok(())
+    push_all(out, &[note.file, b":"])?;
+    push_all(out, &[digits.format(note.said.pos.line).as_bytes(), b":"])?;
+    push_all(out, &[digits.format(note.column).as_bytes(), b": "])
 }
 
 /// Adds the number of a message, or the name of a lint.
@@ -34,63 +31,69 @@ fn push_name(out: &mut Vec<u8>, said: Said) -> Result<(), AllocError> {
     }
 }
 
-/// Adds a block: an empty line, the place and what is said of it, the line of the source, and what helps, if anything does.
-fn push_block<'t>(
-    out: &mut Vec<u8>,
-    source: &[u8],
-    file: &'t [u8],
-    column: usize,
-    said: Said<'t>,
-    help: Option<Help>,
-) -> Result<(), AllocError> {
-    let mut digits = Buffer::new();
-    let line = digits.format(said.pos.line).as_bytes();
-    push_all(out, &[b"\n"])?;
-    push_place(out, file, line, column)?;
+/// Adds what is said, behind its number; what holds only once something is mended is called a note.
+fn push_said(out: &mut Vec<u8>, said: Said) -> Result<(), AllocError> {
+    if said.is_behind {
+        push_all(out, &[b"note: ", condition_of(said)])?;
+    }
     push_name(out, said)?;
-    push_all(out, &[b" ", said.text, b"\n"])?;
-    push_excerpt(out, source, said.pos.offset, line)?;
-    match help {
-        Some(help) => push_help(out, help),
+    push_all(out, &[b" ", said.text, b"\n"])
+}
+
+/// Adds a line of what else there is to know.
+fn push_also(out: &mut Vec<u8>, also: Help) -> Result<(), AllocError> {
+    push_all(out, &[b"  = note: "])?;
+    push_words(out, also)?;
+    push_all(out, &[b"\n"])
+}
+
+/// Adds what stands below a block.
+fn push_advice(out: &mut Vec<u8>, advice: Advice) -> Result<(), AllocError> {
+    if let Some(help) = advice.help {
+        push_help(out, help)?;
+    }
+    match advice.also {
+        Some(also) => push_also(out, also),
         None => Ok(()),
     }
 }
 
+/// Adds a block: an empty line, the place and what is said of it, the line of the source, and what stands below it.
+fn push_block(out: &mut Vec<u8>, source: &[u8], note: Note) -> Result<(), AllocError> {
+    let mut digits = Buffer::new();
+    let line = digits.format(note.said.pos.line).as_bytes();
+    push_all(out, &[b"\n"])?;
+    push_place(out, note)?;
+    push_said(out, note.said)?;
+    push_excerpt(out, source, note.said.pos.offset, line)?;
+    push_advice(out, note.advice)
+}
+
 /// Adds a line `FILE:LINE:COLUMN: note: HELP`.
-fn push_note_line<'t>(
-    out: &mut Vec<u8>,
-    file: &'t [u8],
-    line: &'t [u8],
-    column: usize,
-    help: Help,
-) -> Result<(), AllocError> {
-    push_place(out, file, line, column)?;
+fn push_note_line(out: &mut Vec<u8>, note: Note, help: Help) -> Result<(), AllocError> {
+    push_place(out, note)?;
     push_all(out, &[b"note: "])?;
     push_words(out, help)?;
     push_all(out, &[b"\n"])
 }
 
-/// Adds how grave a message is, and its text.
-fn push_text<'t>(out: &mut Vec<u8>, severity: &'t [u8], text: &'t [u8]) -> Result<(), AllocError> {
-    push_all(out, &[severity, b": ", text, b" ["])
+/// Adds a line `FILE:LINE:COLUMN: error: TEXT [E13]`.
+fn push_line(out: &mut Vec<u8>, note: Note) -> Result<(), AllocError> {
+    push_place(out, note)?;
+    push_all(out, &[severity_of(note.said), b": "])?;
+    push_three(out, condition_of(note.said), note.said.text, b" [")?;
+    push_name(out, note.said)?;
+    push_all(out, &[b"]\n"])
 }
 
-/// Adds a line `FILE:LINE:COLUMN: error: TEXT [E13]`, and one of what helps, if anything does.
-fn push_lines<'t>(
-    out: &mut Vec<u8>,
-    file: &'t [u8],
-    column: usize,
-    said: Said<'t>,
-    help: Option<Help>,
-) -> Result<(), AllocError> {
-    let mut digits = Buffer::new();
-    let line = digits.format(said.pos.line).as_bytes();
-    push_place(out, file, line, column)?;
-    push_text(out, severity_of(said.severity), said.text)?;
-    push_name(out, said)?;
-    push_all(out, &[b"]\n"])?;
-    match help {
-        Some(help) => push_note_line(out, file, line, column, help),
+/// Adds that line, and one of each thing that stands below it.
+fn push_lines(out: &mut Vec<u8>, note: Note) -> Result<(), AllocError> {
+    push_line(out, note)?;
+    if let Some(help) = note.advice.help {
+        push_note_line(out, note, help)?;
+    }
+    match note.advice.also {
+        Some(also) => push_note_line(out, note, also),
         None => Ok(()),
     }
 }
@@ -99,15 +102,19 @@ fn push_lines<'t>(
 pub fn push_note(
     out: &mut Vec<u8>,
     sheet: Sheet,
+    columns: &mut Columns,
     said: Said,
-    help: Option<Help>,
+    advice: Advice,
 ) -> Result<(), AllocError> {
-    let source = sheet.text.source;
-    let column = column_at(source, Counted::start(), said.pos.offset).column;
-    let file = file_name(sheet.text, said.pos.file);
+    let note = Note {
+        file: file_name(sheet.text, said.pos.file),
+        column: columns.column(said.pos.offset),
+        said,
+        advice,
+    };
     match sheet.form {
-        Form::Text => push_block(out, source, file, column, said, help),
-        Form::Gcc => push_lines(out, file, column, said, help),
-        Form::Json => push_object(sheet.alloc, out, file, column, said, help),
+        Form::Text => push_block(out, sheet.text.source, note),
+        Form::Gcc => push_lines(out, note),
+        Form::Json => push_object(sheet.alloc, out, columns, note),
     }
 }

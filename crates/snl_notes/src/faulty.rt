@@ -1,7 +1,9 @@
 //! The note on a source that cannot be cut into tokens.
 
+use crate::advice::Advice;
 use crate::blocks::push_note;
 use crate::bytes::{byte_help, number_help};
+use crate::columns::Columns;
 use crate::forms::{Name, Said, Sheet};
 use crate::helps::Help;
 use crate::notes::Read;
@@ -39,9 +41,11 @@ fn push_fault(out: &mut Vec<u8>, sheet: Sheet, fault: LexFault) -> Result<(), Al
         severity: Severity::Error,
         name: Name::Number(Refusal::NoTokens.number()),
         text: words.as_bytes(),
+        is_behind: false,
     };
     let help = fault_help(sheet.text.source, fault, pos);
-    push_note(out, sheet, said, help)
+    let mut columns = Columns::new(sheet.text.source);
+    push_note(out, sheet, &mut columns, said, Advice::of(help))
 }
 
 /// The note, where markers gave these names.

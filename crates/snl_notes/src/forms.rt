@@ -1,5 +1,6 @@
 //! How notes are written.
 
+use crate::advice::Advice;
 use snl_check::Severity;
 use snl_lints::Text;
 use snl_text::Pos;
@@ -49,6 +50,21 @@ pub struct Said<'s> {
     pub name: Name<'s>,
     /// Its text.
     pub text: &'s [u8],
+    /// Whether it holds once what stands in front of it is mended.
+    pub is_behind: bool,
+}
+
+/// What is said, where that is, and what stands below it.
+#[derive(Clone, Copy)]
+pub struct Note<'s> {
+    /// The file of the place.
+    pub file: &'s [u8],
+    /// The column of the place.
+    pub column: usize,
+    /// What is said.
+    pub said: Said<'s>,
+    /// What stands below it.
+    pub advice: Advice<'s>,
 }
 
 /// What stands in front of the digits of a number: that of an error has two digits.
@@ -60,10 +76,20 @@ pub fn letter_of(severity: Severity, number: u8) -> &'static [u8] {
     }
 }
 
-/// A severity, as compilers call it.
-pub fn severity_of(severity: Severity) -> &'static [u8] {
-    match severity {
+/// How grave it is, as compilers call it: what holds only once something is mended is a note.
+pub fn severity_of(said: Said) -> &'static [u8] {
+    match said.severity {
+        _ if said.is_behind => b"note",
         Severity::Error => b"error",
         Severity::Warning => b"warning",
+    }
+}
+
+/// What stands in front of a text that holds only once something is mended.
+pub fn condition_of(said: Said) -> &'static [u8] {
+    if said.is_behind {
+        b"once that is mended, "
+    } else {
+        b""
     }
 }

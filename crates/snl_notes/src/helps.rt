@@ -18,6 +18,8 @@ pub enum Help<'a> {
     Counted(&'static [u8], usize, &'static [u8]),
     /// Words round two numbers.
     Compared(&'static [u8], usize, &'static [u8], usize, &'static [u8]),
+    /// Words round something that is put, and a number.
+    Placed(&'static [u8], &'static [u8], &'static [u8], usize, &'static [u8]),
 }
 
 /// Adds pieces, one behind the other. Fails only where memory ends.
@@ -47,8 +49,8 @@ fn push_counted<'t>(
     Ok(())
 }
 
-/// Adds three pieces.
-fn push_three<'t>(
+/// Adds three pieces. Fails only where memory ends.
+pub fn push_three<'t>(
     out: &mut Vec<u8>,
     front: &'t [u8],
     name: &'t [u8],
@@ -71,6 +73,10 @@ pub fn push_words<'a>(out: &mut Vec<u8>, help: Help<'a>) -> Result<(), AllocErro
         Help::Compared(front, one, middle, other, back) => {
             push_counted(out, front, one, middle)?;
             push_counted(out, b"", other, back)
+        }
+        Help::Placed(front, name, middle, number, back) => {
+            push_all(out, &[front, name])?;
+            push_counted(out, middle, number, back)
         }
     }
 }

@@ -1,10 +1,13 @@
 //! What stands behind the messages about a source: of each its place with a column, the line of the source, and what helps.
 #![tactic(auto)]
 
+mod advice;
 mod arguments;
 mod blocks;
 mod bytes;
 mod calls;
+mod columns;
+mod cures;
 mod excerpts;
 mod faulty;
 mod formats;
@@ -15,6 +18,7 @@ mod near;
 mod notes;
 mod numbered;
 mod objects;
+mod refused;
 mod remarked;
 mod syntax;
 mod tokens;

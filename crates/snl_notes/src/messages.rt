@@ -1,6 +1,8 @@
 //! The notes on the messages about a program.
 
+use crate::advice::Advice;
 use crate::blocks::push_note;
+use crate::columns::Columns;
 use crate::forms::{Name, Said, Sheet};
 use crate::helps::Help;
 use crate::numbered::error_help;
@@ -13,8 +15,10 @@ use std::alloc::{AllocError, Global};
 const HELPED: usize = 200;
 
 /// How far the notes came.
-#[derive(Clone, Copy)]
-struct Reached {
+#[derive(Drop)]
+struct Reached<'s> {
+    /// The columns that were counted.
+    columns: Columns<'s>,
     /// The number of the token of the last one.
     at: usize,
     /// How many there are.
@@ -103,8 +107,9 @@ fn push_message(
         severity: message.severity,
         name: Name::Number(message.number),
         text: message.text.as_slice(),
+        is_behind: false,
     };
-    push_note(out, sheet, said, help)
+    push_note(out, sheet, &mut reached.columns, said, Advice::of(help))
 }
 
 /// Adds the notes on messages. Fails only where memory ends.
@@ -114,7 +119,11 @@ pub fn push_messages(
     tokens: &[Token],
     messages: &[Message],
 ) -> Result<(), AllocError> {
-    let mut reached = Reached { at: 0, count: 0 };
+    let mut reached = Reached {
+        columns: Columns::new(sheet.text.source),
+        at: 0,
+        count: 0,
+    };
     for message in messages {
         push_message(out, sheet, tokens, messages, message, &mut reached)?;
     }

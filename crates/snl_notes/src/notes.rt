@@ -1,84 +1,15 @@
 //! The notes on a source: one for each message about it.
 
-use crate::blocks::push_note;
 use crate::faulty::fault_notes;
-use crate::forms::{Form, Name, Said, Sheet};
-use crate::helps::{Help, push_all};
+use crate::forms::{Form, Sheet};
 use crate::messages::push_messages;
-use crate::syntax::syntax_help;
-use snl_check::{Message, Options, Outcome, Severity, check};
+use crate::refused::{push_refused, push_too_deep};
+use snl_check::{Message, Options, Outcome, check};
 use snl_lints::Text;
-use snl_messages::Refusal;
 use snl_syntax::Program;
-use snl_text::{LexFault, Lexed, Pos, Token, lex};
+use snl_text::{LexFault, Lexed, lex};
 use snl_tree::{ParseFault, parse};
 use std::alloc::{AllocError, Global};
-
-/// Adds words, and a text behind them, which ends with a quote.
-fn push_quoted<'t>(out: &mut Vec<u8>, words: &'t [u8], text: &'t [u8]) -> Result<(), AllocError> {
-    push_all(out, &[words, text, b"'"])
-}
-
-/// What is said of a token that cannot stand.
-fn push_refused(
-    out: &mut Vec<u8>,
-    sheet: Sheet,
-    token: Token,
-    why: Refusal,
-    help: Option<Help>,
-) -> Result<(), AllocError> {
-    let mut words = Vec::new(sheet.alloc);
-    push_quoted(&mut words, why.words(), token.text)?;
-    let said = Said {
-        pos: token.pos,
-        length: token.text.len(),
-        severity: Severity::Error,
-        name: Name::Number(why.number()),
-        text: words.as_slice(),
-    };
-    push_note(out, sheet, said, help)
-}
-
-/// Adds the note on tokens that end too soon.
-fn push_ended(
-    out: &mut Vec<u8>,
-    sheet: Sheet,
-    pos: Pos,
-    help: Option<Help>,
-) -> Result<(), AllocError> {
-    let why = Refusal::EndOfFile;
-    let said = Said {
-        pos,
-        length: 0,
-        severity: Severity::Error,
-        name: Name::Number(why.number()),
-        text: why.words(),
-    };
-    push_note(out, sheet, said, help)
-}
-
-/// Adds the note on tokens that are no program, by the number of the first that cannot stand.
-fn push_syntax(
-    out: &mut Vec<u8>,
-    sheet: Sheet,
-    lexed: &Lexed,
-    at: usize,
-) -> Result<(), AllocError> {
-    let tokens = lexed.tokens.as_slice();
-    let help = syntax_help(sheet.alloc, tokens, at)?;
-    match tokens.get(at) {
-        Some(token) => push_refused(out, sheet, *token, Refusal::Unexpected, help),
-        None => push_ended(out, sheet, lexed.eof, help),
-    }
-}
-
-/// Adds the note on a token that is nested too deep.
-fn push_deep(out: &mut Vec<u8>, sheet: Sheet, lexed: &Lexed, at: usize) -> Result<(), AllocError> {
-    match lexed.tokens.get(at) {
-        Some(token) => push_refused(out, sheet, *token, Refusal::TooDeep, None),
-        None => Ok(()),
-    }
-}
 
 /// The messages about a program.
 fn messages_of(
@@ -106,8 +37,8 @@ fn push_notes(
             push_messages(out, sheet, lexed.tokens.as_slice(), messages.as_slice())
         }
         Err(ParseFault::Memory) => Err(AllocError),
-        Err(ParseFault::Unexpected(at)) => push_syntax(out, sheet, lexed, at),
-        Err(ParseFault::TooDeep(at)) => push_deep(out, sheet, lexed, at),
+        Err(ParseFault::Unexpected(at)) => push_refused(out, sheet, lexed, at),
+        Err(ParseFault::TooDeep(at)) => push_too_deep(out, sheet, lexed, at),
     }
 }
 

@@ -1,6 +1,8 @@
 //! Notes as objects of JSON, one on a line.
 
-use crate::forms::{Name, Said, letter_of, severity_of};
+use crate::advice::{Advice, Edit};
+use crate::columns::Columns;
+use crate::forms::{Name, Note, Said, letter_of, severity_of};
 use crate::helps::{Help, push_all, push_words};
 use itoa::Buffer;
 use serde_json::Value;
@@ -21,19 +23,18 @@ fn push_number(out: &mut Vec<u8>, key: &[u8], number: usize) -> Result<(), Alloc
     Ok(())
 }
 
-/// Adds the place: the file, the line, and the columns of its begin and its end.
-fn push_place(
-    alloc: Global,
-    out: &mut Vec<u8>,
-    file: &[u8],
-    column: usize,
-    said: Said,
-) -> Result<(), AllocError> {
-    out.extend_from_slice(b"{\"file\":")?;
-    push_string(alloc, out, file)?;
-    push_number(out, b",\"line\":", said.pos.line)?;
+/// Adds the column of a begin, and that of the end so many bytes behind it.
+fn push_columns(out: &mut Vec<u8>, column: usize, length: usize) -> Result<(), AllocError> {
     push_number(out, b",\"column\":", column)?;
-    push_number(out, b",\"end\":", column.saturating_add(said.length))
+    push_number(out, b",\"end\":", column.saturating_add(length))
+}
+
+/// Adds the place: the file, the line, and the columns of its begin and its end.
+fn push_place(alloc: Global, out: &mut Vec<u8>, note: Note) -> Result<(), AllocError> {
+    out.extend_from_slice(b"{\"file\":")?;
+    push_string(alloc, out, note.file)?;
+    push_number(out, b",\"line\":", note.said.pos.line)?;
+    push_columns(out, note.column, note.said.length)
 }
 
 /// Adds the number of a message, or the name of a lint.
@@ -52,43 +53,63 @@ fn push_name(out: &mut Vec<u8>, said: Said) -> Result<(), AllocError> {
 fn push_said(alloc: Global, out: &mut Vec<u8>, said: Said) -> Result<(), AllocError> {
     push_all(
         out,
-        &[
-            b",\"severity\":\"",
-            severity_of(said.severity),
-            b"\",\"name\":\"",
-        ],
+        &[b",\"severity\":\"", severity_of(said), b"\",\"name\":\""],
     )?;
     push_name(out, said)?;
     out.extend_from_slice(b"\",\"text\":")?;
     push_string(alloc, out, said.text)
 }
 
-/// Adds a help as a string.
-fn push_help(alloc: Global, out: &mut Vec<u8>, help: Help) -> Result<(), AllocError> {
-    let mut words = Vec::new(alloc);
-    push_words(&mut words, help)?;
-    push_string(alloc, out, words.as_slice())
+/// Adds words as a string.
+fn push_quoted(alloc: Global, out: &mut Vec<u8>, words: Help) -> Result<(), AllocError> {
+    let mut text = Vec::new(alloc);
+    push_words(&mut text, words)?;
+    push_string(alloc, out, text.as_slice())
 }
 
-/// Adds the list of what helps.
-fn push_helps(alloc: Global, out: &mut Vec<u8>, help: Option<Help>) -> Result<(), AllocError> {
+/// Adds the list of what helps, and of what else there is to know.
+fn push_helps(alloc: Global, out: &mut Vec<u8>, advice: Advice) -> Result<(), AllocError> {
     out.extend_from_slice(b",\"helps\":[")?;
-    if let Some(help) = help {
-        push_help(alloc, out, help)?;
+    if let Some(help) = advice.help {
+        push_quoted(alloc, out, help)?;
     }
-    out.extend_from_slice(b"]}\n")
+    if advice.help.is_some() && advice.also.is_some() {
+        out.extend_from_slice(b",")?;
+    }
+    if let Some(also) = advice.also {
+        push_quoted(alloc, out, also)?;
+    }
+    out.extend_from_slice(b"]")
 }
 
-/// Adds a note as an object, at a column of a file. Fails only where memory ends.
+/// Adds the list of a change of the source, at a column.
+fn push_edit(
+    alloc: Global,
+    out: &mut Vec<u8>,
+    column: usize,
+    edit: Edit,
+) -> Result<(), AllocError> {
+    push_number(out, b",\"edits\":[{\"line\":", edit.line)?;
+    push_columns(out, column, edit.length)?;
+    out.extend_from_slice(b",\"text\":")?;
+    let mut text = Vec::new(alloc);
+    push_all(&mut text, &edit.text)?;
+    push_string(alloc, out, text.as_slice())?;
+    out.extend_from_slice(b"}]")
+}
+
+/// Adds a note as an object. Fails only where memory ends.
 pub fn push_object(
     alloc: Global,
     out: &mut Vec<u8>,
-    file: &[u8],
-    column: usize,
-    said: Said,
-    help: Option<Help>,
+    columns: &mut Columns,
+    note: Note,
 ) -> Result<(), AllocError> {
-    push_place(alloc, out, file, column, said)?;
-    push_said(alloc, out, said)?;
-    push_helps(alloc, out, help)
+    push_place(alloc, out, note)?;
+    push_said(alloc, out, note.said)?;
+    push_helps(alloc, out, note.advice)?;
+    if let Some(edit) = note.advice.edit {
+        push_edit(alloc, out, columns.column(edit.offset), edit)?;
+    }
+    out.extend_from_slice(b"}\n")
 }

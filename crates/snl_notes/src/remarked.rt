@@ -1,6 +1,8 @@
 //! What lints remark, as objects of JSON.
 
+use crate::advice::Advice;
 use crate::blocks::push_note;
+use crate::columns::Columns;
 use crate::forms::{Form, Name, Said, Sheet};
 use crate::helps::push_all;
 use snl_check::Severity;
@@ -13,7 +15,12 @@ fn push_quoted<'t>(out: &mut Vec<u8>, text: &'t [u8], words: &'t [u8]) -> Result
 }
 
 /// Adds the object of a remark.
-fn push_remark(out: &mut Vec<u8>, sheet: Sheet, remark: &Remark) -> Result<(), AllocError> {
+fn push_remark(
+    out: &mut Vec<u8>,
+    sheet: Sheet,
+    columns: &mut Columns,
+    remark: &Remark,
+) -> Result<(), AllocError> {
     let mut text = Vec::new(sheet.alloc);
     push_quoted(&mut text, remark.token.text, words_of(remark.lint))?;
     let said = Said {
@@ -22,14 +29,16 @@ fn push_remark(out: &mut Vec<u8>, sheet: Sheet, remark: &Remark) -> Result<(), A
         severity: Severity::Warning,
         name: Name::Lint(name_of(remark.lint)),
         text: text.as_slice(),
+        is_behind: false,
     };
-    push_note(out, sheet, said, None)
+    push_note(out, sheet, columns, said, Advice::of(None))
 }
 
 /// Adds that, where the remark is not silenced.
 fn push_unless(
     out: &mut Vec<u8>,
     sheet: Sheet,
+    columns: &mut Columns,
     silenced: &[String],
     remark: &Remark,
 ) -> Result<(), AllocError> {
@@ -37,7 +46,7 @@ fn push_unless(
     if is_silenced(sheet.alloc, silenced, remark.lint, line)? {
         Ok(())
     } else {
-        push_remark(out, sheet, remark)
+        push_remark(out, sheet, columns, remark)
     }
 }
 
@@ -54,8 +63,9 @@ pub fn objects_of(
         form: Form::Json,
     };
     let mut out = Vec::new(alloc);
+    let mut columns = Columns::new(text.source);
     for remark in remarks {
-        push_unless(&mut out, sheet, silenced, remark)?;
+        push_unless(&mut out, sheet, &mut columns, silenced, remark)?;
     }
     Ok(out)
 }

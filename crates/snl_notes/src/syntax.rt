@@ -97,25 +97,25 @@ fn is_end(kind: Kind) -> bool {
     )
 }
 
-/// What is missing in front of a name in a state.
-fn name_help<'a>(before: Kind, name: &'a [u8]) -> Help<'a> {
-    if before == Kind::CloseBrace {
-        Help::Named(
+/// What is missing in front of a name in a state, where a clause may end or begin.
+fn name_help<'a>(before: Kind, name: &'a [u8]) -> Option<Help<'a>> {
+    match before {
+        Kind::CloseBrace => Some(Help::Named(
             b"behind the block of a when stands where it leads: state ",
             name,
             b"",
-        )
-    } else {
-        Help::Words(
+        )),
+        Kind::OpenBrace | Kind::Semicolon => Some(Help::Words(
             b"in a state stand entry { .. }, clauses, and exit { .. }: statements stand in the blocks of these",
-        )
+        )),
+        _ => None,
     }
 }
 
 /// What is missing behind a clause, or in front of a statement.
 fn state_help<'a>(before: Kind, token: Token<'a>) -> Option<Help<'a>> {
     match token.kind {
-        Kind::Name => Some(name_help(before, token.text)),
+        Kind::Name => name_help(before, token.text),
         Kind::CloseBrace | Kind::When if before == Kind::CloseBrace => Some(Help::Words(
             b"behind the block of a when stands where it leads: state NAME, or exit",
         )),
@@ -221,8 +221,8 @@ fn state_help_at<'a>(
     }
 }
 
-/// What helps by what is missing.
-fn missing_help<'a>(
+/// What helps by what stands there.
+fn standing_help<'a>(
     tokens: &[Token<'a>],
     at: usize,
     before: Token<'a>,
@@ -231,13 +231,10 @@ fn missing_help<'a>(
     if let Some(help) = state_help_at(tokens, at, before.kind, token) {
         return Some(help);
     }
-    if let Some(help) = type_help(tokens, at, before.kind, token.kind) {
-        return Some(help);
-    }
-    semicolon_help(before, token)
+    type_help(tokens, at, before.kind, token.kind)
 }
 
-/// What helps at a token behind another one. A keyword that is near comes before what may be missing.
+/// What helps at a token behind another one. A keyword that is near comes before where it stands.
 fn help_behind<'a>(
     alloc: Global,
     tokens: &[Token<'a>],
@@ -253,7 +250,7 @@ fn help_behind<'a>(
             return Ok(meant(Some(word)));
         }
     }
-    Ok(missing_help(tokens, at, before, token))
+    Ok(standing_help(tokens, at, before, token))
 }
 
 /// What helps at the first token.
@@ -261,8 +258,8 @@ fn first_help<'a>() -> Help<'a> {
     Help::Words(b"a program begins with program NAME")
 }
 
-/// What helps where the token of a number is the first that cannot stand, or where the tokens end too soon. Fails only where
-/// memory ends.
+/// What helps where the token of a number is the first that cannot stand, or where the tokens end too soon, by what is known of such
+/// tokens. Fails only where memory ends.
 pub fn syntax_help<'a>(
     alloc: Global,
     tokens: &[Token<'a>],
@@ -276,4 +273,11 @@ pub fn syntax_help<'a>(
             None => Ok(None),
         },
     }
+}
+
+/// Which semicolon is missing in front of the token of a number, if one may be.
+pub fn semicolon_help_at<'a>(tokens: &[Token], at: usize) -> Option<Help<'a>> {
+    let before = tokens.get(at.checked_sub(1)?)?;
+    let token = tokens.get(at)?;
+    semicolon_help(*before, *token)
 }
