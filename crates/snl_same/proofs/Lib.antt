@@ -1,0 +1,9 @@
+pub mod WordLaws
+pub mod KeptLaws
+pub mod FirstLaws
+pub mod LineLaws
+pub mod MeaningLaws
+pub mod StandLaws
+pub mod TakingLaws
+pub mod OverLaws
+pub mod LoadLaws

@@ -1,0 +1,34 @@
+-- What a line of the output says, word by word: `MS put CHANNEL V ..` is a put.
+use Rattle.std.specs.Prelude.{◌==◌, not, ℕ, Bool, List, [], ◌∷◌, bytes_eq, codes, string_bytes, if◌then◌else◌}
+use Rattle.std.specs.List.{list_any}
+use Rattle.snl_same.specs.declared.filters.Filter.{Filter}
+
+-- The bytes of a text before its first blank,
+unfoldable pub word : List ℕ → List ℕ
+word [] = []
+word (byte ∷ bytes) = if byte == 32 then [] else byte ∷ word bytes
+
+-- and those behind it.
+unfoldable pub behind : List ℕ → List ℕ
+behind [] = []
+behind (byte ∷ bytes) = if byte == 32 then bytes else behind bytes
+
+-- The time of a line, as it is spelled.
+abbrev pub time_of : List ℕ → List ℕ
+time_of line = word line
+
+-- Whether a line is a put,
+abbrev pub is_put : List ℕ → Bool
+is_put line = bytes_eq (word (behind line)) (codes "put")
+
+-- and the channel of one.
+abbrev pub channel_of : List ℕ → List ℕ
+channel_of line = word (behind (behind line))
+
+-- Whether a channel is left out.
+abbrev pub is_left_out : Filter → List ℕ → Bool
+is_left_out f channel = list_any (λ name. bytes_eq (string_bytes name) channel) f.but.now
+
+-- Whether a line counts: no put to a channel that is left out, and with puts alone no other line.
+abbrev pub counts : Filter → List ℕ → Bool
+counts f line = if is_put line then not (is_left_out f (channel_of line)) else not f.puts_only

@@ -1,0 +1,28 @@
+//! Two programs over one trace: where what they do differs first.
+//!
+//! `ready_of` makes a program ready that has no error; `compare` runs two of them over a trace, line by line, and tells the first
+//! line of the trace at which they differ, by what each wrote there or by how it ended.
+#![tactic(auto)]
+
+mod comparing;
+mod differences;
+mod filters;
+mod keeping;
+pub mod laws;
+mod loading;
+mod logs;
+mod pages;
+mod pieces;
+mod reading;
+mod scenes;
+mod sides;
+mod stepping;
+mod sums;
+mod telling;
+mod words;
+
+pub use differences::{Apart, Close, Difference};
+pub use filters::Filter;
+pub use loading::{Ready, ready_of};
+pub use reading::{Compared, compare};
+pub use sides::Side;

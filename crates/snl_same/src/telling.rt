@@ -1,0 +1,153 @@
+//! What is told of two runs, as a text.
+
+ghost use Rattle.std.specs.Prelude.{◌≡◌};
+
+use crate::differences::{Apart, Close};
+use crate::logs::Log;
+use crate::pieces::{push_all, push_counted, push_told, short};
+use crate::sides::Side;
+use crate::stepping::Ends;
+use crate::sums::push_sums;
+use snl_trace::{End, TraceFault};
+use std::alloc::AllocError;
+
+/// Adds a line that a run wrote, or that it wrote none.
+fn push_line(out: &mut Vec<u8>, front: &[u8], line: &Option<Vec<u8>>) -> Result<(), AllocError> {
+    match line {
+        Some(line) => push_all(out, &[front, line.as_slice(), b"\n"]),
+        None => push_all(out, &[front, b"nothing\n"]),
+    }
+}
+
+/// Adds how a run ends.
+fn push_end(log: &mut Log, front: &[u8], end: Option<End>) -> Result<(), AllocError>
+    ensures first { log.new.first ≡ log.old.first }
+    ensures filter { log.new.filter ≡ log.old.filter }
+    ensures number { log.new.number ≡ log.old.number }
+{
+    let alloc = log.alloc;
+    let out = &mut log.text;
+    match end {
+        None => push_all(out, &[front, b" goes on\n"]),
+        Some(End::Fault(fault, line)) => {
+            let text = format!(in alloc; "{fault}")?;
+            push_all(out, &[front, b" faults: ", text.as_bytes()])?;
+            push_told(out, b" (line ", line as u64, b")\n")
+        }
+        Some(End::TraceFault(_, fault)) => {
+            let text = format!(in alloc; "{fault}")?;
+            push_all(
+                out,
+                &[front, b" does not take the line: ", text.as_bytes(), b"\n"],
+            )
+        }
+        Some(_) => push_all(out, &[front, b" exits\n"]),
+    }
+}
+
+/// Adds how the runs are apart at a line.
+fn push_apart(log: &mut Log, apart: &Apart, ends: Ends) -> Result<(), AllocError>
+    ensures first { log.new.first ≡ log.old.first }
+    ensures filter { log.new.filter ≡ log.old.filter }
+    ensures number { log.new.number ≡ log.old.number }
+{
+    let number = short(log.number);
+    match apart {
+        Apart::Lines(old, new) => {
+            push_told(&mut log.text, b"line ", number, b" of the trace differs:\n")?;
+            push_line(&mut log.text, b"old wrote: ", old)?;
+            push_line(&mut log.text, b"new wrote: ", new)
+        }
+        Apart::Ends => {
+            push_told(&mut log.text, b"line ", number, b" of the trace differs:\n")?;
+            push_end(log, b"old", ends.old)?;
+            push_end(log, b"new", ends.new)
+        }
+    }
+}
+
+/// Adds where both stand.
+fn push_both(out: &mut Vec<u8>, old: &Side, new: &Side) -> Result<(), AllocError> {
+    old.scene.push_about(out, b"old: ", old.page.last_fired())?;
+    new.scene.push_about(out, b"new: ", new.page.last_fired())
+}
+
+/// Tells how the runs are apart at the line that they did last, if they are and that is to be told.
+pub(crate) fn tell(
+    log: &mut Log,
+    old: &Side,
+    new: &Side,
+    apart: &Option<Apart>,
+    ends: Ends,
+) -> Result<(), AllocError>
+    ensures first { log.new.first ≡ log.old.first }
+    ensures filter { log.new.filter ≡ log.old.filter }
+    ensures number { log.new.number ≡ log.old.number }
+{
+    let Some(apart) = apart else {
+        return Ok(());
+    };
+    if log.first.is_some() && !log.is_whole {
+        return Ok(());
+    }
+    push_apart(log, apart, ends)?;
+    push_both(&mut log.text, old, new)
+}
+
+/// Adds how much a run wrote.
+fn push_written(out: &mut Vec<u8>, front: &[u8], side: &Side) -> Result<(), AllocError> {
+    push_counted(out, front, side.scene.lines, b"line")?;
+    push_counted(out, b", ", side.scene.puts, b"put")
+}
+
+/// How many lines of the trace were looked at, with one that is too long.
+fn lines_seen(log: &Log, close: Close) -> u64 {
+    match close {
+        Close::LineTooLong(number) => short(number),
+        _ => short(log.number).saturating_sub(1),
+    }
+}
+
+/// Adds how it went on behind the first difference, up to a line.
+fn push_rest(log: &mut Log, lines: u64, old: &Side, new: &Side) -> Result<(), AllocError>
+    ensures { log.new.first ≡ log.old.first }
+{
+    let out = &mut log.text;
+    push_told(out, b"", log.apart, b" of ")?;
+    push_counted(out, b"", lines, b"line")?;
+    push_told(
+        out,
+        b" of the trace differ, the last is line ",
+        short(log.last),
+        b"\n",
+    )?;
+    push_written(out, b"old wrote ", old)?;
+    push_written(out, b"; new wrote ", new)?;
+    out.extend_from_slice(b"\n")?;
+    push_sums(out, &old.scene.sums, &new.scene.sums)
+}
+
+/// Adds that there is no difference, and how much was compared.
+fn push_same(out: &mut Vec<u8>, lines: u64, old: &Side) -> Result<(), AllocError> {
+    push_counted(out, b"the same over ", lines, b"line")?;
+    push_written(out, b" of the trace: ", old)?;
+    out.extend_from_slice(b"\n")
+}
+
+/// Adds the end of what is told.
+pub(crate) fn sum_up(log: &mut Log, old: &Side, new: &Side, close: Close) -> Result<(), AllocError>
+    ensures { log.new.first ≡ log.old.first }
+{
+    let lines = lines_seen(log, close);
+    if log.first.is_some() {
+        return push_rest(log, lines, old, new);
+    }
+    let end = match close {
+        Close::SourceFailed => return Ok(()),
+        Close::TraceEnded => return push_same(&mut log.text, lines, old),
+        Close::LineTooLong(number) => Some(End::TraceFault(number, TraceFault::LineTooLong)),
+        Close::RunEnded(end, _) => end,
+    };
+    push_same(&mut log.text, lines, old)?;
+    push_end(log, b"each", end)
+}
