@@ -1,10 +1,10 @@
 -- Laws of texts that begin with comments.
-use Rattle.std.proofs.Common.{◌≡◌, ◌==◌, ◌&&◌, ◌||◌, ◌+◌, ℕ, Bool, true, false, List, [], ◌∷◌, ◌++◌, Option, None, Some, Result, Ok, Err, OnOk, OnErr, nat_lt, nat_le, length, refl, sym, ap, ◌∙◌, subst, arith, inl, inr, if◌then◌else◌}
+use Rattle.std.proofs.Common.{◌≡◌, ℕ, true, false, List, [], ◌∷◌, ◌++◌, Option, None, Some, Result, Ok, Err, OnOk, OnErr, nat_lt, nat_le, length, refl, sym, ap, ◌∙◌, subst, arith, inl, inr}
 use Rattle.std.specs.List.{list_all}
-use Rattle.std.proofs.lemmas.Bool.{and_parts, true≢false, cases_Bool, eqb-true, leb-true}
+use Rattle.std.proofs.lemmas.Bool.{and_parts, cases_Bool, eqb-true}
 use Rattle.snl_output.specs.TraceLines.{lines_to, whole_lines, without_return}
-use Rattle.snl_trace.specs.Fields.{is_silent, begins_with, is_blank}
-use Rattle.snl_trace.specs.Grammar.{told_of, said}
+use Rattle.snl_trace.specs.Fields.{is_silent, begins_with}
+use Rattle.snl_trace.specs.Grammar.{told_of}
 use Rattle.snl_import.specs.Comments.{is_comment, is_within, behind_comments, IsTraceText, AreComments, CommentsAreSkipped}
 use Rattle.snl_import.specs.Trace.{Heard, hears, heard_then, rest_from, AreEvents}
 use Rattle.snl_import.proofs.TraceLaws.{lines-append, rest-append, line-whole, line-rest, hears-append}

@@ -1,6 +1,7 @@
 -- Laws of the lines that are written: each is an event.
-use Rattle.std.proofs.Common.{◌≡◌, ◌≤◌, ◌+◌, ◌<◌, ◌^◌, ℕ, ℤ, Bool, true, false, List, [], ◌∷◌, ◌++◌, length, take, map, refl, sym, ap, ◌∙◌, subst, arith, length-append, codes, decimal, nat_le, pos, negsuc, FitsSigned, w64}
+use Rattle.std.proofs.Common.{◌≡◌, ◌≤◌, ◌+◌, ◌<◌, ◌^◌, ℕ, ℤ, Bool, true, false, List, [], ◌∷◌, ◌++◌, length, take, map, refl, sym, ap, subst, arith, length-append, codes, decimal, nat_le, pos, negsuc, FitsSigned, w64, Result, Ok, Err, OnOk}
 use Rattle.std.specs.Bool.{OnTrue}
+use Rattle.std.specs.Result.{IsOk}
 use Rattle.std.proofs.lemmas.Bool.{leb-true}
 use Rattle.std.specs.Fmt.{signed_decimal}
 use Rattle.std.specs.List.{All, flat_map}
@@ -52,3 +53,8 @@ on-short size P short = on_test (nat_le size 32769) P (λ fits. short (leb-true 
 pub where_passed : (b : Bool) (P : Type 0) → OnTrue b P → b ≡ true → P
 where_passed true P holds passed = holds
 where_passed false P holds passed = absurd (cc)
+
+-- what holds where a call succeeds, where it does
+pub where_ok : {A E : Type 0} (r : Result A E) (P : Type 0) → IsOk r → OnOk r P → P
+where_ok (Ok done) P is holds = holds
+where_ok (Err fault) P is holds = absurd (cc)

@@ -1,5 +1,5 @@
 -- Laws of texts that are traces.
-use Rattle.std.proofs.Common.{◌≡◌, ◌==◌, ◌&&◌, ◌≤◌, ◌+◌, ◌<◌, ℕ, zero, suc, Bool, true, false, not, List, [], ◌∷◌, ◌++◌, Option, None, Some, Result, Ok, Err, nat_lt, length, refl, sym, ap, ◌∙◌, subst, arith, append_assoc, append-nil, inl, inr, if◌then◌else◌}
+use Rattle.std.proofs.Common.{◌≡◌, ◌==◌, ◌≤◌, ◌+◌, ℕ, Bool, true, false, not, List, [], ◌∷◌, ◌++◌, Option, None, Some, Result, Ok, Err, nat_lt, length, refl, sym, ap, ◌∙◌, subst, arith, append_assoc, append-nil, inl, inr, if◌then◌else◌}
 use Rattle.std.specs.List.{list_all}
 use Rattle.std.proofs.lemmas.Bool.{and_parts, true≢false, ne_eqb, cases_Bool}
 use Rattle.snl_output.specs.TraceLines.{lines_to, whole_lines, without_return}
@@ -86,7 +86,7 @@ chosen true x event is = absurd (cc)
 chosen false x event is = is
 
 -- a line that tells an event is text
-told-text : (last : ℕ) (line : List ℕ) (event : ℕ × Told) → told_of last line ≡ Ok (Some event) → list_all is_within line ≡ true
+pub told-text : (last : ℕ) (line : List ℕ) (event : ℕ × Told) → told_of last line ≡ Ok (Some event) → list_all is_within line ≡ true
 unfolding told_of
 told-text last line event is =
     let bare = without_return line in

@@ -3,7 +3,7 @@ use Rattle.std.proofs.Common.{◌≡◌, ◌++◌, ℕ, List, [], Option, None, 
 use Rattle.snl_output.specs.Devices.{told_more, IsCutShort}
 use Rattle.snl_import.specs.Trace.{Heard, AreEvents}
 use Rattle.snl_import.specs.Comments.{IsTraceText, AreComments}
-use Rattle.snl_import.specs.Written.{IsTrace, IsFront, IsTraceFront}
+use Rattle.snl_import.specs.Written.{IsTrace, IsTraceFront}
 use Rattle.snl_import.proofs.CommentLaws.{trace-goes-on, comments-are, nothing-comments}
 
 -- a sink to which nothing was given tells a trace of nothing

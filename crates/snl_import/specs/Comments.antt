@@ -1,6 +1,5 @@
 -- A trace as it is written: comments, and events behind them.
-use Rattle.std.specs.Prelude.{◌≡◌, ◌==◌, ◌&&◌, ℕ, Bool, true, not, List, [], ◌∷◌, Option, None, Some, Result, Ok, length, nat_le, if◌then◌else◌}
-use Rattle.std.specs.List.{list_all}
+use Rattle.std.specs.Prelude.{◌≡◌, ◌==◌, ◌&&◌, ℕ, Bool, true, not, List, [], ◌∷◌, None, Some, Ok, length, nat_le, if◌then◌else◌}
 use Rattle.snl_output.specs.TraceLines.{whole_lines}
 use Rattle.snl_trace.specs.Fields.{begins_with}
 use Rattle.snl_trace.specs.Grammar.{told_of}

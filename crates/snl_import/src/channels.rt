@@ -1,209 +1,15 @@
 //! What is known of the channels of logs.
 
+use crate::channel::{Begun, Channel};
+use crate::counts::Left;
+use crate::roles::{ProgramChannel, Role};
 use indexmap::IndexMap;
-use snl_logs::{Cause, Pattern, Read, Said, Scale, Severity, Units, Values, items_of, values_of};
-use snl_units::{ChannelUnits, TextNumber, Unit};
+use snl_logs::{Scale, Values};
+use snl_units::{ChannelUnits, Unit};
 use std::alloc::{AllocError, Global};
 
-/// What is new by a sample of a channel.
-#[derive(Clone, Copy, Debug, PartialEq, Eq)]
-pub struct News {
-    /// Whether the channel was not connected before.
-    pub is_up: bool,
-    /// Its alarm, where that is told and another one than before.
-    pub alarm: Option<Severity>,
-    /// Whether its time is told.
-    pub tells_time: bool,
-    /// Why the sample has no number, if it has none.
-    pub why: Option<Cause>,
-}
-
-/// What is lost where a channel is not connected any more.
-#[derive(Clone, Copy, Debug, PartialEq, Eq)]
-pub struct Losses {
-    /// Whether the channel was connected before.
-    pub was_up: bool,
-    /// Whether its alarm was told.
-    pub had_alarm: bool,
-    /// Whether its time is told.
-    pub tells_time: bool,
-}
-
-/// What is known of a channel.
-#[derive(Drop)]
-pub struct Channel {
-    /// Its units.
-    pub units: Units,
-    /// Whether it is connected, as far as the logs told.
-    pub is_up: bool,
-    /// The alarm that was told last; None where none was, or the channel was lost since.
-    pub alarm: Option<Severity>,
-    /// How many of its values were rounded.
-    pub rounded: u64,
-    /// The first of its texts that stands for no number.
-    pub unknown: Option<Vec<u8>>,
-    /// Whether its alarm and its time are told, as channels of their own.
-    tells_alarm: bool,
-    tells_time: bool,
-    /// Its last value before the trace begins, until that is written.
-    held: Option<Vec<i64>>,
-}
-
-/// Puts the values that a sample spells into `values`.
-fn values_in(said: &Said, units: &Units, values: &mut Values) -> Result<Read, AllocError> {
-    match said {
-        Said::Value(text, _) => values_of(text, units, values),
-        Said::Items(text, _) => items_of(text, units, values),
-        Said::Lost => Ok(Err(Cause::Empty)),
-    }
-}
-
-/// Puts numbers into `values`. Answers whether there are some.
-fn fill(values: &mut Values, numbers: &[i64]) -> Result<bool, AllocError> {
-    values.clear();
-    for number in numbers {
-        values.push(*number)?;
-    }
-    Ok(!numbers.is_empty())
-}
-
-/// The text of a sample.
-fn text_in<'l>(said: &Said<'l>) -> &'l [u8] {
-    match *said {
-        Said::Value(text, _) | Said::Items(text, _) => text,
-        Said::Lost => b"",
-    }
-}
-
-impl Channel {
-    /// A channel of which nothing was read.
-    fn new(alloc: Global) -> Channel {
-        Channel {
-            units: Units::new(alloc),
-            is_up: false,
-            alarm: None,
-            rounded: 0,
-            unknown: None,
-            tells_alarm: false,
-            tells_time: false,
-            held: None,
-        }
-    }
-
-    /// Notes what a file of units says of its values.
-    fn set_unit(&mut self, alloc: Global, unit: &Unit) -> Result<(), AllocError> {
-        match unit {
-            Unit::Scale(top, bottom) => self.units.scale = Scale::of_ratio(*top, *bottom),
-            Unit::Text(pieces) => {
-                self.units.pattern = Some(pattern_of(alloc, pieces.as_slice())?);
-            }
-            Unit::Enum(numbers) => {
-                return add_numbers(alloc, &mut self.units, numbers.as_slice());
-            }
-            Unit::Severity | Unit::Time => {}
-        }
-        Ok(())
-    }
-
-    /// Notes that it is not connected.
-    pub fn lose(&mut self) -> Losses {
-        let losses = Losses {
-            was_up: self.is_up,
-            had_alarm: self.alarm.is_some(),
-            tells_time: self.tells_time,
-        };
-        self.is_up = false;
-        self.alarm = None;
-        losses
-    }
-
-    /// Notes a sample with its alarm; its values are put into `values`.
-    pub fn take(
-        &mut self,
-        alloc: Global,
-        said: &Said,
-        severity: Severity,
-        values: &mut Values,
-    ) -> Result<News, AllocError> {
-        let is_up = !self.is_up;
-        self.is_up = true;
-        Ok(News {
-            is_up,
-            alarm: self.new_alarm(severity),
-            tells_time: self.tells_time,
-            why: self.read(alloc, said, values)?,
-        })
-    }
-
-    /// Notes an alarm, if that is told; answers it where it is another one than before.
-    fn new_alarm(&mut self, severity: Severity) -> Option<Severity> {
-        if !self.tells_alarm || self.alarm == Some(severity) {
-            return None;
-        }
-        self.alarm = Some(severity);
-        self.alarm
-    }
-
-    /// Puts the values of a sample into `values`; answers why there is none where there is none.
-    fn read(
-        &mut self,
-        alloc: Global,
-        said: &Said,
-        values: &mut Values,
-    ) -> Result<Option<Cause>, AllocError> {
-        match values_in(said, &self.units, values)? {
-            Ok(is_cut) => {
-                self.rounded = self.rounded.saturating_add(u64::from(is_cut));
-                Ok(None)
-            }
-            Err(cause) => {
-                if cause == Cause::NoNumber && self.unknown.is_none() {
-                    self.unknown = Some(Vec::from_slice(alloc, text_in(said))?);
-                }
-                Ok(Some(cause))
-            }
-        }
-    }
-
-    /// The channel of a name as it is when the trace begins; the value that was held stands in `values` then.
-    fn begun(&mut self, name: Vec<u8>, values: &mut Values) -> Result<Begun, AllocError> {
-        let (is_up, alarm) = (self.is_up, self.alarm);
-        let has_value = match self.held.take() {
-            Some(held) => fill(values, held.as_slice())?,
-            None => false,
-        };
-        Ok(Begun {
-            name,
-            is_up,
-            alarm,
-            tells_time: self.tells_time,
-            has_value,
-        })
-    }
-
-    /// Holds values until the trace begins. Answers whether others were held, in whose place they are.
-    pub fn hold(&mut self, alloc: Global, values: &[i64]) -> Result<bool, AllocError> {
-        let held = Vec::from_slice(alloc, values)?;
-        let were_others = self.held.is_some();
-        self.held = Some(held);
-        Ok(were_others)
-    }
-}
-
-/// A channel as it is when the trace begins.
-#[derive(Drop)]
-pub struct Begun {
-    /// Its name.
-    pub name: Vec<u8>,
-    /// Whether it is connected.
-    pub is_up: bool,
-    /// Its alarm, where that is told.
-    pub alarm: Option<Severity>,
-    /// Whether its time is told.
-    pub tells_time: bool,
-    /// Whether it has a value.
-    pub has_value: bool,
-}
+/// What stands behind the name of a channel, of its alarm.
+const ALARM: &[u8] = b".SEVR";
 
 /// The channels of logs, by their names, in the order in which they come.
 #[derive(Drop)]
@@ -213,6 +19,8 @@ pub struct Channels {
     tells_alarms: bool,
     /// Whether the clock is told, as a channel.
     tells_clock: bool,
+    /// Whether the trace is made for a program: what is not one of its channels is left out.
+    is_for_program: bool,
 }
 
 /// The name of a record, of a channel that tells something of it.
@@ -223,23 +31,6 @@ fn record_of(name: &[u8]) -> &[u8] {
     }
 }
 
-/// The pieces of a pattern, once more.
-fn pattern_of(alloc: Global, pieces: &[Vec<u8>]) -> Result<Pattern, AllocError> {
-    let mut all = Vec::new(alloc);
-    for piece in pieces {
-        all.push(Vec::from_slice(alloc, piece.as_slice())?)?;
-    }
-    Ok(Pattern::new(all))
-}
-
-/// Lets texts stand for numbers.
-fn add_numbers(alloc: Global, units: &mut Units, numbers: &[TextNumber]) -> Result<(), AllocError> {
-    for one in numbers {
-        units.add(alloc, one.text.as_slice(), one.number)?;
-    }
-    Ok(())
-}
-
 impl Channels {
     /// None. Of those that come the alarms are told where that is asked for.
     pub fn new(alloc: Global, tells_alarms: bool) -> Channels {
@@ -247,6 +38,7 @@ impl Channels {
             by_name: IndexMap::new(alloc),
             tells_alarms,
             tells_clock: false,
+            is_for_program: false,
         }
     }
 
@@ -255,14 +47,85 @@ impl Channels {
         self.tells_clock
     }
 
+    /// What a channel is to the program that is not among its own.
+    fn new_role(&self) -> Role {
+        if self.is_for_program {
+            Role::Foreign
+        } else {
+            Role::Any
+        }
+    }
+
+    /// The trace is made for a program with these channels. Those that are not monitored are connected when the trace begins, unless a
+    /// log says otherwise. Where alarms are told, they are told by those that the program has.
+    pub fn set_program(
+        &mut self,
+        alloc: Global,
+        program: &[ProgramChannel],
+    ) -> Result<(), AllocError> {
+        self.is_for_program = true;
+        for one in program {
+            if let Some(channel) = self.channel(alloc, one.name.as_slice())? {
+                channel.role = one.role();
+                channel.is_up = channel.role == Role::Put;
+            }
+        }
+        if self.tells_alarms {
+            self.tell_alarms(alloc, program)?;
+        }
+        Ok(())
+    }
+
+    /// Tells the alarms that a program has channels of.
+    fn tell_alarms(&mut self, alloc: Global, program: &[ProgramChannel]) -> Result<(), AllocError> {
+        for one in program {
+            if one.name.as_slice().ends_with(ALARM) {
+                self.tell(alloc, one.name.as_slice(), &Unit::Severity)?;
+            }
+        }
+        Ok(())
+    }
+
+    /// Notes that a value of a channel was written.
+    pub fn note_written(&mut self, name: &[u8]) {
+        if !self.is_for_program {
+            return;
+        }
+        if let Some(channel) = self.by_name.get_mut(name) {
+            channel.is_written = true;
+        }
+    }
+
+    /// Notes that values of a channel were left out, and why.
+    pub fn note_left(&mut self, name: &[u8], left: Left, values: &Values) {
+        let Some(channel) = self.by_name.get_mut(name) else {
+            return;
+        };
+        match left {
+            Left::Foreign => channel.foreign = channel.foreign.saturating_add(1),
+            Left::Misfit if channel.misfit.is_none() => {
+                channel.misfit = values.as_slice().first().copied();
+            }
+            _ => {}
+        }
+    }
+
+    /// How many channels a program begins with a value of that have none.
+    pub fn lacking(&self) -> usize {
+        self.by_name
+            .values()
+            .filter(|channel| channel.lacks_value())
+            .count()
+    }
+
     /// The place of a channel, which is added where it is new.
     fn place_of(&mut self, alloc: Global, name: &[u8]) -> Result<Option<usize>, AllocError> {
         if let Some(place) = self.by_name.get_index_of(name) {
             return Ok(Some(place));
         }
         let name = Vec::from_slice(alloc, name)?;
-        let mut channel = Channel::new(alloc);
-        channel.tells_alarm = self.tells_alarms;
+        let mut channel = Channel::new(alloc, self.new_role());
+        channel.tells_alarm = self.tells_alarms && !self.is_for_program;
         self.by_name.insert(name, channel)?;
         Ok(self.by_name.len().checked_sub(1))
     }
@@ -330,11 +193,10 @@ impl Channels {
 
     /// A channel is connected and has a value when the trace begins, unless a log says otherwise of the time before.
     pub fn give(&mut self, alloc: Global, name: &[u8], value: i64) -> Result<(), AllocError> {
-        if let Some(channel) = self.channel(alloc, name)? {
-            channel.is_up = true;
-            channel.hold(alloc, &[value])?;
+        match self.channel(alloc, name)? {
+            Some(channel) => channel.give(alloc, value),
+            None => Ok(()),
         }
-        Ok(())
     }
 
     /// How many there are.

@@ -15,6 +15,10 @@ pub enum Left {
     Unfit,
     /// It was not the last one of its channel before the trace begins.
     Early,
+    /// The program has no such channel.
+    Foreign,
+    /// The program has the channel, and its variables cannot hold the value.
+    Misfit,
 }
 
 /// How many values were left out, by their causes.
@@ -32,6 +36,10 @@ pub struct LeftOut {
     pub unfit: u64,
     /// Those before the trace begins that were not the last ones of their channels.
     pub early: u64,
+    /// Those of channels that the program does not have.
+    pub foreign: u64,
+    /// Those that the variables of the program cannot hold.
+    pub misfit: u64,
 }
 
 impl LeftOut {
@@ -48,6 +56,8 @@ impl LeftOut {
             Left::NoValue(Cause::Empty) => all.empty += 1,
             Left::Unfit => all.unfit += 1,
             Left::Early => all.early += 1,
+            Left::Foreign => all.foreign += 1,
+            Left::Misfit => all.misfit += 1,
         }
         all
     }
@@ -91,6 +101,8 @@ impl Counts {
                 empty: 0,
                 unfit: 0,
                 early: 0,
+                foreign: 0,
+                misfit: 0,
             },
         }
     }

@@ -6,7 +6,8 @@ use crate::errors::ImportError;
 use crate::importer::Importer;
 use crate::misreads::Misreads;
 use crate::opening::Opening;
-use snl_logs::{Log, LogLine};
+use crate::programs::Program;
+use snl_logs::{Log, LogLine, Sample, Stamp};
 use std::alloc::{AllocError, Global};
 use std::io::{self, BufRead, ErrorKind, Read};
 use std::mem;
@@ -30,8 +31,9 @@ pub struct Feed<R: BufRead> {
     /// The next line; empty at the end. It has the number `number`, from 1 on.
     line: Vec<u8>,
     number: u64,
-    /// When it is: no line is before one in front of it.
+    /// When it is: no line is before one in front of it. Where the line tells that its channel was lost before, that comes first.
     time: u64,
+    has_loss: bool,
     /// By how many nanoseconds its times are moved.
     shift: i64,
     misreads: Misreads,
@@ -88,6 +90,7 @@ impl<R: BufRead + Drop> Feed<R> {
             line: Vec::new(alloc),
             number: 0,
             time: 0,
+            has_loss: false,
             shift,
             misreads: Misreads::new(alloc),
             has_number: false,
@@ -138,10 +141,36 @@ impl<R: BufRead + Drop> Feed<R> {
         self.next_line()?;
         self.number = self.number.saturating_add(1);
         self.log.note(alloc, self.line.as_slice())?;
+        match self.lost() {
+            Some(
+                Sample {
+                    stamp: Stamp::At(time),
+                    ..
+                },
+            ) => {
+                self.has_loss = true;
+                self.time = self.time.max(time);
+            }
+            _ => self.pass_loss(),
+        }
+        Ok(())
+    }
+
+    /// That the channel of the next line was lost before, where the line tells so.
+    fn lost(&self) -> Option<Sample> {
+        if is_cut(self.line.as_slice()) {
+            return None;
+        }
+        let lost = self.log.lost(self.line.as_slice())?;
+        Some(lost.moved(self.shift))
+    }
+
+    /// Goes on to what the next line says itself.
+    fn pass_loss(&mut self) {
+        self.has_loss = false;
         if let Some(time) = self.said().time() {
             self.time = self.time.max(time);
         }
-        Ok(())
     }
 
     /// Puts the next line in its place.
@@ -206,15 +235,58 @@ pub fn next_of<R: BufRead + Drop>(feeds: &[Feed<R>]) -> Option<usize>
     next.map(|(place, _)| place)
 }
 
+/// Takes in that the channel of a log's next line was lost before.
+fn take_loss<R: BufRead + Drop, P: Program + Drop>(
+    feed: &mut Feed<R>,
+    importer: &mut Importer<P>,
+) -> Result<(), ImportError>
+    ensures lines { importer.new.counts.lines ≡ importer.old.counts.lines }
+    ensures first { importer.new.recorder.first ≡ importer.old.recorder.first }
+    ensures before { importer.new.recorder.before ≡ importer.old.recorder.before }
+    ensures program { importer.new.recorder.program ≡ importer.old.recorder.program }
+{
+    if let Some(lost) = feed.lost() {
+        importer.write_sample(&lost)?;
+    }
+    feed.pass_loss();
+    Ok(())
+}
+
+/// Takes in which channels were lost before the next line of several logs, up to a time. Answers which log has that line.
+fn take_losses<R: BufRead + Drop, P: Program + Drop>(
+    feeds: &mut [Feed<R>],
+    until: u64,
+    importer: &mut Importer<P>,
+) -> Result<Option<usize>, ImportError>
+    ensures place { IfOk result (λ next. IfSome next (λ place. place < length feeds.new)) }
+    ensures lines { importer.new.counts.lines ≡ importer.old.counts.lines }
+    ensures first { importer.new.recorder.first ≡ importer.old.recorder.first }
+    ensures before { importer.new.recorder.before ≡ importer.old.recorder.before }
+    ensures program { importer.new.recorder.program ≡ importer.old.recorder.program }
+{
+    for _ in 0..feeds.len() {
+        let Some(place) = next_of(feeds) else {
+            return Ok(None);
+        };
+        let feed = &mut feeds[place];
+        if !feed.has_loss || feed.time() > until {
+            return Ok(Some(place));
+        }
+        take_loss(feed, importer)?;
+    }
+    Ok(next_of(feeds))
+}
+
 /// Takes in what the next line of a log says.
-fn take_line<R: BufRead + Drop>(
+fn take_line<R: BufRead + Drop, P: Program + Drop>(
     alloc: Global,
     feed: &mut Feed<R>,
-    importer: &mut Importer,
+    importer: &mut Importer<P>,
 ) -> Result<(), ImportError>
     ensures lines { OnOk result (importer.new.counts.lines ≡ importer.old.counts.lines + 1) }
     ensures first { importer.new.recorder.first ≡ importer.old.recorder.first }
     ensures before { importer.new.recorder.before ≡ importer.old.recorder.before }
+    ensures program { importer.new.recorder.program ≡ importer.old.recorder.program }
 {
     let numbers = importer.numbers();
     let line = feed.said();
@@ -226,18 +298,19 @@ fn take_line<R: BufRead + Drop>(
 
 /// Takes in the next line of several logs, the earliest first, up to a time. Answers whether there was one: at the end of all logs, or
 /// behind that time, there is none.
-pub fn take_next<R: BufRead + Drop>(
+pub fn take_next<R: BufRead + Drop, P: Program + Drop>(
     alloc: Global,
     feeds: &mut [Feed<R>],
     until: u64,
-    importer: &mut Importer,
+    importer: &mut Importer<P>,
 ) -> Result<bool, ImportError>
     ensures lines { IfOk result (λ is_one. importer.new.counts.lines
         ≡ importer.old.counts.lines + (if is_one then 1 else 0)) }
     ensures first { importer.new.recorder.first ≡ importer.old.recorder.first }
     ensures before { importer.new.recorder.before ≡ importer.old.recorder.before }
+    ensures program { importer.new.recorder.program ≡ importer.old.recorder.program }
 {
-    let Some(place) = next_of(feeds) else {
+    let Some(place) = take_losses(feeds, until, importer)? else {
         return Ok(false);
     };
     let feed = &mut feeds[place];

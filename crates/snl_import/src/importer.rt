@@ -4,12 +4,14 @@ mod beginning;
 mod beside;
 
 ghost use Rattle.std.specs.Prelude.{◌≡◌, ◌+◌, OnOk};
+ghost use Rattle.snl_import.specs.Taken.{AreTaken};
 ghost use Rattle.snl_import.specs.Trace.{AreEvents};
 
 use crate::channels::Channels;
 use crate::counts::{Counts, Left};
 use crate::errors::ImportError;
 use crate::happenings::Happening;
+use crate::programs::Program;
 use crate::recorder::Recorder;
 use snl_logs::{Cause, LogLine, Row, Said, Sample, Severity, Stamp, Values};
 use std::alloc::Global;
@@ -35,9 +37,9 @@ pub struct Begin {
 /// What logs say of channels, written as a trace. Whatever the lines of the logs are, each was understood or is counted, each of their
 /// values is one `val` line or is counted as left out, and what was written are events that a run takes.
 #[derive(Drop)]
-pub struct Importer {
+pub struct Importer<P: Program> {
     alloc: Global,
-    recorder: Recorder,
+    recorder: Recorder<P>,
     counts: Counts,
     channels: Channels,
     /// The values of the sample that is written.
@@ -57,16 +59,17 @@ pub struct Importer {
     ghost agree: { counts.written ≡ recorder.written },
 }
 
-impl Importer {
-    /// Nothing was read. What is known of channels is theirs when the trace begins.
-    pub fn new(alloc: Global, channels: Channels, begin: Begin) -> Importer
+impl<P: Program + Drop> Importer<P> {
+    /// Nothing was read. What is known of channels is theirs when the trace begins. What the program does not take is left out.
+    pub fn new(alloc: Global, channels: Channels, begin: Begin, program: P) -> Importer<P>
+        ensures program { result.recorder.program ≡ program }
         ensures first { result.recorder.first ≡ 0 }
         ensures before { result.recorder.before ≡ 0 }
         ensures lines { result.counts.lines ≡ 0 }
     {
         Importer {
             alloc,
-            recorder: Recorder::new(alloc),
+            recorder: Recorder::new(alloc, program),
             counts: Counts::new(),
             channels,
             values: Values::new(alloc),
@@ -85,6 +88,7 @@ impl Importer {
         ensures lines { OnOk result (self.new.counts.lines ≡ self.old.counts.lines + 1) }
         ensures first { self.new.recorder.first ≡ self.old.recorder.first }
         ensures before { self.new.recorder.before ≡ self.old.recorder.before }
+        ensures program { self.new.recorder.program ≡ self.old.recorder.program }
     {
         match line {
             LogLine::Sample(sample) => {
@@ -119,6 +123,7 @@ impl Importer {
         ensures counts { self.new.counts ≡ self.old.counts }
         ensures first { self.new.recorder.first ≡ self.old.recorder.first }
         ensures before { self.new.recorder.before ≡ self.old.recorder.before }
+        ensures program { self.new.recorder.program ≡ self.old.recorder.program }
     {
         let Stamp::At(nanos) = stamp else {
             return;
@@ -136,6 +141,7 @@ impl Importer {
         ensures lines { self.new.counts.lines ≡ self.old.counts.lines }
         ensures first { self.new.recorder.first ≡ self.old.recorder.first }
         ensures before { self.new.recorder.before ≡ self.old.recorder.before }
+        ensures program { self.new.recorder.program ≡ self.old.recorder.program }
     {
         let mut row = row;
         while let Some(cell) = row.next_cell() {
@@ -146,11 +152,12 @@ impl Importer {
         Ok(())
     }
 
-    /// Writes what a sample says.
-    fn write_sample(&mut self, sample: &Sample) -> Result<(), ImportError>
+    /// Writes what a sample says. No line is counted.
+    pub fn write_sample(&mut self, sample: &Sample) -> Result<(), ImportError>
         ensures lines { self.new.counts.lines ≡ self.old.counts.lines }
         ensures first { self.new.recorder.first ≡ self.old.recorder.first }
         ensures before { self.new.recorder.before ≡ self.old.recorder.before }
+        ensures program { self.new.recorder.program ≡ self.old.recorder.program }
     {
         if self.is_holding && self.is_begun_by(sample.stamp) {
             self.begin()?;
@@ -176,6 +183,7 @@ impl Importer {
         ensures lines { self.new.counts.lines ≡ self.old.counts.lines }
         ensures first { self.new.recorder.first ≡ self.old.recorder.first }
         ensures before { self.new.recorder.before ≡ self.old.recorder.before }
+        ensures program { self.new.recorder.program ≡ self.old.recorder.program }
     {
         let Some(channel) = self.channels.channel(self.alloc, sample.name)? else {
             return Ok(());
@@ -197,16 +205,22 @@ impl Importer {
         ensures lines { self.new.counts.lines ≡ self.old.counts.lines }
         ensures first { self.new.recorder.first ≡ self.old.recorder.first }
         ensures before { self.new.recorder.before ≡ self.old.recorder.before }
+        ensures program { self.new.recorder.program ≡ self.old.recorder.program }
     {
         let Some(channel) = self.channels.channel(self.alloc, sample.name)? else {
             return self.leave(Left::Unfit);
         };
+        if channel.is_dropped() {
+            channel.foreign = channel.foreign.saturating_add(1);
+            self.numbers = self.numbers.saturating_add(1);
+            return self.leave(Left::Foreign);
+        }
         let news = channel.take(self.alloc, &sample.said, severity, &mut self.values)?;
         self.numbers = self.numbers.saturating_add(u64::from(news.why.is_none()));
         if self.is_holding {
             return self.hold(sample.name, news.why);
         }
-        if !news.is_up {
+        if !news.may_be_old {
             self.note_late(sample.stamp);
         }
         let ms = self.ms_of(sample.stamp);
@@ -226,6 +240,7 @@ impl Importer {
         ensures lines { self.new.counts.lines ≡ self.old.counts.lines }
         ensures first { self.new.recorder.first ≡ self.old.recorder.first }
         ensures before { self.new.recorder.before ≡ self.old.recorder.before }
+        ensures program { self.new.recorder.program ≡ self.old.recorder.program }
     {
         if let Some(cause) = why {
             return self.leave(Left::NoValue(cause));
@@ -253,16 +268,21 @@ impl Importer {
         ensures lines { self.new.counts.lines ≡ self.old.counts.lines }
         ensures first { self.new.recorder.first ≡ self.old.recorder.first }
         ensures before { self.new.recorder.before ≡ self.old.recorder.before }
+        ensures program { self.new.recorder.program ≡ self.old.recorder.program }
     {
         let written = self.counts.with_written()?;
-        let left = self.counts.with_left(Left::Unfit)?;
-        let values = Happening::Values(&self.values);
-        if self.recorder.add(ms, name, values)? {
+        if self
+            .recorder
+            .add(ms, name, Happening::Values(&self.values))?
+        {
             self.counts = written;
+            self.channels.note_written(name);
+            Ok(())
         } else {
-            self.counts = left;
+            let left = self.recorder.refusal(name, &self.values);
+            self.channels.note_left(name, left, &self.values);
+            self.leave(left)
         }
-        Ok(())
     }
 
     /// What was written since the text was taken the last time: events that a run takes.
@@ -270,6 +290,7 @@ impl Importer {
         ensures value { result.now ≡ self.now.recorder.text.items }
         ensures events { AreEvents (self.now.recorder.first, self.now.recorder.before) result.now
             (self.now.recorder.last, self.now.counts.written) }
+        ensures taken { AreTaken (P.taken self.now.recorder.program) result.now }
     {
         self.recorder.text()
     }
@@ -279,6 +300,7 @@ impl Importer {
         ensures counts { self.new.counts ≡ self.old.counts }
         ensures first { self.new.recorder.first ≡ self.old.recorder.last }
         ensures before { self.new.recorder.before ≡ self.old.counts.written }
+        ensures program { self.new.recorder.program ≡ self.old.recorder.program }
         ensures last { self.new.recorder.last ≡ self.old.recorder.last }
     {
         self.recorder.clear();

@@ -2,6 +2,7 @@
 
 ghost use Rattle.std.specs.Prelude.{◌≡◌, ◌+◌, ◌-◌, ◌^◌, ◌<◌, ℕ, List, [], Some, IfOk, OnErr};
 ghost use Rattle.snl_import.specs.Counts.{left_total};
+ghost use Rattle.snl_import.specs.Taken.{TellsTaken};
 ghost use Rattle.snl_import.specs.Written.{IsTrace, IsTraceFront};
 
 use crate::channels::Channels;
@@ -11,6 +12,7 @@ use crate::feed::{Feed, fault_of};
 use crate::importer::{Begin, Importer};
 use crate::opening::Opening;
 use crate::preface::Preface;
+use crate::programs::Program;
 use crate::report::notes_of;
 use crate::unit_lines::{add_channels, add_told};
 use crate::wishes::{Wishes, channels_of};
@@ -29,7 +31,7 @@ pub struct Imported {
     pub last: u64,
     /// What there is to tell a user, as lines.
     pub notes: Vec<u8>,
-    /// Whether each log had a number.
+    /// Whether each log had a number, and each channel that the program monitors has a value.
     pub is_whole: bool,
 }
 
@@ -94,7 +96,15 @@ fn add_zero(alloc: Global, preface: &mut Preface, begin: u64) -> Result<(), Allo
     }
 }
 
-/// The comments with which the trace of logs begins: the time of 0 ms, the files, and what the numbers stand for.
+/// Adds the words that name the program that the trace is made for.
+fn add_program(preface: &mut Preface, wishes: &Wishes) -> Result<(), AllocError> {
+    match &wishes.program {
+        Some(program) => preface.add(&[b"program", program.words.as_slice()]),
+        None => Ok(()),
+    }
+}
+
+/// The comments with which the trace of logs begins: the time of 0 ms, the program, the files, and what the numbers stand for.
 fn preface_of<R: BufRead + Drop>(
     alloc: Global,
     wishes: &Wishes,
@@ -104,6 +114,7 @@ fn preface_of<R: BufRead + Drop>(
 ) -> Result<Preface, AllocError> {
     let mut preface = Preface::new(alloc);
     add_zero(alloc, &mut preface, begin.time)?;
+    add_program(&mut preface, wishes)?;
     add_files(&mut preface, feeds)?;
     add_channels(alloc, &mut preface, channels)?;
     add_told(&mut preface, wishes.units.as_slice())?;
@@ -113,12 +124,14 @@ fn preface_of<R: BufRead + Drop>(
 /// Writes logs as one trace to a sink to which nothing was written. Whatever the bytes of the logs are, each line that is written is
 /// a comment with which the trace begins, or an event that a run takes, in the order of time: behind all of them a run stands at the time `last`, and has heard `written` values.
 /// Each line that was read is understood or not, and each value of the lines was written or is left out; both are counted. What was
-/// written before an error is the front of a trace.
+/// written before an error is the front of a trace. Of all that is written, the program takes each event: its channel is one of the
+/// program, and its values fit.
 ///
 /// Fails where memory ends, a log cannot be read, or the sink fails.
-pub fn import<R: BufRead + Drop, K: Sink>(
+pub fn import<R: BufRead + Drop, P: Program + Drop, K: Sink>(
     alloc: Global,
     wishes: &Wishes,
+    program: P,
     feeds: &mut [Feed<R>],
     sink: &mut K,
 ) -> Result<Imported, ImportError>
@@ -126,6 +139,7 @@ pub fn import<R: BufRead + Drop, K: Sink>(
     requires fresh { (text : List ℕ) → K.told sink.old ≡ Some text → text ≡ [] }
     ensures trace { IfOk result (λ i. IsTrace (K.told sink.new) (i.last, i.counts.written)) }
     ensures front { OnErr result (IsTraceFront (K.told sink.new)) }
+    ensures taken { TellsTaken (P.taken program) (K.told sink.new) }
     ensures lines { IfOk result (λ i. i.counts.understood + i.counts.unknown ≡ i.counts.lines) }
     ensures values { IfOk result (λ i. i.counts.written + left_total i.counts.left
         ≡ i.counts.values) }
@@ -135,13 +149,13 @@ pub fn import<R: BufRead + Drop, K: Sink>(
     let channels = channels_of(alloc, wishes)?;
     let preface = preface_of(alloc, wishes, feeds, begin, &channels)?;
     write_comments(&preface, sink)?;
-    let mut importer = Importer::new(alloc, channels, begin);
+    let mut importer = Importer::new(alloc, channels, begin, program);
     let until = wishes.to.unwrap_or(u64::MAX);
     write_events(alloc, feeds, until, &mut importer, sink)?;
     Ok(Imported {
         counts: importer.counts(),
         last: importer.last(),
         notes: notes_of(alloc, &importer, feeds)?,
-        is_whole: feeds.iter().all(|feed| feed.has_number()),
+        is_whole: importer.channels().lacking() == 0 && feeds.iter().all(|feed| feed.has_number()),
     })
 }

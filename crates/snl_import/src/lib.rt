@@ -4,6 +4,7 @@
 //! order of time, and nothing that the logs say is lost uncounted.
 #![tactic(auto)]
 
+mod channel;
 mod channels;
 mod counts;
 mod errors;
@@ -15,14 +16,19 @@ pub mod laws;
 mod lines;
 mod misreads;
 mod opening;
+mod own_report;
 mod preface;
+mod programs;
 mod recorder;
 mod report;
+mod roles;
+mod shown;
 mod unit_lines;
 mod wishes;
 mod writing;
 
-pub use channels::{Begun, Channel, Channels, Losses, News};
+pub use channel::{Begun, Channel, Losses, News};
+pub use channels::Channels;
 pub use counts::{Counts, Left, LeftOut};
 pub use errors::ImportError;
 pub use feed::{Feed, next_of, take_next};
@@ -32,7 +38,9 @@ pub use importing::{Imported, import};
 pub use misreads::{Misread, Misreads};
 pub use opening::Opening;
 pub use preface::Preface;
+pub use programs::{AnyProgram, LoadedProgram, Program};
 pub use recorder::Recorder;
 pub use report::notes_of;
+pub use roles::{ProgramChannel, Role, WishedProgram};
 pub use wishes::{ChannelNumber, ChannelText, Wishes, channels_of};
 pub use writing::write_events;

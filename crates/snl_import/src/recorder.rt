@@ -1,20 +1,25 @@
 //! The events of logs, written as a trace.
 
 ghost use Rattle.std.specs.Prelude.{◌≡◌, ◌≤◌, ◌+◌, ◌^◌, [], IfOk, OnErr, if◌then◌else◌};
+ghost use Rattle.snl_import.specs.Taken.{AreTaken};
 ghost use Rattle.snl_import.specs.Trace.{AreEvents, told_by, value_count};
 
+use crate::counts::Left;
 use crate::errors::{ImportError, one_more};
 use crate::happenings::Happening;
 use crate::lines::event_line;
+use crate::programs::Program;
+use snl_logs::Values;
 use std::alloc::Global;
 
 /// The latest time of a trace, in milliseconds.
 const TIME_LIMIT: u64 = 1_000_000_000_000_000;
 
-/// The events of logs, written as a trace. Whatever it was told, its text is whole lines, each an event that a run takes behind the
-/// events before it.
+/// The events of logs, written as a trace of a program. Whatever it was told, its text is whole lines, each an event that a run takes
+/// behind the events before it, and that the program takes.
 #[derive(Drop)]
-pub struct Recorder {
+pub struct Recorder<P: Program> {
+    program: P,
     /// What was written since the text was taken the last time.
     text: Vec<u8>,
     /// The line that is written.
@@ -27,16 +32,19 @@ pub struct Recorder {
     written: u64,
     ghost early: { last ≤ 10 ^ 15 },
     ghost events: { AreEvents (first, before) text.items (last, written) },
+    ghost taken: { AreTaken (P.taken program) text.items },
 }
 
-impl Recorder {
+impl<P: Program + Drop> Recorder<P> {
     /// Nothing is written.
-    pub fn new(alloc: Global) -> Recorder
+    pub fn new(alloc: Global, program: P) -> Recorder<P>
+        ensures program { result.program ≡ program }
         ensures written { result.written ≡ 0 }
         ensures first { result.first ≡ 0 }
         ensures before { result.before ≡ 0 }
     {
         Recorder {
+            program,
             text: Vec::new(alloc),
             line: Vec::new(alloc),
             first: 0,
@@ -47,16 +55,20 @@ impl Recorder {
     }
 
     /// Adds the line of what happens to a channel at a time, or at that of the last event, if it is later. Answers whether a trace can
-    /// tell it: where it cannot, nothing is added. An error adds nothing.
+    /// tell it and the program takes it: where that is not so, nothing is added. An error adds nothing.
     pub fn add(&mut self, ms: u64, name: &[u8], happening: Happening) -> Result<bool, ImportError>
         ensures written { IfOk result (λ fits. self.new.written ≡ self.old.written
             + (if fits then value_count (told_by name.now happening.entry) else 0)) }
         ensures first { self.new.first ≡ self.old.first }
         ensures before { self.new.before ≡ self.old.before }
+        ensures program { self.new.program ≡ self.old.program }
         ensures err { OnErr result (self.new.written ≡ self.old.written) }
     {
         let ms = ms.max(self.last);
         if ms > TIME_LIMIT {
+            return Ok(false);
+        }
+        if !self.program.takes(name, happening) {
             return Ok(false);
         }
         let written = counted(self.written, happening)?;
@@ -67,6 +79,17 @@ impl Recorder {
         self.last = ms;
         self.written = written;
         Ok(true)
+    }
+
+    /// Why values of a channel were not added.
+    pub fn refusal(&self, name: &[u8], values: &Values) -> Left {
+        if !self.program.has(name) {
+            Left::Foreign
+        } else if !self.program.takes(name, Happening::Values(values)) {
+            Left::Misfit
+        } else {
+            Left::Unfit
+        }
     }
 
     /// The time of the last event.
@@ -81,6 +104,7 @@ impl Recorder {
         ensures value { result.now ≡ self.now.text.items }
         ensures events { AreEvents (self.now.first, self.now.before) result.now
             (self.now.last, self.now.written) }
+        ensures taken { AreTaken (P.taken self.now.program) result.now }
     {
         self.text.as_slice()
     }
@@ -89,6 +113,7 @@ impl Recorder {
     pub fn clear(&mut self)
         ensures first { self.new.first ≡ self.old.last }
         ensures before { self.new.before ≡ self.old.written }
+        ensures program { self.new.program ≡ self.old.program }
         ensures last { self.new.last ≡ self.old.last }
         ensures written { self.new.written ≡ self.old.written }
     {

@@ -1,41 +1,18 @@
 //! What a user is told of logs: lines that were not understood, what was rounded, what has no number, and how many of each.
 
-use crate::channels::{Channel, Channels};
+use crate::channel::Channel;
+use crate::channels::Channels;
 use crate::counts::{Counts, LeftOut};
 use crate::feed::Feed;
 use crate::importer::Importer;
 use crate::misreads::{Misread, Misreads};
-use crate::preface::hexadecimal;
-use itoa::Buffer;
+use crate::own_report::{push_foreign, push_own};
+use crate::programs::Program;
+use crate::roles::Role;
+use crate::shown::{are_printed, push_all, push_number, push_shown};
+use crate::unit_lines::push_quoted;
 use std::alloc::{AllocError, Global};
 use std::io::BufRead;
-
-/// Adds pieces to a text.
-fn push_all(text: &mut Vec<u8>, pieces: &[&[u8]]) -> Result<(), AllocError> {
-    for piece in pieces {
-        text.extend_from_slice(piece)?;
-    }
-    Ok(())
-}
-
-/// Adds the bytes of a log, with `\xNN` in the place of each that does something to a terminal.
-fn push_shown(text: &mut Vec<u8>, bytes: &[u8]) -> Result<(), AllocError> {
-    for byte in bytes {
-        if byte.is_ascii_control() {
-            let (high, low) = (hexadecimal(*byte >> 4), hexadecimal(*byte & 15));
-            push_all(text, &[b"\\x", &[high, low]])?;
-        } else {
-            text.push(*byte)?;
-        }
-    }
-    Ok(())
-}
-
-/// Adds a number.
-fn push_number(text: &mut Vec<u8>, number: u64) -> Result<(), AllocError> {
-    let mut digits = Buffer::new();
-    text.extend_from_slice(digits.format(number).as_bytes())
-}
 
 /// Adds a line on the values of a channel that were rounded.
 fn push_rounded(text: &mut Vec<u8>, name: &[u8], rounded: u64) -> Result<(), AllocError> {
@@ -47,27 +24,67 @@ fn push_rounded(text: &mut Vec<u8>, name: &[u8], rounded: u64) -> Result<(), All
     push_all(text, &[b"=K keeps K digits behind the point\n"])
 }
 
+/// Adds the word of the call that gives a text a number. One with bytes that are not told as they are gets it by a line of a file of units.
+/// Nothing gives a number to one of a name that no trace can have.
+fn push_enum(text: &mut Vec<u8>, name: &[u8], unknown: &[u8]) -> Result<(), AllocError> {
+    if !are_printed(name) {
+        push_all(text, &[b"\n"])
+    } else if are_printed(unknown) {
+        push_all(text, &[b"; --enum '"])?;
+        push_shown(text, name)?;
+        push_all(text, &[b"=", unknown, b":N' gives it one\n"])
+    } else {
+        push_all(text, &[b"; the line 'enum "])?;
+        push_shown(text, name)?;
+        push_all(text, &[b" "])?;
+        push_quoted(text, unknown)?;
+        push_all(text, &[b":N' of --units gives it one\n"])
+    }
+}
+
 /// Adds a line on a text of a channel that stands for no number.
 fn push_unknown(text: &mut Vec<u8>, name: &[u8], unknown: &[u8]) -> Result<(), AllocError> {
     push_shown(text, name)?;
     push_all(text, &[b": no number: "])?;
     push_shown(text, unknown)?;
-    push_all(text, &[b"; --enum '"])?;
-    push_shown(text, name)?;
-    push_all(text, &[b"="])?;
-    push_shown(text, unknown)?;
-    push_all(text, &[b":N' gives it one\n"])
+    push_enum(text, name, unknown)
 }
 
-/// Adds what there is to tell of a channel.
-fn push_channel(text: &mut Vec<u8>, name: &[u8], channel: &Channel) -> Result<(), AllocError> {
-    if channel.rounded > 0 {
-        push_rounded(text, name, channel.rounded)?;
+/// Adds a line on the first sample of a channel, which has no value.
+fn push_unread(text: &mut Vec<u8>, name: &[u8], unread: &[u8]) -> Result<(), AllocError> {
+    push_shown(text, name)?;
+    push_all(text, &[b": its first value is "])?;
+    if unread.is_empty() {
+        push_all(text, &[b"empty"])?;
+    } else {
+        push_shown(text, unread)?;
+    }
+    push_all(text, &[b"; --value '"])?;
+    push_shown(text, name)?;
+    push_all(text, &[b"=N' gives it one in front\n"])
+}
+
+/// Adds what there is to tell of the texts of a channel.
+fn push_texts(text: &mut Vec<u8>, name: &[u8], channel: &Channel) -> Result<(), AllocError> {
+    if let Some(unread) = &channel.unread {
+        push_unread(text, name, unread.as_slice())?;
     }
     match &channel.unknown {
         Some(unknown) => push_unknown(text, name, unknown.as_slice()),
         None => Ok(()),
     }
+}
+
+/// Adds what there is to tell of a channel.
+fn push_channel(text: &mut Vec<u8>, name: &[u8], channel: &Channel) -> Result<(), AllocError> {
+    if channel.role == Role::Foreign {
+        return Ok(());
+    }
+    if channel.rounded > 0 {
+        push_rounded(text, name, channel.rounded)?;
+    }
+    push_texts(text, name, channel)?;
+    push_own(text, name, channel)
 }
 
 /// Adds what there is to tell of channels: how many values were rounded, and the first text that stands for no number.
@@ -153,7 +170,13 @@ fn push_left(text: &mut Vec<u8>, left: &LeftOut) -> Result<(), AllocError> {
     push_count(text, left.too_large, b"beyond 64 bits")?;
     push_count(text, left.empty, b"empty")?;
     push_count(text, left.unfit, b"that no line of a trace can have")?;
-    push_count(text, left.early, b"before --from")
+    push_count(text, left.early, b"before --from")?;
+    push_count(
+        text,
+        left.misfit,
+        b"that no variable of the program can hold",
+    )?;
+    push_count(text, left.foreign, b"of other channels than the program's")
 }
 
 /// Adds the last line: how many lines were read, and how many values were written and left out.
@@ -171,15 +194,16 @@ fn push_sums(text: &mut Vec<u8>, counts: &Counts) -> Result<(), AllocError> {
 }
 
 /// What a user is told of logs, as lines: what was not understood, which log had no value, what was rounded, which texts stand for no
-/// number, and last how many lines were read and how many values were written and left out.
-pub fn notes_of<R: BufRead + Drop>(
+/// number, what the program lacks, and last how many lines were read and how many values were written and left out.
+pub fn notes_of<R: BufRead + Drop, P: Program + Drop>(
     alloc: Global,
-    importer: &Importer,
+    importer: &Importer<P>,
     feeds: &[Feed<R>],
 ) -> Result<Vec<u8>, AllocError> {
     let mut text = Vec::new(alloc);
     push_feeds(&mut text, feeds)?;
     push_channels(&mut text, importer.channels())?;
+    push_foreign(&mut text, importer.channels())?;
     let (late, latest) = importer.lateness();
     push_late(&mut text, late, latest)?;
     push_sums(&mut text, &importer.counts())?;

@@ -1,6 +1,7 @@
 //! What the whole numbers of a trace stand for, as comments: lines of a file of units.
 
-use crate::channels::{Channel, Channels};
+use crate::channel::Channel;
+use crate::channels::Channels;
 use crate::preface::{Preface, hexadecimal};
 use itoa::Buffer;
 use snl_logs::{Pattern, Scale, Word};
@@ -13,7 +14,7 @@ fn is_plain(byte: u8) -> bool {
 }
 
 /// Adds a text as it stands in a file of units.
-fn push_quoted(line: &mut Vec<u8>, text: &[u8]) -> Result<(), AllocError> {
+pub fn push_quoted(line: &mut Vec<u8>, text: &[u8]) -> Result<(), AllocError> {
     for byte in text {
         if is_plain(*byte) {
             line.push(*byte)?;

@@ -1,6 +1,7 @@
 //! What a call asks of the trace that is made of logs.
 
 use crate::channels::Channels;
+use crate::roles::WishedProgram;
 use snl_units::ChannelUnits;
 use std::alloc::{AllocError, Global};
 
@@ -27,6 +28,8 @@ pub struct ChannelText {
 /// What a call asks of the trace that is made of logs. Times are nanoseconds of the logs.
 #[derive(Drop)]
 pub struct Wishes {
+    /// The program that the trace is made for, where there is one.
+    pub program: Option<WishedProgram>,
     /// What a file of units says of channels; what follows counts more.
     pub units: Vec<ChannelUnits>,
     /// The powers of ten that values of channels are multiplied by.
@@ -101,6 +104,9 @@ fn give_values(
 /// The channels of which a call says something.
 pub fn channels_of(alloc: Global, wishes: &Wishes) -> Result<Channels, AllocError> {
     let mut channels = Channels::new(alloc, wishes.tells_alarms);
+    if let Some(program) = &wishes.program {
+        channels.set_program(alloc, program.channels.as_slice())?;
+    }
     set_units(alloc, &mut channels, wishes.units.as_slice())?;
     set_scales(alloc, &mut channels, wishes.scales.as_slice())?;
     set_texts(alloc, &mut channels, wishes.texts.as_slice())?;

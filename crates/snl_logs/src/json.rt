@@ -60,6 +60,19 @@ fn sample_in<'l>(name: &'l [u8], line: &'l [u8]) -> Option<Sample<'l>> {
     })
 }
 
+/// When the channel of a sample was lost before it, as an archiver tells of the first sample behind that: `"cnxlostepsecs": "SECONDS"`. 0 is
+/// no time.
+pub fn json_loss<'l>(name: &'l [u8], line: &'l [u8]) -> Option<Sample<'l>> {
+    match whole(line, b"\"cnxlostepsecs\"")? {
+        0 => None,
+        seconds => Some(Sample {
+            name,
+            stamp: Stamp::At(nanoseconds(seconds, 0)?),
+            said: Said::Lost,
+        }),
+    }
+}
+
 /// The name that a line gives the channel of those that follow, as `"meta": { "name": "NAME" }`.
 pub fn name_in(line: &[u8]) -> Option<&[u8]> {
     member(line, b"\"name\"")

@@ -4,8 +4,8 @@ use crate::archive::archive_line;
 use crate::camonitor::camonitor_line;
 use crate::export::{channel_in, export_line};
 use crate::fields::{first_field, unquoted};
-use crate::json::{json_line, name_in};
-use crate::samples::LogLine;
+use crate::json::{json_line, json_loss, name_in};
+use crate::samples::{LogLine, Sample};
 use crate::stamps::time_of;
 use crate::table::{columns_of, table_line};
 use crate::texts::{trimmed_end, trimmed_start, without_end};
@@ -141,6 +141,14 @@ impl Log {
             self.channel.extend_from_slice(name)?;
         }
         Ok(())
+    }
+
+    /// That a channel was lost before what the line says that was noted last, where the line tells so.
+    pub fn lost<'l>(&'l self, line: &'l [u8]) -> Option<Sample<'l>> {
+        match self.form {
+            Form::Json => json_loss(self.channel.as_slice(), line),
+            _ => None,
+        }
     }
 
     /// What the line says that was noted last.

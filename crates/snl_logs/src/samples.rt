@@ -56,6 +56,16 @@ pub struct Sample<'l> {
     pub said: Said<'l>,
 }
 
+impl<'l> Sample<'l> {
+    /// The same by another clock, so many nanoseconds later or earlier.
+    pub fn moved(self, nanos: i64) -> Sample<'l> {
+        Sample {
+            stamp: self.stamp.moved(nanos),
+            ..self
+        }
+    }
+}
+
 /// A line of a log.
 #[derive(Clone, Copy, Debug)]
 pub enum LogLine<'l> {
@@ -73,10 +83,7 @@ impl<'l> LogLine<'l> {
     /// The same line by another clock, so many nanoseconds later or earlier.
     pub fn moved(self, nanos: i64) -> LogLine<'l> {
         match self {
-            LogLine::Sample(sample) => LogLine::Sample(Sample {
-                stamp: sample.stamp.moved(nanos),
-                ..sample
-            }),
+            LogLine::Sample(sample) => LogLine::Sample(sample.moved(nanos)),
             LogLine::Row(row) => LogLine::Row(row.moved(nanos)),
             LogLine::Silent | LogLine::Unknown => self,
         }

@@ -3,10 +3,11 @@
 ghost use Rattle.std.specs.Prelude.{◌≡◌};
 
 use super::{Importer, MILLISECOND, SECOND};
-use crate::channels::{Begun, News};
+use crate::channel::{Begun, News};
 use crate::counts::Left;
 use crate::errors::ImportError;
 use crate::happenings::Happening;
+use crate::programs::Program;
 
 /// The most seconds of the clock that are told between two events.
 const SECONDS: u64 = 1_000_000;
@@ -14,13 +15,14 @@ const SECONDS: u64 = 1_000_000;
 /// The channel of the clock.
 const CLOCK: &[u8] = b"CLOCK";
 
-impl Importer {
+impl<P: Program + Drop> Importer<P> {
     /// Begins the trace: each channel that is connected is so at 0 ms, and has the value that it had last. Behind all logs, where they
     /// end before that time.
     pub fn begin(&mut self) -> Result<(), ImportError>
         ensures lines { self.new.counts.lines ≡ self.old.counts.lines }
         ensures first { self.new.recorder.first ≡ self.old.recorder.first }
         ensures before { self.new.recorder.before ≡ self.old.recorder.before }
+        ensures program { self.new.recorder.program ≡ self.old.recorder.program }
     {
         if !self.is_holding {
             return Ok(());
@@ -38,6 +40,7 @@ impl Importer {
         ensures lines { self.new.counts.lines ≡ self.old.counts.lines }
         ensures first { self.new.recorder.first ≡ self.old.recorder.first }
         ensures before { self.new.recorder.before ≡ self.old.recorder.before }
+        ensures program { self.new.recorder.program ≡ self.old.recorder.program }
     {
         if !self.channels.tells_clock() {
             return Ok(());
@@ -53,6 +56,7 @@ impl Importer {
         ensures lines { self.new.counts.lines ≡ self.old.counts.lines }
         ensures first { self.new.recorder.first ≡ self.old.recorder.first }
         ensures before { self.new.recorder.before ≡ self.old.recorder.before }
+        ensures program { self.new.recorder.program ≡ self.old.recorder.program }
     {
         let Some(told) = self.second else {
             return Ok(());
@@ -77,6 +81,7 @@ impl Importer {
         ensures lines { self.new.counts.lines ≡ self.old.counts.lines }
         ensures first { self.new.recorder.first ≡ self.old.recorder.first }
         ensures before { self.new.recorder.before ≡ self.old.recorder.before }
+        ensures program { self.new.recorder.program ≡ self.old.recorder.program }
     {
         let Some(begun) = self.channels.begun(self.alloc, place, &mut self.values)? else {
             return Ok(());
@@ -95,10 +100,12 @@ impl Importer {
         ensures lines { self.new.counts.lines ≡ self.old.counts.lines }
         ensures first { self.new.recorder.first ≡ self.old.recorder.first }
         ensures before { self.new.recorder.before ≡ self.old.recorder.before }
+        ensures program { self.new.recorder.program ≡ self.old.recorder.program }
     {
         let name = begun.name.as_slice();
         let news = News {
             is_up: true,
+            may_be_old: true,
             alarm: begun.alarm,
             tells_time: begun.tells_time,
             why: None,

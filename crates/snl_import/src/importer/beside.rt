@@ -3,10 +3,10 @@
 ghost use Rattle.std.specs.Prelude.{◌≡◌};
 
 use super::{Importer, MILLISECOND, SECOND};
-use crate::channels::{Losses, News};
-use crate::counts::Left;
+use crate::channel::{Losses, News};
 use crate::errors::ImportError;
 use crate::happenings::Happening;
+use crate::programs::Program;
 use snl_logs::{Severity, Stamp};
 use std::alloc::{AllocError, Global};
 
@@ -32,7 +32,7 @@ fn with_suffix(alloc: Global, name: &[u8], suffix: &[u8]) -> Result<Vec<u8>, All
     Ok(suffixed)
 }
 
-impl Importer {
+impl<P: Program + Drop> Importer<P> {
     /// Writes that the channels of an alarm and of a time are not connected, which are told of another one.
     pub(super) fn write_losses(
         &mut self,
@@ -43,6 +43,7 @@ impl Importer {
         ensures lines { self.new.counts.lines ≡ self.old.counts.lines }
         ensures first { self.new.recorder.first ≡ self.old.recorder.first }
         ensures before { self.new.recorder.before ≡ self.old.recorder.before }
+        ensures program { self.new.recorder.program ≡ self.old.recorder.program }
     {
         if losses.had_alarm {
             let alarm = with_suffix(self.alloc, name, ALARM)?;
@@ -65,6 +66,7 @@ impl Importer {
         ensures lines { self.new.counts.lines ≡ self.old.counts.lines }
         ensures first { self.new.recorder.first ≡ self.old.recorder.first }
         ensures before { self.new.recorder.before ≡ self.old.recorder.before }
+        ensures program { self.new.recorder.program ≡ self.old.recorder.program }
     {
         if news.is_up {
             self.recorder.add(ms, name, Happening::Up)?;
@@ -93,6 +95,7 @@ impl Importer {
         ensures lines { self.new.counts.lines ≡ self.old.counts.lines }
         ensures first { self.new.recorder.first ≡ self.old.recorder.first }
         ensures before { self.new.recorder.before ≡ self.old.recorder.before }
+        ensures program { self.new.recorder.program ≡ self.old.recorder.program }
     {
         let time = match stamp {
             Stamp::At(time) => time,
@@ -115,17 +118,21 @@ impl Importer {
         ensures lines { self.new.counts.lines ≡ self.old.counts.lines }
         ensures first { self.new.recorder.first ≡ self.old.recorder.first }
         ensures before { self.new.recorder.before ≡ self.old.recorder.before }
+        ensures program { self.new.recorder.program ≡ self.old.recorder.program }
     {
         self.beside.clear();
         self.beside.push(i64::try_from(number).unwrap_or(i64::MAX))?;
         let written = self.counts.with_written()?;
-        let left = self.counts.with_left(Left::Unfit)?;
-        let values = Happening::Values(&self.beside);
-        if self.recorder.add(ms, name, values)? {
+        if self
+            .recorder
+            .add(ms, name, Happening::Values(&self.beside))?
+        {
             self.counts = written;
+            self.channels.note_written(name);
+            Ok(())
         } else {
-            self.counts = left;
+            let left = self.recorder.refusal(name, &self.beside);
+            self.leave(left)
         }
-        Ok(())
     }
 }

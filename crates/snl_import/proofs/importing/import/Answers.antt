@@ -1,3 +1,6 @@
+use Rattle.std.proofs.Common.{subst, sym}
+use Rattle.snl_import.specs.Taken.{TellsTaken}
+use Rattle.snl_import.proofs.TakenLaws.{fresh-taken}
 use Rattle.snl_import.proofs.WrittenLaws.{fresh-front, on-err, whole-front}
 use Rattle.snl_import.proofs.importing.import.Goals as goal
 
@@ -15,3 +18,23 @@ returns-in_err-preface-clause-front g c = on-err c.from_residual-in_err-preface.
 
 pub returns-in_err-notes_of-clause-front : goal.returns-in_err-notes_of-clause-front
 returns-in_err-notes_of-clause-front g c = on-err c.from_residual-in_err-notes_of.result _ (whole-front _ _ c.in_ok-write_events.ensures.trace)
+
+pub returns-in_err-begin-clause-taken : goal.returns-in_err-begin-clause-taken
+returns-in_err-begin-clause-taken g c = fresh-taken _ _ c.requires.fresh
+
+pub returns-in_err-advance_all-clause-taken : goal.returns-in_err-advance_all-clause-taken
+returns-in_err-advance_all-clause-taken g c = fresh-taken _ _ c.requires.fresh
+
+pub returns-in_err-channels-clause-taken : goal.returns-in_err-channels-clause-taken
+returns-in_err-channels-clause-taken g c = fresh-taken _ _ c.requires.fresh
+
+pub returns-in_err-preface-clause-taken : goal.returns-in_err-preface-clause-taken
+returns-in_err-preface-clause-taken g c = fresh-taken _ _ c.requires.fresh
+
+pub returns-in_err-write_comments-clause-taken : goal.returns-in_err-write_comments-clause-taken
+returns-in_err-write_comments-clause-taken g c = c.write_comments.ensures.taken (g.P.Program.taken c.args.program)
+
+pub write_events-requires-clause-taken : goal.write_events-requires-clause-taken
+write_events-requires-clause-taken g c =
+    subst (λ p. TellsTaken (g.P.Program.taken p) (g.K.Sink.told c.write_comments.new.sink)) (sym c.new-importer.ensures.program)
+    (c.write_comments.ensures.taken (g.P.Program.taken c.args.program))

@@ -1,4 +1,4 @@
-use Rattle.std.proofs.Common.{◌≡◌, ◌∙◌, ap, ◌++◌}
+use Rattle.std.proofs.Common.{◌∙◌, ap, ◌++◌}
 use Rattle.snl_written.specs.Written.{down_line}
 use Rattle.snl_import.proofs.LineLaws.{down-is}
 use Rattle.snl_import.proofs.lines.down_line.Goals as goal

@@ -1,4 +1,4 @@
-use Rattle.std.proofs.Common.{◌≡◌, ◌∙◌, ap, ◌++◌}
+use Rattle.std.proofs.Common.{◌∙◌, ap, ◌++◌}
 use Rattle.snl_written.specs.Written.{up_line}
 use Rattle.snl_import.proofs.LineLaws.{up-is}
 use Rattle.snl_import.proofs.lines.up_line.Goals as goal

@@ -1,4 +1,4 @@
-use Rattle.std.proofs.Common.{◌≡◌, ◌≤◌, ◌<◌, ◌∙◌, ap, ◌++◌, arith, length, true, sym, ne_eqb, rules, take, subst, FitsSigned, w64}
+use Rattle.std.proofs.Common.{◌<◌, ◌∙◌, ap, ◌++◌, arith, length, rules, take, subst, FitsSigned, w64}
 use Rattle.std.proofs.lemmas.List.Elements.{All-weaker}
 use Rattle.snl_logs.specs.Held.{numbers_of}
 use Rattle.snl_trace.specs.Grammar.{Val}

@@ -1,9 +1,10 @@
 use Rattle.std.proofs.Common.{◌≡◌}
 use Rattle.snl_import.proofs.writing.take_block.Given as goal
 
--- the text begins where it did
+-- the text begins where it did, for the same program
 abbrev pub invariant-loop : goal.invariant-loop
 invariant-loop g l = record {
   first : l.importer.recorder.first ≡ l.fn.importer.recorder.first;
   before : l.importer.recorder.before ≡ l.fn.importer.recorder.before;
+  program : l.importer.recorder.program ≡ l.fn.importer.recorder.program;
 }
