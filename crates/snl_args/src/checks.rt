@@ -1,8 +1,8 @@
 //! What follows the word `check`: which lints say nothing, and whether the others make the status 1.
 
-use crate::commands::help_argument;
+use crate::arguments::{Argument, Takes};
 use crate::words::all_owned;
-use clap::{Arg, ArgAction, ArgMatches, Command};
+use clap::ArgMatches;
 use std::alloc::{AllocError, Global};
 
 /// How a check writes what it found.
@@ -29,43 +29,29 @@ pub struct CheckWords {
     pub is_strict: bool,
 }
 
-/// FILE.., one at least.
-fn files_argument<'a>(alloc: Global) -> Arg<'a> {
-    Arg::new(alloc, "FILE")
-        .required(true)
-        .num_args(1usize..)
-        .action(ArgAction::Append)
-        .help("Files of programs, or folders with such, FILE.st; - for standard input")
-}
-
-/// `--no-lint`.
-fn no_lint_argument<'a>(alloc: Global) -> Arg<'a> {
-    Arg::new(alloc, "no-lint")
-        .long("no-lint")
-        .value_name("NAME|NAME=LINE")
-        .action(ArgAction::Append)
-        .help("A lint that says nothing, or nothing on a line; several add up")
-}
-
-/// `--strict`.
-fn strict_argument<'a>(alloc: Global) -> Arg<'a> {
-    Arg::new(alloc, "strict")
-        .long("strict")
-        .action(ArgAction::SetTrue)
-        .value_parser(clap::value_parser!(bool))
-        .help("End with status 1 where a lint says something")
-}
-
-/// `--format`.
-fn format_argument<'a>(alloc: Global) -> Arg<'a> {
-    Arg::new(alloc, "format")
-        .long("format")
-        .value_name("FORMAT")
-        .action(ArgAction::Set)
-        .value_parser(["text", "gcc", "json"].as_slice())
-        .default_value("text")
-        .help("How it is written: as text, as lines of a compiler, or as JSON")
-}
+/// What `check` takes.
+pub(crate) const OF_CHECK: [Argument; 4] = [
+    Argument {
+        name: "FILE",
+        takes: Takes::Places,
+        help: "Files of programs, or folders with such, FILE.st; - for standard input",
+    },
+    Argument {
+        name: "format",
+        takes: Takes::Format,
+        help: "How it is written: as text, as lines of a compiler, or as JSON",
+    },
+    Argument {
+        name: "no-lint",
+        takes: Takes::Texts("NAME|NAME=LINE"),
+        help: "A lint that says nothing, or nothing on a line; several add up",
+    },
+    Argument {
+        name: "strict",
+        takes: Takes::Nothing,
+        help: "End with status 1 where a lint says something",
+    },
+];
 
 /// The format of a word.
 fn format_of(word: &str) -> Format {
@@ -74,26 +60,6 @@ fn format_of(word: &str) -> Format {
         "json" => Format::Json,
         _ => Format::Text,
     }
-}
-
-/// The command of `check`.
-pub(crate) fn for_check<'a>(
-    alloc: Global,
-    usage: &'a str,
-    about: &'a str,
-    more: &'a str,
-) -> Result<Command<'a>, AllocError> {
-    Command::new(alloc, "snl")
-        .no_binary_name(true)
-        .disable_help_flag(true)
-        .override_usage(usage)
-        .about(about)
-        .after_help(more)
-        .arg(files_argument(alloc))?
-        .arg(format_argument(alloc))?
-        .arg(no_lint_argument(alloc))?
-        .arg(strict_argument(alloc))?
-        .arg(help_argument(alloc))
 }
 
 /// All values of an argument, as texts of the caller's own.

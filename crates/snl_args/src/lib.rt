@@ -4,12 +4,14 @@
 //! stand. The first word of the rest says what is asked for; `clap` reads what follows it.
 #![tactic(auto)]
 
+mod arguments;
 mod calls;
 mod checks;
 mod commands;
 mod explains;
 mod language;
 mod misplaced;
+mod sames;
 mod searches;
 mod texts;
 mod traces;
@@ -18,6 +20,7 @@ mod words;
 pub use calls::{Call, CallFault, read_call};
 pub use checks::{CheckWords, Format};
 pub use misplaced::misplaced_text;
+pub use sames::SameWords;
 pub use searches::{ChannelValues, SearchWords};
 pub use traces::{NamedNumber, NamedText, TraceWords};
 pub use words::{CoverWords, Word};

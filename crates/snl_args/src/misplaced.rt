@@ -1,6 +1,7 @@
 //! A word in the place of MACROS that gives no macro a value, and the call that was meant.
 
 use crate::calls::Call;
+use crate::sames::SameWords;
 use crate::words::Word;
 use std::alloc::{AllocError, Global};
 
@@ -15,6 +16,17 @@ fn quoted(alloc: Global, word: &str) -> Result<String, AllocError> {
         return String::from_str(alloc, word);
     }
     format!(in alloc; "'{word}'")
+}
+
+/// How a trace is given to a comparison, with the right call.
+fn right_same(
+    alloc: Global,
+    words: &SameWords,
+    file: &str,
+    trace: &str,
+) -> Result<String, AllocError> {
+    let new = quoted(alloc, words.new.file.as_str())?;
+    format!(in alloc; "The trace comes on standard input: snl same {file} {new} < {trace}")
 }
 
 /// How a trace is given to a word, with the right call.
@@ -33,8 +45,10 @@ fn right_call(alloc: Global, word: &Word, file: &str, trace: &str) -> Result<Str
             "A trace comes behind --trace: snl cover --trace {trace} {file}"
         ),
         Word::Tree => format!(in alloc; "No trace is read: snl tree {file}"),
+        Word::Sets(_) => format!(in alloc; "No trace is read: snl sets {file}"),
         Word::Check(_) => format!(in alloc; "No trace is read: snl check {file}"),
         Word::Trace(_) => format!(in alloc; "A log stands behind the word: snl trace {trace}"),
+        Word::Same(words) => right_same(alloc, words, file, trace),
         Word::Search(_) => format!(in alloc;
             "A recorded trace comes behind --like: snl search --like {trace} {file}"
         ),

@@ -1,8 +1,8 @@
 //! What follows the word `search`: what is looked for, over which values, and where the search stops.
 
+use crate::arguments::{Argument, Number, Takes};
 use crate::calls::CallFault;
-use crate::commands::{file_argument, help_argument, macros_argument};
-use clap::{Arg, ArgAction, ArgMatches, Command};
+use clap::ArgMatches;
 use std::alloc::{AllocError, Global};
 
 /// Values for a channel, by its name.
@@ -47,135 +47,99 @@ pub struct SearchWords {
     pub cover: Option<String>,
 }
 
-/// An option with a text.
-pub(crate) fn text_argument<'a>(
-    alloc: Global,
-    name: &'static str,
-    value: &'static str,
-    help: &'static str,
-) -> Arg<'a> {
-    Arg::new(alloc, name)
-        .long(name)
-        .value_name(value)
-        .action(ArgAction::Append)
-        .help(help)
-}
-
-/// An option with a number from 1 on.
-fn number_argument<'a>(
-    alloc: Global,
-    name: &'static str,
-    value: &'static str,
-    usual: &'static str,
-    help: &'static str,
-) -> Arg<'a> {
-    Arg::new(alloc, name)
-        .long(name)
-        .value_name(value)
-        .action(ArgAction::Set)
-        .value_parser(clap::value_parser!(u32).range(1..=1_000_000_000))
-        .default_value(usual)
-        .help(help)
-}
-
-/// Adds the options that say what is looked for, and over which values.
-fn with_alphabet<'a>(alloc: Global, command: Command<'a>) -> Result<Command<'a>, AllocError> {
-    command
-        .arg(text_argument(
-            alloc,
-            "never",
-            "LINE|SS.STATE",
-            "A line that the output may not have, or a state that may not be entered",
-        ))?
-        .arg(text_argument(
-            alloc,
-            "never-end",
-            "TEXT",
-            "What no output line may end with, compared as bytes",
-        ))?
-        .arg(
-            Arg::new(alloc, "like")
-                .long("like")
-                .value_name("TRACE")
-                .action(ArgAction::Set)
-                .help("A recorded trace, whose values take the place of those of the source"),
-        )?
-        .arg(text_argument(
-            alloc,
-            "values",
-            "NAME=V,V..",
-            "The values of a channel, in the place of those of the source",
-        ))?
-        .arg(text_argument(alloc, "first", "NAME=V", "Its value at the start"))?
-        .arg(text_argument(
-            alloc,
-            "gaps",
-            "MS,MS..",
-            "Times between lines, in the place of 0; the next wake is always one",
-        ))?
-        .arg(text_argument(alloc, "down", "NAME", "A channel that can go down and up"))
-}
-
-/// Adds the options that say where the search stops.
-fn with_bounds<'a>(alloc: Global, command: Command<'a>) -> Result<Command<'a>, AllocError> {
-    command
-        .arg(number_argument(alloc, "lines", "K", "4", "How many lines behind the start"))?
-        .arg(number_argument(alloc, "worlds", "N", "1000000", "How many worlds are kept"))?
-        .arg(number_argument(
-            alloc,
-            "memory",
-            "MB",
-            "2000",
-            "How many million bytes they take",
-        ))?
-        .arg(number_argument(
-            alloc,
-            "seconds",
-            "S",
-            "60",
-            "How many seconds the search takes",
-        ))?
-        .arg(number_argument(
-            alloc,
-            "budget",
-            "N",
-            "300",
-            "The ticks of an instant in the search",
-        ))?
-        .arg(
-            Arg::new(alloc, "out")
-                .long("out")
-                .value_name("FILE")
-                .action(ArgAction::Set)
-                .help("Where the trace of what was found goes"),
-        )?
-        .arg(
-            Arg::new(alloc, "cover")
-                .long("cover")
-                .value_name("DIR")
-                .action(ArgAction::Set)
-                .help("The folder of traces that take the clauses, each a shortest one"),
-        )
-}
-
-/// The command of `search`.
-pub(crate) fn for_search<'a>(
-    alloc: Global,
-    usage: &'a str,
-    about: &'a str,
-    more: &'a str,
-) -> Result<Command<'a>, AllocError> {
-    let command = Command::new(alloc, "snl")
-        .no_binary_name(true)
-        .disable_help_flag(true)
-        .override_usage(usage)
-        .about(about)
-        .after_help(more)
-        .arg(file_argument(alloc))?
-        .arg(macros_argument(alloc))?
-        .arg(help_argument(alloc))?;
-    with_bounds(alloc, with_alphabet(alloc, command)?)
-}
+/// What `search` takes beside FILE and MACROS.
+pub(crate) const OF_SEARCH: [Argument; 14] = [
+    Argument {
+        name: "never",
+        takes: Takes::Texts("LINE|SS.STATE"),
+        help: "A line that the output may not have, or a state that may not be entered",
+    },
+    Argument {
+        name: "never-end",
+        takes: Takes::Texts("TEXT"),
+        help: "What no output line may end with, compared as bytes",
+    },
+    Argument {
+        name: "like",
+        takes: Takes::Text("TRACE"),
+        help: "A recorded trace, whose values take the place of those of the source",
+    },
+    Argument {
+        name: "values",
+        takes: Takes::Texts("NAME=V,V.."),
+        help: "The values of a channel, in the place of those of the source",
+    },
+    Argument {
+        name: "first",
+        takes: Takes::Texts("NAME=V"),
+        help: "Its value at the start",
+    },
+    Argument {
+        name: "gaps",
+        takes: Takes::Texts("MS,MS.."),
+        help: "Times between lines, in the place of 0; the next wake is always one",
+    },
+    Argument {
+        name: "down",
+        takes: Takes::Texts("NAME"),
+        help: "A channel that can go down and up",
+    },
+    Argument {
+        name: "lines",
+        takes: Takes::Number(Number {
+            value: "K",
+            least: 1,
+            usual: "4",
+        }),
+        help: "How many lines behind the start",
+    },
+    Argument {
+        name: "worlds",
+        takes: Takes::Number(Number {
+            value: "N",
+            least: 1,
+            usual: "1000000",
+        }),
+        help: "How many worlds are kept",
+    },
+    Argument {
+        name: "memory",
+        takes: Takes::Number(Number {
+            value: "MB",
+            least: 1,
+            usual: "2000",
+        }),
+        help: "How many million bytes they take",
+    },
+    Argument {
+        name: "seconds",
+        takes: Takes::Number(Number {
+            value: "S",
+            least: 1,
+            usual: "60",
+        }),
+        help: "How many seconds the search takes",
+    },
+    Argument {
+        name: "budget",
+        takes: Takes::Number(Number {
+            value: "N",
+            least: 1,
+            usual: "300",
+        }),
+        help: "The ticks of an instant in the search",
+    },
+    Argument {
+        name: "out",
+        takes: Takes::Text("FILE"),
+        help: "Where the trace of what was found goes",
+    },
+    Argument {
+        name: "cover",
+        takes: Takes::Text("DIR"),
+        help: "The folder of traces that take the clauses, each a shortest one",
+    },
+];
 
 /// The error of an option whose text is none.
 pub(crate) fn bad_text(alloc: Global, option: &str, text: &str, form: &str) -> CallFault {

@@ -1,9 +1,9 @@
-//! What follows the word `trace`: the logs, the units of their channels, and where the trace begins and ends.
+//! What follows the word `trace`: the logs, the program, the units of their channels, and where the trace begins and ends.
 
+use crate::arguments::{Argument, Number, Takes};
 use crate::calls::CallFault;
-use crate::commands::help_argument;
-use crate::searches::{bad_text, text_argument};
-use clap::{Arg, ArgAction, ArgMatches, Command};
+use crate::searches::bad_text;
+use clap::ArgMatches;
 use std::alloc::{AllocError, Global};
 
 /// A whole number of a channel, by its name.
@@ -29,6 +29,8 @@ pub struct NamedText {
 /// What a trace is made of, and how.
 #[derive(Drop)]
 pub struct TraceWords {
+    /// Whether the trace is made for the program of the call.
+    pub has_program: bool,
     /// The file of units.
     pub units: Option<String>,
     /// The powers of ten that values of channels are multiplied by.
@@ -51,105 +53,73 @@ pub struct TraceWords {
     pub logs: Vec<String>,
 }
 
-/// LOG..
-fn logs_argument<'a>(alloc: Global) -> Arg<'a> {
-    Arg::new(alloc, "LOG")
-        .required(true)
-        .num_args(1..)
-        .action(ArgAction::Append)
-        .help("The files of the logs; - for standard input")
-}
-
-/// `--lead`.
-fn lead_argument<'a>(alloc: Global) -> Arg<'a> {
-    Arg::new(alloc, "lead")
-        .long("lead")
-        .value_name("S")
-        .action(ArgAction::Set)
-        .value_parser(clap::value_parser!(u32).range(0..=1_000_000_000))
-        .default_value("10")
-        .help("How many seconds before the first change the trace begins at most")
-}
-
-/// `--severity`.
-fn severity_argument<'a>(alloc: Global) -> Arg<'a> {
-    Arg::new(alloc, "severity")
-        .long("severity")
-        .action(ArgAction::SetTrue)
-        .value_parser(clap::value_parser!(bool))
-        .help("Write the alarms too, as channels NAME.SEVR")
-}
-
-/// `--units`, `--from` or `--to`.
-fn once_argument<'a>(
-    alloc: Global,
-    name: &'static str,
-    value: &'static str,
-    help: &'static str,
-) -> Arg<'a> {
-    Arg::new(alloc, name)
-        .long(name)
-        .value_name(value)
-        .action(ArgAction::Set)
-        .help(help)
-}
-
-/// Adds the options that say what values are.
-fn with_units<'a>(alloc: Global, command: Command<'a>) -> Result<Command<'a>, AllocError> {
-    command
-        .arg(once_argument(
-            alloc,
-            "units",
-            "FILE",
-            "A file of units, as snl-port writes it; the words below count more",
-        ))?
-        .arg(text_argument(
-            alloc,
-            "scale",
-            "NAME=K",
-            "The values of a channel are multiplied by 10 to the power of K, and rounded",
-        ))?
-        .arg(text_argument(
-            alloc,
-            "enum",
-            "NAME=TEXT:N,..",
-            "The numbers that texts of a channel stand for",
-        ))?
-        .arg(text_argument(
-            alloc,
-            "value",
-            "NAME=N",
-            "The value that a channel has at 0 ms, if no log says otherwise",
-        ))?
-        .arg(text_argument(
-            alloc,
-            "offset",
-            "FILE=+HH:MM",
-            "By how much the clock of a file is ahead of those of the others",
-        ))
-}
-
-/// The command of `trace`.
-pub(crate) fn for_trace<'a>(
-    alloc: Global,
-    usage: &'a str,
-    about: &'a str,
-    more: &'a str,
-) -> Result<Command<'a>, AllocError> {
-    let command = Command::new(alloc, "snl")
-        .no_binary_name(true)
-        .disable_help_flag(true)
-        .override_usage(usage)
-        .about(about)
-        .after_help(more)
-        .arg(logs_argument(alloc))?;
-    with_units(alloc, command)?
-        .arg(lead_argument(alloc))?
-        .arg(severity_argument(alloc))?
-        .arg(once_argument(alloc, "from", "T", "The time of 0 ms, as the logs tell it"))?
-        .arg(once_argument(alloc, "to", "T", "The time behind which no log is read"))?
-        .arg(help_argument(alloc))
-}
+/// What `trace` takes.
+pub(crate) const OF_TRACE: [Argument; 12] = [
+    Argument {
+        name: "LOG",
+        takes: Takes::Places,
+        help: "The files of the logs; - for standard input",
+    },
+    Argument {
+        name: "FILE",
+        takes: Takes::Behind("program"),
+        help: "The file of a program: what it does not take is left out, and what it lacks is told",
+    },
+    Argument {
+        name: "MACROS",
+        takes: Takes::Behind("macros"),
+        help: "The macros in the names of its channels",
+    },
+    Argument {
+        name: "units",
+        takes: Takes::Text("FILE"),
+        help: "A file of units, as snl-port writes it; the words below count more",
+    },
+    Argument {
+        name: "scale",
+        takes: Takes::Texts("NAME=K"),
+        help: "The values of a channel are multiplied by 10 to the power of K, and rounded",
+    },
+    Argument {
+        name: "enum",
+        takes: Takes::Texts("NAME=TEXT:N,.."),
+        help: "The numbers that texts of a channel stand for",
+    },
+    Argument {
+        name: "value",
+        takes: Takes::Texts("NAME=N"),
+        help: "The value that a channel has at 0 ms, if no log says otherwise",
+    },
+    Argument {
+        name: "offset",
+        takes: Takes::Texts("FILE=+HH:MM"),
+        help: "By how much the clock of a file is ahead of those of the others",
+    },
+    Argument {
+        name: "lead",
+        takes: Takes::Number(Number {
+            value: "S",
+            least: 0,
+            usual: "10",
+        }),
+        help: "How many seconds before the first change the trace begins at most",
+    },
+    Argument {
+        name: "severity",
+        takes: Takes::Nothing,
+        help: "Write the alarms too, as channels NAME.SEVR",
+    },
+    Argument {
+        name: "from",
+        takes: Takes::Text("T"),
+        help: "The time of 0 ms, as the logs tell it",
+    },
+    Argument {
+        name: "to",
+        takes: Takes::Text("T"),
+        help: "The time behind which no log is read",
+    },
+];
 
 /// The texts of an option; none where it is not given.
 fn texts_of<'m>(matches: &'m ArgMatches, option: &str) -> &'m [&'m str] {
@@ -305,9 +275,21 @@ fn logs_of(alloc: Global, matches: &ArgMatches) -> Result<Vec<String>, AllocErro
     Ok(all)
 }
 
+/// Whether a program is named, as a command found it. Macros are those of a program.
+fn names_program(alloc: Global, matches: &ArgMatches) -> Result<bool, CallFault> {
+    let has_program = matches.get_str("FILE").is_some();
+    if !has_program && matches.get_str("MACROS").is_some() {
+        return Err(CallFault::Usage(format!(in alloc;
+            "error: '--macros' says nothing without '--program'\n\nFor more information, try '--help'.\n"
+        )?));
+    }
+    Ok(has_program)
+}
+
 /// What a trace is made of, as a command found it.
 pub(crate) fn trace_words(alloc: Global, matches: &ArgMatches) -> Result<TraceWords, CallFault> {
     Ok(TraceWords {
+        has_program: names_program(alloc, matches)?,
         units: maybe_text(alloc, matches, "units")?,
         scales: numbers_of(alloc, matches, "scale", "NAME=K")?,
         texts: enums_of(alloc, matches)?,

@@ -1,16 +1,13 @@
 //! The words behind `snl`, and what follows each of them.
 
+use crate::arguments::{Argument, OF_PROGRAM, OF_RUNS, OVER_TRACE, command_of};
 use crate::calls::{Call, CallFault, matches_in};
-use crate::checks::{CheckWords, check_words, for_check};
-use crate::commands::{for_cover, for_graph, for_run, for_tree, over_trace};
-use crate::searches::{SearchWords, for_search, search_words};
-use crate::texts::{
-    CHECK_ABOUT, CHECK_MORE, CHECK_USAGE, COVER_ABOUT, COVER_MORE, COVER_USAGE, GRAPH_ABOUT,
-    GRAPH_MORE, GRAPH_USAGE, RUN_ABOUT, RUN_MORE, RUN_USAGE, SEARCH_ABOUT, SEARCH_MORE,
-    SEARCH_USAGE, TRACE_ABOUT, TRACE_MORE, TRACE_USAGE, TREE_ABOUT, TREE_MORE, TREE_USAGE,
-    WAITS_ABOUT, WAITS_MORE, WAITS_USAGE,
-};
-use crate::traces::{TraceWords, for_trace, trace_words};
+use crate::checks::{CheckWords, OF_CHECK, check_words};
+use crate::commands::{OF_COVER, OF_GRAPH, OF_RUN, OF_SETS};
+use crate::sames::{OF_SAME, SameWords, same_words};
+use crate::searches::{OF_SEARCH, SearchWords, search_words};
+use crate::texts::{CHECK, COVER, GRAPH, RUN, SAME, SEARCH, SETS, TRACE, TREE, Texts, WAITS};
+use crate::traces::{OF_TRACE, TraceWords, trace_words};
 use clap::ArgMatches;
 use snc_args::{DEFAULT_BUDGET, Job};
 use snl_resolve::Options;
@@ -38,17 +35,21 @@ pub enum Word {
     Graph(bool),
     /// Every trace over a small alphabet, the shortest first: `snl search [--never LINE].. FILE [MACROS]`.
     Search(SearchWords),
+    /// Where two programs differ over a trace: `snl same [--but CHANNEL].. [--puts] OLD NEW [MACROS]`.
+    Same(SameWords),
     /// The tree of a program as JSON: `snl tree FILE [MACROS]`.
     Tree,
-    /// A trace of recorded logs: `snl trace [--scale NAME=K].. LOG..`.
+    /// A line for each state of a program: `snl sets [--declare] FILE [MACROS]`. Whether it is a declaration.
+    Sets(bool),
+    /// A trace of recorded logs: `snl trace [--program FILE] [--scale NAME=K].. LOG..`.
     Trace(TraceWords),
     /// The messages about a program, and what is seldom meant: `snl check [--format FORMAT] [--no-lint NAME].. [--strict] FILE..`.
     Check(CheckWords),
 }
 
 /// The names of the words.
-pub(crate) const NAMES: [&str; 9] = [
-    "waits", "run", "cover", "graph", "search", "tree", "check", "explain", "trace",
+pub(crate) const NAMES: [&str; 11] = [
+    "waits", "run", "cover", "graph", "same", "search", "tree", "sets", "check", "explain", "trace",
 ];
 
 /// A text of the caller's own, where there is one.
@@ -91,26 +92,61 @@ pub(crate) fn all_owned(alloc: Global, texts: &[&str]) -> Result<Vec<String>, Al
     Ok(list)
 }
 
+/// What a command of these arguments finds in the words behind its own.
+pub(crate) fn found_in<'w>(
+    alloc: Global,
+    texts: &Texts,
+    first: &[Argument],
+    own: &[Argument],
+    words: &'w [&'w str],
+) -> Result<ArgMatches<'w>, CallFault> {
+    let command = command_of(alloc, texts, first, own)?;
+    matches_in(alloc, command, words)
+}
+
+/// The call of a word that reads a trace, with the file of its program at a place.
+fn trace_call(
+    alloc: Global,
+    matches: &ArgMatches,
+    file: &str,
+    options: Options,
+    word: Word,
+) -> Result<Call, CallFault> {
+    let progress = matches.get_flag("progress");
+    let job = job_in(alloc, matches, file, options)?;
+    Ok(Call {
+        job,
+        word,
+        progress,
+    })
+}
+
+/// The call of a word that reads none.
+fn plain_call(
+    alloc: Global,
+    matches: &ArgMatches,
+    options: Options,
+    word: Word,
+) -> Result<Call, CallFault> {
+    let job = plain_job(alloc, matches, options)?;
+    Ok(Call {
+        job,
+        word,
+        progress: false,
+    })
+}
+
 /// What follows `waits`.
 fn read_waits(alloc: Global, words: &[&str], options: Options) -> Result<Call, CallFault> {
-    let command = over_trace(alloc, WAITS_USAGE, WAITS_ABOUT, WAITS_MORE)?;
-    let matches = matches_in(alloc, command, words)?;
-    Ok(Call {
-        job: job_in(alloc, &matches, "FILE", options)?,
-        word: Word::Waits,
-        progress: matches.get_flag("progress"),
-    })
+    let matches = found_in(alloc, &WAITS, &OVER_TRACE, &[], words)?;
+    trace_call(alloc, &matches, "FILE", options, Word::Waits)
 }
 
 /// What follows `run`.
 fn read_run(alloc: Global, words: &[&str], options: Options) -> Result<Call, CallFault> {
-    let command = for_run(alloc, RUN_USAGE, RUN_ABOUT, RUN_MORE)?;
-    let matches = matches_in(alloc, command, words)?;
-    Ok(Call {
-        job: job_in(alloc, &matches, "FILE", options)?,
-        word: Word::Run(matches.get_flag("whole")),
-        progress: matches.get_flag("progress"),
-    })
+    let matches = found_in(alloc, &RUN, &OVER_TRACE, &OF_RUN, words)?;
+    let word = Word::Run(matches.get_flag("whole"));
+    trace_call(alloc, &matches, "FILE", options, word)
 }
 
 /// What a coverage is asked for, as a command found it.
@@ -127,68 +163,67 @@ fn cover_words(alloc: Global, matches: &ArgMatches) -> Result<CoverWords, AllocE
 
 /// What follows `cover`.
 fn read_cover(alloc: Global, words: &[&str], options: Options) -> Result<Call, CallFault> {
-    let command = for_cover(alloc, COVER_USAGE, COVER_ABOUT, COVER_MORE)?;
-    let matches = matches_in(alloc, command, words)?;
-    Ok(Call {
-        job: job_in(alloc, &matches, "FILE", options)?,
-        word: Word::Cover(cover_words(alloc, &matches)?),
-        progress: matches.get_flag("progress"),
-    })
+    let matches = found_in(alloc, &COVER, &OVER_TRACE, &OF_COVER, words)?;
+    let word = Word::Cover(cover_words(alloc, &matches)?);
+    trace_call(alloc, &matches, "FILE", options, word)
 }
 
 /// What follows `graph`.
 fn read_graph(alloc: Global, words: &[&str], options: Options) -> Result<Call, CallFault> {
-    let command = for_graph(alloc, GRAPH_USAGE, GRAPH_ABOUT, GRAPH_MORE)?;
-    let matches = matches_in(alloc, command, words)?;
-    Ok(Call {
-        job: job_in(alloc, &matches, "FILE", options)?,
-        word: Word::Graph(matches.get_flag("no-trace")),
-        progress: matches.get_flag("progress"),
-    })
+    let matches = found_in(alloc, &GRAPH, &OVER_TRACE, &OF_GRAPH, words)?;
+    let word = Word::Graph(matches.get_flag("no-trace"));
+    trace_call(alloc, &matches, "FILE", options, word)
 }
 
 /// What follows `search`. What is found is run again with the budget that `snlrun` has where nothing is said.
 fn read_search(alloc: Global, words: &[&str], options: Options) -> Result<Call, CallFault> {
-    let command = for_search(alloc, SEARCH_USAGE, SEARCH_ABOUT, SEARCH_MORE)?;
-    let matches = matches_in(alloc, command, words)?;
-    Ok(Call {
-        job: plain_job(alloc, &matches, options)?,
-        word: Word::Search(search_words(alloc, &matches)?),
-        progress: false,
-    })
+    let matches = found_in(alloc, &SEARCH, &OF_PROGRAM, &OF_SEARCH, words)?;
+    let word = Word::Search(search_words(alloc, &matches)?);
+    plain_call(alloc, &matches, options, word)
+}
+
+/// What a comparison is asked for, as a command found it.
+fn compared_words(
+    alloc: Global,
+    matches: &ArgMatches,
+    options: Options,
+) -> Result<SameWords, AllocError> {
+    let new = job_in(alloc, matches, "NEW", options)?;
+    same_words(alloc, matches, new)
+}
+
+/// What follows `same`.
+fn read_same(alloc: Global, words: &[&str], options: Options) -> Result<Call, CallFault> {
+    let matches = found_in(alloc, &SAME, &OF_SAME, &OF_RUNS, words)?;
+    let word = Word::Same(compared_words(alloc, &matches, options)?);
+    trace_call(alloc, &matches, "OLD", options, word)
 }
 
 /// What follows `tree`.
 fn read_tree(alloc: Global, words: &[&str], options: Options) -> Result<Call, CallFault> {
-    let command = for_tree(alloc, TREE_USAGE, TREE_ABOUT, TREE_MORE)?;
-    let matches = matches_in(alloc, command, words)?;
-    Ok(Call {
-        job: plain_job(alloc, &matches, options)?,
-        word: Word::Tree,
-        progress: false,
-    })
+    let matches = found_in(alloc, &TREE, &OF_PROGRAM, &[], words)?;
+    plain_call(alloc, &matches, options, Word::Tree)
+}
+
+/// What follows `sets`.
+fn read_sets(alloc: Global, words: &[&str], options: Options) -> Result<Call, CallFault> {
+    let matches = found_in(alloc, &SETS, &OF_PROGRAM, &OF_SETS, words)?;
+    let word = Word::Sets(matches.get_flag("declare"));
+    plain_call(alloc, &matches, options, word)
 }
 
 /// What follows `check`.
 fn read_check(alloc: Global, words: &[&str], options: Options) -> Result<Call, CallFault> {
-    let command = for_check(alloc, CHECK_USAGE, CHECK_ABOUT, CHECK_MORE)?;
-    let matches = matches_in(alloc, command, words)?;
-    Ok(Call {
-        job: plain_job(alloc, &matches, options)?,
-        word: Word::Check(check_words(alloc, &matches)?),
-        progress: false,
-    })
+    let matches = found_in(alloc, &CHECK, &OF_CHECK, &[], words)?;
+    let word = Word::Check(check_words(alloc, &matches)?);
+    plain_call(alloc, &matches, options, word)
 }
 
-/// What follows `trace`, which runs no program.
+/// What follows `trace`, which runs no program. The one that it is made for is FILE.
 fn read_trace(alloc: Global, words: &[&str], options: Options) -> Result<Call, CallFault> {
-    let command = for_trace(alloc, TRACE_USAGE, TRACE_ABOUT, TRACE_MORE)?;
-    let matches = matches_in(alloc, command, words)?;
-    Ok(Call {
-        job: plain_job(alloc, &matches, options)?,
-        word: Word::Trace(trace_words(alloc, &matches)?),
-        progress: false,
-    })
+    let matches = found_in(alloc, &TRACE, &OF_TRACE, &[], words)?;
+    let word = Word::Trace(trace_words(alloc, &matches)?);
+    plain_call(alloc, &matches, options, word)
 }
 
 /// What follows a word of a name; None where no word that asks for something has it.
@@ -204,7 +239,9 @@ pub(crate) fn read_word(
         "cover" => read_cover(alloc, words, options)?,
         "graph" => read_graph(alloc, words, options)?,
         "search" => read_search(alloc, words, options)?,
+        "same" => read_same(alloc, words, options)?,
         "tree" => read_tree(alloc, words, options)?,
+        "sets" => read_sets(alloc, words, options)?,
         "check" => read_check(alloc, words, options)?,
         "trace" => read_trace(alloc, words, options)?,
         _ => return Ok(None),

@@ -1,0 +1,222 @@
+//! The arguments of words, and the commands that `clap` reads them by.
+
+use crate::texts::Texts;
+use clap::{Arg, ArgAction, Command};
+use std::alloc::{AllocError, Global};
+
+/// A number that an option takes.
+#[derive(Clone, Copy)]
+pub(crate) struct Number {
+    /// What stands for it in the help.
+    pub value: &'static str,
+    /// The least one; the greatest is 1,000,000,000.
+    pub least: i64,
+    /// What it is where nothing is said.
+    pub usual: &'static str,
+}
+
+/// What an argument takes.
+#[derive(Clone, Copy)]
+pub(crate) enum Takes {
+    /// Nothing: the option is there or not.
+    Nothing,
+    /// A text, by what stands for it in the help.
+    Text(&'static str),
+    /// A text each time; several add up.
+    Texts(&'static str),
+    /// A text behind the option of this name; the name of the argument stands for the text.
+    Behind(&'static str),
+    /// A number.
+    Number(Number),
+    /// How much of 100.
+    Percent,
+    /// How a check writes what it found.
+    Format,
+    /// It has no option: it is the word at this place, which has to be there.
+    Place,
+    /// The word at this place, which may be missing.
+    MaybePlace,
+    /// All words from this place on, one at least.
+    Places,
+}
+
+/// An argument of a word.
+#[derive(Clone, Copy)]
+pub(crate) struct Argument {
+    /// The name of the option, or what stands for the word at this place.
+    pub name: &'static str,
+    /// What it takes.
+    pub takes: Takes,
+    /// What the help tells of it.
+    pub help: &'static str,
+}
+
+/// FILE.
+pub(crate) const FILE: Argument = Argument {
+    name: "FILE",
+    takes: Takes::Place,
+    help: "The file of the program; - for standard input",
+};
+
+/// MACROS.
+pub(crate) const MACROS: Argument = Argument {
+    name: "MACROS",
+    takes: Takes::MaybePlace,
+    help: "The macros in the names of channels",
+};
+
+/// `--budget`.
+const BUDGET: Argument = Argument {
+    name: "budget",
+    takes: Takes::Number(Number {
+        value: "N",
+        least: 1,
+        usual: "100000",
+    }),
+    help: "The ticks that an instant may take",
+};
+
+/// `--progress`.
+const PROGRESS: Argument = Argument {
+    name: "progress",
+    takes: Takes::Nothing,
+    help: "Tell once a second how far the trace was read",
+};
+
+/// What each word takes that runs something over a trace.
+pub(crate) const OF_RUNS: [Argument; 2] = [BUDGET, PROGRESS];
+
+/// What a word takes that runs a program over a trace.
+pub(crate) const OVER_TRACE: [Argument; 4] = [FILE, MACROS, BUDGET, PROGRESS];
+
+/// What a word takes of a program that has no trace of its own.
+pub(crate) const OF_PROGRAM: [Argument; 2] = [FILE, MACROS];
+
+/// An option that is there or not.
+fn flag<'a>(alloc: Global, name: &'static str) -> Arg<'a> {
+    Arg::new(alloc, name)
+        .long(name)
+        .action(ArgAction::SetTrue)
+        .value_parser(clap::value_parser!(bool))
+}
+
+/// An argument with a text behind an option.
+fn text_behind<'a>(
+    alloc: Global,
+    name: &'static str,
+    option: &'static str,
+    value: &'static str,
+    action: ArgAction,
+) -> Arg<'a> {
+    Arg::new(alloc, name)
+        .long(option)
+        .value_name(value)
+        .action(action)
+}
+
+/// An option with a text.
+fn option<'a>(
+    alloc: Global,
+    name: &'static str,
+    value: &'static str,
+    action: ArgAction,
+) -> Arg<'a> {
+    text_behind(alloc, name, name, value, action)
+}
+
+/// An option with a number.
+fn number_option<'a>(alloc: Global, name: &'static str, number: Number) -> Arg<'a> {
+    option(alloc, name, number.value, ArgAction::Set)
+        .value_parser(clap::value_parser!(u32).range(number.least..=1_000_000_000))
+        .default_value(number.usual)
+}
+
+/// An option with how much of 100.
+fn percent_option<'a>(alloc: Global, name: &'static str) -> Arg<'a> {
+    option(alloc, name, "PERCENT", ArgAction::Set).value_parser(clap::value_parser!(u32).range(
+        0..=100,
+    ))
+}
+
+/// The option of a format.
+fn format_option<'a>(alloc: Global, name: &'static str) -> Arg<'a> {
+    option(alloc, name, "FORMAT", ArgAction::Set)
+        .value_parser(["text", "gcc", "json"].as_slice())
+        .default_value("text")
+}
+
+/// The word at a place.
+fn place<'a>(alloc: Global, name: &'static str, is_needed: bool) -> Arg<'a> {
+    Arg::new(alloc, name)
+        .required(is_needed)
+        .action(ArgAction::Set)
+}
+
+/// All words from a place on.
+fn places<'a>(alloc: Global, name: &'static str) -> Arg<'a> {
+    Arg::new(alloc, name)
+        .required(true)
+        .num_args(1usize..)
+        .action(ArgAction::Append)
+}
+
+/// An argument as `clap` has it.
+fn made_argument<'a>(alloc: Global, argument: Argument) -> Arg<'a> {
+    let Argument { name, takes, help } = argument;
+    let made = match takes {
+        Takes::Nothing => flag(alloc, name),
+        Takes::Text(value) => option(alloc, name, value, ArgAction::Set),
+        Takes::Texts(value) => option(alloc, name, value, ArgAction::Append),
+        Takes::Behind(option) => text_behind(alloc, name, option, name, ArgAction::Set),
+        Takes::Number(of) => number_option(alloc, name, of),
+        Takes::Percent => percent_option(alloc, name),
+        Takes::Format => format_option(alloc, name),
+        Takes::Place => place(alloc, name, true),
+        Takes::MaybePlace => place(alloc, name, false),
+        Takes::Places => places(alloc, name),
+    };
+    made.help(help)
+}
+
+/// `--help`, and `-h`, which is no letter of the language's options. `clap` would add one with a text of its own.
+fn help_argument<'a>(alloc: Global) -> Arg<'a> {
+    Arg::new(alloc, "help")
+        .short('h')
+        .long("help")
+        .action(ArgAction::Help)
+        .help("Print this help")
+}
+
+/// The command of a word with these texts, without arguments.
+fn bare<'a>(alloc: Global, texts: &Texts) -> Command<'a> {
+    Command::new(alloc, "snl")
+        .no_binary_name(true)
+        .disable_help_flag(true)
+        .override_usage(texts.usage)
+        .about(texts.about)
+        .after_help(texts.more)
+}
+
+/// Adds arguments to a command.
+fn with_all<'a>(
+    alloc: Global,
+    command: Command<'a>,
+    arguments: &[Argument],
+) -> Result<Command<'a>, AllocError> {
+    let mut command = command;
+    for one in arguments {
+        command = command.arg(made_argument(alloc, *one))?;
+    }
+    Ok(command)
+}
+
+/// The command of a word with these texts and arguments, those of both lists, and `--help`.
+pub(crate) fn command_of<'a>(
+    alloc: Global,
+    texts: &Texts,
+    first: &[Argument],
+    own: &[Argument],
+) -> Result<Command<'a>, AllocError> {
+    let command = with_all(alloc, bare(alloc, texts), first)?;
+    with_all(alloc, command, own)?.arg(help_argument(alloc))
+}

@@ -1,0 +1,68 @@
+//! What follows the word `same`: the other program, and what of the outputs is compared.
+
+use crate::arguments::{Argument, MACROS, Takes};
+use crate::words::all_owned;
+use clap::ArgMatches;
+use snc_args::Job;
+use std::alloc::{AllocError, Global};
+
+/// What a comparison is asked for.
+#[derive(Drop)]
+pub struct SameWords {
+    /// The other program, with the options, the macros and the budget of the call.
+    pub new: Job,
+    /// Whether puts alone are compared, the last to each channel at each time.
+    pub puts_only: bool,
+    /// The channels whose puts are left out.
+    pub but: Vec<String>,
+    /// Whether each difference is told.
+    pub is_whole: bool,
+}
+
+/// What `same` takes beside what each run takes.
+pub(crate) const OF_SAME: [Argument; 6] = [
+    Argument {
+        name: "OLD",
+        takes: Takes::Place,
+        help: "The file of one program",
+    },
+    Argument {
+        name: "NEW",
+        takes: Takes::Place,
+        help: "The file of the other one",
+    },
+    MACROS,
+    Argument {
+        name: "but",
+        takes: Takes::Texts("CHANNEL"),
+        help: "A channel whose puts are left out; several add up",
+    },
+    Argument {
+        name: "puts",
+        takes: Takes::Nothing,
+        help: "Compare puts alone, the last to each channel at each time",
+    },
+    Argument {
+        name: "whole",
+        takes: Takes::Nothing,
+        help: "Tell each difference, and not the first alone",
+    },
+];
+
+/// What a comparison is asked for, as the command found it.
+pub(crate) fn same_words(
+    alloc: Global,
+    matches: &ArgMatches,
+    new: Job,
+) -> Result<SameWords, AllocError> {
+    let but = match matches.get_strs("but") {
+        Some(names) => all_owned(alloc, names)?,
+        None => Vec::new(alloc),
+    };
+    Ok(SameWords {
+        new,
+        puts_only: matches.get_flag("puts"),
+        but,
+        is_whole: matches.get_flag("whole"),
+    })
+}
