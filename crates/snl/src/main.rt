@@ -5,6 +5,7 @@
 
 mod asked;
 mod checking;
+mod comparing;
 mod covering;
 mod graphing;
 mod input;
@@ -14,7 +15,9 @@ mod outputs;
 mod overhearing;
 mod run;
 mod searching;
+mod sets;
 mod sources;
+mod trace_programs;
 mod traces;
 mod tracing;
 mod trees;
@@ -22,12 +25,14 @@ mod waiting;
 
 use asked::Asked;
 use checking::check_lints;
+use comparing::answered_same;
 use covering::answered_cover;
 use graphing::answered_graph;
 use macros::{check_macros, notes_of};
 use outputs::check_outputs;
 use run::answered_run;
 use searching::answered_search;
+use sets::answered_sets;
 use snc::Status;
 use snc_cli::{source_in, tell, words_of, write};
 use snl_args::{Call, CallFault, Word, read_call};
@@ -71,7 +76,7 @@ fn check_words(rt: &HostRuntime, call: &Call) -> Result<(), Status> {
         Word::Check(words) => check_lints(rt, words),
         Word::Trace(words) => check_times(rt, words),
         Word::Waits | Word::Run(_) | Word::Cover(_) | Word::Graph(_) => Ok(()),
-        Word::Tree => Ok(()),
+        Word::Tree | Word::Sets(_) | Word::Same(_) => Ok(()),
     }
 }
 
@@ -98,7 +103,8 @@ fn told(rt: &HostRuntime, fault: &CallFault) -> Status {
 fn answered(rt: &HostRuntime, call: &Call, begun: Option<Instant>) -> u8 {
     match &call.word {
         Word::Check(words) => answered_checks(rt, call, words).code(),
-        Word::Trace(words) => code_of(answered_trace(rt, words)),
+        Word::Trace(words) => code_of(answered_trace(rt, call, words)),
+        Word::Same(words) => code_of(answered_same(rt, call, words)),
         _ => answered_program(rt, call, begun),
     }
 }
@@ -139,7 +145,9 @@ fn answered_word(rt: &HostRuntime, asked: Asked, begun: Option<Instant>) -> u8 {
         Word::Graph(no_trace) => code_of(answered_graph(rt, asked, *no_trace)),
         Word::Search(words) => answered_search(rt, asked, words, begun),
         Word::Tree => code_of(answered_tree(rt, asked)),
+        Word::Sets(declares) => code_of(answered_sets(rt, asked, *declares)),
         Word::Check(words) => answered_checks(rt, asked.call, words).code(),
-        Word::Trace(words) => code_of(answered_trace(rt, words)),
+        Word::Same(words) => code_of(answered_same(rt, asked.call, words)),
+        Word::Trace(words) => code_of(answered_trace(rt, asked.call, words)),
     }
 }

@@ -1,9 +1,13 @@
 //! `snl trace`: logs in files, written as a trace.
 
+use crate::trace_programs::{Traced, traced_program};
 use snc::Status;
 use snc_cli::{Lines, Outlet, source_in, tell};
-use snl_args::{NamedNumber, NamedText, TraceWords};
-use snl_import::{ChannelNumber, ChannelText, Feed, ImportError, Imported, Wishes, import};
+use snl_args::{Call, NamedNumber, NamedText, TraceWords};
+use snl_import::{
+    AnyProgram, ChannelNumber, ChannelText, Feed, ImportError, Imported, LoadedProgram, Program,
+    Wishes, import,
+};
 use snl_logs::moment_of;
 use snl_units::{ChannelUnits, UnitsFault, units_of};
 use std::alloc::{AllocError, Global};
@@ -130,6 +134,7 @@ fn wishes_of(
     units: Vec<ChannelUnits>,
 ) -> Result<Wishes, AllocError> {
     Ok(Wishes {
+        program: None,
         units,
         scales: numbers(alloc, words.scales.as_slice())?,
         texts: texts(alloc, words.texts.as_slice())?,
@@ -215,33 +220,60 @@ fn told_import(rt: &HostRuntime, imported: &Imported) -> Status {
     }
 }
 
-/// Writes logs as a trace to standard output.
-fn written(
+/// Writes logs as a trace of a program to standard output.
+fn written<P: Program + Drop>(
     rt: &HostRuntime,
     words: &TraceWords,
     wishes: &Wishes,
+    program: P,
     feeds: &mut [LogFeed],
-) -> Result<Status, Status> {
+) -> Result<Imported, Status> {
     let outlet = Outlet::new(rt.stdout());
     let Ok(writer) = BufWriter::with_capacity(rt.alloc(), OUTPUT_HELD, outlet) else {
         return Err(Status::Memory);
     };
     let mut lines = Lines::new(writer);
-    let imported = import(rt.alloc(), wishes, feeds, &mut lines);
+    let imported = import(rt.alloc(), wishes, program, feeds, &mut lines);
     let finished = lines.finish();
     match imported {
         Ok(_) if finished.is_err() => Err(Status::InputOutput),
-        Ok(imported) => Ok(told_import(rt, &imported)),
+        Ok(imported) => Ok(imported),
         Err(fault) => Err(told_fault(rt, words, fault)),
     }
 }
 
+/// Writes logs as a trace of a program that is loaded. The messages about it stand in front of what there is to tell of the logs.
+fn written_for(
+    rt: &HostRuntime,
+    words: &TraceWords,
+    wishes: Wishes,
+    traced: Traced,
+) -> Result<Status, Status> {
+    let Traced {
+        machine,
+        program,
+        messages,
+    } = traced;
+    let mut wishes = wishes;
+    wishes.program = Some(program);
+    let mut feeds = feeds_of(rt, words)?;
+    let program = LoadedProgram::new(machine.as_ref());
+    let imported = written(rt, words, &wishes, program, feeds.as_mut_slice());
+    tell(rt, messages.as_slice());
+    Ok(told_import(rt, &imported?))
+}
+
 /// `snl trace`.
-pub fn answered_trace(rt: &HostRuntime, words: &TraceWords) -> Result<Status, Status> {
+pub fn answered_trace(rt: &HostRuntime, call: &Call, words: &TraceWords) -> Result<Status, Status> {
     let units = units_for(rt, words)?;
     let Ok(wishes) = wishes_of(rt.alloc(), words, units) else {
         return Err(Status::Memory);
     };
+    if words.has_program {
+        let traced = traced_program(rt, call)?;
+        return written_for(rt, words, wishes, traced);
+    }
     let mut feeds = feeds_of(rt, words)?;
-    written(rt, words, &wishes, feeds.as_mut_slice())
+    let imported = written(rt, words, &wishes, AnyProgram, feeds.as_mut_slice())?;
+    Ok(told_import(rt, &imported))
 }
