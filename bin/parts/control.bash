@@ -33,8 +33,9 @@ Description: dry runs of EPICS sequencer programs on recorded data
  showed (coverage), and tries short traces for one that breaks it (bounded model
  checking, with a counterexample).
  .
- The scripts snl-plot, snl-port, snl-record and snl-live draw a run, port a
- program, record a trace, and run a program beside a control system.
+ The scripts snl-plot, snl-port, snl-dry-run, snl-record and snl-live draw a
+ run, port a program, make a page of a program and its logs, record a trace,
+ and run a program beside a control system.
 END
 }
 

@@ -22,6 +22,7 @@ ROOT = Path(__file__).resolve().parent.parent.parent
 SCRIPTS = {
     "snl-plot": ("plot", "snl-plot interlock.st < interlock.trace > run.html"),
     "snl-port": ("port", "snl-port --sketch pump.i > pump.st"),
+    "snl-dry-run": ("dry-run", "snl-dry-run --keep monday pump.st monday.log > monday.html"),
     "snl-record": ("epics/record.py", "snl-record --program light.st > light.trace"),
     "snl-live": ("epics/live.py", "snl-live --keep light.trace -- snlrun light.st"),
 }
