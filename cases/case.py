@@ -30,6 +30,8 @@ class Case:
     tool: str = "snlrun"
     # Programs that are named to it in front of the words, as `--snc PATH`.
     named: tuple = ()
+    # The text of q.st, where a call names two programs.
+    other: "bytes | None" = None
 
     def failure(self, programs):
         """Runs the case; None where all is as it has to be, else what is not."""
@@ -73,6 +75,8 @@ class Case:
     def run(self, program, front=()):
         with tempfile.TemporaryDirectory(prefix="snlrun-") as folder, contextlib.ExitStack() as opened:
             Path(folder, "p.st").write_bytes(self.source)
+            if self.other is not None:
+                Path(folder, "q.st").write_bytes(self.other)
             how = {"stdout": subprocess.PIPE, "stderr": subprocess.PIPE, "cwd": folder, "timeout": SECONDS}
             if isinstance(self.trace, Path):
                 how["stdin"] = os.open(self.trace, os.O_RDONLY)

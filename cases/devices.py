@@ -56,6 +56,7 @@ WORDS = (
     Word("snl", ["waits", "p.st"], r"began at 1 \(line 2\)\n", ("began at 1 (line 2)\n", "", 0), ("", "")),
     Word("snl", ["run", "p.st"], re.escape(NOTED + MORE + END), (NOTED + BROKEN, "", 3), (UNREAD, "")),
     Word("snl", ["run", "--whole", "p.st"], re.escape(NOTED + MORE + END), (NOTED + BROKEN, "", 3), (UNREAD, "")),
+    Word("snl", ["same", "p.st", "p.st"], "the same over 5 lines of the trace: 6 lines, 0 puts\n", ("", "", 3), ("", "")),
     Word("snl", ["cover", "p.st"], "2 of 2 clauses taken, 2 of 2 states entered, 0 of 0 channels put\n", ("", "", 3), ("", "")),
     Word("snl", ["graph", "p.st"], r'digraph "p" .*"s.a" -> "s.b" \[label="1: x > 1\\n2x"\];.*"s.b" -> "s.a" \[label="1: x < 1\\n1x"\];.*\}\n', ("", "", 3), ("", "")),
     Word("snl", ["search", "--lines", "1", "--like", "/dev/stdin", "p.st"], r"starts: 1; X 0\n.*none up to 1 line .*\n", None, ("", SAID)),

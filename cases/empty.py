@@ -44,7 +44,6 @@ WITHOUT = {
     "scripts/editors: the kept files": "it tries scripts/editors alone",
     "editors/: both syntax files": "it reads files of editors/ and docs/",
     "scripts/port --snc= ": "it tries scripts/port, which is told to ask no snc",
-    "| examples/camonitor.py ": "it tries examples/camonitor.py alone",
 }
 # Of a case over many sources so many are taken.
 SOURCES = 400
@@ -95,10 +94,12 @@ def copied(case):
 
 
 def shown(case):
-    """The answer of `cat`: the files of the call, of which there is the source alone; standard input where none is named."""
+    """The answer of `cat`: the files of the call, of which there are the sources alone; standard input where none is named."""
     if any(it.startswith(b"-") and it != b"-" for it in case.words):
         return 1, b"", b"cat: an option\n"
     texts = {b"p.st": case.source, b"-": given(case)}
+    if case.other is not None:
+        texts[b"q.st"] = case.other
     missing = [it for it in case.words if it not in texts]
     said = b"".join(b"cat: %s: No such file or directory\n" % it for it in missing)
     return int(bool(missing)), b"".join(texts.get(it, b"") for it in case.words or [b"-"]), said

@@ -1,7 +1,6 @@
 """Reads cases from their files. README.md has the form of these."""
 import re
 import subprocess
-import sys
 from pathlib import Path
 
 from case import ANY, Case
@@ -32,7 +31,7 @@ def cases(file):
         for words, text in parted(body, b"--"):
             name, _, more = words.partition(" ")
             sections[name] = (more, text.rstrip(b"\n") + b"\n" if text.strip() else b"")
-        unknown = set(sections) - {"p.st", "trace", "stdout", "stderr", "status", "args", "rows", "tool"}
+        unknown = set(sections) - {"p.st", "q.st", "trace", "stdout", "stderr", "status", "args", "rows", "tool"}
         if unknown:
             raise SystemExit(f"{file.name}: {title}: no section is called {', '.join(sorted(unknown))}")
         source = sections.get("p.st", ("", source))[1]
@@ -52,6 +51,8 @@ def cases_of_sections(name, source, sections):
     for stream in ("stdout", "stderr"):
         if sections.get(stream, ("",))[0] == "any":
             made[stream] = ANY
+    if "q.st" in sections:
+        made["other"] = plain(sections["q.st"][1])
     if "tool" in sections:
         made["tool"] = sections["tool"][0]
     if made.get("tool") == "port":
@@ -151,13 +152,13 @@ def not_on_its_page(root):
                 yield f"FAILED {name}: it has not what {it}.out has"
 
 
-def not_from_log(root):
-    """A log of an example, of which the script makes another trace than the one that stands beside it."""
-    script = root / "examples/camonitor.py"
+def not_from_log(root, programs):
+    """A log of an example, of which `snl trace` makes another trace than the one that stands beside it, but for comments."""
     logs = sorted(root.glob("examples/*.log"))
     failures = [] if logs else ["FAILED examples: there is no log"]
     for log in logs:
-        made = subprocess.run([sys.executable, script], input=log.read_bytes(), stdout=subprocess.PIPE).stdout
-        if made != log.with_suffix(".trace").read_bytes():
-            failures.append(f"FAILED examples/{log.name}: camonitor.py makes another trace of it")
+        made = subprocess.run([programs["snl"], "trace", "--lead", "60", log], capture_output=True).stdout
+        lines = [it for it in made.splitlines(keepends=True) if it[:1] != b"#"]
+        if b"".join(lines) != log.with_suffix(".trace").read_bytes():
+            failures.append(f"FAILED examples/{log.name}: snl trace makes another trace of it")
     return failures

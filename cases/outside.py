@@ -106,7 +106,7 @@ def not_whole(root, prefix, manual=".1", left=()):
 
 def helps(prefix):
     """Each command with its call, and each word of snl as its page is named, with its call."""
-    commands = ("snlc", "snlrun", "snl", "snl-plot", "snl-port", "snl-record", "snl-live")
+    commands = ("snlc", "snlrun", "snl", "snl-plot", "snl-port", "snl-dry-run", "snl-record", "snl-live")
     words = re.findall(r"^  (\w+) +[A-Z]", called(prefix / "bin/snl", "--help"), re.MULTILINE)
     found = {it: [prefix / "bin" / it] for it in commands}
     return {**found, **{f"snl-{it}": [prefix / "bin/snl", it] for it in words}}

@@ -8,7 +8,7 @@ PRINTED = re.compile(r"^channel comes back at 2400\. That version printed\n\n```
 MIRROR = (" int open; assign open; monitor open;", " open = valve; pvPut(open);")
 BEFORE = re.compile(r"^when \(pressure > 500\) .*\n", re.MULTILINE)
 # Lines at most, and the last line of the search that finds nothing: what the README quotes has to stand on the page of the search.
-LINES, MENDS = 180, re.compile(r"`(none up to \d+ lines \(.*?\))`")
+LINES, MENDS = 180, re.compile(r"`((?:none up to \d+ lines|never) \(.*?\))`")
 # A row of the figures: what is measured, how much that is, and the script of bench/ that measures it.
 FIGURE = re.compile(r"^\| (.*) \| (.*) \| `(\w+\.(?:sh|py))` \|$", re.MULTILINE)
 NUMBER = re.compile(r"\d[\d,]*(?:\.\d+)?")

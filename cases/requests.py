@@ -94,6 +94,8 @@ CALLS = (
     Call("snl", ["waits", "+s", "waiting.st", "A=1"], 1, 100, 3),
     Call("snl", ["cover", "--fail-under", "100", "r.st"], 1, 100, 1),
     Call("snl", ["graph", "warned.st"], 0, 100, 2),
+    Call("snl", ["same", "r.st", "functions.st", "A=1"], 1, 100, 1),
+    Call("snl", ["same", "r.st", "warned.st"], 0, 100, 2),
     Call("snl", ["wait", "r.st"], 2, 5, 6),
     Call("snl", ["run", "r.st"], 0, 100, 6),
     Call("snl", ["run", "--budget", "40", "valve.st"], 5, 300, 3),

@@ -16,7 +16,7 @@ SLOW = (
     "search.cases: a dwell of 0",
     "search.cases: the trace that is written",
     "search.cases: a trace that cannot be written",
-    "bin/snl search --never watch.bad examples/interlock-watched.st",
+    "bin/snl search --lines 100 --never watch.bad examples/interlock-watched.st",
     "definitions: all cases by the definitions",
 )
 
