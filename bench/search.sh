@@ -31,5 +31,5 @@ measure() {
     tail -n 1 "$work/certain.out" | sed 's/^/  /'
 }
 
-measure examples/interlock.st "${INTERLOCK:-40}" 25
+measure examples/shutter.st "${SHUTTER:-10000}" 10
 measure examples/ramp.st "${RAMP:-12}" 25
