@@ -40,6 +40,7 @@ def cases(root):
         ("a program that is taken as it is", lambda *it: plain(root, *it)),
         ("macros of the call, in the units too", lambda *it: with_macros(root, *it)),
         ("a value that no log has", lacking),
+        ("values of which nothing is left, texts without numbers, a trace in the place of a log", advising),
         ("a program that faults, and one that has an error of its own", failing),
         ("words that are wrong, files that are there and are not", wrong),
         ("an output that is closed or full", unwritten),
@@ -122,6 +123,23 @@ int z; assign z to "Z";
 ss s { state a { when (x > 0) { z = 6 / y; pvPut(z); } state b } state b { when (x < 0) {} exit } }
 """
 DAY = "X 2026-03-02 09:15:00.100000 0\nX 2026-03-02 09:15:01.100000 5\n"
+
+
+def advising(programs, folder):
+    (folder / "p.st").write_text(SOURCE)
+    (folder / "log").write_text("X 2026-03-02 09:15:00.100000 0.3\nX 2026-03-02 09:15:01.100000 0.4\nY 2026-03-02 09:15:00.100000 Off\n")
+    (folder / "day.trace").write_text("# written by hand\n0 up X\n")
+    logs = r"dry-run: logs: lines: 3; values: 3, 2 written, 1 without a number; rounded: 2 of X"
+    keeps = "--scale NAME=K keeps K digits"
+    lacks = rf"dry-run: lacks: Y to have a value, digits: each value of X became 0; {keeps}; texts get numbers by --enum 'Y=Off:N'"
+    first = r"dry-run: program: p\.st as it is", "dry-run: by hand: nothing"
+    wrong = differs(call(programs, folder, "p.st", "log"), 1, *first, logs, lacks, "dry-run: run: the program never began")
+    (folder / "p.st").write_text(SOURCE.replace("x > 0", "xx > 0"))
+    mistake = r"dry-run: by hand: 1 place that does nothing in this run: line 6: 'xx' is not declared: .*; is that a mistake\? snl check says more"
+    found = call(programs, folder, "p.st", "log")
+    wrong = wrong or ("" if re.fullmatch(mistake, found[2][1]) else f"{found[2]}")
+    said = r"dry-run: day\.trace is a trace, and no log: snl run p\.st < day\.trace"
+    return wrong or differs(call(programs, folder, "p.st", "day.trace"), 2, said)
 
 
 def lacking(programs, folder):

@@ -36,6 +36,8 @@ class Day:
         self.program, self.units, self.by_hand = given.file, given.units, []
         if not Path(given.file).exists():
             raise Failed([f"dry-run: there is no file {given.file}"], 3)
+        for log in filter(is_trace, given.logs):
+            raise Failed([f"dry-run: {log} is a trace, and no log: snl run {given.file} < {log}"], 2)
         folder.mkdir(parents=True, exist_ok=True)
         if given.keep:
             self.make_room()
@@ -62,12 +64,14 @@ class Day:
             raise Failed(lines_of(refused.stderr), refused.returncode)
         notes = self.port(refused) if refused.returncode else []
         tell([told.program(self.given.file, lines_of(refused.stderr), notes), told.by_hand(self.by_hand)])
-        tell([told.logs(self.trace())])
+        said, is_ported = self.trace(), self.program != self.given.file
+        gone = told.vanished(said, self.path("trace"))
+        tell([told.logs(said, "" if gone else told.digits(is_ported))])
         status = self.run()
         ending = told.Ending(self.path("run"))
-        tell([ending.lacks(), ending.run()])
+        tell([ending.lacks(said, gone, is_ported), ending.run()])
         self.draw()
-        return status or (1 if self.by_hand or not ending.has_begun else 0)
+        return status or (1 if self.by_hand or gone or not ending.has_begun else 0)
 
     def called(self, call: list, **streams) -> subprocess.CompletedProcess:
         """Runs a program to its end. What it writes is kept where no file takes it."""
@@ -88,7 +92,10 @@ class Day:
         self.path("notes").write_bytes(ported.stderr)
         again = self.called([self.snc, *self.given.options, self.path("st")])
         if again.returncode:
-            raise Failed([*lines_of(refused.stderr), f"dry-run: snc refuses {self.given.file}, and its port too:", *lines_of(again.stderr)], 1)
+            said = [it.replace(str(self.path("st")), f"port of {self.given.file}") for it in lines_of(again.stderr)]
+            if any(it.endswith(".st") for it in self.given.logs):
+                said.append("dry-run: the program comes first, and its logs behind it")
+            raise Failed([*lines_of(refused.stderr), f"dry-run: snc refuses {self.given.file}, and its port too:", *said], 1)
         self.program = self.path("st")
         self.units = self.units or self.path("units")
         return notes
@@ -138,6 +145,15 @@ class Day:
             ran = self.called(call, stdin=trace, stdout=page)
         if ran.returncode not in DRAWN:
             raise Failed(lines_of(ran.stderr), ran.returncode if ran.returncode > 0 else 3)
+
+
+def is_trace(log: str) -> bool:
+    """Whether the first line of a file that is no comment is that of a trace. A log has a date there, or a name."""
+    if not Path(log).is_file():
+        return False
+    with open(log, "rb") as lines:
+        first = next((it for it in (line.decode("latin-1") for line in lines) if not it.startswith("#")), "")
+    return bool(re.match(r"\d+ (?:(?:up|down|val|done) |tick\b)", first))
 
 
 def scales_of(words: list) -> list:

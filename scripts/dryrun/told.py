@@ -13,6 +13,10 @@ STANDS = re.compile(r"# (\S+ in \S+ since \d+) \(.*")
 COUNTS = re.compile(r"# (\d+ transitions?, .*)")
 BAD = re.compile(r"# bad line (\d+)")
 ROUNDED = re.compile(r"(?:snl: )?(\S+): rounded: (\d+); .*")
+NO_NUMBER = re.compile(r"(?:snl: )?(\S+): no number: .*?; (--enum '.*') gives.*")
+VALUES = re.compile(r"\d+ val (\S+) (.*)")
+# What may be a mistake of the program, and nothing that a port leaves.
+MISTAKE = re.compile(r"by hand: '.*' (?:instead of '|is not declared)")
 # So much of the end of a run is looked at, and so many things are named.
 END, MOST = 1 << 16, 3
 
@@ -43,7 +47,9 @@ def by_hand(notes: list) -> str:
     if not notes:
         return "dry-run: by hand: nothing"
     places = [f"line {it[1]}: {it[2]}" for it in map(BY_HAND.search, notes) if it]
-    return f"dry-run: by hand: {many(len(places), 'place')} that {'does' if len(places) == 1 else 'do'} nothing in this run: {listed(places, '; ')}"
+    mistake = "; is that a mistake? snl check says more" if any(map(MISTAKE.search, notes)) else ""
+    do = "does" if len(places) == 1 else "do"
+    return f"dry-run: by hand: {many(len(places), 'place')} that {do} nothing in this run: {listed(places, '; ')}{mistake}"
 
 
 def note(file: str, notes: list) -> str:
@@ -55,13 +61,29 @@ def note(file: str, notes: list) -> str:
     return f"A sketch: {Path(file).name} was ported for this run, and what is left by hand, in {where}, does nothing in it."
 
 
-def logs(said: list) -> str:
-    """What the logs gave: the last line that was said of them counts all. What was rounded is named."""
+def digits(is_ported: bool) -> str:
+    """What keeps more digits: of a port its units, which the trace and the program have alike."""
+    return "--unit QUANTITY=K keeps K digits, --finer D keeps D more" if is_ported else "--scale NAME=K keeps K digits"
+
+
+def vanished(said: list, trace: Path) -> list:
+    """The channels of which values were rounded and nothing is left: each value is 0."""
+    rounded = {it[1] for it in map(ROUNDED.fullmatch, said) if it}
+    left = set(rounded)
+    with open(trace, encoding="latin-1") as lines:
+        for it in map(VALUES.fullmatch, (line.rstrip() for line in lines) if rounded else ()):
+            if it and it[1] in left and set(it[2].split()) != {"0"}:
+                left.discard(it[1])
+    return sorted(left)
+
+
+def logs(said: list, more: str) -> str:
+    """What the logs gave: the last line that was said of them counts all. What was rounded is named, with what keeps more of it."""
     if not said:
         return "dry-run: logs: nothing was said of them"
     rounded = [f"{it[2]} of {it[1]}" for it in map(ROUNDED.fullmatch, said) if it]
-    more = f"; rounded: {listed(rounded)}; --scale NAME=K keeps K digits" if rounded else ""
-    return f"dry-run: logs: {said[-1].removeprefix('snl: ')}{more}"
+    told = f"; rounded: {listed(rounded)}{more and '; '}{more}" if rounded else ""
+    return f"dry-run: logs: {said[-1].removeprefix('snl: ')}{told}"
 
 
 class Ending:
@@ -79,13 +101,19 @@ class Ending:
         """The lines of a form."""
         return [it for it in map(pattern.fullmatch, self.lines) if it]
 
-    def lacks(self) -> str:
-        """What the program lacked to begin, and the words that give it."""
+    def lacks(self, said: list, gone: list, is_ported: bool) -> str:
+        """What the program lacked to begin, and the words that give it; or what is left of nothing."""
         waits = [] if self.has_begun else [it[1] for it in self.found(WAITS)]
+        if gone:
+            waits.append(f"digits: each value of {listed(gone)} became 0; {digits(is_ported)}")
         if not waits:
             return "dry-run: lacks: nothing"
+        texts = {it[1]: it[2] for it in map(NO_NUMBER.fullmatch, said) if it}
         values = [it[1] for it in map(NO_VALUE.fullmatch, waits) if it]
-        words = f"; a first value is given by {' '.join(f'--value {it}=N' for it in values[:MOST])}" if values else ""
+        first = [it for it in values if it not in texts]
+        words = f"; a first value is given by {' '.join(f'--value {it}=N' for it in first[:MOST])}" if first else ""
+        named = [texts[it] for it in values if it in texts]
+        words += f"; texts get numbers by {' '.join(named[:MOST])}" if named else ""
         return f"dry-run: lacks: {listed(waits)}{words}"
 
     def run(self) -> str:

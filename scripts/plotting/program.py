@@ -11,7 +11,7 @@ LINK = re.compile(r'channel (\S+) (\d+) (\d+) "(.*)" (\S+) (\S+) (\d+)')
 CLAUSE = re.compile(r"when (\d+) (?:state (\S+)|(exit))")
 PUT = re.compile(r"\bpvPut\s*\(\s*(\w+)\b(?=[^;]*?,\s*ASYNC\s*\))")
 # A number with the name of its constant, its text, or what it was before a port, as a comment behind it; the pieces of a source.
-NAMED = re.compile(r'-?\b\d\w* /\*("(?:[^"\\\n]|\\.)*"|[A-Za-z_]\w*|-?\d+\.?\d*(?:[eE][+-]?\d+)?)\*/')
+NAMED = re.compile(r'-?\b\d[\w.]* /\*("(?:[^"\\\n]|\\.)*"|[A-Za-z_]\w*|-?\d+\.?\d*(?:[eE][+-]?\d+)?)\*/')
 PIECE = re.compile(r'"(?:[^"\\\n]|\\.)*"|/\*.*?\*/|//[^\n]*|\w+|\s+|.', re.DOTALL)
 EXIT = "exit"
 

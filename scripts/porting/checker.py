@@ -6,7 +6,7 @@ from pathlib import Path
 from typing import Optional
 
 # Where the program stands from the folder of the script in this repository, once it is built.
-BUILT = ("../crates/snc_main/out/snc", "../crates/snc_main/out/snc_main")
+BUILT = ("../crates/snc_main/out/snc", "../crates/snc_main/out/snc_main", "../crates/snc_main/out/try/snc")
 # The folder of the script where it is installed, and where the program stands then.
 INSTALLED, PROGRAM = "lib/snlrun", "bin/snc"
 SECONDS = 60
