@@ -128,12 +128,20 @@ PORT_SHOWN = (
 )  # fmt: skip
 
 
+SETTLE = """program q option +s; int t; assign t to "T"; monitor t;
+ss s { state a { when (delay(2.5 /*SETTLE*/)) {} state b } state b { when (t > 9) {} state a } }
+"""
+
+
 def ported(programs, folder):
-    """Of a channel whose variables have different units the numbers stay."""
+    """Of a channel whose variables have different units the numbers stay. A decimal has its name, too."""
     (folder / "p.st").write_text(PORT)
+    (folder / "q.st").write_text(SETTLE)
     status, stdout, stderr = call(programs, folder, "p.st", input=PORT_TRACE)
     page = stdout.decode()
     missing = [it for it in PORT_SHOWN if it not in page]
+    waits = call(programs, folder, "q.st", input=b"0 up T\n0 val T 0\n3000 tick\n")[1]
+    missing += [] if b"when delay(SETTLE)" in waits else ["delay(SETTLE)"]
     return f"{missing} is not there: {stderr.decode()}" if status or missing else ""
 
 
