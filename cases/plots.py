@@ -313,7 +313,7 @@ MOST_BYTES = 150_000
 def pictures(root):
     found = sorted(root.glob("docs/*.png"))
     large = [it.name for it in found if it.stat().st_size >= MOST_BYTES]
-    return f"{large} are too large" if large else "" if len(found) == 3 else f"there are {len(found)}"
+    return f"{large} are too large" if large else "" if len(found) == 4 else f"there are {len(found)}"
 
 
 # So many lines, over which so many kilobytes of memory may be taken; and what the page says of them. Linux counts for a process what the one had that started
