@@ -40,7 +40,7 @@ def cases(root):
         ("a program that is taken as it is", lambda *it: plain(root, *it)),
         ("macros of the call, in the units too", lambda *it: with_macros(root, *it)),
         ("a value that no log has", lacking),
-        ("values of which nothing is left, texts without numbers, a trace in the place of a log", advising),
+        ("values of which nothing is left, texts without numbers, a trace in the place of a log", lambda *it: advising(root, *it)),
         ("a program that faults, and one that has an error of its own", failing),
         ("words that are wrong, files that are there and are not", wrong),
         ("an output that is closed or full", unwritten),
@@ -125,7 +125,7 @@ ss s { state a { when (x > 0) { z = 6 / y; pvPut(z); } state b } state b { when 
 DAY = "X 2026-03-02 09:15:00.100000 0\nX 2026-03-02 09:15:01.100000 5\n"
 
 
-def advising(programs, folder):
+def advising(root, programs, folder):
     (folder / "p.st").write_text(SOURCE)
     (folder / "log").write_text("X 2026-03-02 09:15:00.100000 0.3\nX 2026-03-02 09:15:01.100000 0.4\nY 2026-03-02 09:15:00.100000 Off\n")
     (folder / "day.trace").write_text("# written by hand\n0 up X\n")
@@ -138,6 +138,8 @@ def advising(programs, folder):
     mistake = r"dry-run: by hand: 1 place that does nothing in this run: line 6: 'xx' is not declared: .*; is that a mistake\? snl check says more"
     found = call(programs, folder, "p.st", "log")
     wrong = wrong or ("" if re.fullmatch(mistake, found[2][1]) else f"{found[2]}")
+    found = call(programs, folder, "--macros", "Q=1", root / "examples/light.st", root / "examples/light.log")
+    wrong = wrong or ("" if found[2][2].endswith("; the source uses no macro 'Q'") else f"{found[2]}")
     said = r"dry-run: day\.trace is a trace, and no log: snl run p\.st < day\.trace"
     return wrong or differs(call(programs, folder, "p.st", "day.trace"), 2, said)
 

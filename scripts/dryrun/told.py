@@ -83,7 +83,8 @@ def logs(said: list, more: str) -> str:
         return "dry-run: logs: nothing was said of them"
     rounded = [f"{it[2]} of {it[1]}" for it in map(ROUNDED.fullmatch, said) if it]
     told = f"; rounded: {listed(rounded)}{more and '; '}{more}" if rounded else ""
-    return f"dry-run: logs: {said[-1].removeprefix('snl: ')}{told}"
+    notes = "".join(f"; {it.removeprefix('snl: note: ')}" for it in said if it.startswith("snl: note: "))
+    return f"dry-run: logs: {said[-1].removeprefix('snl: ')}{told}{notes}"
 
 
 class Ending:
