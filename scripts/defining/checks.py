@@ -47,6 +47,8 @@ NEEDED = (
     TABLES,
 )  # fmt: skip
 DEEPEST, MOST_WORDS = 64, 65_536
+# A source of more bytes is too long, whatever stands in it: `FaultHolds` of `Lexing`.
+MOST_BYTES = 1_048_576
 SIGNS = {"Less": -1, "Equal": 0, "Greater": 1}
 
 
@@ -78,7 +80,10 @@ class Checker:
 
     def reading(self, source):
         """What is read of a source: at each place the lexeme that stands there is taken. There is one at most, so no other cut goes further."""
-        call, read, rest = self.runner.call, self.runner.call(NOTHING_READ), listed(list(source))
+        call, read = self.runner.call, self.runner.call(NOTHING_READ)
+        if len(source) > MOST_BYTES:
+            raise self.faulty(read, ("SourceTooLong", read.pos))
+        rest = listed(list(source))
         while rest != NIL:
             found = call(LEXEME, read.opens_line, rest)
             if found == NONE:
@@ -92,7 +97,10 @@ class Checker:
 
     def no_tokens(self, read, rest):
         """Why nothing stands at the front of a rest."""
-        fault = self.runner.call(FAULT, self.runner.call(FLAW, rest), read.pos)
+        return self.faulty(read, self.runner.call(FAULT, self.runner.call(FLAW, rest), read.pos))
+
+    def faulty(self, read, fault):
+        """A source with a fault, behind what was read of it."""
         words = self.runner.call(FAULT_TEXT, fault)[1]
         return NoTokens(self.runner.call(ERROR, read.pos, self.runner.call(REFUSAL, ("NoTokens",)), words), read.files)
 
