@@ -23,8 +23,7 @@ use Rattle.snl_meaning.specs.declared.names.Placed.{Placed}
 use Rattle.snl_meaning.specs.declared.names.Sense.{Sense}
 use Rattle.snl_meaning.specs.declared.names.Sense.TheVariants.{Varies, Stands}
 use Rattle.snl_meaning.specs.Functions.{Routine}
-use Rattle.snl_meaning.specs.Laws.{words_of}
-use Rattle.snl_meaning.specs.Names.{Here, Within, Piece, Body, placed_from, placed_shared, behind, variable_from, shared_from, function_number, state_number, variable_in, variable_at, variable_by, sense_by, sense_of, number_at, or_first, format_at, text_number}
+use Rattle.snl_meaning.specs.Names.{Here, Within, Piece, Body, placed_from, placed_shared, behind, variable_from, shared_from, function_number, state_number, variable_in, variable_at, variable_by, sense_by, sense_of, number_at, or_first, format_at, text_number, words_of}
 use Rattle.snl_meaning.proofs.Apart.{shared_lie_within, variables_lie_within}
 use Rattle.snl_flat.specs.Heres.{body_of, function_names, function_places, here_in, placed_in, routine_of, routines_in, shared_in, states_by}
 use Rattle.snl_flat.specs.Inside.{LeadsInside, IsVariableOf, held_by, placed_by}

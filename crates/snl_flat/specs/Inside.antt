@@ -17,8 +17,7 @@ use Rattle.snl_meaning.specs.declared.instrs.Instr.{Instr}
 use Rattle.snl_meaning.specs.declared.instrs.Instr.TheVariants.{Load, Check, Get, Peek, Store, StoreAt, Adjust, Increment, AdjustAt, Jump, JumpIfZero, Tick, Print, Put, PutAt, Ask, AskLink, AskElement, Clear, Assign, Call, Return, Leave, End}
 use Rattle.snl_meaning.specs.declared.instrs.Variable.{Variable}
 use Rattle.snl_meaning.specs.declared.names.Placed.{Placed}
-use Rattle.snl_meaning.specs.Laws.{words_of}
-use Rattle.snl_meaning.specs.Names.{flags_of, formats_of}
+use Rattle.snl_meaning.specs.Names.{flags_of, formats_of, words_of}
 use Rattle.snl_meaning.specs.Run.{Entry}
 use Rattle.snl_flat.specs.declared.code.Code.{Code}
 use Rattle.snl_flat.specs.declared.starts.Piece.{Piece}

@@ -4,7 +4,7 @@ use Rattle.std.specs.Prelude.{replicate}
 use Rattle.snl_syntax.specs.Expressions.{ExprTree}
 use Rattle.snl_syntax.specs.view.Declarations.{value_list}
 use Rattle.snl_names.specs.Types.{listed_values}
-use Rattle.snl_meaning.specs.Laws.{words_of}
+use Rattle.snl_meaning.specs.Names.{words_of}
 use Rattle.snl_names.specs.Variables.{CopyVariable}
 use Rattle.snl_names.proofs.ListLaws.{listed_of}
 use Rattle.snl_names.specs.Scopes.{elements}

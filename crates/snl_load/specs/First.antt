@@ -4,7 +4,7 @@ use Rattle.std.specs.List.{flat_map}
 use Rattle.snl_syntax.specs.Programs.{ProgramTree}
 use Rattle.snl_channels.specs.Links.{Link}
 use Rattle.snl_meaning.specs.declared.live.Live.TheVariants.{Waiting}
-use Rattle.snl_meaning.specs.Laws.{words_of}
+use Rattle.snl_meaning.specs.Names.{words_of}
 use Rattle.snl_meaning.specs.World.{Queue, SetMemory, World}
 use Rattle.snl_names.specs.Variables.{CopyVariable, shared_variables}
 use Rattle.snl_flat.specs.Copies.{held_sets}

@@ -1,5 +1,5 @@
 -- Where the values of links stand: their channels, their buffers, and the words of their variables.
-use Rattle.std.specs.Prelude.{ℕ, ◌+◌, ◌-◌, ◌^◌, min, ℤ, pos, List, [], ◌∷◌, map, Option, None, Some, option_map}
+use Rattle.std.specs.Prelude.{ℕ, ◌+◌, ℤ, pos, List, [], ◌∷◌, map, Option, None, Some, option_map}
 use Rattle.std.specs.List.{flat_map}
 use Rattle.snl_syntax.specs.Programs.{ProgramTree}
 use Rattle.snl_names.specs.Programs.{sites}
@@ -7,7 +7,7 @@ use Rattle.snl_channels.specs.Links.{Link}
 use Rattle.snl_meaning.specs.declared.instrs.Variable.{Variable}
 use Rattle.snl_meaning.specs.declared.names.Placed.{Placed}
 pub use Rattle.snl_flat.specs.Heres.{for_each_set, placed_in, placed_sets}
-use Rattle.snl_meaning.specs.Names.{variable_in, number_at, flags_of}
+use Rattle.snl_meaning.specs.Names.{place_after, variable_in, number_at, flags_of}
 use Rattle.snl_meaning.specs.declared.ties.Tied.{Tied}
 use Rattle.snl_load.specs.Names.{position_of, once}
 
@@ -21,12 +21,6 @@ named (b ∷ bs) = (b ∷ bs) ∷ []
 -- The channels of some links, each once, in the order in which they are first named.
 abbrev pub channels : List Link → List (List ℕ)
 channels ls = once (flat_map (λ l. named l.name) ls)
-
--- ---- words
-
--- A place so many words after another. No program that the rules accept has as many words as 2^64 - 1.
-abbrev pub place_after : ℕ → ℕ → ℕ
-place_after at n = min (at + n) (2 ^ 64 - 1)
 
 -- ---- homes
 

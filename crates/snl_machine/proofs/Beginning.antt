@@ -10,14 +10,13 @@ use Rattle.snl_machine.specs.Ranges.{Has, Fit, AllFit, IsSized, ItemFits, QueueF
 use Rattle.snl_meaning.specs.declared.instrs.Variable.{Variable}
 use Rattle.snl_meaning.specs.declared.names.Placed.{Placed}
 use Rattle.snl_meaning.specs.Effect.{values_of}
-use Rattle.snl_meaning.specs.Laws.{words_of}
-use Rattle.snl_meaning.specs.Names.{behind, variable_from, placed_from}
+use Rattle.snl_meaning.specs.Names.{behind, variable_from, placed_from, words_of, place_after}
 use Rattle.snl_meaning.specs.World.{SetMemory, no_copy, copy_of}
 use Rattle.snl_flat.specs.Copies.{held_sets}
 use Rattle.snl_flat.specs.Heres.{shared_in}
 use Rattle.snl_load.specs.First.{first_copy, first_queue, first_shared, first_world_of}
 use Rattle.snl_load.specs.Initials.{worth_in, first_by, first_element, first_elements, all_elements, held_among, buffer_by, first_buffer}
-use Rattle.snl_load.specs.Places.{place_after, channels, flags_in, placed_sets, for_each_set, tie_of, ties_from}
+use Rattle.snl_load.specs.Places.{channels, flags_in, placed_sets, for_each_set, tie_of, ties_from}
 use Rattle.snl_names.specs.declared.constants.Constant.{Constant}
 use Rattle.snl_names.specs.declared.constants.Constant.TheVariants.{Varies, Faults, Worth}
 use Rattle.snl_names.specs.Constants.{constant_of}

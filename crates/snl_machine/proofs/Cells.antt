@@ -15,9 +15,8 @@ use Rattle.snl_machine.proofs.Shared.{placed-own, element-own, zeros-own}
 use Rattle.snl_meaning.specs.declared.instrs.Variable.{Variable}
 use Rattle.snl_meaning.specs.declared.names.Placed.{Placed}
 use Rattle.snl_meaning.specs.declared.ties.Tied.{Tied}
-use Rattle.snl_meaning.specs.Laws.{words_of}
 use Rattle.snl_meaning.specs.Links.{home_of, elements_at, with_elements}
-use Rattle.snl_meaning.specs.Names.{placed_from}
+use Rattle.snl_meaning.specs.Names.{placed_from, words_of}
 use Rattle.snl_meaning.specs.World.{SetMemory, World, no_copy, copy_of, words_for, with_words, element_of, words_at, overwritten, zeroed, with_element, with_zeros}
 use Rattle.snl_meaning.proofs.Apart.{variables_lie_within, variables_are_apart}
 use Rattle.snl_meaning.proofs.Sizes.{set-many}

@@ -11,11 +11,11 @@ use Rattle.snl_machine.proofs.Queued.{length-words, word-at, words-fit, put-fits
 use Rattle.snl_machine.proofs.Fitting.{set-index, found, one-word, copy-apart, copy-holds}
 use Rattle.snl_meaning.specs.declared.instrs.Variable.{Variable}
 use Rattle.snl_meaning.specs.declared.names.Placed.{Placed}
-use Rattle.snl_meaning.specs.Names.{variable_in}
+use Rattle.snl_meaning.specs.Names.{variable_in, place_after}
 use Rattle.snl_meaning.specs.Links.{home_of, elements_at, with_elements, buffer_of, with_buffer, queue_of, is_queued, with_items, enqueued, flagged, all_marked, announced}
 use Rattle.snl_meaning.specs.World.{World, copy_of, words_at, overwritten}
 use Rattle.snl_meaning.proofs.Apart.{variables_lie_within}
-use Rattle.snl_load.specs.Places.{place_after, channels, flags_in, placed_in, placed_sets, tie_of, ties_from, ties_in}
+use Rattle.snl_load.specs.Places.{channels, flags_in, placed_in, placed_sets, tie_of, ties_from, ties_in}
 use Rattle.snl_names.specs.Variables.{variables_of}
 use Rattle.snl_meaning.specs.declared.ties.Tied.{Tied}
 use Rattle.snl_schedule.specs.Arrivals.{is_of, is_in, is_link_fit, are_fit, received_link, received_from}

@@ -10,7 +10,7 @@ use Rattle.snl_meaning.specs.Known.{entry_view}
 use Rattle.snl_channels.specs.Links.{Link}
 use Rattle.snl_machine.specs.Footprint.{MachinesHoldTheFootprint}
 use Rattle.snl_machine.proofs.LaidOut.{sets-many}
-use Rattle.snl_meaning.specs.Laws.{words_of}
+use Rattle.snl_meaning.specs.Names.{words_of}
 use Rattle.snl_names.specs.Variables.{CopyVariable, variables_of, shared_variables}
 use Rattle.snl_machine.proofs.Sized.{same-words}
 use Rattle.snl_vm.specs.Footprint.{frame_words}

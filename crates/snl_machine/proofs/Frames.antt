@@ -19,7 +19,7 @@ use Rattle.snl_machine.proofs.Whole.{line-keeps}
 use Rattle.snl_meaning.specs.Effect.{held_by, block_effect}
 use Rattle.snl_meaning.specs.Frames.{room_in, frame_of}
 use Rattle.snl_meaning.specs.Keeping.{world_after}
-use Rattle.snl_meaning.specs.Laws.{words_of}
+use Rattle.snl_meaning.specs.Names.{words_of}
 use Rattle.snl_meaning.specs.World.{SetMemory}
 use Rattle.snl_meaning.proofs.Frames.{pieces_keep_the_frame}
 use Rattle.snl_names.specs.Scopes.{elements}

@@ -7,7 +7,7 @@ use Rattle.snl_flat.specs.Copies.{held_sets}
 use Rattle.snl_load.specs.Places.{for_each_set}
 use Rattle.snl_machine.specs.Layout.{WorldsAreLaidOut}
 use Rattle.snl_meaning.specs.Frames.{Frame}
-use Rattle.snl_meaning.specs.Laws.{words_of}
+use Rattle.snl_meaning.specs.Names.{words_of}
 use Rattle.snl_meaning.specs.World.{SetMemory, no_copy}
 use Rattle.snl_names.specs.Variables.{variables_of}
 

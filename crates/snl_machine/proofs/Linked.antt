@@ -8,9 +8,9 @@ use Rattle.snl_meaning.specs.declared.instrs.Variable.{Variable}
 use Rattle.snl_meaning.specs.declared.names.Placed.{Placed}
 use Rattle.snl_meaning.specs.declared.ties.Tied.{Tied}
 use Rattle.snl_meaning.specs.Links.{home_of}
-use Rattle.snl_meaning.specs.Names.{variable_in}
+use Rattle.snl_meaning.specs.Names.{variable_in, place_after}
 use Rattle.snl_meaning.specs.World.{World}
-use Rattle.snl_load.specs.Places.{place_after, channels, flags_in, placed_in, placed_sets, home_in, homes_in, tie_of, ties_from, ties_in}
+use Rattle.snl_load.specs.Places.{channels, flags_in, placed_in, placed_sets, home_in, homes_in, tie_of, ties_from, ties_in}
 
 -- A link of a program with its home in the copy of a state set: its variable stands in the copy, and has its elements.
 pub record IsAtHome (p : ProgramTree) (ls : List Link) (set link place : ℕ) (t : Tied) : Type 0 where

@@ -13,8 +13,7 @@ use Rattle.snl_machine.proofs.Shared.{is-shared, element-shared, zeros-shared}
 use Rattle.snl_meaning.proofs.Apart.{shared_lie_within, shared_are_apart}
 use Rattle.snl_meaning.specs.declared.instrs.Variable.{Variable}
 use Rattle.snl_meaning.specs.declared.names.Placed.{Placed}
-use Rattle.snl_meaning.specs.Laws.{words_of}
-use Rattle.snl_meaning.specs.Names.{placed_shared}
+use Rattle.snl_meaning.specs.Names.{placed_shared, words_of}
 use Rattle.snl_meaning.specs.World.{World, words_for, element_of, words_at, overwritten, with_element, with_zeros}
 use Rattle.snl_names.specs.Variables.{CopyVariable, shared_variables}
 

@@ -26,8 +26,7 @@ use Rattle.snl_names.specs.Sights.{parameter_scope}
 use Rattle.snl_names.specs.Variables.{CopyVariable, held_for, held_parameter, by_block, by_definitions, by_function, by_maybe, by_numbered, functions_of, shared_variables, variables_of}
 use Rattle.snl_rules.specs.Words.{variable_words}
 use Rattle.snl_meaning.specs.declared.names.Placed.{Placed}
-use Rattle.snl_meaning.specs.Laws.{words_of}
-use Rattle.snl_meaning.specs.Names.{behind, placed_from, variable_from}
+use Rattle.snl_meaning.specs.Names.{behind, placed_from, variable_from, words_of}
 use Rattle.snl_machine.specs.Ranges.{Has, IsSized}
 use Rattle.snl_flat.specs.Heres.{shared_in}
 use Rattle.snl_machine.specs.Accepted.{IsRead, IsAcceptedTree, AcceptedIsSized}

@@ -21,11 +21,11 @@ use Rattle.snl_channels.specs.Macros.{macros_of, macro_value}
 use Rattle.snl_meaning.specs.declared.instrs.Variable.{Variable}
 use Rattle.snl_meaning.specs.declared.names.Placed.{Placed}
 use Rattle.snl_meaning.specs.declared.ties.Tied.{Tied}
-use Rattle.snl_meaning.specs.Names.{variable_from, behind, placed_from, variable_in}
+use Rattle.snl_meaning.specs.Names.{variable_from, behind, placed_from, variable_in, place_after}
 use Rattle.snl_flat.specs.Heres.{for_each_set, placed_in, placed_sets}
 use Rattle.snl_load.specs.Initials.{held_in, held_among}
 use Rattle.snl_load.specs.Places as places
-use Rattle.snl_load.specs.Places.{place_after, channels, flags_in, variable_among, range_of, tie_of, ties_in}
+use Rattle.snl_load.specs.Places.{channels, flags_in, variable_among, range_of, tie_of, ties_in}
 use Rattle.snl_machine.specs.Ranges.{counts, IsTied, AreHeld}
 use Rattle.snl_machine.specs.Accepted.{IsRead, IsAcceptedTree, AcceptedIsTied, AcceptedIsHeld}
 use Rattle.snl_machine.proofs.Declared.{declared, In, of-in, in-left, in-right, in-either, in-declared}

@@ -9,7 +9,7 @@ use Rattle.snl_load.specs.Places.{channels, flags_in}
 use Rattle.snl_machine.specs.declared.machine.Machine.{Machine}
 use Rattle.snl_machine.specs.MachineOf.{IsMachineOf, words_held}
 use Rattle.snl_machine.specs.Ranges.{counts}
-use Rattle.snl_meaning.specs.Laws.{words_of}
+use Rattle.snl_meaning.specs.Names.{words_of}
 use Rattle.snl_rules.specs.Words.{function_words}
 
 -- The words that a program with some links needs: the elements of the variables in the copy of each state set; those of the

@@ -11,9 +11,8 @@ use Rattle.snl_machine.specs.Worlds.{IsWorldOf}
 use Rattle.snl_meaning.specs.declared.instrs.Variable.{Variable}
 use Rattle.snl_meaning.specs.declared.names.Placed.{Placed}
 use Rattle.snl_meaning.specs.declared.ties.Tied.{Tied}
-use Rattle.snl_meaning.specs.Laws.{words_of}
 use Rattle.snl_meaning.specs.Links.{home_of, elements_at, with_elements, buffer_of, with_buffer, queue_of, is_queued}
-use Rattle.snl_meaning.specs.Names.{placed_from, placed_shared, variable_in}
+use Rattle.snl_meaning.specs.Names.{placed_from, placed_shared, variable_in, words_of}
 use Rattle.snl_meaning.specs.Queues.{put_in}
 use Rattle.snl_meaning.specs.World.{World, copy_of, is_set, element_of, words_at, with_element, with_zeros}
 use Rattle.snl_names.specs.Variables.{CopyVariable, variables_of, shared_variables}

@@ -10,8 +10,7 @@ use Rattle.snl_channels.specs.Links.{Link}
 use Rattle.snl_meaning.specs.declared.instrs.Variable.{Variable}
 use Rattle.snl_meaning.specs.declared.names.Placed.{Placed}
 use Rattle.snl_meaning.specs.Keeping.{PiecesKeep, world_after}
-use Rattle.snl_meaning.specs.Laws.{words_of}
-use Rattle.snl_meaning.specs.Names.{variable_in}
+use Rattle.snl_meaning.specs.Names.{variable_in, words_of}
 use Rattle.snl_meaning.specs.World.{Queue, World, copy_of}
 use Rattle.snl_load.specs.First.{first_world_of}
 use Rattle.snl_load.specs.Initials.{held_among}

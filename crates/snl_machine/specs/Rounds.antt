@@ -28,6 +28,6 @@ abbrev pub RoundsEnd : Type 0
 RoundsEnd = (p : ProgramTree) (ls : List Link) (waits : Bool) (w : World) → Rounds (program_meaning p ls waits) w (all_rounds (program_meaning p ls waits) w)
 
 -- An instant, which begins with the budget, leaves no more than that: no tick is ever given back. Where none is left, each
--- transition and each turn of a loop is a fault; so an instant never takes more of them than the budget.
+-- transition, each turn of a loop and each call of a function is a fault; so an instant never takes more of them than the budget.
 abbrev pub TicksWithinBudget : Type 0
 TicksWithinBudget = (p : ProgramTree) (ls : List Link) (waits : Bool) (budget : ℕ) (w : World) → (world_after (instant_of (program_meaning p ls waits) budget w)).ticks ≤ budget

@@ -4,8 +4,8 @@ use Rattle.std.specs.Prelude.{◌-◌, ◌^◌}
 use Rattle.snl_names.specs.Scopes.{elements}
 use Rattle.snl_names.specs.Variables.{CopyVariable}
 use Rattle.snl_meaning.specs.declared.names.Placed.{Placed}
-use Rattle.snl_meaning.specs.Laws.{words_of, VariablesLieWithin, VariablesAreApart, SharedLieWithin, SharedAreApart}
-use Rattle.snl_meaning.specs.Names.{placed_from, placed_shared, behind, variable_from, shared_from}
+use Rattle.snl_meaning.specs.Laws.{VariablesLieWithin, VariablesAreApart, SharedLieWithin, SharedAreApart}
+use Rattle.snl_meaning.specs.Names.{placed_from, placed_shared, behind, variable_from, shared_from, words_of}
 
 -- the words of a variable, if there is one, stand from low on and end by high
 abbrev Within : ℕ → ℕ → Option Placed → Type 0

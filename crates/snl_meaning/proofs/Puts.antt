@@ -89,7 +89,8 @@ waiting_puts_nothing set place link channel t w waits = by (slice_index_or w.ups
     line = put_line w.time (slice_index_or w.channels channel []) (words_at (copy_of set w).words place t.count)
 
     by : (up waiting : Bool) → waiting ≡ true →
-        (z : ℤ) × ((if up then (if waiting then Gives (negsuc 0) w [] else Gives (pos 0) (with_waiting link true w) line) else Gives (negsuc 1) w []) ≡ Gives z w [])
-    by true true is = (negsuc 0, refl)
+        (if up then (if waiting then Gives (negsuc 0) w [] else Gives (pos 0) (with_waiting link true w) line) else Gives (negsuc 1) w [])
+        ≡ Gives (if up then negsuc 0 else negsuc 1) w []
+    by true true is = refl
     by true false is = absurd (cc)
-    by false waiting is = (negsuc 1, refl)
+    by false waiting is = refl

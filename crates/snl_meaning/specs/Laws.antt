@@ -4,12 +4,11 @@ use Rattle.snl_syntax.specs.Expressions.{ExprTree}
 use Rattle.snl_syntax.specs.Declarations.{DeclaratorTree, DeclarationTree}
 use Rattle.snl_syntax.specs.Statements.{StatementTree, StatementList, block}
 use Rattle.snl_meaning.specs.Effect.{held_by, evaluated, turns, looped, effect_of, variable_for, names_of, block_effect}
-use Rattle.snl_names.specs.Scopes.{elements}
 use Rattle.snl_names.specs.Variables.{CopyVariable}
 use Rattle.snl_meaning.specs.Functions.{Routine, IsBelow, callable_of}
 use Rattle.snl_meaning.specs.declared.instrs.Variable.{Variable}
 use Rattle.snl_meaning.specs.declared.names.Placed.{Placed}
-use Rattle.snl_meaning.specs.Names.{text_number, format_text, placed_from, placed_shared}
+use Rattle.snl_meaning.specs.Names.{text_number, format_text, placed_from, placed_shared, words_of}
 use Rattle.snl_meaning.specs.Scenes.{Callable, Scene}
 use Rattle.snl_meaning.specs.Value.{performed}
 use Rattle.snl_meaning.specs.World.{World, with_element}
@@ -23,11 +22,6 @@ TurnsAreEnough = (rs : List Routine) (m : Scene) (line : ℕ) (condition step : 
 abbrev pub TextsAreFound : Type 0
 TextsAreFound = (before after : List (List ℕ)) (text : List ℕ) →
     format_text (before ++ text ∷ after) (text_number (before ++ text ∷ after) text) ≡ text
-
--- How many words some variables have.
-abbrev pub words_of : List CopyVariable → ℕ
-words_of [] = 0
-words_of (v ∷ vs) = elements v.size + words_of vs
 
 -- No variable has a word outside its copy,
 abbrev pub VariablesLieWithin : Type 0

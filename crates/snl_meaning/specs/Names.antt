@@ -1,5 +1,5 @@
 -- What the names in a piece of code mean, by their declarations.
-use Rattle.std.specs.Prelude.{ℕ, true, false, suc, ◌+◌, ◌-◌, ◌^◌, min, ℤ, pos, ◌==◌, bytes_eq, length, List, [], ◌∷◌, Option, None, Some, slice_index_or, if◌then◌else◌}
+use Rattle.std.specs.Prelude.{ℕ, true, false, suc, ◌+◌, ◌-◌, ◌^◌, min, ℤ, pos, Bool, ◌==◌, bytes_eq, length, List, [], ◌∷◌, Option, None, Some, slice_index_or, if◌then◌else◌}
 use Rattle.std.specs.List.{flat_map}
 use Rattle.snl_text.specs.declared.tokens.Pos.{Pos}
 use Rattle.snl_text.specs.declared.tokens.Token.{Token}
@@ -31,34 +31,52 @@ pub record Here : Type 0 where
   pub states : List Token
   -- what the names of the program mean, each at its place
   pub sites : List Site
-  -- the variables that may be named there, by their declarations: those of the copy, and in a function its own
+  -- the variables that may be named there, by their declarations: those of the copy; in a function those of the program's
+  -- definitions, which stand first in each copy, and those of functions
   pub variables : List Placed
   -- whether it is the body of a function
   pub within : Within
-  -- the names of the functions that may be called there, in the order of the source
+  -- the names of the functions that may be called there, in the order of the source: no meaning asks for them, and code does
   pub functions : List Token
 
--- A variable whose words begin at a place of the copy.
+-- A place so many words after another. No program that the rules accept has as many words as 2^64 - 1.
+abbrev pub place_after : ℕ → ℕ → ℕ
+place_after at n = min (at + n) (2 ^ 64 - 1)
+
+-- A variable whose words begin at a place, among those that all state sets share or among those of a copy.
+abbrev pub held_from : (is_shared : Bool) → ℕ → CopyVariable → Variable
+held_from is_shared at v = record { place = at; size = elements v.size; least = v.range.0; greatest = v.range.1; is_shared = is_shared }
+
+-- One of a copy,
 abbrev pub variable_from : ℕ → CopyVariable → Variable
-variable_from at v = record { place = at; size = elements v.size; least = v.range.0; greatest = v.range.1; is_shared = false }
+variable_from at v = held_from false at v
 
--- Where the words of the next variable begin. No program that the rules accept has as many words as 2^64 - 1.
-abbrev pub behind : ℕ → CopyVariable → ℕ
-behind at v = min (at + elements v.size) (2 ^ 64 - 1)
-
--- The same of a variable of a function, which all state sets share.
+-- and one of a function.
 abbrev pub shared_from : ℕ → CopyVariable → Variable
-shared_from at v = record (variable_from at v) { is_shared = true }
+shared_from at v = held_from true at v
+
+-- Where the words of the next variable begin.
+abbrev pub behind : ℕ → CopyVariable → ℕ
+behind at v = place_after at (elements v.size)
 
 -- Variables whose words stand one after another from a place on, each with the offset of its declaration.
-abbrev pub placed_from : ℕ → List CopyVariable → List Placed
-placed_from at [] = []
-placed_from at (v ∷ vs) = record { offset = v.name.pos.offset; variable = variable_from at v } ∷ placed_from (behind at v) vs
+abbrev pub placed_by : (is_shared : Bool) → ℕ → List CopyVariable → List Placed
+placed_by is_shared at [] = []
+placed_by is_shared at (v ∷ vs) =
+    record { offset = v.name.pos.offset; variable = held_from is_shared at v } ∷ placed_by is_shared (behind at v) vs
 
--- The same of variables of functions, among the words that all state sets share.
+-- Those of a copy,
+abbrev pub placed_from : ℕ → List CopyVariable → List Placed
+placed_from at vs = placed_by false at vs
+
+-- and those of functions.
 abbrev pub placed_shared : ℕ → List CopyVariable → List Placed
-placed_shared at [] = []
-placed_shared at (v ∷ vs) = record { offset = v.name.pos.offset; variable = shared_from at v } ∷ placed_shared (behind at v) vs
+placed_shared at vs = placed_by true at vs
+
+-- How many words some variables have.
+abbrev pub words_of : List CopyVariable → ℕ
+words_of [] = 0
+words_of (v ∷ vs) = elements v.size + words_of vs
 
 -- ---- variables
 
@@ -67,7 +85,7 @@ abbrev pub variable_in : List Placed → ℕ → Option Variable
 variable_in [] offset = None
 variable_in (v ∷ vs) offset = if v.offset == offset then Some v.variable else variable_in vs offset
 
--- The same among those of the copy.
+-- The same among those that may be named at a place.
 abbrev pub variable_at : Here → ℕ → Option Variable
 variable_at h offset = variable_in h.variables offset
 

@@ -1,5 +1,5 @@
 -- Laws of puts with `ASYNC` and without.
-use Rattle.std.specs.Prelude.{◌≡◌, ℕ, ℤ, Bool, true, false, List, [], Some}
+use Rattle.std.specs.Prelude.{◌≡◌, ℕ, ℤ, negsuc, Bool, true, false, List, [], Some, slice_index_or, if◌then◌else◌}
 use Rattle.snl_meaning.specs.declared.instrs.Variable.{Variable}
 use Rattle.snl_meaning.specs.declared.ties.Tied.{Tied}
 use Rattle.snl_meaning.specs.Ran.{Ran, Gives, Faults}
@@ -16,7 +16,8 @@ abbrev pub PlainPutsKnowNoMarks : Type 0
 PlainPutsKnowNoMarks = (set : ℕ) (v : Variable) (k : ℤ) (marks : List Bool) (w : World) →
     put_element false set v k (record w { waiting = marks }) ≡ remarked marks (put_element false set v k w)
 
--- While its link waits, a put with `ASYNC` to a channel writes nothing and changes nothing.
+-- While its link waits, a put with `ASYNC` to a channel writes nothing and changes nothing. It answers -1 where the channel is up,
+-- and -2 where it is down.
 abbrev pub WaitingPutsNothing : Type 0
 WaitingPutsNothing = (set place link channel : ℕ) (t : Tied) (w : World) → is_waiting link w ≡ true →
-    (z : ℤ) × (put_by true set place link t (Some channel) w ≡ Gives z w [])
+    put_by true set place link t (Some channel) w ≡ Gives (if slice_index_or w.ups channel false then negsuc 0 else negsuc 1) w []

@@ -121,7 +121,8 @@ pub fn plain_puts_know_no_marks()
     ensures { PlainPutsKnowNoMarks }
 {}
 
-/// While its link waits, a put with `ASYNC` to a channel writes nothing and changes nothing.
+/// While its link waits, a put with `ASYNC` to a channel writes nothing and changes nothing: it answers -1 where the channel is up, and -2
+/// where it is down.
 #[tactic(auto, using(crate::proofs::Puts::waiting_puts_nothing))]
 pub fn waiting_puts_nothing()
     ensures { WaitingPutsNothing }

@@ -1,6 +1,6 @@
 //! What the names in a piece of code mean.
 
-ghost use Rattle.std.specs.Prelude.{◌≡◌, ◌++◌, map, IfOk, OnOk};
+ghost use Rattle.std.specs.Prelude.{◌≡◌, ◌++◌, map, OnOk};
 ghost use Rattle.snl_names.specs.CopyVariables.{variable_view};
 ghost use Rattle.snl_meaning.specs.Names as spec;
 ghost use Rattle.snl_meaning.specs.Known.{here_of};
@@ -10,12 +10,12 @@ use crate::places::Places;
 use crate::sites::Sites;
 use snl_names::{CopyVariable, Numbered, predefined};
 use snl_text::Token;
-use std::alloc::{AllocError, Global};
+use std::alloc::AllocError;
 
 /// What a name is in an expression.
 #[derive(Clone, Copy)]
 pub enum Sense {
-    /// A variable of the copy.
+    /// A variable: of the copy, or of a function.
     Varies(Variable),
     /// A number.
     Stands(i64),
@@ -55,7 +55,8 @@ pub struct Known<'s, 'a> {
     pub states: &'s Numbered<'a>,
     /// The sites of the program.
     pub sites: &'s Sites<'s, 'a>,
-    /// The variables that may be named there: those of the copy, and in a function its own.
+    /// The variables that may be named there: those of the copy; in a function those of the program's definitions, and those of
+    /// functions.
     pub variables: &'s Places,
     /// Whether it is the body of a function.
     pub within: Within,
@@ -65,8 +66,8 @@ pub struct Known<'s, 'a> {
     pub above: usize,
 }
 
-fn variable_from(place: usize, held: &CopyVariable) -> Variable
-    ensures { result ≡ spec.variable_from place (variable_view held.now) }
+fn held_from(place: usize, is_shared: bool, held: &CopyVariable) -> Variable
+    ensures { result ≡ spec.held_from is_shared place (variable_view held.now) }
 {
     let (least, greatest) = held.range;
     Variable {
@@ -74,53 +75,24 @@ fn variable_from(place: usize, held: &CopyVariable) -> Variable
         size: held.size.elements(),
         least,
         greatest,
-        is_shared: false,
+        is_shared,
     }
 }
 
-/// The variables of a copy, each by its declaration; their words stand one after another. The only error is that
-/// memory ends.
-pub fn places_of(alloc: Global, variables: &[CopyVariable]) -> Result<Vec<Placed>, AllocError>
-    ensures { IfOk result (λ places. places.items
-        ≡ spec.placed_from 0 (map variable_view variables.now)) }
-{
-    let mut places = Vec::new(alloc);
-    let mut place = 0usize;
-    for number in 0..variables.len() {
-        let held = &variables[number];
-        let variable = variable_from(place, held);
-        places.push(Placed {
-            offset: held.name.pos.offset,
-            variable,
-        })?;
-        place = place.saturating_add(variable.size);
-    }
-    Ok(places)
-}
-
-fn shared_from(place: usize, held: &CopyVariable) -> Variable
-    ensures { result ≡ spec.shared_from place (variable_view held.now) }
-{
-    let (least, greatest) = held.range;
-    Variable {
-        place,
-        size: held.size.elements(),
-        least,
-        greatest,
-        is_shared: true,
-    }
-}
-
-/// Adds the variables of functions, each by its declaration; their words stand one after another among those that all state
-/// sets share. The only error is that memory ends.
-pub fn push_shared(variables: &[CopyVariable], places: &mut Vec<Placed>) -> Result<(), AllocError>
+/// Adds variables, each by its declaration; their words stand one after another, among those that all state sets share or among
+/// those of a copy. The only error is that memory ends.
+pub fn push_places(
+    variables: &[CopyVariable],
+    is_shared: bool,
+    places: &mut Vec<Placed>,
+) -> Result<(), AllocError>
     ensures { OnOk result (places.new.items ≡ places.old.items
-        ++ spec.placed_shared 0 (map variable_view variables.now)) }
+        ++ spec.placed_by is_shared 0 (map variable_view variables.now)) }
 {
     let mut place = 0usize;
     for number in 0..variables.len() {
         let held = &variables[number];
-        let variable = shared_from(place, held);
+        let variable = held_from(place, is_shared, held);
         places.push(Placed {
             offset: held.name.pos.offset,
             variable,

@@ -1,17 +1,18 @@
-//! The variables of a copy, found by their declarations.
+//! The variables that may be named at a place, found by their declarations.
 
 ghost use Rattle.std.specs.Prelude.{◌≡◌, ◌++◌, map, IfOk};
 ghost use Rattle.snl_names.specs.CopyVariables.{variable_view};
 ghost use Rattle.snl_meaning.specs.Names as spec;
 
 use crate::instrs::Variable;
-use crate::names::{Placed, places_of, push_shared};
+use crate::names::{Placed, push_places};
 use crate::offsets::Offsets;
 use snl_names::CopyVariable;
 use std::alloc::{AllocError, Global};
 use std::marker::Model;
 
-/// The variables of a copy, each by its declaration. It finds one as fast among many as among few.
+/// The variables of a copy, or those that functions may name, each by its declaration. It finds one as fast among many as
+/// among few.
 #[derive(Drop)]
 pub struct Places {
     /// In the order of their words.
@@ -56,7 +57,8 @@ impl Places {
         ensures { IfOk result (λ places. places
             ≡ spec.placed_from 0 (map variable_view variables.now)) }
     {
-        let all = places_of(alloc, variables)?;
+        let mut all = Vec::new(alloc);
+        push_places(variables, false, &mut all)?;
         let declared = declared_of(alloc, all.as_slice())?;
         Ok(Places { all, declared })
     }
@@ -71,8 +73,9 @@ impl Places {
         ensures { IfOk result (λ places. places ≡ spec.placed_from 0 (map variable_view own.now)
             ++ spec.placed_shared 0 (map variable_view shared.now)) }
     {
-        let mut all = places_of(alloc, own)?;
-        push_shared(shared, &mut all)?;
+        let mut all = Vec::new(alloc);
+        push_places(own, false, &mut all)?;
+        push_places(shared, true, &mut all)?;
         let declared = declared_of(alloc, all.as_slice())?;
         Ok(Places { all, declared })
     }

@@ -1,4 +1,4 @@
--- The variables that the copy of a state set holds.
+-- The variables that the copy of a state set holds, and those of functions, which all state sets share.
 use Rattle.std.specs.Prelude.{ℕ, ℤ, ◌==◌, List, [], ◌∷◌, ◌++◌, map, slice_get, Option, None, Some, if◌then◌else◌}
 use Rattle.std.specs.List.{flat_map}
 use Rattle.snl_text.specs.declared.tokens.Token.{Token}
