@@ -1,5 +1,5 @@
 -- The lines of a run, byte by byte. Each ends in its newline.
-use Rattle.std.specs.Prelude.{ℕ, List, [], ◌∷◌, ◌++◌, codes, decimal}
+use Rattle.std.specs.Prelude.{ℕ, List, [], ◌∷◌, ◌++◌, ◌==◌, if◌then◌else◌, codes, decimal}
 use Rattle.snl_meaning.specs.declared.faults.Fault.{Fault}
 use Rattle.snl_meaning.specs.declared.faults.Fault.TheVariants.{Overflow, DivisionByZero, OutOfRange, DoesNotFit, BadShift, BudgetSpent}
 
@@ -15,6 +15,10 @@ newline = 10 ∷ []
 -- What parts the fields of a line.
 abbrev pub space : List ℕ
 space = 32 ∷ []
+
+-- What stands behind a noun of which there are so many: `1 line`, `2 lines`.
+abbrev pub plural : ℕ → List ℕ
+plural count = if count == 1 then [] else codes "s"
 
 -- `MS start PROGRAM`
 abbrev pub start_line : ℕ → List ℕ → List ℕ

@@ -7,6 +7,7 @@ ghost use Rattle.snl_output.specs.Held.{Adds};
 ghost use Rattle.snl_output.specs.Lines.{joined, start_line, go_line, go_rest, exit_line, fault_line, put_front, space};
 
 use crate::held::Line;
+use crate::pieces::push_all;
 use crate::sinks::{Sink, SinkFault};
 use itoa::Buffer;
 use std::alloc::{AllocError, Global};
@@ -152,8 +153,6 @@ fn join(alloc: Global, pieces: &[&[u8]]) -> Result<Vec<u8>, AllocError>
     ensures { IfOk result (λ text. text.items ≡ joined (map (λ piece. piece.now) pieces.now)) }
 {
     let mut text = Vec::new(alloc);
-    for piece in pieces {
-        text.extend_from_slice(piece)?;
-    }
+    push_all(&mut text, pieces)?;
     Ok(text)
 }

@@ -46,8 +46,38 @@ pub struct Refused {
     pub why: RefusalCause,
 }
 
-/// Where the lines of a run go. It may also hear which clauses fired and which puts were refused, beside the lines and in their
-/// order, and when the run waits; one that wants lines alone says nothing of that.
+/// A state set went from a state to a state, or out of the program: the line of that was written just before. What the states do
+/// on the way comes next.
+#[derive(Clone, Copy, Debug, PartialEq, Eq)]
+pub struct Went {
+    /// When, in milliseconds.
+    pub ms: u64,
+    /// The number of the state set, from 0 on, in the order of the source.
+    pub set: usize,
+    /// The number of the state that it left, from 0 on, in the order of the source.
+    pub from: usize,
+    /// The number of the state that it is in now; None where the way leads out of the program.
+    pub to: Option<usize>,
+    /// The number of the clause among those of the state that was left, from 0 on, in the order of the source.
+    pub clause: usize,
+}
+
+/// A `pvPut` was done: its line was written just before.
+#[derive(Clone, Copy, Debug, PartialEq, Eq)]
+pub struct Put {
+    /// When, in milliseconds.
+    pub ms: u64,
+    /// The number of the state set that put, from 0 on, in the order of the source.
+    pub set: usize,
+    /// The number of the link, from 0 on: which variable or element was put.
+    pub link: usize,
+    /// The number of the channel, from 0 on, in the order in which `assign` definitions first name channels.
+    pub channel: usize,
+}
+
+/// Where the lines of a run go. It may also hear what they say: which line of the trace is at work, which clauses fired, which
+/// transitions and puts were done and which puts were refused, beside the lines and in their order, and when the run waits. One
+/// that wants lines alone says nothing of that.
 ///
 /// A sink may tell the bytes that it was given so far, and counts its failures.
 pub trait Sink {
@@ -72,6 +102,26 @@ pub trait Sink {
     /// Hears that a clause fired, before its tick and its block. The words are those of the state set's copy as the conditions
     /// left them, one variable after another: who listens can tell what the condition saw.
     fn fired(&mut self, _clause: Fired, _words: &[i64])
+        ensures told { told self.new ≡ told self.old }
+        ensures failures { failures self.new ≡ failures self.old }
+    {}
+
+    /// Hears of a transition, right behind its line.
+    fn went(&mut self, _transition: Went)
+        ensures told { told self.new ≡ told self.old }
+        ensures failures { failures self.new ≡ failures self.old }
+    {}
+
+    /// Hears of a put, right behind its line, with the values that were put.
+    fn put(&mut self, _put: Put, _values: &[i64])
+        ensures told { told self.new ≡ told self.old }
+        ensures failures { failures self.new ≡ failures self.old }
+    {}
+
+    /// Hears that a line of the trace is at work, by its number from 1 on and its time in milliseconds, before anything that it
+    /// leads to. What is then heard with an earlier time belongs to a wake, which runs in front of the line. A blank line and a
+    /// comment are at no work.
+    fn line(&mut self, _number: u128, _ms: u64)
         ensures told { told self.new ≡ told self.old }
         ensures failures { failures self.new ≡ failures self.old }
     {}

@@ -15,7 +15,7 @@ ghost use Rattle.snl_schedule.specs.Turn as spec;
 use crate::goes::{name_at, target_name};
 use crate::plans::{ClausePlan, Destination, SetContext, SetPlan};
 use snl_meaning::Instr;
-use snl_output::{Sink, SinkFault, Stop, write_go, write_timed};
+use snl_output::{Sink, SinkFault, Stop, Went, write_go, write_timed};
 use snl_vm::{Memory, PieceContext, Steps, Store, perform, spend};
 use std::sync::ledger::Ledger;
 
@@ -226,6 +226,24 @@ fn tell<S: Sink>(
     }
 }
 
+/// Lets the sink hear of a transition whose line was written.
+fn hear<S: Sink>(transition: Transition, set: usize, ms: u64, sink: &mut S)
+    ensures told { S.told sink.new ≡ S.told sink.old }
+    ensures failures { S.failures sink.new ≡ S.failures sink.old }
+{
+    let to = match transition.target {
+        Destination::State(state) => Some(state),
+        Destination::Exit => None,
+    };
+    sink.went(Went {
+        ms,
+        set,
+        from: transition.from,
+        to,
+        clause: transition.clause,
+    });
+}
+
 /// Writes the line of a transition, and goes on to the new state. One that leads out of the program enters none.
 fn arrive<S: Sink, L: Ledger>(
     transition: Transition,
@@ -243,13 +261,17 @@ fn arrive<S: Sink, L: Ledger>(
         steps.old steps.new }
     ensures keeps { Keeps S.failures result memory.old memory.new sink.old sink.new }
 {
-    match tell(state_set.plan, transition, memory.store.time, sink) {
-        Ok(()) => match transition.target {
-            Destination::State(state) => {
-                cross(transition.from, state, state_set, memory, sink, steps)
+    let ms = memory.store.time;
+    match tell(state_set.plan, transition, ms, sink) {
+        Ok(()) => {
+            hear(transition, state_set.context.set, ms, sink);
+            match transition.target {
+                Destination::State(state) => {
+                    cross(transition.from, state, state_set, memory, sink, steps)
+                }
+                Destination::Exit => Ok(Turned::Exited),
             }
-            Destination::Exit => Ok(Turned::Exited),
-        },
+        }
         Err(_) => Err(Stop::Sink),
     }
 }

@@ -18,8 +18,11 @@ mod runner;
 mod trace_faults;
 mod words;
 
+pub use events::Events;
 pub use memory::{Feed, Sheet};
-pub use reader::read_line;
+pub use plain::{Plain, plain_line};
+pub use reader::{Heard, read_event, read_line};
 pub use runner::{End, run};
 pub use snl_output::{Source, SourceFault};
 pub use trace_faults::{LINE_LIMIT, TIME_LIMIT, TraceFault};
+pub use words::{LineValues, Telling};

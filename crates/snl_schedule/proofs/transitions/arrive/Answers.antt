@@ -21,7 +21,7 @@ returns-in-State-clause-does g c =
     let old = g.S.Sink.told c.args.sink.now in
     let k = c.in-State.state in
     let named = λ (to : Destination). go_line w.time t.plan.now.name.items (name_at t.plan.now.states.items c.args.transition.from) (target_name t.plan.now.states.items to) in
-    let line = c.in-Ok.ensures.told ∙ ap (λ text. told_more old text) (ap named c.in-State.is ∙ line-to t w.time c.args.transition.from k) in
+    let line = c.hear.ensures.told ∙ c.in-Ok.ensures.told ∙ ap (λ text. told_more old text) (ap named c.in-State.is ∙ line-to t w.time c.args.transition.from k) in
     subst (λ (to : Destination). Does (λ t. t) c.cross.result (world_of c.cross.new.memory.store) old (g.S.Sink.told c.cross.new.sink) (arrived s c.args.transition.from to w))
     (sym c.in-State.is)
     (told-then (λ t. t) c.cross.result _ (λ _ u. crossed s c.args.transition.from k u) w _ _ _ _ line c.cross.ensures.does)
@@ -31,7 +31,7 @@ returns-in-Err-clause-does g c = arrived-cut c.args.state_set.now c.args.transit
 
 pub returns-in-Exit-clause-does : goal.returns-in-Exit-clause-does
 returns-in-Exit-clause-does g c =
-    arrived-out c.args.state_set.now c.args.transition.from c.args.transition.target (world_of c.args.memory.now.store) _ _ c.in-Exit.is c.in-Ok.ensures.told
+    arrived-out c.args.state_set.now c.args.transition.from c.args.transition.target (world_of c.args.memory.now.store) _ _ c.in-Exit.is (c.hear.ensures.told ∙ c.in-Ok.ensures.told)
 
 pub returns-in-State-clause-steps : goal.returns-in-State-clause-steps
 returns-in-State-clause-steps g c =

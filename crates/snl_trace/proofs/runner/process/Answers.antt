@@ -30,4 +30,4 @@ returns-in-Ok-Some-clause-does g c =
     let m = c.args.machine.now in
     let view = λ (r : Result (Option (ℕ × Heard)) TraceFault). seen (event_seen c.read_event.new.room) r in
     rw (read-is m c.time.result c.args.line.now (view c.read_event.result) c.read_event.ensures c.time.ensures
-    ∙ ap view (c.in-Ok-Some.is ∙ ap (λ (o : Option (ℕ × Heard)). Ok o) c.in-Ok-Some.field-0-is)) c.act_on.ensures.does
+    ∙ ap view (c.in-Ok-Some.is ∙ ap (λ (o : Option (ℕ × Heard)). Ok o) c.in-Ok-Some.field-0-is)) (rw c.line.ensures.told at c.act_on.ensures.does)

@@ -20,6 +20,6 @@ returns-in-Some-clause-does g c =
     let whole : begun ≡ [] = rw c.in-Some.is at c.requires.whole in
     let read : ◌≡◌ {A = Result (Option (ℕ × Event)) TraceFault} (Ok (Some (c.in-Some.ms, event))) ((rules_of m).read v.time c.args.text.now) =
     rw c.in-Some.is at c.requires.read in
-    let did = subst (λ (r : Result (Option (ℕ × Event)) TraceFault). LineDoes c.act_on.result w old new (done_by (rules_of m) c.args.reading.now.number r v)) read c.act_on.ensures.does in
+    let did = subst (λ (r : Result (Option (ℕ × Event)) TraceFault). LineDoes c.act_on.result w old new (done_by (rules_of m) c.args.reading.now.number r v)) read (rw c.line.ensures.told at c.act_on.ensures.does) in
     let takes = takes-whole (rules_of m) c.act_on.result c.args.text.now begun c.args.reading.now.number v w old new whole c.requires.text did in
     rw whole (rw whole at takes)

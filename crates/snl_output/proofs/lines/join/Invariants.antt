@@ -1,7 +1,0 @@
-use Rattle.std.proofs.Common.{◌≡◌, ◌++◌, drop, map}
-use Rattle.snl_output.specs.Lines.{joined}
-use Rattle.snl_output.proofs.lines.join.Given as goal
-
--- the text so far, and the pieces that are left
-abbrev pub invariant-loop-piece : goal.invariant-loop-piece
-invariant-loop-piece l = l.text.items ++ joined (map (λ piece. piece.now) (drop l.piece-index l.pieces)) ≡ joined (map (λ piece. piece.now) l.pieces)
