@@ -68,12 +68,17 @@ piece_step q text piece left old new start ep el en inv =
     ∙ ap (λ o. option_or o old) (sym (last_of_both q (defined_by (before 44 text)) (rest_of definitions (after 44 text))) ∙ ap (last_value q) (sym (first_defined text)))
     ∙ inv
 
--- the macros of two texts, one noted after the other
+-- the macros of two texts, one noted after the other: the value of the last definition
+pub both_found : (q : List ℕ) (xs ys : List Macro) (first second : Option (List ℕ)) → first ≡ option_or (last_value q xs) None → second ≡ option_or (last_value q ys) first
+    → second ≡ last_value q (xs ++ ys)
+both_found q xs ys first second ef es =
+    let last : option_or (last_value q xs) None ≡ last_value q xs = elim (last_value q xs) as (λ o. option_or o None ≡ o) [ None ↦ refl | Some t ↦ refl ] in
+    es ∙ ap (option_or (last_value q ys)) (ef ∙ last) ∙ sym (last_of_both q xs ys)
+
+-- and what stands for the name
 pub both_noted : (q : List ℕ) (xs ys : List Macro) (first second : Option (List ℕ)) → first ≡ option_or (last_value q xs) None → second ≡ option_or (last_value q ys) first
     → unwrap_or second [] ≡ macro_value (xs ++ ys) q
-both_noted q xs ys first second ef es =
-    let last : option_or (last_value q xs) None ≡ last_value q xs = elim (last_value q xs) as (λ o. option_or o None ≡ o) [ None ↦ refl | Some t ↦ refl ] in
-    ap (λ o. unwrap_or o []) (es ∙ ap (option_or (last_value q ys)) (ef ∙ last) ∙ sym (last_of_both q xs ys))
+both_noted q xs ys first second ef es = ap (λ o. unwrap_or o []) (both_found q xs ys first second ef es)
 
 -- a name up to its first `{`, and what stands for the rest
 pub up_to_open : (value : List ℕ → List ℕ) (text : List ℕ) → replaced value None text ≡ before 123 text ++ rest_of (replaced value (Some [])) (after 123 text)

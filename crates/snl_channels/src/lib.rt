@@ -13,3 +13,4 @@ mod ties;
 
 pub use channels::{Link, Macros, links_of};
 pub use listing::tables_of;
+pub use macros::MacroTable;

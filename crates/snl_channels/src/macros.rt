@@ -1,6 +1,6 @@
 //! Macros in the names of channels (SNL Reference, "Assign"; Compiling SNL Programs, "Program Name and Parameters").
 
-ghost use Rattle.std.specs.Prelude.{◌≡◌, ℕ, ◌<◌, [], List, ◌++◌, length, map, option_map, bytes_eq, None, Some, IfOk, OnOk, IfSome};
+ghost use Rattle.std.specs.Prelude.{◌≡◌, ℕ, ◌<◌, [], List, ◌++◌, length, map, option_map, bytes_eq, is_some, None, Some, IfOk, OnOk, IfSome};
 ghost use Rattle.std.specs.List.{list_all};
 ghost use Rattle.std.specs.Option.{option_or};
 ghost use Rattle.snl_text.specs.Bytes.{is_name_byte};
@@ -89,7 +89,9 @@ impl<'a> MacroTable<'a> {
         of_program: &'a [u8],
         of_run: &'a [u8],
     ) -> Result<MacroTable<'a>, AllocError>
-        ensures { IfOk result (λ table. (q : List ℕ) → value_in table q
+        ensures defined { IfOk result (λ table. (q : List ℕ) → found_in table q
+            ≡ spec.last_value q (spec.macros_of of_program.now of_run.now)) }
+        ensures values { IfOk result (λ table. (q : List ℕ) → value_in table q
             ≡ spec.macro_value (spec.macros_of of_program.now of_run.now) q) }
     {
         let mut table = MacroTable {
@@ -98,6 +100,13 @@ impl<'a> MacroTable<'a> {
         table.note_all(of_program)?;
         table.note_all(of_run)?;
         Ok(table)
+    }
+
+    /// Whether some definition gives a name a value.
+    pub fn is_defined(&self, name: &[u8]) -> bool
+        ensures { result ≡ is_some (found_in self.now name.now) }
+    {
+        self.values.get(&name).is_some()
     }
 
     /// The value that stands for a name; nothing where it is not defined.

@@ -10,4 +10,4 @@ pub returns : goal.returns
 returns c =
     let run = c.args.macros.now.text.now in
     c.in_ok-links.ensures ∙ named_alike (value_in c.in_ok-table.table) (macro_value (macros_of (spelled c.args.program.now.macros) run)) c.as_slice.result.now (ties (program_view c.args.program.now))
-    (λ q. c.in_ok-table.ensures q ∙ ap (λ t. macro_value (macros_of t run) q) c.spelled.ensures) (c.as_slice.ensures.value ∙ c.in_ok-ties.ensures)
+    (λ q. c.in_ok-table.ensures.values q ∙ ap (λ t. macro_value (macros_of t run) q) c.spelled.ensures) (c.as_slice.ensures.value ∙ c.in_ok-ties.ensures)
