@@ -118,47 +118,48 @@ module _ (declared : ℕ → Option Pos) (f : Fact) (v : ℕ) where
   -- some state set from this number on, by its number
   abbrev any_from : ℕ → List StateSetTree → ℕ → Bool
   any_from k [] n = false
-  any_from k (g ∷ rest) n = (any (in_state_set g) && (n == k)) || any_from (suc k) rest n
+  any_from k (g ∷ rest) n = (any (in_state_set declared g) && (n == k)) || any_from (suc k) rest n
 
   -- state sets
   are_from : (sets : List StateSetTree) (w : Doers) (k : ℕ) (P : ℕ → Bool) → Are w P → Are (doers_from declared f v k w sets) (λ n. P n || any_from k sets n)
   are_from [] w k P h = are_same w P (λ n. P n || false) (λ n. or_false (P n)) h
   are_from (g ∷ rest) w k P h =
-      let next = doers_after declared f v k w (in_state_set g) in
-      let more : ℕ → Bool = λ n. P n || (any (in_state_set g) && (n == k)) in
+      let next = doers_after declared f v k w (in_state_set declared g) in
+      let more : ℕ → Bool = λ n. P n || (any (in_state_set declared g) && (n == k)) in
       are_same (doers_from declared f v (suc k) next rest) (λ n. more n || any_from (suc k) rest n) (λ n. P n || any_from k (g ∷ rest) n)
-      (λ n. sym (or_assoc (P n) (any (in_state_set g) && (n == k)) (any_from (suc k) rest n)))
-      (are_from rest next (suc k) more (are_after (in_state_set g) w k P h))
+      (λ n. sym (or_assoc (P n) (any (in_state_set declared g) && (n == k)) (any_from (suc k) rest n)))
+      (are_from rest next (suc k) more (are_after (in_state_set declared g) w k P h))
 
   -- the state set of a number
   abbrev any_at : List StateSetTree → ℕ → Bool
-  any_at sets n = any (if_there in_state_set (slice_get sets n))
+  any_at sets n = any (if_there (in_state_set declared) (slice_get sets n))
 
   -- none has a number below that of the first
   none_below : (sets : List StateSetTree) (k n : ℕ) → n < k → any_from k sets n ≡ false
   none_below [] k n h = refl
   none_below (g ∷ rest) k n h =
-      ap (λ b. (any (in_state_set g) && b) || any_from (suc k) rest n) (ne_eqb n k (λ e. absurd (omega (arith, e))))
-      ∙ ap (λ b. (any (in_state_set g) && false) || b) (none_below rest (suc k) n (omega arith)) ∙ or_false (any (in_state_set g) && false)
-      ∙ and_false (any (in_state_set g))
+      ap (λ b. (any (in_state_set declared g) && b) || any_from (suc k) rest n) (ne_eqb n k (λ e. absurd (omega (arith, e))))
+      ∙ ap (λ b. (any (in_state_set declared g) && false) || b) (none_below rest (suc k) n (omega arith)) ∙ or_false (any (in_state_set declared g) && false)
+      ∙ and_false (any (in_state_set declared g))
 
   -- each has its own
   at_number : (sets : List StateSetTree) (k i n : ℕ) → n ≡ k + i → any_from k sets n ≡ any_at sets i
   at_number [] k i n e = refl
   at_number (g ∷ rest) k zero n e =
-      ap (λ b. (any (in_state_set g) && b) || any_from (suc k) rest n) (eq-eqb n k (omega (arith, e)))
-      ∙ ap (λ b. (any (in_state_set g) && true) || b) (none_below rest (suc k) n (omega (arith, e))) ∙ or_false (any (in_state_set g) && true) ∙ and_true (any (in_state_set g))
+      ap (λ b. (any (in_state_set declared g) && b) || any_from (suc k) rest n) (eq-eqb n k (omega (arith, e)))
+      ∙ ap (λ b. (any (in_state_set declared g) && true) || b) (none_below rest (suc k) n (omega (arith, e)))
+      ∙ or_false (any (in_state_set declared g) && true) ∙ and_true (any (in_state_set declared g))
   at_number (g ∷ rest) k (suc i) n e =
-      ap (λ b. (any (in_state_set g) && b) || any_from (suc k) rest n) (ne_eqb n k (λ same. absurd (omega (arith, e, same))))
-      ∙ ap (λ b. b || any_from (suc k) rest n) (and_false (any (in_state_set g))) ∙ at_number rest (suc k) i n (omega (arith, e))
+      ap (λ b. (any (in_state_set declared g) && b) || any_from (suc k) rest n) (ne_eqb n k (λ same. absurd (omega (arith, e, same))))
+      ∙ ap (λ b. b || any_from (suc k) rest n) (and_false (any (in_state_set declared g))) ∙ at_number rest (suc k) i n (omega (arith, e))
 
   -- all that is done on the copy of a state set
   set_is : (p : ProgramTree) (n : ℕ) →
-      set_does declared p f v n ≡ (((false || (any (if_there in_block p.entry) && (n == 0))) || (any (if_there in_block p.exit) && (n == 0))) || any_from 0 p.state_sets n)
+      set_does declared p f v n ≡ (((false || (any (if_there (in_block declared) p.entry) && (n == 0))) || (any (if_there (in_block declared) p.exit) && (n == 0))) || any_from 0 p.state_sets n)
   set_is p n =
-      let entry = if_there in_block p.entry in
-      let exit = if_there in_block p.exit in
-      let own = if_there in_state_set (slice_get p.state_sets n) in
+      let entry = if_there (in_block declared) p.entry in
+      let exit = if_there (in_block declared) p.exit in
+      let own = if_there (in_state_set declared) (slice_get p.state_sets n) in
       let test = does declared f v in
       list_any-append test (for_first n entry) (own ++ for_first n exit)
       ∙ ap (λ b. any (for_first n entry) || b) (list_any-append test own (for_first n exit))
@@ -169,8 +170,8 @@ module _ (declared : ℕ → Option Pos) (f : Fact) (v : ℕ) where
   -- the doers of a program are the state sets that do it
   pub doers_are : (p : ProgramTree) → Are (doers_of declared p f v) (set_does declared p f v)
   doers_are p =
-      let entry = if_there in_block p.entry in
-      let exit = if_there in_block p.exit in
+      let entry = if_there (in_block declared) p.entry in
+      let exit = if_there (in_block declared) p.exit in
       let first = doers_after declared f v 0 Nobody entry in
       let P1 : ℕ → Bool = λ n. false || (any entry && (n == 0)) in
       let P2 : ℕ → Bool = λ n. P1 n || (any exit && (n == 0)) in

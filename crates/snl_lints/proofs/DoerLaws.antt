@@ -26,7 +26,7 @@ module _ (declared : ℕ → Option Pos) (f : Fact) (v : ℕ) where
   -- one more state set
   pub set_step : (all : List StateSet) (i : ℕ) (g : StateSet) (before now start : Doers) → i < length all → g ≡ get_or all i g
       → doers_from declared f v i before (map state_set_view (drop i all)) ≡ start
-      → now ≡ doers_after declared f v i before (in_state_set (state_set_view g))
+      → now ≡ doers_after declared f v i before (in_state_set declared (state_set_view g))
       → doers_from declared f v (i + 1) now (map state_set_view (drop (i + 1) all)) ≡ start
   set_step all i g before now start h e inv en =
       let rest = drop (i + 1) all in

@@ -14,13 +14,13 @@ abbrev pub for_first : ℕ → List Touch → List Touch
 for_first set all = if set == 0 then all else []
 
 -- What is done on the copy of a state set, but in functions.
-abbrev pub touches_of_set : ProgramTree → ℕ → List Touch
-touches_of_set p set =
-    for_first set (if_there in_block p.entry) ++ (if_there in_state_set (slice_get p.state_sets set) ++ for_first set (if_there in_block p.exit))
+abbrev pub touches_of_set : (ℕ → Option Pos) → ProgramTree → ℕ → List Touch
+touches_of_set declared p set =
+    for_first set (if_there (in_block declared) p.entry) ++ (if_there (in_state_set declared) (slice_get p.state_sets set) ++ for_first set (if_there (in_block declared) p.exit))
 
 -- The state set of this number does this with the variable.
 abbrev pub set_does : (ℕ → Option Pos) → ProgramTree → Fact → ℕ → ℕ → Bool
-set_does declared p f variable set = list_any (does declared f variable) (touches_of_set p set)
+set_does declared p f variable set = list_any (does declared f variable) (touches_of_set declared p set)
 
 -- Some state set does the one, and another one does the other.
 pub record DoneApart (declared : ℕ → Option Pos) (p : ProgramTree) (f g : Fact) (variable : ℕ) : Type 0 where

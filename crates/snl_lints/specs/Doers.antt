@@ -29,12 +29,12 @@ doers_after declared f variable k before (t ∷ rest) = doers_after declared f v
 -- Behind state sets that are counted from this number on.
 abbrev pub doers_from : (ℕ → Option Pos) → Fact → ℕ → ℕ → Doers → List StateSetTree → Doers
 doers_from declared f variable k before [] = before
-doers_from declared f variable k before (g ∷ rest) = doers_from declared f variable (suc k) (doers_after declared f variable k before (in_state_set g)) rest
+doers_from declared f variable k before (g ∷ rest) = doers_from declared f variable (suc k) (doers_after declared f variable k before (in_state_set declared g)) rest
 
 -- Those of the program's own blocks, which are done on the copy of the first state set.
 abbrev pub doers_in_blocks : (ℕ → Option Pos) → Fact → ℕ → ProgramTree → Doers
 doers_in_blocks declared f variable p =
-    doers_after declared f variable 0 (doers_after declared f variable 0 Nobody (if_there in_block p.entry)) (if_there in_block p.exit)
+    doers_after declared f variable 0 (doers_after declared f variable 0 Nobody (if_there (in_block declared) p.entry)) (if_there (in_block declared) p.exit)
 
 -- Those of a program. What stands in a function is not counted, since the state sets that call it do it.
 abbrev pub doers_of : (ℕ → Option Pos) → ProgramTree → Fact → ℕ → Doers

@@ -112,9 +112,13 @@ program_of defs sets =
 abbrev pub plain : List DefinitionTree → Option ExprTree → List ExprTree → ProgramTree
 plain defs condition all = program_of defs (set_of (state_of [] None condition all) ∷ [])
 
--- the lints that remark on a program, each with the offset
+-- the lints that remark on a program with the macros of a call, each with the offset
+abbrev pub said_with : List ℕ → ProgramTree → List (Lint × ℕ)
+said_with of_call p = map (λ r. (r.lint, r.token.pos.offset)) (remarks_of p of_call)
+
+-- the same with no macros
 abbrev pub said_of : ProgramTree → List (Lint × ℕ)
-said_of p = map (λ r. (r.lint, r.token.pos.offset)) (remarks_of p)
+said_of p = said_with [] p
 
 -- ---- what is done with a variable of a channel
 pub record VariableExamples : Type 0 where

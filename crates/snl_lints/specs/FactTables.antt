@@ -1,11 +1,14 @@
 -- What the tables of a program know.
-use Rattle.std.specs.Prelude.{◌≡◌, ℕ, Bool, false, None, nat_eq}
+use Rattle.std.specs.Prelude.{◌≡◌, ℕ, Bool, false, None, is_some, nat_eq}
 use Rattle.std.specs.HashMap.{get}
 use Rattle.std.specs.HashSet.{contains}
+use Rattle.snl_channels.specs.declared.macros.MacroTable.{MacroTable}
+use Rattle.snl_channels.specs.MacroTables.{found_in, value_in}
 use Rattle.snl_lints.specs.declared.facts.Fact.{Fact}
 use Rattle.snl_lints.specs.declared.facts.Fact.TheVariants as fact
 use Rattle.snl_lints.specs.declared.facts.Facts.{Facts}
 use Rattle.snl_lints.specs.declared.tables.Tables.{Tables}
+use Rattle.snl_lints.specs.Channels.{Given}
 use Rattle.snl_lints.specs.Doers.{doers_in}
 use Rattle.snl_lints.specs.Lints.{Known}
 
@@ -33,10 +36,15 @@ pub record IsBlank (k : Facts) : Type 0 where
 
 -- What all tables know.
 abbrev pub known_by_tables : Tables → Known
-known_by_tables t = record { done = known_in t.facts; setters = doers_in t.setters; readers = doers_in t.readers }
+known_by_tables t = record { done = known_in t.facts; setters = doers_in t.setters; readers = doers_in t.readers; held = get nat_eq t.held }
 
 -- All tables are empty.
 pub record AreBlank (t : Tables) : Type 0 where
   pub facts : IsBlank t.facts
   pub setters : (v : ℕ) → get nat_eq t.setters v ≡ None
   pub readers : (v : ℕ) → get nat_eq t.readers v ≡ None
+  pub held : (v : ℕ) → get nat_eq t.held v ≡ None
+
+-- What a table of macros gives.
+abbrev pub given_in : MacroTable → Given
+given_in table = record { defined = λ name. is_some (found_in table name); value = value_in table }

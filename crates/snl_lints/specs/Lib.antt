@@ -1,9 +1,13 @@
 pub mod Apart
+pub mod Channels
 pub mod Columns
+pub mod Constants
+pub mod ConstantExamples
 pub mod Doers
 pub mod Examples
 pub mod Facts
 pub mod FactTables
 pub mod Lines
 pub mod Lints
+pub mod Refused
 pub mod Touches

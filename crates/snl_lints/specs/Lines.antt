@@ -2,7 +2,7 @@
 use Rattle.std.specs.Prelude.{ℕ, ◌-◌, ◌==◌, Bool, ◌||◌, List, [], ◌∷◌, ◌++◌, Option, None, Some, slice_index_or, bytes_eq, if◌then◌else◌, codes, decimal}
 use Rattle.std.specs.List.{concat, flat_map, list_any}
 use Rattle.snl_lints.specs.declared.remarks.Lint.{Lint}
-use Rattle.snl_lints.specs.declared.remarks.Lint.TheVariants.{Itself, Shared, Stale, Unread, Unput, Equals, Comma, Answered}
+use Rattle.snl_lints.specs.declared.remarks.Lint.TheVariants.{Itself, Shared, Stale, Unread, Unput, Equals, Comma, Answered, Undefined, Unclosed, Unspoken, Faulting, Unfitting, Missing}
 use Rattle.snl_lints.specs.declared.remarks.Remark.{Remark}
 use Rattle.snl_lints.specs.Columns.{column_of}
 
@@ -18,6 +18,12 @@ name_of Unput = codes "unput"
 name_of Equals = codes "equals"
 name_of Comma = codes "comma"
 name_of Answered = codes "answered"
+name_of Undefined = codes "macro"
+name_of Unclosed = codes "macro"
+name_of Unspoken = codes "unspoken"
+name_of Faulting = codes "constant"
+name_of Unfitting = codes "constant"
+name_of Missing = codes "constant"
 
 -- The lint of a name, of those that speak of what is done with a variable.
 abbrev pub variable_lint_of : List ℕ → Option Lint
@@ -27,13 +33,20 @@ variable_lint_of name =
     else (if bytes_eq name (codes "unread") then Some Unread
     else (if bytes_eq name (codes "unput") then Some Unput else None)))
 
+-- The lint of a name, of those that speak of channels and constants. What one name has several of counts by the first.
+abbrev pub constant_lint_of : List ℕ → Option Lint
+constant_lint_of name =
+    if bytes_eq name (codes "macro") then Some Undefined
+    else (if bytes_eq name (codes "unspoken") then Some Unspoken
+    else (if bytes_eq name (codes "constant") then Some Faulting else variable_lint_of name))
+
 -- The lint of a name, if there is one.
 abbrev pub lint_of : List ℕ → Option Lint
 lint_of name =
     if bytes_eq name (codes "itself") then Some Itself
     else (if bytes_eq name (codes "equals") then Some Equals
     else (if bytes_eq name (codes "comma") then Some Comma
-    else (if bytes_eq name (codes "answered") then Some Answered else variable_lint_of name)))
+    else (if bytes_eq name (codes "answered") then Some Answered else constant_lint_of name)))
 
 -- What a remark says behind the token that it quotes.
 abbrev pub words_of : Lint → List ℕ
@@ -45,6 +58,12 @@ words_of Unput = codes "' is set and never put"
 words_of Equals = codes "' sets a variable in a condition; == compares, and ((x = y)) is taken as meant"
 words_of Comma = codes "' in a condition: what stands before it decides nothing; && takes both"
 words_of Answered = codes "' is never put with ASYNC, so pvPutComplete is always 1"
+words_of Undefined = codes "' has a macro that neither the program nor MACROS defines: nothing stands in its place"
+words_of Unclosed = codes "' has a { that no } follows: it stays in the name"
+words_of Unspoken = codes "' names a channel that no trace can name: a name there is printable ASCII without blanks, at most 32763 bytes"
+words_of Faulting = codes "' faults by its constants whenever it is computed"
+words_of Unfitting = codes "' is given a number that its type does not have"
+words_of Missing = codes "' has no element of this number"
 
 -- ---- places
 

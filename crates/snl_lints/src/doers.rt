@@ -113,10 +113,10 @@ fn note_block(
 ) -> Result<(), AllocError>
     ensures { OnOk result ((v : ℕ) → spec.doers_in table.new v
         ≡ spec.doers_after (declared_at uses.now) fact v 0 (spec.doers_in table.old v)
-        (if_there in_block (shown (held block_view) block.now))) }
+        (if_there (in_block (declared_at uses.now)) (shown (held block_view) block.now))) }
 {
     let mut touches = Vec::new(alloc);
-    push_maybe_block(block, &mut touches)?;
+    push_maybe_block(block, uses, &mut touches)?;
     note_doers(table, fact, 0, touches.as_slice(), uses)
 }
 
@@ -131,10 +131,10 @@ fn note_set(
 ) -> Result<(), AllocError>
     ensures { OnOk result ((v : ℕ) → spec.doers_in table.new v
         ≡ spec.doers_after (declared_at uses.now) fact v number (spec.doers_in table.old v)
-        (in_state_set (state_set_view set.now))) }
+        (in_state_set (declared_at uses.now) (state_set_view set.now))) }
 {
     let mut touches = Vec::new(alloc);
-    push_state_set(set, &mut touches)?;
+    push_state_set(set, uses, &mut touches)?;
     note_doers(table, fact, number, touches.as_slice(), uses)
 }
 

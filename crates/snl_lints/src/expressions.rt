@@ -1,4 +1,4 @@
-//! What expressions do with variables.
+//! What expressions do, with variables and by constants.
 
 ghost use Rattle.std.specs.Prelude.{◌≡◌, [], ◌∷◌, ◌++◌, map, OnOk};
 ghost use Rattle.std.specs.List.{flat_map};
@@ -7,10 +7,15 @@ ghost use Rattle.snl_syntax.specs.view.Expressions.{view, boxed, pair_of, list_b
 ghost use Rattle.snl_syntax.specs.view.Lists.{term_list};
 ghost use Rattle.snl_syntax.specs.view.Shown.{shown};
 ghost use Rattle.snl_syntax.specs.Expressions.{no_arguments, call};
+ghost use Rattle.snl_names.specs.UseTables.{declared_at};
 ghost use Rattle.snl_lints.specs.Touches as spec;
 
-use crate::touches::{Role, Touch, push_assignment, push_comma, push_name, role_in, role_under};
-use snl_names::builtin_of;
+use crate::constants::worth_of;
+use crate::givens::{push_element, push_given, push_operator, push_prefix};
+use crate::operators::faults_between;
+use crate::touches::{Role, Touch, push_comma, push_faulting, push_name, role_in, role_under};
+use snl_names::constants::joined;
+use snl_names::{Constant, UseTable, builtin_of};
 use snl_syntax::{Argument, Expr, Term};
 use snl_text::Token;
 use std::alloc::AllocError;
@@ -20,58 +25,64 @@ use std::alloc::AllocError;
 fn push_expression<'a>(
     expression: &Expr<'a>,
     role: Role,
+    uses: &UseTable,
     found: &mut Vec<Touch<'a>>,
 ) -> Result<(), AllocError>
     ensures { OnOk result (found.new.items ≡ found.old.items
-        ++ spec.in_expression role (view expression.now)) }
+        ++ spec.in_expression (declared_at uses.now) role (view expression.now)) }
 {
     match expression {
         Expr::Constant(_) => Ok(()),
         Expr::Named(name) => push_name(*name, role, found),
-        Expr::Parenthesized(part) => push_expression(part, role.in_parentheses(), found),
+        Expr::Parenthesized(part) => push_expression(part, role.in_parentheses(), uses, found),
         Expr::Element { name, index, .. } => {
-            push_name(*name, role, found)?;
-            push_expression(index, Role::Value, found)
+            push_element(index, *name, role, uses, found)?;
+            push_expression(index, Role::Value, uses, found)
         }
-        Expr::Call(name, arguments) => push_called(arguments.as_slice(), *name, found),
-        Expr::Postfix(target, _) => push_expression(target, Role::Target, found),
+        Expr::Call(name, arguments) => push_called(arguments.as_slice(), *name, uses, found),
+        Expr::Postfix(target, _) => push_expression(target, Role::Target, uses, found),
         Expr::Prefix(operator, operand) => {
-            push_expression(operand, role_under(operator.kind), found)
+            push_prefix(operand, *operator, uses, found)?;
+            push_expression(operand, role_under(operator.kind), uses, found)
         }
         Expr::Chain(first, terms) => {
-            push_expression(first, Role::Value, found)?;
-            push_operands(terms.as_slice(), role, found)
+            let first: &Expr<'a> = first;
+            push_expression(first, Role::Value, uses, found)?;
+            push_operands(terms.as_slice(), role, worth_of(first, uses), uses, found)
         }
         Expr::Conditional { condition, yes, no } => {
-            push_expression(condition, Role::Value, found)?;
-            push_expression(yes, Role::Value, found)?;
-            push_expression(no, Role::Value, found)
+            push_expression(condition, Role::Value, uses, found)?;
+            push_expression(yes, Role::Value, uses, found)?;
+            push_expression(no, Role::Value, uses, found)
         }
         Expr::Assignment {
             target,
             operator,
             value,
         } => {
-            push_expression(target, Role::Target, found)?;
-            push_assignment(*operator, role, found)?;
-            push_expression(value, Role::Value, found)
+            push_given(target, operator.kind, value, uses, found)?;
+            push_expression(target, Role::Target, uses, found)?;
+            push_operator(value, *operator, role, uses, found)?;
+            push_expression(value, Role::Value, uses, found)
         }
     }
 }
 
-/// Adds what the operands of a chain do but the first, and its comma where it is a condition.
+/// Adds what the operands of a chain do but the first, which is worth this, and its comma where it is a condition.
 #[cycle(expression)]
 fn push_operands<'a>(
     terms: &[Term<'a>],
     role: Role,
+    first: Constant,
+    uses: &UseTable,
     found: &mut Vec<Touch<'a>>,
 ) -> Result<(), AllocError>
     ensures { OnOk result (found.new.items ≡ found.old.items
         ++ (spec.at_comma role (term_list (map pair_of terms.now))
-        ++ spec.in_terms (term_list (map pair_of terms.now)))) }
+        ++ spec.in_terms (declared_at uses.now) first (term_list (map pair_of terms.now)))) }
 {
     push_comma(terms, role, found)?;
-    push_terms(terms, found)
+    push_terms(terms, first, uses, found)
 }
 
 /// Adds what the arguments of a call do.
@@ -79,24 +90,36 @@ fn push_operands<'a>(
 fn push_called<'a>(
     arguments: &[Argument<'a>],
     name: Token<'a>,
+    uses: &UseTable,
     found: &mut Vec<Touch<'a>>,
 ) -> Result<(), AllocError>
     ensures { OnOk result (found.new.items ≡ found.old.items
-        ++ spec.in_expression Role.Value
+        ++ spec.in_expression (declared_at uses.now) Role.Value
         (call name.entry (list_before arguments.now no_arguments))) }
 {
     let role = role_in(builtin_of(name.text), arguments);
-    push_arguments(arguments, role, found)
+    push_arguments(arguments, role, uses, found)
 }
 
-/// Adds what the operands of a chain do but the first.
+/// Adds what the operands of a chain do but the first, which is worth this.
 #[cycle(expression)]
-fn push_terms<'a>(terms: &[Term<'a>], found: &mut Vec<Touch<'a>>) -> Result<(), AllocError>
+fn push_terms<'a>(
+    terms: &[Term<'a>],
+    first: Constant,
+    uses: &UseTable,
+    found: &mut Vec<Touch<'a>>,
+) -> Result<(), AllocError>
     ensures { OnOk result (found.new.items ≡ found.old.items
-        ++ spec.in_terms (term_list (map pair_of terms.now))) }
+        ++ spec.in_terms (declared_at uses.now) first (term_list (map pair_of terms.now))) }
 {
+    let mut left = first;
     for term in terms {
-        push_expression(&term.operand, Role::Value, found)?;
+        let operator = term.operator;
+        let operand: &Expr<'a> = &term.operand;
+        let right = worth_of(operand, uses);
+        push_faulting(operator, faults_between(operator.kind, left, right), found)?;
+        push_expression(operand, Role::Value, uses, found)?;
+        left = joined(operator.kind, left, right);
     }
     Ok(())
 }
@@ -106,13 +129,14 @@ fn push_terms<'a>(terms: &[Term<'a>], found: &mut Vec<Touch<'a>>) -> Result<(), 
 fn push_arguments<'a>(
     arguments: &[Argument<'a>],
     role: Role,
+    uses: &UseTable,
     found: &mut Vec<Touch<'a>>,
 ) -> Result<(), AllocError>
     ensures { OnOk result (found.new.items ≡ found.old.items
-        ++ spec.in_arguments role (list_before arguments.now no_arguments)) }
+        ++ spec.in_arguments (declared_at uses.now) role (list_before arguments.now no_arguments)) }
 {
     for argument in arguments {
-        push_argument(argument, role, found)?;
+        push_argument(argument, role, uses, found)?;
     }
     Ok(())
 }
@@ -122,45 +146,54 @@ fn push_arguments<'a>(
 fn push_argument<'a>(
     argument: &Argument<'a>,
     role: Role,
+    uses: &UseTable,
     found: &mut Vec<Touch<'a>>,
 ) -> Result<(), AllocError>
     ensures { OnOk result (found.new.items ≡ found.old.items
-        ++ spec.in_arguments role (list_before (argument.now ∷ []) no_arguments)) }
+        ++ spec.in_arguments (declared_at uses.now) role
+        (list_before (argument.now ∷ []) no_arguments)) }
 {
     match argument {
-        Argument::Value(value) => push_expression(value, role, found),
+        Argument::Value(value) => push_expression(value, role, uses, found),
         Argument::Text(_) => Ok(()),
     }
 }
 
 /// Adds what an expression does that gives a value. Fails only where memory ends.
-pub fn push_value<'a>(value: &Expr<'a>, found: &mut Vec<Touch<'a>>) -> Result<(), AllocError>
-    ensures { OnOk result (found.new.items ≡ found.old.items ++ spec.in_value (view value.now)) }
+pub fn push_value<'a>(
+    value: &Expr<'a>,
+    uses: &UseTable,
+    found: &mut Vec<Touch<'a>>,
+) -> Result<(), AllocError>
+    ensures { OnOk result (found.new.items ≡ found.old.items
+        ++ spec.in_value (declared_at uses.now) (view value.now)) }
 {
-    push_expression(value, Role::Value, found)
+    push_expression(value, Role::Value, uses, found)
 }
 
 /// The same of one that decides. Fails only where memory ends.
 pub fn push_condition<'a>(
     condition: &Expr<'a>,
+    uses: &UseTable,
     found: &mut Vec<Touch<'a>>,
 ) -> Result<(), AllocError>
     ensures { OnOk result (found.new.items ≡ found.old.items
-        ++ spec.in_condition (view condition.now)) }
+        ++ spec.in_condition (declared_at uses.now) (view condition.now)) }
 {
-    push_expression(condition, Role::Condition, found)
+    push_expression(condition, Role::Condition, uses, found)
 }
 
 /// The same where it may be missing. Fails only where memory ends.
 pub fn push_maybe_condition<'a>(
     condition: &Option<Box<Expr<'a>>>,
+    uses: &UseTable,
     found: &mut Vec<Touch<'a>>,
 ) -> Result<(), AllocError>
     ensures { OnOk result (found.new.items ≡ found.old.items
-        ++ spec.if_there spec.in_condition (shown boxed condition.now)) }
+        ++ spec.if_there (spec.in_condition (declared_at uses.now)) (shown boxed condition.now)) }
 {
     match condition {
-        Some(condition) => push_condition(condition, found),
+        Some(condition) => push_condition(condition, uses, found),
         None => Ok(()),
     }
 }
@@ -168,13 +201,14 @@ pub fn push_maybe_condition<'a>(
 /// Adds what an expression does that gives a value, where it may be missing. Fails only where memory ends.
 pub fn push_if_there<'a>(
     value: &Option<Box<Expr<'a>>>,
+    uses: &UseTable,
     found: &mut Vec<Touch<'a>>,
 ) -> Result<(), AllocError>
     ensures { OnOk result (found.new.items ≡ found.old.items
-        ++ spec.if_there spec.in_value (shown boxed value.now)) }
+        ++ spec.if_there (spec.in_value (declared_at uses.now)) (shown boxed value.now)) }
 {
     match value {
-        Some(value) => push_value(value, found),
+        Some(value) => push_value(value, uses, found),
         None => Ok(()),
     }
 }
@@ -182,13 +216,14 @@ pub fn push_if_there<'a>(
 /// The same of several. Fails only where memory ends.
 pub fn push_values<'a>(
     values: &[Box<Expr<'a>>],
+    uses: &UseTable,
     found: &mut Vec<Touch<'a>>,
 ) -> Result<(), AllocError>
     ensures { OnOk result (found.new.items ≡ found.old.items
-        ++ flat_map spec.in_value (map boxed values.now)) }
+        ++ flat_map (spec.in_value (declared_at uses.now)) (map boxed values.now)) }
 {
     for value in values {
-        push_value(value, found)?;
+        push_value(value, uses, found)?;
     }
     Ok(())
 }

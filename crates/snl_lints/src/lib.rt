@@ -1,12 +1,17 @@
 //! Lints: what a program does that is no error, and that is seldom meant.
 #![tactic(auto)]
 
+mod channels;
 mod columns;
+mod constants;
 mod doers;
 mod expressions;
 mod facts;
+mod givens;
+mod holdings;
 pub mod laws;
 mod lines;
+mod operators;
 mod parts;
 mod remarks;
 mod statements;

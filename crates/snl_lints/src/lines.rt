@@ -38,7 +38,22 @@ fn variable_lint_named(name: &[u8]) -> Option<Lint>
     }
 }
 
-/// The lint of a name; none where it is unknown.
+/// The lint of a name, of those that speak of channels and constants. What one name has several of counts by the first.
+fn constant_lint_named(name: &[u8]) -> Option<Lint>
+    ensures { result ≡ spec.constant_lint_of name.now }
+{
+    if name == b"macro".as_slice() {
+        Some(Lint::Undefined)
+    } else if name == b"unspoken".as_slice() {
+        Some(Lint::Unspoken)
+    } else if name == b"constant".as_slice() {
+        Some(Lint::Faulting)
+    } else {
+        variable_lint_named(name)
+    }
+}
+
+/// The lint of a name; none where it is unknown. Of several that have one name it is the first.
 pub fn lint_named(name: &[u8]) -> Option<Lint>
     ensures { result ≡ spec.lint_of name.now }
 {
@@ -51,7 +66,7 @@ pub fn lint_named(name: &[u8]) -> Option<Lint>
     } else if name == b"answered".as_slice() {
         Some(Lint::Answered)
     } else {
-        variable_lint_named(name)
+        constant_lint_named(name)
     }
 }
 
@@ -68,6 +83,9 @@ pub fn name_of(lint: Lint) -> &'static [u8]
         Lint::Equals => b"equals",
         Lint::Comma => b"comma",
         Lint::Answered => b"answered",
+        Lint::Undefined | Lint::Unclosed => b"macro",
+        Lint::Unspoken => b"unspoken",
+        Lint::Faulting | Lint::Unfitting | Lint::Missing => b"constant",
     }
 }
 
@@ -90,6 +108,16 @@ pub fn words_of(lint: Lint) -> &'static [u8]
         }
         Lint::Comma => b"' in a condition: what stands before it decides nothing; && takes both",
         Lint::Answered => b"' is never put with ASYNC, so pvPutComplete is always 1",
+        Lint::Undefined => {
+            b"' has a macro that neither the program nor MACROS defines: nothing stands in its place"
+        }
+        Lint::Unclosed => b"' has a { that no } follows: it stays in the name",
+        Lint::Unspoken => {
+            b"' names a channel that no trace can name: a name there is printable ASCII without blanks, at most 32763 bytes"
+        }
+        Lint::Faulting => b"' faults by its constants whenever it is computed",
+        Lint::Unfitting => b"' is given a number that its type does not have",
+        Lint::Missing => b"' has no element of this number",
     }
 }
 

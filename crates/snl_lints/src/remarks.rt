@@ -4,13 +4,20 @@ ghost use Rattle.std.specs.Prelude.{◌≡◌, ◌++◌, OnOk, IfOk};
 ghost use Rattle.std.specs.List.{flat_map};
 ghost use Rattle.snl_syntax.specs.view.Programs.{program_view};
 ghost use Rattle.snl_names.specs.UseTables.{IsTableOf, declared_at};
-ghost use Rattle.snl_lints.specs.FactTables.{AreBlank, known_in, known_by_tables};
+ghost use Rattle.snl_channels.specs.Links.{spelled};
+ghost use Rattle.snl_lints.specs.Constants.{lacks_number, misses_element};
+ghost use Rattle.snl_lints.specs.FactTables.{AreBlank, given_in, known_in, known_by_tables};
+ghost use Rattle.snl_lints.specs.Touches.{touches};
 ghost use Rattle.snl_lints.specs.Lints as spec;
 
+use crate::channels::{has_undefined, is_open, is_unspoken_after};
+use crate::constants::{lacks_number, misses_element};
 use crate::facts::{Fact, Facts};
 use crate::parts::touches_of;
 use crate::tables::{Tables, note_all};
 use crate::touches::Touch;
+use snl_channels::{MacroTable, Macros};
+use snl_names::formats::unquoted;
 use snl_names::{Query, UseTable};
 use snl_syntax::Program;
 use snl_text::{Pos, Token};
@@ -35,6 +42,18 @@ pub enum Lint {
     Comma,
     /// `pvPutComplete` of a variable that is never put with the word `ASYNC`.
     Answered,
+    /// A macro in the name of a channel has no definition.
+    Undefined,
+    /// A brace in the name of a channel is not closed.
+    Unclosed,
+    /// No line of a trace can name a channel.
+    Unspoken,
+    /// An operator faults by its constants.
+    Faulting,
+    /// A variable is given a number that its type lacks.
+    Unfitting,
+    /// A variable has no element of a constant subscript.
+    Missing,
 }
 
 /// What a lint remarks, and where.
@@ -42,8 +61,16 @@ pub enum Lint {
 pub struct Remark<'a> {
     /// Which lint it is.
     pub lint: Lint,
-    /// Where it is said: at a name, or at an operator of a condition.
+    /// Where it is said: at a name, at an operator, or at the name of a channel.
     pub token: Token<'a>,
+}
+
+/// What remarks are made by: what the names of a program mean, and what stands for macros in the names of its channels.
+#[derive(Clone, Copy)]
+struct Sources<'s, 'm> {
+    alloc: Global,
+    uses: &'s UseTable,
+    macros: &'s MacroTable<'m>,
 }
 
 /// Adds a remark at a token, where a test holds.
@@ -170,24 +197,90 @@ fn push_asked<'a>(
     }
 }
 
-/// Adds what is remarked at one touch.
-fn push_remarks_at<'a>(
+/// Whether the variable that a name means lacks a number that it is given.
+fn is_unfitting(tables: &Tables, place: Option<Pos>, number: i64) -> bool
+    ensures { result ≡ spec.of_meant (λ v. lacks_number ((known_by_tables tables.now).held v)
+        number) place }
+{
+    match place {
+        Some(place) => lacks_number(tables.held(place.offset), number),
+        None => false,
+    }
+}
+
+/// Whether the variable that a name means has no element of a number.
+fn is_missing(tables: &Tables, place: Option<Pos>, number: i64) -> bool
+    ensures { result ≡ spec.of_meant (λ v. misses_element ((known_by_tables tables.now).held v)
+        number) place }
+{
+    match place {
+        Some(place) => misses_element(tables.held(place.offset), number),
+        None => false,
+    }
+}
+
+/// Adds what is remarked at the name of a channel.
+fn push_channel<'a>(
+    alloc: Global,
+    token: Token<'a>,
+    macros: &MacroTable,
+    remarks: &mut Vec<Remark<'a>>,
+) -> Result<(), AllocError>
+    ensures { OnOk result (remarks.new.items ≡ remarks.old.items
+        ++ spec.at_channel (given_in macros.now) token.entry) }
+{
+    let name = unquoted(token.text);
+    push_when(token, Lint::Undefined, has_undefined(name, macros), remarks)?;
+    push_when(token, Lint::Unclosed, is_open(name), remarks)?;
+    let is_unspoken = is_unspoken_after(alloc, name, macros)?;
+    push_when(token, Lint::Unspoken, is_unspoken, remarks)
+}
+
+/// Adds what is remarked at one touch of a variable.
+fn push_variable<'a>(
     touch: &Touch<'a>,
     tables: &Tables,
     uses: &UseTable,
     remarks: &mut Vec<Remark<'a>>,
 ) -> Result<(), AllocError>
     ensures { OnOk result (remarks.new.items ≡ remarks.old.items
-        ++ spec.remarks_at (declared_at uses.now) (known_by_tables tables.now) touch.now) }
+        ++ spec.at_variable (declared_at uses.now) (known_by_tables tables.now) touch.now) }
 {
     match touch {
         Touch::Declares(name) => push_declared(*name, tables, remarks),
         Touch::Monitors(name) => push_monitored(*name, &tables.facts, uses, remarks),
         Touch::Asks(query, name) => push_asked(*name, *query, &tables.facts, uses, remarks),
+        Touch::Stores(name, number) => {
+            let test = is_unfitting(tables, uses.declared(name.pos.offset), *number);
+            push_when(*name, Lint::Unfitting, test, remarks)
+        }
+        Touch::Picks(name, number) => {
+            let test = is_missing(tables, uses.declared(name.pos.offset), *number);
+            push_when(*name, Lint::Missing, test, remarks)
+        }
+        _ => Ok(()),
+    }
+}
+
+/// Adds what is remarked at one touch.
+fn push_remarks_at<'a>(
+    touch: &Touch<'a>,
+    tables: &Tables,
+    sources: Sources,
+    remarks: &mut Vec<Remark<'a>>,
+) -> Result<(), AllocError>
+    ensures { OnOk result (remarks.new.items ≡ remarks.old.items
+        ++ spec.remarks_at (declared_at sources.entry.uses.now)
+        (given_in sources.entry.macros.now) (known_by_tables tables.now) touch.now) }
+{
+    match touch {
+        Touch::Names(name) => push_channel(sources.alloc, *name, sources.macros, remarks),
         Touch::Equals(operator) => push_when(*operator, Lint::Equals, true, remarks),
         Touch::Comma(operator) => push_when(*operator, Lint::Comma, true, remarks),
         Touch::Returns(name) => push_when(*name, Lint::Itself, true, remarks),
-        _ => Ok(()),
+        Touch::Faults(operator) => push_when(*operator, Lint::Faulting, true, remarks),
+        Touch::Lacks(name) => push_when(*name, Lint::Unfitting, true, remarks),
+        _ => push_variable(touch, tables, sources.uses, remarks),
     }
 }
 
@@ -195,69 +288,99 @@ fn push_remarks_at<'a>(
 fn push_remarks<'a>(
     touches: &[Touch<'a>],
     tables: &Tables,
-    uses: &UseTable,
+    sources: Sources,
     remarks: &mut Vec<Remark<'a>>,
 ) -> Result<(), AllocError>
     ensures { OnOk result (remarks.new.items ≡ remarks.old.items
-        ++ flat_map (spec.remarks_at (declared_at uses.now) (known_by_tables tables.now))
-        touches.now) }
+        ++ flat_map (spec.remarks_at (declared_at sources.entry.uses.now)
+        (given_in sources.entry.macros.now) (known_by_tables tables.now)) touches.now) }
 {
     for touch in touches {
-        push_remarks_at(touch, tables, uses, remarks)?;
+        push_remarks_at(touch, tables, sources, remarks)?;
     }
     Ok(())
 }
 
 /// Fills the tables, and adds what is remarked.
 fn push_all<'a>(
-    alloc: Global,
     program: &Program<'a>,
     touches: &[Touch<'a>],
-    uses: &UseTable,
+    sources: Sources,
     tables: &mut Tables,
     remarks: &mut Vec<Remark<'a>>,
 ) -> Result<(), AllocError>
     requires { AreBlank tables.old }
     ensures { OnOk result (remarks.new.items ≡ remarks.old.items
-        ++ spec.remarks_by (declared_at uses.now) (program_view program.now) touches.now) }
+        ++ spec.remarks_by (declared_at sources.entry.uses.now)
+        (given_in sources.entry.macros.now) (program_view program.now) touches.now) }
 {
-    note_all(alloc, program, touches, uses, tables)?;
-    push_remarks(touches, tables, uses, remarks)?;
+    note_all(sources.alloc, program, touches, sources.uses, tables)?;
+    push_remarks(touches, tables, sources, remarks)?;
     Ok(())
 }
 
 /// Adds what is remarked, by tables of its own.
 fn push_by_tables<'a>(
-    alloc: Global,
     program: &Program<'a>,
     touches: &[Touch<'a>],
-    uses: &UseTable,
+    sources: Sources,
     remarks: &mut Vec<Remark<'a>>,
 ) -> Result<(), AllocError>
     ensures { OnOk result (remarks.new.items ≡ remarks.old.items
-        ++ spec.remarks_by (declared_at uses.now) (program_view program.now) touches.now) }
+        ++ spec.remarks_by (declared_at sources.entry.uses.now)
+        (given_in sources.entry.macros.now) (program_view program.now) touches.now) }
 {
-    let mut tables = Tables::new(alloc);
-    let pushed = push_all(alloc, program, touches, uses, &mut tables, remarks);
+    let mut tables = Tables::new(sources.alloc);
+    let pushed = push_all(program, touches, sources, &mut tables, remarks);
     drop(tables);
     pushed
 }
 
+/// What the lints remark, by the macros of a program and a call.
+fn remarks_by<'a>(program: &Program<'a>, sources: Sources) -> Result<Vec<Remark<'a>>, AllocError>
+    ensures { IfOk result (λ remarks. remarks.items
+        ≡ spec.remarks_by (declared_at sources.entry.uses.now) (given_in sources.entry.macros.now)
+        (program_view program.now)
+        (touches (declared_at sources.entry.uses.now) (program_view program.now))) }
+{
+    let touches = touches_of(sources.alloc, program, sources.uses)?;
+    let mut remarks = Vec::new(sources.alloc);
+    push_by_tables(program, touches.as_slice(), sources, &mut remarks)?;
+    Ok(remarks)
+}
+
+/// A text that may be missing, without its quotes.
+fn spelled(text: Option<Token<'_>>) -> &[u8]
+    ensures { result.now ≡ spelled text.entry }
+{
+    match text {
+        Some(text) => unquoted(text.text),
+        None => b"",
+    }
+}
+
 /// What the lints remark on a program, in the order of the source (docs/tools/check.md has the lints).
 ///
-/// `uses` is the table of the program's names. What is remarked on a program that the check refuses may follow from what is
-/// wrong there. The only error is that memory ends.
+/// `uses` is the table of the program's names; the macros of the call come behind those of the program's own text, as in a run. What
+/// is remarked on a program that the check refuses may follow from what is wrong there. The only error is that memory ends.
 pub fn remarks_of<'a>(
     alloc: Global,
     program: &Program<'a>,
     uses: &UseTable,
+    macros: &Macros,
 ) -> Result<Vec<Remark<'a>>, AllocError>
     requires { IsTableOf uses.now (program_view program.now) }
     ensures { IfOk result (λ remarks. remarks.items
-        ≡ spec.remarks_of (program_view program.now)) }
+        ≡ spec.remarks_of (program_view program.now) macros.now.text.now) }
 {
-    let touches = touches_of(alloc, program)?;
-    let mut remarks = Vec::new(alloc);
-    push_by_tables(alloc, program, touches.as_slice(), uses, &mut remarks)?;
+    let table = MacroTable::of(alloc, spelled(program.macros), macros.text)?;
+    let remarks = remarks_by(
+        program,
+        Sources {
+            alloc,
+            uses,
+            macros: &table,
+        },
+    )?;
     Ok(remarks)
 }

@@ -8,19 +8,21 @@ ghost use Rattle.snl_lints.specs.Lints.{is_shared, known_by};
 
 use crate::doers::{Doers, doers_in, note_program};
 use crate::facts::{Fact, Facts};
-use crate::touches::Touch;
+use crate::holdings::note_held_by;
+use crate::touches::{Held, Touch};
 use indexmap::IndexMap;
 use snl_names::UseTable;
 use snl_syntax::Program;
 use std::alloc::{AllocError, Global};
 
-/// What is done with variables, and which state sets set and read them.
+/// What is done with variables, which state sets set and read them, and what they can hold.
 #[derive(Drop)]
 pub struct Tables {
     /// What is done with each.
     pub facts: Facts,
     setters: IndexMap<usize, Doers>,
     readers: IndexMap<usize, Doers>,
+    held: IndexMap<usize, Held>,
 }
 
 impl Tables {
@@ -32,6 +34,7 @@ impl Tables {
             facts: Facts::new(alloc),
             setters: IndexMap::new(alloc),
             readers: IndexMap::new(alloc),
+            held: IndexMap::new(alloc),
         }
     }
 
@@ -41,6 +44,13 @@ impl Tables {
     {
         doers_in(&self.setters, variable).are_apart(doers_in(&self.readers, variable))
             && !self.facts.is_done(Fact::Monitored, variable)
+    }
+
+    /// What a variable can hold, if that is known.
+    pub fn held(&self, variable: usize) -> Option<Held>
+        ensures { result ≡ (spec.known_by_tables self.now).held variable }
+    {
+        self.held.get(&variable).copied()
     }
 }
 
@@ -59,5 +69,6 @@ pub fn note_all<'a>(
     tables.facts.note_all(touches, uses)?;
     note_program(alloc, program, &mut tables.setters, Fact::Set, uses)?;
     note_program(alloc, program, &mut tables.readers, Fact::Read, uses)?;
+    note_held_by(&mut tables.held, touches)?;
     Ok(())
 }

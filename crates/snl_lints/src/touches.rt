@@ -1,15 +1,24 @@
-//! What a piece of a program does with a variable.
+//! What a piece of a program does: with a variable, and by constants.
 
 ghost use Rattle.std.specs.Prelude.{◌≡◌, ◌∷◌, ◌++◌, map, OnOk};
-ghost use Rattle.snl_syntax.specs.view.Expressions.{pair_of, list_before};
+ghost use Rattle.snl_syntax.specs.view.Expressions.{view, pair_of, list_before};
 ghost use Rattle.snl_syntax.specs.view.Lists.{term_list};
 ghost use Rattle.snl_syntax.specs.Expressions.{no_arguments};
 ghost use Rattle.snl_lints.specs.Touches as spec;
 
-use snl_names::{Builtin, Query, has_async, is_step};
-use snl_syntax::{Argument, Term};
+use snl_names::{Builtin, Constant, Query, Size, has_async, is_step};
+use snl_syntax::{Argument, Expr, Term};
 use snl_text::{Kind, Token};
 use std::alloc::AllocError;
+
+/// What a variable can hold.
+#[derive(Clone, Copy)]
+pub struct Held {
+    /// The least and the greatest number of its type; none where the type is not supported.
+    pub range: Option<(i64, i64)>,
+    /// How many elements it has.
+    pub size: Size,
+}
 
 /// What a piece of a program does, by the token at which it is told.
 #[derive(Clone, Copy)]
@@ -36,6 +45,18 @@ pub enum Touch<'a> {
     Comma(Token<'a>),
     /// A clause leads back to its own state, of this name, and leaves an `entry` or `exit` block out.
     Returns(Token<'a>),
+    /// A variable or a parameter is declared by this name, and can hold this.
+    Holds(Token<'a>, Held),
+    /// An `assign` names a channel, by this text.
+    Names(Token<'a>),
+    /// An operator faults by its constants.
+    Faults(Token<'a>),
+    /// A variable begins with a number that its type lacks.
+    Lacks(Token<'a>),
+    /// It is given a constant.
+    Stores(Token<'a>, i64),
+    /// It has a constant subscript.
+    Picks(Token<'a>, i64),
 }
 
 /// What an expression stands for.
@@ -84,6 +105,95 @@ pub fn push_assignment<'a>(
         found.push(Touch::Equals(operator))?;
     }
     Ok(())
+}
+
+/// Adds an operator that faults by its constants, where it does. Fails only where memory ends.
+pub fn push_faulting<'a>(
+    operator: Token<'a>,
+    is_faulting: bool,
+    found: &mut Vec<Touch<'a>>,
+) -> Result<(), AllocError>
+    ensures { OnOk result (found.new.items ≡ found.old.items
+        ++ spec.when_faulting is_faulting operator.entry) }
+{
+    if is_faulting {
+        found.push(Touch::Faults(operator))?;
+    }
+    Ok(())
+}
+
+/// Adds a variable whose type lacks what it begins with, where it does. Fails only where memory ends.
+pub fn push_lacking<'a>(
+    name: Token<'a>,
+    is_lacking: bool,
+    found: &mut Vec<Touch<'a>>,
+) -> Result<(), AllocError>
+    ensures { OnOk result (found.new.items ≡ found.old.items
+        ++ spec.when_lacking is_lacking name.entry) }
+{
+    if is_lacking {
+        found.push(Touch::Lacks(name))?;
+    }
+    Ok(())
+}
+
+/// Adds a subscript that is constant. Fails only where memory ends.
+pub fn push_subscript<'a>(
+    name: Token<'a>,
+    subscript: Constant,
+    found: &mut Vec<Touch<'a>>,
+) -> Result<(), AllocError>
+    ensures { OnOk result (found.new.items ≡ found.old.items
+        ++ spec.at_subscript name.entry subscript) }
+{
+    if let Constant::Worth(number) = subscript {
+        found.push(Touch::Picks(name, number))?;
+    }
+    Ok(())
+}
+
+/// The variable that an assignment sets, by its name.
+fn target_name<'a>(target: &Expr<'a>) -> Option<Token<'a>>
+    ensures { result ≡ spec.target_name (view target.now) }
+{
+    match target {
+        Expr::Parenthesized(inner) => target_name(inner),
+        Expr::Named(name) | Expr::Element { name, .. } => Some(*name),
+        _ => None,
+    }
+}
+
+/// Adds a number that is given to a variable.
+fn push_number<'a>(
+    name: Option<Token<'a>>,
+    number: i64,
+    found: &mut Vec<Touch<'a>>,
+) -> Result<(), AllocError>
+    ensures { OnOk result (found.new.items ≡ found.old.items
+        ++ spec.stored_in name.entry number) }
+{
+    if let Some(name) = name {
+        found.push(Touch::Stores(name, number))?;
+    }
+    Ok(())
+}
+
+/// Adds a constant that `=` gives to a variable. Fails only where memory ends.
+pub fn push_stored<'a>(
+    target: &Expr<'a>,
+    operator: Kind,
+    value: Constant,
+    found: &mut Vec<Touch<'a>>,
+) -> Result<(), AllocError>
+    ensures { OnOk result (found.new.items ≡ found.old.items
+        ++ spec.at_stored (view target.now) operator value) }
+{
+    match (operator, value) {
+        (Kind::Equal, Constant::Worth(number)) => {
+            push_number(target_name(target), number, found)
+        }
+        _ => Ok(()),
+    }
 }
 
 /// Adds a comma, if the operator is one.

@@ -1,7 +1,7 @@
 //! The names of all sections. scripts/pages makes this file.
 
 /// The messages and the lints, in the order of the manual.
-pub(crate) const NAMES: [&[u8]; 46] = [
+pub(crate) const NAMES: [&[u8]; 49] = [
     b"E01",
     b"E02",
     b"E03",
@@ -45,6 +45,9 @@ pub(crate) const NAMES: [&[u8]; 46] = [
     b"unput",
     b"unread",
     b"answered",
+    b"macro",
+    b"unspoken",
+    b"constant",
     b"equals",
     b"comma",
     b"itself",

@@ -39,6 +39,35 @@ const ANSWERED: &str = "\
 Write `pvPut(NAME, ASYNC);`.
 ";
 
+/// `macro`
+const MACRO: &str = "\
+### `macro`
+
+A macro in the name of a channel that nothing gives a value, as `{P}` in `assign x to \"{P}VOLT\";` where the program is `program p` and the
+call has no MACROS. Nothing stands in its place, so that the channel is `VOLT`. Name a value in the program, `program p(\"P=LAB:\")`, or in the
+call: `snl check --macros P=LAB: FILE`, `snlrun FILE P=LAB: < TRACE`. A value that is empty is one: `P=`. A `{` without a `}` behind it stays
+in the name.
+";
+
+/// `unspoken`
+const UNSPOKEN: &str = "\
+### `unspoken`
+
+A channel that no line of a trace can name, so that it is never up and never has a value: a name with a blank, as `\"TANK LEVEL\"`, with a byte that
+is no printable ASCII, or with more than 32,763 bytes. Write the name of the channel as the control system has it. Where nothing is left
+of a name there is no channel, and the lint says nothing.
+";
+
+/// `constant`
+const CONSTANT: &str = "\
+### `constant`
+
+What goes wrong whenever it is computed, whatever the values of the channels are: an operator that faults by its constants, as in `1 << 64` and
+`x / 0`; `x = 300` where x is a `char`; `a[3]` of `int a[3]`. Where the run comes to it, it ends with a fault (docs/LANGUAGE.md, \"Faults\"):
+`overflow`, `division by zero`, `bad shift count`, `value does not fit`, `subscript out of range`. Mend the number, or give the variable a wider type. A part that is
+never computed, as the right one of `0 && 1 / 0`, has the remark too. Arguments of a call and what a function returns are not compared with their types.
+";
+
 /// `equals`
 const EQUALS: &str = "\
 ### `equals`
@@ -72,6 +101,9 @@ pub(crate) fn page_of(name: &str) -> Option<&'static str> {
         "unput" => Some(UNPUT),
         "unread" => Some(UNREAD),
         "answered" => Some(ANSWERED),
+        "macro" => Some(MACRO),
+        "unspoken" => Some(UNSPOKEN),
+        "constant" => Some(CONSTANT),
         "equals" => Some(EQUALS),
         "comma" => Some(COMMA),
         "itself" => Some(ITSELF),

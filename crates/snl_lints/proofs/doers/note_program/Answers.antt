@@ -12,8 +12,8 @@ pub returns : goal.returns
 returns c =
     let declared = declared_at c.args.uses.now in
     let f = c.args.fact in
-    let entry = if_there in_block (shown (held block_view) c.args.program.now.entry) in
-    let exit = if_there in_block (shown (held block_view) c.args.program.now.exit) in
+    let entry = if_there (in_block (declared_at c.args.uses.now)) (shown (held block_view) c.args.program.now.entry) in
+    let exit = if_there (in_block (declared_at c.args.uses.now)) (shown (held block_view) c.args.program.now.exit) in
     on_ok_weaker c.note_sets.result
     (λ e v. e v ∙ (λ j. doers_from declared f v 0
     ((c.in_ok-note_block-2.ensures v ∙ ap (λ w. doers_after declared f v 0 w exit)

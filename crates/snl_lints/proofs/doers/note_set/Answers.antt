@@ -8,7 +8,7 @@ use Rattle.snl_lints.proofs.doers.note_set.Goals as goal
 
 pub returns : goal.returns
 returns c =
-    let more = in_state_set (state_set_view c.args.set.now) in
+    let more = in_state_set (declared_at c.args.uses.now) (state_set_view c.args.set.now) in
     on_ok_weaker c.note_doers.result
     (λ e v. e v ∙ ap (doers_after (declared_at c.args.uses.now) c.args.fact v c.args.number (doers_in c.args.table.now v))
     (c.as_slice.ensures.value ∙ c.in_ok-push_state_set.ensures ∙ ap (λ l. l ++ more) c.new-touches.ensures.items))
