@@ -1,8 +1,11 @@
 -- Delays in lists of parts, one after another.
-use Rattle.std.proofs.Common.{◌≡◌, ◌∙◌, Box, Global, List, [], ◌∷◌, ◌++◌, Some, Vec, ap, map, subst, sym}
+use Rattle.std.proofs.Common.{◌≡◌, ◌∙◌, Box, Global, ℕ, zero, suc, List, [], ◌∷◌, ◌++◌, Some, Vec, ap, map, subst, sym}
 use Rattle.std.specs.List.{flat_map}
 use Rattle.snl_text.specs.declared.tokens.Token.{Token}
-use Rattle.snl_alike.specs.Delays.{DelaysAmong, DelaysAt, DelaysEach, DelaysIn, DelaysInBlock, DelaysInBodies, DelaysInNames}
+use Rattle.snl_alike.specs.declared.timing.SetTiming.{SetTiming}
+use Rattle.snl_alike.specs.Delays.{DelaysAmong, DelaysAt, DelaysEach, DelaysIn, DelaysInBlock, DelaysInBodies, DelaysInNames, IsShort, longest_in}
+use Rattle.snl_alike.specs.Timing.{longests_in}
+use Rattle.snl_alike.proofs.Delays.{any-bodies}
 use Rattle.snl_flat.specs.Heres.{routine_of}
 use Rattle.snl_meaning.specs.Effect.{names_of, values_of}
 use Rattle.snl_names.proofs.ListLaws.{listed_of}
@@ -84,3 +87,25 @@ module _ (D : ExprTree → Type 0) where
   listed-viewed i v items is ei known =
       subst (λ (j : Initialiser). DelaysEach D (values_of (Some (initialiser_view j)))) (sym is)
       (subst (DelaysEach D) (sym (listed_of (map boxed v.each.items) v.comma)) (subst (λ (l : List (Box Expr Global)). DelaysEach D (map boxed l)) ei known))
+
+-- ---- tables
+
+module _ (definitions : List Def) where
+  -- The bodies of functions are short by a state set,
+  abbrev pub BodiesAreShortBy : SetTiming → Type 0
+  BodiesAreShortBy x = (p : ProgramTree) → DelaysInBodies (IsShort x.longest) (map (routine_of p) (flat_map function_by (map definition_view definitions)))
+
+  -- and by each state set of a table.
+  abbrev pub BodiesAreShort : List SetTiming → Type 0
+  BodiesAreShort table = (p : ProgramTree) (set : ℕ) →
+      DelaysInBodies (IsShort (longest_in (longests_in table) set)) (map (routine_of p) (flat_map function_by (map definition_view definitions)))
+
+  -- one more
+  pub by-table : (x : SetTiming) (rest : List SetTiming) → BodiesAreShortBy x → BodiesAreShort rest → BodiesAreShort (x ∷ rest)
+  by-table x rest here more p zero = here p
+  by-table x rest here more p (suc set) = more p set
+
+  -- a table of none
+  pub by-no-table : BodiesAreShort []
+  by-no-table p zero = any-bodies (map (routine_of p) (flat_map function_by (map definition_view definitions)))
+  by-no-table p (suc set) = any-bodies (map (routine_of p) (flat_map function_by (map definition_view definitions)))

@@ -1,6 +1,7 @@
-use Rattle.std.proofs.Common.{List, Some, map, subst}
+use Rattle.std.proofs.Common.{ℕ, List, Option, map, subst}
 use Rattle.std.specs.List.{flat_map}
-use Rattle.snl_alike.specs.Delays.{DelaysInBodies, DelaysInSets, IsShort}
+use Rattle.snl_alike.specs.Delays.{DelaysInBlockMaybe, DelaysInBodies, DelaysInSets, IsShort, longest_in}
+use Rattle.snl_alike.specs.Timing.{longests_in}
 use Rattle.snl_flat.specs.Heres.{routine_of}
 use Rattle.snl_names.specs.Variables.{function_by}
 use Rattle.snl_syntax.specs.declared.definitions.Def.{Def}
@@ -12,11 +13,12 @@ use Rattle.snl_timing.proofs.parts.are_short.Goals as goal
 pub returns : goal.returns
 returns c = λ yes.
     let p = program_view c.args.program.now in
+    let longests = longests_in c.args.table.now in
     record {
-      functions = subst (λ (l : List Def). DelaysInBodies (IsShort (Some c.args.longest)) (map (routine_of p) (flat_map function_by (map definition_view l))))
-          c.as_slice.ensures.value (c.are_short_bodies.ensures c.if-not-are_short_bodies.false p);
-      entry = c.are_short_maybe_block.ensures c.if-not-are_short_maybe_block.false;
-      sets = subst (λ (l : List StateSet). DelaysInSets (IsShort (Some c.args.longest)) (map state_set_view l))
+      functions = λ set. subst (λ (l : List Def). DelaysInBodies (IsShort (longest_in longests set)) (map (routine_of p) (flat_map function_by (map definition_view l))))
+          c.as_slice.ensures.value (c.are_short_bodies_for.ensures c.if-not-are_short_bodies_for.false p set);
+      entry = subst (λ (o : Option ℕ). DelaysInBlockMaybe (IsShort o) p.entry) c.longest_in-first.ensures (c.is_short_block_by.ensures c.if-not-is_short_block_by.false);
+      sets = subst (λ (l : List StateSet). DelaysInSets (λ set. IsShort (longest_in longests set)) 0 (map state_set_view l))
           c.as_slice-2.ensures.value (c.are_short_sets.ensures c.if-not-are_short_sets.false);
-      exit = c.are_short_maybe_block-2.ensures yes;
+      exit = subst (λ (o : Option ℕ). DelaysInBlockMaybe (IsShort o) p.exit) c.longest_in-first.ensures (c.is_short_block_by-2.ensures yes);
     }

@@ -1,16 +1,27 @@
-use Rattle.std.proofs.Common.{List, Some, map, subst}
-use Rattle.snl_alike.specs.Delays.{DelaysInSets, DelaysInStates, IsShort}
+use Rattle.std.proofs.Common.{ℕ, List, Option, map, refl, rules, subst}
+use Rattle.std.proofs.lemmas.Option.{slice_get_read}
+use Rattle.snl_alike.specs.Delays.{DelaysInSets, DelaysInStates, IsShort, longest_in}
+use Rattle.snl_alike.specs.Timing.{longests_in}
 use Rattle.snl_syntax.specs.declared.programs.State.{State}
 use Rattle.snl_syntax.specs.view.Programs.{state_set_view, state_view}
-use Rattle.snl_timing.proofs.Steps.{all-of, one-more}
+use Rattle.snl_timing.proofs.Steps.{all-from, one-from}
 use Rattle.snl_timing.proofs.parts.are_short_sets.Goals as goal
 
-pub loop-set-preserved : goal.loop-set-preserved
-loop-set-preserved c =
-    one-more (λ l. DelaysInSets (IsShort (Some c.args.longest)) (map state_set_view l)) c.args.sets.now c.loop-set.set-index
-    (λ x. DelaysInStates (IsShort (Some c.args.longest)) (map state_view x.states.items)) (λ x rest a b. (a, b)) c.set-item.result c.loop-set-test.true c.set-item.is c.loop-set.invariant
-    (subst (λ (l : List State). DelaysInStates (IsShort (Some c.args.longest)) (map state_view l)) c.as_slice.ensures.value
-    (c.are_short_states.ensures c.if-not-are_short_states.false))
+pub loop-number-preserved : goal.loop-number-preserved
+loop-number-preserved c =
+    let sets = c.args.sets.now in
+    let it = c.index-sets-number.result in
+    let n = c.loop-number.number in
+    one-from (λ k l. DelaysInSets (λ set. IsShort (longest_in (longests_in c.args.table.now) set)) k (map state_set_view l)) sets n it c.loop-number-test.true
+    (slice_get_read sets _ n it refl c.loop-number-test.true (search rules)) c.loop-number.invariant
+    (λ rest more. (
+      subst (λ (o : Option ℕ). DelaysInStates (IsShort o) (map state_view it.states.items)) c.longest_in-longest.ensures
+          (subst (λ (l : List State). DelaysInStates (IsShort c.longest_in-longest.result) (map state_view l)) c.as_slice.ensures.value
+          (c.are_short_states_by.ensures c.if-not-are_short_states_by.false)),
+      more,
+    ))
 
 pub returns : goal.returns
-returns c = λ yes. all-of (λ l. DelaysInSets (IsShort (Some c.args.longest)) (map state_set_view l)) c.args.sets.now c.loop-set.set-index tt c.loop-set-test.false c.loop-set.invariant
+returns c = λ yes.
+    all-from (λ k l. DelaysInSets (λ set. IsShort (longest_in (longests_in c.args.table.now) set)) k (map state_set_view l)) c.args.sets.now
+    c.loop-number.number tt c.loop-number-test.false c.loop-number.invariant

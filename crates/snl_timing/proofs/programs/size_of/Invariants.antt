@@ -1,5 +1,5 @@
 use Rattle.std.proofs.Common.{◌≡◌, ◌+◌, map, drop}
-use Rattle.snl_meaning.specs.Laws.{words_of}
+use Rattle.snl_meaning.specs.Names.{words_of}
 use Rattle.snl_names.specs.CopyVariables.{variable_view}
 use Rattle.snl_timing.proofs.programs.size_of.Given as goal
 

@@ -1,0 +1,20 @@
+use Rattle.std.proofs.Common.{None, refl, rules, slice_index_or}
+use Rattle.std.proofs.lemmas.Option.{slice_get_read}
+use Rattle.snl_alike.specs.declared.timing.SetTiming.{SetTiming}
+use Rattle.snl_timing.proofs.DelayLaws.{BodiesAreShort, by-no-table, by-table}
+use Rattle.snl_timing.proofs.Steps.{all-of, one-from}
+use Rattle.snl_timing.proofs.parts.are_short_bodies_for.Goals as goal
+
+pub loop-timing-preserved : goal.loop-timing-preserved
+loop-timing-preserved c =
+    let definitions = c.args.definitions.now in
+    let table = c.args.table.now in
+    let n = c.loop-timing.timing-index in
+    let it : SetTiming = slice_index_or table n (record { size = 0; longest = None }) in
+    one-from (λ k l. BodiesAreShort definitions l) table n it c.loop-timing-test.true
+    (slice_get_read table _ n it refl c.loop-timing-test.true (search rules)) c.loop-timing.invariant
+    (λ rest more. by-table definitions it rest (c.are_short_bodies_by.ensures c.if-not-are_short_bodies_by.false) more)
+
+pub returns : goal.returns
+returns c = λ yes.
+    all-of (BodiesAreShort c.args.definitions.now) c.args.table.now c.loop-timing.timing-index (by-no-table c.args.definitions.now) c.loop-timing-test.false c.loop-timing.invariant
