@@ -13,8 +13,7 @@ use Rattle.std.specs.Result.{OnOk}
 use Rattle.std.proofs.Math.Logic.{∥∥₁_map}
 use Rattle.snl_output.specs.Lines.{joined}
 use Rattle.snl_watch.specs.Blocks.{is_none, told_again}
-use Rattle.snl_watch.specs.Extra.{are_dropped, start}
-use Rattle.snl_watch.specs.Folding.{IsFolded, IsNoted, Piece, Line, Note, StandFor, last_of, lines_behind, lines_of, repeated, without_time, written}
+use Rattle.snl_watch.specs.Folding.{IsFolded, IsNoted, Piece, Line, Note, StandFor, last_of, lines_behind, lines_of, repeated, without_time, written, are_notes}
 use Rattle.snl_watch.specs.Folds.{Folds, TellsMore, ends_line, is_in_line, lines_held, lines_on, pieces_of, texts_of, unfolded}
 use Rattle.snl_watch.specs.Recents.{recent_texts}
 use Rattle.snl_watch.specs.Turning.{Turning}
@@ -70,7 +69,7 @@ begins-at all done size times same none within = record {
 
 -- a line was written, behind what was left of a block
 pub printed : (run output line note : List ℕ) (recent recent' : Recent) (block block' : Block) → Folds run output line recent block → ends_line line ≡ true →
-    are_dropped start note ≡ true → ((lines older : List (List ℕ)) → lines ≡ older ++ recent_texts recent → Knows (lines ++ without_time line ∷ []) recent') →
+    are_notes note ≡ true → ((lines older : List (List ℕ)) → lines ≡ older ++ recent_texts recent → Knows (lines ++ without_time line ∷ []) recent') →
     block'.size ≤ length (recent_texts recent') → block'.times ≡ 0 → block'.count ≡ 0 → block'.held.items ≡ [] →
     Folds run ((output ++ (told_again block ++ block.held.items)) ++ (note ++ line)) [] recent' block'
 printed run output line note recent recent' block block' f ends is_note knows size times count held =
@@ -120,7 +119,7 @@ before-end lines older last size text is within at =
 
 -- a line of a block that comes again is held
 pub held-line : (run output line note : List ℕ) (recent recent' : Recent) (block block' : Block) (n : ℕ) → Folds run output line recent block → ends_line line ≡ true →
-    are_dropped start note ≡ true → recent_texts recent' ≡ keep_last n (recent_texts recent ++ without_time line ∷ []) → 0 < block.size →
+    are_notes note ≡ true → recent_texts recent' ≡ keep_last n (recent_texts recent ++ without_time line ∷ []) → 0 < block.size →
     block.size ≤ length (recent_texts recent) → slice_get (recent_texts recent) (length (recent_texts recent) - block.size) ≡ Some (without_time line) →
     block.count + 1 < block.size → block'.size ≡ block.size → block'.times ≡ block.times → block'.count ≡ block.count + 1 →
     block'.held.items ≡ block.held.items ++ (note ++ line) → Folds run output [] recent' block'
@@ -243,8 +242,8 @@ nothing recent block none is = record {
 }
 
 -- the run is over, and notes were written behind it
-pub finished : (run output waiting notes : List ℕ) (recent : Recent) (block : Block) → Folds run output [] recent block → are_dropped start waiting ≡ true →
-    are_dropped start notes ≡ true → IsFolded run ((output ++ (told_again block ++ block.held.items)) ++ (waiting ++ notes))
+pub finished : (run output waiting notes : List ℕ) (recent : Recent) (block : Block) → Folds run output [] recent block → are_notes waiting ≡ true →
+    are_notes notes ≡ true → IsFolded run ((output ++ (told_again block ++ block.held.items)) ++ (waiting ++ notes))
 finished run output waiting notes recent block f is_waiting is_note =
     let more : List Piece = Note waiting ∷ Note notes ∷ [] in
     let pieces : List Piece = f.pieces ++ (again_of block ++ (pieces_of f.held ++ more)) in
@@ -292,8 +291,8 @@ folds-as run run' output line line' recent block r l f = subst (λ it. Folds run
 
 -- the run is over, by what was told of it
 pub finished-by : (r : Result (Unit {0}) SinkFault) (line waiting notes : List ℕ) (recent : Recent) (block : Block) (witness told mid new : Option (List ℕ)) →
-    ((run output : List ℕ) → witness ≡ Some run → told ≡ Some output → ∥ Folds run output line recent block ∥₁) → line ≡ [] → are_dropped start waiting ≡ true →
-    are_dropped start notes ≡ true → mid ≡ told_more told (told_again block ++ block.held.items) → Wrote r (waiting ++ (notes ++ [])) mid new →
+    ((run output : List ℕ) → witness ≡ Some run → told ≡ Some output → ∥ Folds run output line recent block ∥₁) → line ≡ [] → are_notes waiting ≡ true →
+    are_notes notes ≡ true → mid ≡ told_more told (told_again block ++ block.held.items) → Wrote r (waiting ++ (notes ++ [])) mid new →
     OnOk r ((run output : List ℕ) → witness ≡ Some run → new ≡ Some output → ∥ IsFolded run output ∥₁)
 finished-by (Err fault) line waiting notes recent block witness told mid new folds none is_waiting is_note mid_is wrote = tt
 finished-by (Ok done) line waiting notes recent block witness told mid new folds none is_waiting is_note mid_is wrote = λ run output was now.

@@ -2,6 +2,7 @@ pub mod ExtraLaws
 pub mod FoldTexts
 pub mod StandLaws
 pub mod FoldLaws
+pub mod FoldReading
 pub mod FoldExamples
 pub mod LineLaws
 pub mod TurningLaws

@@ -1,6 +1,7 @@
 -- Lines of a run in which blocks that repeat are told by one line.
-use Rattle.std.specs.Prelude.{◌≡◌, ◌==◌, ◌-◌, ℕ, true, zero, suc, List, [], ◌∷◌, ◌++◌, length, drop, map, codes, decimal, if◌then◌else◌, All}
+use Rattle.std.specs.Prelude.{◌≡◌, ◌==◌, ◌&&◌, ◌||◌, ◌-◌, ℕ, Bool, true, false, not, zero, suc, List, [], ◌∷◌, ◌++◌, length, drop, map, codes, decimal, eqb, get_or, if◌then◌else◌, All}
 use Rattle.std.specs.Char.{is_ascii_digit}
+use Rattle.std.specs.List.{starts_with}
 use Rattle.snl_output.specs.Lines.{joined}
 use Rattle.snl_watch.specs.Extra.{are_dropped, start}
 
@@ -73,10 +74,25 @@ written (Line note line) = note ++ line
 written (Note text) = text
 written (Again size times until) = again_line size times until
 
--- Whether the notes of a piece are extra lines, which begin with `#`.
+-- ---- notes
+
+-- Whether a text begins as the line of a fold does: with `# this line `, or with `# these ` and a digit.
+abbrev pub begins_fold : List ℕ → Bool
+begins_fold text = starts_with eqb text (codes "# this line ") || (starts_with eqb text (codes "# these ") && is_ascii_digit (get_or text 8 0))
+
+-- Whether a line of a text does, from a place on where a line begins or does not.
+abbrev pub has_fold_from : (begins : Bool) → List ℕ → Bool
+has_fold_from begins [] = false
+has_fold_from begins (byte ∷ bytes) = (begins && begins_fold (byte ∷ bytes)) || has_fold_from (byte == 10) bytes
+
+-- Whether a text is notes: extra lines, which begin with `#`, and none of which reads as the line of a fold.
+abbrev pub are_notes : List ℕ → Bool
+are_notes text = are_dropped start text && not (has_fold_from true text)
+
+-- The notes of a piece are notes.
 abbrev pub IsNoted : Piece → Type 0
-IsNoted (Line note line) = are_dropped start note ≡ true
-IsNoted (Note text) = are_dropped start text ≡ true
+IsNoted (Line note line) = are_notes note ≡ true
+IsNoted (Note text) = are_notes text ≡ true
 IsNoted (Again size times until) = Unit {0}
 
 -- A run and what was written in its place: pieces that stand for the lines of the run. So each line that is written is one of the run,

@@ -4,7 +4,9 @@ ghost use Rattle.std.specs.Prelude.{◌≡◌, ◌≢◌, ◌≤◌, ◌<◌, �
 ghost use Rattle.snl_output.specs.Devices.{counted, told_more, Wrote};
 ghost use Rattle.snl_watch.specs.Folding.{again_line, more_words};
 
+use crate::lines::ms_of;
 use crate::writing::write_pieces;
+use crate::zero::{BESIDE, Zero};
 use arrayvec::ArrayVec;
 use itoa::Buffer;
 use snl_output::{Sink, SinkFault};
@@ -12,8 +14,11 @@ use snl_output::{Sink, SinkFault};
 /// How many bytes are held at most of a block that has begun to come again.
 const HELD: usize = 16_384;
 
-/// How many digits a time has at most.
-const DIGITS: usize = 20;
+/// How many bytes a time has at most: its digits, and the time of day.
+const TIME: usize = 45;
+
+/// How many of these are digits.
+const DIGITS: usize = TIME - BESIDE;
 
 /// A block of lines that comes again. What came of it whole is counted, and the rest is held.
 #[derive(Drop)]
@@ -22,8 +27,8 @@ pub(crate) struct Block {
     size: usize,
     /// How often it came again, whole.
     times: u64,
-    /// The time of the last line of these.
-    until: ArrayVec<u8, DIGITS>,
+    /// The time of the last line of these, and the time of day, where that is known.
+    until: ArrayVec<u8, TIME>,
     /// How many lines are held with which it begins once more.
     count: usize,
     /// These, with the notes in front of them.
@@ -31,14 +36,23 @@ pub(crate) struct Block {
 }
 
 /// The digits with which a line begins, at most so many as a time has.
-fn time_of(line: &[u8]) -> ArrayVec<u8, DIGITS> {
-    let mut digits = ArrayVec::new();
-    for byte in line {
-        if !byte.is_ascii_digit() || digits.try_push(*byte).is_err() {
-            return digits;
+fn digits_in(line: &[u8]) -> &[u8] {
+    let most = line.len().min(DIGITS);
+    for (place, byte) in line[..most].iter().enumerate() {
+        if !byte.is_ascii_digit() {
+            return &line[..place];
         }
     }
-    digits
+    &line[..most]
+}
+
+/// The time with which a line begins, and the time of day by the date of 0 ms.
+fn time_of(line: &[u8], zero: Zero) -> ArrayVec<u8, TIME> {
+    let mut time = ArrayVec::new();
+    let digits = digits_in(line);
+    let _digits = time.try_extend_from_slice(digits);
+    let _beside = time.try_extend_from_slice(zero.beside(ms_of(digits)).as_slice());
+    time
 }
 
 impl Block {
@@ -107,7 +121,7 @@ impl Block {
     }
 
     /// Counts it where it is held whole, and holds nothing of it then. The last line that is held is lent.
-    fn count_whole(&mut self, line: &[u8])
+    fn count_whole(&mut self, line: &[u8], zero: Zero)
         requires times { self.old.times < 2 ^ 64 - 1 }
         ensures whole { self.old.count ≡ self.old.size → self.new.times ≡ self.old.times + 1 }
         ensures none { self.old.count ≡ self.old.size → self.new.count ≡ 0 }
@@ -117,14 +131,14 @@ impl Block {
     {
         if self.count == self.size {
             self.times += 1;
-            self.until = time_of(line);
+            self.until = time_of(line, zero);
             self.count = 0;
             self.held.clear();
         }
     }
 
     /// Takes the next line of it, with the notes in front.
-    pub(crate) fn take(&mut self, note: &[u8], line: &[u8])
+    pub(crate) fn take(&mut self, note: &[u8], line: &[u8], zero: Zero)
         requires held { length self.old.held.items + (length note.now + length line.now) ≤ 16384 }
         requires times { self.old.times < 2 ^ 64 - 1 }
         requires count { self.old.count < self.old.size }
@@ -138,7 +152,7 @@ impl Block {
         ensures size { self.new.size ≡ self.old.size }
     {
         self.hold(note, line);
-        self.count_whole(line);
+        self.count_whole(line, zero);
     }
 
     /// Writes that the block came again, where it did.

@@ -3,8 +3,7 @@
 ghost use Rattle.std.specs.Prelude.{◌≡◌, ◌↔◌, ◌-◌, ◌+◌, ◌^◌, ◌<◌, ◌≤◌, ℕ, List, [], ◌++◌, Some, IsTrue, false, true, is_err, length, take, IfOk, OnOk, OnErr};
 ghost use Rattle.std.proofs.Props.{props};
 ghost use Rattle.snl_output.specs.Devices.{Wrote, counted, told_more, write_fails};
-ghost use Rattle.snl_watch.specs.Extra.{are_dropped, start};
-ghost use Rattle.snl_watch.specs.Folding.{IsFolded};
+ghost use Rattle.snl_watch.specs.Folding.{IsFolded, are_notes};
 ghost use Rattle.snl_watch.specs.Folds.{Folds, ends_line, is_in_line};
 
 use crate::block::Block;
@@ -38,7 +37,7 @@ pub struct Folder<'c, K: Sink, W: Sink> {
     ran_out: bool,
     /// Whether the sink failed, or the run is over.
     is_over: bool,
-    ghost noted: { are_dropped start note.items ≡ true },
+    ghost noted: { are_notes note.items ≡ true },
     ghost folds: { is_over ≡ false → (run output : List ℕ) → W.told witness ≡ Some run
         → K.told inner ≡ Some output
         → ∥ Folds run output line.items recent block ∥₁ } by { Prim.hlevel props },
@@ -89,9 +88,11 @@ impl<'c, K: Sink, W: Sink> Folder<'c, K, W> {
             return Err(SinkFault);
         }
         self.is_over = true;
+        let zero = self.notes.zero();
         end_line(
             self.line.as_slice(),
             self.note.as_slice(),
+            zero,
             &mut self.recent,
             &mut self.block,
             &mut self.inner,

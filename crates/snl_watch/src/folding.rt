@@ -3,26 +3,22 @@
 ghost use Rattle.std.specs.Prelude.{◌≡◌, ◌≤◌, ◌<◌, ◌-◌, ◌^◌, ℕ, List, [], ◌++◌, Some, length, take, drop, is_err, IfSome, OnOk, true};
 ghost use Rattle.snl_output.specs.Devices.{counted, told_more};
 ghost use Rattle.snl_watch.specs.Blocks.{told_again};
-ghost use Rattle.snl_watch.specs.Extra.{are_dropped, start};
-ghost use Rattle.snl_watch.specs.Folding.{without_time};
+ghost use Rattle.snl_watch.specs.Folding.{are_notes, without_time};
 ghost use Rattle.snl_watch.specs.Folds.{Folds, TellsMore, ends_line, is_in_line};
 
 use crate::block::Block;
 use crate::line_ends::digits_of;
-use crate::places::LinePlace;
+use crate::noted::are_notes;
 use crate::recent::Recent;
 use crate::writing::write_whole;
+use crate::zero::Zero;
 use snl_output::{Sink, SinkFault};
 
-/// Notes, where they are extra lines and nothing else; else none.
+/// Notes, where they are extra lines and nothing else, of which none reads as the line of a fold; else none.
 pub(crate) fn noted<'t>(notes: &'t [u8]) -> &'t [u8]
-    ensures { are_dropped start result.now ≡ true }
+    ensures { are_notes result.now ≡ true }
 {
-    if LinePlace::start().drops_all(notes) {
-        notes
-    } else {
-        b""
-    }
+    if are_notes(notes) { notes } else { b"" }
 }
 
 /// How many bytes a line of a block has at most, without its time.
@@ -60,6 +56,7 @@ fn print<'t, S: Sink>(
 fn end_text<'t, S: Sink>(
     line: &'t [u8],
     note: &'t [u8],
+    zero: Zero,
     recent: &mut Recent,
     block: &mut Block,
     sink: &mut S,
@@ -67,7 +64,7 @@ fn end_text<'t, S: Sink>(
     requires failures { S.failures sink.old < 2 ^ 64 - 1 }
     requires next { recent.old.next.items ≡ without_time line.now }
     requires line { ends_line line.now ≡ true }
-    requires note { are_dropped start note.now ≡ true }
+    requires note { are_notes note.now ≡ true }
     ensures told { OnOk result (TellsMore (S.told sink.old) (S.told sink.new)) }
     ensures folds { OnOk result ((run output output' : List ℕ) → S.told sink.old ≡ Some output →
         S.told sink.new ≡ Some output' → Folds run output line.now recent.old block.old →
@@ -75,7 +72,7 @@ fn end_text<'t, S: Sink>(
     ensures failures { S.failures sink.new ≡ counted (is_err result) (S.failures sink.old) }
 {
     if recent.is_again(block.size()) && block.has_room(note, line) {
-        block.take(note, line);
+        block.take(note, line, zero);
         recent.push();
         return Ok(());
     }
@@ -95,7 +92,7 @@ fn end_long<'t, S: Sink>(
 ) -> Result<(), SinkFault>
     requires failures { S.failures sink.old < 2 ^ 64 - 1 }
     requires line { ends_line line.now ≡ true }
-    requires note { are_dropped start note.now ≡ true }
+    requires note { are_notes note.now ≡ true }
     ensures told { OnOk result (TellsMore (S.told sink.old) (S.told sink.new)) }
     ensures folds { OnOk result ((run output output' : List ℕ) → S.told sink.old ≡ Some output →
         S.told sink.new ≡ Some output' → Folds run output line.now recent.old block.old →
@@ -108,18 +105,20 @@ fn end_long<'t, S: Sink>(
     Ok(())
 }
 
-/// Ends a line, with the notes in front of it: it is held, where it comes again in a block that does, or written.
+/// Ends a line, with the notes in front of it: it is held, where it comes again in a block that does, or written. Beside the time of a
+/// block stands the time of day, by the date of 0 ms.
 #[inline(always)]
 pub(crate) fn end_line<'t, S: Sink>(
     line: &'t [u8],
     note: &'t [u8],
+    zero: Zero,
     recent: &mut Recent,
     block: &mut Block,
     sink: &mut S,
 ) -> Result<(), SinkFault>
     requires failures { S.failures sink.old < 2 ^ 64 - 1 }
     requires line { ends_line line.now ≡ true }
-    requires note { are_dropped start note.now ≡ true }
+    requires note { are_notes note.now ≡ true }
     ensures told { OnOk result (TellsMore (S.told sink.old) (S.told sink.new)) }
     ensures folds { OnOk result ((run output output' : List ℕ) → S.told sink.old ≡ Some output →
         S.told sink.new ≡ Some output' → Folds run output line.now recent.old block.old →
@@ -127,7 +126,7 @@ pub(crate) fn end_line<'t, S: Sink>(
     ensures failures { S.failures sink.new ≡ counted (is_err result) (S.failures sink.old) }
 {
     if holds(line, recent) {
-        return end_text(line, note, recent, block, sink);
+        return end_text(line, note, zero, recent, block, sink);
     }
     end_long(line, note, recent, block, sink)
 }

@@ -1,6 +1,7 @@
 //! What a trace tells, line by line, while it goes to a run: its events, and the names that the program does not have.
 
 use crate::lines::{Told, ms_of, word_of};
+use crate::zero::Zero;
 use bstr::ByteSlice;
 use indexmap::{IndexMap, IndexSet};
 use std::alloc::{AllocError, Global};
@@ -61,6 +62,8 @@ pub struct HeardTrace {
     unkept: u64,
     /// The channel that the last line names, if it names one.
     last: Option<Renamed>,
+    /// The date of 0 ms.
+    zero: Zero,
     /// Whether memory was refused while the lines passed.
     ran_out: bool,
 }
@@ -83,6 +86,7 @@ impl HeardTrace {
             others: IndexMap::new(alloc),
             unkept: 0,
             last: None,
+            zero: Zero::new(),
             ran_out: false,
         })
     }
@@ -93,12 +97,14 @@ impl HeardTrace {
         self.before = self.events;
         self.last = None;
         if line.first() == Some(&b'#') {
+            self.zero.note(line, false);
             return;
         }
         let mut fields = line.fields();
         let Some(time) = fields.next() else {
             return;
         };
+        self.zero.note(line, true);
         self.events = EventCount {
             count: self.events.count.saturating_add(1),
             last: self.lines,
@@ -175,6 +181,11 @@ impl HeardTrace {
         };
         self.others.insert(name, named)?;
         Ok(())
+    }
+
+    /// The date of 0 ms, as far as the lines tell it.
+    pub fn zero(&self) -> Zero {
+        self.zero
     }
 
     /// How many lines were heard, and so the number of the last one.

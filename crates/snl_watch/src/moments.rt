@@ -3,6 +3,7 @@
 ghost use Rattle.std.specs.Prelude.{◌<◌, ◌≤◌, length, IfSome};
 
 use crate::lines::ms_of;
+use crate::zero::Zero;
 use bstr::ByteSlice;
 use memchr::memchr;
 use std::alloc::{AllocError, Global};
@@ -27,6 +28,8 @@ pub struct Moments {
     at: usize,
     /// Whether the program began at an earlier line.
     has_begun: bool,
+    /// The date of 0 ms.
+    zero: Zero,
 }
 
 /// The time of a line; None where it is blank or a comment.
@@ -95,6 +98,7 @@ impl Moments {
             times: Vec::with_capacity(alloc, MOST)?,
             at: 0,
             has_begun: false,
+            zero: Zero::new(),
         })
     }
 
@@ -104,7 +108,9 @@ impl Moments {
         self.count = 1;
         self.times.clear();
         self.at = 0;
-        if let Some(ms) = time_of(line) {
+        let time = time_of(line);
+        self.zero.note(line, time.is_some());
+        if let Some(ms) = time {
             let _kept = self.times.push(ms);
         }
     }
@@ -161,6 +167,11 @@ impl Moments {
     /// How many lines were given, and so the number of the last one.
     pub(crate) fn lines(&self) -> u64 {
         self.before.saturating_add(self.count)
+    }
+
+    /// The date of 0 ms, as far as the lines that were given tell it.
+    pub(crate) fn zero(&self) -> Zero {
+        self.zero
     }
 
     /// Whether the program began at an earlier line.

@@ -1,13 +1,15 @@
 //! Notes about a run: which clause fired and what its condition saw, and which put was refused and why.
 
 ghost use Rattle.std.specs.Prelude.{◌≡◌, true};
-ghost use Rattle.snl_watch.specs.Extra.{are_dropped, start};
+ghost use Rattle.snl_watch.specs.Folding as spec;
 
 use crate::legend::{ClauseLegend, Legend};
 use crate::moments::Moments;
-use crate::places::LinePlace;
+use crate::noted::are_notes;
 use crate::standing::Standing;
 use crate::waiting::Waiting;
+use crate::zero::{BESIDE, Zero};
+use arrayvec::ArrayVec;
 use itoa::Buffer;
 use snl_output::{Fired, RefusalCause, Refused};
 use std::alloc::{AllocError, Global};
@@ -32,20 +34,44 @@ fn add_number(out: &mut Waiting, number: i64) -> Option<()> {
     out.add(digits.format(number).as_bytes())
 }
 
-/// Adds the end of a note: the line of the trace, where one came then.
-fn add_end(out: &mut Waiting, line: Option<u64>) -> Option<()> {
-    let Some(line) = line else {
-        return out.add(b"\n");
-    };
-    let mut digits = Buffer::new();
-    out.add(b" (trace line ")?;
-    out.add(digits.format(line).as_bytes())?;
+/// A time of a run: the line of the trace that came then, where one did, and the time of day behind a comma, where that is known.
+#[derive(Drop)]
+struct Moment {
+    line: Option<u64>,
+    clock: ArrayVec<u8, BESIDE>,
+}
+
+/// Adds the end of a note: the line of the trace and the time of day, in brackets.
+fn add_end(out: &mut Waiting, moment: &Moment) -> Option<()> {
+    let clock = moment.clock.as_slice();
+    match (moment.line, clock) {
+        (Some(line), _) => {
+            let mut digits = Buffer::new();
+            out.add(b" (trace line ")?;
+            out.add(digits.format(line).as_bytes())?;
+            out.add(clock)?;
+        }
+        (None, [b',', b' ', time @ ..]) => {
+            out.add(b" (")?;
+            out.add(time)?;
+        }
+        (None, _) => return out.add(b"\n"),
+    }
     out.add(b")\n")
 }
 
-/// The line of the trace that came at a time to which the run has come; None where none did.
-fn line_at(moments: &RefCell<Moments>, ms: u64) -> Option<u64> {
-    moments.try_borrow_mut().ok()?.line_at(ms)
+/// A time to which a run has come.
+fn moment_at(moments: &RefCell<Moments>, ms: u64) -> Moment {
+    match moments.try_borrow_mut() {
+        Ok(mut moments) => Moment {
+            line: moments.line_at(ms),
+            clock: moments.zero().beside(ms),
+        },
+        Err(_) => Moment {
+            line: None,
+            clock: ArrayVec::new(),
+        },
+    }
 }
 
 /// Tells that the program has begun.
@@ -55,12 +81,12 @@ fn tell_begin(moments: &RefCell<Moments>) {
     }
 }
 
-/// Adds the note that a clause fired: what stands in front, each name with its word, and the line of the trace.
+/// Adds the note that a clause fired: what stands in front, each name with its word, and when that was.
 fn add_clause(
     out: &mut Waiting,
     clause: &ClauseLegend,
     words: &[i64],
-    line: Option<u64>,
+    moment: &Moment,
 ) -> Option<()> {
     out.add(clause.front.as_slice())?;
     for seen in &clause.seen {
@@ -69,7 +95,7 @@ fn add_clause(
             add_number(out, *word)?;
         }
     }
-    add_end(out, line)
+    add_end(out, moment)
 }
 
 /// Why a put was refused.
@@ -120,8 +146,8 @@ impl<'c> Notes<'c> {
             return;
         };
         let before = self.waiting.len();
-        let line = line_at(self.moments, fired.ms);
-        let added = add_clause(&mut self.waiting, clause, words, line);
+        let moment = moment_at(self.moments, fired.ms);
+        let added = add_clause(&mut self.waiting, clause, words, &moment);
         self.waiting.settle(before, added);
     }
 
@@ -160,16 +186,17 @@ impl<'c> Notes<'c> {
         self.waiting.put_back(room);
     }
 
-    /// Puts the notes that wait into a room, where they are extra lines and nothing else; else none. What stood there is gone.
+    /// Puts the notes that wait into a room, where they are extra lines and nothing else, of which none reads as the line of a fold;
+    /// else none. What stood there is gone.
     pub(crate) fn put_noted(&mut self, room: &mut Vec<u8>)
-        ensures { are_dropped start room.new.items ≡ true }
+        ensures { spec.are_notes room.new.items ≡ true }
     {
         if self.waiting.is_empty() {
             room.clear();
             return;
         }
         self.waiting.move_to(room);
-        if !LinePlace::start().drops_all(room.as_slice()) {
+        if !are_notes(room.as_slice()) {
             room.clear();
         }
     }
@@ -182,6 +209,14 @@ impl<'c> Notes<'c> {
     /// Where the state sets stand, and counts.
     pub fn standing(&self) -> &Standing {
         &self.standing
+    }
+
+    /// The date of 0 ms, where the trace has told it.
+    pub fn zero(&self) -> Zero {
+        match self.moments.try_borrow() {
+            Ok(moments) => moments.zero(),
+            Err(_) => Zero::new(),
+        }
     }
 
     /// How many lines of the trace were given.

@@ -7,7 +7,7 @@ ghost use Rattle.snl_watch.specs.Seen.{seen};
 ghost use Rattle.snl_watch.specs.Sets.{names_in};
 
 use crate::counter::Counter;
-use snl_output::{Fired, Refused, Sink, SinkFault};
+use snl_output::{Fired, Put, Refused, Sink, SinkFault, Went};
 
 /// Hands on what it is given, and counts the lines of what was taken. What it knows is what the text shows that the sink behind
 /// it tells.
@@ -55,6 +55,18 @@ impl<K: Sink> Sink for Watch<K> {
     fn fired(&mut self, clause: Fired, words: &[i64]) {
         self.inner.fired(clause, words);
         self.counter.fire(clause);
+    }
+
+    fn went(&mut self, transition: Went) {
+        self.inner.went(transition);
+    }
+
+    fn put(&mut self, put: Put, values: &[i64]) {
+        self.inner.put(put, values);
+    }
+
+    fn line(&mut self, number: u128, ms: u64) {
+        self.inner.line(number, ms);
     }
 
     fn refused(&mut self, put: Refused) {
