@@ -3,7 +3,12 @@ import re
 from dataclasses import dataclass, field
 from typing import Iterable, Iterator, Optional
 
-CLAUSE = re.compile(r"# clause (\d+) of (\S+), line (\d+)(?:: (.*?))?(?: \(trace line (\d+)\))?")
+# Behind a time of the run stands the time of day, where the trace tells the date of 0 ms.
+DAY = r"(?:\d{4}-\d\d-\d\dT)?\d\d:\d\d:\d\d\.\d{3}"
+# Its condition stands in brackets where it has comments.
+CONDITION, SAW = rf"(?: \((?!trace line \d+(?:, {DAY})?\)$|{DAY}\)$).*?\))?", r"(?:: ([^()]*?))?"
+MOMENT = rf"(?: \(trace line (\d+)(?:, {DAY})?\)| \({DAY}\))?"
+CLAUSE = re.compile(rf"# clause (\d+) of (\S+), line (\d+){CONDITION}{SAW}{MOMENT}")
 REFUSED = re.compile(r"# put to (.*) refused \((-\d)\): (.*)")
 NOWHERE = re.compile(r"# put refused \((-\d)\): (.*)")
 BAD = re.compile(r"^# bad line (\d+)$", re.MULTILINE)
@@ -13,7 +18,7 @@ WAITS = re.compile(r"# (waits for (.*) \([^()]*\)|never began: .*)")
 UNKNOWN = re.compile(r"# (\S+ is no channel of the program \(.*|and \d+ lines? more with names that .*)")
 # So many of those are kept.
 MOST_UNKNOWN = 5
-FOLDED = re.compile(r"# th(?:is line|ese \d+ lines) \d+ times? more, up to \d+")
+FOLDED = re.compile(rf"# th(?:is line|ese \d+ lines) \d+ times? more, up to \d+(?:, {DAY})?")
 STOPPED = re.compile(r"# the trace could not be read on at .*")
 
 

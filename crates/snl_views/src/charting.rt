@@ -4,11 +4,11 @@ ghost use Rattle.std.specs.Prelude.{IfOk};
 ghost use Rattle.snl_views.specs.Runners.{IsCharted};
 
 use crate::charts::{Chart, chart_of};
-use crate::conditions::Conditions;
 use crate::coverage::PutChart;
 use crate::puts::{put_charts, put_names};
 use indexmap::IndexSet;
 use snl_check::Checked;
+use snl_legends::Conditions;
 use snl_links::Link;
 use snl_text::lex;
 use std::alloc::{AllocError, Global};
@@ -26,7 +26,7 @@ fn marks_of(alloc: Global, source: &[u8]) -> Result<Marks, AllocError> {
     match lex(alloc, source) {
         Ok(lexed) => {
             let tokens = lexed.tokens.as_slice();
-            let conditions = Conditions::of(alloc, tokens)?;
+            let conditions = Conditions::of(alloc, source, tokens)?;
             let puts = put_names(alloc, tokens)?;
             Ok(Marks { conditions, puts })
         }

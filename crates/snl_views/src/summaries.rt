@@ -6,13 +6,26 @@ use crate::pieces::{push_all, push_count, push_number};
 use crate::starting::Start;
 use crate::telling::{Scene, start_text};
 use snl_trace::End;
-use snl_watch::{HeardTrace, Notes, Standing};
+use snl_watch::{HeardTrace, Notes, Standing, Zero};
 use std::alloc::{AllocError, Global};
 
-/// Adds how a run ended, the time then in milliseconds, and the line of the trace.
-fn push_end(out: &mut Vec<u8>, what: &[u8], ms: u64, line: u64) -> Result<(), AllocError> {
+/// A time in milliseconds of a run whose trace may tell the date of 0 ms.
+#[derive(Clone, Copy)]
+struct Time {
+    ms: u64,
+    zero: Zero,
+}
+
+/// Adds a time in milliseconds and, where it is known, the time of day.
+fn push_time(out: &mut Vec<u8>, time: Time) -> Result<(), AllocError> {
+    push_number(out, time.ms)?;
+    out.extend_from_slice(time.zero.beside(time.ms).as_slice())
+}
+
+/// Adds how a run ended, the time then, and the line of the trace.
+fn push_end(out: &mut Vec<u8>, what: &[u8], time: Time, line: u64) -> Result<(), AllocError> {
     push_all(out, &[b"# ", what, b" at "])?;
-    push_number(out, ms)?;
+    push_time(out, time)?;
     out.extend_from_slice(b", line ")?;
     push_number(out, line)?;
     out.extend_from_slice(b"\n")
@@ -35,13 +48,13 @@ fn push_bad_line(out: &mut Vec<u8>, number: u128) -> Result<(), AllocError> {
 }
 
 /// Adds how a run ended.
-fn push_how(out: &mut Vec<u8>, end: End, ms: u64, line: u64) -> Result<(), AllocError> {
+fn push_how(out: &mut Vec<u8>, end: End, time: Time, line: u64) -> Result<(), AllocError> {
     match end {
-        End::TraceEnded => push_end(out, b"end of the trace", ms, line),
-        End::ProgramEnded => push_end(out, b"the program ended", ms, line),
-        End::Fault(_, _) => push_end(out, b"fault", ms, line),
+        End::TraceEnded => push_end(out, b"end of the trace", time, line),
+        End::ProgramEnded => push_end(out, b"the program ended", time, line),
+        End::Fault(_, _) => push_end(out, b"fault", time, line),
         End::TraceFault(number, _) => push_bad_line(out, number),
-        End::SourceFailed => push_end(out, b"the trace could not be read on", ms, line),
+        End::SourceFailed => push_end(out, b"the trace could not be read on", time, line),
         End::SinkFailed => Ok(()),
     }
 }
@@ -62,6 +75,7 @@ fn push_noted(out: &mut Vec<u8>, text: &[u8]) -> Result<(), AllocError> {
 /// Adds where each state set stands.
 fn push_sets(out: &mut Vec<u8>, notes: &Notes) -> Result<(), AllocError> {
     let legend = notes.legend();
+    let zero = notes.zero();
     let count = legend.sets.len() as u64;
     for (number, standing) in notes.standing().sets().iter().enumerate() {
         let Some(set) = legend.sets.get(number) else {
@@ -69,15 +83,19 @@ fn push_sets(out: &mut Vec<u8>, notes: &Notes) -> Result<(), AllocError> {
         };
         push_all(out, &[b"# ", set.name.as_slice()])?;
         push_all(out, &[b" in ", standing.state()])?;
-        push_since(out, standing.since, number as u64, count)?;
+        let since = Time {
+            ms: standing.since,
+            zero,
+        };
+        push_since(out, since, number as u64, count)?;
     }
     Ok(())
 }
 
 /// Adds since when a state set stands where it does, and which of them it is.
-fn push_since(out: &mut Vec<u8>, since: u64, number: u64, count: u64) -> Result<(), AllocError> {
+fn push_since(out: &mut Vec<u8>, since: Time, number: u64, count: u64) -> Result<(), AllocError> {
     out.extend_from_slice(b" since ")?;
-    push_number(out, since)?;
+    push_time(out, since)?;
     out.extend_from_slice(b" (")?;
     push_number(out, number.saturating_add(1))?;
     out.extend_from_slice(b" of ")?;
@@ -118,8 +136,12 @@ fn push_counts(out: &mut Vec<u8>, standing: &Standing) -> Result<(), AllocError>
 
 /// Adds how a run ended, and where.
 fn push_ending(out: &mut Vec<u8>, scene: Scene, end: End, notes: &Notes) -> Result<(), AllocError> {
-    let time = scene.machine.time();
-    push_how(out, end, time, line_of(end, notes, time))
+    let ms = scene.machine.time();
+    let time = Time {
+        ms,
+        zero: notes.zero(),
+    };
+    push_how(out, end, time, line_of(end, notes, ms))
 }
 
 /// Adds where the state sets stand or, where the program never began, what it waits for.

@@ -9,7 +9,7 @@ use crate::variables::variable_of;
 use snl_links::Link;
 use snl_machine::Machine;
 use snl_trace::End;
-use snl_watch::{EventCount, HeardTrace, NameCount};
+use snl_watch::{HeardTrace, NameCount};
 use std::alloc::{AllocError, Global};
 
 /// How many pairs of names are compared by their distance at most; where there are more, none is.
@@ -29,7 +29,7 @@ pub(crate) struct Scene<'s> {
 /// Adds when the program began.
 fn push_began(out: &mut Vec<u8>, scene: Scene, heard: &HeardTrace) -> Result<(), AllocError> {
     out.extend_from_slice(b"began at ")?;
-    push_number(out, scene.machine.time())?;
+    push_time(out, heard, scene.machine.time())?;
     out.extend_from_slice(b" (line ")?;
     push_number(out, heard.lines())?;
     let why: &[u8] = if scene.waits {
@@ -40,8 +40,15 @@ fn push_began(out: &mut Vec<u8>, scene: Scene, heard: &HeardTrace) -> Result<(),
     out.extend_from_slice(why)
 }
 
-/// Adds how many events came.
-fn push_events(out: &mut Vec<u8>, events: EventCount, time: u64) -> Result<(), AllocError> {
+/// Adds a time in milliseconds and, where the trace tells the date of 0 ms, the time of day.
+fn push_time(out: &mut Vec<u8>, heard: &HeardTrace, ms: u64) -> Result<(), AllocError> {
+    push_number(out, ms)?;
+    out.extend_from_slice(heard.zero().beside(ms).as_slice())
+}
+
+/// Adds how many events came, the last at a time.
+fn push_events(out: &mut Vec<u8>, heard: &HeardTrace, time: u64) -> Result<(), AllocError> {
+    let events = heard.events();
     if events.count == 0 {
         return out.extend_from_slice(b"never began: no event\n");
     }
@@ -53,7 +60,7 @@ fn push_events(out: &mut Vec<u8>, events: EventCount, time: u64) -> Result<(), A
         b", the last at "
     };
     out.extend_from_slice(at)?;
-    push_number(out, time)?;
+    push_time(out, heard, time)?;
     out.extend_from_slice(b" (line ")?;
     push_number(out, events.last)?;
     out.extend_from_slice(b")\n")
@@ -74,11 +81,11 @@ fn push_variable(out: &mut Vec<u8>, scene: Scene, link: &Link) -> Result<(), All
 }
 
 /// Adds that a channel has to be up.
-fn push_down(out: &mut Vec<u8>, since: Option<u64>) -> Result<(), AllocError> {
+fn push_down(out: &mut Vec<u8>, heard: &HeardTrace, since: Option<u64>) -> Result<(), AllocError> {
     match since {
         Some(ms) => {
             out.extend_from_slice(b", which is down again since ")?;
-            push_number(out, ms)
+            push_time(out, heard, ms)
         }
         None => out.extend_from_slice(b" to be up"),
     }
@@ -102,7 +109,7 @@ fn push_awaited(
     if is_value {
         out.extend_from_slice(b" to have a value")?;
     } else {
-        push_down(out, since_of(scene, heard, number))?;
+        push_down(out, heard, since_of(scene, heard, number))?;
     }
     push_variable(out, scene, link)
 }
@@ -177,7 +184,7 @@ pub(crate) fn start_text(
         push_began(&mut out, scene, &start.heard)?;
         return Ok(out);
     }
-    push_events(&mut out, start.heard.events(), scene.machine.time())?;
+    push_events(&mut out, &start.heard, scene.machine.time())?;
     for awaited in &start.awaited {
         push_awaited(&mut out, scene, &start.heard, *awaited)?;
     }

@@ -1,0 +1,11 @@
+//! What notes about a run name of a checked program.
+//!
+//! `set_legends` makes it: the names of its state sets and states, and of each clause the front of its note and the variables that its
+//! condition sees.
+#![tactic(auto)]
+
+mod conditions;
+mod legends;
+
+pub use conditions::Conditions;
+pub use legends::set_legends;
