@@ -10,11 +10,14 @@ CHANGES = (
         """line 5 of the trace differs:
 old wrote: 10100 put LAB:LAMP 1
 new wrote: nothing
-old: clause 1 of room dark (line 10) fired last, at 10100; it is in room lit
-new: no clause has fired; it is in room dark
+old fired at 10100: clause 1 of dark, line 10: voltage=7
+new fired no clause at 10100
+old is in room lit
+new is in room dark
 2 of 8 lines of the trace differ, the last is line 8
-old wrote 4 lines, 1 put; new wrote 1 line, 0 puts
+old wrote 4 lines, 1 put; new wrote 1 line, 0 puts; alone: old 3 lines, new 0 lines
 puts to LAB:LAMP: old 1, new 0
+the last put to LAB:LAMP: old 1, new none
 """,
     ),
     ("light", "s/> 5/>= 6/", "the same over 8 lines of the trace: 4 lines, 1 put\n"),
@@ -24,10 +27,15 @@ puts to LAB:LAMP: old 1, new 0
         """line 9 of the trace differs:
 old wrote: 13000 go oven full empty
 new wrote: 14000 go oven full empty
-old: clause 1 of oven empty (line 25) fired last, at 15000; it is in robot waits, oven full
-new: clause 1 of oven empty (line 25) fired last, at 16000; it is in robot waits, oven full
+old fired at 13000: clause 1 of full, line 30
+old fired at 13000: clause 1 of waits, line 15: part=2
+new fired at 14000: clause 1 of full, line 30
+new fired at 14000: clause 1 of waits, line 15: part=2
+old is in robot waits, oven full
+new is in robot waits, oven full
 1 of 9 lines of the trace differ, the last is line 9
-old wrote 15 lines, 7 puts; new wrote 15 lines, 7 puts
+old wrote 15 lines, 7 puts; new wrote 15 lines, 7 puts; alone: old 8 lines, new 8 lines
+the last put to each channel is the same
 """,
     ),
     (
@@ -36,11 +44,18 @@ old wrote 15 lines, 7 puts; new wrote 15 lines, 7 puts
         """line 7 of the trace differs:
 old wrote: 1000 put MAG:CURRENT 10
 new wrote: 1000 put MAG:CURRENT 12
-old: clause 2 of magnet ready (line 20) fired last, at 1000; it is in magnet steps
-new: clause 2 of magnet ready (line 20) fired last, at 1000; it is in magnet steps
+old fired at 1000: clause 1 of begin, line 13
+old fired at 1000: clause 1 of rests, line 16: wanted=25
+old fired at 1000: clause 2 of ready, line 20
+new fired at 1000: clause 1 of begin, line 13
+new fired at 1000: clause 1 of rests, line 16: wanted=25
+new fired at 1000: clause 2 of ready, line 20
+old is in magnet steps
+new is in magnet steps
 11 of 24 lines of the trace differ, the last is line 24
-old wrote 48 lines, 10 puts; new wrote 6 lines, 1 put
+old wrote 48 lines, 10 puts; new wrote 6 lines, 1 put; alone: old 43 lines, new 1 line
 puts to MAG:CURRENT: old 10, new 1
+the last put to MAG:CURRENT: old 15, new 12
 """,
     ),
     # The gauge is silent at 7100: the valve stays open, which is seen at the line behind it.
@@ -50,11 +65,16 @@ puts to MAG:CURRENT: old 10, new 1
         """line 26 of the trace differs:
 old wrote: 7100 put VAC:VALVE:OPEN 0
 new wrote: 7100 go guard open shut
-old: clause 2 of guard open (line 23) fired last, at 7100; it is in guard shut, watchdog dead
-new: clause 2 of guard open (line 23) fired last, at 7100; it is in guard shut, watchdog dead
+old fired at 7100: clause 2 of alive, line 31
+old fired at 7100: clause 2 of open, line 23: valve=1
+new fired at 7100: clause 2 of alive, line 31
+new fired at 7100: clause 2 of open, line 23: valve=1
+old is in guard shut, watchdog dead
+new is in guard shut, watchdog dead
 1 of 29 lines of the trace differ, the last is line 26
-old wrote 20 lines, 5 puts; new wrote 19 lines, 4 puts
+old wrote 20 lines, 5 puts; new wrote 19 lines, 4 puts; alone: old 1 line, new 0 lines
 puts to VAC:VALVE:OPEN: old 5, new 4
+the last put to each channel is the same
 """,
     ),
 )

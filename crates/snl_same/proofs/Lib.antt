@@ -2,6 +2,7 @@ pub mod WordLaws
 pub mod KeptLaws
 pub mod FirstLaws
 pub mod LineLaws
+pub mod HearingLaws
 pub mod MeaningLaws
 pub mod StandLaws
 pub mod TakingLaws

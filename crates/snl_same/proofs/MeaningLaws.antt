@@ -92,3 +92,10 @@ pub works-well : (l : Live) → ends_by_sink (end_by l) ≡ false
 works-well live.Waiting = refl
 works-well live.Running = refl
 works-well live.Ended = refl
+
+-- a line that is known does what its event does
+pub known-did : (r : Rules) (m : Machine) (number ms : ℕ) (event : Event) (line : List ℕ) (v : World) (e : Option End) (text : List ℕ) → MeansAs r m →
+    Ok (Some (ms, event)) ≡ read_of (channel_of m) (fits_of m) (world_held m).time line →
+    Did (event_done r ms event (world_held m)) e v text → Did (line_done r number line (world_held m)) e v text
+known-did r m number ms event line v e text meant tells did =
+    event-line-did r number ms event line (world_held m) v e text (read-means m r (world_held m).time line (Ok (Some (ms, event))) meant tells refl) did

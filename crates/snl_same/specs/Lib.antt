@@ -2,6 +2,7 @@ pub mod Words
 pub mod Kept
 pub mod Firsts
 pub mod Lines
+pub mod Hearing
 pub mod Sides
 pub mod Answers
 pub mod Loaded

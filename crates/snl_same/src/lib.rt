@@ -4,15 +4,19 @@
 //! line of the trace at which they differ, by what each wrote there or by how it ended.
 #![tactic(auto)]
 
+mod alone;
+mod clauses;
 mod comparing;
 mod differences;
 mod filters;
+mod hearing;
 mod keeping;
 pub mod laws;
 mod loading;
 mod logs;
 mod pages;
 mod pieces;
+mod puts;
 mod reading;
 mod scenes;
 mod sides;

@@ -20,6 +20,9 @@ pub(crate) struct Log<'f> {
     pub(crate) apart: u64,
     /// The last of these.
     pub(crate) last: u128,
+    /// How many lines each run wrote there that the other did not.
+    pub(crate) old_alone: u64,
+    pub(crate) new_alone: u64,
     /// Whether each difference is told, and not the first alone.
     pub(crate) is_whole: bool,
     /// What is told of the differences.
@@ -40,6 +43,8 @@ impl<'f> Log<'f> {
             first: None,
             apart: 0,
             last: 0,
+            old_alone: 0,
+            new_alone: 0,
             is_whole,
             text: Vec::new(alloc),
         }

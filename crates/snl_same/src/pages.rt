@@ -2,25 +2,26 @@
 
 ghost use Rattle.std.specs.Prelude.{◌≡◌, []};
 
-use snl_output::{Fired, Sink, SinkFault};
+use crate::scenes::Scene;
+use snl_output::{Fired, Put, Sink, SinkFault, Went};
 use std::alloc::Global;
 
-/// Keeps what it is given, and which clause fired last. It fails where memory ends.
+/// Keeps what it is given, and what is told of the run beside it. It fails where memory ends.
 #[derive(Drop)]
 pub struct Page {
     text: Vec<u8>,
     failures: u64,
-    /// The clause that fired last.
-    fired: Option<Fired>,
+    /// What is told of the run.
+    pub(crate) scene: Scene,
 }
 
 impl Page {
     /// An empty one.
-    pub(crate) fn new(alloc: Global) -> Self {
+    pub(crate) fn new(alloc: Global, scene: Scene) -> Self {
         Page {
             text: Vec::new(alloc),
             failures: 0,
-            fired: None,
+            scene,
         }
     }
 
@@ -31,6 +32,7 @@ impl Page {
     {
         self.text.clear();
         self.failures = 0;
+        self.scene.clauses.pass();
     }
 
     /// What was written since it was empty.
@@ -38,11 +40,6 @@ impl Page {
         ensures { result.now ≡ self.now.text.items }
     {
         self.text.as_slice()
-    }
-
-    /// The clause that fired last.
-    pub(crate) fn last_fired(&self) -> Option<Fired> {
-        self.fired
     }
 }
 
@@ -55,7 +52,10 @@ impl Sink for Page {
 
     fn write(&mut self, piece: &[u8]) -> Result<usize, SinkFault> {
         match self.text.extend_from_slice(piece) {
-            Ok(()) => Ok(piece.len()),
+            Ok(()) => {
+                self.scene.wrote(piece);
+                Ok(piece.len())
+            }
             Err(_) => {
                 self.failures += 1;
                 Err(SinkFault)
@@ -63,7 +63,15 @@ impl Sink for Page {
         }
     }
 
-    fn fired(&mut self, clause: Fired, _words: &[i64]) {
-        self.fired = Some(clause);
+    fn fired(&mut self, clause: Fired, words: &[i64]) {
+        self.scene.fired(clause, words);
+    }
+
+    fn went(&mut self, transition: Went) {
+        self.scene.went(transition);
+    }
+
+    fn put(&mut self, put: Put, values: &[i64]) {
+        self.scene.put(put, values);
     }
 }

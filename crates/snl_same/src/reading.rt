@@ -1,22 +1,23 @@
 //! `compare`: two programs over the lines of a trace.
 
-ghost use Rattle.std.specs.Prelude.{◌≡◌, ◌≢◌, ◌+◌, ◌-◌, ◌^◌, ◌<◌, ◌≤◌, ◌++◌, ◌∷◌, [], true, false, length, All, IfOk, IfSome};
+ghost use Rattle.std.specs.Prelude.{◌≡◌, ◌≢◌, ◌+◌, ◌-◌, ◌^◌, ◌<◌, ◌≤◌, ◌++◌, ◌∷◌, [], true, false, length, option_map, All, IfOk, IfSome};
 ghost use Rattle.snl_output.specs.Devices.{counted};
 ghost use Rattle.snl_same.specs.Answers.{IsFoundOver, source_failed};
+ghost use Rattle.snl_same.specs.Hearing.{Tells};
 ghost use Rattle.snl_same.specs.Sides.{Finishes, FindsOver, MeansAs, TakesIn, pair_of, stand_of};
 ghost use Rattle.snl_machine.specs.MachineOf.{world_held};
 ghost use Rattle.snl_trace.specs.Run.{Rules};
 
 use crate::differences::{Close, Difference};
 use crate::filters::Filter;
-use crate::keeping::first_line;
+use crate::hearing::{Known, next_line};
 use crate::logs::Log;
 use crate::sides::Side;
 use crate::stepping::step;
 use crate::telling::sum_up;
 use arrayvec::ArrayVec;
 use snc::{Status, status_of};
-use snl_trace::{End, Source, TraceFault};
+use snl_trace::{End, Events, Source, TraceFault};
 use std::alloc::{AllocError, Global};
 
 /// One byte more than a line may have: with that many it is known to be too long.
@@ -27,6 +28,15 @@ type Line = ArrayVec<u8, LINE_HELD>;
 
 /// How many bytes are read at once.
 const PIECE: usize = 65_536;
+
+/// What a comparison keeps of its trace.
+#[derive(Drop)]
+struct Reading {
+    /// The line that has not ended yet.
+    begun: Line,
+    /// Room for the events of all lines.
+    events: Events,
+}
 
 /// What came of two programs over a trace.
 #[derive(Drop)]
@@ -86,28 +96,37 @@ fn extend(line: &mut Line, bytes: &[u8]) -> bool
     line.try_extend_from_slice(bytes).is_ok() && !line.is_full()
 }
 
-/// Takes in the rest of a line with its newline. Answers how the comparison ends there, if it does. The only error is that memory ends.
+/// Takes in the rest of a line with its newline. Where it is known what it tells, no line had begun before it. Answers how the
+/// comparison ends there, if it does. The only error is that memory ends.
+#[inline(always)]
 fn take_line(
     text: &[u8],
-    begun: &mut Line,
+    known: Option<Known>,
+    reading: &mut Reading,
     old: &mut Side,
     new: &mut Side,
     log: &mut Log,
 ) -> Result<Option<Close>, AllocError>
     requires number { log.old.number < 2 ^ 128 - 1 }
     requires text { All (λ byte. byte ≢ 10) text.now }
-    ensures takes { IfOk result (TakesIn (text.now ++ 10 ∷ []) begun.old.items begun.new.items
-        (stand_of log.old old.old new.old) (stand_of log.new old.new new.new)) }
+    requires old { IfSome known (λ known. Tells reading.old.events.values known.ms
+        (option_map (λ numbers. numbers.old) known.channel) old.old.machine text.now) }
+    requires new { IfSome known (λ known. Tells reading.old.events.values known.ms
+        (option_map (λ numbers. numbers.new) known.channel) new.old.machine text.now) }
+    ensures takes { IfOk result (TakesIn (text.now ++ 10 ∷ []) reading.old.begun.items
+        reading.new.begun.items (stand_of log.old old.old new.old)
+        (stand_of log.new old.new new.new)) }
     ensures number { IfOk result (λ _. log.new.number ≤ log.old.number + 1) }
     ensures source { IfOk result (λ close. IfSome close (λ c. source_failed c ≡ false)) }
 {
+    let Reading { begun, events } = reading;
     if begun.is_empty() {
-        return step(text, old, new, log);
+        return step(text, known, events, old, new, log);
     }
     if !extend(begun, text) {
         return Ok(Some(Close::LineTooLong(log.number)));
     }
-    let close = step(begun.as_slice(), old, new, log)?;
+    let close = step(begun.as_slice(), None, events, old, new, log)?;
     begun.clear();
     Ok(close)
 }
@@ -116,25 +135,32 @@ fn take_line(
 /// comparison ends in them, if it does. The only error is that memory ends.
 fn take_in(
     bytes: &[u8],
-    begun: &mut Line,
+    reading: &mut Reading,
     old: &mut Side,
     new: &mut Side,
     log: &mut Log,
 ) -> Result<Option<Close>, AllocError>
     requires number { log.old.number + length bytes.now < 2 ^ 128 }
-    ensures takes { IfOk result (TakesIn bytes.now begun.old.items begun.new.items
-        (stand_of log.old old.old new.old) (stand_of log.new old.new new.new)) }
+    ensures takes { IfOk result (TakesIn bytes.now reading.old.begun.items
+        reading.new.begun.items (stand_of log.old old.old new.old)
+        (stand_of log.new old.new new.new)) }
     ensures number { IfOk result (λ _. log.new.number ≤ log.old.number + length bytes.now) }
     ensures source { IfOk result (λ close. IfSome close (λ c. source_failed c ≡ false)) }
 {
     let mut left = bytes;
-    while let Some((line, rest)) = first_line(left) {
-        match take_line(line, begun, old, new, log)? {
-            None => left = rest,
+    while let Some(next) = next_line(
+        left,
+        reading.begun.is_empty(),
+        &old.machine,
+        &new.machine,
+        &mut reading.events.values,
+    ) {
+        match take_line(next.line, next.known, reading, old, new, log)? {
+            None => left = next.rest,
             Some(close) => return Ok(Some(close)),
         }
     }
-    if extend(begun, left) {
+    if extend(&mut reading.begun, left) {
         Ok(None)
     } else {
         Ok(Some(Close::LineTooLong(log.number)))
@@ -142,16 +168,22 @@ fn take_in(
 }
 
 /// Ends a comparison behind the last byte of the trace: a line without its newline is one. The only error is that memory ends.
-fn finish(begun: &[u8], old: &mut Side, new: &mut Side, log: &mut Log) -> Result<Close, AllocError>
+fn finish(
+    reading: &mut Reading,
+    old: &mut Side,
+    new: &mut Side,
+    log: &mut Log,
+) -> Result<Close, AllocError>
     requires number { log.old.number < 2 ^ 128 - 1 }
-    ensures finishes { IfOk result (Finishes begun.now (stand_of log.old old.old new.old)
+    ensures finishes { IfOk result (Finishes reading.old.begun.items (stand_of log.old old.old new.old)
         (stand_of log.new old.new new.new)) }
     ensures source { IfOk result (λ close. source_failed close ≡ false) }
 {
+    let Reading { begun, events } = reading;
     if begun.is_empty() {
         return Ok(Close::TraceEnded);
     }
-    Ok(step(begun, old, new, log)?.unwrap_or(Close::TraceEnded))
+    Ok(step(begun.as_slice(), None, events, old, new, log)?.unwrap_or(Close::TraceEnded))
 }
 
 /// Compares two sides over a trace of which nothing was read. The only error is that memory ends.
@@ -169,19 +201,22 @@ fn compare_over<R: Source>(
     ensures source { IfOk result (λ close. R.failures trace.new
         ≡ counted (source_failed close) (R.failures trace.old)) }
 {
-    let mut begun = Line::new();
+    let mut reading = Reading {
+        begun: Line::new(),
+        events: Events::new(),
+    };
     let mut room = [0u8; PIECE];
     for _reads in 0..u64::MAX {
         match trace.read(&mut room) {
             Err(_) => return Ok(Close::SourceFailed),
-            Ok(0) => return finish(begun.as_slice(), old, new, log),
-            Ok(count) => match take_in(&room[..count], &mut begun, old, new, log)? {
+            Ok(0) => return finish(&mut reading, old, new, log),
+            Ok(count) => match take_in(&room[..count], &mut reading, old, new, log)? {
                 Some(close) => return Ok(close),
                 None => {}
             },
         }
     }
-    finish(begun.as_slice(), old, new, log)
+    finish(&mut reading, old, new, log)
 }
 
 /// Compares two programs over a trace of which nothing was read, line by line: what each wrote at a line, as far as a filter lets it

@@ -1,85 +1,82 @@
-//! How many puts went to each channel.
+//! How many puts went to each channel, and what was put last.
 
-use crate::pieces::{push_all, push_told};
-use indexmap::IndexMap;
 use std::alloc::{AllocError, Global};
 
-/// How many puts went to each channel, in the order of the first ones.
+/// What is known of the puts to a channel.
+#[derive(Drop)]
+struct Channel {
+    /// How many there were.
+    puts: u64,
+    /// The values of the last one.
+    last: Vec<i64>,
+}
+
+/// What is known of the puts of a run, by the numbers of the channels.
 #[derive(Drop)]
 pub(crate) struct Sums {
-    channels: IndexMap<Vec<u8>, u64>,
+    alloc: Global,
+    channels: Vec<Channel>,
+    puts: u64,
+    /// Whether memory was refused.
+    ran_out: bool,
 }
 
 impl Sums {
-    /// None went to any.
+    /// There was none to any channel.
     pub(crate) fn new(alloc: Global) -> Self {
         Sums {
-            channels: IndexMap::new(alloc),
+            alloc,
+            channels: Vec::new(alloc),
+            puts: 0,
+            ran_out: false,
         }
     }
 
-    /// Counts the first put to a channel.
-    fn begin(&mut self, alloc: Global, channel: &[u8]) -> Result<(), AllocError> {
-        let name = Vec::from_slice(alloc, channel)?;
-        self.channels.insert(name, 1)?;
+    /// Makes room for a channel and those of lower numbers.
+    fn reach(&mut self, channel: usize) -> Result<(), AllocError> {
+        for _new in self.channels.len()..channel.saturating_add(1) {
+            self.channels.push(Channel {
+                puts: 0,
+                last: Vec::new(self.alloc),
+            })?;
+        }
         Ok(())
     }
 
-    /// Counts a put to a channel. The only error is that memory ends.
-    pub(crate) fn count(&mut self, alloc: Global, channel: &[u8]) -> Result<(), AllocError> {
-        match self.channels.get_mut(channel) {
-            Some(puts) => {
-                *puts = puts.saturating_add(1);
-                Ok(())
-            }
-            None => self.begin(alloc, channel),
+    /// Adds a put to a channel.
+    fn add(&mut self, channel: usize, values: &[i64]) -> Result<(), AllocError> {
+        self.reach(channel)?;
+        let Some(sum) = self.channels.get_mut(channel) else {
+            return Ok(());
+        };
+        sum.puts = sum.puts.saturating_add(1);
+        sum.last.clear();
+        sum.last.extend_from_slice(values)
+    }
+
+    /// Counts a put to a channel.
+    pub(crate) fn count(&mut self, channel: usize, values: &[i64]) {
+        self.puts = self.puts.saturating_add(1);
+        if self.add(channel, values).is_err() {
+            self.ran_out = true;
         }
     }
 
-    /// How many puts went to a channel.
-    fn puts_to(&self, channel: &[u8]) -> u64 {
+    /// How many puts there were.
+    pub(crate) fn puts(&self) -> u64 {
+        self.puts
+    }
+
+    /// How many went to a channel, and the values of the last one.
+    pub(crate) fn puts_to(&self, channel: usize) -> (u64, &[i64]) {
         match self.channels.get(channel) {
-            Some(puts) => *puts,
-            None => 0,
+            Some(sum) => (sum.puts, sum.last.as_slice()),
+            None => (0, &[]),
         }
     }
-}
 
-/// Adds a line about a channel to which old and new put so often, if that is not as often.
-fn push_sum(out: &mut Vec<u8>, channel: &[u8], old: u64, new: u64) -> Result<(), AllocError> {
-    if old == new {
-        return Ok(());
+    /// Whether something is missing, since memory was refused.
+    pub(crate) fn ran_out(&self) -> bool {
+        self.ran_out
     }
-    push_all(out, &[b"puts to ", channel])?;
-    push_told(out, b": old ", old, b"")?;
-    push_told(out, b", new ", new, b"\n")
-}
-
-/// Adds a line for each channel to which the old program put, and the new one not as often.
-fn push_old(out: &mut Vec<u8>, old: &Sums, new: &Sums) -> Result<(), AllocError> {
-    for (channel, puts) in &old.channels {
-        push_sum(
-            out,
-            channel.as_slice(),
-            *puts,
-            new.puts_to(channel.as_slice()),
-        )?;
-    }
-    Ok(())
-}
-
-/// Adds a line for each channel to which the new program alone put.
-fn push_new(out: &mut Vec<u8>, old: &Sums, new: &Sums) -> Result<(), AllocError> {
-    for (channel, puts) in &new.channels {
-        if old.puts_to(channel.as_slice()) == 0 {
-            push_sum(out, channel.as_slice(), 0, *puts)?;
-        }
-    }
-    Ok(())
-}
-
-/// Adds a line for each channel to which both did not put as often.
-pub(crate) fn push_sums(out: &mut Vec<u8>, old: &Sums, new: &Sums) -> Result<(), AllocError> {
-    push_old(out, old, new)?;
-    push_new(out, old, new)
 }

@@ -2,12 +2,14 @@
 
 ghost use Rattle.std.specs.Prelude.{◌≡◌};
 
+use crate::alone::alone_in;
 use crate::differences::{Apart, Close};
 use crate::logs::Log;
 use crate::pieces::{push_all, push_counted, push_told, short};
+use crate::puts::push_puts;
 use crate::sides::Side;
 use crate::stepping::Ends;
-use crate::sums::push_sums;
+use crate::words::word;
 use snl_trace::{End, TraceFault};
 use std::alloc::AllocError;
 
@@ -66,13 +68,53 @@ fn push_apart(log: &mut Log, apart: &Apart, ends: Ends) -> Result<(), AllocError
     }
 }
 
-/// Adds where both stand.
-fn push_both(out: &mut Vec<u8>, old: &Side, new: &Side) -> Result<(), AllocError> {
-    old.scene.push_about(out, b"old: ", old.page.last_fired())?;
-    new.scene.push_about(out, b"new: ", new.page.last_fired())
+/// The time at the front of a line of the output, in milliseconds.
+fn time_of(line: &[u8]) -> u64 {
+    let mut ms = 0u64;
+    for byte in word(line) {
+        let digit = u64::from(byte.wrapping_sub(b'0'));
+        ms = ms.saturating_mul(10).saturating_add(digit);
+    }
+    ms
 }
 
-/// Tells how the runs are apart at the line that they did last, if they are and that is to be told.
+/// The times of which is told what fired in each run: that of the line by which it is apart, else that of the other's; where they are
+/// apart by their ends, that at which each stands.
+fn times_of(apart: &Apart, old: &Side, new: &Side) -> (u64, u64) {
+    match apart {
+        Apart::Lines(Some(line), Some(other)) => {
+            (time_of(line.as_slice()), time_of(other.as_slice()))
+        }
+        Apart::Lines(Some(line), None) | Apart::Lines(None, Some(line)) => {
+            (time_of(line.as_slice()), time_of(line.as_slice()))
+        }
+        _ => (old.machine.time(), new.machine.time()),
+    }
+}
+
+/// Adds which clauses fired in both, and where both stand.
+fn push_both(out: &mut Vec<u8>, apart: &Apart, old: &Side, new: &Side) -> Result<(), AllocError> {
+    let (ms, other) = times_of(apart, old, new);
+    old.page.scene.push_clauses(out, b"old", ms)?;
+    new.page.scene.push_clauses(out, b"new", other)?;
+    old.page.scene.push_place(out, b"old")?;
+    new.page.scene.push_place(out, b"new")
+}
+
+/// Counts the lines that each run wrote alone at the line that they did last.
+fn count_alone(log: &mut Log, old: &Side, new: &Side) -> Result<(), AllocError>
+    ensures first { log.new.first ≡ log.old.first }
+    ensures filter { log.new.filter ≡ log.old.filter }
+    ensures number { log.new.number ≡ log.old.number }
+{
+    let alone = alone_in(log.alloc, log.filter, old.page.text(), new.page.text())?;
+    log.old_alone = log.old_alone.saturating_add(alone.old);
+    log.new_alone = log.new_alone.saturating_add(alone.new);
+    Ok(())
+}
+
+/// Tells how the runs are apart at the line that they did last, if they are and that is to be told, and counts the lines that each wrote
+/// alone there.
 pub(crate) fn tell(
     log: &mut Log,
     old: &Side,
@@ -87,17 +129,12 @@ pub(crate) fn tell(
     let Some(apart) = apart else {
         return Ok(());
     };
+    count_alone(log, old, new)?;
     if log.first.is_some() && !log.is_whole {
         return Ok(());
     }
     push_apart(log, apart, ends)?;
-    push_both(&mut log.text, old, new)
-}
-
-/// Adds how much a run wrote.
-fn push_written(out: &mut Vec<u8>, front: &[u8], side: &Side) -> Result<(), AllocError> {
-    push_counted(out, front, side.scene.lines, b"line")?;
-    push_counted(out, b", ", side.scene.puts, b"put")
+    push_both(&mut log.text, apart, old, new)
 }
 
 /// How many lines of the trace were looked at, with one that is too long.
@@ -112,32 +149,34 @@ fn lines_seen(log: &Log, close: Close) -> u64 {
 fn push_rest(log: &mut Log, lines: u64, old: &Side, new: &Side) -> Result<(), AllocError>
     ensures { log.new.first ≡ log.old.first }
 {
+    let filter = log.filter;
     let out = &mut log.text;
     push_told(out, b"", log.apart, b" of ")?;
     push_counted(out, b"", lines, b"line")?;
-    push_told(
-        out,
-        b" of the trace differ, the last is line ",
-        short(log.last),
-        b"\n",
-    )?;
-    push_written(out, b"old wrote ", old)?;
-    push_written(out, b"; new wrote ", new)?;
+    let last = short(log.last);
+    push_told(out, b" of the trace differ, the last is line ", last, b"\n")?;
+    old.page.scene.push_written(out, b"old wrote ")?;
+    new.page.scene.push_written(out, b"; new wrote ")?;
+    push_counted(out, b"; alone: old ", log.old_alone, b"line")?;
+    push_counted(out, b", new ", log.new_alone, b"line")?;
     out.extend_from_slice(b"\n")?;
-    push_sums(out, &old.scene.sums, &new.scene.sums)
+    push_puts(out, filter, old, new)
 }
 
 /// Adds that there is no difference, and how much was compared.
 fn push_same(out: &mut Vec<u8>, lines: u64, old: &Side) -> Result<(), AllocError> {
     push_counted(out, b"the same over ", lines, b"line")?;
-    push_written(out, b" of the trace: ", old)?;
+    old.page.scene.push_written(out, b" of the trace: ")?;
     out.extend_from_slice(b"\n")
 }
 
-/// Adds the end of what is told.
+/// Adds the end of what is told. It is an error, too, where memory was refused for what is told.
 pub(crate) fn sum_up(log: &mut Log, old: &Side, new: &Side, close: Close) -> Result<(), AllocError>
     ensures { log.new.first ≡ log.old.first }
 {
+    if old.page.scene.ran_out() || new.page.scene.ran_out() {
+        return Err(AllocError);
+    }
     let lines = lines_seen(log, close);
     if log.first.is_some() {
         return push_rest(log, lines, old, new);

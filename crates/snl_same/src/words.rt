@@ -36,15 +36,6 @@ fn behind(text: &[u8]) -> &[u8]
     }
 }
 
-/// The bytes of a text behind so many blanks.
-pub(crate) fn behind_words(text: &[u8], count: usize) -> &[u8] {
-    let mut left = text;
-    for _word in 0..count {
-        left = behind(left);
-    }
-    left
-}
-
 /// Whether two lines have the same time.
 pub(crate) fn has_time_of(line: &[u8], other: &[u8]) -> bool
     ensures { result ≡ bytes_eq (spec.time_of line.now) (spec.time_of other.now) }
@@ -67,7 +58,7 @@ pub(crate) fn is_put(line: &[u8]) -> bool
 }
 
 /// Whether a channel is left out.
-fn is_left_out(filter: Filter, channel: &[u8]) -> bool
+pub(crate) fn is_left_out(filter: Filter, channel: &[u8]) -> bool
     ensures { result ≡ spec.is_left_out filter.entry channel.now }
 {
     filter.but.iter().any(|name| name.as_bytes() == channel)

@@ -1,5 +1,5 @@
-use Rattle.std.proofs.Common.{◌≡◌, ◌∙◌, ◌<◌, ◌≤◌, length, ℕ, List, refl, arith, length-take, subst, true}
-use Rattle.snl_same.specs.Sides.{Finishes, stand_of}
+use Rattle.std.proofs.Common.{◌≡◌, ◌∙◌, ◌<◌, ◌≤◌, length, refl, arith, length-take, true}
+use Rattle.snl_same.specs.Sides.{stand_of}
 use Rattle.snl_same.proofs.LineLaws.{if-ok}
 use Rattle.snl_same.proofs.OverLaws.{under_way-broken, under_way-ended, under_way-ends, under_way-on, under_way-start}
 use Rattle.snl_trace.proofs.SourceLaws.{says-end}
@@ -7,7 +7,7 @@ use Rattle.snl_same.proofs.reading.compare_over.Goals as goal
 
 pub loop-reads-init : goal.loop-reads-init
 loop-reads-init g c = record {
-  way = rw c.new-begun.ensures (under_way-start _ _ c.requires.fresh);
+  way = rw c.new.ensures (under_way-start _ _ c.requires.fresh);
   room = refl;
   number = omega (arith, c.requires.number);
   works = refl;
@@ -25,13 +25,12 @@ returns-in-Ok-eq0-clause-finds g c =
     let here = stand_of c.loop-reads.log c.loop-reads.old c.loop-reads.new in
     let to = stand_of c.finish.new.log c.finish.new.old c.finish.new.new in
     if-ok c.finish.result _ _ (λ close finishes.
-    under_way-ended _ _ _ c.in-Ok-eq0.field-0 c.read.new.room _ _ close _ here to c.loop-reads.invariant.way c.in-Ok-eq0.ensures.gave nothing ended
-    (subst (λ (z : List ℕ). Finishes z here to close) c.as_slice.ensures.value finishes)) c.finish.ensures.finishes
+    under_way-ended _ _ _ c.in-Ok-eq0.field-0 c.read.new.room _ _ close _ here to c.loop-reads.invariant.way c.in-Ok-eq0.ensures.gave nothing ended finishes) c.finish.ensures.finishes
 
 pub returns-in-Some-clause-finds : goal.returns-in-Some-clause-finds
 returns-in-Some-clause-finds g c =
     let to = stand_of c.take_in.new.log c.take_in.new.old c.take_in.new.new in
-    under_way-ends _ _ _ c.in-Ok.count c.read.new.room _ c.take_in.new.begun.items _ c.in-Some.close _ _ to c.loop-reads.invariant.way c.in-Ok.ensures.gave
+    under_way-ends _ _ _ c.in-Ok.count c.read.new.room _ c.take_in.new.reading.begun.items _ c.in-Some.close _ _ to c.loop-reads.invariant.way c.in-Ok.ensures.gave
     (rw c.in-Some.is at c.in_ok-close-in-Ok.ensures.takes)
 
 pub loop-reads-preserved : goal.loop-reads-preserved

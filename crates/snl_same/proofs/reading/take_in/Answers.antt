@@ -4,19 +4,19 @@ use Rattle.snl_same.specs.declared.differences.Close.TheVariants.{LineTooLong}
 use Rattle.snl_same.proofs.TakingLaws.{taken-more, takes-long, way-all, way-ends, way-on, way-start}
 use Rattle.snl_same.proofs.reading.take_in.Goals as goal
 
-pub loop-line-init : goal.loop-line-init
-loop-line-init c = record { way = way-start _ _ _; number = search rules }
+pub loop-next-init : goal.loop-next-init
+loop-next-init c = record { way = way-start _ _ _; number = search rules }
 
-pub loop-line-preserved : goal.loop-line-preserved
-loop-line-preserved c =
-    let line = c.in-Some.line.now in
-    let rest = c.in-Some.rest.now in
-    let cut : c.loop-line.left.now ≡ (line ++ 10 ∷ []) ++ rest = c.in-Some.ensures.cut ∙ sym (append_assoc line (10 ∷ []) rest) in
+pub loop-next-preserved : goal.loop-next-preserved
+loop-next-preserved c =
+    let line = c.in-Some.next.line.now in
+    let rest = c.in-Some.next.rest.now in
+    let cut : c.loop-next.left.now ≡ (line ++ 10 ∷ []) ++ rest = c.in-Some.ensures.cut ∙ sym (append_assoc line (10 ∷ []) rest) in
     record {
-      way = way-on _ _ _ _ _ _ _ _ _ _ c.loop-line.invariant.way cut (rw c.in-None.is at c.in_ok-take_line.ensures.takes);
+      way = way-on _ _ _ _ _ _ _ _ _ _ c.loop-next.invariant.way cut (rw c.in-None.is at c.in_ok-take_line.ensures.takes);
       number = omega (
         arith,
-        c.loop-line.invariant.number,
+        c.loop-next.invariant.number,
         c.in_ok-take_line.ensures.number,
         ap length cut,
         length-append (line ++ 10 ∷ []) rest,
@@ -26,25 +26,25 @@ loop-line-preserved c =
 
 pub returns-in-Some-2-clause-takes : goal.returns-in-Some-2-clause-takes
 returns-in-Some-2-clause-takes c =
-    let line = c.in-Some.line.now in
-    let rest = c.in-Some.rest.now in
-    let cut : c.loop-line.left.now ≡ (line ++ 10 ∷ []) ++ rest = c.in-Some.ensures.cut ∙ sym (append_assoc line (10 ∷ []) rest) in
+    let line = c.in-Some.next.line.now in
+    let rest = c.in-Some.next.rest.now in
+    let cut : c.loop-next.left.now ≡ (line ++ 10 ∷ []) ++ rest = c.in-Some.ensures.cut ∙ sym (append_assoc line (10 ∷ []) rest) in
     let to = stand_of c.take_line.new.log c.take_line.new.old c.take_line.new.new in
-    way-ends c.in-Some-2.close _ _ _ _ _ _ c.take_line.new.begun.items _ _ to c.loop-line.invariant.way cut (rw c.in-Some-2.is at c.in_ok-take_line.ensures.takes)
+    way-ends c.in-Some-2.close _ _ _ _ _ _ c.take_line.new.reading.begun.items _ _ to c.loop-next.invariant.way cut (rw c.in-Some-2.is at c.in_ok-take_line.ensures.takes)
 
 pub returns-then-extend-clause-takes : goal.returns-then-extend-clause-takes
 returns-then-extend-clause-takes c =
-    let here = stand_of c.loop-line.log c.loop-line.old c.loop-line.new in
+    let here = stand_of c.loop-next.log c.loop-next.old c.loop-next.new in
     rw (c.extend.ensures.ok c.if-extend.true)
-    (way-all _ _ _ _ _ _ _ here c.loop-line.invariant.way (taken-more c.loop-line.left.now c.loop-line.begun.items here c.in_default.ensures.none))
+    (way-all _ _ _ _ _ _ _ here c.loop-next.invariant.way (taken-more c.loop-next.left.now c.loop-next.reading.begun.items here c.in_default.ensures.none))
 
 pub returns-else-extend-clause-takes : goal.returns-else-extend-clause-takes
 returns-else-extend-clause-takes c =
-    let left = c.loop-line.left.now in
-    let here = stand_of c.loop-line.log c.loop-line.old c.loop-line.new in
+    let left = c.loop-next.left.now in
+    let here = stand_of c.loop-next.log c.loop-next.old c.loop-next.new in
     let from = stand_of c.args.log.now c.args.old.now c.args.new.now in
-    let begun = c.loop-line.begun.items in
+    let begun = c.loop-next.reading.begun.items in
     let end = c.extend.new.line.items in
-    way-ends (LineTooLong c.loop-line.log.number) c.args.bytes.now left (left ++ []) [] c.args.begun.now.items begun end from here here c.loop-line.invariant.way
+    way-ends (LineTooLong c.loop-next.log.number) c.args.bytes.now left (left ++ []) [] c.args.reading.now.begun.items begun end from here here c.loop-next.invariant.way
     (sym (append-nil (left ++ []) ∙ append-nil left))
     (takes-long left [] begun end here c.in_default.ensures.none (c.extend.ensures.long c.if-extend.false))
