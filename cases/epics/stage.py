@@ -17,6 +17,7 @@ SECONDS = 120
 HEAD = re.compile(r"(live|record)\.py \d+\.\d+\.\d+(, program \w+)?, \d{4}-\d\d-\d\dT\d\d:\d\d:\d\d[+-]\d{4}"
                   r"(, SHA-256 of \S+ [0-9a-f]{64})?, called with .+")  # fmt: skip
 ZERO = re.compile(r"zero \d{4}-\d\d-\d\dT\d\d:\d\d:\d\d\.\d{3}[+-]\d\d:\d\d")
+UNIT = re.compile(r"(?:scale|enum|text) \S+ \S+")
 BEHIND = re.compile(r"behind by \d+ ms at \d+; \d+ events wait")
 
 
@@ -140,12 +141,12 @@ def events(text):
 
 
 def comments(text):
-    """The comments of a trace behind the first two, which tell whence it is and the date of 0 ms; but those that a circuit is gone, which name the
-    machine by its name or by its number, and those that it is busy."""
+    """The comments of a trace behind the first two, which tell whence it is and the date of 0 ms, and those of its units; but those that a circuit is
+    gone, which name the machine by its name or by its number, and those that it is busy."""
     head, zero, *found = [line[2:] for line in text.splitlines() if line.startswith("#")] or ["", ""]
     if not HEAD.fullmatch(head) or not ZERO.fullmatch(zero):
         raise NotSo(f"the first comments are {head} and {zero}")
-    found = [it for it in found if not BEHIND.fullmatch(it)]
+    found = [it for it in found if not BEHIND.fullmatch(it) and not UNIT.fullmatch(it)]
     return [it for it in found if not re.fullmatch(r"\S+:\d+: Virtual circuit disconnect", it)]
 
 

@@ -20,6 +20,11 @@ severity T.SEVR
 time T.TIME
 time CLOCK
 """
+# What the first comments say of that: the star of a text is quoted.
+TOLD = [
+    "# scale T 1000", "# scale BIG 1/10", "# scale THIRD 3", r"# enum STATE :0,Not\x20Open:1,a\x2cb\x3a\x2a:2", "# enum CMD MOUNT:7",
+    r"# enum V Shut:7,Not\x20Open:0", r"# text REPLY ERR*\x2a",
+]  # fmt: skip
 FAULTS = (
     ("scal T 3", "unknown word"), ("scale T", "wrong number of fields"), ("scale  T 3", "wrong number of fields"),
     ("time A B", "wrong number of fields"), ("scale T 0", "bad number"), ("scale T 1.5", "bad number"), ("scale T 2/3", "bad number"),
@@ -62,6 +67,8 @@ def values(stage):
         "val T.SEVR 2", "up S", "val S 1",
     ]  # fmt: skip
     stage.same("the lines", found, expected)
+    told = [it for it in stage.scripts[-1].text("out").splitlines() if re.match("# (scale|enum|text) ", it)]
+    stage.same("the units in the comments", told, TOLD)
     for text in (
         "CMD is an enumeration with other texts than those of --units: its index is taken",
         "V: left out, no number of 64 bits: 1",

@@ -3,6 +3,7 @@ import errno
 import fcntl
 import hashlib
 import os
+import re
 import shlex
 import stat
 import sys
@@ -12,6 +13,8 @@ from pathlib import Path
 
 # The bytes of a comment that every reader of traces takes.
 ROOM = 30_000
+# What stands in a file of units as it is.
+QUOTED = re.compile(r"[^A-Za-z0-9_.+?/()\[\]-]+")
 VERSION = Path(__file__).resolve().parent.parent.parent / "VERSION"
 
 
@@ -91,10 +94,24 @@ def dated(pattern):
 
 def head(script, wanted, source, zero):
     """The first comments of a trace. One has the script, its version, the program, the date with its zone, the words of the call, and
-    the SHA-256 of a source, of which the name and the bytes are given; the other the date at 0 ms, given in ms since 1970."""
+    the SHA-256 of a source, of which the name and the bytes are given; another the date at 0 ms, given in ms since 1970; and those
+    behind it what the numbers stand for, as lines of a file of units."""
     version = VERSION.read_text().strip() if VERSION.exists() else "of no version"
     program = f", program {wanted.program}" if wanted.program else ""
     sum_ = f", SHA-256 of {source[0]} {hashlib.sha256(source[1]).hexdigest()}" if source else ""
     text = f"# {script} {version}{program}, {time.strftime('%Y-%m-%dT%H:%M:%S%z')}{sum_}, called with {shlex.join(sys.argv[1:])}"
     date = datetime.fromtimestamp(zero / 1000, timezone.utc).astimezone().isoformat(timespec="milliseconds")
-    return ["".join(it if " " <= it <= "~" else it.encode("unicode_escape").decode() for it in text)[:ROOM], f"# zero {date}"]
+    first = "".join(it if " " <= it <= "~" else it.encode("unicode_escape").decode() for it in text)[:ROOM]
+    return [first, f"# zero {date}", *(f"# {it}" for it in told(wanted) if len(it) + 2 <= ROOM)]
+
+
+def told(wanted):
+    """What the numbers of channels stand for, as lines of a file of units."""
+    scales = [f"scale {name} {it}" for name, it in wanted.scales.items() if it != 1]
+    texts = [f"enum {name} {','.join(f'{quoted(text)}:{number}' for text, number in it.items())}" for name, it in wanted.texts.items() if it]
+    return scales + texts + [f"text {name} {'*'.join(map(quoted, it.pieces))}" for name, it in wanted.patterns.items()]
+
+
+def quoted(text):
+    """A text as it stands in a file of units."""
+    return QUOTED.sub(lambda it: "".join(f"\\x{byte:02x}" for byte in os.fsencode(it[0])), text)

@@ -39,6 +39,10 @@ pub struct Feed<R: BufRead> {
     misreads: Misreads,
     /// Whether a sample of it had a number.
     has_number: bool,
+    /// How many lines of the file stand in front of it, where it is a part of that.
+    before: u64,
+    /// Where one channel stands behind the other: how many lines are before one in front of them.
+    behind: u64,
 }
 
 /// The channel that a file is named after: its name without the folder and without what stands behind its last point.
@@ -94,7 +98,27 @@ impl<R: BufRead + Drop> Feed<R> {
             shift,
             misreads: Misreads::new(alloc),
             has_number: false,
+            before: 0,
+            behind: 0,
         })
+    }
+
+    /// The same of a part of a file, in front of which so many lines stand.
+    pub fn from_line(self, lines: u64) -> Feed<R> {
+        let mut feed = self;
+        feed.number = lines;
+        feed.before = lines;
+        feed
+    }
+
+    /// Where it has one channel behind the other: how many of its lines are before one in front of them. They stand at the time of that.
+    pub fn lifted(&self) -> u64 {
+        self.behind
+    }
+
+    /// Whether it begins where its file does.
+    pub fn is_first(&self) -> bool {
+        self.before == 0
     }
 
     /// How its file is called.
@@ -105,11 +129,6 @@ impl<R: BufRead + Drop> Feed<R> {
     /// The lines that were not understood.
     pub fn misreads(&self) -> &Misreads {
         &self.misreads
-    }
-
-    /// Whether a sample of it had a number.
-    pub fn has_number(&self) -> bool {
-        self.has_number
     }
 
     /// Reads ahead, before the first line is taken, to see where the trace begins.
@@ -169,6 +188,9 @@ impl<R: BufRead + Drop> Feed<R> {
     fn pass_loss(&mut self) {
         self.has_loss = false;
         if let Some(time) = self.said().time() {
+            if time < self.time && self.log.is_parted() {
+                self.behind = self.behind.saturating_add(1);
+            }
             self.time = self.time.max(time);
         }
     }
@@ -212,6 +234,26 @@ impl<R: BufRead + Drop> Feed<R> {
         }
         self.misreads.add(alloc, self.number, self.line.as_slice())
     }
+}
+
+/// Whether a sample of a file had a number, of which logs are the parts.
+pub fn has_number<R: BufRead + Drop>(feeds: &[Feed<R>], file: &[u8]) -> bool {
+    for feed in feeds {
+        if feed.has_number && feed.file.as_slice() == file {
+            return true;
+        }
+    }
+    false
+}
+
+/// Whether a sample of each file had a number.
+pub fn have_numbers<R: BufRead + Drop>(feeds: &[Feed<R>]) -> bool {
+    for feed in feeds {
+        if !has_number(feeds, feed.file.as_slice()) {
+            return false;
+        }
+    }
+    true
 }
 
 /// Why a log cannot be read on.

@@ -8,7 +8,7 @@ ghost use Rattle.snl_import.specs.Written.{IsTrace, IsTraceFront};
 use crate::channels::Channels;
 use crate::counts::Counts;
 use crate::errors::ImportError;
-use crate::feed::{Feed, fault_of};
+use crate::feed::{Feed, fault_of, have_numbers};
 use crate::importer::{Begin, Importer};
 use crate::opening::Opening;
 use crate::preface::Preface;
@@ -83,7 +83,9 @@ fn add_files<R: BufRead + Drop>(
     feeds: &[Feed<R>],
 ) -> Result<(), AllocError> {
     for feed in feeds {
-        preface.add(&[b"log", feed.file()])?;
+        if feed.is_first() {
+            preface.add(&[b"log", feed.file()])?;
+        }
     }
     Ok(())
 }
@@ -96,6 +98,11 @@ fn add_zero(alloc: Global, preface: &mut Preface, begin: u64) -> Result<(), Allo
     }
 }
 
+/// Adds what makes the trace, by its name and its version.
+fn add_maker(preface: &mut Preface, wishes: &Wishes) -> Result<(), AllocError> {
+    preface.add(&[b"written by", wishes.maker.as_slice()])
+}
+
 /// Adds the words that name the program that the trace is made for.
 fn add_program(preface: &mut Preface, wishes: &Wishes) -> Result<(), AllocError> {
     match &wishes.program {
@@ -104,7 +111,7 @@ fn add_program(preface: &mut Preface, wishes: &Wishes) -> Result<(), AllocError>
     }
 }
 
-/// The comments with which the trace of logs begins: the time of 0 ms, the program, the files, and what the numbers stand for.
+/// The comments with which the trace of logs begins: what made it, the time of 0 ms, the program, the files, and what the numbers stand for.
 fn preface_of<R: BufRead + Drop>(
     alloc: Global,
     wishes: &Wishes,
@@ -113,6 +120,7 @@ fn preface_of<R: BufRead + Drop>(
     channels: &Channels,
 ) -> Result<Preface, AllocError> {
     let mut preface = Preface::new(alloc);
+    add_maker(&mut preface, wishes)?;
     add_zero(alloc, &mut preface, begin.time)?;
     add_program(&mut preface, wishes)?;
     add_files(&mut preface, feeds)?;
@@ -156,6 +164,6 @@ pub fn import<R: BufRead + Drop, P: Program + Drop, K: Sink>(
         counts: importer.counts(),
         last: importer.last(),
         notes: notes_of(alloc, &importer, feeds)?,
-        is_whole: importer.channels().lacking() == 0 && feeds.iter().all(|feed| feed.has_number()),
+        is_whole: importer.channels().lacking() == 0 && have_numbers(feeds),
     })
 }

@@ -3,14 +3,14 @@
 use crate::channel::Channel;
 use crate::channels::Channels;
 use crate::counts::{Counts, LeftOut};
-use crate::feed::Feed;
+use crate::feed::{Feed, has_number};
 use crate::importer::Importer;
 use crate::misreads::{Misread, Misreads};
 use crate::own_report::{push_foreign, push_own};
 use crate::programs::Program;
 use crate::roles::Role;
 use crate::shown::{are_printed, push_all, push_number, push_shown};
-use crate::unit_lines::push_quoted;
+use snl_units::push_quoted;
 use std::alloc::{AllocError, Global};
 use std::io::BufRead;
 
@@ -113,8 +113,29 @@ fn push_misreads(text: &mut Vec<u8>, file: &[u8], misreads: &Misreads) -> Result
     Ok(())
 }
 
-/// Adds what there is to tell of a log.
-fn push_feed<R: BufRead + Drop>(text: &mut Vec<u8>, feed: &Feed<R>) -> Result<(), AllocError> {
+/// Adds how many lines of a log stand later than they were, since its channels stand one behind the other.
+fn push_lifted(text: &mut Vec<u8>, file: &[u8], lifted: u64) -> Result<(), AllocError> {
+    if lifted == 0 {
+        return Ok(());
+    }
+    push_shown(text, file)?;
+    push_all(
+        text,
+        &[b": one channel stands behind the other, and it cannot be read twice: "],
+    )?;
+    push_number(text, lifted)?;
+    push_all(
+        text,
+        &[b" of its lines stand at the time of one in front; name a file\n"],
+    )
+}
+
+/// Adds what there is to tell of a log, or of a part of one; whether a sample of its file had a number.
+fn push_feed<R: BufRead + Drop>(
+    text: &mut Vec<u8>,
+    feed: &Feed<R>,
+    has_number: bool,
+) -> Result<(), AllocError> {
     push_misreads(text, feed.file(), feed.misreads())?;
     let more = feed.misreads().more();
     if more > 0 {
@@ -123,7 +144,8 @@ fn push_feed<R: BufRead + Drop>(text: &mut Vec<u8>, feed: &Feed<R>) -> Result<()
         push_number(text, more)?;
         push_all(text, &[b" more\n"])?;
     }
-    if feed.has_number() {
+    push_lifted(text, feed.file(), feed.lifted())?;
+    if has_number || !feed.is_first() {
         return Ok(());
     }
     push_shown(text, feed.file())?;
@@ -133,7 +155,7 @@ fn push_feed<R: BufRead + Drop>(text: &mut Vec<u8>, feed: &Feed<R>) -> Result<()
 /// Adds what there is to tell of logs.
 fn push_feeds<R: BufRead + Drop>(text: &mut Vec<u8>, feeds: &[Feed<R>]) -> Result<(), AllocError> {
     for feed in feeds {
-        push_feed(text, feed)?;
+        push_feed(text, feed, has_number(feeds, feed.file()))?;
     }
     Ok(())
 }

@@ -2,30 +2,11 @@
 
 use crate::channel::Channel;
 use crate::channels::Channels;
-use crate::preface::{Preface, hexadecimal};
+use crate::preface::Preface;
 use itoa::Buffer;
 use snl_logs::{Pattern, Scale, Word};
-use snl_units::{ChannelUnits, Unit};
+use snl_units::{ChannelUnits, Unit, push_quoted};
 use std::alloc::{AllocError, Global};
-
-/// Whether a byte of a text stands as it is in a file of units.
-fn is_plain(byte: u8) -> bool {
-    byte.is_ascii_alphanumeric() || b"_.+?/()[]-".contains(&byte)
-}
-
-/// Adds a text as it stands in a file of units.
-pub fn push_quoted(line: &mut Vec<u8>, text: &[u8]) -> Result<(), AllocError> {
-    for byte in text {
-        if is_plain(*byte) {
-            line.push(*byte)?;
-        } else {
-            line.extend_from_slice(b"\\x")?;
-            line.push(hexadecimal(*byte >> 4))?;
-            line.push(hexadecimal(*byte & 15))?;
-        }
-    }
-    Ok(())
-}
 
 /// Adds a text and its number.
 fn push_word(line: &mut Vec<u8>, word: &Word) -> Result<(), AllocError> {

@@ -28,6 +28,8 @@ pub struct ChannelText {
 /// What a call asks of the trace that is made of logs. Times are nanoseconds of the logs.
 #[derive(Drop)]
 pub struct Wishes {
+    /// The name and the version of what makes the trace.
+    pub maker: Vec<u8>,
     /// The program that the trace is made for, where there is one.
     pub program: Option<WishedProgram>,
     /// What a file of units says of channels; what follows counts more.

@@ -16,6 +16,7 @@ mod log;
 mod numbers;
 mod patterns;
 mod places;
+mod polled;
 mod ratios;
 mod rows;
 mod samples;
@@ -27,7 +28,7 @@ mod texts;
 mod units;
 mod values;
 
-pub use clock::time_text;
+pub use clock::{date_digits, day_digits, time_text};
 pub use held::Values;
 pub use log::{Form, Log};
 pub use numbers::number_of;

@@ -5,6 +5,7 @@ use crate::camonitor::camonitor_line;
 use crate::export::{channel_in, export_line};
 use crate::fields::{first_field, unquoted};
 use crate::json::{json_line, json_loss, name_in};
+use crate::polled::polled_sample;
 use crate::samples::{LogLine, Sample};
 use crate::stamps::time_of;
 use crate::table::{columns_of, table_line};
@@ -16,7 +17,7 @@ use std::alloc::{AllocError, Global};
 pub enum Form {
     /// Its first lines do not tell yet.
     Untold,
-    /// By `camonitor`, `epics.camonitor` or `caget`.
+    /// By `camonitor`, `epics.camonitor` or `caget`, also of a value with no name.
     Camonitor,
     /// As the CSV of an archiver.
     Archive,
@@ -109,6 +110,26 @@ impl Log {
         self.form
     }
 
+    /// Whether its lines told how it is written.
+    pub fn is_told(&self) -> bool {
+        self.form != Form::Untold
+    }
+
+    /// Whether it may have one channel behind the other, as far as its lines told: then its times go back where another one begins.
+    pub fn is_parted(&self) -> bool {
+        self.form == Form::Json || self.form == Form::Export
+    }
+
+    /// Whether the line that was noted last names the channel of those behind it.
+    pub fn is_named_by(&self, line: &[u8]) -> bool {
+        let line = without_end(line);
+        match self.form {
+            Form::Untold | Form::Export => channel_in(line).is_some(),
+            Form::Json => name_in(line).is_some(),
+            Form::Camonitor | Form::Archive | Form::Table(_) => false,
+        }
+    }
+
     /// Notes what the next line says of those behind it: the form of the log, or a channel. The line may have what ends it.
     pub fn note(&mut self, alloc: Global, line: &[u8]) -> Result<(), AllocError> {
         let line = without_end(line);
@@ -156,7 +177,10 @@ impl Log {
         let line = without_end(line);
         match self.form {
             Form::Untold => LogLine::Silent,
-            Form::Camonitor => camonitor_line(line),
+            Form::Camonitor => match polled_sample(self.channel.as_slice(), line) {
+                Some(sample) => LogLine::Sample(sample),
+                None => camonitor_line(line),
+            },
             Form::Archive => archive_line(self.channel.as_slice(), line),
             Form::Json => json_line(self.channel.as_slice(), line),
             Form::Export => export_line(self.channel.as_slice(), line),

@@ -81,7 +81,7 @@ fn fraction(text: &[u8]) -> Option<(u64, &[u8])>
 }
 
 /// The time that a text begins with, as `2026-11-26 21:29:52.108293`, and the text behind it.
-fn date_time(text: &[u8]) -> Option<(u64, &[u8])> {
+pub fn date_at(text: &[u8]) -> Option<(u64, &[u8])> {
     if !has(text, 10, b' ') && !has(text, 10, b'T') {
         return None;
     }
@@ -134,7 +134,7 @@ fn relative(text: &[u8]) -> Option<(u64, &[u8])> {
 
 /// The time that a text begins with, and the text behind it.
 pub fn time_at(text: &[u8]) -> Option<(u64, &[u8])> {
-    match date_time(text) {
+    match date_at(text) {
         Some(found) => Some(found),
         None => relative(text),
     }
@@ -156,7 +156,7 @@ pub fn time_in_brackets(text: &[u8]) -> Option<(u64, &[u8])> {
 
 /// The time that a text is: a date and a time of day, or seconds since 1970.
 pub fn time_of(text: &[u8]) -> Option<u64> {
-    let (time, rest) = match date_time(text) {
+    let (time, rest) = match date_at(text) {
         Some(found) => found,
         None => seconds(text)?,
     };

@@ -66,3 +66,32 @@ impl From<LineFault> for Refusal {
         Refusal::Fault(fault)
     }
 }
+
+/// Why a value that a person gives is none of a channel. `Display` gives the text for the user.
+#[derive(Clone, Copy, Debug, PartialEq, Eq, Drop, Error)]
+pub enum ValueFault {
+    /// It is no number, and no text that stands for one.
+    #[error("is no number, and no text that the file of units knows")]
+    NoNumber,
+    /// In the unit of the trace it is no whole number.
+    #[error("is no whole number in the unit of the trace")]
+    NotWhole,
+    /// In the unit of the trace it is beyond 64 bits.
+    #[error("is beyond 64 bits in the unit of the trace")]
+    TooLarge,
+}
+
+/// Why a line cannot be told in the units of a trace.
+#[derive(Clone, Copy, Debug, PartialEq, Eq, Drop)]
+pub enum PutFault<'t> {
+    /// Memory ends.
+    Memory,
+    /// A value of it is none of its channel.
+    Value(&'t str, ValueFault),
+}
+
+impl<'t> From<AllocError> for PutFault<'t> {
+    fn from(_: AllocError) -> PutFault<'t> {
+        PutFault::Memory
+    }
+}

@@ -135,7 +135,7 @@ fn unit_of(
 }
 
 /// What a line says that is neither empty nor a comment.
-fn line_units(alloc: Global, line: &[u8]) -> Result<ChannelUnits, Refusal> {
+pub(crate) fn line_units(alloc: Global, line: &[u8]) -> Result<ChannelUnits, Refusal> {
     if !is_printable(line) {
         return Err(Refusal::Fault(LineFault::NotAscii));
     }

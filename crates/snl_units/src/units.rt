@@ -34,6 +34,17 @@ pub struct ChannelUnits {
 }
 
 impl Unit {
+    /// The word that says this.
+    pub(crate) fn word(&self) -> &'static [u8] {
+        match self {
+            Unit::Scale(_, _) => b"scale",
+            Unit::Enum(_) => b"enum",
+            Unit::Severity => b"severity",
+            Unit::Text(_) => b"text",
+            Unit::Time => b"time",
+        }
+    }
+
     /// The number of the word that says this.
     pub(crate) fn kind(&self) -> u8 {
         match self {
