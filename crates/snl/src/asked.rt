@@ -2,6 +2,7 @@
 
 use snc_cli::tell;
 use snl_args::Call;
+use snl_units::ChannelUnits;
 
 /// A call and its source.
 #[derive(Clone, Copy)]
@@ -12,9 +13,19 @@ pub struct Asked<'c> {
     pub call: &'c Call,
     /// What is noted of its macros, as lines.
     pub notes: &'c [u8],
+    /// What the file of units says that the call names; nothing where it names none.
+    pub units: &'c [ChannelUnits],
 }
 
-impl Asked<'_> {
+impl<'c> Asked<'c> {
+    /// The units that a trace is compared with; None where the call names no file of units.
+    pub fn compared(self) -> Option<&'c [ChannelUnits]> {
+        match &self.call.units {
+            Some(_) => Some(self.units),
+            None => None,
+        }
+    }
+
     /// Tells the notes and the messages about the source on standard error.
     pub fn tell(self, rt: &HostRuntime, messages: &[u8]) {
         tell(rt, self.notes);

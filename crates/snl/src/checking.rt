@@ -4,6 +4,7 @@ use crate::noting::{in_front, notes_on};
 use snc::{Judgement, Status, judged};
 use snc_cli::write;
 use snl_args::{CheckWords, Format};
+use snl_channels::Macros;
 use snl_check::{Checked, Options};
 use snl_lints::{Text, lines_of, lint_named, remarks_of};
 use snl_notes::objects_of;
@@ -18,6 +19,8 @@ pub struct Piece<'c> {
     pub file: &'c [u8],
     /// The options of the language that the call gives.
     pub options: Options,
+    /// The macros in the names of channels that the call gives.
+    pub macros: Macros<'c>,
 }
 
 /// What lints remark on. A function that owns a whole checked program is dear to prove; one that owns a value of a type parameter is not.
@@ -27,8 +30,7 @@ trait Remarked {
         &self,
         alloc: Global,
         words: &CheckWords,
-        source: &[u8],
-        file: &[u8],
+        piece: Piece,
     ) -> Result<Vec<u8>, AllocError>;
 }
 
@@ -37,14 +39,13 @@ impl<'a> Remarked for Checked<'a> {
         &self,
         alloc: Global,
         words: &CheckWords,
-        source: &[u8],
-        file: &[u8],
+        piece: Piece,
     ) -> Result<Vec<u8>, AllocError> {
         let program = self.program();
-        let remarks = remarks_of(alloc, program, self.uses())?;
+        let remarks = remarks_of(alloc, program, self.uses(), &piece.macros)?;
         let text = Text {
-            source,
-            file,
+            source: piece.source,
+            file: piece.file,
             marked: program.files.as_slice(),
         };
         let silenced = words.silenced.as_slice();
@@ -76,7 +77,7 @@ fn first_unknown(words: &[String]) -> Option<&str> {
 /// Tells that there is no lint of a name.
 fn tell_unknown(rt: &HostRuntime, name: &str) {
     let _ = eprintln!(rt;
-        "error: there is no lint '{name}'\n\nThe lints: itself, shared, stale, unread, unput, equals, comma, answered\n\n\
+        "error: there is no lint '{name}'\n\nThe lints: itself, shared, stale, unread, unput, equals, comma, answered, macro, unspoken, constant\n\n\
          For more information, try '--help'."
     );
 }
@@ -100,7 +101,7 @@ fn told_remarks<T: Remarked + Drop>(
     messages: &[u8],
     checked: Box<T>,
 ) -> Status {
-    let Ok(lines) = checked.remark_lines(rt.alloc(), words, piece.source, piece.file) else {
+    let Ok(lines) = checked.remark_lines(rt.alloc(), words, piece) else {
         return Status::Memory;
     };
     let status = told_messages(rt, piece, words.format, messages);

@@ -98,7 +98,7 @@ fn answered_by(
         tell_messages(rt, both);
         return Ok(Status::SourceErrors);
     };
-    let mut trace = Input::new(rt, call.progress)?;
+    let mut trace = Input::new(rt, call.progress, None)?;
     let compared = compared(rt, words, old.as_mut(), new.as_mut(), &mut trace)?;
     let status = told(rt, &compared, trace.heard())?;
     tell_messages(rt, both);

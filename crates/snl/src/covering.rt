@@ -118,7 +118,7 @@ fn run_over_input(
     tells: bool,
     total: &mut Total,
 ) -> Result<(), Status> {
-    let mut trace = Input::new(rt, tells)?;
+    let mut trace = Input::new(rt, tells, None)?;
     let end = run_over(rt, runner, &mut trace)?;
     total.take(rt, "trace", end, trace.heard())
 }

@@ -58,7 +58,7 @@ fn run_and_drawn(
     messages: &[u8],
     runner: &mut Runner,
 ) -> Result<Status, Status> {
-    let mut trace = Input::new(rt, asked.call.progress)?;
+    let mut trace = Input::new(rt, asked.call.progress, None)?;
     match runner.over(rt.alloc(), &mut trace, Nowhere::new()) {
         Ok(run) => Ok(told(rt, asked, messages, runner, Some((run.end, trace.heard())))),
         Err(_) => Err(Status::Memory),

@@ -2,10 +2,11 @@
 
 ghost use Rattle.std.specs.Prelude.{◌≡◌, [], IfOk};
 
-use crate::overhearing::overheard;
+use crate::overhearing::{compared, overheard};
 use snc::Status;
 use snc_cli::Stream;
 use snl_trace::{Source, SourceFault};
+use snl_units::{ChannelUnits, Comparison};
 use snl_views::Overheard;
 use snl_watch::Tally;
 use std::io::{IsTerminal, Stdin};
@@ -25,13 +26,19 @@ pub struct Input<'c> {
     rt: &'c HostRuntime,
     stream: Stream<Stdin>,
     heard: Overheard,
+    units: Option<Comparison<'c>>,
     is_begun: bool,
     progress: Option<Progress>,
 }
 
 impl<'c> Input<'c> {
-    /// Nothing was read yet. Fails only where memory ran out.
-    pub fn new(rt: &'c HostRuntime, tells: bool) -> Result<Self, Status>
+    /// Nothing was read yet. What its first comments say of its numbers is compared with some units, where there are some. Fails only
+    /// where memory ran out.
+    pub fn new(
+        rt: &'c HostRuntime,
+        tells: bool,
+        units: Option<&'c [ChannelUnits]>,
+    ) -> Result<Self, Status>
         ensures gave { IfOk result (λ input. input.stream.input.past.bytes ≡ []) }
         ensures failures { IfOk result (λ input. input.stream.failures ≡ 0) }
     {
@@ -39,6 +46,7 @@ impl<'c> Input<'c> {
             rt,
             stream: Stream::new(rt.stdin()),
             heard: overheard(rt)?,
+            units: compared(rt, units)?,
             is_begun: false,
             progress: if tells { begun(rt) } else { None },
         })
@@ -47,6 +55,11 @@ impl<'c> Input<'c> {
     /// What was overheard of it.
     pub fn heard(&self) -> &Overheard {
         &self.heard
+    }
+
+    /// What its first comments say of its numbers, beside the units that it is compared with.
+    pub fn units(&self) -> Option<&Comparison<'c>> {
+        self.units.as_ref()
     }
 }
 
@@ -102,6 +115,9 @@ impl Source for Input<'_> {
             count(self.rt, progress, &room[..size]);
         }
         self.heard.take(&room[..size]);
+        if let Some(units) = &mut self.units {
+            units.take(&room[..size]);
+        }
         Ok(size)
     }
 }

@@ -9,6 +9,7 @@ mod comparing;
 mod covering;
 mod graphing;
 mod input;
+mod logs;
 mod macros;
 mod noting;
 mod outputs;
@@ -21,6 +22,7 @@ mod trace_programs;
 mod traces;
 mod tracing;
 mod trees;
+mod units;
 mod waiting;
 
 use asked::Asked;
@@ -41,6 +43,7 @@ use std::process::ExitCode;
 use std::time::Instant;
 use tracing::{answered_trace, check_times};
 use trees::answered_tree;
+use units::units_for;
 use waiting::answered_waits;
 
 /// The version of the programs, that of the file VERSION.
@@ -111,6 +114,10 @@ fn answered(rt: &HostRuntime, call: &Call, begun: Option<Instant>) -> u8 {
 
 /// Does what a call asks for of a program, and answers the exit status.
 fn answered_program(rt: &HostRuntime, call: &Call, begun: Option<Instant>) -> u8 {
+    let units = match units_for(rt, call) {
+        Ok(units) => units,
+        Err(status) => return status.code(),
+    };
     let source = match source_in(rt, "snl", call.job.file.as_str()) {
         Ok(source) => source,
         Err(status) => return status.code(),
@@ -125,6 +132,7 @@ fn answered_program(rt: &HostRuntime, call: &Call, begun: Option<Instant>) -> u8
         source,
         call,
         notes,
+        units: units.as_slice(),
     };
     answered_word(rt, asked, begun)
 }

@@ -1,13 +1,51 @@
-//! What is told of a trace that was overheard: its clock, and how its bad line can be mended.
+//! What is told of a trace that was overheard: its clock, its units, and how its bad line can be mended.
 
 use snc::Status;
 use snc_cli::tell;
 use snl_trace::End;
+use snl_units::{ChannelUnits, Comparison};
 use snl_views::Overheard;
 
 /// Who overhears a trace of which nothing came yet. Fails only where memory ran out.
 pub fn overheard(rt: &HostRuntime) -> Result<Overheard, Status> {
     Overheard::new(rt.alloc()).map_err(|_| Status::Memory)
+}
+
+/// Who compares the units of a trace of which nothing came yet with others, where there are some. Fails only where memory ran out.
+pub fn compared<'u>(
+    rt: &HostRuntime,
+    units: Option<&'u [ChannelUnits]>,
+) -> Result<Option<Comparison<'u>>, Status> {
+    match units {
+        Some(units) => match Comparison::new(rt.alloc(), units) {
+            Ok(compared) => Ok(Some(compared)),
+            Err(_) => Err(Status::Memory),
+        },
+        None => Ok(None),
+    }
+}
+
+/// Where the units of a trace differ from those that it was compared with, as lines with something in front.
+pub fn units_text(
+    rt: &HostRuntime,
+    units: Option<&Comparison<'_>>,
+    front: &[u8],
+) -> Result<Vec<u8>, Status> {
+    let mut text = Vec::new(rt.alloc());
+    if let Some(units) = units {
+        if units.ran_out() || units.push_text(&mut text, front).is_err() {
+            return Err(Status::Memory);
+        }
+    }
+    Ok(text)
+}
+
+/// The status of an answer: 1 in the place of 0 where the trace has other units than those that it was compared with.
+pub fn status_with(units: Option<&Comparison<'_>>, status: Status) -> Status {
+    match units {
+        Some(units) if status == Status::Well && units.differs() => Status::SourceErrors,
+        _ => status,
+    }
 }
 
 /// What looks wrong with the times of a trace whose run ended so, as lines with something in front.

@@ -2,29 +2,30 @@
 
 use crate::asked::Asked;
 use crate::input::Input;
-use crate::overhearing::{clock_text, tell_bad_line};
+use crate::overhearing::{clock_text, status_with, tell_bad_line, units_text};
 use snc::{SinkFault, Status};
 use snc_cli::{Lines, Outlet, write};
 use snl_trace::End;
-use snl_views::{Overheard, RunAnswer, run_folded, run_whole};
+use snl_views::{RunAnswer, run_folded, run_whole};
 use snl_watch::Nowhere;
 use std::io::BufWriter;
 
 /// How many bytes of output are held back at most.
 const OUTPUT_HELD: usize = 65_536;
 
-/// Writes what looks wrong with the times of the trace behind the summary, where all of that was written. Answers whether all is
-/// written.
+/// Writes what looks wrong with the times of the trace, and where its units differ, behind the summary, where all of that was written.
+/// Answers whether all is written.
 fn ended(
     rt: &HostRuntime,
     end: Option<End>,
     is_whole: bool,
-    heard: &Overheard,
+    trace: &Input<'_>,
 ) -> Result<bool, Status> {
     match end {
         Some(end) if is_whole => {
-            let clock = clock_text(rt, heard, end, b"# ")?;
-            Ok(write(rt, clock.as_slice()).is_ok())
+            let clock = clock_text(rt, trace.heard(), end, b"# ")?;
+            let units = units_text(rt, trace.units(), b"# ")?;
+            Ok(write(rt, clock.as_slice()).is_ok() && write(rt, units.as_slice()).is_ok())
         }
         _ => Ok(is_whole),
     }
@@ -37,15 +38,15 @@ fn told_run<K>(
     answer: &RunAnswer<Input<'_>, K>,
     finished: Result<(), SinkFault>,
 ) -> Result<Status, Status> {
-    let heard = answer.trace.heard();
+    let trace = &answer.trace;
     let is_whole = answer.is_whole && finished.is_ok();
-    let is_written = ended(rt, answer.end, is_whole, heard)?;
+    let is_written = ended(rt, answer.end, is_whole, trace)?;
     asked.tell(rt, answer.messages.as_slice());
     if let Some(end) = answer.end {
-        tell_bad_line(rt, heard, end);
+        tell_bad_line(rt, trace.heard(), end);
     }
     if is_written {
-        Ok(answer.status())
+        Ok(status_with(trace.units(), answer.status()))
     } else {
         Ok(Status::InputOutput)
     }
@@ -58,7 +59,7 @@ pub fn answered_run(rt: &HostRuntime, asked: Asked, is_whole: bool) -> Result<St
     let Ok(writer) = BufWriter::with_capacity(rt.alloc(), OUTPUT_HELD, outlet) else {
         return Err(Status::Memory);
     };
-    let trace = Input::new(rt, call.progress)?;
+    let trace = Input::new(rt, call.progress, asked.compared())?;
     let lines = Lines::new(writer);
     if is_whole {
         match run_whole(rt.alloc(), source, &call.job, trace, lines) {

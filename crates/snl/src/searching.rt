@@ -2,12 +2,14 @@
 
 use crate::asked::Asked;
 use crate::outputs::{write_suite, write_trace};
+use crate::units::{wished_lines, wished_values};
 use snc::{Judgement, Status, judged, macros_of};
 use snc_cli::write;
-use snl_args::{Call, ChannelValues, SearchWords};
+use snl_args::SearchWords;
 use snl_search::{
     Bounds, Scouts, SearchAnswer, Verdict, Watches, WishFault, WishedValues, Wishes, search,
 };
+use snl_units::ChannelUnits;
 use std::alloc::{AllocError, Global};
 use std::fs::File;
 use std::io::{ErrorKind, IsTerminal};
@@ -99,26 +101,45 @@ fn owned(alloc: Global, texts: &[String]) -> Result<Vec<String>, AllocError> {
     Ok(all)
 }
 
-/// Channels with values, of the caller's own.
-fn named(alloc: Global, given: &[ChannelValues]) -> Result<Vec<WishedValues>, AllocError> {
-    let mut all = Vec::new(alloc);
-    for one in given {
-        all.push(WishedValues {
-            name: String::from_str(alloc, one.name.as_str())?,
-            values: Vec::from_slice(alloc, one.values.as_slice())?,
-        })?;
-    }
-    Ok(all)
+/// What the words of a call wish of channels and lines, in the units of the trace.
+#[derive(Drop)]
+struct Wished {
+    never: Vec<String>,
+    values: Vec<WishedValues>,
+    firsts: Vec<WishedValues>,
+}
+
+/// What the words of a call wish of channels and lines. Where a value is none, the user is told.
+fn wished_in(
+    rt: &HostRuntime,
+    words: &SearchWords,
+    units: &[ChannelUnits],
+) -> Result<Wished, Status> {
+    Ok(Wished {
+        never: wished_lines(rt, units, words.never.as_slice())?,
+        values: wished_values(rt, units, "values", words.values.as_slice())?,
+        firsts: wished_values(rt, units, "first", words.firsts.as_slice())?,
+    })
 }
 
 /// What the words of a call wish. `like` is the recorded trace that they name.
-fn wishes_of(alloc: Global, words: &SearchWords, like: Option<File>) -> Result<Wishes, AllocError> {
+fn wishes_of(
+    alloc: Global,
+    words: &SearchWords,
+    wished: Wished,
+    like: Option<File>,
+) -> Result<Wishes, AllocError> {
+    let Wished {
+        never,
+        values,
+        firsts,
+    } = wished;
     Ok(Wishes {
-        never: owned(alloc, words.never.as_slice())?,
+        never,
         ends: owned(alloc, words.ends.as_slice())?,
         like,
-        values: named(alloc, words.values.as_slice())?,
-        firsts: named(alloc, words.firsts.as_slice())?,
+        values,
+        firsts,
         gaps: Vec::from_slice(alloc, words.gaps.as_slice())?,
         down: owned(alloc, words.down.as_slice())?,
         bounds: Bounds {
@@ -150,9 +171,14 @@ fn recorded(rt: &HostRuntime, words: &SearchWords) -> Result<Option<File>, Statu
 }
 
 /// What is wished of a search.
-fn wished(rt: &HostRuntime, words: &SearchWords) -> Result<Wishes, Status> {
+fn all_wishes(
+    rt: &HostRuntime,
+    words: &SearchWords,
+    units: &[ChannelUnits],
+) -> Result<Wishes, Status> {
+    let wished = wished_in(rt, words, units)?;
     let like = recorded(rt, words)?;
-    wishes_of(rt.alloc(), words, like).map_err(|_| Status::Memory)
+    wishes_of(rt.alloc(), words, wished, like).map_err(|_| Status::Memory)
 }
 
 /// Says what a search answers.
@@ -190,11 +216,12 @@ fn told_fault(rt: &HostRuntime, words: &SearchWords, fault: &WishFault) -> u8 {
 fn searched<T: Scouts + Drop>(
     rt: &HostRuntime,
     checked: Box<T>,
-    call: &Call,
+    asked: Asked,
     words: &SearchWords,
     begun: Option<Instant>,
 ) -> u8 {
-    let wishes = match wished(rt, words) {
+    let call = asked.call;
+    let wishes = match all_wishes(rt, words, asked.units) {
         Ok(wishes) => wishes,
         Err(status) => return status.code(),
     };
@@ -225,7 +252,7 @@ pub fn answered_search(
     match judged(rt.alloc(), source, file, call.job.options) {
         Ok(Judgement { messages, checked }) => {
             let code = match checked {
-                Some(checked) => searched(rt, checked, call, words, begun),
+                Some(checked) => searched(rt, checked, asked, words, begun),
                 None => Status::SourceErrors.code(),
             };
             if code != Status::Memory.code() {

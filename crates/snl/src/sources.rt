@@ -1,7 +1,7 @@
 //! The files that a check looks at: those that the call names, and of a folder the programs in it.
 
 use crate::checking::{Piece, answered_check};
-use snc::Status;
+use snc::{Status, macros_of};
 use snc_cli::source_in;
 use snl_args::{Call, CheckWords};
 use std::alloc::{AllocError, Global};
@@ -57,6 +57,7 @@ fn checked_file(rt: &HostRuntime, call: &Call, words: &CheckWords, file: &str) -
                 source: source.as_slice(),
                 file: file.as_bytes(),
                 options: call.job.options,
+                macros: macros_of(&call.job),
             };
             answered_check(rt, piece, words)
         }

@@ -1,49 +1,26 @@
 //! `snl trace`: logs in files, written as a trace.
 
+use crate::VERSION;
+use crate::logs::{LogFeed, feeds_of, held_logs, told_unread};
 use crate::trace_programs::{Traced, traced_program};
+use crate::units::units_for;
 use snc::Status;
-use snc_cli::{Lines, Outlet, source_in, tell};
+use snc_cli::{Lines, Outlet, tell};
 use snl_args::{Call, NamedNumber, NamedText, TraceWords};
 use snl_import::{
-    AnyProgram, ChannelNumber, ChannelText, Feed, ImportError, Imported, LoadedProgram, Program,
-    Wishes, import,
+    AnyProgram, ChannelNumber, ChannelText, ImportError, Imported, LoadedProgram, Program, Wishes,
+    import,
 };
 use snl_logs::moment_of;
-use snl_units::{ChannelUnits, UnitsFault, units_of};
+use snl_units::ChannelUnits;
 use std::alloc::{AllocError, Global};
-use std::fs::File;
-use std::io::{self, BufReader, BufWriter, ErrorKind, Read, Stdin};
+use std::io::BufWriter;
 
 /// How many bytes of output are held back at most.
 const OUTPUT_HELD: usize = 65_536;
 
-/// How many bytes of a log are read at a time.
-const INPUT_HELD: usize = 65_536;
-
 /// Nanoseconds of a second.
 const SECOND: u64 = 1_000_000_000;
-
-/// Nanoseconds of a minute.
-const MINUTE: i64 = 60_000_000_000;
-
-/// A log: a file, or standard input.
-#[derive(Drop)]
-enum LogFile {
-    File(File),
-    Input(Stdin),
-}
-
-impl Read for LogFile {
-    fn read(&mut self, buf: &mut [u8]) -> io::Result<usize> {
-        match self {
-            LogFile::File(file) => file.read(buf),
-            LogFile::Input(input) => input.read(buf),
-        }
-    }
-}
-
-/// A log that is read line by line.
-type LogFeed = Feed<BufReader<LogFile>>;
 
 /// Whether a word of the call is a time, if it is there.
 fn is_time(rt: &HostRuntime, option: &str, word: &Option<String>) -> bool {
@@ -106,25 +83,11 @@ fn texts(alloc: Global, given: &[NamedText]) -> Result<Vec<ChannelText>, AllocEr
     Ok(all)
 }
 
-/// What a file of units says. Where a line of it is wrong, the user is told.
-fn units_in(rt: &HostRuntime, file: &str) -> Result<Vec<ChannelUnits>, Status> {
-    let text = source_in(rt, "snl", file)?;
-    match units_of(rt.alloc(), text.as_slice()) {
-        Ok(units) => Ok(units),
-        Err(UnitsFault::Memory) => Err(Status::Memory),
-        Err(fault) => {
-            let _ = eprintln!(rt; "{fault}");
-            Err(Status::Usage)
-        }
-    }
-}
-
-/// What the file of units says that a call names, if it does.
-fn units_for(rt: &HostRuntime, words: &TraceWords) -> Result<Vec<ChannelUnits>, Status> {
-    match &words.units {
-        Some(file) => units_in(rt, file.as_str()),
-        None => Ok(Vec::new(rt.alloc())),
-    }
+/// What the first comment of a trace names: this program, with its version.
+fn maker(alloc: Global) -> Result<Vec<u8>, AllocError> {
+    let mut name = Vec::from_slice(alloc, b"snl trace ")?;
+    name.extend_from_slice(VERSION.as_bytes())?;
+    Ok(name)
 }
 
 /// What the words of a call ask of the trace.
@@ -134,6 +97,7 @@ fn wishes_of(
     units: Vec<ChannelUnits>,
 ) -> Result<Wishes, AllocError> {
     Ok(Wishes {
+        maker: maker(alloc)?,
         program: None,
         units,
         scales: numbers(alloc, words.scales.as_slice())?,
@@ -146,65 +110,28 @@ fn wishes_of(
     })
 }
 
-/// By how many nanoseconds the times of a file are moved: as far back as its clock is ahead.
-fn shift_of(offsets: &[NamedNumber], file: &str) -> i64 {
-    for offset in offsets {
-        if offset.name.as_str() == file {
-            return 0i64.saturating_sub(offset.number.saturating_mul(MINUTE));
+/// Says that a log could not be read on.
+fn told_broken(rt: &HostRuntime, words: &TraceWords, file: &[u8]) -> Status {
+    for log in &words.logs {
+        if log.as_bytes() == file {
+            return told_unread(rt, log.as_str());
         }
     }
-    0
-}
-
-/// Tells that a log cannot be read.
-fn told_unread(rt: &HostRuntime, file: &str) -> Status {
-    let _ = eprintln!(rt; "snl: cannot read {file}");
     Status::InputOutput
 }
 
-/// The log of a name. Where it cannot be opened, the user is told.
-fn opened(rt: &HostRuntime, file: &str) -> Result<LogFile, Status> {
-    if file == "-" {
-        return Ok(LogFile::Input(rt.stdin()));
-    }
-    match File::open(rt, file) {
-        Ok(file) => Ok(LogFile::File(file)),
-        Err(fault) if fault.kind() == ErrorKind::OutOfMemory => Err(Status::Memory),
-        Err(_) => Err(told_unread(rt, file)),
-    }
-}
-
-/// The log of a name on its way.
-fn feed_of(rt: &HostRuntime, words: &TraceWords, file: &str) -> Result<LogFeed, Status> {
-    let log = opened(rt, file)?;
-    let shift = shift_of(words.offsets.as_slice(), file);
-    match BufReader::with_capacity(rt.alloc(), INPUT_HELD, log) {
-        Ok(input) => {
-            Feed::new(rt.alloc(), input, file.as_bytes(), shift).map_err(|_| Status::Memory)
-        }
-        Err(_) => Err(Status::Memory),
-    }
-}
-
-/// All logs of a call on their way.
-fn feeds_of(rt: &HostRuntime, words: &TraceWords) -> Result<Vec<LogFeed>, Status> {
-    let mut feeds = Vec::new(rt.alloc());
-    for file in &words.logs {
-        let feed = feed_of(rt, words, file.as_str())?;
-        if feeds.push(feed).is_err() {
-            return Err(Status::Memory);
-        }
-    }
-    Ok(feeds)
-}
-
 /// Says why a trace broke off.
-fn told_fault(rt: &HostRuntime, words: &TraceWords, fault: ImportError) -> Status {
+fn told_fault(
+    rt: &HostRuntime,
+    words: &TraceWords,
+    feeds: &[LogFeed<'_>],
+    fault: ImportError,
+) -> Status {
     match fault {
         ImportError::Memory | ImportError::TooMany => Status::Memory,
         ImportError::Unwritable => Status::InputOutput,
-        ImportError::Unreadable(place) => match words.logs.get(place) {
-            Some(file) => told_unread(rt, file.as_str()),
+        ImportError::Unreadable(place) => match feeds.get(place) {
+            Some(feed) => told_broken(rt, words, feed.file()),
             None => Status::InputOutput,
         },
     }
@@ -226,7 +153,7 @@ fn written<P: Program + Drop>(
     words: &TraceWords,
     wishes: &Wishes,
     program: P,
-    feeds: &mut [LogFeed],
+    feeds: &mut [LogFeed<'_>],
 ) -> Result<Imported, Status> {
     let outlet = Outlet::new(rt.stdout());
     let Ok(writer) = BufWriter::with_capacity(rt.alloc(), OUTPUT_HELD, outlet) else {
@@ -238,7 +165,7 @@ fn written<P: Program + Drop>(
     match imported {
         Ok(_) if finished.is_err() => Err(Status::InputOutput),
         Ok(imported) => Ok(imported),
-        Err(fault) => Err(told_fault(rt, words, fault)),
+        Err(fault) => Err(told_fault(rt, words, feeds, fault)),
     }
 }
 
@@ -256,7 +183,8 @@ fn written_for(
     } = traced;
     let mut wishes = wishes;
     wishes.program = Some(program);
-    let mut feeds = feeds_of(rt, words)?;
+    let logs = held_logs(rt, words)?;
+    let mut feeds = feeds_of(rt, words, logs.as_slice())?;
     let program = LoadedProgram::new(machine.as_ref());
     let imported = written(rt, words, &wishes, program, feeds.as_mut_slice());
     tell(rt, messages.as_slice());
@@ -265,7 +193,7 @@ fn written_for(
 
 /// `snl trace`.
 pub fn answered_trace(rt: &HostRuntime, call: &Call, words: &TraceWords) -> Result<Status, Status> {
-    let units = units_for(rt, words)?;
+    let units = units_for(rt, call)?;
     let Ok(wishes) = wishes_of(rt.alloc(), words, units) else {
         return Err(Status::Memory);
     };
@@ -273,7 +201,8 @@ pub fn answered_trace(rt: &HostRuntime, call: &Call, words: &TraceWords) -> Resu
         let traced = traced_program(rt, call)?;
         return written_for(rt, words, wishes, traced);
     }
-    let mut feeds = feeds_of(rt, words)?;
+    let logs = held_logs(rt, words)?;
+    let mut feeds = feeds_of(rt, words, logs.as_slice())?;
     let imported = written(rt, words, &wishes, AnyProgram, feeds.as_mut_slice())?;
     Ok(told_import(rt, &imported))
 }

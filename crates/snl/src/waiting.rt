@@ -2,20 +2,23 @@
 
 use crate::asked::Asked;
 use crate::input::Input;
-use crate::overhearing::{clock_text, tell_bad_line};
+use crate::overhearing::{clock_text, status_with, tell_bad_line, units_text};
 use snc::Status;
 use snc_cli::write;
 use snl_trace::End;
-use snl_views::{Answer, Overheard, WaitsOutcome, waits};
+use snl_views::{Answer, WaitsOutcome, waits};
 
 /// Writes what came of a trace, unless that could not be read. Answers whether it was written, or that memory ran out.
-fn written(rt: &HostRuntime, outcome: &WaitsOutcome, heard: &Overheard) -> Result<bool, Status> {
+fn written(rt: &HostRuntime, outcome: &WaitsOutcome, trace: &Input<'_>) -> Result<bool, Status> {
     if outcome.end == End::SourceFailed {
         return Ok(true);
     }
-    let clock = clock_text(rt, heard, outcome.end, b"")?;
-    let is_written = write(rt, outcome.text.as_slice()).is_ok();
-    Ok(is_written && write(rt, clock.as_slice()).is_ok())
+    let clock = clock_text(rt, trace.heard(), outcome.end, b"")?;
+    let units = units_text(rt, trace.units(), b"")?;
+    let is_written = write(rt, outcome.text.as_slice()).is_ok()
+        && write(rt, clock.as_slice()).is_ok()
+        && write(rt, units.as_slice()).is_ok();
+    Ok(is_written)
 }
 
 /// Writes what `waits` answers. The messages come behind the answer, and what is told of a bad line of the trace comes last.
@@ -24,16 +27,16 @@ fn told_waits(
     asked: Asked,
     answer: &Answer<Input<'_>>,
 ) -> Result<Status, Status> {
-    let heard = answer.trace.heard();
+    let trace = &answer.trace;
     let Some(outcome) = &answer.outcome else {
         asked.tell(rt, answer.messages.as_slice());
         return Ok(answer.status());
     };
-    let is_written = written(rt, outcome, heard)?;
+    let is_written = written(rt, outcome, trace)?;
     asked.tell(rt, answer.messages.as_slice());
-    tell_bad_line(rt, heard, outcome.end);
+    tell_bad_line(rt, trace.heard(), outcome.end);
     if is_written {
-        Ok(answer.status())
+        Ok(status_with(trace.units(), answer.status()))
     } else {
         Ok(Status::InputOutput)
     }
@@ -42,7 +45,7 @@ fn told_waits(
 /// `snl waits`.
 pub fn answered_waits(rt: &HostRuntime, asked: Asked) -> Result<Status, Status> {
     let Asked { source, call, .. } = asked;
-    let trace = Input::new(rt, call.progress)?;
+    let trace = Input::new(rt, call.progress, asked.compared())?;
     match waits(rt.alloc(), source, &call.job, trace) {
         Ok(answer) => told_waits(rt, asked, &answer),
         Err(_) => Err(Status::Memory),

@@ -19,6 +19,8 @@ pub struct Call {
     pub word: Word,
     /// Whether to tell how far the trace was read.
     pub progress: bool,
+    /// The file of units.
+    pub units: Option<String>,
 }
 
 // Written out: a derived drop is proved anew wherever such a value ends.
@@ -28,6 +30,7 @@ impl Drop for Call {
             job: _,
             word: _,
             progress: _,
+            units: _,
         } = self;
     }
 }

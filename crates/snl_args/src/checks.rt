@@ -30,7 +30,7 @@ pub struct CheckWords {
 }
 
 /// What `check` takes.
-pub(crate) const OF_CHECK: [Argument; 4] = [
+pub(crate) const OF_CHECK: [Argument; 5] = [
     Argument {
         name: "FILE",
         takes: Takes::Places,
@@ -40,6 +40,11 @@ pub(crate) const OF_CHECK: [Argument; 4] = [
         name: "format",
         takes: Takes::Format,
         help: "How it is written: as text, as lines of a compiler, or as JSON",
+    },
+    Argument {
+        name: "MACROS",
+        takes: Takes::Behind("macros"),
+        help: "The macros in the names of channels",
     },
     Argument {
         name: "no-lint",

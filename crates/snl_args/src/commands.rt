@@ -2,12 +2,26 @@
 
 use crate::arguments::{Argument, Takes};
 
-/// What `run` takes alone.
-pub(crate) const OF_RUN: [Argument; 1] = [Argument {
-    name: "whole",
-    takes: Takes::Nothing,
-    help: "Fold no blocks of lines that repeat",
+/// What `waits` takes alone.
+pub(crate) const OF_WAITS: [Argument; 1] = [Argument {
+    name: "units",
+    takes: Takes::Text("FILE"),
+    help: "A file of units, as snl-port writes it: where those of the trace differ is told",
 }];
+
+/// What `run` takes alone.
+pub(crate) const OF_RUN: [Argument; 2] = [
+    Argument {
+        name: "whole",
+        takes: Takes::Nothing,
+        help: "Fold no blocks of lines that repeat",
+    },
+    Argument {
+        name: "units",
+        takes: Takes::Text("FILE"),
+        help: "A file of units, as snl-port writes it: where those of the trace differ is told",
+    },
+];
 
 /// What `cover` takes alone.
 pub(crate) const OF_COVER: [Argument; 2] = [

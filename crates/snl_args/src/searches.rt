@@ -10,8 +10,8 @@ use std::alloc::{AllocError, Global};
 pub struct ChannelValues {
     /// The channel's name.
     pub name: String,
-    /// As they were given; none behind `NAME=`.
-    pub values: Vec<i64>,
+    /// As they were given; none behind `NAME=`. Where no file of units says what they are, each is a whole number.
+    pub values: Vec<String>,
 }
 
 /// What a search is asked for.
@@ -48,7 +48,7 @@ pub struct SearchWords {
 }
 
 /// What `search` takes beside FILE and MACROS.
-pub(crate) const OF_SEARCH: [Argument; 14] = [
+pub(crate) const OF_SEARCH: [Argument; 15] = [
     Argument {
         name: "never",
         takes: Takes::Texts("LINE|SS.STATE"),
@@ -73,6 +73,11 @@ pub(crate) const OF_SEARCH: [Argument; 14] = [
         name: "first",
         takes: Takes::Texts("NAME=V"),
         help: "Its value at the start",
+    },
+    Argument {
+        name: "units",
+        takes: Takes::Text("FILE"),
+        help: "A file of units, as snl-port writes it: the values of --never, --values and --first are in these",
     },
     Argument {
         name: "gaps",
@@ -164,13 +169,37 @@ fn numbers_in(alloc: Global, text: &str) -> Result<Option<Vec<i64>>, AllocError>
     Ok(Some(numbers))
 }
 
-/// A name and numbers, of `NAME=V,V..`.
-fn named_in(alloc: Global, option: &str, text: &str) -> Result<ChannelValues, CallFault> {
+/// Words with commas between them; none in an empty text. None where a word is no whole number and has to be one.
+fn values_in(
+    alloc: Global,
+    text: &str,
+    are_numbers: bool,
+) -> Result<Option<Vec<String>>, AllocError> {
+    let mut values = Vec::new(alloc);
+    if text.is_empty() {
+        return Ok(Some(values));
+    }
+    for word in text.split(',') {
+        if are_numbers && word.parse::<i64>().is_err() {
+            return Ok(None);
+        }
+        values.push(String::from_str(alloc, word)?)?;
+    }
+    Ok(Some(values))
+}
+
+/// A name and its values, of `NAME=V,V..`.
+fn named_in(
+    alloc: Global,
+    option: &str,
+    text: &str,
+    are_numbers: bool,
+) -> Result<ChannelValues, CallFault> {
     let form = "NAME=V,V..";
-    let Some((name, numbers)) = text.rsplit_once('=') else {
+    let Some((name, values)) = text.rsplit_once('=') else {
         return Err(bad_text(alloc, option, text, form));
     };
-    match numbers_in(alloc, numbers)? {
+    match values_in(alloc, values, are_numbers)? {
         Some(values) => Ok(ChannelValues {
             name: String::from_str(alloc, name)?,
             values,
@@ -179,16 +208,17 @@ fn named_in(alloc: Global, option: &str, text: &str) -> Result<ChannelValues, Ca
     }
 }
 
-/// The channels with numbers of an option.
+/// The channels with values of an option. With a file of units they are no whole numbers yet.
 fn all_named(
     alloc: Global,
     matches: &ArgMatches,
     option: &str,
 ) -> Result<Vec<ChannelValues>, CallFault> {
+    let are_numbers = matches.get_str("units").is_none();
     let mut all = Vec::new(alloc);
     if let Some(texts) = matches.get_strs(option) {
         for text in texts {
-            let named = named_in(alloc, option, text)?;
+            let named = named_in(alloc, option, text, are_numbers)?;
             all.push(named).map_err(|_| AllocError)?;
         }
     }

@@ -74,35 +74,39 @@ For more information, try 'snl --help'.
 
 /// What `snl waits --help` tells.
 pub(crate) const WAITS: Texts = Texts {
-    usage: "snl waits [±X..] [--budget N] [--progress] FILE [MACROS] < TRACE",
+    usage: "snl waits [±X..] [--budget N] [--progress] [--units FILE] FILE [MACROS] < TRACE",
     about: "\
 When a program begins over a trace, or what it still waits for where the trace ends: channels that
 are not up or have no value, and names in the trace that the program does not have.",
     more: "\
 The trace is read from standard input, up to the line at which the program begins.
 
+With --units, what its first comments say of its numbers is compared with FILE, and what differs is told.
+
 Example: snl waits light.st < light.trace
 
-Status: 0 the program began, 1 it did not, or it has errors, 2 the words of the call are wrong,
-3 the file, the input or the output failed, 4 memory ran out, 6 a line of the trace is bad.",
+Status: 0 the program began, 1 it did not, or it has errors, or the units differ, 2 the words of the call are wrong,
+3 a file, the input or the output failed, 4 memory ran out, 6 a line of the trace is bad.",
 };
 
 /// What `snl run --help` tells.
 pub(crate) const RUN: Texts = Texts {
-    usage: "snl run [±X..] [--whole] [--budget N] [--progress] FILE [MACROS] < TRACE",
+    usage: "snl run [±X..] [--whole] [--budget N] [--progress] [--units FILE] FILE [MACROS] < TRACE",
     about: "\
 The lines that snlrun writes, with notes between them: which clause fired and what its condition saw,
 which put was refused and why. A block of lines that repeats is written once. A summary ends it.",
     more: "\
 The trace is read from standard input. A line that begins with # is a note; with --whole, all others are the
-lines of snlrun, byte for byte.
+lines of snlrun, byte for byte. Where the first comments of the trace tell the date of 0 ms, notes have the time of day.
+
+With --units, what these comments say of the numbers is compared with FILE, and what differs is told behind the run.
 
 Example: snl run light.st < light.trace
 
-Status: 0 the trace or the program ended, 1 the program has errors, 2 the words of the call are wrong,
-3 the file, the input or the output failed, 4 memory ran out, 5 the program faulted,
-6 a line of the trace is bad.",
+Status: 0 the trace or the program ended, 1 the program has errors, or the units differ, 2 the words of the call are
+wrong, 3 a file, the input or the output failed, 4 memory ran out, 5 the program faulted, 6 a line of the trace is bad.",
 };
+
 /// What `snl cover --help` tells.
 pub(crate) const COVER: Texts = Texts {
     usage: "snl cover [±X..] [--budget N] [--progress] [--fail-under PERCENT] [--trace FILE].. FILE [MACROS] [< TRACE]",
@@ -167,13 +171,13 @@ Status: 0 done, 1 the program has errors, 2 the words of the call are wrong, 3 t
 
 /// What `snl check --help` tells.
 pub(crate) const CHECK: Texts = Texts {
-    usage: "snl check [±X..] [--format text|gcc|json] [--no-lint NAME|NAME=LINE].. [--strict] FILE..",
+    usage: "snl check [±X..] [--macros MACROS] [--format text|gcc|json] [--no-lint NAME|NAME=LINE].. [--strict] FILE..",
     about: "\
 The messages of snc about a program, and behind them what in it is no error and seldom meant, a line each, with the
 name of the lint in brackets.",
     more: "\
-No trace is read. The lints are itself, shared, stale, unread, unput, equals, comma and answered; docs/tools/check.md
-tells of each.
+No trace is read. The lints are itself, shared, stale, unread, unput, equals, comma, answered, macro, unspoken and
+constant; docs/tools/check.md tells of each.
 
 Example: snl check --no-lint unread light.st
 
@@ -212,7 +216,7 @@ Status: 0 they are the same, 1 they differ, or a program has errors, 2 the words
 /// What `snl search --help` tells.
 pub(crate) const SEARCH: Texts = Texts {
     usage: "snl search [±X..] [--never LINE|SS.STATE].. [--never-end TEXT].. [--like TRACE] [--values NAME=V,V..].. [--first NAME=V].. \
-     [--gaps MS,MS..] [--down NAME].. [--lines K] [--worlds N] [--memory MB] [--seconds S] [--budget N] [--out FILE] [--cover DIR] \
+     [--units FILE] [--gaps MS,MS..] [--down NAME].. [--lines K] [--worlds N] [--memory MB] [--seconds S] [--budget N] [--out FILE] [--cover DIR] \
      FILE [MACROS]",
     about: "\
 Every trace over a small alphabet, the shortest first, for a fault of the program and for output lines that must
@@ -221,6 +225,9 @@ time with other values.",
     more: "\
 The first lines of the answer tell what is looked for, the starts and the alphabet. The lines of a trace stand behind what was
 found.
+
+With --units FILE a value of --never, --values and --first is one of the control system, as 2.5 or On: it is scaled exactly, and
+one that is no whole number of a trace then is refused. The answer has the numbers of a trace.
 
 Example: snl search --never 'put LAB:LAMP 1' light.st
 

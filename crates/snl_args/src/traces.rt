@@ -31,8 +31,6 @@ pub struct NamedText {
 pub struct TraceWords {
     /// Whether the trace is made for the program of the call.
     pub has_program: bool,
-    /// The file of units.
-    pub units: Option<String>,
     /// The powers of ten that values of channels are multiplied by.
     pub scales: Vec<NamedNumber>,
     /// The texts that stand for numbers.
@@ -290,7 +288,6 @@ fn names_program(alloc: Global, matches: &ArgMatches) -> Result<bool, CallFault>
 pub(crate) fn trace_words(alloc: Global, matches: &ArgMatches) -> Result<TraceWords, CallFault> {
     Ok(TraceWords {
         has_program: names_program(alloc, matches)?,
-        units: maybe_text(alloc, matches, "units")?,
         scales: numbers_of(alloc, matches, "scale", "NAME=K")?,
         texts: enums_of(alloc, matches)?,
         values: numbers_of(alloc, matches, "value", "NAME=N")?,

@@ -3,7 +3,7 @@
 use crate::arguments::{Argument, OF_PROGRAM, OF_RUNS, OVER_TRACE, command_of};
 use crate::calls::{Call, CallFault, matches_in};
 use crate::checks::{CheckWords, OF_CHECK, check_words};
-use crate::commands::{OF_COVER, OF_GRAPH, OF_RUN, OF_SETS};
+use crate::commands::{OF_COVER, OF_GRAPH, OF_RUN, OF_SETS, OF_WAITS};
 use crate::sames::{OF_SAME, SameWords, same_words};
 use crate::searches::{OF_SEARCH, SearchWords, search_words};
 use crate::texts::{CHECK, COVER, GRAPH, RUN, SAME, SEARCH, SETS, TRACE, TREE, Texts, WAITS};
@@ -25,9 +25,9 @@ pub struct CoverWords {
 /// What a call of `snl` may ask for, with what the word takes alone.
 #[derive(Drop)]
 pub enum Word {
-    /// When a program begins over a trace, or what it waits for: `snl waits FILE [MACROS]`.
+    /// When a program begins over a trace, or what it waits for: `snl waits [--units FILE] FILE [MACROS]`.
     Waits,
-    /// A run with notes and a summary: `snl run [--whole] FILE [MACROS]`. Whether no block of lines is folded.
+    /// A run with notes and a summary: `snl run [--whole] [--units FILE] FILE [MACROS]`. Whether no block of lines is folded.
     Run(bool),
     /// What of a program no run showed: `snl cover [--fail-under PERCENT] [--trace FILE].. FILE [MACROS]`.
     Cover(CoverWords),
@@ -43,7 +43,7 @@ pub enum Word {
     Sets(bool),
     /// A trace of recorded logs: `snl trace [--program FILE] [--scale NAME=K].. LOG..`.
     Trace(TraceWords),
-    /// The messages about a program, and what is seldom meant: `snl check [--format FORMAT] [--no-lint NAME].. [--strict] FILE..`.
+    /// The messages about a program, and what is seldom meant: `snl check [--macros MACROS] [--format FORMAT] [--no-lint NAME].. [--strict] FILE..`.
     Check(CheckWords),
 }
 
@@ -118,6 +118,7 @@ fn trace_call(
         job,
         word,
         progress,
+        units: owned(alloc, matches.get_str("units"))?,
     })
 }
 
@@ -133,12 +134,13 @@ fn plain_call(
         job,
         word,
         progress: false,
+        units: owned(alloc, matches.get_str("units"))?,
     })
 }
 
 /// What follows `waits`.
 fn read_waits(alloc: Global, words: &[&str], options: Options) -> Result<Call, CallFault> {
-    let matches = found_in(alloc, &WAITS, &OVER_TRACE, &[], words)?;
+    let matches = found_in(alloc, &WAITS, &OVER_TRACE, &OF_WAITS, words)?;
     trace_call(alloc, &matches, "FILE", options, Word::Waits)
 }
 

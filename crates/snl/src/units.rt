@@ -1,0 +1,127 @@
+//! The file of units of a call, and the words of a search in its units.
+
+use snc::Status;
+use snc_cli::source_in;
+use snl_args::{Call, ChannelValues};
+use snl_search::WishedValues;
+use snl_units::{
+    ChannelUnits, PutFault, UnitsFault, ValueFault, line_in_units, units_of, value_of,
+};
+use std::alloc::{AllocError, Global};
+
+/// How many bytes a file of units has at most.
+const MOST: usize = 1_048_576;
+
+/// What a file of units says. Where a line of it is wrong, or it is too long, the user is told.
+fn units_in(rt: &HostRuntime, file: &str) -> Result<Vec<ChannelUnits>, Status> {
+    let text = source_in(rt, "snl", file)?;
+    if text.len() > MOST {
+        let _ = eprintln!(rt; "snl: {file} has more than {MOST} bytes: it is no file of units");
+        return Err(Status::Usage);
+    }
+    match units_of(rt.alloc(), text.as_slice()) {
+        Ok(units) => Ok(units),
+        Err(UnitsFault::Memory) => Err(Status::Memory),
+        Err(fault) => {
+            let _ = eprintln!(rt; "{fault}");
+            Err(Status::Usage)
+        }
+    }
+}
+
+/// What the file of units says that a call names; nothing where it names none.
+pub fn units_for(rt: &HostRuntime, call: &Call) -> Result<Vec<ChannelUnits>, Status> {
+    match &call.units {
+        Some(file) => units_in(rt, file.as_str()),
+        None => Ok(Vec::new(rt.alloc())),
+    }
+}
+
+/// Tells that a value of a word is none of its channel.
+fn told_value(
+    rt: &HostRuntime,
+    option: &str,
+    word: &str,
+    value: &str,
+    fault: ValueFault,
+) -> Status {
+    let _ = eprintln!(rt; "error: '--{option} {word}': '{value}' {fault}");
+    Status::Usage
+}
+
+/// Tells that a value of a channel is none.
+fn told_named(
+    rt: &HostRuntime,
+    option: &str,
+    given: &ChannelValues,
+    value: &str,
+    fault: ValueFault,
+) -> Status {
+    match format!(in rt.alloc(); "{}={value}", given.name) {
+        Ok(word) => told_value(rt, option, word.as_str(), value, fault),
+        Err(_) => Status::Memory,
+    }
+}
+
+/// The values of a channel, as whole numbers of a trace. Where one is none, the user is told.
+fn values_in(
+    rt: &HostRuntime,
+    units: &[ChannelUnits],
+    option: &str,
+    given: &ChannelValues,
+) -> Result<Vec<i64>, Status> {
+    let mut values = Vec::new(rt.alloc());
+    for value in &given.values {
+        match value_of(units, given.name.as_bytes(), value.as_bytes()) {
+            Ok(number) => values.push(number).map_err(|_| Status::Memory)?,
+            Err(fault) => return Err(told_named(rt, option, given, value.as_str(), fault)),
+        }
+    }
+    Ok(values)
+}
+
+/// A name of the caller's own.
+fn owned(alloc: Global, name: &str) -> Result<String, Status> {
+    String::from_str(alloc, name).map_err(|_| Status::Memory)
+}
+
+/// The values that a word of a call gives channels, as whole numbers of a trace. Where one is none, the user is told.
+pub fn wished_values(
+    rt: &HostRuntime,
+    units: &[ChannelUnits],
+    option: &str,
+    given: &[ChannelValues],
+) -> Result<Vec<WishedValues>, Status> {
+    let mut all = Vec::new(rt.alloc());
+    for one in given {
+        let wished = WishedValues {
+            name: owned(rt.alloc(), one.name.as_str())?,
+            values: values_in(rt, units, option, one)?,
+        };
+        all.push(wished).map_err(|_| Status::Memory)?;
+    }
+    Ok(all)
+}
+
+/// A line that must not come, with the values of a put as a trace has them. Where one is none, the user is told.
+fn line_of(rt: &HostRuntime, units: &[ChannelUnits], word: &str) -> Result<String, Status> {
+    match line_in_units(rt.alloc(), units, word) {
+        Ok(line) => Ok(line),
+        Err(PutFault::Memory) => Err(Status::Memory),
+        Err(PutFault::Value(value, fault)) => Err(told_value(rt, "never", word, value, fault)),
+    }
+}
+
+/// The lines that must not come, with the values of puts as a trace has them. Where one is none, the user is told.
+pub fn wished_lines(
+    rt: &HostRuntime,
+    units: &[ChannelUnits],
+    words: &[String],
+) -> Result<Vec<String>, Status> {
+    let mut all = Vec::new(rt.alloc());
+    for word in words {
+        let line = line_of(rt, units, word.as_str())?;
+        all.push(line).map_err(|_| Status::Memory)?;
+    }
+    Ok(all)
+}
