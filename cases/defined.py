@@ -14,6 +14,8 @@ from case import differences
 
 SCRIPT = "scripts/definitions"
 SECONDS = 1200
+# So many processes beside other cases.
+JOBS = "2"
 # How many runs and how many sources there are at least; and of a hundred clauses so many at most may be reached by no case.
 RUNS, SOURCES, UNREACHED = 700, 4_000, 3
 # The definitions of the words of a call, which the script asks beside a run.
@@ -78,7 +80,7 @@ class Defined:
 
 def cases(root):
     """One for all runs, one for all edits, and small calls."""
-    yield Defined("definitions: all cases by the definitions", root, ["--coverage"], wrong_with_runs)
+    yield Defined("definitions: all cases by the definitions", root, ["--coverage", "--jobs", JOBS], wrong_with_runs)
     yield Defined("definitions: edits of definitions", root, ["--slips"], wrong_with_slips)
     yield from of_page(root)
     light, trace = root / "examples/light.st", (root / "examples/light.trace").read_bytes()
@@ -140,6 +142,8 @@ def wrong_words(root, light):
         (["--why", "anything", light], "definitions: no definition under a run is called anything\n"),
         (["--why"], "definitions: --why takes 1 words\n"),
         (["--why", "computed", "--first", "x", light], "definitions: x behind --first is no number from 1 to 1,000,000,000\n"),
+        (["--jobs", "0", "--cases"], "definitions: 0 behind --jobs is no number from 1 to 1,000,000,000\n"),
+        (["--jobs", "2", light], "definitions: --jobs goes with --cases, --all and --coverage\n"),
         (["--budget", "0", light], "definitions: 0 behind --budget is no number from 1 to 1,000,000,000\n"),
         ([], "definitions: the words are FILE and MACROS\n"),
         (["--whole", light], "definitions: --whole is no word of this call\n"),

@@ -1,25 +1,31 @@
 """What a call of `scripts/definitions` asks for, and its answer."""
 import os
 import sys
+import time
+from collections import Counter
 from pathlib import Path
 
 from defining import calls, cases, checks, edits, running, showing
 from defining.checks import Checker
+from defining.deep import deeply
 from defining.definitions import NoClause
 from defining.running import Runner
 from defining.sources import NotUnderstood, path_of
 from defining.trees import BadTree, Trees
 from defining.values import bytes_of, items_of, listed as list_of
+from defining.workers import Outcome, Stopped, Team
 
 # The options of this script, with how many words each takes.
 OPTIONS = {
-    "--all": 0, "--cases": 0, "--coverage": 0, "--edit": 3, "--first": 1, "--footprint": 0, "--links": 0, "--list": 0, "--sites": 0,
-    "--messages": 0, "--refused": 0, "--slips": 0, "--snc": 1, "--snl": 1, "--snlrun": 1, "--tables": 0, "--why": 1,
+    "--all": 0, "--cases": 0, "--coverage": 0, "--edit": 3, "--first": 1, "--footprint": 0, "--jobs": 1, "--links": 0, "--list": 0,
+    "--sites": 0, "--messages": 0, "--refused": 0, "--slips": 0, "--snc": 1, "--snl": 1, "--snlrun": 1, "--tables": 0, "--why": 1,
 }  # fmt: skip
 # What is read off a tree without a run: of the tree alone, or of the tree and its links.
 OF_TREE = {"--tables": running.TABLES, "--sites": running.SITES}
 OF_LINKS = {"--footprint": running.FOOTPRINT}
 FIRST = 20
+# So many cases are told that took longest, of those that took so many seconds of a processor.
+DEAREST, DEAR = 10, 1
 
 
 def say(line):
@@ -66,14 +72,22 @@ def answered(root, words, usage):
 
 def answer(root, options, words):
     """The status of what is asked for."""
+    of_cases = "--cases" in options or "--all" in options or "--coverage" in options
+    if of_cases and not {"--list", "--slips", "--edit"} & options.keys():
+        return compared(root, options, words)
+    if "--jobs" in options:
+        raise calls.Failed("definitions: --jobs goes with --cases, --all and --coverage", 2)
+    return deeply(lambda: answer_alone(root, options, words))
+
+
+def answer_alone(root, options, words):
+    """The same of what takes one process."""
     if "--list" in options:
         return listed(Runner(root))
     if "--slips" in options:
         return slips(root, options)
     if "--edit" in options:
         return edited(root, options, words)
-    if "--cases" in options or "--all" in options or "--coverage" in options:
-        return compared(root, options, words)
     return messages(root, words) if "--messages" in options else one_run(root, options, words)
 
 
@@ -171,24 +185,73 @@ def chosen(root, words):
     return (it for it in cases.all_cases(Path(root)) if not words or any(word in it.name for word in words))
 
 
+def jobs_of(options):
+    """How many processes ask cases: those that are asked for, or one for each processor that there is."""
+    if "--jobs" in options:
+        return calls.number_of("--jobs", os.fsencode(options["--jobs"][0]))
+    return len(os.sched_getaffinity(0)) if hasattr(os, "sched_getaffinity") else os.cpu_count() or 1
+
+
 def compared(root, options, words):
     """Runs cases, and tells those that differ; with --coverage the clauses that none reaches."""
-    runner = Runner(root)
-    needed = needed_by(runner)
-    compare, different = comparer(root, options, runner), 0
-    for it in chosen(root, words):
+    jobs, every, began = jobs_of(options), [*chosen(root, words)], time.monotonic()
+    runner = deeply(lambda: Runner(root))
+    needed = deeply(lambda: needed_by(runner))
+    compare, counts, different, times = comparer(root, options, runner), Counter(), 0, []
+    reached = runner.definitions.reached
+    with Team(every, jobs, compare.outcome, lambda: bytes(reached)) as team:
         try:
-            told = compare.difference(it)
-        except (NoClause, BadTree) as failed:
-            told = str(failed)
-        if told:
-            different += 1
-            print(f"DIFFERENT {it.name}: {told}", flush=True)
-    sums = f"{compare.runs} runs and the messages about {compare.sources} sources by the definitions"
-    print(f"{sums}, {different} different, {compare.skipped} skipped")
+            for it, outcome in team.outcomes():
+                if outcome.stop:
+                    raise calls.Failed(*outcome.stop)
+                counts.update(outcome.counts)
+                times.append((outcome.seconds, it.name))
+                different += told(team, f"DIFFERENT {it.name}", outcome)
+            for rest in team.rests():
+                different += told(team, "DIFFERENT at its end", rest) if isinstance(rest, Outcome) else merged(reached, rest)
+        except Stopped:
+            for it, outcome in team.left():
+                told(team, f"DIFFERENT {it.name}", outcome)
+            team.clear()
+            say(f"definitions: stopped when {team.asked} of {len(every)} cases had been asked, {team.different} different")
+            raise
+    write_sums(counts, different)
     if "--coverage" in options:
         write_unreached(runner.definitions, needed)
-    return 1 if different or not compare.runs + compare.sources else 0
+    say_times(times, time.monotonic() - began)
+    return 1 if different or not counts[cases.RUNS] + counts[cases.SOURCES] else 0
+
+
+def told(team, name, outcome):
+    """Writes what differs, and says whether something does."""
+    if outcome.told:
+        team.clear()
+        print(f"{name}: {outcome.told}", flush=True)
+    return bool(outcome.told)
+
+
+def merged(reached, more):
+    """Notes the clauses that another process reached. Those that were written after it began have other numbers there, and count for nothing."""
+    for at, it in enumerate(more[: len(reached)]):
+        reached[at] |= it
+    return False
+
+
+def write_sums(counts, different):
+    """Writes how many cases were asked, and how many were skipped for what."""
+    skipped = [f"{counts[it]} {it}" for it in cases.SKIPPED if counts[it]]
+    sums = f"{counts[cases.RUNS]} runs and the messages about {counts[cases.SOURCES]} sources by the definitions"
+    print(f"{sums}, {different} different, {sum(counts[it] for it in cases.SKIPPED)} skipped")
+    if skipped:
+        print(f"skipped: {', '.join(skipped)}", flush=True)
+
+
+def say_times(times, wall):
+    """Says what the cases took, and which took longest."""
+    say(f"definitions: {wall:.0f} s, and {sum(it[0] for it in times):.0f} s of a processor for {len(times)} cases")
+    for took, name in sorted(times, reverse=True)[:DEAREST]:
+        if took >= DEAR:
+            say(f"definitions: {took:.1f} s: {name}")
 
 
 def write_unreached(definitions, needed):

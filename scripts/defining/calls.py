@@ -16,7 +16,8 @@ BUILT = {
 SETTINGS = Key("snc_args", "Options", "options_among")
 REST = Key("snc_args", "Options", "rest_words")
 GIVEN = Key("snc_args", "Options", "options_in_force")
-SECONDS = 60
+# A program has ended by then, also beside much else.
+SECONDS = 600
 
 
 class Failed(Exception):

@@ -1,21 +1,25 @@
 """Asks all cases of the definitions: the run of each program beside that of `snlrun`, the messages and tables of each source beside
 those of `snc`.
 
-A run over more than 2,000 lines, or of more than 200 ticks at an instant, takes long by the definitions, and so do the messages about a source
-of more than 4,500 bytes: such ones are skipped and counted, unless all are asked for. A run over a line of more than 1,000 bytes is always
-skipped: it takes memory by the square of the line."""
+A run over more than 2,000 lines or over a line of more than 1,000 bytes, or of more than 200 ticks at an instant, takes long by the
+definitions, and so do the messages about a source of more than 4,500 bytes: such ones are skipped and counted, unless all are asked for."""
 import importlib.machinery
 import importlib.util
 import os
 import subprocess
 import sys
 import tempfile
+from collections import Counter
 from dataclasses import dataclass
 from pathlib import Path
 
 from defining import calls
 from defining.checks import Checker
+from defining.definitions import NoClause
+from defining.sources import NotUnderstood
+from defining.trees import BadTree
 from defining.values import some
+from defining.workers import Outcome
 
 # So many lines of a trace, bytes of a line, ticks of an instant, and bytes of a source at most.
 LINES, BYTES, TICKS, SOURCE = 2_000, 1_000, 200, 4_500
@@ -41,6 +45,11 @@ JUDGED, ACCEPTED = (0, 1), 0
 # What snc says where tokens spell no program.
 NO_PROGRAM = (b": error: E01 ", b": error: E02 ")
 TOOLS = ("snlrun", "snc", "snl")
+# What a case counts as: what was compared, and for what it was skipped.
+RUNS, SOURCES = "runs", "sources"
+LONG_SOURCE, LONG_LINE = f"sources of more than {SOURCE:,} bytes", f"runs over a line of more than {BYTES:,} bytes"
+LONG_TRACE, MANY_TICKS = f"runs over more than {LINES:,} lines", f"runs of more than {TICKS} ticks at an instant"
+SKIPPED = (LONG_TRACE, LONG_LINE, MANY_TICKS, LONG_SOURCE)
 # Programs that the rules refuse, with what the definitions say that they do.
 REFUSED = "cases/refused.runs"
 
@@ -55,6 +64,10 @@ class Case:
     trace: bytes
     answer: object = None
 
+    def length(self):
+        """How long it is, and so what it takes, roughly."""
+        return len(self.source) + len(self.trace)
+
 
 @dataclass
 class Source:
@@ -63,6 +76,10 @@ class Source:
     name: str
     source: bytes
     words: list
+
+    def length(self):
+        """How long it is."""
+        return len(self.source)
 
 
 @dataclass
@@ -125,7 +142,22 @@ class Comparer:
     def __init__(self, runner, trees, programs, limited=True):
         """With the built programs by their names; a case that takes too long is skipped where cases are limited."""
         self.runner, self.trees, self.programs, self.limited = runner, trees, programs, limited
-        self.checker, self.runs, self.sources, self.skipped = Checker(runner), 0, 0, 0
+        self.checker, self.counts = Checker(runner), Counter()
+
+    def outcome(self, case):
+        """What comes of a case. A definition that is not understood ends all."""
+        self.counts, told, stop = Counter(), None, ()
+        try:
+            told = self.difference(case)
+        except (NoClause, BadTree) as failed:
+            told = str(failed)
+        except subprocess.TimeoutExpired as failed:
+            told = f"{os.path.basename(os.fsdecode(failed.cmd[0]))} had not ended after {failed.timeout} s"
+        except calls.Failed as failed:
+            told = failed.said or f"a program ended with status {failed.status}"
+        except NotUnderstood as failed:
+            stop = f"definitions: {failed}", 2
+        return Outcome(told or "", dict(self.counts), stop=stop)
 
     def difference(self, case):
         """Where a case has another answer by the definitions, in words; nothing where it has the same, or asks for none."""
@@ -136,7 +168,7 @@ class Comparer:
     def of_source(self, case):
         """The same of the messages about a source."""
         if self.limited and len(case.source) > SOURCE:
-            self.skipped += 1
+            self.counts[LONG_SOURCE] += 1
             return None
         try:
             call = calls.call_of(self.runner, [*case.words, b"p.st"])
@@ -148,7 +180,7 @@ class Comparer:
             snc = subprocess.run(words, stdin=subprocess.DEVNULL, capture_output=True, timeout=calls.SECONDS, cwd=folder)
             if snc.returncode not in JUDGED:
                 return None
-            self.sources += 1
+            self.counts[SOURCES] += 1
             report = self.checker.report(case.source, call.given, b"p.st")
             if report is None:
                 return None if any(it in snc.stderr for it in NO_PROGRAM) else f"no program by the definitions, and not {snc.stderr!r}"
@@ -168,15 +200,15 @@ class Comparer:
         except calls.Failed:
             return None
         lines = case.trace.split(b"\n")
-        if max(map(len, lines)) > BYTES or self.limited and len(lines) > LINES:
-            self.skipped += 1
+        if self.limited and (long := LONG_LINE if max(map(len, lines)) > BYTES else LONG_TRACE if len(lines) > LINES else None):
+            self.counts[long] += 1
             return None
         with tempfile.TemporaryDirectory(prefix="definitions-") as folder:
             Path(folder, "p.st").write_bytes(case.source)
             wanted = case.answer or self.wanted(call, case, folder)
             if wanted is None:
                 return None
-            self.runs += 1
+            self.counts[RUNS] += 1
             tree = self.checker.tree(self.checker.reading(case.source)) if case.answer else self.tree(call, folder)
             loaded = self.runner.load(tree, call.given, call.macros)
             said = self.by_definitions(loaded, call, case).difference(wanted)
@@ -194,7 +226,7 @@ class Comparer:
             words = [*call.options, b"--budget", b"%d" % TICKS, b"--", call.file, *[call.macros] * bool(call.macros)]
             first = self.answer(words, case.trace, folder)
             if first.status == FAULT and first.lines.endswith(SPENT):
-                self.skipped += 1
+                self.counts[MANY_TICKS] += 1
                 return None
             if first.status not in RAN:
                 return None

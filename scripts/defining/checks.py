@@ -47,6 +47,8 @@ NEEDED = (
     TABLES,
 )  # fmt: skip
 DEEPEST, MOST_WORDS = 64, 65_536
+# The first token behind so many is past the limit: `IsProgramSaid` of `Judging`.
+MOST_TOKENS = 65_536
 # A source of more bytes is too long, whatever stands in it: `FaultHolds` of `Lexing`.
 MOST_BYTES = 1_048_576
 SIGNS = {"Less": -1, "Equal": 0, "Greater": 1}
@@ -160,6 +162,7 @@ class Checker:
         found = [call(OF_BROKEN, it) for it in items_of(call(BROKEN, call(SITES, tree)))]
         found += [call(OF_UNREACHED, it) for group in items_of(tree.state_sets) for it in self.unreached(group.states)]
         found += [call(OF_EMBEDDED, it) for it in items_of(reading.embedded)]
+        found += [call(FINDING, ("TooManyTokens",), it.pos, NIL) for it in items_of(reading.tokens)[MOST_TOKENS:][:1]]
         return found + [call(FINDING, ("NotSafe",), tree.word.pos, NIL)] * (not call(IS_SAFE, options))
 
     def unreached(self, states):

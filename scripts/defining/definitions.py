@@ -5,7 +5,7 @@ from defining import library, values
 from defining.names import Names
 from defining.parser import clause_of
 from defining.sources import NotUnderstood, file_of
-from defining.writing import Writer, inner_name, library_name, python_name
+from defining.writing import Writer, inner_name, library_name, python_name, waiting_name
 
 # Definitions whose answers are kept while a program is run: they are asked the same again and again. What they give follows from what
 # they are given alone, as with all definitions.
@@ -37,9 +37,12 @@ class Definitions:
             "NIL": values.NIL,
             "NoClause": NoClause,
             "applied": values.applied,
-            "appended": library.appended,
+            "applied_once": values.applied_once,
+            "applied_twice": values.applied_twice,
+            "appended": values.appended,
             "no_case": no_case,
             **{library_name(name): function for name, (_, function) in library.NAMES.items()},
+            **{waiting_name(name): values.Function(function, takes) for name, (takes, function) in library.NAMES.items()},
         }
 
     def need(self, key):
@@ -97,7 +100,7 @@ class Definitions:
         self.kept.append(answers)
 
         def remembered(*arguments):
-            key = tuple(it if type(it) is int else id(it) for it in arguments)
+            key = tuple([it if type(it) is int else id(it) for it in arguments])
             found = answers.get(key)
             if found is None:
                 # The arguments are kept too, so that no other value comes to stand in their place.

@@ -2,14 +2,7 @@
 
 They stand in the kit, in `std` and `core`, as definitions of their own; here is what these say. A name that is not in this table is
 refused where a definition takes it."""
-from defining.values import NIL, NONE, applied, items_of, listed, some
-
-
-def appended(front, back):
-    """Two lists, one behind the other."""
-    for item in reversed(items_of(front)):
-        back = (item, back)
-    return back
+from defining.values import NIL, NONE, Function, Joined, applied_once, applied_twice, appended, items_of, listed, ready, some
 
 
 def item_at(values, index, otherwise):
@@ -28,10 +21,16 @@ def option_at(values, index):
 
 def with_item(values, index, item):
     """The list with another item at an index; the same list where it has none there."""
-    items = items_of(values)
-    if index < len(items):
-        items[index] = item
-    return listed(items)
+    front, rest = [], values
+    while rest and len(front) < index:
+        front.append(rest[0])
+        rest = rest[1]
+    if not rest:
+        return values
+    made = (item, rest[1])
+    for other in reversed(front):
+        made = (other, made)
+    return made
 
 
 def without(values, count):
@@ -58,7 +57,7 @@ def compared(left, right):
 def lists_compared(compare, left, right):
     """The same of two lists: by the first items that differ, or else the shorter one is less."""
     for both in zip(items_of(left), items_of(right)):
-        found = applied(compare, *both)
+        found = applied_twice(compare, *both)
         if found != ("Equal",):
             return found
     return compared(len(items_of(left)), len(items_of(right)))
@@ -66,9 +65,9 @@ def lists_compared(compare, left, right):
 
 def split_at(test, values):
     """The parts of a list between the items that pass a test."""
-    parts = [[]]
+    parts, test = [[]], ready(test)
     for item in items_of(values):
-        if applied(test, item):
+        if test(item):
             parts.append([])
         else:
             parts[-1].append(item)
@@ -77,31 +76,78 @@ def split_at(test, values):
 
 def prefix_length(test, values):
     """How many items at the front pass a test."""
-    count = 0
-    while values and applied(test, values[0]):
+    count, test = 0, ready(test)
+    while values and test(values[0]):
         values, count = values[1], count + 1
     return count
 
 
 def position(test, values):
     """The index of the first item that passes a test."""
-    for index, item in enumerate(items_of(values)):
-        if applied(test, item):
+    index, test = 0, ready(test)
+    while values:
+        if test(values[0]):
             return some(index)
+        values, index = values[1], index + 1
     return NONE
+
+
+def position_or_length(test, values):
+    """The same; their count, where none passes."""
+    found = position(test, values)
+    return len(items_of(values)) if found == NONE else found[1]
+
+
+def any_passes(test, values):
+    """Whether some item passes a test."""
+    return position(test, values) != NONE
+
+
+def all_pass(test, values):
+    """Whether each item passes a test."""
+    test = ready(test)
+    while values:
+        if not test(values[0]):
+            return False
+        values = values[1]
+    return True
 
 
 def folded(step, start, values):
     """What a step makes of a start and each item, the first one first."""
     for item in items_of(values):
-        start = applied(step, start, item)
+        start = applied_twice(step, start, item)
     return start
 
 
 def pointwise(test, left, right):
     """Whether two lists are as long, and a test holds of the items at each index."""
+    if type(test) is Function and test.call is equal_numbers and not test.given:
+        return left == right
     left, right = items_of(left), items_of(right)
-    return len(left) == len(right) and all(applied(test, *both) for both in zip(left, right))
+    return len(left) == len(right) and all(applied_twice(test, *both) for both in zip(left, right))
+
+
+def equal_numbers(left, right):
+    """Whether two numbers are one."""
+    return left == right
+
+
+def summed(function, values):
+    """The sum of what a function makes of each item. That of two joined lists is the sum of their sums, and each is kept there."""
+    key, grown, count = (function.call, *map(id, function.given)), [], ready(function)
+    while type(values) is Joined and values.made is None and key not in values.sums:
+        grown.append(values)
+        values = values.front
+    if type(values) is Joined and key in values.sums:
+        total = values.sums[key][0]
+    else:
+        total = sum([count(item) for item in items_of(values)])
+    for joined_lists in reversed(grown):
+        total += sum([count(item) for item in items_of(joined_lists.back)])
+        # The function is kept with its sum, so that no other one comes to have its key.
+        joined_lists.sums[key] = total, function
+    return total
 
 
 def quotient(left, right):
@@ -122,7 +168,8 @@ def signed_word(value):
 
 def mapped(function, values):
     """What a function makes of each item."""
-    return listed([applied(function, item) for item in items_of(values)])
+    function = ready(function)
+    return listed([function(item) for item in items_of(values)])
 
 
 def joined(lists):
@@ -132,7 +179,8 @@ def joined(lists):
 
 def kept(test, values):
     """The items that pass a test."""
-    return listed([item for item in items_of(values) if applied(test, item)])
+    test = ready(test)
+    return listed([item for item in items_of(values) if test(item)])
 
 
 def written(number):
@@ -150,7 +198,7 @@ def digits_value(base, digits):
 
 def option_map(function, value):
     """What a function makes of what is there."""
-    return NONE if value == NONE else some(applied(function, value[1]))
+    return NONE if value == NONE else some(applied_once(function, value[1]))
 
 
 LISTS = {
@@ -163,12 +211,12 @@ LISTS = {
     "flat_map": (2, lambda function, values: joined(mapped(function, values))),
     "fold": (3, folded),
     "length": (1, lambda values: len(items_of(values))),
-    "list_all": (2, lambda test, values: all(applied(test, item) for item in items_of(values))),
-    "list_any": (2, lambda test, values: any(applied(test, item) for item in items_of(values))),
+    "list_all": (2, all_pass),
+    "list_any": (2, any_passes),
     "map": (2, mapped),
     "pointwise": (3, pointwise),
     "position": (2, position),
-    "position_or_len": (2, lambda test, values: len(items_of(values)) if position(test, values) == NONE else position(test, values)[1]),
+    "position_or_len": (2, position_or_length),
     "prefix_len": (2, prefix_length),
     "replicate": (2, lambda count, item: listed([item] * count)),
     "reverse": (1, lambda values: listed(items_of(values)[::-1])),
@@ -176,11 +224,11 @@ LISTS = {
     "slice_cmp": (3, lists_compared),
     "slice_index": (2, lambda values, index: item_at(values, index, 0)),
     "slice_index_or": (3, item_at),
-    "slice_range": (3, lambda values, start, end: listed(items_of(values)[start:end])),
+    "slice_range": (3, lambda values, start, end: take(max(end - start, 0), without(values, start))),
     "slice_set": (3, with_item),
     "slice_split": (2, split_at),
     "starts_with": (3, lambda test, values, front: pointwise(test, take(len(items_of(front)), values), front)),
-    "sum_by": (2, lambda function, values: sum(applied(function, item) for item in items_of(values))),
+    "sum_by": (2, summed),
     "take": (2, take),
 }
 TEXTS = {
@@ -206,7 +254,7 @@ NUMBERS = {
     "int_shr": (2, lambda value, count: value >> count),
     "max": (2, max),
     "min": (2, min),
-    "nat_eq": (2, lambda left, right: left == right),
+    "nat_eq": (2, equal_numbers),
     "nat_le": (2, lambda left, right: left <= right),
     "nat_lt": (2, lambda left, right: left < right),
     "nat_cmp": (2, compared),
@@ -225,7 +273,7 @@ CHOICES = {
     "is_none": (1, lambda value: value == NONE),
     "is_some": (1, lambda value: value != NONE),
     "not": (1, lambda value: not value),
-    "option_and_then": (2, lambda function, value: NONE if value == NONE else applied(function, value[1])),
+    "option_and_then": (2, lambda function, value: NONE if value == NONE else applied_once(function, value[1])),
     "option_map": (2, option_map),
     "ordering_then": (2, lambda first, second: second if first == ("Equal",) else first),
     "option_or": (2, lambda first, second: second if first == NONE else first),

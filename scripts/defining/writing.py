@@ -35,6 +35,17 @@ def library_name(name):
     return "library_" + attribute(name)
 
 
+def waiting_name(name):
+    """The Python name of what the standard library has, as a function that waits for all its arguments."""
+    return "waiting_" + attribute(name)
+
+
+def applied_to(function, arguments):
+    """The text of a function that is applied to one argument or more."""
+    name = {1: "applied_once", 2: "applied_twice"}.get(len(arguments), "applied")
+    return f"{name}({function}, {', '.join(arguments)})"
+
+
 def fields_of(text, fields):
     """Fields of a record, or parts of a pair by number."""
     for name in fields:
@@ -137,7 +148,7 @@ class Writer:
         """A term with a name for another one."""
         name = self.fresh()
         body = self.text(term.body, {**scope, term.name: name})
-        return f"(lambda {name}: {body})({self.text(term.value, scope)})"
+        return f"(({name} := {self.text(term.value, scope)},) and {body})"
 
     def function(self, term, scope):
         """A function."""
@@ -155,7 +166,7 @@ class Writer:
         made = f"no_case({name})"
         for test, body in reversed(written):
             made = f"({body} if {test} else {made})"
-        return f"(lambda {name}: {made})({self.text(term.term, scope)})"
+        return f"(({name} := {self.text(term.term, scope)},) and {made})"
 
     def record(self, term, scope):
         """A new record."""
@@ -175,7 +186,7 @@ class Writer:
         arguments = [self.text(it, scope) for it in term.arguments]
         if isinstance(term.function, Word):
             return self.apply(term.function.word, arguments, scope)
-        return f"applied({self.text(term.function, scope)}, {', '.join(arguments)})"
+        return applied_to(self.text(term.function, scope), arguments)
 
     # ---- names
 
@@ -195,13 +206,13 @@ class Writer:
             if fields and front in self.file.aliases:
                 raise NotUnderstood(f"{word}: {front} is a name here, and one of a path too")
             function = fields_of(scope[front], fields)
-            return f"applied({function}, {', '.join(arguments)})" if arguments else function
+            return applied_to(function, arguments) if arguments else function
         meaning = self.names.meaning(self.file, word)
         if meaning is not None:
             return self.call(meaning, arguments)
         if fields and front not in self.file.aliases and (meaning := self.names.meaning(self.file, front)) is not None:
             function = fields_of(self.call(meaning, []), fields)
-            return f"applied({function}, {', '.join(arguments)})" if arguments else function
+            return applied_to(function, arguments) if arguments else function
         raise NotUnderstood(f"{word} is no definition, no constructor and no name of the library that is known here")
 
     def call(self, meaning, arguments):
@@ -213,11 +224,13 @@ class Writer:
         else:
             takes = self.need(meaning)
             name = inner_name(meaning) if meaning == self.own else python_name(meaning)
+        if isinstance(meaning, Library) and takes and not arguments:
+            return waiting_name(meaning.name)
         if len(arguments) < takes:
             given = f", ({', '.join(arguments)},)" if arguments else ""
             return f"Function({name}, {takes - len(arguments)}{given})"
         made = f"{name}({', '.join(arguments[:takes])})"
-        return f"applied({made}, {', '.join(arguments[takes:])})" if arguments[takes:] else made
+        return applied_to(made, arguments[takes:]) if arguments[takes:] else made
 
     def construct(self, meaning, arguments):
         """What a constructor makes; a function, where arguments are missing."""
