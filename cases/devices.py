@@ -23,7 +23,8 @@ int x; assign x to "X"; monitor x;
 ss s { state a { when (x > 1) { printf("%d", x); } state b } state b { when (x < 1) {} state a } }
 """
 LINES = [b"0 up X\n", b"1 val X 0\n", b"2 val X 3\n", b"3 val X 0\n", b"4 val X 5\n"]
-TRACE, BEGUN = b"".join(LINES), b"".join(LINES[:4])
+# The same as a log.
+LOG = [b"X 2026-03-02 09:15:0%d.100000 %d\n" % it for it in enumerate((0, 1, 3, 0, 5))]
 FIRST = "1 start p\n2 print s 3\n2 go s a b\n3 go s b a\n"
 NOTED = "1 start p\n# clause 1 of a, line 4: x=3 (trace line 3)\n2 print s 3\n2 go s a b\n# clause 1 of b, line 4: x=0 (trace line 4)\n3 go s b a\n"
 MORE = "# clause 1 of a, line 4: x=5 (trace line 5)\n4 print s 5\n4 go s a b\n"
@@ -36,6 +37,11 @@ UNREAD = """# the trace could not be read on at 0, line 0
 # 0 transitions, 0 puts, 0 refused, 0 prints
 """
 SAID = "snl: cannot read /dev/stdin\n"
+# The log as a trace, and where it breaks off.
+DAY = "# zero 2026-03-02T09:15:00.100\n# log -\n0 up X\n0 val X 0\n1000 val X 1\n2000 val X 3\n3000 val X 0\n"
+UNREAD_LOG = "snl: cannot read -\n"
+# The line that tells which program wrote a trace, and its version.
+WRITTEN = re.compile(r"\A# written by snl trace [^\n]*\n")
 
 
 class Word(NamedTuple):
@@ -48,6 +54,17 @@ class Word(NamedTuple):
     # has that can break off. The answer and what is said where it cannot be read at all.
     broken: "tuple | None"
     unread: tuple
+    # What is said beside the answer where all is told, and the lines of what it reads.
+    said: str = ""
+    lines: list = LINES
+
+    @property
+    def read(self):
+        return b"".join(self.lines)
+
+    @property
+    def begun(self):
+        return b"".join(self.lines[:4])
 
 
 WORDS = (
@@ -59,6 +76,7 @@ WORDS = (
     Word("snl", ["same", "p.st", "p.st"], "the same over 5 lines of the trace: 6 lines, 0 puts\n", ("", "", 3), ("", "")),
     Word("snl", ["cover", "p.st"], "2 of 2 clauses taken, 2 of 2 states entered, 0 of 0 channels put\n", ("", "", 3), ("", "")),
     Word("snl", ["graph", "p.st"], r'digraph "p" .*"s.a" -> "s.b" \[label="1: x > 1\\n2x"\];.*"s.b" -> "s.a" \[label="1: x < 1\\n1x"\];.*\}\n', ("", "", 3), ("", "")),
+    Word("snl", ["trace", "-"], re.escape(DAY + "4000 val X 5\n"), (DAY, UNREAD_LOG, 3), ("", UNREAD_LOG), "lines: 5; values: 5, 5 written\n", LOG),
     Word("snl", ["search", "--lines", "1", "--like", "/dev/stdin", "p.st"], r"starts: 1; X 0\n.*none up to 1 line .*\n", None, ("", SAID)),
 )
 
@@ -74,7 +92,7 @@ class Devices:
     def failure(self, programs):
         with tempfile.TemporaryDirectory(prefix="snlrun-") as folder:
             Path(folder, "p.st").write_text(SOURCE)
-            Path(folder, "trace").write_bytes(TRACE)
+            Path(folder, "trace").write_bytes(self.word.read)
             call = [programs[self.tool], *self.word.words]
             wrong = [f"{check.__name__}: {said}" for check in CHECKS if (said := check(self.word, call, Path(folder)))]
         return "\n  ".join([f"FAILED {self.name}", *wrong]) if wrong else None
@@ -89,7 +107,7 @@ def cases():
 def ran(call, folder, stdin, stdout=subprocess.PIPE):
     """The answer of a call, what it says, and its status."""
     found = subprocess.run(call, cwd=folder, stdin=stdin, stdout=stdout, stderr=subprocess.PIPE, timeout=SECONDS)
-    return (found.stdout or b"").decode(), found.stderr.decode(), found.returncode
+    return WRITTEN.sub("", (found.stdout or b"").decode()), found.stderr.decode(), found.returncode
 
 
 def of_file(call, folder, stdout=subprocess.PIPE):
@@ -105,14 +123,14 @@ def differs(found, wanted):
 def told(word, call, folder):
     """The trace is a file, and the answer is read."""
     answer, said, status = of_file(call, folder)
-    return differs((said, status), ("", 0)) or ("" if re.fullmatch(word.told, answer, re.DOTALL) else repr(answer))
+    return differs((said, status), (word.said, 0)) or ("" if re.fullmatch(word.told, answer, re.DOTALL) else repr(answer))
 
 
 def cut(word, call, folder):
     """Each byte comes when the one before it was read."""
     reads, writes = os.pipe()
     with started(call, folder, reads) as run:
-        for byte in TRACE:
+        for byte in word.read:
             with contextlib.suppress(BrokenPipeError):  # of a word that has its answer
                 os.write(writes, bytes([byte]))
             taken(run, reads)
@@ -129,7 +147,7 @@ def broken(word, call, folder):
         ours = socket.create_connection(server.getsockname())
         theirs = server.accept()[0]
     with ours, theirs, started(call, folder, theirs) as run:
-        ours.sendall(BEGUN)
+        ours.sendall(word.begun)
         taken(run, ours, termios.TIOCOUTQ)
         taken(run, theirs)
         ours.setsockopt(socket.SOL_SOCKET, socket.SO_LINGER, struct.pack("ii", 1, 0))
@@ -183,7 +201,7 @@ def started(call, folder, stdin):
 def ended(run):
     """The answer of a call that runs, what it says, and its status."""
     stdout, stderr = run.communicate(timeout=SECONDS)
-    return stdout.decode(), stderr.decode(), run.returncode
+    return WRITTEN.sub("", stdout.decode()), stderr.decode(), run.returncode
 
 
 def taken(run, stream, question=termios.FIONREAD):

@@ -36,6 +36,7 @@ WITHOUT = {
     ": cpp makes it of the program": "it tries cpp, and what examples/ has of it",
     "definitions: wrong words: ": "it tries words of scripts/definitions that are wrong before a program is called",
     "definitions: no program: ": "it asks scripts/definitions of a source, which then calls no program",
+    "definitions: processes: a signal ends all of them": "it interrupts scripts/definitions, whatever the programs say until then",
     "| awk -f with-clock.awk": "it tries an awk script of the page alone",
     "docs/PORTING.md: cat oven.units": "it shows a file that scripts/port wrote",
     "ports: quotients that are stored, beside exact fractions": "it asks the modules of scripts/porting, and computes with what these write",

@@ -1,6 +1,6 @@
 """Memory. A run takes none: snlrun asks for it as often over a trace of one line as over one of ten thousand. And each request of a
 call may be refused: the status is 4 then, nothing is written to any stream or file, and nothing of the trace is read, but by `snl`,
-which makes its answer behind the trace, and whose word `run` may have begun its lines. A run that is folded may go on without the
+which makes its answer behind the trace, and whose words `run` and `trace` may have begun their lines. A run that is folded may go on without the
 memory for a block: its lines stand for the same then. A file that a search cannot write is told, behind the answer. A call that
 answers otherwise than it has to, or whose requests nobody counted, is a failure, too.
 Where memory ends while tables are written, a beginning of them is left: no program shows that, so a test of snc_tests tells it."""
@@ -52,6 +52,8 @@ SOURCES = {
     "safe.st": SAFE,
     # It opens and shuts until its budget is spent, in blocks that are folded.
     "valve.st": VALVE.replace("V:P", "a").replace("V:OPEN", "p"),
+    # A log of three channels.
+    "day.log": "".join(f"{'apq'[n % 3]} 2026-03-02 09:15:0{n}.100000 {n}\n" for n in range(6)),
     # No trace of a search, so it is not written over.
     "notes": "mine\n",
     "faulty.st": SAFE.replace("{} state b }", "{ x = 1 / (x - 6); } state b }"),
@@ -100,6 +102,8 @@ CALLS = (
     Call("snl", ["run", "r.st"], 0, 100, 6),
     Call("snl", ["run", "--budget", "40", "valve.st"], 5, 300, 3),
     Call("snl", ["run", "--whole", "functions.st"], 0, 100, 1),
+    Call("snl", ["trace", "day.log"], 0, 20, 1),
+    Call("snl", ["trace", "--program", "r.st", "day.log"], 0, 100, 1),
     Call("snl", ["search", "--lines", "1", "safe.st"], 0, 300, 1),
     Call("snl", ["search", "--lines", "1", "--out", "found", "faulty.st"], 1, 300, 1, "found"),
     Call("snl", ["search", "--lines", "1", "--cover", "suite", "safe.st"], 0, 300, 1, "suite"),
@@ -268,7 +272,8 @@ def wrong_of(call, answer, plain):
     is_run, is_folded = call.words[:1] == ["run"], "--whole" not in call.words
     if is_run and is_folded and (answer.status, answer.stderr, answer.files) == (plain.status, b"", {}) and lines(answer) == lines(plain):
         return LATER
-    begun = is_run and plain.stdout.startswith(answer.stdout) and answer.stdout[-1:] in (b"", b"\n")
+    may_begin = call.words[:1] in (["run"], ["trace"])
+    begun = may_begin and plain.stdout.startswith(answer.stdout) and answer.stdout[-1:] in (b"", b"\n")
     is_silent = not (answer.stderr or answer.files) and (begun or not answer.stdout)
     if answer.status == OUT_OF_MEMORY and is_silent and (answer.read == 0 or call.tool == "snl"):
         return None
