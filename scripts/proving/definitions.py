@@ -79,6 +79,11 @@ class Repository:
             return self.find_rust(crate, module, file["uses"][head] + rest, depth + 1)
         return self.find_rust(crate, module + (head,), rest, depth + 1)
 
+    def find_spec(self, file, name):
+        """What a file of definitions has under a name: its own, or what a `pub use` of it hands on."""
+        handed_on = [it for it in self.specs.get(file, ([],))[0] if it.startswith("pub use ")]
+        return self.node_of.get((*file, name)) or self.meanings(handed_on)(name)
+
     def meanings(self, imports, key=None):
         """What a word means in a file with these imports: a function from words to nodes, or None."""
         names, modules = {}, {}
@@ -93,7 +98,7 @@ class Repository:
                 find = lambda name, node=self.find_rust(node[1], node[2], [node[3]]) or node: node
             else:
                 file = parts[1], "/".join(parts[3:])
-                find = lambda name, file=file: self.node_of.get((*file, name), ("lost", *file, name))
+                find = lambda name, file=file: self.find_spec(file, name) or ("lost", *file, name)
             for item in re.findall(r"[^\s,{}]+(?: as [^\s,{}]+)?", items):
                 name, _, other = item.partition(" as ")
                 names.update({part: find(name) for part in (other or name).split("◌") if part})
