@@ -53,7 +53,11 @@ fn told_run<K>(
 }
 
 /// `snl run`; whether no block of lines is folded.
-pub fn answered_run(rt: &HostRuntime, asked: Asked, is_whole: bool) -> Result<Status, Status> {
+pub fn answered_run<'c>(
+    rt: &'c HostRuntime,
+    asked: Asked<'c>,
+    is_whole: bool,
+) -> Result<Status, Status> {
     let Asked { source, call, .. } = asked;
     let outlet = Outlet::new(rt.stdout());
     let Ok(writer) = BufWriter::with_capacity(rt.alloc(), OUTPUT_HELD, outlet) else {
