@@ -68,3 +68,9 @@ abbrev pub IsValue : (units : List ChannelUnits) → (name text : List ℕ) → 
 IsValue units name text value =
     (text_number units name text ≡ Some value) ⊎
     ((text_number units name text ≡ None) × IsScaled text (scale_in units name).0 (scale_in units name).1 value)
+
+-- A value is a number of a trace by one unit: that of its text, or else that of its digits.
+abbrev pub IsValueBy : (unit : Unit) → (text : List ℕ) → ℤ → Type 0
+IsValueBy unit text value =
+    (number_by unit text ≡ Some value) ⊎
+    ((number_by unit text ≡ None) × IsScaled text (unwrap_or (scale_by unit) (1, 1)).0 (unwrap_or (scale_by unit) (1, 1)).1 value)

@@ -2,7 +2,7 @@
 //!
 //! A line of it is a word, the name of a channel, and what is said of that. [`units_of`] reads all lines, or says which is the first that is
 //! wrong.
-//! [`value_of`] makes the whole number of a trace of a value that a person gives, and a [`Comparison`] tells where a trace has other units.
+//! [`value_of`] makes the whole number of a trace of a value that a person gives, `shown` goes the other way, and a [`Comparison`] tells where a trace has other units.
 #![tactic(auto)]
 
 mod comparing;
@@ -16,6 +16,7 @@ mod puts;
 mod quoted;
 mod reading;
 mod same;
+mod shown;
 mod units;
 mod values;
 mod written;
@@ -24,6 +25,7 @@ pub use comparing::Comparison;
 pub use faults::{LineFault, PutFault, UnitsFault, ValueFault};
 pub use puts::line_in_units;
 pub use reading::units_of;
+pub use shown::SHOWN;
 pub use units::{ChannelUnits, TextNumber, Unit};
 pub use values::value_of;
 pub use written::push_quoted;

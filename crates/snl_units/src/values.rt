@@ -26,7 +26,7 @@ fn alarm_in(text: &[u8]) -> Option<i64>
 }
 
 /// The number that a unit gives a text, if it does.
-fn number_by(unit: &Unit, text: &[u8]) -> Option<i64>
+pub(crate) fn number_by(unit: &Unit, text: &[u8]) -> Option<i64>
     ensures { result ≡ spec.number_by unit.now text.now }
 {
     match unit {
@@ -60,7 +60,7 @@ pub(crate) fn text_number(units: &[ChannelUnits], name: &[u8], text: &[u8]) -> O
 }
 
 /// By what a unit multiplies and divides, if it does.
-fn scale_by(unit: &Unit) -> Option<(u64, u64)>
+pub(crate) fn scale_by(unit: &Unit) -> Option<(u64, u64)>
     ensures { result ≡ spec.scale_by unit.now }
 {
     match unit {
