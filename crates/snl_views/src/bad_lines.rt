@@ -1,7 +1,7 @@
 //! The bad line of a trace: it is no event, and how it can be mended.
 
-use crate::pieces::push_all;
 use bstr::ByteSlice;
+use snl_output::push_all;
 use snl_trace::{End, TraceFault};
 use snl_watch::HeardTrace;
 use std::alloc::AllocError;

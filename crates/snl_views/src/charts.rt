@@ -4,8 +4,8 @@ ghost use Rattle.std.specs.Prelude.{◌≡◌, map, IfOk};
 ghost use Rattle.snl_syntax.specs.view.Programs.{clause_view, program_view, state_set_view, state_view, target_view};
 ghost use Rattle.snl_views.specs.Shapes as spec;
 
-use crate::pieces::pushed;
 use snl_legends::Conditions;
+use snl_names::pushed;
 use snl_reach::reached_states;
 use snl_syntax::{Clause, Program, State, StateSet, Target};
 use std::alloc::{AllocError, Global};

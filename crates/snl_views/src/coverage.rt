@@ -10,6 +10,8 @@ use snl_watch::Trail;
 /// A channel that a `pvPut` names.
 #[derive(Drop)]
 pub struct PutChart {
+    /// Its number, from 0 on, in the order in which `assign` definitions first name channels.
+    pub number: usize,
     /// Its name, after macros.
     pub channel: Vec<u8>,
     /// The variable, with the number of its element where its elements have channels of their own.

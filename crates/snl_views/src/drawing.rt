@@ -5,7 +5,7 @@ ghost use Rattle.std.specs.List.{flat_map};
 ghost use Rattle.snl_views.specs.Pictures as spec;
 
 use crate::pictures::{Arrow, Cluster, Node, Picture};
-use crate::pieces::push_all;
+use snl_output::push_all;
 use std::alloc::{AllocError, Global};
 
 /// Adds a byte of a text between quotes.

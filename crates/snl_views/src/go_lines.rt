@@ -5,7 +5,8 @@ ghost use Rattle.std.specs.List.{flat_map};
 ghost use Rattle.snl_views.specs.Shapes as spec;
 
 use crate::charts::{ArrowChart, Chart, SetChart, StateChart};
-use crate::pieces::{push_all, pushed};
+use snl_names::pushed;
+use snl_output::push_all;
 use std::alloc::{AllocError, Global};
 
 /// What follows the time in the line of a transition, without its newline: ` go SET FROM TO`.

@@ -11,12 +11,12 @@ ghost use Rattle.snl_views.specs.Shapes.{charted, go_texts};
 
 use crate::charting::{Outline, outline_of};
 use crate::coverage::Coverage;
-use crate::lending::{Lends, boxed, lent_boxed};
 use crate::runner::Runner;
 use crate::seen::{Seen, unseen};
 use snc::{Judgement, judged, macros_of};
 use snc_args::Job;
 use snl_check::Checked;
+use snl_legends::{Lends, boxed, lent_boxed};
 use snl_links::{Macros, links};
 use snl_machine::{Loads, Machine};
 use std::alloc::{AllocError, Global};

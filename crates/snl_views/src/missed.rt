@@ -114,7 +114,7 @@ fn look_at_set(
 /// Looks at the channels that a `pvPut` names.
 fn look_at_channels(coverage: &Coverage, gaps: &mut Gaps) -> Result<(), AllocError> {
     for (number, put) in coverage.puts.iter().enumerate() {
-        let is_put = coverage.trail.puts(put.channel.as_slice()) > 0;
+        let is_put = coverage.trail.puts(put.number) > 0;
         gaps.channels.count(is_put);
         if !is_put {
             gaps.missed.push(Missed::Channel(number))?;

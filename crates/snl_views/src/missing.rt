@@ -3,7 +3,7 @@
 use crate::charts::StateChart;
 use crate::coverage::Coverage;
 use crate::missed::{Gaps, Missed, Share};
-use crate::pieces::{push_all, push_told};
+use snl_output::{push_all, push_told};
 use std::alloc::{AllocError, Global};
 
 /// Adds the line of the source, and ends with a text.

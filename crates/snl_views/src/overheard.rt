@@ -49,7 +49,9 @@ impl Overheard {
         };
         let end = last.saturating_add(1).min(text.len());
         self.before = noted(&mut self.clock, self.before, &text[..end]);
-        self.text.drain(..end);
+        let left = self.text.len().saturating_sub(end);
+        self.text.copy_within(end.., 0);
+        self.text.truncate(left);
     }
 
     /// Hears the bytes that a run is given next.

@@ -7,7 +7,8 @@ ghost use Rattle.snl_views.specs.Shapes.{charted, charted_arrows, charted_set, c
 use crate::charts::{ArrowChart, Chart, SetChart, StateChart};
 use crate::coverage::Coverage;
 use crate::pictures::{Arrow, Cluster, Node, Picture};
-use crate::pieces::{push_all, push_number, push_told, pushed};
+use snl_names::pushed;
+use snl_output::push_told;
 use std::alloc::{AllocError, Global};
 
 /// A place in a program: the numbers of a state set and of a state of it, and the number of the state's first clause among all
@@ -31,13 +32,13 @@ fn push_taken(label: &mut Vec<u8>, taken: u64, left: u64) -> Result<(), AllocErr
 /// The number of a clause, from 1 on, and its condition.
 fn label_of(alloc: Global, clause: usize, condition: &[u8]) -> Result<Vec<u8>, AllocError> {
     let mut label = Vec::new(alloc);
-    push_number(&mut label, (clause as u64).saturating_add(1))?;
+    push_told(&mut label, b"", (clause as u64).saturating_add(1), b": ")?;
     let condition: &[u8] = if condition.is_empty() {
         b"()"
     } else {
         condition
     };
-    push_all(&mut label, &[b": ", condition])?;
+    label.extend_from_slice(condition)?;
     Ok(label)
 }
 

@@ -3,8 +3,8 @@
 ghost use Rattle.std.specs.Prelude.{IfOk};
 ghost use Rattle.snl_views.specs.Prepared.{IsPrepared};
 
-use crate::lending::Lends;
 use snl_check::Checked;
+use snl_legends::Lends;
 use snl_links::{Link, Macros, links};
 use snl_machine::{Loads, Machine};
 use std::alloc::{AllocError, Global};

@@ -1,10 +1,10 @@
 //! The channels that a program puts to.
 
 use crate::coverage::PutChart;
-use crate::pieces::{push_all, push_number};
 use crate::variables::{Variable, variable_of};
-use indexmap::{IndexMap, IndexSet};
+use indexmap::IndexSet;
 use snl_links::Link;
+use snl_output::push_told;
 use snl_text::{Kind, Token};
 use std::alloc::{AllocError, Global};
 
@@ -30,24 +30,24 @@ pub(crate) fn put_names(alloc: Global, tokens: &[Token]) -> Result<Vec<usize>, A
 fn text_of(alloc: Global, variable: &Variable) -> Result<Vec<u8>, AllocError> {
     let mut text = Vec::from_slice(alloc, variable.name)?;
     if let Some(element) = variable.element {
-        text.extend_from_slice(b"[")?;
-        push_number(&mut text, element as u64)?;
-        push_all(&mut text, &[b"]"])?;
+        push_told(&mut text, b"[", element as u64, b"]")?;
     }
     Ok(text)
 }
 
-/// The channel of a link, with its variable. The only error is that memory ends.
+/// The channel of a link, which has a number, with its variable. The only error is that memory ends.
 fn put_chart(
     alloc: Global,
     source: &[u8],
     links: &[Link],
     link: &Link,
+    number: usize,
 ) -> Result<PutChart, AllocError> {
     let variable = variable_of(source, links, link);
     let channel = Vec::from_slice(alloc, link.name.as_slice())?;
     let text = text_of(alloc, &variable)?;
     Ok(PutChart {
+        number,
         channel,
         variable: text,
         line: variable.line,
@@ -62,28 +62,26 @@ pub(crate) fn put_charts(
     links: &[Link],
     declared: &IndexSet<usize>,
 ) -> Result<Vec<PutChart>, AllocError> {
-    let mut seen: IndexSet<&[u8]> = IndexSet::new(alloc);
+    let mut channels: IndexSet<&[u8]> = IndexSet::new(alloc);
+    let mut seen: IndexSet<usize> = IndexSet::new(alloc);
     let mut puts = Vec::new(alloc);
     for link in links {
-        let name = link.name.as_slice();
-        if name.is_empty() || !declared.contains(&link.variable.offset) || seen.contains(name) {
+        if link.name.is_empty() {
             continue;
         }
-        seen.insert(name)?;
-        puts.push(put_chart(alloc, source, links, link)?)?;
+        let (number, _) = channels.insert_full(link.name.as_slice())?;
+        if declared.contains(&link.variable.offset) && seen.insert(number)? {
+            puts.push(put_chart(alloc, source, links, link, number)?)?;
+        }
     }
     Ok(puts)
 }
 
-/// No puts to these channels yet.
-pub(crate) fn no_puts(
-    alloc: Global,
-    puts: &[PutChart],
-) -> Result<IndexMap<Vec<u8>, u64>, AllocError> {
-    let mut channels = IndexMap::new(alloc);
+/// No puts yet to channels, up to the last of these.
+pub(crate) fn no_puts(alloc: Global, puts: &[PutChart]) -> Result<Vec<u64>, AllocError> {
+    let mut count = 0usize;
     for put in puts {
-        let name = Vec::from_slice(alloc, put.channel.as_slice())?;
-        channels.insert(name, 0)?;
+        count = count.max(put.number.saturating_add(1));
     }
-    Ok(channels)
+    vec![in alloc; 0u64; count]
 }

@@ -16,14 +16,25 @@ use crate::staging::{Stage, Staged, staged_of};
 use crate::starting::names_of;
 use crate::summaries::summary_of;
 use crate::telling::Scene;
+use crate::units::units_of;
 use snc::{Status, status_of};
 use snc_args::Job;
 use snl_machine::{Machine, Sink};
 use snl_trace::{End, Source, run};
-use snl_watch::{ByLine, Folder, Follower, HeardTrace, Legend, Moments, Notes, Teller};
+use snl_units::ChannelUnits;
+use snl_watch::{ByLine, Folder, Follower, HeardTrace, Legend, Notes, Progress, Teller};
 use std::alloc::{AllocError, Global};
 use std::cell::RefCell;
 use std::mem;
+
+/// A program that is run for a person.
+#[derive(Clone, Copy)]
+pub struct Subject<'s> {
+    /// Its source.
+    pub source: &'s [u8],
+    /// What the numbers of its channels stand for, where that is known.
+    pub units: &'s [ChannelUnits],
+}
 
 /// What `run` answers.
 #[derive(Drop)]
@@ -54,7 +65,7 @@ fn ran_over<R: Source + Drop, S: Sink>(
     machine: &mut Machine,
     trace: R,
     sink: &mut S,
-    moments: &RefCell<Moments>,
+    progress: &RefCell<Progress>,
 ) -> Result<Ran<R>, AllocError>
     requires trace { R.failures trace < 2 ^ 64 - 1 }
     requires fresh { R.gave trace ≡ [] }
@@ -72,7 +83,7 @@ fn ran_over<R: Source + Drop, S: Sink>(
     let names = names_of(alloc, machine)?;
     let heard = HeardTrace::new(alloc, names)?;
     let lines = ByLine::new(alloc, trace)?;
-    let mut follower = Follower::new(lines, heard, moments);
+    let mut follower = Follower::new(lines, heard, progress);
     let end = run(machine, &mut follower, sink);
     let (lines, heard) = follower.into_parts();
     let trace = lines.into_inner();
@@ -143,13 +154,17 @@ struct Told<R, K> {
 fn notes_of<'c>(
     alloc: Global,
     stage: &mut Stage,
-    moments: &'c RefCell<Moments>,
+    units: &'c [ChannelUnits],
+    progress: &'c RefCell<Progress>,
 ) -> Result<Notes<'c>, AllocError>
     ensures { stage.new.prepared ≡ stage.old.prepared }
 {
-    let channels = names_of(alloc, &stage.prepared.machine)?;
-    let sets = mem::replace(&mut stage.sets, Vec::new(alloc));
-    Notes::new(alloc, Legend { sets, channels }, moments)
+    let legend = Legend {
+        channels: names_of(alloc, &stage.prepared.machine)?,
+        units: units_of(alloc, stage.prepared.links.as_slice(), units)?,
+        sets: mem::replace(&mut stage.sets, Vec::new(alloc)),
+    };
+    Notes::new(alloc, legend, progress)
 }
 
 /// What is known of a program that is staged, and of its run.
@@ -165,7 +180,7 @@ fn scene_of<'s>(source: &'s [u8], stage: &'s Stage) -> Scene<'s> {
 /// Runs a program that is staged over a trace, each line of the run as it is. Fails only where memory ran out.
 fn whole_of<R: Source + Drop, K: Sink + Drop>(
     alloc: Global,
-    source: &[u8],
+    subject: Subject<'_>,
     stage: &mut Stage,
     trace: R,
     sink: K,
@@ -185,18 +200,18 @@ fn whole_of<R: Source + Drop, K: Sink + Drop>(
     ensures whole { IfOk result (λ told. told.is_whole ≡ true →
         K.failures told.sink ≡ K.failures sink) }
 {
-    let moments = RefCell::new(Moments::new(alloc)?);
-    let notes = notes_of(alloc, stage, &moments)?;
+    let progress = RefCell::new(Progress::new());
+    let notes = notes_of(alloc, stage, subject.units, &progress)?;
     let mut teller = Teller::new(sink, notes);
     let ran = ran_over(
         alloc,
         &mut stage.prepared.machine,
         trace,
         &mut teller,
-        &moments,
+        &progress,
     )?;
     let Ran { end, heard, trace } = ran;
-    let scene = scene_of(source, stage);
+    let scene = scene_of(subject.source, stage);
     let summary = summary_of(alloc, scene, end, heard, teller.notes())?;
     let is_whole = summed(&mut teller, end, summary.as_slice());
     Ok(Told {
@@ -210,7 +225,7 @@ fn whole_of<R: Source + Drop, K: Sink + Drop>(
 /// The same, with blocks of lines that repeat folded; a witness takes each line of the run as it is.
 fn folded_of<R: Source + Drop, K: Sink + Drop, W: Sink + Drop>(
     alloc: Global,
-    source: &[u8],
+    subject: Subject<'_>,
     stage: &mut Stage,
     trace: R,
     sink: K,
@@ -235,21 +250,21 @@ fn folded_of<R: Source + Drop, K: Sink + Drop, W: Sink + Drop>(
     ensures whole { IfOk result (λ told. told.is_whole ≡ true → K.failures told.sink.0
         + W.failures told.sink.1 ≡ K.failures sink + W.failures witness) }
 {
-    let moments = RefCell::new(Moments::new(alloc)?);
-    let notes = notes_of(alloc, stage, &moments)?;
+    let progress = RefCell::new(Progress::new());
+    let notes = notes_of(alloc, stage, subject.units, &progress)?;
     let mut folder = Folder::new(alloc, sink, witness, notes)?;
     let ran = ran_over(
         alloc,
         &mut stage.prepared.machine,
         trace,
         &mut folder,
-        &moments,
+        &progress,
     )?;
     let Ran { end, heard, trace } = ran;
     if folder.ran_out() {
         return Err(AllocError);
     }
-    let scene = scene_of(source, stage);
+    let scene = scene_of(subject.source, stage);
     let summary = summary_of(alloc, scene, end, heard, folder.notes())?;
     let is_whole = finished(&mut folder, end, summary.as_slice());
     Ok(Told {
@@ -267,7 +282,7 @@ fn folded_of<R: Source + Drop, K: Sink + Drop, W: Sink + Drop>(
 /// to the sink; both are handed back. Fails only where memory ran out.
 pub fn run_whole<R: Source + Drop, K: Sink + Drop>(
     alloc: Global,
-    source: &[u8],
+    subject: Subject<'_>,
     job: &Job,
     trace: R,
     sink: K,
@@ -279,7 +294,8 @@ pub fn run_whole<R: Source + Drop, K: Sink + Drop>(
     ensures run { IfOk result (λ a. IsAnswered
         (RunsWith (unwrap_or (option_map string_bytes job.now.macros) []) job.now.budget
         (R.gave a.trace) (R.ended a.trace) (shown (K.told sink)) (shown (K.told a.sink)))
-        job.now.options (string_bytes job.now.file) source.now a.messages.items a.end) }
+        job.now.options (string_bytes job.now.file) subject.entry.source.now a.messages.items
+        a.end) }
     ensures unread { IfOk result (λ a. IfNone a.end (a.trace ≡ trace)) }
     ensures unwritten { IfOk result (λ a. IfNone a.end (a.sink ≡ sink)) }
     ensures source { IfOk result (λ a. R.failures a.trace
@@ -289,7 +305,7 @@ pub fn run_whole<R: Source + Drop, K: Sink + Drop>(
     ensures whole { IfOk result (λ a. a.is_whole ≡ true →
         K.failures a.sink ≡ K.failures sink) }
 {
-    let Staged { messages, stage } = staged_of(alloc, source, job)?;
+    let Staged { messages, stage } = staged_of(alloc, subject.source, job)?;
     let Some(mut stage) = stage else {
         return Ok(RunAnswer {
             messages,
@@ -299,7 +315,7 @@ pub fn run_whole<R: Source + Drop, K: Sink + Drop>(
             sink,
         });
     };
-    let told = whole_of(alloc, source, stage.as_mut(), trace, sink)?;
+    let told = whole_of(alloc, subject, stage.as_mut(), trace, sink)?;
     Ok(RunAnswer {
         messages,
         end: Some(told.end),
@@ -313,7 +329,7 @@ pub fn run_whole<R: Source + Drop, K: Sink + Drop>(
 /// times. A witness takes the lines of the run as they are; `Nowhere` is one for who does not want them.
 pub fn run_folded<R: Source + Drop, K: Sink + Drop, W: Sink + Drop>(
     alloc: Global,
-    source: &[u8],
+    subject: Subject<'_>,
     job: &Job,
     trace: R,
     sink: K,
@@ -327,7 +343,8 @@ pub fn run_folded<R: Source + Drop, K: Sink + Drop, W: Sink + Drop>(
     ensures run { IfOk result (λ a. IsAnswered
         (RunsWith (unwrap_or (option_map string_bytes job.now.macros) []) job.now.budget
         (R.gave a.trace) (R.ended a.trace) (W.told witness) (W.told a.sink.1))
-        job.now.options (string_bytes job.now.file) source.now a.messages.items a.end) }
+        job.now.options (string_bytes job.now.file) subject.entry.source.now a.messages.items
+        a.end) }
     ensures unread { IfOk result (λ a. IfNone a.end (a.trace ≡ trace)) }
     ensures unwritten { IfOk result (λ a. IfNone a.end (a.sink.0 ≡ sink)) }
     ensures source { IfOk result (λ a. R.failures a.trace
@@ -340,7 +357,7 @@ pub fn run_folded<R: Source + Drop, K: Sink + Drop, W: Sink + Drop>(
     ensures whole { IfOk result (λ a. a.is_whole ≡ true → K.failures a.sink.0
         + W.failures a.sink.1 ≡ K.failures sink + W.failures witness) }
 {
-    let Staged { messages, stage } = staged_of(alloc, source, job)?;
+    let Staged { messages, stage } = staged_of(alloc, subject.source, job)?;
     let Some(mut stage) = stage else {
         return Ok(RunAnswer {
             messages,
@@ -350,7 +367,7 @@ pub fn run_folded<R: Source + Drop, K: Sink + Drop, W: Sink + Drop>(
             sink: (sink, witness),
         });
     };
-    let told = folded_of(alloc, source, stage.as_mut(), trace, sink, witness)?;
+    let told = folded_of(alloc, subject, stage.as_mut(), trace, sink, witness)?;
     Ok(RunAnswer {
         messages,
         end: Some(told.end),

@@ -42,8 +42,8 @@ pub(crate) fn counting_of(
         ≡ reading_of (names_in c.counter.keys) c.counter.room no_cut) }
 {
     let texts = go_texts(alloc, chart)?;
-    let channels = no_puts(alloc, puts)?;
-    let counter = counter_of(alloc, chart, texts.as_slice(), channels)?;
+    let puts = no_puts(alloc, puts)?;
+    let counter = counter_of(alloc, chart, texts.as_slice(), puts)?;
     Ok(Counting { texts, counter })
 }
 

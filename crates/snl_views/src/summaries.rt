@@ -2,11 +2,11 @@
 
 use crate::awaited::awaited_of;
 use crate::bad_lines::without_bad_line;
-use crate::pieces::{push_all, push_count, push_number};
 use crate::starting::Start;
 use crate::telling::{Scene, start_text};
+use snl_output::{push_all, push_counted, push_told};
 use snl_trace::End;
-use snl_watch::{HeardTrace, Notes, Standing, Zero};
+use snl_watch::{HeardTrace, Notes, Standing, Zero, line_number};
 use std::alloc::{AllocError, Global};
 
 /// A time in milliseconds of a run whose trace may tell the date of 0 ms.
@@ -18,33 +18,31 @@ struct Time {
 
 /// Adds a time in milliseconds and, where it is known, the time of day.
 fn push_time(out: &mut Vec<u8>, time: Time) -> Result<(), AllocError> {
-    push_number(out, time.ms)?;
-    out.extend_from_slice(time.zero.beside(time.ms).as_slice())
+    let beside = time.zero.beside(time.ms);
+    push_told(out, b"", time.ms, beside.as_slice())
 }
 
 /// Adds how a run ended, the time then, and the line of the trace.
 fn push_end(out: &mut Vec<u8>, what: &[u8], time: Time, line: u64) -> Result<(), AllocError> {
     push_all(out, &[b"# ", what, b" at "])?;
     push_time(out, time)?;
-    out.extend_from_slice(b", line ")?;
-    push_number(out, line)?;
-    out.extend_from_slice(b"\n")
+    push_told(out, b", line ", line, b"\n")
 }
 
-/// The line of the trace at which a run ended, and its time then in milliseconds. Several lines are given to it at once, and it
-/// may end at one of them; where they ran out, it is the last.
-fn line_of(end: End, notes: &Notes, ms: u64) -> u64 {
+/// The line of the trace at which a run ended. Several lines are given to it at once, and it may end at one of them; where they
+/// ran out, it is the last.
+fn line_of(end: End, notes: &Notes) -> u64 {
     match end {
-        End::ProgramEnded | End::Fault(_, _) => notes.line_reached(ms),
-        _ => notes.lines(),
+        End::ProgramEnded | End::Fault(_, _) => notes.line_at_work(),
+        End::TraceEnded | End::TraceFault(_, _) | End::SourceFailed | End::SinkFailed => {
+            notes.lines()
+        }
     }
 }
 
 /// Adds which line of the trace is bad.
 fn push_bad_line(out: &mut Vec<u8>, number: u128) -> Result<(), AllocError> {
-    out.extend_from_slice(b"# bad line ")?;
-    push_number(out, u64::try_from(number).unwrap_or(u64::MAX))?;
-    out.extend_from_slice(b"\n")
+    push_told(out, b"# bad line ", line_number(number), b"\n")
 }
 
 /// Adds how a run ended.
@@ -73,16 +71,18 @@ fn push_noted(out: &mut Vec<u8>, text: &[u8]) -> Result<(), AllocError> {
 }
 
 /// Adds where each state set stands.
-fn push_sets(out: &mut Vec<u8>, notes: &Notes) -> Result<(), AllocError> {
+fn push_sets(out: &mut Vec<u8>, notes: &Notes, zero: Zero) -> Result<(), AllocError> {
     let legend = notes.legend();
-    let zero = notes.zero();
     let count = legend.sets.len() as u64;
     for (number, standing) in notes.standing().sets().iter().enumerate() {
         let Some(set) = legend.sets.get(number) else {
             return Ok(());
         };
+        let Some(state) = set.states.get(standing.state) else {
+            return Ok(());
+        };
         push_all(out, &[b"# ", set.name.as_slice()])?;
-        push_all(out, &[b" in ", standing.state()])?;
+        push_all(out, &[b" in ", state.name.as_slice()])?;
         let since = Time {
             ms: standing.since,
             zero,
@@ -96,10 +96,8 @@ fn push_sets(out: &mut Vec<u8>, notes: &Notes) -> Result<(), AllocError> {
 fn push_since(out: &mut Vec<u8>, since: Time, number: u64, count: u64) -> Result<(), AllocError> {
     out.extend_from_slice(b" since ")?;
     push_time(out, since)?;
-    out.extend_from_slice(b" (")?;
-    push_number(out, number.saturating_add(1))?;
-    out.extend_from_slice(b" of ")?;
-    push_count(out, count, b"state set")?;
+    push_told(out, b" (", number.saturating_add(1), b" of ")?;
+    push_counted(out, b"", count, b"state set")?;
     out.extend_from_slice(b")\n")
 }
 
@@ -121,27 +119,36 @@ fn push_waits(
     push_noted(out, text.as_slice())
 }
 
+/// How many lines were printed. One that is neither of the start, of a transition nor of a put is such a line, but for that which
+/// says how the program ended.
+fn prints_of(standing: &Standing, end: End) -> u64 {
+    match end {
+        End::ProgramEnded | End::Fault(_, _) => standing.others().saturating_sub(1),
+        End::TraceEnded | End::TraceFault(_, _) | End::SourceFailed | End::SinkFailed => {
+            standing.others()
+        }
+    }
+}
+
 /// Adds how much has happened.
-fn push_counts(out: &mut Vec<u8>, standing: &Standing) -> Result<(), AllocError> {
-    out.extend_from_slice(b"# ")?;
-    push_count(out, standing.transitions(), b"transition")?;
-    out.extend_from_slice(b", ")?;
-    push_count(out, standing.puts(), b"put")?;
-    out.extend_from_slice(b", ")?;
-    push_number(out, standing.refused())?;
-    out.extend_from_slice(b" refused, ")?;
-    push_count(out, standing.prints(), b"print")?;
+fn push_counts(out: &mut Vec<u8>, standing: &Standing, end: End) -> Result<(), AllocError> {
+    push_counted(out, b"# ", standing.transitions(), b"transition")?;
+    push_counted(out, b", ", standing.puts(), b"put")?;
+    push_told(out, b", ", standing.refused(), b" refused")?;
+    push_counted(out, b", ", prints_of(standing, end), b"print")?;
     out.extend_from_slice(b"\n")
 }
 
 /// Adds how a run ended, and where.
-fn push_ending(out: &mut Vec<u8>, scene: Scene, end: End, notes: &Notes) -> Result<(), AllocError> {
+fn push_ending(
+    out: &mut Vec<u8>,
+    scene: Scene,
+    end: End,
+    zero: Zero,
+    notes: &Notes,
+) -> Result<(), AllocError> {
     let ms = scene.machine.time();
-    let time = Time {
-        ms,
-        zero: notes.zero(),
-    };
-    push_how(out, end, time, line_of(end, notes, ms))
+    push_how(out, end, Time { ms, zero }, line_of(end, notes))
 }
 
 /// Adds where the state sets stand or, where the program never began, what it waits for.
@@ -154,7 +161,7 @@ fn push_standing(
     notes: &Notes,
 ) -> Result<(), AllocError> {
     if notes.standing().has_begun() {
-        push_sets(out, notes)
+        push_sets(out, notes, heard.zero())
     } else if end != End::SinkFailed {
         push_waits(alloc, out, scene, end, heard)
     } else {
@@ -170,12 +177,9 @@ pub(crate) fn summary_of(
     heard: HeardTrace,
     notes: &Notes,
 ) -> Result<Vec<u8>, AllocError> {
-    if notes.standing().ran_out() {
-        return Err(AllocError);
-    }
     let mut out = Vec::new(alloc);
-    push_ending(&mut out, scene, end, notes)?;
+    push_ending(&mut out, scene, end, heard.zero(), notes)?;
     push_standing(alloc, &mut out, scene, end, heard, notes)?;
-    push_counts(&mut out, notes.standing())?;
+    push_counts(&mut out, notes.standing(), end)?;
     Ok(out)
 }

@@ -3,11 +3,11 @@
 use crate::awaited::Awaited;
 use crate::escaped::push_escaped;
 use crate::hints::{Hint, hint_of};
-use crate::pieces::{push_all, push_count, push_number};
 use crate::starting::Start;
 use crate::variables::variable_of;
 use snl_links::Link;
 use snl_machine::Machine;
+use snl_output::{push_all, push_counted, push_told};
 use snl_trace::End;
 use snl_watch::{HeardTrace, NameCount};
 use std::alloc::{AllocError, Global};
@@ -30,20 +30,18 @@ pub(crate) struct Scene<'s> {
 fn push_began(out: &mut Vec<u8>, scene: Scene, heard: &HeardTrace) -> Result<(), AllocError> {
     out.extend_from_slice(b"began at ")?;
     push_time(out, heard, scene.machine.time())?;
-    out.extend_from_slice(b" (line ")?;
-    push_number(out, heard.lines())?;
     let why: &[u8] = if scene.waits {
         b")\n"
     } else {
         b"); it waits for nothing (option -c)\n"
     };
-    out.extend_from_slice(why)
+    push_told(out, b" (line ", heard.lines(), why)
 }
 
 /// Adds a time in milliseconds and, where the trace tells the date of 0 ms, the time of day.
 fn push_time(out: &mut Vec<u8>, heard: &HeardTrace, ms: u64) -> Result<(), AllocError> {
-    push_number(out, ms)?;
-    out.extend_from_slice(heard.zero().beside(ms).as_slice())
+    let beside = heard.zero().beside(ms);
+    push_told(out, b"", ms, beside.as_slice())
 }
 
 /// Adds how many events came, the last at a time.
@@ -52,8 +50,7 @@ fn push_events(out: &mut Vec<u8>, heard: &HeardTrace, time: u64) -> Result<(), A
     if events.count == 0 {
         return out.extend_from_slice(b"never began: no event\n");
     }
-    out.extend_from_slice(b"never began: ")?;
-    push_count(out, events.count, b"event")?;
+    push_counted(out, b"never began: ", events.count, b"event")?;
     let at: &[u8] = if events.count == 1 {
         b" at "
     } else {
@@ -61,9 +58,7 @@ fn push_events(out: &mut Vec<u8>, heard: &HeardTrace, time: u64) -> Result<(), A
     };
     out.extend_from_slice(at)?;
     push_time(out, heard, time)?;
-    out.extend_from_slice(b" (line ")?;
-    push_number(out, events.last)?;
-    out.extend_from_slice(b")\n")
+    push_told(out, b" (line ", events.last, b")\n")
 }
 
 /// Adds the variable of a link, in brackets, and ends the line.
@@ -71,13 +66,9 @@ fn push_variable(out: &mut Vec<u8>, scene: Scene, link: &Link) -> Result<(), All
     let variable = variable_of(scene.source, scene.links, link);
     push_all(out, &[b" (", variable.name])?;
     if let Some(element) = variable.element {
-        out.extend_from_slice(b"[")?;
-        push_number(out, element as u64)?;
-        out.extend_from_slice(b"]")?;
+        push_told(out, b"[", element as u64, b"]")?;
     }
-    out.extend_from_slice(b", line ")?;
-    push_number(out, variable.line as u64)?;
-    out.extend_from_slice(b")\n")
+    push_told(out, b", line ", variable.line as u64, b")\n")
 }
 
 /// Adds that a channel has to be up.
@@ -125,12 +116,9 @@ fn push_named(out: &mut Vec<u8>, named: NameCount) -> Result<(), AllocError> {
     if named.lines == 1 {
         out.extend_from_slice(b" (line ")?;
     } else {
-        out.extend_from_slice(b" (")?;
-        push_number(out, named.lines)?;
-        out.extend_from_slice(b" lines, the first is ")?;
+        push_told(out, b" (", named.lines, b" lines, the first is ")?;
     }
-    push_number(out, named.first)?;
-    out.extend_from_slice(b")")
+    push_told(out, b"", named.first, b")")
 }
 
 /// Adds a name that is no channel of the program, and what may have been meant.
@@ -165,8 +153,7 @@ fn push_others(
         push_other(out, name.as_slice(), *named, hint)?;
     }
     if heard.unkept() > 0 {
-        out.extend_from_slice(b"and ")?;
-        push_count(out, heard.unkept(), b"line")?;
+        push_counted(out, b"and ", heard.unkept(), b"line")?;
         out.extend_from_slice(b" more with names that are no channels of the program\n")?;
     }
     Ok(())

@@ -1,7 +1,7 @@
 //! What is noted of the macros of a call: those that the source does not use.
 
-use crate::pieces::push_all;
 use indexmap::IndexSet;
+use snl_output::push_all;
 use snl_text::{Kind, LexFault, Token, lex};
 use std::alloc::{AllocError, Global};
 use std::str;

@@ -16,12 +16,12 @@ ghost use Rattle.snl_views.specs.Awaits.{Awaits};
 ghost use Rattle.snl_views.specs.Runs.{RunsLike, trace_failures};
 
 use crate::awaited::Awaited;
-use crate::lending::lent_boxed;
 use crate::preparing::Prepared;
 use crate::starting::start_of;
 use crate::telling::{Scene, start_text};
 use snc::{Judgement, Status, judged, macros_of};
 use snc_args::Job;
+use snl_legends::lent_boxed;
 use snl_trace::{End, Source};
 use std::alloc::{AllocError, Global};
 

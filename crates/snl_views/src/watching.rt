@@ -7,7 +7,7 @@ ghost use Rattle.snl_watch.specs.Sets.{names_in};
 ghost use Rattle.snl_views.specs.Shapes.{bytes_of};
 
 use crate::charts::{Chart, SetChart, StateChart};
-use indexmap::{IndexMap, IndexSet};
+use indexmap::IndexSet;
 use snl_watch::{ClauseTrail, Counter, SetTrail, StateTrail, Trail};
 use std::alloc::{AllocError, Global};
 
@@ -40,25 +40,20 @@ fn lines_of(alloc: Global, texts: &[Vec<u8>]) -> Result<Lines, AllocError> {
     Ok(lines)
 }
 
-/// Nothing came yet of the states of a state set.
-fn states_of(alloc: Global, set: &SetChart) -> Result<IndexMap<Vec<u8>, StateTrail>, AllocError> {
-    let mut states = IndexMap::new(alloc);
+/// The names of the states of a state set, by their numbers.
+fn names_of(alloc: Global, set: &SetChart) -> Result<IndexSet<&[u8]>, AllocError> {
+    let mut names = IndexSet::new(alloc);
     for state in &set.states {
-        let name = Vec::from_slice(alloc, state.name.as_slice())?;
-        let trail = StateTrail {
-            entered: 0,
-            clauses: Vec::new(alloc),
-        };
-        states.insert(name, trail)?;
+        names.insert(state.name.as_slice())?;
     }
-    Ok(states)
+    Ok(names)
 }
 
 /// Nothing came yet of the clauses of a state, of which the first has a number among all clauses of the program.
 fn clauses_of(
     alloc: Global,
     state: &StateChart,
-    states: &IndexMap<Vec<u8>, StateTrail>,
+    names: &IndexSet<&[u8]>,
     lines: &Lines,
     first: usize,
 ) -> Result<Vec<ClauseTrail>, AllocError> {
@@ -67,7 +62,7 @@ fn clauses_of(
         let line = lines.of_clauses.get(first.saturating_add(number)).copied();
         clauses.push(ClauseTrail {
             line: line.unwrap_or(usize::MAX),
-            target: states.get_index_of(arrow.target.as_slice()),
+            target: names.get_index_of(arrow.target.as_slice()),
             taken: 0,
             left: 0,
         })?;
@@ -82,13 +77,15 @@ fn set_trail(
     lines: &Lines,
     next: &mut usize,
 ) -> Result<SetTrail, AllocError> {
-    let mut states = states_of(alloc, set)?;
-    for (number, state) in set.states.iter().enumerate() {
-        let clauses = clauses_of(alloc, state, &states, lines, *next)?;
+    let names = names_of(alloc, set)?;
+    let mut states = Vec::new(alloc);
+    for state in &set.states {
+        let clauses = clauses_of(alloc, state, &names, lines, *next)?;
         *next = next.saturating_add(clauses.len());
-        if let Some(trail) = states.get_index_mut(number) {
-            trail.clauses = clauses;
-        }
+        states.push(StateTrail {
+            entered: 0,
+            clauses,
+        })?;
     }
     Ok(SetTrail { states })
 }
@@ -123,30 +120,21 @@ fn longest_go(chart: &Chart) -> usize {
     longest
 }
 
-/// The most bytes that follow the time in the line of a put to one of these channels, up to its values.
-fn longest_put(channels: &IndexMap<Vec<u8>, u64>) -> usize {
-    let mut longest = 0usize;
-    for (name, _) in channels {
-        longest = longest.max(name.len().saturating_add(5));
-    }
-    longest
-}
-
-/// Nothing was counted yet of a run of a program whose clauses have lines of these texts. `channels` are those to which puts
-/// count. The only error is that memory ends.
+/// Nothing was counted yet of a run of a program whose clauses have lines of these texts. `puts` has a count for each channel of
+/// which puts are counted. The only error is that memory ends.
 pub(crate) fn counter_of(
     alloc: Global,
     chart: &Chart,
     texts: &[Vec<u8>],
-    channels: IndexMap<Vec<u8>, u64>,
+    puts: Vec<u64>,
 ) -> Result<Counter, AllocError>
     ensures { IfOk result (λ c. seen c ≡ reading_of (names_in c.keys) c.room no_cut) }
 {
     let lines = lines_of(alloc, texts)?;
-    let longest = longest_go(chart).max(longest_put(&channels));
     let sets = set_trails(alloc, chart, &lines)?;
-    let trail = Trail::new(sets, channels);
-    Counter::new(alloc, lines.keys, longest.saturating_add(1), trail)
+    let trail = Trail::new(sets, puts);
+    let room = longest_go(chart).saturating_add(1);
+    Counter::new(alloc, lines.keys, room, trail)
 }
 
 /// How often the line of each of these texts was counted. A text that is not counted cannot be among those of a program; it

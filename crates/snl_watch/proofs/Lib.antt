@@ -5,6 +5,7 @@ pub mod FoldLaws
 pub mod FoldReading
 pub mod FoldExamples
 pub mod LineLaws
+pub mod NoteLaws
 pub mod TurningLaws
 pub mod Windows
 pub mod KeyPlaces

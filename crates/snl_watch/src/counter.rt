@@ -1,4 +1,5 @@
-//! Counts of lines that are known before, while they come in pieces. It takes no memory while it counts.
+//! Counts of lines that are known before, while they come in pieces, and what a run says beside them. It takes no memory while it
+//! counts.
 
 ghost use Rattle.std.specs.Prelude.{◌≡◌, ◌≤◌, ◌-◌, [], Some, length, take, true, vec_capacity, IfOk, IsTrue};
 ghost use Rattle.snl_watch.specs.Counts as spec;
@@ -8,7 +9,7 @@ ghost use Rattle.snl_watch.specs.Sets.{names_in};
 use crate::line_ends::{digits_of, ends_line, is_one_line};
 use crate::trail::Trail;
 use indexmap::IndexSet;
-use snl_output::Fired;
+use snl_output::{Fired, Put, Went};
 use std::alloc::{AllocError, Global};
 
 /// How often each of some lines came. What a line has in front, its digits, does not count.
@@ -63,6 +64,7 @@ impl Counter {
         ensures keys { self.new.keys ≡ self.old.keys }
         ensures room { self.new.room ≡ self.old.room }
     {
+        self.trail.begin(piece);
         if self.timed && self.rest.is_empty() && ends_line(piece) && is_one_line(piece) {
             self.take_line(piece);
         } else {
@@ -95,7 +97,7 @@ impl Counter {
         ensures room { self.new.room ≡ self.old.room }
     {
         let text = text_of(line, self.room);
-        count(text, &self.keys, &mut self.counts, &mut self.trail);
+        count(text, &self.keys, &mut self.counts, &self.trail);
     }
 
     /// Takes a byte.
@@ -110,7 +112,7 @@ impl Counter {
                 self.rest.as_slice(),
                 &self.keys,
                 &mut self.counts,
-                &mut self.trail,
+                &self.trail,
             );
             self.rest.clear();
             self.timed = true;
@@ -142,6 +144,24 @@ impl Counter {
         ensures room { self.new.room ≡ self.old.room }
     {
         self.trail.fire(fired);
+    }
+
+    /// Hears of a transition.
+    pub(crate) fn go(&mut self, transition: Went)
+        ensures seen { seen self.new ≡ seen self.old }
+        ensures keys { self.new.keys ≡ self.old.keys }
+        ensures room { self.new.room ≡ self.old.room }
+    {
+        self.trail.go(transition);
+    }
+
+    /// Hears of a put.
+    pub(crate) fn put(&mut self, put: Put)
+        ensures seen { seen self.new ≡ seen self.old }
+        ensures keys { self.new.keys ≡ self.old.keys }
+        ensures room { self.new.room ≡ self.old.room }
+    {
+        self.trail.put(put);
     }
 
     /// How often the line of a key came; None where it is not counted.
@@ -177,12 +197,10 @@ fn text_of(line: &[u8], room: usize) -> &[u8]
 }
 
 /// Counts a line that has come, by what follows its digits.
-fn count(text: &[u8], keys: &IndexSet<Vec<u8>>, counts: &mut Vec<u64>, trail: &mut Trail)
+fn count(text: &[u8], keys: &IndexSet<Vec<u8>>, counts: &mut Vec<u64>, trail: &Trail)
     ensures { counts.new.items ≡ spec.counted (names_in keys.now) counts.old.items text.now }
 {
-    let key = likely_place(keys, trail.expected(), text);
-    trail.hear(key, text);
-    if let Some(key) = key {
+    if let Some(key) = likely_place(keys, trail.expected(), text) {
         if let Some(count) = counts.get_mut(key) {
             *count = count.saturating_add(1);
         }

@@ -13,7 +13,7 @@ use crate::notes::Notes;
 use crate::recent::Recent;
 use crate::waiting::ROOM;
 use crate::writing::write_pieces;
-use snl_output::{Fired, Refused, Sink, SinkFault};
+use snl_output::{Fired, Put, Refused, Sink, SinkFault, Went};
 use std::alloc::{AllocError, Global};
 
 /// Hands the lines of a run on, with notes between them, and blocks that repeat as one line each (docs/tools/run.md).
@@ -227,6 +227,18 @@ impl<K: Sink, W: Sink> Sink for Folder<'_, K, W> {
 
     fn fired(&mut self, clause: Fired, words: &[i64]) {
         self.notes.fired(clause, words);
+    }
+
+    fn went(&mut self, transition: Went) {
+        self.notes.went(transition);
+    }
+
+    fn put(&mut self, _put: Put, _values: &[i64]) {
+        self.notes.put();
+    }
+
+    fn line(&mut self, number: u128, ms: u64) {
+        self.notes.line(number, ms);
     }
 
     fn refused(&mut self, put: Refused) {

@@ -1,71 +1,57 @@
-//! A source that tells which lines of a trace it gave last.
+//! A source that tells how far a trace has been given to a run.
 
 ghost use Rattle.std.specs.Prelude.{◌≡◌, ◌≤◌, [], length};
 
 use crate::by_line::ByLine;
 use crate::heard::HeardTrace;
-use crate::line_ends::front_line;
-use crate::moments::Moments;
+use crate::line_ends::{front_line, whole_front};
+use crate::progress::Progress;
 use snl_output::{Source, SourceFault};
 use std::cell::RefCell;
 
-/// Hands on the lines of a source, and tells which they were, with their times. Up to the line at which the program begins it
-/// gives one line a call, and hears what that tells. Behind it, it gives as many as came, as long as the time of each is later
-/// than that of the one before: so the time of a run says which of them it is at.
+/// Hands on the lines of a source, and tells how many they are. Up to the line at which the program begins it gives one line a
+/// call, and hears what that tells. Behind it, it gives as many whole lines as came.
 ///
 /// The room is one of 65,536 bytes.
 #[derive(Drop)]
 pub struct Follower<'c, R: Source> {
     lines: ByLine<R>,
     heard: HeardTrace,
-    moments: &'c RefCell<Moments>,
+    progress: &'c RefCell<Progress>,
 }
 
-/// How many bytes of a text are given at once behind the begin of the program: those of the first line, so many, and of the lines
-/// behind it that may come with it.
-fn lines_at_once(text: &[u8], first: usize, moments: &mut Moments) -> usize
-    requires { first ≤ length text.now }
-    ensures within { result ≤ length text.now }
-    ensures some { first ≤ result }
-{
-    let mut end = first;
-    moments.begin(&text[..end]);
-    while let Some(count) = moments.go_on(&text[end..]) {
-        end += count;
-    }
-    end
-}
-
-/// How many bytes of a text are given next. It is told which lines they are, and heard what they tell before the program begins.
-fn next(text: &[u8], heard: &mut HeardTrace, moments: &RefCell<Moments>) -> usize
+/// How many bytes of a text are given next. What they tell is heard before the program begins.
+fn next(text: &[u8], heard: &mut HeardTrace, progress: &RefCell<Progress>) -> usize
     ensures within { result ≤ length text.now }
     ensures some { result ≡ 0 → text.now ≡ [] }
 {
     let first = front_line(text);
-    if first == 0 {
-        return 0;
-    }
-    let Ok(mut moments) = moments.try_borrow_mut() else {
+    let Ok(mut progress) = progress.try_borrow_mut() else {
         return first;
     };
-    if moments.has_begun() {
-        return lines_at_once(text, first, &mut moments);
+    if progress.has_begun() {
+        let most = whole_front(text);
+        progress.give(&text[..most]);
+        return most;
     }
-    heard.note(&text[..first]);
-    moments.begin(&text[..first]);
+    if first > 0 {
+        heard.note(&text[..first]);
+        progress.give(&text[..first]);
+        progress.date(heard.zero());
+    }
     first
 }
 
 impl<'c, R: Source> Follower<'c, R> {
     /// Follows the lines of a source, of which none was given yet.
-    pub fn new(lines: ByLine<R>, heard: HeardTrace, moments: &'c RefCell<Moments>) -> Self
+    pub fn new(lines: ByLine<R>, heard: HeardTrace, progress: &'c RefCell<Progress>) -> Self
         ensures lines { result.lines ≡ lines }
         ensures heard { result.heard ≡ heard }
     {
         Follower {
             lines,
             heard,
-            moments,
+            progress,
         }
     }
 
@@ -90,7 +76,7 @@ impl<R: Source> Source for Follower<'_, R> {
 
     fn read(&mut self, room: &mut [u8]) -> Result<usize, SourceFault> {
         self.lines.fill()?;
-        let most = next(self.lines.text(), &mut self.heard, self.moments);
+        let most = next(self.lines.text(), &mut self.heard, self.progress);
         Ok(self.lines.give(most, room))
     }
 }

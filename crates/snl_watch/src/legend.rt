@@ -2,6 +2,7 @@
 
 use indexmap::IndexSet;
 use snl_output::Fired;
+use snl_units::ChannelUnits;
 
 /// A variable, or an element of one, whose value a condition sees.
 #[derive(Drop)]
@@ -10,6 +11,8 @@ pub struct SeenValue {
     pub front: Vec<u8>,
     /// The number of its word in the copy of its state set, from 0 on.
     pub word: usize,
+    /// The number of the link that gives it values, among those of the program.
+    pub link: Option<usize>,
 }
 
 /// A clause of a state.
@@ -41,14 +44,21 @@ pub struct SetLegend {
 
 /// What notes about a run name.
 #[derive(Drop)]
-pub struct Legend {
+pub struct Legend<'u> {
     /// In the order of the source.
     pub sets: Vec<SetLegend>,
     /// The names of the channels, by their numbers.
     pub channels: IndexSet<Vec<u8>>,
+    /// What the numbers of links stand for, by their numbers, where that is known.
+    pub units: Vec<Option<&'u ChannelUnits>>,
 }
 
-impl Legend {
+impl Legend<'_> {
+    /// What the number of a value stands for, where that is known.
+    pub(crate) fn units_of(&self, seen: &SeenValue) -> Option<&ChannelUnits> {
+        *self.units.get(seen.link?)?
+    }
+
     /// A state of a state set, by their numbers.
     pub fn state(&self, set: usize, state: usize) -> Option<&StateLegend> {
         self.sets.get(set)?.states.get(state)

@@ -1,7 +1,7 @@
 //! Sinks and sources that the companion puts round a run.
 //!
 //! `Refuser` is a sink that refuses its first byte, so that a run ends where it would begin to write. `ByLine` gives a trace
-//! to a run one line a call, `Listener` hears each line that passes, and `Follower` tells which one passed last. None of them
+//! to a run one line a call, `Listener` hears each line that passes, and `Follower` tells how many did. None of them
 //! changes what the run reads. `Teller` writes notes between the lines of a run, and `Folder` also folds blocks that repeat.
 //! `Watch` counts lines that are known before, and hears what becomes of clauses.
 #![tactic(auto)]
@@ -20,11 +20,11 @@ mod line_ends;
 mod lines;
 mod listener;
 mod marks;
-mod moments;
 mod noted;
 mod notes;
 mod nowhere;
 mod places;
+mod progress;
 mod recent;
 mod refuser;
 mod standing;
@@ -42,10 +42,11 @@ pub use folder::Folder;
 pub use follower::Follower;
 pub use heard::{EventCount, HeardTrace, NameCount};
 pub use legend::{ClauseLegend, Legend, SeenValue, SetLegend, StateLegend};
+pub use lines::line_number;
 pub use listener::Listener;
-pub use moments::Moments;
 pub use notes::Notes;
 pub use nowhere::Nowhere;
+pub use progress::Progress;
 pub use refuser::Refuser;
 pub use standing::{SetStanding, Standing};
 pub use tally::Tally;

@@ -5,7 +5,7 @@ ghost use Rattle.std.specs.List.{list_all};
 ghost use Rattle.snl_watch.specs.Folding.{without_time};
 ghost use Rattle.snl_watch.specs.Folds.{ends_line, is_in_line, is_other};
 
-use memchr::memchr;
+use memchr::{memchr, memchr_iter, memrchr};
 
 /// Whether a text ends with a newline.
 #[inline(always)]
@@ -65,6 +65,27 @@ pub(crate) fn front_line(text: &[u8]) -> usize
     match memchr(b'\n', text) {
         Some(at) => at + 1,
         None => text.len(),
+    }
+}
+
+/// How many bytes a text has up to the end of its last whole line; where it has none, all.
+pub(crate) fn whole_front(text: &[u8]) -> usize
+    ensures within { result ≤ length text.now }
+    ensures some { result ≡ 0 → text.now ≡ [] }
+{
+    match memrchr(b'\n', text) {
+        Some(at) => at + 1,
+        None => text.len(),
+    }
+}
+
+/// How many lines a text has; the last one may have no newline.
+pub(crate) fn count_lines(text: &[u8]) -> u64 {
+    let ended = memchr_iter(b'\n', text).count() as u64;
+    if text.is_empty() || ends_line(text) {
+        ended
+    } else {
+        ended.saturating_add(1)
     }
 }
 

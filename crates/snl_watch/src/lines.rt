@@ -1,4 +1,9 @@
-//! What the fields of a line of a trace say, as far as a listener asks.
+//! What the fields of a line of a trace say, as far as a listener asks, and its number.
+
+/// The number of a line as one of 64 bits, at most the greatest.
+pub fn line_number(number: u128) -> u64 {
+    u64::try_from(number).unwrap_or(u64::MAX)
+}
 
 /// What a line tells of its channel.
 #[derive(Clone, Copy, Debug, PartialEq, Eq)]

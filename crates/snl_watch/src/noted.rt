@@ -3,7 +3,7 @@
 ghost use Rattle.std.specs.Prelude.{◌≡◌, true};
 ghost use Rattle.snl_watch.specs.Folding as spec;
 
-use crate::places::LinePlace;
+use crate::places::{LinePlace, is_dropped_line};
 
 /// Whether a text begins as the line of a fold does.
 fn begins_fold(text: &[u8]) -> bool
@@ -27,9 +27,12 @@ fn has_fold(text: &[u8]) -> bool
     false
 }
 
-/// Whether a text is notes: extra lines, none of which reads as the line of a fold.
+/// Whether a text is notes: extra lines, none of which reads as the line of a fold. Most are one line, which begins once.
 pub(crate) fn are_notes(text: &[u8]) -> bool
     ensures { result ≡ spec.are_notes text.now }
 {
+    if is_dropped_line(text) {
+        return !begins_fold(text);
+    }
     LinePlace::start().drops_all(text) && !has_fold(text)
 }

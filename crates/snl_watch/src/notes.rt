@@ -4,26 +4,37 @@ ghost use Rattle.std.specs.Prelude.{◌≡◌, true};
 ghost use Rattle.snl_watch.specs.Folding as spec;
 
 use crate::legend::{ClauseLegend, Legend};
-use crate::moments::Moments;
+use crate::line_ends::ends_line;
+use crate::lines::line_number;
 use crate::noted::are_notes;
+use crate::progress::Progress;
 use crate::standing::Standing;
 use crate::waiting::Waiting;
 use crate::zero::{BESIDE, Zero};
 use arrayvec::ArrayVec;
 use itoa::Buffer;
-use snl_output::{Fired, RefusalCause, Refused};
+use snl_output::{Fired, RefusalCause, Refused, Went};
+use snl_units::ChannelUnits;
 use std::alloc::{AllocError, Global};
 use std::cell::RefCell;
+
+/// The line of the trace that is at work: its number from 1 on, and its time in milliseconds. Before the first, the number is 0.
+#[derive(Clone, Copy)]
+struct AtWork {
+    number: u128,
+    ms: u64,
+}
 
 /// What is noted of a run, and what is known of it.
 #[derive(Drop)]
 pub struct Notes<'c> {
-    legend: Legend,
-    /// The lines of the trace that were given last.
-    moments: &'c RefCell<Moments>,
+    legend: Legend<'c>,
+    /// How far the run is.
+    progress: &'c RefCell<Progress>,
+    at_work: AtWork,
+    /// The date of 0 ms, from the begin of the program on.
+    zero: Zero,
     standing: Standing,
-    /// Whether it was told there that the program began.
-    has_told: bool,
     /// Notes that wait for the next line.
     waiting: Waiting,
 }
@@ -34,10 +45,37 @@ fn add_number(out: &mut Waiting, number: i64) -> Option<()> {
     out.add(digits.format(number).as_bytes())
 }
 
+/// Adds a number of a channel, as what it stands for. One that no decimal is exactly stands there as a fraction.
+fn add_in_units(out: &mut Waiting, units: &ChannelUnits, number: i64) -> Option<()> {
+    match units.shown(number) {
+        Some(text) if text.is_empty() => out.add(b"\"\""),
+        Some(text) => out.add(text.as_slice()),
+        None => {
+            add_number(out, number)?;
+            match units.divisor() {
+                Some(divisor) => {
+                    let mut digits = Buffer::new();
+                    out.add(b"/")?;
+                    out.add(digits.format(divisor).as_bytes())
+                }
+                None => Some(()),
+            }
+        }
+    }
+}
+
+/// Adds the value of a word.
+fn add_value(out: &mut Waiting, units: Option<&ChannelUnits>, number: i64) -> Option<()> {
+    match units {
+        Some(units) => add_in_units(out, units, number),
+        None => add_number(out, number),
+    }
+}
+
 /// A time of a run: the line of the trace that came then, where one did, and the time of day behind a comma, where that is known.
 #[derive(Drop)]
 struct Moment {
-    line: Option<u64>,
+    line: Option<u128>,
     clock: ArrayVec<u8, BESIDE>,
 }
 
@@ -60,30 +98,22 @@ fn add_end(out: &mut Waiting, moment: &Moment) -> Option<()> {
     out.add(b")\n")
 }
 
-/// A time to which a run has come.
-fn moment_at(moments: &RefCell<Moments>, ms: u64) -> Moment {
-    match moments.try_borrow_mut() {
-        Ok(mut moments) => Moment {
-            line: moments.line_at(ms),
-            clock: moments.zero().beside(ms),
+/// A time to which a run has come. What comes of a wake has an earlier time than the line that is at work.
+fn moment_at(at_work: AtWork, zero: Zero, ms: u64) -> Moment {
+    Moment {
+        line: if at_work.ms == ms {
+            Some(at_work.number)
+        } else {
+            None
         },
-        Err(_) => Moment {
-            line: None,
-            clock: ArrayVec::new(),
-        },
-    }
-}
-
-/// Tells that the program has begun.
-fn tell_begin(moments: &RefCell<Moments>) {
-    if let Ok(mut moments) = moments.try_borrow_mut() {
-        moments.note_begin();
+        clock: zero.beside(ms),
     }
 }
 
 /// Adds the note that a clause fired: what stands in front, each name with its word, and when that was.
 fn add_clause(
     out: &mut Waiting,
+    legend: &Legend<'_>,
     clause: &ClauseLegend,
     words: &[i64],
     moment: &Moment,
@@ -92,7 +122,7 @@ fn add_clause(
     for seen in &clause.seen {
         if let Some(word) = words.get(seen.word) {
             out.add(seen.front.as_slice())?;
-            add_number(out, *word)?;
+            add_value(out, legend.units_of(seen), *word)?;
         }
     }
     add_end(out, moment)
@@ -108,7 +138,7 @@ fn why(refusal: RefusalCause) -> &'static [u8] {
 }
 
 /// Adds the note that a put was refused.
-fn add_refused(out: &mut Waiting, legend: &Legend, put: Refused) -> Option<()> {
+fn add_refused(out: &mut Waiting, legend: &Legend<'_>, put: Refused) -> Option<()> {
     out.add(b"# put ")?;
     if let Some(number) = put.channel {
         if let Some(name) = legend.channels.get_index(number) {
@@ -124,21 +154,26 @@ impl<'c> Notes<'c> {
     /// Nothing was noted yet. Fails only where memory ran out.
     pub fn new(
         alloc: Global,
-        legend: Legend,
-        moments: &'c RefCell<Moments>,
+        legend: Legend<'c>,
+        progress: &'c RefCell<Progress>,
     ) -> Result<Self, AllocError> {
         Ok(Notes {
             standing: Standing::new(alloc, legend.sets.len())?,
             legend,
-            moments,
-            has_told: false,
+            progress,
+            at_work: AtWork { number: 0, ms: 0 },
+            zero: Zero::new(),
             waiting: Waiting::new(alloc)?,
         })
     }
 
+    /// Hears which line of the trace is at work.
+    pub(crate) fn line(&mut self, number: u128, ms: u64) {
+        self.at_work = AtWork { number, ms };
+    }
+
     /// Notes that a clause fired.
     pub(crate) fn fired(&mut self, fired: Fired, words: &[i64]) {
-        self.standing.fired(fired);
         if self.waiting.is_full() {
             return;
         }
@@ -146,14 +181,24 @@ impl<'c> Notes<'c> {
             return;
         };
         let before = self.waiting.len();
-        let moment = moment_at(self.moments, fired.ms);
-        let added = add_clause(&mut self.waiting, clause, words, &moment);
+        let moment = moment_at(self.at_work, self.zero, fired.ms);
+        let added = add_clause(&mut self.waiting, &self.legend, clause, words, &moment);
         self.waiting.settle(before, added);
+    }
+
+    /// Hears of a transition.
+    pub(crate) fn went(&mut self, transition: Went) {
+        self.standing.go(transition);
+    }
+
+    /// Hears of a put.
+    pub(crate) fn put(&mut self) {
+        self.standing.put();
     }
 
     /// Notes that a put was refused.
     pub(crate) fn refused(&mut self, put: Refused) {
-        self.standing.refused_one();
+        self.standing.refuse();
         if self.waiting.is_full() {
             return;
         }
@@ -162,12 +207,22 @@ impl<'c> Notes<'c> {
         self.waiting.settle(before, added);
     }
 
-    /// Takes the next bytes of the run.
+    /// The program begins, at the line that is at work.
+    fn begin(&mut self) {
+        self.standing.begin(self.at_work.ms);
+        if let Ok(mut progress) = self.progress.try_borrow_mut() {
+            progress.begin();
+            self.zero = progress.zero();
+        }
+    }
+
+    /// Hears the next bytes of the run, which stand in one line. With the first byte the program begins.
     pub(crate) fn pass(&mut self, piece: &[u8]) {
-        self.standing.take(piece, &self.legend);
-        if !self.has_told && self.standing.has_begun() {
-            self.has_told = true;
-            tell_begin(self.moments);
+        if !self.standing.has_begun() && !piece.is_empty() {
+            self.begin();
+        }
+        if ends_line(piece) {
+            self.standing.end_line();
         }
     }
 
@@ -202,7 +257,7 @@ impl<'c> Notes<'c> {
     }
 
     /// What the notes name.
-    pub fn legend(&self) -> &Legend {
+    pub fn legend(&self) -> &Legend<'c> {
         &self.legend
     }
 
@@ -211,27 +266,21 @@ impl<'c> Notes<'c> {
         &self.standing
     }
 
-    /// The date of 0 ms, where the trace has told it.
-    pub fn zero(&self) -> Zero {
-        match self.moments.try_borrow() {
-            Ok(moments) => moments.zero(),
-            Err(_) => Zero::new(),
-        }
+    /// The date of 0 ms, where the trace has told it and the program has begun.
+    pub(crate) fn zero(&self) -> Zero {
+        self.zero
     }
 
     /// How many lines of the trace were given.
     pub fn lines(&self) -> u64 {
-        match self.moments.try_borrow() {
-            Ok(moments) => moments.lines(),
+        match self.progress.try_borrow() {
+            Ok(progress) => progress.lines(),
             Err(_) => 0,
         }
     }
 
-    /// The line of the trace at which the run ended, by its time.
-    pub fn line_reached(&self, ms: u64) -> u64 {
-        match self.moments.try_borrow_mut() {
-            Ok(mut moments) => moments.line_reached(ms),
-            Err(_) => 0,
-        }
+    /// The number of the line of the trace that was at work last, from 1 on; 0 where none was.
+    pub fn line_at_work(&self) -> u64 {
+        line_number(self.at_work.number)
     }
 }

@@ -2,6 +2,7 @@
 
 ghost use Rattle.std.specs.Prelude.{◌≡◌, ◌≤◌, length, take, true, IsTrue};
 ghost use Rattle.snl_watch.specs.Extra as spec;
+ghost use Rattle.snl_watch.specs.Folds.{is_in_line};
 
 use crate::line_ends::{ends_line, is_one_line};
 
@@ -27,8 +28,9 @@ fn is_kept_line(text: &[u8]) -> bool
 
 /// Whether a text is an extra line, or the front of one. Most notes are.
 #[inline(always)]
-fn is_dropped_line(text: &[u8]) -> bool
-    ensures { IsTrue result → spec.are_dropped spec.start text.now ≡ true }
+pub(crate) fn is_dropped_line(text: &[u8]) -> bool
+    ensures dropped { IsTrue result → spec.are_dropped spec.start text.now ≡ true }
+    ensures line { IsTrue result → is_in_line text.now ≡ true }
 {
     match text {
         [first, ..] => *first == b'#' && is_one_line(text),

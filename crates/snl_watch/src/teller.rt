@@ -9,7 +9,7 @@ ghost use Rattle.snl_watch.specs.Places.{place_of};
 use crate::notes::Notes;
 use crate::places::LinePlace;
 use crate::waiting::taken;
-use snl_output::{Fired, Refused, Sink, SinkFault};
+use snl_output::{Fired, Put, Refused, Sink, SinkFault, Went};
 
 /// Hands lines on, with extra ones between them. What it tells is what the sink behind it tells, without the extra lines.
 #[derive(Drop)]
@@ -169,6 +169,18 @@ impl<K: Sink> Sink for Teller<'_, K> {
 
     fn fired(&mut self, clause: Fired, words: &[i64]) {
         self.notes.fired(clause, words);
+    }
+
+    fn went(&mut self, transition: Went) {
+        self.notes.went(transition);
+    }
+
+    fn put(&mut self, _put: Put, _values: &[i64]) {
+        self.notes.put();
+    }
+
+    fn line(&mut self, number: u128, ms: u64) {
+        self.notes.line(number, ms);
     }
 
     fn refused(&mut self, put: Refused) {

@@ -1,8 +1,6 @@
 //! What became of the states, the clauses and the channels of a program while it ran.
 
-use indexmap::IndexMap;
-use memchr::memchr;
-use snl_output::Fired;
+use snl_output::{Fired, Put, Went};
 
 /// What became of a clause.
 #[derive(Clone, Copy, Debug, PartialEq, Eq)]
@@ -29,22 +27,20 @@ pub struct StateTrail {
 /// What became of a state set.
 #[derive(Drop)]
 pub struct SetTrail {
-    /// Its states by their names, in the order of the source.
-    pub states: IndexMap<Vec<u8>, StateTrail>,
+    /// Its states, in the order of the source.
+    pub states: Vec<StateTrail>,
 }
 
 /// What became of a program. Counts stop at the largest number of 64 bits.
 #[derive(Drop)]
 pub struct Trail {
     sets: Vec<SetTrail>,
-    /// How many lines put to a channel, by its name.
-    channels: IndexMap<Vec<u8>, u64>,
+    /// How many puts went to a channel, by its number.
+    puts: Vec<u64>,
     /// How often the program began.
     begun: u64,
-    /// The clause that fired last, until its line comes.
+    /// The clause that fired last, until it leads to a state.
     fired: Option<Fired>,
-    /// The number of the channel that was put to last.
-    last_put: usize,
 }
 
 /// One more.
@@ -52,28 +48,24 @@ fn count(number: &mut u64) {
     *number = number.saturating_add(1);
 }
 
-/// What stands behind the first blank of a text; nothing where it has none.
-fn behind_blank(text: &[u8]) -> &[u8] {
-    let (_, rest) = next_word(text);
-    rest
-}
-
-/// A text up to its first blank, and what stands behind that.
-fn next_word(text: &[u8]) -> (&[u8], &[u8]) {
-    match memchr(b' ', text) {
-        Some(end) => (&text[..end], &text[end + 1..]),
-        None => (text, b""),
+/// Adds numbers to others, one by one.
+fn add_all(numbers: &mut Vec<u64>, others: &[u64]) {
+    for (place, other) in others.iter().enumerate() {
+        if let Some(number) = numbers.get_mut(place) {
+            *number = number.saturating_add(*other);
+        }
     }
 }
 
-/// The clause of a number led where it says, if a line of that number is its own; then where that is.
-fn take_clause(state: &mut StateTrail, clause: usize, line: usize) -> Option<Option<usize>> {
-    let clause = state.clauses.get_mut(clause)?;
-    if clause.line != line {
-        return None;
+impl ClauseTrail {
+    /// It led to a state, or out of the program.
+    fn lead(&mut self, to: Option<usize>) {
+        if to == self.target {
+            count(&mut self.taken);
+        } else {
+            count(&mut self.left);
+        }
     }
-    count(&mut clause.taken);
-    Some(clause.target)
 }
 
 impl StateTrail {
@@ -90,54 +82,46 @@ impl StateTrail {
 }
 
 impl SetTrail {
-    /// Hears a line that is counted, behind a clause of this state set that fired. Answers whether the line is that of the
-    /// clause.
-    fn take(&mut self, fired: Fired, line: usize) -> bool {
-        let Some(state) = self.states.get_index_mut(fired.state) else {
-            return false;
-        };
-        let Some(target) = take_clause(state, fired.clause, line) else {
-            return false;
-        };
-        if let Some(target) = target {
-            if let Some(state) = self.states.get_index_mut(target) {
+    /// Hears of a transition of this state set.
+    fn go(&mut self, transition: Went) {
+        if let Some(state) = self.states.get_mut(transition.from) {
+            if let Some(clause) = state.clauses.get_mut(transition.clause) {
+                clause.lead(transition.to);
+            }
+        }
+        if let Some(to) = transition.to {
+            if let Some(state) = self.states.get_mut(to) {
                 count(&mut state.entered);
             }
         }
-        true
     }
 
     /// Adds what became of the same state set in another run.
     fn add(&mut self, other: &SetTrail) {
-        for (name, state) in &other.states {
-            if let Some(mine) = self.states.get_mut(name.as_slice()) {
+        for (number, state) in other.states.iter().enumerate() {
+            if let Some(mine) = self.states.get_mut(number) {
                 mine.add(state);
             }
-        }
-    }
-
-    /// Hears that a clause of this state set fired, and its block left for another state.
-    fn leave(&mut self, fired: Fired, to: &[u8]) {
-        if let Some(state) = self.states.get_index_mut(fired.state) {
-            if let Some(clause) = state.clauses.get_mut(fired.clause) {
-                count(&mut clause.left);
-            }
-        }
-        if let Some(state) = self.states.get_mut(to) {
-            count(&mut state.entered);
         }
     }
 }
 
 impl Trail {
-    /// Nothing came yet. The trails of state sets, states and clauses have the numbers that a run tells.
-    pub fn new(sets: Vec<SetTrail>, channels: IndexMap<Vec<u8>, u64>) -> Trail {
+    /// Nothing came yet. The trails of state sets, states and clauses, and the puts to each channel, have the numbers that a run
+    /// tells.
+    pub fn new(sets: Vec<SetTrail>, puts: Vec<u64>) -> Trail {
         Trail {
             sets,
-            channels,
+            puts,
             begun: 0,
             fired: None,
-            last_put: 0,
+        }
+    }
+
+    /// Hears what is written: with the first byte the program begins.
+    pub(crate) fn begin(&mut self, piece: &[u8]) {
+        if !piece.is_empty() {
+            self.begun = 1;
         }
     }
 
@@ -146,88 +130,31 @@ impl Trail {
         self.fired = Some(fired);
     }
 
-    /// The number of the line of the clause that fired last, until it comes.
+    /// The number of the line of the clause that fired last, until it leads to a state.
     pub(crate) fn expected(&self) -> Option<usize> {
         let fired = self.fired?;
         let clause = self.clause(fired.set, fired.state, fired.clause)?;
         Some(clause.line)
     }
 
-    /// Hears a line: what follows its time, and its number, if it is one of those that are counted.
-    pub(crate) fn hear(&mut self, number: Option<usize>, rest: &[u8]) {
-        if let Some(number) = number {
-            if self.take(number) {
-                return;
-            }
-        }
-        self.read(rest);
-    }
-
-    /// Hears a line that is counted; answers whether it is that of the clause that fired last.
-    fn take(&mut self, number: usize) -> bool {
-        let Some(fired) = self.fired else {
-            return false;
-        };
-        let Some(set) = self.sets.get_mut(fired.set) else {
-            return false;
-        };
-        let is_own = set.take(fired, number);
-        if is_own {
-            self.fired = None;
-        }
-        is_own
-    }
-
-    /// Hears a line that is not that of the clause that fired last: ` start PROGRAM`, ` put CHANNEL VALUE` or
-    /// ` go SET FROM TO`; others say nothing here.
-    fn read(&mut self, rest: &[u8]) {
-        let (word, rest) = next_word(behind_blank(rest));
-        match word {
-            b"go" => {
-                let (_set, rest) = next_word(rest);
-                let (_from, to) = next_word(rest);
-                self.leave(to);
-            }
-            b"put" => {
-                let (channel, _values) = next_word(rest);
-                self.put(channel);
-            }
-            b"start" => count(&mut self.begun),
-            _ => {}
+    /// Hears of a transition.
+    pub(crate) fn go(&mut self, transition: Went) {
+        self.fired = None;
+        if let Some(set) = self.sets.get_mut(transition.set) {
+            set.go(transition);
         }
     }
 
-    /// Hears that the clause that fired last led to a state that it does not name.
-    fn leave(&mut self, to: &[u8]) {
-        if let Some(fired) = self.fired.take() {
-            if let Some(set) = self.sets.get_mut(fired.set) {
-                set.leave(fired, to);
-            }
-        }
-    }
-
-    /// Hears that a value was put to a channel.
-    fn put(&mut self, channel: &[u8]) {
-        let Some(number) = self.channel_of(channel) else {
-            return;
-        };
-        self.last_put = number;
-        if let Some(puts) = self.channels.get_index_mut(number) {
+    /// Hears of a put.
+    pub(crate) fn put(&mut self, put: Put) {
+        if let Some(puts) = self.puts.get_mut(put.channel) {
             count(puts);
-        }
-    }
-
-    /// The number of the channel of a name. It is often the one that was put to last.
-    fn channel_of(&self, name: &[u8]) -> Option<usize> {
-        match self.channels.get_index(self.last_put) {
-            Some((last, _)) if last.as_slice() == name => Some(self.last_put),
-            _ => self.channels.get_index_of(name),
         }
     }
 
     /// What became of a clause, by the numbers of its state set, its state and its own; None where there is no such clause.
     pub fn clause(&self, set: usize, state: usize, clause: usize) -> Option<ClauseTrail> {
-        let (_, state) = self.sets.get(set)?.states.get_index(state)?;
+        let state = self.sets.get(set)?.states.get(state)?;
         state.clauses.get(clause).copied()
     }
 
@@ -238,15 +165,15 @@ impl Trail {
         let Some(set) = self.sets.get(set) else {
             return 0;
         };
-        match set.states.get_index(state) {
-            Some((_, state)) => state.entered.saturating_add(begun),
+        match set.states.get(state) {
+            Some(state) => state.entered.saturating_add(begun),
             None => 0,
         }
     }
 
-    /// How many lines put to a channel of a name; 0 where it is none of those that were given.
-    pub fn puts(&self, channel: &[u8]) -> u64 {
-        match self.channels.get(channel) {
+    /// How many puts went to a channel, by its number; 0 where there is no such channel.
+    pub fn puts(&self, channel: usize) -> u64 {
+        match self.puts.get(channel) {
             Some(puts) => *puts,
             None => 0,
         }
@@ -260,14 +187,10 @@ impl Trail {
     /// Adds what became of the same program in another run.
     pub fn add(&mut self, other: &Trail) {
         self.begun = self.begun.saturating_add(other.begun);
+        add_all(&mut self.puts, other.puts.as_slice());
         for (number, set) in other.sets.iter().enumerate() {
             if let Some(mine) = self.sets.get_mut(number) {
                 mine.add(set);
-            }
-        }
-        for (name, puts) in &other.channels {
-            if let Some(mine) = self.channels.get_mut(name.as_slice()) {
-                *mine = mine.saturating_add(*puts);
             }
         }
     }

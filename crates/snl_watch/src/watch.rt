@@ -59,10 +59,12 @@ impl<K: Sink> Sink for Watch<K> {
 
     fn went(&mut self, transition: Went) {
         self.inner.went(transition);
+        self.counter.go(transition);
     }
 
     fn put(&mut self, put: Put, values: &[i64]) {
         self.inner.put(put, values);
+        self.counter.put(put);
     }
 
     fn line(&mut self, number: u128, ms: u64) {

@@ -11,7 +11,7 @@ returns-clause-run g c =
     let staged = c.in_ok-messages.field-0 in
     let trace = c.in_ok-told.told.trace in
     let some : staged.stage ≡ Some c.in-Some.stage = cc in
-    accepted-run job.options (string_bytes job.file) macros c.args.source.now job.budget (g.R.Source.gave trace) (g.R.Source.ended trace)
+    accepted-run job.options (string_bytes job.file) macros c.args.subject.source.now job.budget (g.R.Source.gave trace) (g.R.Source.ended trace)
     (g.W.Sink.told c.args.witness) (g.W.Sink.told c.in_ok-told.told.sink.1) staged
     c.in-Some.stage c.as_mut.result.now c.in_ok-told.told.end some c.as_mut.ensures.value c.in_ok-messages.ensures c.in_ok-told.ensures.runs
 
@@ -22,5 +22,5 @@ returns-in_default-clause-run g c =
     let macros : List ℕ = unwrap_or (option_map string_bytes job.macros) [] in
     let staged = c.in_ok-messages.field-0 in
     let none : staged.stage ≡ None = cc in
-    refused-run job.options (string_bytes job.file) macros c.args.source.now job.budget (g.R.Source.gave c.args.trace) (g.R.Source.ended c.args.trace)
+    refused-run job.options (string_bytes job.file) macros c.args.subject.source.now job.budget (g.R.Source.gave c.args.trace) (g.R.Source.ended c.args.trace)
     (g.W.Sink.told c.args.witness) (g.W.Sink.told c.args.witness) staged none c.in_ok-messages.ensures

@@ -12,7 +12,7 @@ returns-clause-run g c =
     let staged = c.in_ok-messages.field-0 in
     let trace = c.in_ok-told.told.trace in
     let some : staged.stage ≡ Some c.in-Some.stage = cc in
-    accepted-run job.options (string_bytes job.file) macros c.args.source.now job.budget (g.R.Source.gave trace) (g.R.Source.ended trace)
+    accepted-run job.options (string_bytes job.file) macros c.args.subject.source.now job.budget (g.R.Source.gave trace) (g.R.Source.ended trace)
     (shown (g.K.Sink.told c.args.sink)) (shown (g.K.Sink.told c.in_ok-told.told.sink)) staged
     c.in-Some.stage c.as_mut.result.now c.in_ok-told.told.end some c.as_mut.ensures.value c.in_ok-messages.ensures c.in_ok-told.ensures.runs
 
@@ -23,5 +23,5 @@ returns-in_default-clause-run g c =
     let macros : List ℕ = unwrap_or (option_map string_bytes job.macros) [] in
     let staged = c.in_ok-messages.field-0 in
     let none : staged.stage ≡ None = cc in
-    refused-run job.options (string_bytes job.file) macros c.args.source.now job.budget (g.R.Source.gave c.args.trace) (g.R.Source.ended c.args.trace)
+    refused-run job.options (string_bytes job.file) macros c.args.subject.source.now job.budget (g.R.Source.gave c.args.trace) (g.R.Source.ended c.args.trace)
     (shown (g.K.Sink.told c.args.sink)) (shown (g.K.Sink.told c.args.sink)) staged none c.in_ok-messages.ensures
