@@ -1,8 +1,7 @@
 //! The clauses that fired last in a run, with what their conditions saw.
 
-use crate::pieces::{push_all, push_told};
 use itoa::Buffer;
-use snl_output::Fired;
+use snl_output::{Fired, push_all, push_told};
 use snl_watch::{ClauseLegend, SetLegend};
 use std::alloc::{AllocError, Global};
 

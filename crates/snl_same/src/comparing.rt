@@ -106,8 +106,10 @@ fn ends_apart(old: Option<End>, new: Option<End>) -> Option<Apart>
     }
 }
 
-/// How two runs are apart at a line, by what each wrote there and how it ended. The only error is that memory ends.
-pub(crate) fn apart_at(
+/// How two runs are apart at a line, by what each wrote there and how it ended: by the first two lines of the output that differ, as far
+/// as a filter lets lines count; or, where these are the same, by their ends. None where they are not apart. The only error is that
+/// memory ends.
+pub fn apart_at(
     alloc: Global,
     filter: Filter,
     old: &[u8],

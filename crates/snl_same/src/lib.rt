@@ -15,7 +15,6 @@ pub mod laws;
 mod loading;
 mod logs;
 mod pages;
-mod pieces;
 mod puts;
 mod reading;
 mod scenes;
@@ -25,6 +24,7 @@ mod sums;
 mod telling;
 mod words;
 
+pub use comparing::apart_at;
 pub use differences::{Apart, Close, Difference};
 pub use filters::Filter;
 pub use loading::{Ready, ready_of};

@@ -1,10 +1,10 @@
 //! What is told of the puts of two runs, channel by channel: how many there were, and what was put last.
 
 use crate::filters::Filter;
-use crate::pieces::{push_all, push_told};
 use crate::sides::Side;
 use crate::words::is_left_out;
 use itoa::Buffer;
+use snl_output::{push_all, push_told};
 use std::alloc::AllocError;
 
 /// The puts of two runs to a channel: how many there were, and the values of the last one.

@@ -5,12 +5,13 @@ ghost use Rattle.std.specs.Prelude.{◌≡◌};
 use crate::alone::alone_in;
 use crate::differences::{Apart, Close};
 use crate::logs::Log;
-use crate::pieces::{push_all, push_counted, push_told, short};
 use crate::puts::push_puts;
 use crate::sides::Side;
 use crate::stepping::Ends;
 use crate::words::word;
+use snl_output::{push_all, push_counted, push_told};
 use snl_trace::{End, TraceFault};
+use snl_watch::line_number;
 use std::alloc::AllocError;
 
 /// Adds a line that a run wrote, or that it wrote none.
@@ -53,7 +54,7 @@ fn push_apart(log: &mut Log, apart: &Apart, ends: Ends) -> Result<(), AllocError
     ensures filter { log.new.filter ≡ log.old.filter }
     ensures number { log.new.number ≡ log.old.number }
 {
-    let number = short(log.number);
+    let number = line_number(log.number);
     match apart {
         Apart::Lines(old, new) => {
             push_told(&mut log.text, b"line ", number, b" of the trace differs:\n")?;
@@ -140,8 +141,8 @@ pub(crate) fn tell(
 /// How many lines of the trace were looked at, with one that is too long.
 fn lines_seen(log: &Log, close: Close) -> u64 {
     match close {
-        Close::LineTooLong(number) => short(number),
-        _ => short(log.number).saturating_sub(1),
+        Close::LineTooLong(number) => line_number(number),
+        _ => line_number(log.number).saturating_sub(1),
     }
 }
 
@@ -153,7 +154,7 @@ fn push_rest(log: &mut Log, lines: u64, old: &Side, new: &Side) -> Result<(), Al
     let out = &mut log.text;
     push_told(out, b"", log.apart, b" of ")?;
     push_counted(out, b"", lines, b"line")?;
-    let last = short(log.last);
+    let last = line_number(log.last);
     push_told(out, b" of the trace differ, the last is line ", last, b"\n")?;
     old.page.scene.push_written(out, b"old wrote ")?;
     new.page.scene.push_written(out, b"; new wrote ")?;
