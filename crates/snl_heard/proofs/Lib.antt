@@ -1,0 +1,3 @@
+pub mod WordLaws
+pub mod PlaceLaws
+pub mod PrintedLaws

@@ -1,0 +1,19 @@
+//! What a requirement hears of the lines that a program writes, and how the lines of both stand beside each other.
+//!
+//! `heard_of` makes lines of a trace of one that a program wrote; a `Page` takes the lines of the program, and those of the
+//! requirement, which stand there with `# watch ` in front.
+#![tactic(auto)]
+
+mod heard;
+pub mod laws;
+mod names;
+mod page;
+mod texts;
+mod words;
+mod writing;
+
+pub use heard::heard_of;
+pub use names::{SetNames, set_names_of};
+pub use page::Page;
+pub use texts::{WATCH, first_line};
+pub use words::{behind, has_time, word};

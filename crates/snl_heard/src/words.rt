@@ -1,0 +1,45 @@
+//! The words of a line of the output: `MS put CHANNEL V ..`, `MS go SET FROM TO`, `MS start PROGRAM`.
+
+ghost use Rattle.std.specs.Prelude.{◌≡◌, ◌≢◌, ◌++◌, ◌∷◌, All, IfNone, IfSome, bytes_eq, decimal};
+ghost use Rattle.snl_heard.specs.Words as spec;
+
+use itoa::Buffer;
+use memchr::memchr;
+
+/// A text cut at its first blank; None where it has none.
+fn cut_at_blank(text: &[u8]) -> Option<(&[u8], &[u8])>
+    ensures cut { IfSome result (λ cut. text.now ≡ cut.0.now ++ 32 ∷ cut.1.now) }
+    ensures first { IfSome result (λ cut. All (λ byte. byte ≢ 32) cut.0.now) }
+    ensures none { IfNone result (All (λ byte. byte ≢ 32) text.now) }
+{
+    let end = memchr(b' ', text)?;
+    Some((&text[..end], &text[end + 1..]))
+}
+
+/// The bytes of a text before its first blank.
+pub fn word(text: &[u8]) -> &[u8]
+    ensures { result.now ≡ spec.word text.now }
+{
+    match cut_at_blank(text) {
+        Some((word, _behind)) => word,
+        None => text,
+    }
+}
+
+/// The bytes of a text behind its first blank.
+pub fn behind(text: &[u8]) -> &[u8]
+    ensures { result.now ≡ spec.behind text.now }
+{
+    match cut_at_blank(text) {
+        Some((_word, behind)) => behind,
+        None => b"",
+    }
+}
+
+/// Whether a line has this time, in milliseconds.
+pub fn has_time(line: &[u8], ms: u64) -> bool
+    ensures { result ≡ spec.has_time ms line.now }
+{
+    let mut digits = Buffer::new();
+    word(line) == digits.format(ms).as_bytes()
+}

@@ -1,0 +1,10 @@
+pub mod StandLaws
+pub mod MeansLaws
+pub mod DoneLaws
+pub mod LineLaws
+pub mod HeardLaws
+pub mod TellLaws
+pub mod StepLaws
+pub mod TakingLaws
+pub mod OverLaws
+pub mod LoadLaws

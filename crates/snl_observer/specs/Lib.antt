@@ -1,0 +1,10 @@
+pub mod Means
+pub mod Heard
+pub mod Doing
+pub mod Stands
+pub mod Watching
+pub mod Telling
+pub mod Observed
+pub mod Behind
+pub mod Loaded
+pub mod Examples
