@@ -1,0 +1,4 @@
+pub mod Agreement
+pub mod Fitting
+pub mod Escaped
+pub mod Examples

@@ -1,0 +1,30 @@
+//! Programs as test suites: which files are a test, and whether a run wrote what its file of wanted output has.
+//!
+//! `suite_of` finds the programs and their tests among the names of a folder. A `Comparer` is a sink that compares the output of a run
+//! with the wanted bytes as both come, and keeps no more than the first difference. `Written` hands the output on to a file.
+//! `difference_text` tells a difference, `Report` makes a file of JUnit.
+#![tactic(auto)]
+
+mod agreement;
+mod ahead;
+mod comparer;
+mod escaped;
+mod fitting;
+mod junit;
+pub mod laws;
+mod line_text;
+mod suites;
+mod telling;
+mod visible;
+mod written;
+
+pub use agreement::Agreement;
+pub use comparer::{Comparer, Difference};
+pub use escaped::push_escaped;
+pub use fitting::program_of;
+pub use junit::Report;
+pub use line_text::LineText;
+pub use suites::{Day, Program, Suite, suite_of};
+pub use telling::difference_text;
+pub use visible::push_visible;
+pub use written::Written;
