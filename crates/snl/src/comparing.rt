@@ -13,7 +13,12 @@ use snl_views::{Overheard, macro_notes};
 use std::alloc::AllocError;
 
 /// A line for each macro of the call that neither program uses.
-fn notes_of(rt: &HostRuntime, call: &Call, old: &[u8], new: &[u8]) -> Result<Vec<u8>, AllocError> {
+pub fn notes_of(
+    rt: &HostRuntime,
+    call: &Call,
+    old: &[u8],
+    new: &[u8],
+) -> Result<Vec<u8>, AllocError> {
     let Some(macros) = &call.job.macros else {
         return Ok(Vec::new(rt.alloc()));
     };
@@ -59,21 +64,23 @@ fn told(rt: &HostRuntime, compared: &Compared, heard: &Overheard) -> Result<Stat
 
 /// What came of both sources.
 #[derive(Drop)]
-struct Both {
-    old: Ready,
-    new: Ready,
+pub struct Both {
+    /// What came of the old one.
+    pub old: Ready,
+    /// What came of the new one.
+    pub new: Ready,
     notes: Vec<u8>,
 }
 
 /// Tells the notes and the messages about both sources.
-fn tell_messages(rt: &HostRuntime, both: &Both) {
+pub fn tell_messages(rt: &HostRuntime, both: &Both) {
     tell(rt, both.notes.as_slice());
     tell(rt, both.old.messages.as_slice());
     tell(rt, both.new.messages.as_slice());
 }
 
 /// Reads and checks both sources.
-fn both_of(
+pub fn both_of(
     rt: &HostRuntime,
     call: &Call,
     words: &SameWords,

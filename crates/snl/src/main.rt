@@ -4,8 +4,10 @@
 #![tactic(auto)]
 
 mod asked;
+mod blessing;
 mod checking;
 mod comparing;
+mod contrasting;
 mod covering;
 mod graphing;
 mod input;
@@ -18,16 +20,24 @@ mod run;
 mod searching;
 mod sets;
 mod sources;
+mod subjects;
+mod suites;
+mod tallies;
+mod testing;
 mod trace_programs;
 mod traces;
 mod tracing;
 mod trees;
+mod trying;
 mod units;
+mod verdicts;
 mod waiting;
+mod watching;
 
 use asked::Asked;
 use checking::check_lints;
 use comparing::answered_same;
+use contrasting::answered_contrast;
 use covering::answered_cover;
 use graphing::answered_graph;
 use macros::{check_macros, notes_of};
@@ -37,10 +47,11 @@ use searching::answered_search;
 use sets::answered_sets;
 use snc::Status;
 use snc_cli::{source_in, tell, words_of, write};
-use snl_args::{Call, CallFault, Word, read_call};
+use snl_args::{Call, CallFault, SameWords, Word, read_call};
 use sources::answered_checks;
 use std::process::ExitCode;
 use std::time::Instant;
+use testing::{answered_test, check_tests};
 use tracing::{answered_trace, check_times};
 use trees::answered_tree;
 use units::units_for;
@@ -78,8 +89,26 @@ fn check_words(rt: &HostRuntime, call: &Call) -> Result<(), Status> {
         Word::Search(words) => check_outputs(rt, call, words),
         Word::Check(words) => check_lints(rt, words),
         Word::Trace(words) => check_times(rt, words),
+        Word::Test(words) => check_tests(rt, words),
         Word::Waits | Word::Run(_) | Word::Cover(_) | Word::Graph(_) => Ok(()),
-        Word::Tree | Word::Sets(_) | Word::Same(_) => Ok(()),
+        Word::Same(words) => check_same(rt, call, words),
+        Word::Tree | Word::Sets(_) => Ok(()),
+    }
+}
+
+/// Sees that a comparison over every trace may write its file, where it has one. Where it may not, the user is told.
+fn check_same(rt: &HostRuntime, call: &Call, words: &SameWords) -> Result<(), Status> {
+    match &words.search {
+        Some(search) => check_outputs(rt, call, search),
+        None => Ok(()),
+    }
+}
+
+/// Compares two programs over a trace, or over every trace. Answers the exit status.
+fn answered_pair(rt: &HostRuntime, call: &Call, words: &SameWords, begun: Option<Instant>) -> u8 {
+    match &words.search {
+        Some(search) => answered_contrast(rt, call, words, search, begun),
+        None => code_of(answered_same(rt, call, words)),
     }
 }
 
@@ -107,7 +136,8 @@ fn answered(rt: &HostRuntime, call: &Call, begun: Option<Instant>) -> u8 {
     match &call.word {
         Word::Check(words) => answered_checks(rt, call, words).code(),
         Word::Trace(words) => code_of(answered_trace(rt, call, words)),
-        Word::Same(words) => code_of(answered_same(rt, call, words)),
+        Word::Same(words) => answered_pair(rt, call, words, begun),
+        Word::Test(words) => code_of(answered_test(rt, call, words)),
         _ => answered_program(rt, call, begun),
     }
 }
@@ -148,14 +178,15 @@ fn code_of(done: Result<Status, Status>) -> u8 {
 fn answered_word(rt: &HostRuntime, asked: Asked, begun: Option<Instant>) -> u8 {
     match &asked.call.word {
         Word::Waits => code_of(answered_waits(rt, asked)),
-        Word::Run(is_whole) => code_of(answered_run(rt, asked, *is_whole)),
+        Word::Run(words) => code_of(answered_run(rt, asked, words)),
         Word::Cover(words) => code_of(answered_cover(rt, asked, words)),
         Word::Graph(no_trace) => code_of(answered_graph(rt, asked, *no_trace)),
         Word::Search(words) => answered_search(rt, asked, words, begun),
         Word::Tree => code_of(answered_tree(rt, asked)),
         Word::Sets(declares) => code_of(answered_sets(rt, asked, *declares)),
         Word::Check(words) => answered_checks(rt, asked.call, words).code(),
-        Word::Same(words) => code_of(answered_same(rt, asked.call, words)),
+        Word::Same(words) => answered_pair(rt, asked.call, words, begun),
         Word::Trace(words) => code_of(answered_trace(rt, asked.call, words)),
+        Word::Test(words) => code_of(answered_test(rt, asked.call, words)),
     }
 }

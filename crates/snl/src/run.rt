@@ -3,15 +3,17 @@
 use crate::asked::Asked;
 use crate::input::Input;
 use crate::overhearing::{clock_text, status_with, tell_bad_line, units_text};
+use crate::watching::answered_watch;
 use snc::{SinkFault, Status};
 use snc_cli::{Lines, Outlet, write};
+use snl_args::RunWords;
 use snl_trace::End;
-use snl_views::{RunAnswer, run_folded, run_whole};
+use snl_views::{RunAnswer, Subject, run_folded, run_whole};
 use snl_watch::Nowhere;
 use std::io::BufWriter;
 
 /// How many bytes of output are held back at most.
-const OUTPUT_HELD: usize = 65_536;
+pub const OUTPUT_HELD: usize = 65_536;
 
 /// Writes what looks wrong with the times of the trace, and where its units differ, behind the summary, where all of that was written.
 /// Answers whether all is written.
@@ -52,13 +54,31 @@ fn told_run<K>(
     }
 }
 
-/// `snl run`; whether no block of lines is folded.
+/// `snl run`.
 pub fn answered_run<'c>(
+    rt: &'c HostRuntime,
+    asked: Asked<'c>,
+    words: &RunWords,
+) -> Result<Status, Status> {
+    match &words.watch {
+        Some(watch) => answered_watch(rt, asked, watch, words.never.as_slice()),
+        None => answered_plain(rt, asked, words.is_whole),
+    }
+}
+
+/// A run that nobody watches; whether no block of lines is folded.
+fn answered_plain<'c>(
     rt: &'c HostRuntime,
     asked: Asked<'c>,
     is_whole: bool,
 ) -> Result<Status, Status> {
-    let Asked { source, call, .. } = asked;
+    let Asked {
+        source,
+        units,
+        call,
+        ..
+    } = asked;
+    let subject = Subject { source, units };
     let outlet = Outlet::new(rt.stdout());
     let Ok(writer) = BufWriter::with_capacity(rt.alloc(), OUTPUT_HELD, outlet) else {
         return Err(Status::Memory);
@@ -66,7 +86,7 @@ pub fn answered_run<'c>(
     let trace = Input::new(rt, call.progress, asked.compared())?;
     let lines = Lines::new(writer);
     if is_whole {
-        match run_whole(rt.alloc(), source, &call.job, trace, lines) {
+        match run_whole(rt.alloc(), subject, &call.job, trace, lines) {
             Ok(mut answer) => {
                 let finished = answer.sink.finish();
                 told_run(rt, asked, &answer, finished)
@@ -74,7 +94,7 @@ pub fn answered_run<'c>(
             Err(_) => Err(Status::Memory),
         }
     } else {
-        match run_folded(rt.alloc(), source, &call.job, trace, lines, Nowhere::new()) {
+        match run_folded(rt.alloc(), subject, &call.job, trace, lines, Nowhere::new()) {
             Ok(mut answer) => {
                 let finished = answer.sink.0.finish();
                 told_run(rt, asked, &answer, finished)

@@ -10,16 +10,26 @@ pub(crate) const OF_WAITS: [Argument; 1] = [Argument {
 }];
 
 /// What `run` takes alone.
-pub(crate) const OF_RUN: [Argument; 2] = [
+pub(crate) const OF_RUN: [Argument; 4] = [
     Argument {
         name: "whole",
         takes: Takes::Nothing,
         help: "Fold no blocks of lines that repeat",
     },
     Argument {
+        name: "watch",
+        takes: Takes::Text("W"),
+        help: "The file of a requirement: a program that hears inputs, puts and states",
+    },
+    Argument {
+        name: "never",
+        takes: Takes::Texts("SS.STATE"),
+        help: "A state that the requirement may not come into; several add up",
+    },
+    Argument {
         name: "units",
         takes: Takes::Text("FILE"),
-        help: "A file of units, as snl-port writes it: where those of the trace differ is told",
+        help: "A file of units, as snl-port writes it: notes show values in these",
     },
 ];
 

@@ -1,6 +1,7 @@
 //! A word in the place of MACROS that gives no macro a value, and the call that was meant.
 
 use crate::calls::Call;
+use crate::runs::RunWords;
 use crate::sames::SameWords;
 use crate::words::Word;
 use std::alloc::{AllocError, Global};
@@ -26,7 +27,26 @@ fn right_same(
     trace: &str,
 ) -> Result<String, AllocError> {
     let new = quoted(alloc, words.new.file.as_str())?;
+    if words.search.is_some() {
+        return format!(in alloc;
+            "A recorded trace comes behind --like: snl same --search --like {trace} {file} {new}"
+        );
+    }
     format!(in alloc; "The trace comes on standard input: snl same {file} {new} < {trace}")
+}
+
+/// How a trace is given to a run, with the right call.
+fn right_run(
+    alloc: Global,
+    words: &RunWords,
+    file: &str,
+    trace: &str,
+) -> Result<String, AllocError> {
+    let Some(watch) = &words.watch else {
+        return format!(in alloc; "The trace comes on standard input: snl run {file} < {trace}");
+    };
+    let watch = quoted(alloc, watch.file.as_str())?;
+    format!(in alloc; "The trace comes on standard input: snl run --watch {watch} {file} < {trace}")
 }
 
 /// How a trace is given to a word, with the right call.
@@ -35,9 +55,7 @@ fn right_call(alloc: Global, word: &Word, file: &str, trace: &str) -> Result<Str
         Word::Waits => format!(in alloc;
             "The trace comes on standard input: snl waits {file} < {trace}"
         ),
-        Word::Run(_) => format!(in alloc;
-            "The trace comes on standard input: snl run {file} < {trace}"
-        ),
+        Word::Run(words) => right_run(alloc, words, file, trace),
         Word::Graph(_) => format!(in alloc;
             "The trace comes on standard input: snl graph {file} < {trace}"
         ),
@@ -48,6 +66,7 @@ fn right_call(alloc: Global, word: &Word, file: &str, trace: &str) -> Result<Str
         Word::Sets(_) => format!(in alloc; "No trace is read: snl sets {file}"),
         Word::Check(_) => format!(in alloc; "No trace is read: snl check {file}"),
         Word::Trace(_) => format!(in alloc; "A log stands behind the word: snl trace {trace}"),
+        Word::Test(_) => format!(in alloc; "Traces are found by their names: snl test {file}"),
         Word::Same(words) => right_same(alloc, words, file, trace),
         Word::Search(_) => format!(in alloc;
             "A recorded trace comes behind --like: snl search --like {trace} {file}"

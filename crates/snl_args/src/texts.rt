@@ -30,7 +30,8 @@ Record:
 
 Run:
   run     A run with notes on what fired and why, blocks that repeat folded, and a summary
-  same    Where two programs differ over a trace
+  same    Where two programs differ over a trace, or over any
+  test    Programs beside recorded traces and the outputs that are wanted
 
 Search:
   search  Traces over a small alphabet, the shortest first, for what must not happen
@@ -64,7 +65,8 @@ Record:
 
 Run:
   run     A run with notes on what fired and why, blocks that repeat folded, and a summary
-  same    Where two programs differ over a trace
+  same    Where two programs differ over a trace, or over any
+  test    Programs beside recorded traces and the outputs that are wanted
 
 Search:
   search  Traces over a small alphabet, the shortest first, for what must not happen
@@ -91,7 +93,7 @@ Status: 0 the program began, 1 it did not, or it has errors, or the units differ
 
 /// What `snl run --help` tells.
 pub(crate) const RUN: Texts = Texts {
-    usage: "snl run [±X..] [--whole] [--budget N] [--progress] [--units FILE] FILE [MACROS] < TRACE",
+    usage: "snl run [±X..] [--whole] [--watch W [--never SS.STATE]..] [--budget N] [--progress] [--units FILE] FILE [MACROS] < TRACE",
     about: "\
 The lines that snlrun writes, with notes between them: which clause fired and what its condition saw,
 which put was refused and why. A block of lines that repeats is written once. A summary ends it.",
@@ -99,12 +101,18 @@ which put was refused and why. A block of lines that repeats is written once. A 
 The trace is read from standard input. A line that begins with # is a note; with --whole, all others are the
 lines of snlrun, byte for byte. Where the first comments of the trace tell the date of 0 ms, notes have the time of day.
 
-With --units, what these comments say of the numbers is compared with FILE, and what differs is told behind the run.
+With --units, notes show values as what they stand for. What these comments say of the numbers is compared with FILE:
+what differs is told behind the run.
+
+With --watch a requirement hears the trace, each put and each state of the program (docs/tools/requirements.md), and
+what it writes stands beside, each line with '# watch ' in front. Where it comes into a state of --never, the run ends there.
 
 Example: snl run light.st < light.trace
+         snl run --watch short.st --never lamp.late light.st < light.trace
 
-Status: 0 the trace or the program ended, 1 the program has errors, or the units differ, 2 the words of the call are
-wrong, 3 a file, the input or the output failed, 4 memory ran out, 5 the program faulted, 6 a line of the trace is bad.",
+Status: 0 the trace or the program ended, 1 a program has errors, the units differ, or a state of --never came to be, 2 the
+words of the call are wrong, 3 a file, the input or the output failed, 4 memory ran out, 5 the program faulted, or the
+requirement made a mistake, 6 a line of the trace is bad.",
 };
 
 /// What `snl cover --help` tells.
@@ -206,11 +214,48 @@ Where two programs differ first over a trace: the line of the trace, the lines t
 clauses that fired last and the states; then how it goes on.",
     more: "\
 The trace is read from standard input. Options of the language, MACROS and --budget are those of both.
+With --search they are compared over every trace over a small alphabet: snl same --search --help.
 
 Example: snl same --puts light.st light-new.st < light.trace
 
 Status: 0 they are the same, 1 they differ, or a program has errors, 2 the words of the call are wrong,
 3 a file, the input or the output failed, 4 memory ran out, 5 both faulted alike, 6 a line of the trace is bad.",
+};
+
+/// What `snl same --search --help` tells.
+pub(crate) const SAME_SEARCH: Texts = Texts {
+    usage: "snl same --search [±X..] [--but CHANNEL].. [--puts] [--like TRACE] [--values NAME=V,V..].. [--first NAME=V].. [--units FILE] \
+     [--gaps MS,MS..] [--down NAME].. [--lines K] [--worlds N] [--memory MB] [--seconds S] [--budget N] [--out FILE] OLD NEW [MACROS]",
+    about: "\
+Every trace over a small alphabet, the shortest first, for one over which two programs differ: in the lines that they write
+at a line of the trace, or in how they end there. The values come from the constants of both sources.",
+    more: "\
+The first lines of the answer tell the starts and the alphabet. Behind a difference stand the lines of a shortest trace that leads
+there, and what snl same tells over it. Options of the language and MACROS are those of both.
+
+Example: snl same --search --puts light.st light-new.st
+
+Status: 0 they are the same, up to so many lines or whatever the length, 1 they differ, or a program has errors, 2 the words of
+the call are wrong, 3 a file or the output failed, 4 memory ran out, 6 a line of TRACE is bad, 7 a bound stopped it, or neither
+program can begin, or no line can come behind the start.",
+};
+
+/// What `snl test --help` tells.
+pub(crate) const TEST: Texts = Texts {
+    usage: "snl test [±X..] [--junit FILE] [--bless [--force]] PATH..",
+    about: "\
+Programs as test suites: of each NAME.st the run over NAME.trace has to write what NAME.out has, and the runs over
+NAME-DAY.trace what NAME-DAY.out has. A line for each test, and behind one that failed the first difference.",
+    more: "\
+NAME.args has further words of the call, one a line, and NAME.status or NAME-DAY.status the exit status that is
+wanted, if not 0. A program without any trace runs over an empty one.
+
+With --bless, what came is written as what is wanted: what changed is told.
+
+Example: snl test --junit report.xml programs
+
+Status: 0 each test is right, 1 one is not, 2 the words of the call are wrong, or a PATH has no test, 3 a file or the
+output failed, 4 memory ran out.",
 };
 
 /// What `snl search --help` tells.

@@ -4,9 +4,13 @@ use crate::arguments::{Argument, OF_PROGRAM, OF_RUNS, OVER_TRACE, command_of};
 use crate::calls::{Call, CallFault, matches_in};
 use crate::checks::{CheckWords, OF_CHECK, check_words};
 use crate::commands::{OF_COVER, OF_GRAPH, OF_RUN, OF_SETS, OF_WAITS};
-use crate::sames::{OF_SAME, SameWords, same_words};
+use crate::runs::{RunWords, run_words};
+use crate::sames::{OF_SAME, OF_SAME_SEARCH, SameWords, same_words};
 use crate::searches::{OF_SEARCH, SearchWords, search_words};
-use crate::texts::{CHECK, COVER, GRAPH, RUN, SAME, SEARCH, SETS, TRACE, TREE, Texts, WAITS};
+use crate::tests::{OF_TEST, TestWords, test_words};
+use crate::texts::{
+    CHECK, COVER, GRAPH, RUN, SAME, SAME_SEARCH, SEARCH, SETS, TEST, TRACE, TREE, Texts, WAITS,
+};
 use crate::traces::{OF_TRACE, TraceWords, trace_words};
 use clap::ArgMatches;
 use snc_args::{DEFAULT_BUDGET, Job};
@@ -27,15 +31,15 @@ pub struct CoverWords {
 pub enum Word {
     /// When a program begins over a trace, or what it waits for: `snl waits [--units FILE] FILE [MACROS]`.
     Waits,
-    /// A run with notes and a summary: `snl run [--whole] [--units FILE] FILE [MACROS]`. Whether no block of lines is folded.
-    Run(bool),
+    /// A run with notes and a summary: `snl run [--whole] [--watch W [--never SS.STATE]..] [--units FILE] FILE [MACROS]`.
+    Run(RunWords),
     /// What of a program no run showed: `snl cover [--fail-under PERCENT] [--trace FILE].. FILE [MACROS]`.
     Cover(CoverWords),
     /// A picture of a program: `snl graph [--no-trace] FILE [MACROS]`. Whether it is drawn without a run.
     Graph(bool),
     /// Every trace over a small alphabet, the shortest first: `snl search [--never LINE].. FILE [MACROS]`.
     Search(SearchWords),
-    /// Where two programs differ over a trace: `snl same [--but CHANNEL].. [--puts] OLD NEW [MACROS]`.
+    /// Where two programs differ over a trace, or over any: `snl same [--search] [--but CHANNEL].. [--puts] OLD NEW [MACROS]`.
     Same(SameWords),
     /// The tree of a program as JSON: `snl tree FILE [MACROS]`.
     Tree,
@@ -45,11 +49,14 @@ pub enum Word {
     Trace(TraceWords),
     /// The messages about a program, and what is seldom meant: `snl check [--macros MACROS] [--format FORMAT] [--no-lint NAME].. [--strict] FILE..`.
     Check(CheckWords),
+    /// Programs with recorded traces and the outputs that are wanted: `snl test [--junit FILE] [--bless [--force]] PATH..`.
+    Test(TestWords),
 }
 
 /// The names of the words.
-pub(crate) const NAMES: [&str; 11] = [
-    "waits", "run", "cover", "graph", "same", "search", "tree", "sets", "check", "explain", "trace",
+pub(crate) const NAMES: [&str; 12] = [
+    "waits", "run", "cover", "graph", "same", "search", "tree", "sets", "check", "explain",
+    "trace", "test",
 ];
 
 /// A text of the caller's own, where there is one.
@@ -77,8 +84,13 @@ fn job_in(
 }
 
 /// What a program is to be run with that has no trace of its own, as a command found it. The budget is that of `snlrun`.
-fn plain_job(alloc: Global, matches: &ArgMatches, options: Options) -> Result<Job, AllocError> {
-    let mut job = job_in(alloc, matches, "FILE", options)?;
+fn plain_job(
+    alloc: Global,
+    matches: &ArgMatches,
+    file: &str,
+    options: Options,
+) -> Result<Job, AllocError> {
+    let mut job = job_in(alloc, matches, file, options)?;
     job.budget = DEFAULT_BUDGET;
     Ok(job)
 }
@@ -122,14 +134,15 @@ fn trace_call(
     })
 }
 
-/// The call of a word that reads none.
-fn plain_call(
+/// The call of a word that reads none, with the file of its program at a place.
+fn call_at(
     alloc: Global,
     matches: &ArgMatches,
+    file: &str,
     options: Options,
     word: Word,
 ) -> Result<Call, CallFault> {
-    let job = plain_job(alloc, matches, options)?;
+    let job = plain_job(alloc, matches, file, options)?;
     Ok(Call {
         job,
         word,
@@ -138,16 +151,39 @@ fn plain_call(
     })
 }
 
+/// The same, with the file of its program at the place of FILE.
+fn plain_call(
+    alloc: Global,
+    matches: &ArgMatches,
+    options: Options,
+    word: Word,
+) -> Result<Call, CallFault> {
+    call_at(alloc, matches, "FILE", options, word)
+}
+
 /// What follows `waits`.
 fn read_waits(alloc: Global, words: &[&str], options: Options) -> Result<Call, CallFault> {
     let matches = found_in(alloc, &WAITS, &OVER_TRACE, &OF_WAITS, words)?;
     trace_call(alloc, &matches, "FILE", options, Word::Waits)
 }
 
+/// What the requirement of a run is to be run with, where there is one, as a command found it.
+fn watch_in(
+    alloc: Global,
+    matches: &ArgMatches,
+    options: Options,
+) -> Result<Option<Job>, AllocError> {
+    match matches.get_str("watch") {
+        Some(_) => Ok(Some(job_in(alloc, matches, "watch", options)?)),
+        None => Ok(None),
+    }
+}
+
 /// What follows `run`.
 fn read_run(alloc: Global, words: &[&str], options: Options) -> Result<Call, CallFault> {
     let matches = found_in(alloc, &RUN, &OVER_TRACE, &OF_RUN, words)?;
-    let word = Word::Run(matches.get_flag("whole"));
+    let watch = watch_in(alloc, &matches, options)?;
+    let word = Word::Run(run_words(alloc, &matches, watch)?);
     trace_call(alloc, &matches, "FILE", options, word)
 }
 
@@ -191,7 +227,42 @@ fn compared_words(
     options: Options,
 ) -> Result<SameWords, AllocError> {
     let new = job_in(alloc, matches, "NEW", options)?;
-    same_words(alloc, matches, new)
+    same_words(alloc, matches, new, None)
+}
+
+/// What a comparison over every trace is asked for, as a command found it.
+fn sought_words(
+    alloc: Global,
+    matches: &ArgMatches,
+    options: Options,
+) -> Result<SameWords, CallFault> {
+    let search = search_words(alloc, matches)?;
+    let new = plain_job(alloc, matches, "NEW", options)?;
+    Ok(same_words(alloc, matches, new, Some(search))?)
+}
+
+/// What follows `same` where `--search` is among it. What is found is run again with the budget that `snlrun` has where nothing is
+/// said.
+fn read_same_search(alloc: Global, words: &[&str], options: Options) -> Result<Call, CallFault> {
+    let matches = found_in(
+        alloc,
+        &SAME_SEARCH,
+        &OF_SAME_SEARCH,
+        &OF_SEARCH[2..14],
+        words,
+    )?;
+    let word = Word::Same(sought_words(alloc, &matches, options)?);
+    call_at(alloc, &matches, "OLD", options, word)
+}
+
+/// Whether a word of a call is `--search`.
+fn is_sought(words: &[&str]) -> bool {
+    for word in words {
+        if *word == "--search" {
+            return true;
+        }
+    }
+    false
 }
 
 /// What follows `same`.
@@ -228,6 +299,13 @@ fn read_trace(alloc: Global, words: &[&str], options: Options) -> Result<Call, C
     plain_call(alloc, &matches, options, word)
 }
 
+/// What follows `test`. Each program has its own file.
+fn read_test(alloc: Global, words: &[&str], options: Options) -> Result<Call, CallFault> {
+    let matches = found_in(alloc, &TEST, &OF_TEST, &[], words)?;
+    let word = Word::Test(test_words(alloc, &matches)?);
+    plain_call(alloc, &matches, options, word)
+}
+
 /// What follows a word of a name; None where no word that asks for something has it.
 pub(crate) fn read_word(
     alloc: Global,
@@ -241,11 +319,13 @@ pub(crate) fn read_word(
         "cover" => read_cover(alloc, words, options)?,
         "graph" => read_graph(alloc, words, options)?,
         "search" => read_search(alloc, words, options)?,
+        "same" if is_sought(words) => read_same_search(alloc, words, options)?,
         "same" => read_same(alloc, words, options)?,
         "tree" => read_tree(alloc, words, options)?,
         "sets" => read_sets(alloc, words, options)?,
         "check" => read_check(alloc, words, options)?,
         "trace" => read_trace(alloc, words, options)?,
+        "test" => read_test(alloc, words, options)?,
         _ => return Ok(None),
     };
     Ok(Some(call))

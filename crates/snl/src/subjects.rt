@@ -1,0 +1,154 @@
+//! A program that is tested: its file, the words of its call, and what is said of it.
+
+use crate::suites::Folder;
+use crate::verdicts::{Halt, stuck, wrong};
+use snc::{Job, Options, Status, Tool, WordsFault, read_words};
+use snc_cli::source_of;
+use snl_suite::Program;
+use snl_views::{RunnerAnswer, runner_of};
+use std::alloc::{AllocError, Global};
+use std::fs::File;
+use std::io::{self, ErrorKind, Read};
+
+/// How many bytes count of a file beside a program: one of words, or one with a status.
+const SMALL: u64 = 65_536;
+
+/// The path of a file of a folder.
+pub fn path_in(
+    alloc: Global,
+    folder: &Folder,
+    stem: &str,
+    ending: &str,
+) -> Result<String, AllocError> {
+    let front = folder.front.as_str();
+    format!(in alloc; "{front}{stem}{ending}")
+}
+
+/// The text of a small file.
+fn read_small(rt: &HostRuntime, path: &str) -> io::Result<String> {
+    let mut bytes = Vec::new(rt.alloc());
+    let mut front = File::open(rt, path)?.take(SMALL);
+    front.read_to_end(&mut bytes)?;
+    match str::from_utf8(bytes.as_slice()) {
+        Ok(text) => Ok(String::from_str(rt.alloc(), text)?),
+        Err(_) => Err(io::Error::from(ErrorKind::InvalidData)),
+    }
+}
+
+/// The text of a small file of a folder.
+pub fn small_text(
+    rt: &HostRuntime,
+    folder: &Folder,
+    stem: &str,
+    ending: &str,
+) -> Result<String, Halt> {
+    let path = path_in(rt.alloc(), folder, stem, ending)?;
+    match read_small(rt, path.as_str()) {
+        Ok(text) => Ok(text),
+        Err(fault) if fault.kind() == ErrorKind::OutOfMemory => Err(Halt::End(Status::Memory)),
+        Err(fault) => {
+            let text = format!(in rt.alloc(); ": cannot read {stem}{ending}: {fault}\n")?;
+            Err(stuck(rt.alloc(), text.as_str()))
+        }
+    }
+}
+
+/// The words of a call: a file, and the lines of a text.
+fn words_in(alloc: Global, text: &str) -> Result<Vec<String>, AllocError> {
+    let mut words = Vec::new(alloc);
+    words.push(String::from_str(alloc, "p.st")?)?;
+    for line in text.lines() {
+        if !line.is_empty() {
+            words.push(String::from_str(alloc, line)?)?;
+        }
+    }
+    Ok(words)
+}
+
+/// A test is wrong by the words in its file.
+fn wrong_words(alloc: Global, name: &str, fault: &WordsFault) -> Result<Halt, AllocError> {
+    let text = match fault {
+        WordsFault::BadOption(sign, letter) => format!(in alloc;
+            ": {name}.args: option '{sign}{letter}' is not supported\n"
+        )?,
+        WordsFault::Usage(text) | WordsFault::Help(text) => {
+            let line = text.as_str().lines().next().unwrap_or("");
+            format!(in alloc; ": {name}.args: {line}\n")?
+        }
+        WordsFault::Memory => return Ok(Halt::End(Status::Memory)),
+    };
+    Ok(wrong(alloc, text.as_str()))
+}
+
+/// Sees that the macros of a job are some.
+fn check_macros(alloc: Global, name: &str, job: &Job) -> Result<(), Halt> {
+    match &job.macros {
+        Some(macros) if !macros.is_empty() && !macros.contains('=') => {
+            let text = format!(in alloc;
+                ": {name}.args: '{macros}' stands in the place of MACROS, which are NAME=VALUE,..\n"
+            )?;
+            Err(wrong(alloc, text.as_str()))
+        }
+        _ => Ok(()),
+    }
+}
+
+/// The job of a program whose words stand in a text.
+fn job_in(alloc: Global, name: &str, text: &str) -> Result<Job, Halt> {
+    let words = words_in(alloc, text)?;
+    match read_words(alloc, Tool::Snlrun, words.as_slice()) {
+        Ok(job) => {
+            check_macros(alloc, name, &job)?;
+            Ok(job)
+        }
+        Err(fault) => Err(wrong_words(alloc, name, &fault)?),
+    }
+}
+
+/// The letters of the options of a test, and those of the call where it has none.
+fn both(own: Options, call: Options) -> Options {
+    Options {
+        s: own.s.or(call.s),
+        c: own.c.or(call.c),
+        u: own.u.or(call.u),
+        w: own.w.or(call.w),
+    }
+}
+
+/// The job of a program, by the words in its file, where it has one.
+fn job_of(
+    rt: &HostRuntime,
+    folder: &Folder,
+    program: &Program,
+    options: Options,
+) -> Result<Job, Halt> {
+    let name = program.name.as_str();
+    let text = if program.has_args {
+        small_text(rt, folder, name, ".args")?
+    } else {
+        String::new(rt.alloc())
+    };
+    let mut job = job_in(rt.alloc(), name, text.as_str())?;
+    job.options = both(job.options, options);
+    job.file = path_in(rt.alloc(), folder, name, ".st")?;
+    Ok(job)
+}
+
+/// Reads and checks a program that is tested, with the options of the call.
+pub fn subject_of(
+    rt: &HostRuntime,
+    folder: &Folder,
+    program: &Program,
+    options: Options,
+) -> Result<RunnerAnswer, Halt> {
+    let job = job_of(rt, folder, program, options)?;
+    match source_of(rt, "snl", job.file.as_str()) {
+        Ok(source) => Ok(runner_of(rt.alloc(), source.as_slice(), &job)?),
+        Err(Status::InputOutput) => {
+            let name = program.name.as_str();
+            let text = format!(in rt.alloc(); ": cannot read {name}.st\n")?;
+            Err(stuck(rt.alloc(), text.as_str()))
+        }
+        Err(status) => Err(Halt::End(status)),
+    }
+}

@@ -1,0 +1,53 @@
+//! What comes of a test.
+
+use snc::Status;
+use std::alloc::{AllocError, Global};
+
+/// What came of a test, with what stands behind its name in the answer.
+#[derive(Drop)]
+pub enum Verdict {
+    /// It is right.
+    Right,
+    /// It is not.
+    Wrong(Vec<u8>),
+    /// A file of it could not be read or written.
+    Stuck(Vec<u8>),
+    /// What came was written.
+    Written(Vec<u8>),
+}
+
+/// Why a test was not run to its end.
+#[derive(Drop)]
+pub enum Halt {
+    /// That is what comes of it.
+    Verdict(Verdict),
+    /// The call ends.
+    End(Status),
+}
+
+impl From<AllocError> for Halt {
+    fn from(_error: AllocError) -> Halt {
+        Halt::End(Status::Memory)
+    }
+}
+
+/// A text as bytes.
+fn bytes_of(alloc: Global, text: &str) -> Result<Vec<u8>, AllocError> {
+    Vec::from_slice(alloc, text.as_bytes())
+}
+
+/// A test is wrong, by a text.
+pub fn wrong(alloc: Global, text: &str) -> Halt {
+    match bytes_of(alloc, text) {
+        Ok(text) => Halt::Verdict(Verdict::Wrong(text)),
+        Err(_) => Halt::End(Status::Memory),
+    }
+}
+
+/// A file of a test could not be read or written, by a text.
+pub fn stuck(alloc: Global, text: &str) -> Halt {
+    match bytes_of(alloc, text) {
+        Ok(text) => Halt::Verdict(Verdict::Stuck(text)),
+        Err(_) => Halt::End(Status::Memory),
+    }
+}

@@ -1,0 +1,61 @@
+//! What follows the word `test`: what is tested, and what is written.
+
+use crate::arguments::{Argument, Takes};
+use crate::words::all_owned;
+use clap::ArgMatches;
+use std::alloc::{AllocError, Global};
+
+/// What tests are asked for.
+#[derive(Drop)]
+pub struct TestWords {
+    /// The folders and programs, one at least.
+    pub paths: Vec<String>,
+    /// The file of the report, where one is written.
+    pub junit: Option<String>,
+    /// Whether what came is written as what is wanted.
+    pub blesses: bool,
+    /// Whether that is done of a run that faults, too.
+    pub forces: bool,
+}
+
+/// What `test` takes.
+pub(crate) const OF_TEST: [Argument; 4] = [
+    Argument {
+        name: "PATH",
+        takes: Takes::Places,
+        help: "Programs, NAME.st, or folders with such",
+    },
+    Argument {
+        name: "junit",
+        takes: Takes::Text("FILE"),
+        help: "A file that gets a report in the XML of JUnit",
+    },
+    Argument {
+        name: "bless",
+        takes: Takes::Nothing,
+        help: "Write what came as what is wanted",
+    },
+    Argument {
+        name: "force",
+        takes: Takes::Nothing,
+        help: "With --bless: also of a run that faults, and of a program with errors",
+    },
+];
+
+/// What tests are asked for, as the command found it.
+pub(crate) fn test_words(alloc: Global, matches: &ArgMatches) -> Result<TestWords, AllocError> {
+    let paths = match matches.get_strs("PATH") {
+        Some(texts) => all_owned(alloc, texts)?,
+        None => Vec::new(alloc),
+    };
+    let junit = match matches.get_str("junit") {
+        Some(file) => Some(String::from_str(alloc, file)?),
+        None => None,
+    };
+    Ok(TestWords {
+        paths,
+        junit,
+        blesses: matches.get_flag("bless"),
+        forces: matches.get_flag("force"),
+    })
+}
