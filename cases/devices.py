@@ -22,12 +22,21 @@ option +s;
 int x; assign x to "X"; monitor x;
 ss s { state a { when (x > 1) { printf("%d", x); } state b } state b { when (x < 1) {} state a } }
 """
+# A requirement, which hears in which state that is.
+RULE = """program w
+option +s; option -c;
+int s; assign s to "state:s"; monitor s;
+ss r { state off { when (s == 1) {} state on } state on { when (s == 0) {} state off } }
+"""
 LINES = [b"0 up X\n", b"1 val X 0\n", b"2 val X 3\n", b"3 val X 0\n", b"4 val X 5\n"]
 # The same as a log.
 LOG = [b"X 2026-03-02 09:15:0%d.100000 %d\n" % it for it in enumerate((0, 1, 3, 0, 5))]
 FIRST = "1 start p\n2 print s 3\n2 go s a b\n3 go s b a\n"
 NOTED = "1 start p\n# clause 1 of a, line 4: x=3 (trace line 3)\n2 print s 3\n2 go s a b\n# clause 1 of b, line 4: x=0 (trace line 4)\n3 go s b a\n"
 MORE = "# clause 1 of a, line 4: x=5 (trace line 5)\n4 print s 5\n4 go s a b\n"
+WATCHED = "# watch 0 start w\n1 start p\n2 print s 3\n2 go s a b\n# watch 2 go r off on\n3 go s b a\n# watch 3 go r on off\n"
+HEARD = "4 print s 5\n4 go s a b\n# watch 4 go r off on\n# end of the trace at 4, line 5\n# requirement r in on since 4 (1 of 1 state set)\n"
+UNHEARD = "# the trace could not be read on\n"
 END = "# end of the trace at 4, line 5\n# s in b since 4 (1 of 1 state set)\n# 3 transitions, 0 puts, 0 refused, 2 prints\n"
 BROKEN = "# the trace could not be read on at 3, line 4\n# s in a since 3 (1 of 1 state set)\n# 2 transitions, 0 puts, 0 refused, 1 print\n"
 UNREAD = """# the trace could not be read on at 0, line 0
@@ -73,6 +82,13 @@ WORDS = (
     Word("snl", ["waits", "p.st"], r"began at 1 \(line 2\)\n", ("began at 1 (line 2)\n", "", 0), ("", "")),
     Word("snl", ["run", "p.st"], re.escape(NOTED + MORE + END), (NOTED + BROKEN, "", 3), (UNREAD, "")),
     Word("snl", ["run", "--whole", "p.st"], re.escape(NOTED + MORE + END), (NOTED + BROKEN, "", 3), (UNREAD, "")),
+    Word(
+        "snl",
+        ["run", "--watch", "w.st", "p.st"],
+        re.escape(WATCHED + HEARD),
+        (WATCHED + UNHEARD + "# requirement r in off since 3 (1 of 1 state set)\n", "", 3),
+        (UNHEARD + "# requirement never began: no event\n", ""),
+    ),
     Word("snl", ["same", "p.st", "p.st"], "the same over 5 lines of the trace: 6 lines, 0 puts\n", ("", "", 3), ("", "")),
     Word("snl", ["cover", "p.st"], "2 of 2 clauses taken, 2 of 2 states entered, 0 of 0 channels put\n", ("", "", 3), ("", "")),
     Word("snl", ["graph", "p.st"], r'digraph "p" .*"s.a" -> "s.b" \[label="1: x > 1\\n2x"\];.*"s.b" -> "s.a" \[label="1: x < 1\\n1x"\];.*\}\n', ("", "", 3), ("", "")),
@@ -92,6 +108,7 @@ class Devices:
     def failure(self, programs):
         with tempfile.TemporaryDirectory(prefix="snlrun-") as folder:
             Path(folder, "p.st").write_text(SOURCE)
+            Path(folder, "w.st").write_text(RULE)
             Path(folder, "trace").write_bytes(self.word.read)
             call = [programs[self.tool], *self.word.words]
             wrong = [f"{check.__name__}: {said}" for check in CHECKS if (said := check(self.word, call, Path(folder)))]

@@ -132,7 +132,7 @@ def told_of(root, folder, built):
     """What the page of a word lacks of its options, but for those of all words, or has and is none."""
     shared = (root / "docs/tools/README.md").read_text()
     words = re.findall(r"^  (\w+) +[A-Z]", called(built / "snl", "--help"), re.MULTILINE)
-    pages = {it.stem for it in root.glob("docs/tools/*.md")} - {"README"}
+    pages = {it.stem for it in root.glob("docs/tools/*.md")} - {"README", "requirements"}
     if {*words} != pages:
         return f"--help has the words {words}, and there are pages of {sorted(pages)}"
     for word in words:
