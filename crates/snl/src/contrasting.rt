@@ -127,6 +127,29 @@ fn searched<'c, T: Prepares<Clock<'c>> + Drop, U: Prepares<Clock<'c>> + Drop>(
     }
 }
 
+/// Searches a program and that of a source, which has no error. Answers the status. The first one is of a type parameter: a function that
+/// owns two checked programs is dear to prove.
+fn searched_beside<'c, T: Prepares<Clock<'c>> + Drop>(
+    rt: &'c HostRuntime,
+    first: Box<T>,
+    asked: Asked,
+    text: &[u8],
+    old: &mut Side,
+    new: &mut Side,
+) -> Result<u8, AllocError> {
+    let name = asked.words.new.file.as_bytes();
+    let options = asked.call.job.options;
+    let Judgement { checked, .. } = judged(rt.alloc(), text, name, options)?;
+    let Some(second) = checked else {
+        return Ok(Status::SourceErrors.code());
+    };
+    let sources = Sources {
+        old: first,
+        new: second,
+    };
+    Ok(searched(rt, sources, asked, old, new))
+}
+
 /// Searches the programs of two sources, which have no error. Answers the status.
 fn searched_in(
     rt: &HostRuntime,
@@ -136,21 +159,11 @@ fn searched_in(
     new: &mut Side,
 ) -> Result<u8, AllocError> {
     let job = &asked.call.job;
-    let name = job.file.as_bytes();
-    let other = asked.words.new.file.as_bytes();
-    let Judgement { checked, .. } = judged(rt.alloc(), texts.0, name, job.options)?;
-    let Some(first) = checked else {
-        return Ok(Status::SourceErrors.code());
-    };
-    let Judgement { checked, .. } = judged(rt.alloc(), texts.1, other, job.options)?;
-    let Some(second) = checked else {
-        return Ok(Status::SourceErrors.code());
-    };
-    let sources = Sources {
-        old: first,
-        new: second,
-    };
-    Ok(searched(rt, sources, asked, old, new))
+    let Judgement { checked, .. } = judged(rt.alloc(), texts.0, job.file.as_bytes(), job.options)?;
+    match checked {
+        Some(first) => searched_beside(rt, first, asked, texts.1, old, new),
+        None => Ok(Status::SourceErrors.code()),
+    }
 }
 
 /// Searches both programs, where neither has an error. The messages come behind what was found.
