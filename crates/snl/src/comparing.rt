@@ -64,23 +64,21 @@ fn told(rt: &HostRuntime, compared: &Compared, heard: &Overheard) -> Result<Stat
 
 /// What came of both sources.
 #[derive(Drop)]
-pub struct Both {
-    /// What came of the old one.
-    pub old: Ready,
-    /// What came of the new one.
-    pub new: Ready,
+struct Both {
+    old: Ready,
+    new: Ready,
     notes: Vec<u8>,
 }
 
 /// Tells the notes and the messages about both sources.
-pub fn tell_messages(rt: &HostRuntime, both: &Both) {
+fn tell_messages(rt: &HostRuntime, both: &Both) {
     tell(rt, both.notes.as_slice());
     tell(rt, both.old.messages.as_slice());
     tell(rt, both.new.messages.as_slice());
 }
 
 /// Reads and checks both sources.
-pub fn both_of(
+fn both_of(
     rt: &HostRuntime,
     call: &Call,
     words: &SameWords,
