@@ -5,8 +5,9 @@ use Rattle.snl_machine.specs.MachineOf.{IsMachineOf, task_of, world_held}
 use Rattle.snl_machine.specs.declared.machine.Machine.{Machine}
 use Rattle.snl_meaning.specs.World.{World}
 use Rattle.snl_output.specs.TraceLines.{last_line, lines_from, lines_to}
-use Rattle.snl_same.specs.Answers.{DiffersAt, IsFound, IsFoundOver}
-use Rattle.snl_same.specs.Lines.{Pair, PairIsAlike, world_behind}
+use Rattle.snl_same.specs.Answers.{DiffersAt, IsFound, IsFoundOver, first_of}
+use Rattle.snl_same.specs.Lines.{AreApart, Pair, PairIsAlike, world_behind}
+use Rattle.snl_same.specs.declared.differences.Apart.{Apart}
 use Rattle.snl_same.specs.declared.differences.Difference.{Difference}
 use Rattle.snl_same.specs.declared.differences.Close.{Close}
 use Rattle.snl_same.specs.declared.differences.Close.TheVariants.{RunEnded}
@@ -56,6 +57,16 @@ abbrev pub close_by : Option End → Option End → Option Close
 close_by None None = None
 close_by None (Some e) = Some (RunEnded None (Some e))
 close_by (Some e) new = Some (RunEnded (Some e) new)
+
+-- The line that two sides did last was looked at: the log has found how they are apart there, if they are, and the comparison ends there
+-- where a run does.
+pub record IsNoted (old new : Side) (before after : Log) (close : Option Close) : Type 0 where
+  pub apart : Option Apart
+  pub apart_is : AreApart before.filter old.page.text.items new.page.text.items old.end new.end apart
+  pub filter : after.filter ≡ before.filter
+  pub number : after.number ≡ before.number + 1
+  pub first : after.first ≡ first_of before.first before.number apart
+  pub close_is : close ≡ close_by old.end new.end
 
 -- From one stand a line leads to another; or the comparison ends at it, whatever follows.
 abbrev pub StepsTo : List ℕ → Stand → Stand → Option Close → Type 0

@@ -175,8 +175,8 @@ fn finish(
     log: &mut Log,
 ) -> Result<Close, AllocError>
     requires number { log.old.number < 2 ^ 128 - 1 }
-    ensures finishes { IfOk result (Finishes reading.old.begun.items (stand_of log.old old.old new.old)
-        (stand_of log.new old.new new.new)) }
+    ensures finishes { IfOk result (Finishes reading.old.begun.items
+        (stand_of log.old old.old new.old) (stand_of log.new old.new new.new)) }
     ensures source { IfOk result (λ close. source_failed close ≡ false) }
 {
     let Reading { begun, events } = reading;

@@ -7,7 +7,6 @@ use crate::differences::{Apart, Close};
 use crate::logs::Log;
 use crate::puts::push_puts;
 use crate::sides::Side;
-use crate::stepping::Ends;
 use crate::words::word;
 use snl_output::{push_all, push_counted, push_told};
 use snl_trace::{End, TraceFault};
@@ -49,22 +48,22 @@ fn push_end(log: &mut Log, front: &[u8], end: Option<End>) -> Result<(), AllocEr
 }
 
 /// Adds how the runs are apart at a line.
-fn push_apart(log: &mut Log, apart: &Apart, ends: Ends) -> Result<(), AllocError>
+fn push_apart(log: &mut Log, apart: &Apart, old: &Side, new: &Side) -> Result<(), AllocError>
     ensures first { log.new.first ≡ log.old.first }
     ensures filter { log.new.filter ≡ log.old.filter }
     ensures number { log.new.number ≡ log.old.number }
 {
     let number = line_number(log.number);
     match apart {
-        Apart::Lines(old, new) => {
+        Apart::Lines(line, other) => {
             push_told(&mut log.text, b"line ", number, b" of the trace differs:\n")?;
-            push_line(&mut log.text, b"old wrote: ", old)?;
-            push_line(&mut log.text, b"new wrote: ", new)
+            push_line(&mut log.text, b"old wrote: ", line)?;
+            push_line(&mut log.text, b"new wrote: ", other)
         }
         Apart::Ends => {
             push_told(&mut log.text, b"line ", number, b" of the trace differs:\n")?;
-            push_end(log, b"old", ends.old)?;
-            push_end(log, b"new", ends.new)
+            push_end(log, b"old", old.end)?;
+            push_end(log, b"new", new.end)
         }
     }
 }
@@ -121,7 +120,6 @@ pub(crate) fn tell(
     old: &Side,
     new: &Side,
     apart: &Option<Apart>,
-    ends: Ends,
 ) -> Result<(), AllocError>
     ensures first { log.new.first ≡ log.old.first }
     ensures filter { log.new.filter ≡ log.old.filter }
@@ -134,7 +132,7 @@ pub(crate) fn tell(
     if log.first.is_some() && !log.is_whole {
         return Ok(());
     }
-    push_apart(log, apart, ends)?;
+    push_apart(log, apart, old, new)?;
     push_both(&mut log.text, apart, old, new)
 }
 

@@ -1,4 +1,4 @@
-use Rattle.snl_same.proofs.sides.event_ends.Given as goal
+use Rattle.snl_same.proofs.sides.do_event.Given as goal
 
 -- the ledger of the count that is made there
 abbrev pub ghosts-event_told : goal.ghosts-event_told

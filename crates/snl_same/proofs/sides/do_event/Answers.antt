@@ -1,7 +1,7 @@
 use Rattle.std.proofs.Common.{Ok, Err, refl}
 use Rattle.snl_output.specs.declared.faults.Stop.TheVariants as stop
 use Rattle.snl_same.proofs.MeaningLaws.{event-did, means-stays, works-well}
-use Rattle.snl_same.proofs.sides.event_ends.Goals as goal
+use Rattle.snl_same.proofs.sides.do_event.Goals as goal
 
 pub returns-in-Err-Fault-clause-did : goal.returns-in-Err-Fault-clause-did
 returns-in-Err-Fault-clause-did c = λ r meant.
@@ -13,7 +13,7 @@ returns-in-Err-Fault-clause-means c = λ r meant. means-stays r _ _ c.event_told
 
 pub returns-in-Ok-clause-did : goal.returns-in-Ok-clause-did
 returns-in-Ok-clause-did c = λ r meant.
-    rw c.end_by.ensures
+    rw c.end_by-side.ensures
     (event-did r c.args.side.now.machine c.args.ms c.args.event.now (Ok c.in-Ok.live) _ _ _ meant c.requires.empty (works-well c.in-Ok.live)
     (λ p ls waits budget made. c.in-Ok.ensures.means p ls waits budget made))
 
