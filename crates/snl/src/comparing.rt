@@ -64,21 +64,23 @@ fn told(rt: &HostRuntime, compared: &Compared, heard: &Overheard) -> Result<Stat
 
 /// What came of both sources.
 #[derive(Drop)]
-struct Both {
-    old: Ready,
-    new: Ready,
+pub struct Both {
+    /// What came of the old one.
+    pub old: Ready,
+    /// What came of the new one.
+    pub new: Ready,
     notes: Vec<u8>,
 }
 
 /// Tells the notes and the messages about both sources.
-fn tell_messages(rt: &HostRuntime, both: &Both) {
+pub fn tell_messages(rt: &HostRuntime, both: &Both) {
     tell(rt, both.notes.as_slice());
     tell(rt, both.old.messages.as_slice());
     tell(rt, both.new.messages.as_slice());
 }
 
 /// Reads and checks both sources.
-fn both_of(
+pub fn both_of(
     rt: &HostRuntime,
     call: &Call,
     words: &SameWords,

@@ -7,6 +7,7 @@ mod asked;
 mod blessing;
 mod checking;
 mod comparing;
+mod contrasting;
 mod covering;
 mod graphing;
 mod input;
@@ -36,6 +37,7 @@ mod watching;
 use asked::Asked;
 use checking::check_lints;
 use comparing::answered_same;
+use contrasting::answered_contrast;
 use covering::answered_cover;
 use graphing::answered_graph;
 use macros::{check_macros, notes_of};
@@ -45,7 +47,7 @@ use searching::answered_search;
 use sets::answered_sets;
 use snc::Status;
 use snc_cli::{source_in, tell, words_of, write};
-use snl_args::{Call, CallFault, Word, read_call};
+use snl_args::{Call, CallFault, SameWords, Word, read_call};
 use sources::answered_checks;
 use std::process::ExitCode;
 use std::time::Instant;
@@ -89,7 +91,24 @@ fn check_words(rt: &HostRuntime, call: &Call) -> Result<(), Status> {
         Word::Trace(words) => check_times(rt, words),
         Word::Test(words) => check_tests(rt, words),
         Word::Waits | Word::Run(_) | Word::Cover(_) | Word::Graph(_) => Ok(()),
-        Word::Tree | Word::Sets(_) | Word::Same(_) => Ok(()),
+        Word::Same(words) => check_same(rt, call, words),
+        Word::Tree | Word::Sets(_) => Ok(()),
+    }
+}
+
+/// Sees that a comparison over every trace may write its file, where it has one. Where it may not, the user is told.
+fn check_same(rt: &HostRuntime, call: &Call, words: &SameWords) -> Result<(), Status> {
+    match &words.search {
+        Some(search) => check_outputs(rt, call, search),
+        None => Ok(()),
+    }
+}
+
+/// Compares two programs over a trace, or over every trace. Answers the exit status.
+fn answered_pair(rt: &HostRuntime, call: &Call, words: &SameWords, begun: Option<Instant>) -> u8 {
+    match &words.search {
+        Some(search) => answered_contrast(rt, call, words, search, begun),
+        None => code_of(answered_same(rt, call, words)),
     }
 }
 
@@ -117,7 +136,7 @@ fn answered(rt: &HostRuntime, call: &Call, begun: Option<Instant>) -> u8 {
     match &call.word {
         Word::Check(words) => answered_checks(rt, call, words).code(),
         Word::Trace(words) => code_of(answered_trace(rt, call, words)),
-        Word::Same(words) => code_of(answered_same(rt, call, words)),
+        Word::Same(words) => answered_pair(rt, call, words, begun),
         Word::Test(words) => code_of(answered_test(rt, call, words)),
         _ => answered_program(rt, call, begun),
     }
@@ -166,7 +185,7 @@ fn answered_word(rt: &HostRuntime, asked: Asked, begun: Option<Instant>) -> u8 {
         Word::Tree => code_of(answered_tree(rt, asked)),
         Word::Sets(declares) => code_of(answered_sets(rt, asked, *declares)),
         Word::Check(words) => answered_checks(rt, asked.call, words).code(),
-        Word::Same(words) => code_of(answered_same(rt, asked.call, words)),
+        Word::Same(words) => answered_pair(rt, asked.call, words, begun),
         Word::Trace(words) => code_of(answered_trace(rt, asked.call, words)),
         Word::Test(words) => code_of(answered_test(rt, asked.call, words)),
     }

@@ -17,7 +17,7 @@ use std::time::{Duration, Instant};
 
 /// The clock of a search, which tells once a second how far it has come where standard error is a terminal.
 #[derive(Drop)]
-struct Clock<'c> {
+pub struct Clock<'c> {
     rt: &'c HostRuntime,
     /// When the call began; None where there is no clock.
     begun: Option<Instant>,
@@ -31,7 +31,7 @@ struct Clock<'c> {
 
 impl<'c> Clock<'c> {
     /// The clock of a call that began at a time.
-    fn new(rt: &'c HostRuntime, begun: Option<Instant>, seconds: u32) -> Self {
+    pub fn new(rt: &'c HostRuntime, begun: Option<Instant>, seconds: u32) -> Self {
         let told = if rt.stderr().is_terminal() {
             begun
         } else {
@@ -93,7 +93,7 @@ impl Watches for Clock<'_> {
 }
 
 /// Texts of the caller's own.
-fn owned(alloc: Global, texts: &[String]) -> Result<Vec<String>, AllocError> {
+pub fn owned(alloc: Global, texts: &[String]) -> Result<Vec<String>, AllocError> {
     let mut all = Vec::new(alloc);
     for text in texts {
         all.push(String::from_str(alloc, text.as_str())?)?;
@@ -153,13 +153,13 @@ fn wishes_of(
 }
 
 /// Tells that the recorded trace cannot be read.
-fn told_unread(rt: &HostRuntime, name: &str) -> Status {
+pub fn told_unread(rt: &HostRuntime, name: &str) -> Status {
     let _ = eprintln!(rt; "snl: cannot read {name}");
     Status::InputOutput
 }
 
 /// The recorded trace that the words of a call name, if they do. Where it cannot be opened, the user is told.
-fn recorded(rt: &HostRuntime, words: &SearchWords) -> Result<Option<File>, Status> {
+pub fn recorded(rt: &HostRuntime, words: &SearchWords) -> Result<Option<File>, Status> {
     let Some(name) = &words.like else {
         return Ok(None);
     };
@@ -193,7 +193,7 @@ fn told_answer(rt: &HostRuntime, words: &SearchWords, answer: &SearchAnswer) -> 
 }
 
 /// Says what is wrong with a wish.
-fn told_fault(rt: &HostRuntime, words: &SearchWords, fault: &WishFault) -> u8 {
+pub fn told_fault(rt: &HostRuntime, words: &SearchWords, fault: &WishFault) -> u8 {
     match (fault, &words.like) {
         (WishFault::Memory, _) => Status::Memory.code(),
         (WishFault::Unread, Some(name)) => told_unread(rt, name.as_str()).code(),

@@ -27,6 +27,11 @@ fn right_same(
     trace: &str,
 ) -> Result<String, AllocError> {
     let new = quoted(alloc, words.new.file.as_str())?;
+    if words.search.is_some() {
+        return format!(in alloc;
+            "A recorded trace comes behind --like: snl same --search --like {trace} {file} {new}"
+        );
+    }
     format!(in alloc; "The trace comes on standard input: snl same {file} {new} < {trace}")
 }
 

@@ -1,6 +1,7 @@
 //! What follows the word `same`: the other program, and what of the outputs is compared.
 
 use crate::arguments::{Argument, MACROS, Takes};
+use crate::searches::SearchWords;
 use crate::words::all_owned;
 use clap::ArgMatches;
 use snc_args::Job;
@@ -17,31 +18,45 @@ pub struct SameWords {
     pub but: Vec<String>,
     /// Whether each difference is told.
     pub is_whole: bool,
+    /// What a search over every trace is asked for, in the place of a trace.
+    pub search: Option<SearchWords>,
 }
+
+/// The file of one program.
+const OLD: Argument = Argument {
+    name: "OLD",
+    takes: Takes::Place,
+    help: "The file of one program",
+};
+
+/// That of the other one.
+const NEW: Argument = Argument {
+    name: "NEW",
+    takes: Takes::Place,
+    help: "The file of the other one",
+};
+
+/// `--but`.
+const BUT: Argument = Argument {
+    name: "but",
+    takes: Takes::Texts("CHANNEL"),
+    help: "A channel whose puts are left out; several add up",
+};
+
+/// `--puts`.
+const PUTS: Argument = Argument {
+    name: "puts",
+    takes: Takes::Nothing,
+    help: "Compare puts alone, the last to each channel at each time",
+};
 
 /// What `same` takes beside what each run takes.
 pub(crate) const OF_SAME: [Argument; 6] = [
-    Argument {
-        name: "OLD",
-        takes: Takes::Place,
-        help: "The file of one program",
-    },
-    Argument {
-        name: "NEW",
-        takes: Takes::Place,
-        help: "The file of the other one",
-    },
+    OLD,
+    NEW,
     MACROS,
-    Argument {
-        name: "but",
-        takes: Takes::Texts("CHANNEL"),
-        help: "A channel whose puts are left out; several add up",
-    },
-    Argument {
-        name: "puts",
-        takes: Takes::Nothing,
-        help: "Compare puts alone, the last to each channel at each time",
-    },
+    BUT,
+    PUTS,
     Argument {
         name: "whole",
         takes: Takes::Nothing,
@@ -49,11 +64,26 @@ pub(crate) const OF_SAME: [Argument; 6] = [
     },
 ];
 
+/// What `same` takes with `--search`, beside what a search takes.
+pub(crate) const OF_SAME_SEARCH: [Argument; 6] = [
+    OLD,
+    NEW,
+    MACROS,
+    Argument {
+        name: "search",
+        takes: Takes::Nothing,
+        help: "Compare over every trace, and read none",
+    },
+    BUT,
+    PUTS,
+];
+
 /// What a comparison is asked for, as the command found it.
 pub(crate) fn same_words(
     alloc: Global,
     matches: &ArgMatches,
     new: Job,
+    search: Option<SearchWords>,
 ) -> Result<SameWords, AllocError> {
     let but = match matches.get_strs("but") {
         Some(names) => all_owned(alloc, names)?,
@@ -64,5 +94,6 @@ pub(crate) fn same_words(
         puts_only: matches.get_flag("puts"),
         but,
         is_whole: matches.get_flag("whole"),
+        search,
     })
 }

@@ -77,7 +77,7 @@ pub(crate) const OF_SEARCH: [Argument; 15] = [
     Argument {
         name: "units",
         takes: Takes::Text("FILE"),
-        help: "A file of units, as snl-port writes it: the values of --never, --values and --first are in these",
+        help: "A file of units, as snl-port writes it: the values of these options are in it",
     },
     Argument {
         name: "gaps",

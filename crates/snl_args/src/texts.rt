@@ -30,7 +30,7 @@ Record:
 
 Run:
   run     A run with notes on what fired and why, blocks that repeat folded, and a summary
-  same    Where two programs differ over a trace
+  same    Where two programs differ over a trace, or over any
   test    Programs beside recorded traces and the outputs that are wanted
 
 Search:
@@ -65,7 +65,7 @@ Record:
 
 Run:
   run     A run with notes on what fired and why, blocks that repeat folded, and a summary
-  same    Where two programs differ over a trace
+  same    Where two programs differ over a trace, or over any
   test    Programs beside recorded traces and the outputs that are wanted
 
 Search:
@@ -214,11 +214,30 @@ Where two programs differ first over a trace: the line of the trace, the lines t
 clauses that fired last and the states; then how it goes on.",
     more: "\
 The trace is read from standard input. Options of the language, MACROS and --budget are those of both.
+With --search they are compared over every trace over a small alphabet: snl same --search --help.
 
 Example: snl same --puts light.st light-new.st < light.trace
 
 Status: 0 they are the same, 1 they differ, or a program has errors, 2 the words of the call are wrong,
 3 a file, the input or the output failed, 4 memory ran out, 5 both faulted alike, 6 a line of the trace is bad.",
+};
+
+/// What `snl same --search --help` tells.
+pub(crate) const SAME_SEARCH: Texts = Texts {
+    usage: "snl same --search [±X..] [--but CHANNEL].. [--puts] [--like TRACE] [--values NAME=V,V..].. [--first NAME=V].. [--units FILE] \
+     [--gaps MS,MS..] [--down NAME].. [--lines K] [--worlds N] [--memory MB] [--seconds S] [--budget N] [--out FILE] OLD NEW [MACROS]",
+    about: "\
+Every trace over a small alphabet, the shortest first, for one over which two programs differ: in the lines that they write
+at a line of the trace, or in how they end there. The values come from the constants of both sources.",
+    more: "\
+The first lines of the answer tell the starts and the alphabet. Behind a difference stand the lines of a shortest trace that leads
+there, and what snl same tells over it. Options of the language and MACROS are those of both.
+
+Example: snl same --search --puts light.st light-new.st
+
+Status: 0 they are the same, up to so many lines or whatever the length, 1 they differ, or a program has errors, 2 the words of
+the call are wrong, 3 a file or the output failed, 4 memory ran out, 6 a line of TRACE is bad, 7 a bound stopped it, or neither
+program can begin, or no line can come behind the start.",
 };
 
 /// What `snl test --help` tells.

@@ -5,10 +5,12 @@ use crate::calls::{Call, CallFault, matches_in};
 use crate::checks::{CheckWords, OF_CHECK, check_words};
 use crate::commands::{OF_COVER, OF_GRAPH, OF_RUN, OF_SETS, OF_WAITS};
 use crate::runs::{RunWords, run_words};
-use crate::sames::{OF_SAME, SameWords, same_words};
+use crate::sames::{OF_SAME, OF_SAME_SEARCH, SameWords, same_words};
 use crate::searches::{OF_SEARCH, SearchWords, search_words};
 use crate::tests::{OF_TEST, TestWords, test_words};
-use crate::texts::{CHECK, COVER, GRAPH, RUN, SAME, SEARCH, SETS, TEST, TRACE, TREE, Texts, WAITS};
+use crate::texts::{
+    CHECK, COVER, GRAPH, RUN, SAME, SAME_SEARCH, SEARCH, SETS, TEST, TRACE, TREE, Texts, WAITS,
+};
 use crate::traces::{OF_TRACE, TraceWords, trace_words};
 use clap::ArgMatches;
 use snc_args::{DEFAULT_BUDGET, Job};
@@ -37,7 +39,7 @@ pub enum Word {
     Graph(bool),
     /// Every trace over a small alphabet, the shortest first: `snl search [--never LINE].. FILE [MACROS]`.
     Search(SearchWords),
-    /// Where two programs differ over a trace: `snl same [--but CHANNEL].. [--puts] OLD NEW [MACROS]`.
+    /// Where two programs differ over a trace, or over any: `snl same [--search] [--but CHANNEL].. [--puts] OLD NEW [MACROS]`.
     Same(SameWords),
     /// The tree of a program as JSON: `snl tree FILE [MACROS]`.
     Tree,
@@ -82,8 +84,13 @@ fn job_in(
 }
 
 /// What a program is to be run with that has no trace of its own, as a command found it. The budget is that of `snlrun`.
-fn plain_job(alloc: Global, matches: &ArgMatches, options: Options) -> Result<Job, AllocError> {
-    let mut job = job_in(alloc, matches, "FILE", options)?;
+fn plain_job(
+    alloc: Global,
+    matches: &ArgMatches,
+    file: &str,
+    options: Options,
+) -> Result<Job, AllocError> {
+    let mut job = job_in(alloc, matches, file, options)?;
     job.budget = DEFAULT_BUDGET;
     Ok(job)
 }
@@ -127,20 +134,31 @@ fn trace_call(
     })
 }
 
-/// The call of a word that reads none.
-fn plain_call(
+/// The call of a word that reads none, with the file of its program at a place.
+fn call_at(
     alloc: Global,
     matches: &ArgMatches,
+    file: &str,
     options: Options,
     word: Word,
 ) -> Result<Call, CallFault> {
-    let job = plain_job(alloc, matches, options)?;
+    let job = plain_job(alloc, matches, file, options)?;
     Ok(Call {
         job,
         word,
         progress: false,
         units: owned(alloc, matches.get_str("units"))?,
     })
+}
+
+/// The same, with the file of its program at the place of FILE.
+fn plain_call(
+    alloc: Global,
+    matches: &ArgMatches,
+    options: Options,
+    word: Word,
+) -> Result<Call, CallFault> {
+    call_at(alloc, matches, "FILE", options, word)
 }
 
 /// What follows `waits`.
@@ -209,7 +227,42 @@ fn compared_words(
     options: Options,
 ) -> Result<SameWords, AllocError> {
     let new = job_in(alloc, matches, "NEW", options)?;
-    same_words(alloc, matches, new)
+    same_words(alloc, matches, new, None)
+}
+
+/// What a comparison over every trace is asked for, as a command found it.
+fn sought_words(
+    alloc: Global,
+    matches: &ArgMatches,
+    options: Options,
+) -> Result<SameWords, CallFault> {
+    let search = search_words(alloc, matches)?;
+    let new = plain_job(alloc, matches, "NEW", options)?;
+    Ok(same_words(alloc, matches, new, Some(search))?)
+}
+
+/// What follows `same` where `--search` is among it. What is found is run again with the budget that `snlrun` has where nothing is
+/// said.
+fn read_same_search(alloc: Global, words: &[&str], options: Options) -> Result<Call, CallFault> {
+    let matches = found_in(
+        alloc,
+        &SAME_SEARCH,
+        &OF_SAME_SEARCH,
+        &OF_SEARCH[2..14],
+        words,
+    )?;
+    let word = Word::Same(sought_words(alloc, &matches, options)?);
+    call_at(alloc, &matches, "OLD", options, word)
+}
+
+/// Whether a word of a call is `--search`.
+fn is_sought(words: &[&str]) -> bool {
+    for word in words {
+        if *word == "--search" {
+            return true;
+        }
+    }
+    false
 }
 
 /// What follows `same`.
@@ -266,6 +319,7 @@ pub(crate) fn read_word(
         "cover" => read_cover(alloc, words, options)?,
         "graph" => read_graph(alloc, words, options)?,
         "search" => read_search(alloc, words, options)?,
+        "same" if is_sought(words) => read_same_search(alloc, words, options)?,
         "same" => read_same(alloc, words, options)?,
         "tree" => read_tree(alloc, words, options)?,
         "sets" => read_sets(alloc, words, options)?,

@@ -1,0 +1,286 @@
+//! `snl same --search`.
+
+use crate::comparing::{Both, both_of, tell_messages};
+use crate::outputs::write_trace;
+use crate::searching::{Clock, owned, recorded, told_fault};
+use crate::units::{units_for, wished_values};
+use snc::{Judgement, Status, judged, macros_of};
+use snc_cli::{source_in, write};
+use snl_args::{Call, SameWords, SearchWords};
+use snl_equivalence::{
+    Budgets, PairAnswer, PairFault, PairWishes, Prepared, Prepares, Question, Sides, prepared_by,
+    search_pair,
+};
+use snl_same::{Filter, Side};
+use snl_search::{Bounds, Limits, Watches, WishedValues};
+use std::alloc::{AllocError, Global};
+use std::fs::File;
+use std::time::Instant;
+
+/// What a call asks of two programs.
+#[derive(Clone, Copy)]
+struct Asked<'c> {
+    call: &'c Call,
+    words: &'c SameWords,
+    search: &'c SearchWords,
+    /// When it began.
+    begun: Option<Instant>,
+}
+
+/// The texts of both sources.
+#[derive(Clone, Copy)]
+struct Texts<'t> {
+    old: &'t [u8],
+    new: &'t [u8],
+}
+
+/// What the words of a call wish of channels, in the units of the trace, and the recorded trace that they name, once for each program.
+#[derive(Drop)]
+struct Wished {
+    values: Vec<WishedValues>,
+    firsts: Vec<WishedValues>,
+    old_like: Option<File>,
+    new_like: Option<File>,
+}
+
+/// What the words of a call wish of channels. Where a value is none, or the recorded trace cannot be opened, the user is told.
+fn wished_in(rt: &HostRuntime, asked: Asked) -> Result<Wished, Status> {
+    let units = units_for(rt, asked.call)?;
+    let search = asked.search;
+    Ok(Wished {
+        values: wished_values(rt, units.as_slice(), "values", search.values.as_slice())?,
+        firsts: wished_values(rt, units.as_slice(), "first", search.firsts.as_slice())?,
+        old_like: recorded(rt, search)?,
+        new_like: recorded(rt, search)?,
+    })
+}
+
+/// What the words of a call wish.
+fn wishes_of(alloc: Global, words: &SearchWords, wished: Wished) -> Result<PairWishes, AllocError> {
+    let Wished {
+        values,
+        firsts,
+        old_like,
+        new_like,
+    } = wished;
+    Ok(PairWishes {
+        old_like,
+        new_like,
+        values,
+        firsts,
+        gaps: Vec::from_slice(alloc, words.gaps.as_slice())?,
+        down: owned(alloc, words.down.as_slice())?,
+        bounds: Bounds {
+            lines: words.lines as usize,
+            worlds: words.worlds as usize,
+            memory: u64::from(words.memory).saturating_mul(1_000_000),
+            covers: false,
+        },
+        budget: words.budget,
+    })
+}
+
+/// What is wished of a search of two programs.
+fn all_wishes(rt: &HostRuntime, asked: Asked) -> Result<PairWishes, Status> {
+    let wished = wished_in(rt, asked)?;
+    wishes_of(rt.alloc(), asked.search, wished).map_err(|_| Status::Memory)
+}
+
+/// Says what a search answers.
+fn told_answer(rt: &HostRuntime, words: &SearchWords, answer: &PairAnswer) -> u8 {
+    let written = write(rt, answer.text.as_slice());
+    if !write_trace(rt, &words.out, &answer.trace) || written.is_err() {
+        return Status::InputOutput.code();
+    }
+    answer.verdict.code()
+}
+
+/// Says what is wrong with a wish.
+fn told_wrong(rt: &HostRuntime, words: &SearchWords, fault: &PairFault) -> u8 {
+    match fault {
+        PairFault::Wish(fault) => told_fault(rt, words, fault),
+        _ => {
+            let _ = eprintln!(rt; "snl: {fault}");
+            Status::Usage.code()
+        }
+    }
+}
+
+/// One of the two sources: its text, the name of its file, and the recorded trace that is named, if one is.
+#[derive(Clone, Copy)]
+struct Source<'s> {
+    text: &'s [u8],
+    file: &'s str,
+    like: &'s Option<File>,
+}
+
+/// Makes a program ready for the search. It is of a type parameter, since a function that knows a checked program and what is made of it is
+/// dear to prove.
+fn prepared<T: Prepares<W> + Drop, W: Watches>(
+    rt: &HostRuntime,
+    program: Box<T>,
+    asked: Asked,
+    like: &Option<File>,
+    limits: &mut Limits<W>,
+) -> Result<Option<Box<Prepared>>, AllocError> {
+    let job = &asked.call.job;
+    let budgets = Budgets {
+        search: asked.search.budget,
+        run: job.budget,
+    };
+    let macros = macros_of(job);
+    let prepared = prepared_by(rt.alloc(), program, &macros, budgets, like, limits)?;
+    Ok(Some(prepared))
+}
+
+/// Makes the program of a source ready for the search; None where it has an error.
+fn prepared_in<W: Watches>(
+    rt: &HostRuntime,
+    asked: Asked,
+    source: Source,
+    limits: &mut Limits<W>,
+) -> Result<Option<Box<Prepared>>, AllocError> {
+    let name = source.file.as_bytes();
+    match judged(rt.alloc(), source.text, name, asked.call.job.options) {
+        Ok(Judgement { checked, .. }) => match checked {
+            Some(checked) => prepared(rt, checked, asked, source.like, limits),
+            None => Ok(None),
+        },
+        Err(error) => Err(error),
+    }
+}
+
+/// Two programs that are ready for the search.
+#[derive(Drop)]
+struct Pair {
+    old: Box<Prepared>,
+    new: Box<Prepared>,
+}
+
+/// Makes the programs of both sources ready for the search; None where one has an error.
+fn pair_in<W: Watches>(
+    rt: &HostRuntime,
+    asked: Asked,
+    texts: Texts,
+    wishes: &PairWishes,
+    limits: &mut Limits<W>,
+) -> Result<Option<Pair>, AllocError> {
+    let old = Source {
+        text: texts.old,
+        file: asked.call.job.file.as_str(),
+        like: &wishes.old_like,
+    };
+    let new = Source {
+        text: texts.new,
+        file: asked.words.new.file.as_str(),
+        like: &wishes.new_like,
+    };
+    let Some(old) = prepared_in(rt, asked, old, limits)? else {
+        return Ok(None);
+    };
+    let Some(new) = prepared_in(rt, asked, new, limits)? else {
+        return Ok(None);
+    };
+    Ok(Some(Pair { old, new }))
+}
+
+/// Searches two programs. Answers the status.
+fn searched<W: Watches>(
+    rt: &HostRuntime,
+    asked: Asked,
+    wishes: &PairWishes,
+    pair: Pair,
+    sides: &mut Sides,
+    limits: &mut Limits<W>,
+) -> u8 {
+    let question = Question {
+        filter: Filter {
+            puts_only: asked.words.puts_only,
+            but: asked.words.but.as_slice(),
+        },
+        wishes,
+        budget: asked.call.job.budget,
+    };
+    let Pair { old, new } = pair;
+    let old = Box::into_inner(old);
+    let new = Box::into_inner(new);
+    match search_pair(rt.alloc(), old, new, &question, sides, limits) {
+        Ok(answer) => told_answer(rt, asked.search, &answer),
+        Err(fault) => told_wrong(rt, asked.search, &fault),
+    }
+}
+
+/// Searches the programs of both sources, which have no error. Answers the status.
+fn searched_in(
+    rt: &HostRuntime,
+    asked: Asked,
+    texts: Texts,
+    sides: &mut Sides,
+) -> Result<u8, AllocError> {
+    let wishes = match all_wishes(rt, asked) {
+        Ok(wishes) => wishes,
+        Err(status) => return Ok(status.code()),
+    };
+    let clock = Clock::new(rt, asked.begun, asked.search.seconds);
+    let mut limits = Limits::new(rt.alloc(), clock, wishes.bounds.memory);
+    match pair_in(rt, asked, texts, &wishes, &mut limits)? {
+        Some(pair) => Ok(searched(rt, asked, &wishes, pair, sides, &mut limits)),
+        None => Ok(Status::SourceErrors.code()),
+    }
+}
+
+/// Searches both programs, where neither has an error. The messages come behind what was found.
+fn answered_by(rt: &HostRuntime, asked: Asked, texts: Texts, both: &mut Both) -> u8 {
+    let (Some(old), Some(new)) = (&mut both.old.side, &mut both.new.side) else {
+        tell_messages(rt, both);
+        return Status::SourceErrors.code();
+    };
+    let mut sides = Sides {
+        old: old.as_mut(),
+        new: new.as_mut(),
+    };
+    match searched_in(rt, asked, texts, &mut sides) {
+        Ok(code) => {
+            if code != Status::Memory.code() {
+                tell_messages(rt, both);
+            }
+            code
+        }
+        Err(_) => Status::Memory.code(),
+    }
+}
+
+/// The texts of both files. Where one cannot be read, the user is told.
+fn texts_of(rt: &HostRuntime, asked: Asked) -> Result<(Vec<u8>, Vec<u8>), Status> {
+    let old = source_in(rt, "snl", asked.call.job.file.as_str())?;
+    let new = source_in(rt, "snl", asked.words.new.file.as_str())?;
+    Ok((old, new))
+}
+
+/// `snl same --search`, of a call that began at a time. Answers the status.
+pub fn answered_contrast(
+    rt: &HostRuntime,
+    call: &Call,
+    words: &SameWords,
+    search: &SearchWords,
+    begun: Option<Instant>,
+) -> u8 {
+    let asked = Asked {
+        call,
+        words,
+        search,
+        begun,
+    };
+    let (old, new) = match texts_of(rt, asked) {
+        Ok(texts) => texts,
+        Err(status) => return status.code(),
+    };
+    let texts = Texts {
+        old: old.as_slice(),
+        new: new.as_slice(),
+    };
+    match both_of(rt, call, words, texts.old, texts.new) {
+        Ok(mut both) => answered_by(rt, asked, texts, &mut both),
+        Err(_) => Status::Memory.code(),
+    }
+}
