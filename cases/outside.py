@@ -137,7 +137,9 @@ def told_of(root, folder, built):
         return f"--help has the words {words}, and there are pages of {sorted(pages)}"
     for word in words:
         page = (root / f"docs/tools/{word}.md").read_text()
-        options, written = ({*re.findall(r"(?<![\w-])--[a-z][a-z-]*", it)} for it in (called(built / "snl", word, "--help"), page))
+        # `snl same --search` has a help of its own.
+        helped = "".join(called(built / "snl", word, *more, "--help") for more in ((), ("--search",))[: 2 if word == "same" else 1])
+        options, written = ({*re.findall(r"(?<![\w-])--[a-z][a-z-]*", it)} for it in (helped, page))
         lacking = [it for it in options - written if not re.search(rf"{it}\b", shared)]
         if not options or lacking or written - options:
             return f"{word}.md lacks {sorted(lacking)}, and has {sorted(written - options)}"
