@@ -57,13 +57,6 @@ SOURCES = {
     # No trace of a search, so it is not written over.
     "notes": "mine\n",
     "faulty.st": SAFE.replace("{} state b }", "{ x = 1 / (x - 6); } state b }"),
-    # A requirement of the first one.
-    "watch.st": """program watch
-option +s; option -c;
-int x; assign x to "a"; monitor x;
-int q; assign q to "put:q"; monitor q;
-ss rule { state kept { when (q > 5) {} state broken } state broken { when (q < 1) {} state kept } }
-""",
     "functions.st": SOURCE.replace("int w", "int twice(int n) { int m = n; return m + n; } int w").replace("w % 7", "twice(w) % 7"),
 }
 
@@ -109,7 +102,6 @@ CALLS = (
     Call("snl", ["run", "r.st"], 0, 100, 6),
     Call("snl", ["run", "--budget", "40", "valve.st"], 5, 300, 3),
     Call("snl", ["run", "--whole", "functions.st"], 0, 100, 1),
-    Call("snl", ["run", "--watch", "watch.st", "r.st"], 0, 500, 5),
     Call("snl", ["trace", "day.log"], 0, 20, 1),
     Call("snl", ["trace", "--program", "r.st", "day.log"], 0, 100, 1),
     Call("snl", ["search", "--lines", "1", "safe.st"], 0, 300, 1),
