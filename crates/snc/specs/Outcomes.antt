@@ -43,8 +43,7 @@ status_of end.TraceEnded = Well
 status_of end.ProgramEnded = Well
 status_of (end.Fault fault line) = ProgramFault
 status_of (end.TraceFault line fault) = TraceFault
-status_of end.SourceFailed = InputOutput
-status_of end.SinkFailed = InputOutput
+status_of _ = InputOutput
 
 -- the tables of a program, where they were asked for and no message is an error; else nothing
 abbrev pub tables_text : Bool → Status → Option ProgramTree → List ℕ
