@@ -43,15 +43,16 @@ struct Way<'w, 'a> {
 
 /// Adds a name by which a variable is read, where the copy is never written.
 fn push_read<'a>(
-    name: Token<'a>,
+    name: &Token<'a>,
     way: &Way<'_, 'a>,
     found: &mut Vec<Unwritten<'a>>,
 ) -> Result<(), AllocError>
     ensures { OnOk result (found.new.items ≡ found.old.items
-        ++ spec.unwritten_at way.now.uses.now way.now.copy.now (Touch.Reads name.entry)) }
+        ++ spec.unwritten_at way.now.uses.now way.now.copy.now (Touch.Reads name.now)) }
 {
     if let Some(declared) = way.uses.declared(name.pos.offset) {
         if !way.copy.is_written(way.uses, declared.offset) {
+            let name = *name;
             found.push(Unwritten { name, declared })?;
         }
     }
@@ -68,7 +69,7 @@ fn push_touch<'a>(
         ++ spec.unwritten_at way.now.uses.now way.now.copy.now touch.now) }
 {
     match touch {
-        Touch::Reads(name) => push_read(*name, way, found),
+        Touch::Reads(name) => push_read(name, way, found),
         _ => Ok(()),
     }
 }

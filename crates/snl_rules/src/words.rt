@@ -17,7 +17,7 @@ use snl_text::Token;
 use std::alloc::{AllocError, Global};
 
 /// The words of variables, at most 2^64 - 1.
-pub fn words_of_variables(held: &[CopyVariable]) -> u64
+pub fn words_of_variables<'p, 'a>(held: &'p [CopyVariable<'p, 'a>]) -> u64
     ensures { result ≡ capped (sum_by spec.variable_words (map variable_view held.now)) }
 {
     let mut words: u64 = 0;
