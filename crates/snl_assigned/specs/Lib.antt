@@ -1,0 +1,3 @@
+pub mod Assigned
+pub mod Lines
+pub mod Examples
