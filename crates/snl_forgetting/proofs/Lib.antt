@@ -6,3 +6,10 @@ pub mod Cleared
 pub mod Values
 pub mod Effects
 pub mod Examples
+pub mod Placed
+pub mod Marks
+pub mod Order
+pub mod Called
+pub mod Walk
+pub mod Accepted
+pub mod Pieces

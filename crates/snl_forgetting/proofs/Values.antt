@@ -20,7 +20,7 @@ use Rattle.snl_names.specs.Builtins.{builtin_of}
 use Rattle.snl_names.specs.declared.builtins.Builtin.{Builtin}
 use Rattle.snl_names.specs.declared.builtins.Builtin.TheVariants.{Delay, Printf, PvPut, Ask}
 use Rattle.snl_names.specs.declared.builtins.Query.{Query}
-use Rattle.snl_names.specs.Calls.{has_async}
+use Rattle.snl_names.specs.Calls.{has_async, word_at}
 use Rattle.snl_names.specs.Scopes.{is_spelled}
 use Rattle.snl_meaning.specs.Value.{OnTarget, joint_of, compound_of, sign_of, joined_by, either, signed, named_value, at_subscript, at_name, renewed, put_at, called, value_of, chained, at_target, print_of, printing_with, calling, if_callable, wait_of, put_of, ask_flag, ask_of, performed}
 use Rattle.snl_meaning.specs.Scenes.{Callable, Scene, callee_named}
@@ -117,24 +117,25 @@ module _ (m : Scene) (Own Known : Variable → Type 0) (own : (v : Variable) →
   signed-same (ByOne op) stepping operand line h k = h op
   signed-same (OfValue op) stepping operand line h k = thus operand (operated_prefix op line) k (agrees-prefix Known op line)
 
-  -- a call
-  called-same : (function : Option Builtin) (print wait put : World → Ran ℤ) (ask : Query → World → Ran ℤ) (routine : World → Ran ℤ) →
-      Agrees Known print → Agrees Known wait → Agrees Known put → ((query : Query) → Agrees Known (ask query)) → Agrees Known routine →
-      Agrees Known (called function print wait put ask routine)
-  called-same None print wait put ask routine h k p a r = r
-  called-same (Some Delay) print wait put ask routine h k p a r = k
-  called-same (Some Printf) print wait put ask routine h k p a r = h
-  called-same (Some PvPut) print wait put ask routine h k p a r = p
-  called-same (Some (Ask query)) print wait put ask routine h k p a r = a query
+  -- a call, by its built-in function: the second argument of `pvPut` may be the word `ASYNC`
+  called-same : (o : Option Callable) (all : ArgumentList) (function : Option Builtin) (print wait put : World → Ran ℤ) (ask : Query → World → Ran ℤ) (routine : World → Ran ℤ) →
+      IsFull function o all → OwnAmong m Own (word_at function) all → (OwnAmong m Own 0 all → Agrees Known print) → (OwnAmong m Own 0 all → Agrees Known wait) →
+      (OwnAmong m Own 2 all → Agrees Known put) → ((query : Query) → OwnAmong m Own 0 all → Agrees Known (ask query)) →
+      (IsFull None o all → OwnAmong m Own 0 all → Agrees Known routine) → Agrees Known (called function print wait put ask routine)
+  called-same o all None print wait put ask routine full own h k p a r = r full own
+  called-same o all (Some Delay) print wait put ask routine full own h k p a r = k own
+  called-same o all (Some Printf) print wait put ask routine full own h k p a r = h own
+  called-same o all (Some PvPut) print wait put ask routine full own h k p a r = p own
+  called-same o all (Some (Ask query)) print wait put ask routine full own h k p a r = a query own
 
   -- a call of a function by its name, with values for its parameters
-  named_call-same : (cs : List Callable) (name : List ℕ) (all : ArgumentList) (go : Callable → World → Ran ℤ) → CallsAgree cs → IsFull (callee_named cs name) all →
+  named_call-same : (cs : List Callable) (name : List ℕ) (all : ArgumentList) (go : Callable → World → Ran ℤ) → CallsAgree cs → IsFull None (callee_named cs name) all →
       ((c : Callable) → values_in all ≡ length c.parameters → AreSingle c.parameters → BodyAgrees c → Agrees Known (go c)) → Agrees Known (if_callable (callee_named cs name) go)
   named_call-same _ name all go NoCalls full k = here Known (pos 0)
   named_call-same _ name all go (OneMore c cs single body more) full k = by (is_spelled name c.name) full (λ rest. named_call-same cs name all go more rest k)
     where
-      by : (b : Bool) → IsFull (if b then Some c else callee_named cs name) all →
-          (IsFull (callee_named cs name) all → Agrees Known (if_callable (callee_named cs name) go)) → Agrees Known (if_callable (if b then Some c else callee_named cs name) go)
+      by : (b : Bool) → IsFull None (if b then Some c else callee_named cs name) all →
+          (IsFull None (callee_named cs name) all → Agrees Known (if_callable (callee_named cs name) go)) → Agrees Known (if_callable (if b then Some c else callee_named cs name) go)
       by true many others = k c many single body
       by false rest others = others rest
 
@@ -160,11 +161,11 @@ module _ (m : Scene) (Own Known : Variable → Type 0) (own : (v : Variable) →
     value-same (element x b e) o =
         thus (value_of m e) _ (value-same e o.1) (subscript-same (sense_of m.here x) o.0 b.pos.line (read m.set) (gives (pos 0)) (λ v k may. agrees-read Known m.set v k may) (here Known (pos 0)))
     value-same (call f all) o =
-        called-same (builtin_of f.text.now) (print_of m all) (wait_of m all) (put_of m all) (ask_of m all)
-        (if_callable (callee_named m.callees f.text.now) (λ c. calling m c f.pos.line all []))
-        (print-same all o.1) (wait-same all o.1) (put_of-same all o.1) (ask-same all o.1)
-        (named_call-same m.callees f.text.now all (λ c. calling m c f.pos.line all []) calls o.0
-        (λ c many single body. calling-same c f.pos.line all [] (omega (arith, many)) (λ zs enough. performed-same Known m.set c f.pos.line zs single enough body) o.1))
+        called-same (callee_named m.callees f.text.now) all (builtin_of f.text.now) (print_of m all) (wait_of m all) (put_of m all) (ask_of m all)
+        (if_callable (callee_named m.callees f.text.now) (λ c. calling m c f.pos.line all [])) o.0 o.1
+        (λ own. print-same all own) (λ own. wait-same all own) (λ own. put_of-same all own) (λ query own. ask-same all own query)
+        (λ full own. named_call-same m.callees f.text.now all (λ c. calling m c f.pos.line all []) calls full
+        (λ c many single body. calling-same c f.pos.line all [] (omega (arith, many)) (λ zs enough. performed-same Known m.set c f.pos.line zs single enough body) own))
     value-same (postfix e op) o =
         signed-same (sign_of op.kind) _ (value_of m e) op.pos.line
         (λ by. target-same e o _ (gives (pos 0)) (λ v k x may. agrees-adjusted Known m.set v by op.pos.line x.pos.line true k may) (here Known (pos 0))) (value-same e o)
@@ -200,20 +201,20 @@ module _ (m : Scene) (Own Known : Variable → Type 0) (own : (v : Variable) →
     target-same (assignment e op r) o go other h k = k
 
     -- `printf`
-    print-same : (all : ArgumentList) → OwnAmong m Own all → Agrees Known (print_of m all)
+    print-same : (all : ArgumentList) → OwnAmong m Own 0 all → Agrees Known (print_of m all)
     print-same no_arguments o = here Known (pos 0)
     print-same (value e rest) o = here Known (pos 0)
     print-same (text t rest) o = printing-same (format_number m.here t) rest [] o
 
     -- the values of `printf`
-    printing-same : (f : ℕ) (all : ArgumentList) (taken : List ℤ) → OwnAmong m Own all → Agrees Known (printing_with m f all taken)
+    printing-same : (f : ℕ) (all : ArgumentList) (taken : List ℤ) → OwnAmong m Own 0 all → Agrees Known (printing_with m f all taken)
     printing-same f no_arguments taken o = agrees-printed Known m.set_name (format_text (formats_of m.here) f) taken
     printing-same f (text t rest) taken o = printing-same f rest taken o
     printing-same f (value e rest) taken o = thus (value_of m e) _ (value-same e o.0) (λ z. printing-same f rest (z ∷ taken) o.1)
 
     -- a function of the program
     calling-same : (c : Callable) (line : ℕ) (all : ArgumentList) (taken : List ℤ) → values_in all + length taken ≡ length c.parameters →
-        ((zs : List ℤ) → length zs ≡ length c.parameters → Agrees Known (performed m.set c line zs)) → OwnAmong m Own all → Agrees Known (calling m c line all taken)
+        ((zs : List ℤ) → length zs ≡ length c.parameters → Agrees Known (performed m.set c line zs)) → OwnAmong m Own 0 all → Agrees Known (calling m c line all taken)
     calling-same c line no_arguments taken many go o =
         let e : length (reverse taken) ≡ length taken = length-reverse taken in
         go (reverse taken) (omega (arith, e, many))
@@ -222,19 +223,19 @@ module _ (m : Scene) (Own Known : Variable → Type 0) (own : (v : Variable) →
         thus (value_of m e) _ (value-same e o.0) (λ z. calling-same c line rest (z ∷ taken) (omega (arith, many)) go o.1)
 
     -- `delay`
-    wait-same : (all : ArgumentList) → OwnAmong m Own all → Agrees Known (wait_of m all)
+    wait-same : (all : ArgumentList) → OwnAmong m Own 0 all → Agrees Known (wait_of m all)
     wait-same no_arguments o = here Known (pos 0)
     wait-same (text t rest) o = here Known (pos 0)
     wait-same (value e rest) o = thus (value_of m e) _ (value-same e o.0) (agrees-waited Known m.set _)
 
     -- `pvPut`
-    put_of-same : (all : ArgumentList) → OwnAmong m Own all → Agrees Known (put_of m all)
+    put_of-same : (all : ArgumentList) → OwnAmong m Own 2 all → Agrees Known (put_of m all)
     put_of-same no_arguments o = here Known (pos 0)
     put_of-same (text t rest) o = here Known (pos 0)
     put_of-same (value e rest) o = target-same e o.0 _ (gives (pos 0)) (λ v k x may. agrees-put_element Known (has_async rest) m.set v k) (here Known (pos 0))
 
     -- a call that asks
-    ask-same : (all : ArgumentList) → OwnAmong m Own all → (query : Query) → Agrees Known (ask_of m all query)
+    ask-same : (all : ArgumentList) → OwnAmong m Own 0 all → (query : Query) → Agrees Known (ask_of m all query)
     ask-same no_arguments o query = agrees-asked Known query 0
     ask-same (text t rest) o query = here Known (pos 0)
     ask-same (value e rest) o query = target-same e o.0 _ (ask_flag m e query) (λ v k x may. agrees-ask_element Known query m.set v k) (flag-same e query)

@@ -1,3 +1,4 @@
 pub mod Own
 pub mod Forgotten
 pub mod Examples
+pub mod Accepted

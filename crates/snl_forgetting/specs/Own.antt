@@ -1,8 +1,11 @@
 -- What a piece of a program may name: numbers, variables of copies, and of the variables of functions its own.
-use Rattle.std.specs.Prelude.{◌≡◌, ◌⊎◌, ◌<◌, ◌++◌, ℕ, suc, false, List, [], ◌∷◌, Option, None, Some, length}
+use Rattle.std.specs.Prelude.{◌≡◌, ◌⊎◌, ◌<◌, ◌-◌, ◌++◌, ℕ, suc, Bool, true, false, List, [], ◌∷◌, Option, None, Some, length}
 use Rattle.snl_syntax.specs.Expressions.{ExprTree, TermList, ArgumentList, constant, parenthesized, named, element, call, postfix, prefix, chain, conditional, assignment, no_terms, term, no_arguments, value, text}
 use Rattle.snl_syntax.specs.Declarations.{DeclaratorTree}
 use Rattle.snl_syntax.specs.Statements.{StatementTree, StatementList, BlockTree, nested, empty, expression, break_loop, continue_loop, change_state, return_with, if_then, if_else, while_loop, for_loop, no_statements, statement, block}
+use Rattle.snl_names.specs.declared.builtins.Builtin.{Builtin}
+use Rattle.snl_names.specs.Builtins.{builtin_of}
+use Rattle.snl_names.specs.Calls.{is_word, word_at}
 use Rattle.snl_meaning.specs.declared.instrs.Variable.{Variable}
 use Rattle.snl_meaning.specs.declared.names.Sense.{Sense}
 use Rattle.snl_meaning.specs.declared.names.Sense.TheVariants.{Varies, Stands}
@@ -24,10 +27,16 @@ values_in no_arguments = 0
 values_in (text t rest) = values_in rest
 values_in (value e rest) = suc (values_in rest)
 
--- A call of a function has a value for each parameter.
-abbrev pub IsFull : Option Callable → ArgumentList → Type 0
-IsFull None all = Unit {0}
-IsFull (Some c) all = values_in all ≡ length c.parameters
+-- A call of a function of the program has a value for each parameter.
+abbrev pub IsFull : Option Builtin → Option Callable → ArgumentList → Type 0
+IsFull (Some b) o all = Unit {0}
+IsFull None None all = Unit {0}
+IsFull None (Some c) all = values_in all ≡ length c.parameters
+
+-- What is asked of an argument, unless it is the word `ASYNC`, which is no name there.
+abbrev pub OrWord : Bool → Type 0 → Type 0
+OrWord true Asked = Unit {0}
+OrWord false Asked = Asked
 
 -- ---- expressions
 
@@ -38,7 +47,7 @@ abbrev mutual
   OwnIn m Own (parenthesized e) = OwnIn m Own e
   OwnIn m Own (named x) = MeansOwn Own (sense_of m.here x)
   OwnIn m Own (element x b e) = MeansOwn Own (sense_of m.here x) × OwnIn m Own e
-  OwnIn m Own (call f all) = IsFull (callee_named m.callees f.text.now) all × OwnAmong m Own all
+  OwnIn m Own (call f all) = IsFull (builtin_of f.text.now) (callee_named m.callees f.text.now) all × OwnAmong m Own (word_at (builtin_of f.text.now)) all
   OwnIn m Own (postfix e op) = OwnIn m Own e
   OwnIn m Own (prefix op e) = OwnIn m Own e
   OwnIn m Own (chain e rest) = OwnIn m Own e × OwnBehind m Own rest
@@ -50,11 +59,11 @@ abbrev mutual
   OwnBehind m Own no_terms = Unit {0}
   OwnBehind m Own (term op e rest) = OwnIn m Own e × OwnBehind m Own rest
 
-  -- in arguments
-  pub OwnAmong : Scene → (Own : Variable → Type 0) → ArgumentList → Type 0
-  OwnAmong m Own no_arguments = Unit {0}
-  OwnAmong m Own (text t rest) = OwnAmong m Own rest
-  OwnAmong m Own (value e rest) = OwnIn m Own e × OwnAmong m Own rest
+  -- in arguments, so many up to the one that may be the word `ASYNC`
+  pub OwnAmong : Scene → (Own : Variable → Type 0) → ℕ → ArgumentList → Type 0
+  OwnAmong m Own k no_arguments = Unit {0}
+  OwnAmong m Own k (text t rest) = OwnAmong m Own (k - 1) rest
+  OwnAmong m Own k (value e rest) = OrWord (is_word k e) (OwnIn m Own e) × OwnAmong m Own (k - 1) rest
 
 -- in an expression that may be missing
 abbrev pub OwnMaybe : Scene → (Own : Variable → Type 0) → Option ExprTree → Type 0
