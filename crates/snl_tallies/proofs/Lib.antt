@@ -1,0 +1,4 @@
+pub mod LineLaws
+pub mod TextLaws
+pub mod ReadLaws
+pub mod FileExamples
