@@ -151,19 +151,21 @@ impl<'c, K: Sink, W: Sink> Folder<'c, K, W> {
     /// Ends a run, with the notes that wait and others behind it, where they are extra lines and nothing else. What is held of
     /// a block goes to the sink.
     ///
-    /// Fails where the sink fails, and where a line has begun that no newline ended: each line of a run has one.
+    /// Fails where the sink fails, and where a line has begun that no newline ended: each line of a run has one. That counts as a
+    /// piece that it refused.
     pub fn finish(&mut self, notes: &[u8]) -> Result<(), SinkFault>
         requires { K.failures self.old.inner + (W.failures self.old.witness + self.old.refused)
             < 2 ^ 64 - 1 }
         ensures told { W.told self.new.witness ≡ W.told self.old.witness }
         ensures folded { OnOk result ((run output : List ℕ) → W.told self.new.witness ≡ Some run
             → K.told self.new.inner ≡ Some output → ∥ IsFolded run output ∥₁) }
-        ensures sent { OnOk result (K.failures self.new.inner + (W.failures self.new.witness
-            + self.new.refused) ≡ K.failures self.old.inner + (W.failures self.old.witness
-            + self.old.refused)) }
+        ensures failures { K.failures self.new.inner + (W.failures self.new.witness
+            + self.new.refused) ≡ counted (is_err result) (K.failures self.old.inner
+            + (W.failures self.old.witness + self.old.refused)) }
     {
         self.settle()?;
         if !self.line.is_empty() || self.is_over {
+            self.refused += 1;
             return Err(SinkFault);
         }
         self.is_over = true;

@@ -101,14 +101,15 @@ impl<'c, K: Sink> Teller<'c, K> {
 
     /// Hands on the extra lines that wait and, behind them, others, where they are extra lines and nothing else.
     ///
-    /// Fails where the sink fails, and where a line has begun that no newline ended.
+    /// Fails where the sink fails, and where a line has begun that no newline ended: that counts as a piece that it refused.
     pub fn tell(&mut self, lines: &[u8]) -> Result<(), SinkFault>
         requires { K.failures self.old.inner + self.old.refused < 2 ^ 64 - 1 }
         ensures told { shown (K.told self.new.inner) ≡ shown (K.told self.old.inner) }
-        ensures sent { OnOk result (K.failures self.new.inner ≡ K.failures self.old.inner) }
-        ensures refused { self.new.refused ≡ self.old.refused }
+        ensures failures { K.failures self.new.inner + self.new.refused
+            ≡ counted (is_err result) (K.failures self.old.inner + self.old.refused) }
     {
         if self.place.within {
+            self.refused += 1;
             return Err(SinkFault);
         }
         self.settle()?;
