@@ -6,6 +6,7 @@ pub mod Ending
 pub mod RunAnswers
 pub mod Answered
 pub mod Counting
+pub mod Sums
 pub mod CoverRuns
 pub mod RunnerLaws
 pub mod Texts

@@ -1,6 +1,6 @@
 -- What `run` answers of a source, by what the rules say of it and by what its run told.
-use Rattle.std.proofs.Common.{◌≡◌, ◌∙◌, ℕ, Bool, true, false, List, Option, None, Some, Box, Global, refl, subst, sym}
-use Rattle.std.proofs.lemmas.Bool.{true≢false}
+use Rattle.std.proofs.Common.{◌≡◌, ◌∙◌, ℕ, Bool, true, false, List, Option, None, Some, Box, Global, ap, refl, subst, sym}
+use Rattle.std.specs.Prelude.{not}
 use Rattle.snl_syntax.specs.Programs.{ProgramTree}
 use Rattle.snl_check.specs.Waits.{waits}
 use Rattle.snl_channels.specs.Links.{Link, links}
@@ -28,10 +28,11 @@ runs-like whole ls waiting budget first world gave ended old told old' told' end
       (subst (λ (t : Option (List ℕ)). EndsAt whole ls waiting budget first gave ended t old' end world) is ran);
 }
 
--- a sink of which all was taken failed no more than before its run
-pub none-failed : (failed is_whole : Bool) (before after : ℕ) → is_whole ≡ true → (failed ≡ true → is_whole ≡ false) → after ≡ counted failed before → after ≡ before
-none-failed true is_whole before after whole so is = absurd (true≢false (sym whole ∙ so refl))
-none-failed false is_whole before after whole so is = is
+-- a sink failed once, in the run or behind it, exactly if not all was taken
+pub failed-once : (failed is_whole : Bool) (before ran after : ℕ) → (failed ≡ true → is_whole ≡ false) → ran ≡ counted failed before → (failed ≡ true → after ≡ ran) →
+    (failed ≡ false → after ≡ counted (not is_whole) ran) → after ≡ counted (not is_whole) before
+failed-once true is_whole before ran after so is stays more = stays refl ∙ is ∙ ap (λ (b : Bool). counted (not b) before) (sym (so refl))
+failed-once false is_whole before ran after so is stays more = more refl ∙ ap (counted (not is_whole)) is
 
 -- the same, of what was prepared, by another name of it
 pub runs-like-as : (before started : Prepared) (world : World) (gave : List ℕ) (ended : Bool) (old told old' told' : Option (List ℕ)) (end : End) →

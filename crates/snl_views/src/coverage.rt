@@ -1,11 +1,16 @@
 //! What of a program was seen in runs, and what was not.
 
-ghost use Rattle.std.specs.Prelude.{◌≡◌};
+ghost use Rattle.std.specs.Prelude.{◌≡◌, ◌++◌, List, ℕ, IfOk, OnErr, OnOk, length};
+ghost use Rattle.snl_tallies.specs.Counts.{counts_of};
 ghost use Rattle.snl_views.specs.Coverage.{both};
 
 use crate::charts::Chart;
 use crate::seen::Seen;
+use crate::tallies::{push_lines, push_others};
+use crate::told::{Told, told_of};
+use snl_tallies::Tally;
 use snl_watch::Trail;
+use std::alloc::{AllocError, Global};
 
 /// A channel that a `pvPut` names.
 #[derive(Drop)]
@@ -31,6 +36,8 @@ pub struct Coverage {
     pub shown: Vec<u64>,
     /// What became of each clause, state and channel.
     pub trail: Trail,
+    /// How often the program began in the runs of other calls, which are known by their counts alone.
+    pub begun: u64,
 }
 
 /// Adds counts to others, one by one.
@@ -52,6 +59,41 @@ impl Coverage {
     {
         add_counts(&mut self.shown, other.shown.as_slice());
         self.trail.add(&other.trail);
+    }
+
+    /// Adds the counts of other runs of the same program, in the order of `tallies`. The only error is that memory ends; nothing was
+    /// added then.
+    pub(crate) fn add_counts(&mut self, alloc: Global, counts: &[u64]) -> Result<(), AllocError>
+        ensures shown { OnOk result ((others lines : List ℕ) → counts.now ≡ others ++ lines →
+            length lines ≡ length self.old.shown.items →
+            self.new.shown.items ≡ both self.old.shown.items lines) }
+        ensures chart { self.new.chart ≡ self.old.chart }
+        ensures err { OnErr result (self.new ≡ self.old) }
+    {
+        let place = counts.len().saturating_sub(self.shown.len());
+        let (others, lines) = counts.split_at(place);
+        let Told { trail, begun } = told_of(alloc, &self.chart, self.puts.as_slice(), others)?;
+        add_counts(&mut self.shown, lines);
+        self.trail.add(&trail);
+        self.begun = self.begun.saturating_add(begun);
+        Ok(())
+    }
+
+    /// What was counted, each with its name: what became of states, clauses and channels, and then the lines of each clause. The only
+    /// error is that memory ends.
+    pub fn tallies(&self, alloc: Global) -> Result<Vec<Tally>, AllocError>
+        ensures { IfOk result (λ tallies. (others : List ℕ) × (counts_of tallies.items
+            ≡ others ++ self.now.shown.items)) }
+    {
+        let mut tallies = Vec::new(alloc);
+        push_others(alloc, self, &mut tallies)?;
+        push_lines(alloc, &self.chart, self.shown.as_slice(), &mut tallies)?;
+        Ok(tallies)
+    }
+
+    /// How often the program began.
+    pub(crate) fn begun(&self) -> u64 {
+        self.trail.begun().saturating_add(self.begun)
     }
 
     /// How often a clause led where it says.

@@ -40,6 +40,7 @@ fn coverage_of<'a>(
         puts,
         shown,
         trail,
+        begun: 0,
     })
 }
 

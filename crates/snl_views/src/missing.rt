@@ -97,7 +97,7 @@ pub fn coverage_text(
     gaps: &Gaps,
 ) -> Result<Vec<u8>, AllocError> {
     let mut out = Vec::new(alloc);
-    if coverage.trail.begun() == 0 {
+    if coverage.begun() == 0 {
         out.extend_from_slice(b"the program never began\n")?;
     }
     for missed in &gaps.missed {

@@ -1,6 +1,6 @@
 //! A program that runs over one trace after another, and what these runs showed.
 
-ghost use Rattle.std.specs.Prelude.{◌≡◌, ◌-◌, ◌^◌, ◌<◌, ℕ, Bool, List, [], Some, IfOk};
+ghost use Rattle.std.specs.Prelude.{◌≡◌, ◌++◌, ◌-◌, ◌^◌, ◌<◌, ℕ, Bool, List, [], Some, IfOk, OnErr, OnOk};
 ghost use Rattle.snl_syntax.specs.Programs.{ProgramTree};
 ghost use Rattle.snl_channels.specs.Links.{Link};
 ghost use Rattle.snl_machine.specs.MachineOf.{IsMachineOf, StaysMachineOf, fixed_of, world_held};
@@ -125,6 +125,20 @@ impl Runner {
             end: ran.end,
             sink: ran.sink,
         })
+    }
+
+    /// Adds the counts of other runs of the program, in the order of the tallies of its coverage: where those of its lines are right
+    /// for some lines, the counts are right for these lines too. The only error is that memory ends; nothing was added then.
+    pub fn add_counts(&mut self, alloc: Global, counts: &[u64]) -> Result<(), AllocError>
+        ensures ran { OnOk result ((macros : List ℕ) (budget : ℕ) (lines more : List (List ℕ))
+            (whole : ProgramTree) (options : Options) (others ns : List ℕ) →
+            IsRunner macros budget lines whole options self.old →
+            counts.now ≡ others ++ ns →
+            AreCounts (go_texts (charted self.old.coverage.chart)) ns more →
+            IsRunner macros budget (lines ++ more) whole options self.new) }
+        ensures err { OnErr result (self.new ≡ self.old) }
+    {
+        self.coverage.add_counts(alloc, counts)
     }
 
     /// What the runs showed so far.

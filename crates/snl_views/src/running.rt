@@ -1,6 +1,6 @@
 //! `run`: a run for a person, with notes between its lines and a summary behind them.
 
-ghost use Rattle.std.specs.Prelude.{◌≡◌, ◌+◌, ◌-◌, ◌^◌, ◌<◌, ℕ, List, Bool, [], Some, false, true, IfNone, IfOk, IfSome, string_bytes};
+ghost use Rattle.std.specs.Prelude.{◌≡◌, ◌+◌, ◌-◌, ◌^◌, ◌<◌, ℕ, List, Bool, [], Some, false, true, not, IfNone, IfOk, IfSome, string_bytes};
 ghost use Rattle.std.specs.Option.{option_map, unwrap_or};
 ghost use Rattle.snl_syntax.specs.Programs.{ProgramTree};
 ghost use Rattle.snl_channels.specs.Links.{Link};
@@ -109,10 +109,13 @@ fn summed<K: Sink>(teller: &mut Teller<'_, K>, end: End, summary: &[u8]) -> bool
         K.failures teller.old.inner + teller.old.refused < 2 ^ 64 - 1 }
     ensures told { shown (K.told teller.new.inner) ≡ shown (K.told teller.old.inner) }
     ensures failed { sink_failed end ≡ true → result ≡ false }
-    ensures sent { result ≡ true → K.failures teller.new.inner
+    ensures stays { sink_failed end ≡ true → K.failures teller.new.inner + teller.new.refused
         ≡ K.failures teller.old.inner + teller.old.refused }
+    ensures counted { sink_failed end ≡ false → K.failures teller.new.inner
+        + teller.new.refused ≡ counted (not result) (K.failures teller.old.inner
+        + teller.old.refused) }
 {
-    if failed(end) || !teller.is_faithful() {
+    if failed(end) {
         return false;
     }
     teller.tell(summary).is_ok()
@@ -127,17 +130,17 @@ fn finished<K: Sink, W: Sink>(folder: &mut Folder<'_, K, W>, end: End, summary: 
         W.told folder.new.witness ≡ Some run → K.told folder.new.inner ≡ Some output →
         ∥ IsFolded run output ∥₁ }
     ensures failed { sink_failed end ≡ true → result ≡ false }
-    ensures sent { result ≡ true → K.failures folder.new.inner
-        + W.failures folder.new.witness ≡ K.failures folder.old.inner
+    ensures stays { sink_failed end ≡ true → K.failures folder.new.inner
+        + (W.failures folder.new.witness + folder.new.refused) ≡ K.failures folder.old.inner
         + (W.failures folder.old.witness + folder.old.refused) }
+    ensures counted { sink_failed end ≡ false → K.failures folder.new.inner
+        + (W.failures folder.new.witness + folder.new.refused) ≡ counted (not result)
+        (K.failures folder.old.inner + (W.failures folder.old.witness + folder.old.refused)) }
 {
     if failed(end) {
         return false;
     }
-    match folder.finish(summary) {
-        Ok(()) => folder.is_faithful(),
-        Err(_) => false,
-    }
+    folder.finish(summary).is_ok()
 }
 
 /// What was told of a run.
@@ -197,8 +200,8 @@ fn whole_of<R: Source + Drop, K: Sink + Drop>(
     ensures source { IfOk result (λ told. R.failures told.trace
         ≡ counted (source_failed told.end) (R.failures trace)) }
     ensures failed { IfOk result (λ told. sink_failed told.end ≡ true → told.is_whole ≡ false) }
-    ensures whole { IfOk result (λ told. told.is_whole ≡ true →
-        K.failures told.sink ≡ K.failures sink) }
+    ensures counted { IfOk result (λ told. K.failures told.sink
+        ≡ counted (not told.is_whole) (K.failures sink)) }
 {
     let progress = RefCell::new(Progress::new());
     let notes = notes_of(alloc, stage, subject.units, &progress)?;
@@ -214,6 +217,10 @@ fn whole_of<R: Source + Drop, K: Sink + Drop>(
     let scene = scene_of(subject.source, stage);
     let summary = summary_of(alloc, scene, end, heard, teller.notes())?;
     let is_whole = summed(&mut teller, end, summary.as_slice());
+    let is_faithful = teller.is_faithful();
+    if !is_faithful {
+        return Err(AllocError);
+    }
     Ok(Told {
         end,
         is_whole,
@@ -247,8 +254,8 @@ fn folded_of<R: Source + Drop, K: Sink + Drop, W: Sink + Drop>(
     ensures folded { IfOk result (λ told. told.is_whole ≡ true → (run output : List ℕ) →
         W.told told.sink.1 ≡ Some run → K.told told.sink.0 ≡ Some output →
         ∥ IsFolded run output ∥₁) }
-    ensures whole { IfOk result (λ told. told.is_whole ≡ true → K.failures told.sink.0
-        + W.failures told.sink.1 ≡ K.failures sink + W.failures witness) }
+    ensures counted { IfOk result (λ told. K.failures told.sink.0 + W.failures told.sink.1
+        ≡ counted (not told.is_whole) (K.failures sink + W.failures witness)) }
 {
     let progress = RefCell::new(Progress::new());
     let notes = notes_of(alloc, stage, subject.units, &progress)?;
@@ -267,6 +274,10 @@ fn folded_of<R: Source + Drop, K: Sink + Drop, W: Sink + Drop>(
     let scene = scene_of(subject.source, stage);
     let summary = summary_of(alloc, scene, end, heard, folder.notes())?;
     let is_whole = finished(&mut folder, end, summary.as_slice());
+    let is_faithful = folder.is_faithful();
+    if !is_faithful {
+        return Err(AllocError);
+    }
     Ok(Told {
         end,
         is_whole,
@@ -279,7 +290,8 @@ fn folded_of<R: Source + Drop, K: Sink + Drop, W: Sink + Drop>(
 /// summary behind them. The lines that do not begin with `#` are those that `snlrun` writes.
 ///
 /// `job` has the options, the macros and the budget, as `snlrun` has them. Nothing was read of the trace, and nothing was written
-/// to the sink; both are handed back. Fails only where memory ran out.
+/// to the sink; both are handed back. Not all is written exactly where the sink counts a failure. Fails only where memory ran out; and
+/// where a line of the run would read as a note, or have no end, which none has.
 pub fn run_whole<R: Source + Drop, K: Sink + Drop>(
     alloc: Global,
     subject: Subject<'_>,
@@ -302,8 +314,8 @@ pub fn run_whole<R: Source + Drop, K: Sink + Drop>(
         ≡ trace_failures a.end (R.failures trace)) }
     ensures failed { IfOk result (λ a. IfSome a.end (λ e. sink_failed e ≡ true →
         a.is_whole ≡ false)) }
-    ensures whole { IfOk result (λ a. a.is_whole ≡ true →
-        K.failures a.sink ≡ K.failures sink) }
+    ensures counted { IfOk result (λ a. K.failures a.sink
+        ≡ counted (not a.is_whole) (K.failures sink)) }
 {
     let Staged { messages, stage } = staged_of(alloc, subject.source, job)?;
     let Some(mut stage) = stage else {
@@ -354,8 +366,8 @@ pub fn run_folded<R: Source + Drop, K: Sink + Drop, W: Sink + Drop>(
     ensures folded { IfOk result (λ answer. IfSome answer.end (λ _. answer.is_whole ≡ true →
         (run output : List ℕ) → W.told answer.sink.1 ≡ Some run →
         K.told answer.sink.0 ≡ Some output → ∥ IsFolded run output ∥₁)) }
-    ensures whole { IfOk result (λ a. a.is_whole ≡ true → K.failures a.sink.0
-        + W.failures a.sink.1 ≡ K.failures sink + W.failures witness) }
+    ensures counted { IfOk result (λ a. K.failures a.sink.0 + W.failures a.sink.1
+        ≡ counted (not a.is_whole) (K.failures sink + W.failures witness)) }
 {
     let Staged { messages, stage } = staged_of(alloc, subject.source, job)?;
     let Some(mut stage) = stage else {
