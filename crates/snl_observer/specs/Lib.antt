@@ -7,4 +7,5 @@ pub mod Telling
 pub mod Observed
 pub mod Behind
 pub mod Loaded
+pub mod Lasting
 pub mod Examples

@@ -4,6 +4,7 @@ ghost use Rattle.std.specs.Prelude.{◌≡◌, ◌++◌, ◌∷◌, [], IfNone, 
 ghost use Rattle.snl_heard.specs.Heard.{among, heard_all, heard_of};
 ghost use Rattle.snl_heard.specs.Names.{seen};
 ghost use Rattle.snl_observer.specs.Heard.{heard_quiet, heard_told};
+ghost use Rattle.snl_observer.specs.Lasting.{lasting_of};
 ghost use Rattle.snl_observer.specs.Telling.{Adds, EndsIn, Tells, comes_at};
 ghost use Rattle.snl_observer.specs.Watching.{Led, ended_by};
 ghost use Rattle.snl_output.specs.TraceLines.{whole_lines};
@@ -47,6 +48,7 @@ fn hear_on<K: Sink>(watch: &mut Program, log: &mut Log<K>, line: &[u8])
     ensures led { Led (line.now ∷ []) watch.old.machine watch.new.machine
         log.old.page.watch.bytes log.new.page.watch.bytes log.old.how log.new.how }
     ensures run { log.new.page.run.bytes ≡ log.old.page.run.bytes }
+    ensures lasts { lasting_of watch.new ≡ lasting_of watch.old }
 {
     match line_done(watch, line) {
         Err(_) => log.how = Some(Ending::Stopped),
@@ -63,6 +65,7 @@ fn hear<K: Sink>(watch: &mut Program, log: &mut Log<K>, line: &[u8])
     ensures led { Led (line.now ∷ []) watch.old.machine watch.new.machine
         log.old.page.watch.bytes log.new.page.watch.bytes log.old.how log.new.how }
     ensures run { log.new.page.run.bytes ≡ log.old.page.run.bytes }
+    ensures lasts { lasting_of watch.new ≡ lasting_of watch.old }
 {
     match log.how {
         Some(_end) => {}
@@ -76,6 +79,7 @@ fn hear_line<K: Sink>(watch: &mut Program, log: &mut Log<K>, sets: &[SetNames], 
         watch.new.machine log.old.page.watch.bytes log.new.page.watch.bytes log.old.how
         log.new.how }
     ensures run { log.new.page.run.bytes ≡ log.old.page.run.bytes }
+    ensures lasts { lasting_of watch.new ≡ lasting_of watch.old }
 {
     let Ok(events) = heard_of(log.alloc, sets, line) else {
         log.stop();
@@ -97,6 +101,7 @@ fn tell_line<K: Sink>(watch: &mut Program, log: &mut Log<K>, sets: &[SetNames], 
     ensures whole { result ≡ true → log.new.page.run.bytes
         ≡ log.old.page.run.bytes ++ (line.now ++ 10 ∷ []) }
     ensures ended { result ≡ false → IsSome log.new.how }
+    ensures lasts { lasting_of watch.new ≡ lasting_of watch.old }
 {
     if log.stops() {
         return false;
@@ -135,6 +140,7 @@ fn tell_lines<'t, K: Sink>(
     ensures ends { IfNone result (EndsIn (map seen sets.now) until text.now
         watch.old.machine watch.new.machine log.old.page.watch.bytes log.new.page.watch.bytes
         log.old.how log.new.how log.old.page.run.bytes log.new.page.run.bytes) }
+    ensures lasts { lasting_of watch.new ≡ lasting_of watch.old }
 {
     let mut left = text;
     while let Some((line, rest)) = first_line(left) {
@@ -157,6 +163,7 @@ fn tell_rest<K: Sink>(watch: &mut Program, log: &mut Log<K>, sets: &[SetNames], 
     ensures adds { Adds log.old.page.run.bytes log.new.page.run.bytes text.now }
     ensures whole { result ≡ true → log.new.page.run.bytes
         ≡ log.old.page.run.bytes ++ text.now }
+    ensures lasts { lasting_of watch.new ≡ lasting_of watch.old }
 {
     match tell_lines(watch, log, sets, text, None) {
         Some(left) => left.is_empty(),
@@ -178,6 +185,7 @@ fn hear_among<K: Sink>(
     ensures adds { Adds log.old.page.run.bytes log.new.page.run.bytes text.now }
     ensures whole { result ≡ true → log.new.page.run.bytes
         ≡ log.old.page.run.bytes ++ text.now }
+    ensures lasts { lasting_of watch.new ≡ lasting_of watch.old }
 {
     let Some(left) = tell_lines(watch, log, trace.sets, text, Some(trace.ms)) else {
         return false;
@@ -191,6 +199,7 @@ fn hear_quiet<K: Sink>(watch: &mut Program, log: &mut Log<K>, line: &[u8], end: 
     ensures led { Led (heard_quiet line.now end) watch.old.machine watch.new.machine
         log.old.page.watch.bytes log.new.page.watch.bytes log.old.how log.new.how }
     ensures run { log.new.page.run.bytes ≡ log.old.page.run.bytes }
+    ensures lasts { lasting_of watch.new ≡ lasting_of watch.old }
 {
     match end {
         None => hear(watch, log, line),
@@ -214,6 +223,7 @@ pub(crate) fn hear_done<K: Sink>(
         run.now.page.text.items }
     ensures whole { result ≡ true → log.new.page.run.bytes
         ≡ log.old.page.run.bytes ++ run.now.page.text.items }
+    ensures lasts { lasting_of watch.new ≡ lasting_of watch.old }
 {
     let sets = run.sets.as_slice();
     match done.ms {

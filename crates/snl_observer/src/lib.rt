@@ -8,6 +8,7 @@ mod closes;
 mod doing;
 mod hearing;
 pub mod laws;
+mod lines;
 mod loading;
 mod logs;
 mod pages;
@@ -20,7 +21,10 @@ mod trail;
 mod writing;
 
 pub use closes::{Close, Ending};
+pub use doing::{Done, line_done};
+pub use lines::{LineHeard, line_heard};
 pub use loading::{Ready, program_of};
+pub use pages::Held;
 pub use programs::Program;
 pub use reading::{Observed, observe};
 pub use standing::Place;

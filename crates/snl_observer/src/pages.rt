@@ -7,7 +7,7 @@ use std::alloc::Global;
 
 /// Keeps what it is given. It fails where memory ends.
 #[derive(Drop)]
-pub(crate) struct Held {
+pub struct Held {
     text: Vec<u8>,
     failures: u64,
 }
@@ -22,7 +22,7 @@ impl Held {
     }
 
     /// Takes away what was written.
-    pub(crate) fn clear(&mut self)
+    pub fn clear(&mut self)
         ensures text { self.new.text.items ≡ [] }
         ensures failures { self.new.failures ≡ 0 }
     {
@@ -31,7 +31,7 @@ impl Held {
     }
 
     /// What was written since it was empty.
-    pub(crate) fn text(&self) -> &[u8]
+    pub fn text(&self) -> &[u8]
         ensures { result.now ≡ self.now.text.items }
     {
         self.text.as_slice()

@@ -1,21 +1,28 @@
 //! A program that can be watched, or that can watch.
 
+ghost use Rattle.std.specs.Prelude.{◌≡◌};
+ghost use Rattle.snl_machine.specs.MachineOf.{world_held};
+ghost use Rattle.snl_machine.specs.Snapshots.{Pictures, lasting_frame};
+ghost use Rattle.snl_meaning.specs.World.{World};
+ghost use Rattle.snl_observer.specs.Lasting.{lasting_of};
+
 use crate::pages::Held;
 use crate::standing::{Place, place_named};
 use snl_heard::SetNames;
-use snl_machine::Machine;
+use snl_machine::{Machine, Snapshot};
 use snl_trace::Events;
 
 /// A program that can be watched, or that can watch.
 #[derive(Drop)]
 pub struct Program {
-    pub(crate) machine: Machine,
+    /// Its machine.
+    pub machine: Machine,
     /// What the last line made it write.
-    pub(crate) page: Held,
+    pub page: Held,
     /// Room for what it hears.
     pub(crate) events: Events,
     /// The names of its states.
-    pub(crate) sets: Vec<SetNames>,
+    pub sets: Vec<SetNames>,
     /// A channel that has a name of those that a requirement hears.
     pub(crate) reserved: Option<Vec<u8>>,
     /// Whether it waits for its channels before it starts.
@@ -23,6 +30,16 @@ pub struct Program {
 }
 
 impl Program {
+    /// Takes its machine back to a snapshot of it.
+    pub fn restore(&mut self, from: &Snapshot)
+        ensures world { (w : World) → Pictures from.now w
+            → lasting_frame w ≡ lasting_frame (world_held self.old.machine)
+            → world_held self.new.machine ≡ w }
+        ensures lasts { lasting_of self.new ≡ lasting_of self.old }
+    {
+        self.machine.restore(from);
+    }
+
     /// The name of a channel, after macros, that begins as those do that a requirement hears: with `put:` or `state:`. A program with
     /// such a channel can't be watched.
     pub fn reserved(&self) -> Option<&[u8]> {

@@ -240,7 +240,8 @@ fn log_of<K: Sink + Drop>(
 /// `# watch ` in front of each.
 ///
 /// The run ends where that of the program does, and where the requirement makes a mistake or comes into a state that must not be. What
-/// one line of the trace makes either write is held, and no more. The only error is that memory ends before the run, or behind it.
+/// one line of the trace makes either write is held, and no more. The only error is that memory ends before the run or behind it, or
+/// was refused in it for a line that the summary tells.
 pub fn observe<R: Source, K: Sink + Drop>(
     alloc: Global,
     run: &mut Program,

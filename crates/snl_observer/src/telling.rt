@@ -161,8 +161,12 @@ fn push_standing(out: &mut Vec<u8>, standing: &Standing) -> Result<(), AllocErro
     Ok(())
 }
 
-/// What is told of a run that was watched, as lines that begin with `#`; where memory ended, nothing. The only error is that memory ends.
+/// What is told of a run that was watched, as lines that begin with `#`; where memory ended, nothing. The only error is that memory ends,
+/// or was refused for one of its last lines.
 pub(crate) fn summary_of(alloc: Global, told: Told) -> Result<Vec<u8>, AllocError> {
+    if told.trail.ran_out() {
+        return Err(AllocError);
+    }
     let mut out = Vec::new(alloc);
     match told.close {
         Close::Run(end) => push_end(&mut out, told, end)?,

@@ -1,10 +1,10 @@
 //! The last lines of a run that is watched, for what is told of its end.
 
-use std::alloc::Global;
+use std::alloc::{AllocError, Global};
 use std::mem;
 
 /// The last three lines that a program wrote, the line of the trace at which its run ended, and a line that the requirement could
-/// not take. Where memory ends, some of that is missing.
+/// not take.
 #[derive(Drop)]
 pub(crate) struct Trail {
     /// The oldest first.
@@ -13,12 +13,14 @@ pub(crate) struct Trail {
     third: Vec<u8>,
     at: Vec<u8>,
     refused: Vec<u8>,
+    /// Whether one of them is missing, since memory was refused.
+    ran_out: bool,
 }
 
-/// Puts a text in the place of another.
-fn replace(place: &mut Vec<u8>, text: &[u8]) {
+/// Puts a text in the place of another. Where memory is refused, none stands there.
+fn replace(place: &mut Vec<u8>, text: &[u8]) -> Result<(), AllocError> {
     place.clear();
-    let _ = place.extend_from_slice(text);
+    place.extend_from_slice(text)
 }
 
 impl Trail {
@@ -30,6 +32,7 @@ impl Trail {
             third: Vec::new(alloc),
             at: Vec::new(alloc),
             refused: Vec::new(alloc),
+            ran_out: false,
         }
     }
 
@@ -37,17 +40,28 @@ impl Trail {
     pub(crate) fn note(&mut self, line: &[u8]) {
         mem::swap(&mut self.first, &mut self.second);
         mem::swap(&mut self.second, &mut self.third);
-        replace(&mut self.third, line);
+        if replace(&mut self.third, line).is_err() {
+            self.ran_out = true;
+        }
     }
 
     /// Notes the line of the trace at which the run ended.
     pub(crate) fn end_at(&mut self, line: &[u8]) {
-        replace(&mut self.at, line);
+        if replace(&mut self.at, line).is_err() {
+            self.ran_out = true;
+        }
     }
 
     /// Notes a line that the requirement could not take.
     pub(crate) fn refuse(&mut self, line: &[u8]) {
-        replace(&mut self.refused, line);
+        if replace(&mut self.refused, line).is_err() {
+            self.ran_out = true;
+        }
+    }
+
+    /// Whether a line is missing, since memory was refused.
+    pub(crate) fn ran_out(&self) -> bool {
+        self.ran_out
     }
 
     /// The last lines, the oldest first; an empty one is none.

@@ -58,3 +58,6 @@ returns-in_ok-end-in-Ok-Some-clause-heard c = λ r meant sets.
     heard-event sets r c.in-Ok-Some.ms (event_heard c.read_event.new.room c.in-Ok-Some.heard) c.args.line.now (world_held m) _ c.in_ok-end-in-Ok-Some.end _
     (read-means m r c.time-time.result c.args.line.now (view c.read_event.result) meant c.read_event.ensures c.time-time.ensures
     ∙ ap view (c.in-Ok-Some.is ∙ ap (λ (o : Option (ℕ × Heard)). Ok o) c.in-Ok-Some.field-0-is)) (rw c.ready.ensures at (c.in_ok-end-in-Ok-Some.ensures.did r meant))
+
+pub returns-in_ok-end-in-Ok-Some-clause-lasts : goal.returns-in_ok-end-in-Ok-Some-clause-lasts
+returns-in_ok-end-in-Ok-Some-clause-lasts c = λ j. record { fixed = c.event_ends.ensures.fixed j; frame = c.event_ends.ensures.frame j; sets = c.args.program.now.sets.items }

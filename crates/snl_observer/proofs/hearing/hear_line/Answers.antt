@@ -7,7 +7,7 @@ pub returns-in_default-clause-led : goal.returns-in_default-clause-led
 returns-in_default-clause-led g c = led-stop-as _ c.args.watch.now.machine _ _ _ _ c.stop.ensures.watch c.stop.ensures.how
 
 pub loop-event-init : goal.loop-event-init
-loop-event-init g c = record { led = led-none c.args.watch.now.machine _ _; run = refl }
+loop-event-init g c = record { led = led-none c.args.watch.now.machine _ _; run = refl; lasts = refl }
 
 pub loop-event-preserved : goal.loop-event-preserved
 loop-event-preserved g c =
@@ -21,6 +21,7 @@ loop-event-preserved g c =
     record {
       led = led-push (map (λ event. event.items) (take i xs)) _ _ one.items _ _ _ _ _ _ _ _ _ c.loop-event.invariant.led c.as_slice.ensures.value c.hear.ensures.led all;
       run = c.hear.ensures.run ∙ c.loop-event.invariant.run;
+      lasts = c.hear.ensures.lasts ∙ c.loop-event.invariant.lasts;
     }
 
 pub returns-clause-led : goal.returns-clause-led
