@@ -36,11 +36,15 @@ struct Texts<'t> {
 
 /// What the words of a call wish of channels, in the units of the trace, and the recorded trace that they name, once for each program.
 #[derive(Drop)]
-struct Wished {
-    values: Vec<WishedValues>,
-    firsts: Vec<WishedValues>,
-    old_like: Option<File>,
-    new_like: Option<File>,
+pub struct Wished {
+    /// The values of channels.
+    pub values: Vec<WishedValues>,
+    /// Values at the start.
+    pub firsts: Vec<WishedValues>,
+    /// The recorded trace,
+    pub old_like: Option<File>,
+    /// and once more.
+    pub new_like: Option<File>,
 }
 
 /// What the words of a call wish of channels. Where a value is none, or the recorded trace cannot be opened, the user is told.
@@ -56,7 +60,11 @@ fn wished_in(rt: &HostRuntime, asked: Asked) -> Result<Wished, Status> {
 }
 
 /// What the words of a call wish.
-fn wishes_of(alloc: Global, words: &SearchWords, wished: Wished) -> Result<PairWishes, AllocError> {
+pub fn wishes_of(
+    alloc: Global,
+    words: &SearchWords,
+    wished: Wished,
+) -> Result<PairWishes, AllocError> {
     let Wished {
         values,
         firsts,

@@ -3,9 +3,11 @@
 ghost use Rattle.std.specs.Prelude.{◌≡◌, ◌-◌, ◌^◌, ◌<◌, []};
 
 use crate::asked::Asked;
+use crate::counting::{add_files, write_counts};
 use crate::input::Input;
 use crate::overhearing::bad_line_text;
 use crate::traces::TraceFile;
+use crate::wholes::paths_in;
 use snc::{Status, status_of};
 use snc_cli::{tell, write};
 use snl_args::CoverWords;
@@ -123,6 +125,27 @@ fn run_over_input(
     total.take(rt, "trace", end, trace.heard())
 }
 
+/// Runs a program over traces in files.
+fn run_over_files(
+    rt: &HostRuntime,
+    runner: &mut Runner,
+    names: &[String],
+    total: &mut Total,
+) -> Result<(), Status> {
+    for name in names {
+        run_over_file(rt, runner, name.as_str(), total)?;
+    }
+    Ok(())
+}
+
+/// Whether the trace of a call is that on standard input: it names no other, and no counts.
+fn reads_input(words: &CoverWords) -> bool {
+    words.traces.is_empty()
+        && words.trace_list.is_none()
+        && words.adds.is_empty()
+        && words.add_list.is_none()
+}
+
 /// Runs a program over all traces of a call.
 fn run_over_all(
     rt: &HostRuntime,
@@ -131,13 +154,25 @@ fn run_over_all(
     tells: bool,
 ) -> Result<Total, Status> {
     let mut total = Total::new(rt);
-    if words.traces.is_empty() {
+    if reads_input(words) {
         run_over_input(rt, runner, tells, &mut total)?;
     }
-    for name in &words.traces {
-        run_over_file(rt, runner, name.as_str(), &mut total)?;
-    }
+    run_over_files(rt, runner, words.traces.as_slice(), &mut total)?;
+    let listed = paths_in(rt, &words.trace_list)?;
+    run_over_files(rt, runner, listed.as_slice(), &mut total)?;
     Ok(total)
+}
+
+/// Adds the counts in the files that a call names.
+fn add_all(
+    rt: &HostRuntime,
+    asked: Asked,
+    runner: &mut Runner,
+    words: &CoverWords,
+) -> Result<(), Status> {
+    add_files(rt, asked, runner, words.adds.as_slice())?;
+    let listed = paths_in(rt, &words.add_list)?;
+    add_files(rt, asked, runner, listed.as_slice())
 }
 
 /// Writes what was missed; answers the status of that: whether less was taken than the call asks.
@@ -155,6 +190,20 @@ fn write_answer(rt: &HostRuntime, coverage: &Coverage, fail_under: u32) -> Statu
         return Status::SourceErrors;
     }
     Status::Well
+}
+
+/// Writes the counts of a call where it asks for them, and then what was missed; answers the status of that. Where the counts cannot be
+/// written, the answer is.
+fn write_all(rt: &HostRuntime, asked: Asked, runner: &Runner, words: &CoverWords) -> Status {
+    let counted = write_counts(rt, asked, runner, &words.counts);
+    if let Err(Status::Memory) = counted {
+        return Status::Memory;
+    }
+    let answered = write_answer(rt, runner.coverage(), words.fail_under);
+    match counted {
+        Err(status) if answered != Status::Memory => status,
+        _ => answered,
+    }
 }
 
 /// Tells what came of all traces, once an answer was written or not. The messages come behind it, and what is told of bad lines of
@@ -193,10 +242,11 @@ pub fn answered_cover(
         asked.tell(rt, messages);
         return Ok(Status::SourceErrors);
     };
+    add_all(rt, asked, runner.as_mut(), words)?;
     let total = run_over_all(rt, runner.as_mut(), words, call.progress)?;
     let answered = match total.status {
         Status::InputOutput => Status::Well,
-        _ => write_answer(rt, runner.coverage(), words.fail_under),
+        _ => write_all(rt, asked, runner.as_ref(), words),
     };
     Ok(told(rt, asked, messages, answered, &total))
 }

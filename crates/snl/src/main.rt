@@ -8,9 +8,12 @@ mod blessing;
 mod checking;
 mod comparing;
 mod contrasting;
+mod counting;
 mod covering;
 mod graphing;
+mod guarding;
 mod input;
+mod joining;
 mod logs;
 mod macros;
 mod noting;
@@ -19,6 +22,7 @@ mod overhearing;
 mod run;
 mod searching;
 mod sets;
+mod sharing;
 mod sources;
 mod subjects;
 mod suites;
@@ -33,13 +37,17 @@ mod units;
 mod verdicts;
 mod waiting;
 mod watching;
+mod wholes;
 
 use asked::Asked;
 use checking::check_lints;
 use comparing::answered_same;
 use contrasting::answered_contrast;
+use counting::check_counts;
 use covering::answered_cover;
 use graphing::answered_graph;
+use guarding::answered_guard;
+use joining::answered_join;
 use macros::{check_macros, notes_of};
 use outputs::check_outputs;
 use run::answered_run;
@@ -47,7 +55,7 @@ use searching::answered_search;
 use sets::answered_sets;
 use snc::Status;
 use snc_cli::{source_in, tell, words_of, write};
-use snl_args::{Call, CallFault, SameWords, Word, read_call};
+use snl_args::{Call, CallFault, SameWords, SearchWords, Word, read_call};
 use sources::answered_checks;
 use std::process::ExitCode;
 use std::time::Instant;
@@ -90,9 +98,10 @@ fn check_words(rt: &HostRuntime, call: &Call) -> Result<(), Status> {
         Word::Check(words) => check_lints(rt, words),
         Word::Trace(words) => check_times(rt, words),
         Word::Test(words) => check_tests(rt, words),
-        Word::Waits | Word::Run(_) | Word::Cover(_) | Word::Graph(_) => Ok(()),
+        Word::Cover(words) => check_counts(rt, &words.counts),
+        Word::Waits | Word::Run(_) | Word::Graph(_) => Ok(()),
         Word::Same(words) => check_same(rt, call, words),
-        Word::Tree | Word::Sets(_) => Ok(()),
+        Word::Tree | Word::Sets(_) | Word::Join(_) => Ok(()),
     }
 }
 
@@ -137,6 +146,7 @@ fn answered(rt: &HostRuntime, call: &Call, begun: Option<Instant>) -> u8 {
         Word::Check(words) => answered_checks(rt, call, words).code(),
         Word::Trace(words) => code_of(answered_trace(rt, call, words)),
         Word::Same(words) => answered_pair(rt, call, words, begun),
+        Word::Join(words) => answered_join(rt, words),
         Word::Test(words) => code_of(answered_test(rt, call, words)),
         _ => answered_program(rt, call, begun),
     }
@@ -174,14 +184,28 @@ fn code_of(done: Result<Status, Status>) -> u8 {
     }
 }
 
+/// Searches a program, or one that a requirement watches. Answers the exit status.
+fn answered_sought(
+    rt: &HostRuntime,
+    asked: Asked,
+    words: &SearchWords,
+    begun: Option<Instant>,
+) -> u8 {
+    match &words.watch {
+        Some(job) => answered_guard(rt, asked, words, job, begun),
+        None => answered_search(rt, asked, words, begun),
+    }
+}
+
 /// Does what a word asks for of a program, and answers the exit status.
 fn answered_word(rt: &HostRuntime, asked: Asked, begun: Option<Instant>) -> u8 {
     match &asked.call.word {
         Word::Waits => code_of(answered_waits(rt, asked)),
         Word::Run(words) => code_of(answered_run(rt, asked, words)),
         Word::Cover(words) => code_of(answered_cover(rt, asked, words)),
-        Word::Graph(no_trace) => code_of(answered_graph(rt, asked, *no_trace)),
-        Word::Search(words) => answered_search(rt, asked, words, begun),
+        Word::Graph(words) => code_of(answered_graph(rt, asked, words)),
+        Word::Search(words) => answered_sought(rt, asked, words, begun),
+        Word::Join(words) => answered_join(rt, words),
         Word::Tree => code_of(answered_tree(rt, asked)),
         Word::Sets(declares) => code_of(answered_sets(rt, asked, *declares)),
         Word::Check(words) => answered_checks(rt, asked.call, words).code(),

@@ -2,10 +2,12 @@
 
 use crate::asked::Asked;
 use crate::outputs::{write_suite, write_trace};
+use crate::sharing::part_of;
 use crate::units::{wished_lines, wished_values};
 use snc::{Judgement, Status, judged, macros_of};
 use snc_cli::write;
 use snl_args::SearchWords;
+use snl_joins::Part;
 use snl_search::{
     Bounds, Scouts, SearchAnswer, Verdict, Watches, WishFault, WishedValues, Wishes, search,
 };
@@ -128,6 +130,7 @@ fn wishes_of(
     words: &SearchWords,
     wished: Wished,
     like: Option<File>,
+    part: Option<Part>,
 ) -> Result<Wishes, AllocError> {
     let Wished {
         never,
@@ -142,6 +145,7 @@ fn wishes_of(
         firsts,
         gaps: Vec::from_slice(alloc, words.gaps.as_slice())?,
         down: owned(alloc, words.down.as_slice())?,
+        part,
         bounds: Bounds {
             lines: words.lines as usize,
             worlds: words.worlds as usize,
@@ -171,14 +175,13 @@ pub fn recorded(rt: &HostRuntime, words: &SearchWords) -> Result<Option<File>, S
 }
 
 /// What is wished of a search.
-fn all_wishes(
-    rt: &HostRuntime,
-    words: &SearchWords,
-    units: &[ChannelUnits],
-) -> Result<Wishes, Status> {
-    let wished = wished_in(rt, words, units)?;
+fn all_wishes(rt: &HostRuntime, asked: Asked, words: &SearchWords) -> Result<Wishes, Status> {
+    let wished = wished_in(rt, words, asked.units)?;
     let like = recorded(rt, words)?;
-    wishes_of(rt.alloc(), words, wished, like).map_err(|_| Status::Memory)
+    let Ok(part) = part_of(rt.alloc(), asked, words) else {
+        return Err(Status::Memory);
+    };
+    wishes_of(rt.alloc(), words, wished, like, part).map_err(|_| Status::Memory)
 }
 
 /// Says what a search answers.
@@ -221,7 +224,7 @@ fn searched<T: Scouts + Drop>(
     begun: Option<Instant>,
 ) -> u8 {
     let call = asked.call;
-    let wishes = match all_wishes(rt, words, asked.units) {
+    let wishes = match all_wishes(rt, asked, words) {
         Ok(wishes) => wishes,
         Err(status) => return status.code(),
     };

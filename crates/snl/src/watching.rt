@@ -17,14 +17,22 @@ use std::io::BufWriter;
 
 /// What came of both sources.
 #[derive(Drop)]
-struct Both {
-    run: Ready,
-    watch: Ready,
-    notes: Vec<u8>,
+pub struct Both {
+    /// The program.
+    pub run: Ready,
+    /// The requirement.
+    pub watch: Ready,
+    /// What is noted of the call.
+    pub notes: Vec<u8>,
 }
 
 /// Reads and checks both sources.
-fn both_of(rt: &HostRuntime, asked: Asked, job: &Job, watch: &[u8]) -> Result<Both, AllocError> {
+pub fn both_of(
+    rt: &HostRuntime,
+    asked: Asked,
+    job: &Job,
+    watch: &[u8],
+) -> Result<Both, AllocError> {
     let Asked { source, call, .. } = asked;
     let notes = notes_of(rt, call, source, watch)?;
     let run = program_of(rt.alloc(), source, &call.job)?;
@@ -33,7 +41,7 @@ fn both_of(rt: &HostRuntime, asked: Asked, job: &Job, watch: &[u8]) -> Result<Bo
 }
 
 /// Sees that one program can be watched, and that the other can watch. Where that is not so, the user is told.
-fn check_both(
+pub fn check_both(
     rt: &HostRuntime,
     call: &Call,
     job: &Job,
@@ -62,7 +70,7 @@ fn check_both(
 }
 
 /// The states that must not be, by their names. Where there is no such state, the user is told.
-fn places_of(
+pub fn places_of(
     rt: &HostRuntime,
     job: &Job,
     never: &[String],

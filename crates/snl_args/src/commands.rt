@@ -34,7 +34,7 @@ pub(crate) const OF_RUN: [Argument; 4] = [
 ];
 
 /// What `cover` takes alone.
-pub(crate) const OF_COVER: [Argument; 2] = [
+pub(crate) const OF_COVER: [Argument; 6] = [
     Argument {
         name: "fail-under",
         takes: Takes::Percent,
@@ -45,14 +45,41 @@ pub(crate) const OF_COVER: [Argument; 2] = [
         takes: Takes::Texts("FILE"),
         help: "A trace, in the place of standard input; several add up",
     },
+    Argument {
+        name: "trace-list",
+        takes: Takes::Text("LIST"),
+        help: "A file that names traces, a path a line; - for standard input",
+    },
+    Argument {
+        name: "add",
+        takes: Takes::Texts("FILE"),
+        help: "The counts that another call wrote; several add up",
+    },
+    Argument {
+        name: "add-list",
+        takes: Takes::Text("LIST"),
+        help: "A file that names such files, a path a line; - for standard input",
+    },
+    Argument {
+        name: "counts",
+        takes: Takes::Text("FILE"),
+        help: "The file that the counts go to",
+    },
 ];
 
 /// What `graph` takes alone.
-pub(crate) const OF_GRAPH: [Argument; 1] = [Argument {
-    name: "no-trace",
-    takes: Takes::Nothing,
-    help: "Read no trace, and tell no counts",
-}];
+pub(crate) const OF_GRAPH: [Argument; 2] = [
+    Argument {
+        name: "no-trace",
+        takes: Takes::Nothing,
+        help: "Read no trace, and tell no counts",
+    },
+    Argument {
+        name: "counts",
+        takes: Takes::Texts("FILE"),
+        help: "The counts that snl cover wrote, in the place of a trace; several add up",
+    },
+];
 
 /// What `sets` takes alone.
 pub(crate) const OF_SETS: [Argument; 1] = [Argument {

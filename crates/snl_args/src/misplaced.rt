@@ -3,6 +3,7 @@
 use crate::calls::Call;
 use crate::runs::RunWords;
 use crate::sames::SameWords;
+use crate::searches::SearchWords;
 use crate::words::Word;
 use std::alloc::{AllocError, Global};
 
@@ -49,6 +50,24 @@ fn right_run(
     format!(in alloc; "The trace comes on standard input: snl run --watch {watch} {file} < {trace}")
 }
 
+/// How a trace is given to a search, with the right call.
+fn right_search(
+    alloc: Global,
+    words: &SearchWords,
+    file: &str,
+    trace: &str,
+) -> Result<String, AllocError> {
+    let Some(watch) = &words.watch else {
+        return format!(in alloc;
+            "A recorded trace comes behind --like: snl search --like {trace} {file}"
+        );
+    };
+    let watch = quoted(alloc, watch.file.as_str())?;
+    format!(in alloc;
+        "A recorded trace comes behind --like: snl search --watch {watch} --like {trace} {file}"
+    )
+}
+
 /// How a trace is given to a word, with the right call.
 fn right_call(alloc: Global, word: &Word, file: &str, trace: &str) -> Result<String, AllocError> {
     match word {
@@ -67,10 +86,11 @@ fn right_call(alloc: Global, word: &Word, file: &str, trace: &str) -> Result<Str
         Word::Check(_) => format!(in alloc; "No trace is read: snl check {file}"),
         Word::Trace(_) => format!(in alloc; "A log stands behind the word: snl trace {trace}"),
         Word::Test(_) => format!(in alloc; "Traces are found by their names: snl test {file}"),
-        Word::Same(words) => right_same(alloc, words, file, trace),
-        Word::Search(_) => format!(in alloc;
-            "A recorded trace comes behind --like: snl search --like {trace} {file}"
+        Word::Join(_) => format!(in alloc;
+            "Answers stand behind the word: snl search --join {trace}"
         ),
+        Word::Same(words) => right_same(alloc, words, file, trace),
+        Word::Search(words) => right_search(alloc, words, file, trace),
     }
 }
 

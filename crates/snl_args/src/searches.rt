@@ -3,6 +3,7 @@
 use crate::arguments::{Argument, Number, Takes};
 use crate::calls::CallFault;
 use clap::ArgMatches;
+use snc_args::Job;
 use std::alloc::{AllocError, Global};
 
 /// Values for a channel, by its name.
@@ -14,10 +15,21 @@ pub struct ChannelValues {
     pub values: Vec<String>,
 }
 
+/// A share of the starts: which one, from 1 on, and of how many.
+#[derive(Clone, Copy, Debug, PartialEq, Eq)]
+pub struct PartWord {
+    /// Which one.
+    pub number: usize,
+    /// Of how many.
+    pub of: usize,
+}
+
 /// What a search is asked for.
 #[derive(Drop)]
 pub struct SearchWords {
-    /// Lines that the output may not have, or states that may not be entered.
+    /// The requirement, with the options and the macros of the call; None where nobody watches.
+    pub watch: Option<Job>,
+    /// Lines that the output may not have, or states that may not be entered; with a requirement states of that.
     pub never: Vec<String>,
     /// What no line may end with, byte for byte.
     pub ends: Vec<String>,
@@ -31,6 +43,8 @@ pub struct SearchWords {
     pub gaps: Vec<u64>,
     /// Channels that may go down and up.
     pub down: Vec<String>,
+    /// The share of the starts that the search goes over, in the place of all.
+    pub part: Option<PartWord>,
     /// How many lines a trace has at most behind the start.
     pub lines: u32,
     /// How many worlds are kept at most.
@@ -48,7 +62,7 @@ pub struct SearchWords {
 }
 
 /// What `search` takes beside FILE and MACROS.
-pub(crate) const OF_SEARCH: [Argument; 15] = [
+pub(crate) const OF_SEARCH: [Argument; 17] = [
     Argument {
         name: "never",
         takes: Takes::Texts("LINE|SS.STATE"),
@@ -143,6 +157,16 @@ pub(crate) const OF_SEARCH: [Argument; 15] = [
         name: "cover",
         takes: Takes::Text("DIR"),
         help: "The folder of traces that take the clauses, each a shortest one",
+    },
+    Argument {
+        name: "watch",
+        takes: Takes::Text("W"),
+        help: "The file of a requirement: --never names a state of it, SS.STATE",
+    },
+    Argument {
+        name: "part",
+        takes: Takes::Text("I/N"),
+        help: "Go over each Nth start from the Ith on: one of N jobs",
     },
 ];
 
@@ -281,9 +305,66 @@ fn maybe_text(
     }
 }
 
+/// Sees that a search with a requirement is asked for nothing that it does not do.
+fn check_watched(alloc: Global, words: &SearchWords) -> Result<(), CallFault> {
+    let option = if words.watch.is_none() {
+        return Ok(());
+    } else if !words.ends.is_empty() {
+        "--never-end"
+    } else if words.cover.is_some() {
+        "--cover"
+    } else if words.part.is_some() {
+        "--part"
+    } else {
+        return Ok(());
+    };
+    Err(CallFault::Usage(format!(in alloc;
+        "error: '{option}' does not go with --watch\n\nFor more information, try '--help'.\n"
+    )?))
+}
+
+/// A share, of `I/N` with I from 1 to N; None where the text is none.
+fn part_of(text: &str) -> Option<PartWord> {
+    let (number, of) = text.split_once('/')?;
+    let number = number.parse::<usize>().ok()?;
+    let of = of.parse::<usize>().ok()?;
+    if 1 <= number && number <= of {
+        Some(PartWord { number, of })
+    } else {
+        None
+    }
+}
+
+/// The share of `--part`.
+fn part_in(alloc: Global, matches: &ArgMatches) -> Result<Option<PartWord>, CallFault> {
+    let Some(text) = matches.get_str("part") else {
+        return Ok(None);
+    };
+    match part_of(text) {
+        Some(part) => Ok(Some(part)),
+        None => Err(bad_text(alloc, "part", text, "I/N with I from 1 to N")),
+    }
+}
+
 /// What a search is asked for, as a command found it.
-pub(crate) fn search_words(alloc: Global, matches: &ArgMatches) -> Result<SearchWords, CallFault> {
+pub(crate) fn search_words(
+    alloc: Global,
+    matches: &ArgMatches,
+    watch: Option<Job>,
+) -> Result<SearchWords, CallFault> {
+    let words = all_words(alloc, matches, watch)?;
+    check_watched(alloc, &words)?;
+    Ok(words)
+}
+
+/// The same, whether or not it does it.
+fn all_words(
+    alloc: Global,
+    matches: &ArgMatches,
+    watch: Option<Job>,
+) -> Result<SearchWords, CallFault> {
     Ok(SearchWords {
+        watch,
         never: all_texts(alloc, matches, "never")?,
         ends: all_texts(alloc, matches, "never-end")?,
         like: maybe_text(alloc, matches, "like")?,
@@ -291,6 +372,7 @@ pub(crate) fn search_words(alloc: Global, matches: &ArgMatches) -> Result<Search
         firsts: all_named(alloc, matches, "first")?,
         gaps: gaps_in(alloc, matches)?,
         down: all_texts(alloc, matches, "down")?,
+        part: part_in(alloc, matches)?,
         lines: number_in(matches, "lines"),
         worlds: number_in(matches, "worlds"),
         memory: number_in(matches, "memory"),

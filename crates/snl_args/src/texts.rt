@@ -117,15 +117,20 @@ requirement made a mistake, 6 a line of the trace is bad.",
 
 /// What `snl cover --help` tells.
 pub(crate) const COVER: Texts = Texts {
-    usage: "snl cover [±X..] [--budget N] [--progress] [--fail-under PERCENT] [--trace FILE].. FILE [MACROS] [< TRACE]",
+    usage: "snl cover [±X..] [--budget N] [--progress] [--fail-under PERCENT] [--trace FILE].. [--trace-list LIST] [--add FILE].. \
+     [--add-list LIST] [--counts FILE] FILE [MACROS] [< TRACE]",
     about: "\
 What of a program no run showed: clauses that were never taken, states that were never entered, and
 channels that a pvPut names and that were never put to; and a last line with the sums.",
     more: "\
-Each trace is a run from the start, and their counts add up. With no --trace the trace is read from
-standard input.
+Each trace is a run from the start, and their counts add up. With none of --trace, --trace-list, --add and
+--add-list the trace is read from standard input.
+
+With --counts the counts go to a file, which another call adds to its own by --add: those of the same program, macros,
+options and budget, by the same version of snl. Other files are refused.
 
 Example: snl cover --fail-under 80 --trace monday.trace --trace tuesday.trace pump.st
+         snl cover --add monday.cov --add tuesday.cov pump.st
 
 Status: 0 done, 1 less of the clauses was taken than --fail-under asks, or the program has errors,
 2 the words of the call are wrong, 3 a file, the input or the output failed, 4 memory ran out,
@@ -134,14 +139,16 @@ Status: 0 done, 1 less of the clauses was taken than --fail-under asks, or the p
 
 /// What `snl graph --help` tells.
 pub(crate) const GRAPH: Texts = Texts {
-    usage: "snl graph [±X..] [--budget N] [--progress] [--no-trace] FILE [MACROS] [< TRACE]",
+    usage: "snl graph [±X..] [--budget N] [--progress] [--no-trace] [--counts FILE].. FILE [MACROS] [< TRACE]",
     about: "\
 A picture of a program, for dot of Graphviz: its states and the clauses that lead from one to another,
 with how often each was taken. What was never taken is red and dashed.",
     more: "\
-The trace is read from standard input, but with --no-trace.
+The trace is read from standard input, but with --no-trace, and with --counts: then the counts are those of the runs
+that wrote such files.
 
 Example: snl graph light.st < light.trace | dot -Tsvg > light.svg
+         snl graph --counts monday.cov light.st | dot -Tsvg > monday.svg
 
 Status: 0 done, 1 the program has errors, 2 the words of the call are wrong, 3 the file, the input or
 the output failed, 4 memory ran out, 5 the program faulted, 6 a line of the trace is bad.",
@@ -260,9 +267,9 @@ output failed, 4 memory ran out.",
 
 /// What `snl search --help` tells.
 pub(crate) const SEARCH: Texts = Texts {
-    usage: "snl search [±X..] [--never LINE|SS.STATE].. [--never-end TEXT].. [--like TRACE] [--values NAME=V,V..].. [--first NAME=V].. \
-     [--units FILE] [--gaps MS,MS..] [--down NAME].. [--lines K] [--worlds N] [--memory MB] [--seconds S] [--budget N] [--out FILE] [--cover DIR] \
-     FILE [MACROS]",
+    usage: "snl search [±X..] [--watch W] [--never LINE|SS.STATE].. [--never-end TEXT].. [--like TRACE] [--values NAME=V,V..].. \
+     [--first NAME=V].. [--units FILE] [--gaps MS,MS..] [--down NAME].. [--lines K] [--worlds N] [--memory MB] [--seconds S] [--budget N] [--out FILE] [--cover DIR] \
+     [--part I/N] FILE [MACROS]",
     about: "\
 Every trace over a small alphabet, the shortest first, for a fault of the program and for output lines that must
 not come. The values come from the constants of the source. A note tells of each channel that is put twice at one
@@ -274,11 +281,33 @@ found.
 With --units FILE a value of --never, --values and --first is one of the control system, as 2.5 or On: it is scaled exactly, and
 one that is no whole number of a trace then is refused. The answer has the numbers of a trace.
 
+With --watch W each trace runs beside the requirement W, as in snl run --watch, and --never names a state of W that may not come to be.
+
+With --part I/N the search goes over each Nth start alone, from the Ith on, and says so: N jobs share it, and
+snl search --join ANSWER.. joins their answers.
+
 Example: snl search --never 'put LAB:LAMP 1' light.st
 
 Status: 0 no such trace does what must not happen, 1 something was found, or the program has errors, 2 the words of
 the call are wrong, 3 a file or the output failed, 4 memory ran out, 6 a line of TRACE is bad, 7 a bound stopped it, or the
 program cannot begin, or no line can come behind the start.",
+};
+
+/// What `snl search --join --help` tells.
+pub(crate) const JOIN: Texts = Texts {
+    usage: "snl search --join ANSWER..",
+    about: "\
+The answers of the jobs that went over the parts of one search, joined: of how long traces all of them say that none does what must
+not happen.",
+    more: "\
+The answers are taken as they stand: what is told is their sum, and no proof. Each part has to be there, of the same program, words,
+values and version.
+
+Example: snl search --join part1.txt part2.txt part3.txt
+
+Status: 0 no such trace does what must not happen, 1 something was found, 2 the words of the call are wrong, 3 a file is no
+answer of a part, or one of another search, or a file or the output failed, 4 memory ran out, 7 a part is missing, or a
+bound stopped one.",
 };
 
 /// What `snl trace --help` tells.

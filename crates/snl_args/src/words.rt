@@ -4,12 +4,14 @@ use crate::arguments::{Argument, OF_PROGRAM, OF_RUNS, OVER_TRACE, command_of};
 use crate::calls::{Call, CallFault, matches_in};
 use crate::checks::{CheckWords, OF_CHECK, check_words};
 use crate::commands::{OF_COVER, OF_GRAPH, OF_RUN, OF_SETS, OF_WAITS};
+use crate::joins::{JoinWords, OF_JOIN, join_words};
 use crate::runs::{RunWords, run_words};
 use crate::sames::{OF_SAME, OF_SAME_SEARCH, SameWords, same_words};
 use crate::searches::{OF_SEARCH, SearchWords, search_words};
 use crate::tests::{OF_TEST, TestWords, test_words};
 use crate::texts::{
-    CHECK, COVER, GRAPH, RUN, SAME, SAME_SEARCH, SEARCH, SETS, TEST, TRACE, TREE, Texts, WAITS,
+    CHECK, COVER, GRAPH, JOIN, RUN, SAME, SAME_SEARCH, SEARCH, SETS, TEST, TRACE, TREE, Texts,
+    WAITS,
 };
 use crate::traces::{OF_TRACE, TraceWords, trace_words};
 use clap::ArgMatches;
@@ -20,10 +22,27 @@ use std::alloc::{AllocError, Global};
 /// What a coverage is asked for.
 #[derive(Drop)]
 pub struct CoverWords {
-    /// The files of the traces; none where the trace is on standard input.
+    /// The files of traces.
     pub traces: Vec<String>,
+    /// The file that lists files of traces.
+    pub trace_list: Option<String>,
+    /// The files of counts of other calls.
+    pub adds: Vec<String>,
+    /// The file that lists such files.
+    pub add_list: Option<String>,
+    /// The file that the counts go to.
+    pub counts: Option<String>,
     /// How many percent of the clauses have to be taken; 0 where nothing is said.
     pub fail_under: u32,
+}
+
+/// What a picture is asked for.
+#[derive(Drop)]
+pub struct GraphWords {
+    /// Whether it is drawn without a run.
+    pub no_trace: bool,
+    /// The files of counts that it tells, in the place of those of a run.
+    pub counts: Vec<String>,
 }
 
 /// What a call of `snl` may ask for, with what the word takes alone.
@@ -33,12 +52,14 @@ pub enum Word {
     Waits,
     /// A run with notes and a summary: `snl run [--whole] [--watch W [--never SS.STATE]..] [--units FILE] FILE [MACROS]`.
     Run(RunWords),
-    /// What of a program no run showed: `snl cover [--fail-under PERCENT] [--trace FILE].. FILE [MACROS]`.
+    /// What of a program no run showed: `snl cover [--fail-under PERCENT] [--trace FILE].. [--add FILE].. FILE [MACROS]`.
     Cover(CoverWords),
-    /// A picture of a program: `snl graph [--no-trace] FILE [MACROS]`. Whether it is drawn without a run.
-    Graph(bool),
-    /// Every trace over a small alphabet, the shortest first: `snl search [--never LINE].. FILE [MACROS]`.
+    /// A picture of a program: `snl graph [--no-trace] [--counts FILE].. FILE [MACROS]`.
+    Graph(GraphWords),
+    /// Every trace over a small alphabet, the shortest first: `snl search [--watch W] [--never LINE].. FILE [MACROS]`.
     Search(SearchWords),
+    /// The answers of the parts of a search, joined: `snl search --join ANSWER..`.
+    Join(JoinWords),
     /// Where two programs differ over a trace, or over any: `snl same [--search] [--but CHANNEL].. [--puts] OLD NEW [MACROS]`.
     Same(SameWords),
     /// The tree of a program as JSON: `snl tree FILE [MACROS]`.
@@ -187,14 +208,22 @@ fn read_run(alloc: Global, words: &[&str], options: Options) -> Result<Call, Cal
     trace_call(alloc, &matches, "FILE", options, word)
 }
 
+/// The texts of an option that may stand several times, as a command found it.
+fn texts_of(alloc: Global, matches: &ArgMatches, option: &str) -> Result<Vec<String>, AllocError> {
+    match matches.get_strs(option) {
+        Some(texts) => all_owned(alloc, texts),
+        None => Ok(Vec::new(alloc)),
+    }
+}
+
 /// What a coverage is asked for, as a command found it.
 fn cover_words(alloc: Global, matches: &ArgMatches) -> Result<CoverWords, AllocError> {
-    let traces = match matches.get_strs("trace") {
-        Some(names) => all_owned(alloc, names)?,
-        None => Vec::new(alloc),
-    };
     Ok(CoverWords {
-        traces,
+        traces: texts_of(alloc, matches, "trace")?,
+        trace_list: owned(alloc, matches.get_str("trace-list"))?,
+        adds: texts_of(alloc, matches, "add")?,
+        add_list: owned(alloc, matches.get_str("add-list"))?,
+        counts: owned(alloc, matches.get_str("counts"))?,
         fail_under: matches.get_one::<u32>("fail-under").unwrap_or(0),
     })
 }
@@ -209,14 +238,28 @@ fn read_cover(alloc: Global, words: &[&str], options: Options) -> Result<Call, C
 /// What follows `graph`.
 fn read_graph(alloc: Global, words: &[&str], options: Options) -> Result<Call, CallFault> {
     let matches = found_in(alloc, &GRAPH, &OVER_TRACE, &OF_GRAPH, words)?;
-    let word = Word::Graph(matches.get_flag("no-trace"));
+    let word = Word::Graph(GraphWords {
+        no_trace: matches.get_flag("no-trace"),
+        counts: texts_of(alloc, &matches, "counts")?,
+    });
     trace_call(alloc, &matches, "FILE", options, word)
 }
 
 /// What follows `search`. What is found is run again with the budget that `snlrun` has where nothing is said.
 fn read_search(alloc: Global, words: &[&str], options: Options) -> Result<Call, CallFault> {
     let matches = found_in(alloc, &SEARCH, &OF_PROGRAM, &OF_SEARCH, words)?;
-    let word = Word::Search(search_words(alloc, &matches)?);
+    let watch = match matches.get_str("watch") {
+        Some(_) => Some(plain_job(alloc, &matches, "watch", options)?),
+        None => None,
+    };
+    let word = Word::Search(search_words(alloc, &matches, watch)?);
+    plain_call(alloc, &matches, options, word)
+}
+
+/// What follows `search` where `--join` is among it.
+fn read_join(alloc: Global, words: &[&str], options: Options) -> Result<Call, CallFault> {
+    let matches = found_in(alloc, &JOIN, &[], &OF_JOIN, words)?;
+    let word = Word::Join(join_words(alloc, &matches)?);
     plain_call(alloc, &matches, options, word)
 }
 
@@ -236,7 +279,7 @@ fn sought_words(
     matches: &ArgMatches,
     options: Options,
 ) -> Result<SameWords, CallFault> {
-    let search = search_words(alloc, matches)?;
+    let search = search_words(alloc, matches, None)?;
     let new = plain_job(alloc, matches, "NEW", options)?;
     Ok(same_words(alloc, matches, new, Some(search))?)
 }
@@ -255,10 +298,10 @@ fn read_same_search(alloc: Global, words: &[&str], options: Options) -> Result<C
     call_at(alloc, &matches, "OLD", options, word)
 }
 
-/// Whether a word of a call is `--search`.
-fn is_sought(words: &[&str]) -> bool {
+/// Whether this option is among the words of a call.
+fn has_word(words: &[&str], option: &str) -> bool {
     for word in words {
-        if *word == "--search" {
+        if *word == option {
             return true;
         }
     }
@@ -318,8 +361,9 @@ pub(crate) fn read_word(
         "run" => read_run(alloc, words, options)?,
         "cover" => read_cover(alloc, words, options)?,
         "graph" => read_graph(alloc, words, options)?,
+        "search" if has_word(words, "--join") => read_join(alloc, words, options)?,
         "search" => read_search(alloc, words, options)?,
-        "same" if is_sought(words) => read_same_search(alloc, words, options)?,
+        "same" if has_word(words, "--search") => read_same_search(alloc, words, options)?,
         "same" => read_same(alloc, words, options)?,
         "tree" => read_tree(alloc, words, options)?,
         "sets" => read_sets(alloc, words, options)?,

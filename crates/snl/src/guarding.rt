@@ -1,0 +1,272 @@
+//! `snl search --watch`.
+
+use crate::asked::Asked;
+use crate::contrasting::{Wished, wishes_of};
+use crate::outputs::write_trace;
+use crate::searching::{Clock, recorded, told_fault};
+use crate::units::wished_values;
+use crate::watching::{Both, both_of, check_both, places_of};
+use snc::{Judgement, Status, judged, macros_of};
+use snc_args::Job;
+use snc_cli::{source_in, tell, write};
+use snl_args::SearchWords;
+use snl_equivalence::PairWishes;
+use snl_guards::{Crew, Watched, WatchedAnswer, WatchedQuestion, heard_by, search_watched};
+use snl_machine::Machine;
+use snl_observer::{Place, Ready, program_of};
+use snl_safety::Forbidden;
+use snl_search::{Heard, Limits, Watches, WishFault};
+use std::alloc::{AllocError, Global};
+use std::fs::File;
+use std::time::Instant;
+
+/// What a call asks of a program and its requirement.
+#[derive(Clone, Copy)]
+struct Guard<'g> {
+    asked: Asked<'g>,
+    words: &'g SearchWords,
+    /// That of the requirement.
+    job: &'g Job,
+    /// Its source.
+    watch: &'g [u8],
+    /// When the call began.
+    begun: Option<Instant>,
+}
+
+/// What must not be, by numbers and by names.
+#[derive(Drop)]
+struct Never {
+    places: Vec<Place>,
+    names: Vec<Forbidden>,
+}
+
+/// A text of the caller's own, where there is one.
+fn owned(alloc: Global, text: &Option<String>) -> Result<Option<String>, AllocError> {
+    match text {
+        Some(text) => Ok(Some(String::from_str(alloc, text.as_str())?)),
+        None => Ok(None),
+    }
+}
+
+/// The same job with another budget.
+fn job_with(alloc: Global, job: &Job, budget: u32) -> Result<Job, AllocError> {
+    Ok(Job {
+        file: String::from_str(alloc, job.file.as_str())?,
+        options: job.options,
+        tables: job.tables,
+        budget,
+        macros: owned(alloc, &job.macros)?,
+    })
+}
+
+/// The program and the requirement, with a budget; None where one of them has an error.
+fn team_of(alloc: Global, guard: Guard, budget: u32) -> Result<Option<Watched>, AllocError> {
+    let job = job_with(alloc, &guard.asked.call.job, budget)?;
+    let Ready { program: run, .. } = program_of(alloc, guard.asked.source, &job)?;
+    let job = job_with(alloc, guard.job, budget)?;
+    let Ready { program: watch, .. } = program_of(alloc, guard.watch, &job)?;
+    match (run, watch) {
+        (Some(run), Some(watch)) => Ok(Some(Watched { run, watch })),
+        _ => Ok(None),
+    }
+}
+
+/// The names of a state that must not be.
+fn forbidden_of(alloc: Global, name: &str) -> Result<Forbidden, AllocError> {
+    let (set, state) = name.split_once('.').unwrap_or((name, ""));
+    Ok(Forbidden {
+        set: Vec::from_slice(alloc, set.as_bytes())?,
+        state: Vec::from_slice(alloc, state.as_bytes())?,
+    })
+}
+
+/// The names of the states that must not be.
+fn names_of(alloc: Global, never: &[String]) -> Result<Vec<Forbidden>, AllocError> {
+    let mut names = Vec::new(alloc);
+    for name in never {
+        names.push(forbidden_of(alloc, name.as_str())?)?;
+    }
+    Ok(names)
+}
+
+/// What must not be. Where the requirement has no such state, the user is told.
+fn never_of(rt: &HostRuntime, guard: Guard, judge: &Watched) -> Result<Never, Status> {
+    let never = guard.words.never.as_slice();
+    let places = places_of(rt, guard.job, never, judge.watch.as_ref())?;
+    match names_of(rt.alloc(), never) {
+        Ok(names) => Ok(Never { places, names }),
+        Err(_) => Err(Status::Memory),
+    }
+}
+
+/// What is wished of a search. Where a value is none, or the recorded trace cannot be opened, the user is told.
+fn all_wishes(rt: &HostRuntime, guard: Guard) -> Result<PairWishes, Status> {
+    let words = guard.words;
+    let units = guard.asked.units;
+    let wished = Wished {
+        values: wished_values(rt, units, "values", words.values.as_slice())?,
+        firsts: wished_values(rt, units, "first", words.firsts.as_slice())?,
+        old_like: recorded(rt, words)?,
+        new_like: None,
+    };
+    wishes_of(rt.alloc(), words, wished).map_err(|_| Status::Memory)
+}
+
+/// Says what a search answers.
+fn told_answer(rt: &HostRuntime, words: &SearchWords, answer: &WatchedAnswer) -> u8 {
+    let written = write(rt, answer.text.as_slice());
+    if !write_trace(rt, &words.out, &answer.trace) || written.is_err() {
+        return Status::InputOutput.code();
+    }
+    answer.verdict.code()
+}
+
+/// Searches a program and its requirement, by what the program hears. Answers the status.
+fn searched<'c>(
+    rt: &'c HostRuntime,
+    guard: Guard,
+    heard: Heard,
+    crew: Crew,
+    question: &WatchedQuestion,
+    limits: &mut Limits<Clock<'c>>,
+) -> u8 {
+    match search_watched(rt.alloc(), heard, crew, question, limits) {
+        Ok(answer) => told_answer(rt, guard.words, &answer),
+        Err(fault) => told_fault(rt, guard.words, &fault),
+    }
+}
+
+/// What the program hears, by its source once more; None where that has an error.
+fn heard_in<W: Watches>(
+    rt: &HostRuntime,
+    guard: Guard,
+    machine: &Machine,
+    like: &Option<File>,
+    limits: &mut Limits<W>,
+) -> Result<Option<Heard>, WishFault> {
+    let Asked { source, call, .. } = guard.asked;
+    let job = &call.job;
+    let Judgement { checked, .. } = judged(rt.alloc(), source, job.file.as_bytes(), job.options)?;
+    let Some(checked) = checked else {
+        return Ok(None);
+    };
+    let macros = macros_of(job);
+    let heard = heard_by(rt.alloc(), checked, machine, &macros, like, limits)?;
+    Ok(Some(heard))
+}
+
+/// All teams, by the one that judges. None where a source has an error.
+fn crew_of(alloc: Global, guard: Guard, judge: Watched) -> Result<Option<Crew>, AllocError> {
+    let budget = guard.asked.call.job.budget;
+    let quick = team_of(alloc, guard, guard.words.budget.min(budget))?;
+    let witness = team_of(alloc, guard, budget)?;
+    match (quick, witness) {
+        (Some(quick), Some(witness)) => Ok(Some(Crew {
+            quick,
+            judge,
+            witness,
+        })),
+        _ => Ok(None),
+    }
+}
+
+/// Searches with all teams, as it is wished. Answers the status.
+fn searched_by(
+    rt: &HostRuntime,
+    guard: Guard,
+    crew: Crew,
+    never: &Never,
+    wishes: &PairWishes,
+) -> u8 {
+    let question = WatchedQuestion {
+        never: never.names.as_slice(),
+        places: never.places.as_slice(),
+        wishes,
+    };
+    let clock = Clock::new(rt, guard.begun, guard.words.seconds);
+    let mut limits = Limits::new(rt.alloc(), clock, wishes.bounds.memory);
+    let machine = &crew.judge.run.machine;
+    match heard_in(rt, guard, machine, &wishes.old_like, &mut limits) {
+        Ok(Some(heard)) => searched(rt, guard, heard, crew, &question, &mut limits),
+        Ok(None) => Status::SourceErrors.code(),
+        Err(fault) => told_fault(rt, guard.words, &fault),
+    }
+}
+
+/// Searches by the team that judges, where memory lasts for the others. Answers the status.
+fn searched_with(
+    rt: &HostRuntime,
+    guard: Guard,
+    judge: Watched,
+    never: &Never,
+    wishes: &PairWishes,
+) -> Result<u8, AllocError> {
+    match crew_of(rt.alloc(), guard, judge)? {
+        Some(crew) => Ok(searched_by(rt, guard, crew, never, wishes)),
+        None => Ok(Status::SourceErrors.code()),
+    }
+}
+
+/// Searches a program and its requirement, which have no error. Answers the status.
+fn guarded(rt: &HostRuntime, guard: Guard, judge: Watched) -> Result<u8, Status> {
+    let call = guard.asked.call;
+    check_both(
+        rt,
+        call,
+        guard.job,
+        judge.run.as_ref(),
+        judge.watch.as_ref(),
+    )?;
+    let never = never_of(rt, guard, &judge)?;
+    let wishes = all_wishes(rt, guard)?;
+    searched_with(rt, guard, judge, &never, &wishes).map_err(|_| Status::Memory)
+}
+
+/// The same of two sources that were read. The messages come behind the answer.
+fn guarded_in(rt: &HostRuntime, guard: Guard, both: Both) -> Result<u8, Status> {
+    let Both { run, watch, notes } = both;
+    let Ready { messages, program } = run;
+    let run = program;
+    let of_run = messages;
+    let Ready { messages, program } = watch;
+    let code = match (run, program) {
+        (Some(run), Some(watch)) => guarded(rt, guard, Watched { run, watch })?,
+        _ => Status::SourceErrors.code(),
+    };
+    if code != Status::Memory.code() {
+        tell(rt, notes.as_slice());
+        tell(rt, of_run.as_slice());
+        tell(rt, messages.as_slice());
+    }
+    Ok(code)
+}
+
+/// `snl search --watch`, of a call that began at a time: the program that is asked for, watched by the one of a job. Answers the status.
+pub fn answered_guard(
+    rt: &HostRuntime,
+    asked: Asked,
+    words: &SearchWords,
+    job: &Job,
+    begun: Option<Instant>,
+) -> u8 {
+    let watch = match source_in(rt, "snl", job.file.as_str()) {
+        Ok(watch) => watch,
+        Err(status) => return status.code(),
+    };
+    let watch = watch.as_slice();
+    let guard = Guard {
+        asked,
+        words,
+        job,
+        watch,
+        begun,
+    };
+    let both = match both_of(rt, asked, job, watch) {
+        Ok(both) => both,
+        Err(_) => return Status::Memory.code(),
+    };
+    match guarded_in(rt, guard, both) {
+        Ok(code) => code,
+        Err(status) => status.code(),
+    }
+}

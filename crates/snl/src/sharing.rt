@@ -1,0 +1,74 @@
+//! A share of a search, and of what search it is.
+
+use crate::VERSION;
+use crate::asked::Asked;
+use crate::counting::{head_of, words_of};
+use snl_args::{ChannelValues, SearchWords};
+use snl_joins::Part;
+use std::alloc::{AllocError, Global};
+
+/// Adds the texts of an option, each with its name in front.
+fn push_texts(out: &mut String, option: &str, texts: &[String]) -> Result<(), AllocError> {
+    for text in texts {
+        out.push_str("\n")?;
+        out.push_str(option)?;
+        out.push_str(" ")?;
+        out.push_str(text.as_str())?;
+    }
+    Ok(())
+}
+
+/// Adds the values of channels.
+fn push_values(
+    out: &mut String,
+    option: &str,
+    channels: &[ChannelValues],
+) -> Result<(), AllocError> {
+    for channel in channels {
+        out.push_str("\n")?;
+        out.push_str(option)?;
+        out.push_str(" ")?;
+        out.push_str(channel.name.as_str())?;
+        push_texts(out, "=", channel.values.as_slice())?;
+    }
+    Ok(())
+}
+
+/// The words of a call that the answer of a search depends on, but for those of its bounds.
+fn search_text(alloc: Global, asked: Asked, words: &SearchWords) -> Result<String, AllocError> {
+    let mut out = words_of(alloc, asked)?;
+    let budget = format!(in alloc; "\nbudget {}", words.budget)?;
+    out.push_str(budget.as_str())?;
+    push_texts(&mut out, "never", words.never.as_slice())?;
+    push_texts(&mut out, "never-end", words.ends.as_slice())?;
+    push_values(&mut out, "values", words.values.as_slice())?;
+    push_values(&mut out, "first", words.firsts.as_slice())?;
+    push_texts(&mut out, "down", words.down.as_slice())?;
+    for gap in &words.gaps {
+        let gap = format!(in alloc; "\ngap {gap}")?;
+        out.push_str(gap.as_str())?;
+    }
+    Ok(out)
+}
+
+/// The share of a search that a call names, with the version of the programs and the digest of the search.
+pub fn part_of(
+    alloc: Global,
+    asked: Asked,
+    words: &SearchWords,
+) -> Result<Option<Part>, AllocError> {
+    let Some(part) = words.part else {
+        return Ok(None);
+    };
+    let text = search_text(alloc, asked, words)?;
+    let head = head_of(alloc, asked, text.as_str())?;
+    let mut subject = Vec::from_slice(alloc, b"snl ")?;
+    subject.extend_from_slice(VERSION.as_bytes())?;
+    subject.extend_from_slice(b" ")?;
+    subject.extend_from_slice(head.digits())?;
+    Ok(Some(Part {
+        number: part.number,
+        of: part.of,
+        subject,
+    }))
+}

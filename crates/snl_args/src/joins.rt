@@ -1,0 +1,36 @@
+//! What follows `search --join`: the answers of jobs that went over shares of one search.
+
+use crate::arguments::{Argument, Takes};
+use crate::words::all_owned;
+use clap::ArgMatches;
+use std::alloc::{AllocError, Global};
+
+/// Which answers are joined.
+#[derive(Drop)]
+pub struct JoinWords {
+    /// Their files.
+    pub answers: Vec<String>,
+}
+
+/// What `search --join` takes.
+pub(crate) const OF_JOIN: [Argument; 2] = [
+    Argument {
+        name: "join",
+        takes: Takes::Nothing,
+        help: "Join the answers of all parts of a search",
+    },
+    Argument {
+        name: "ANSWER",
+        takes: Takes::Places,
+        help: "The files of the answers",
+    },
+];
+
+/// Which answers are joined, as the command found them.
+pub(crate) fn join_words(alloc: Global, matches: &ArgMatches) -> Result<JoinWords, AllocError> {
+    let answers = match matches.get_strs("ANSWER") {
+        Some(names) => all_owned(alloc, names)?,
+        None => Vec::new(alloc),
+    };
+    Ok(JoinWords { answers })
+}
