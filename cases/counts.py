@@ -106,8 +106,8 @@ def wrong_of_words(root):
         if f"`{word}`" not in changes and f"`snl {word}`" not in changes:
             yield f"FAILED CHANGELOG.md: it does not say which version takes snl {word}"
     pages = {it.stem for it in root.glob("docs/tools/*.md")}
-    # `snl run` has two.
-    wanted = {"README", "requirements", *words}
+    # `snl run` has two, and one is about many programs.
+    wanted = {"README", "many", "requirements", *words}
     if pages != wanted:
         yield f"FAILED docs/tools: not a page a word, and one for all: {pages ^ wanted}"
     index = (root / "docs/tools/README.md").read_text()

@@ -132,13 +132,14 @@ def told_of(root, folder, built):
     """What the page of a word lacks of its options, but for those of all words, or has and is none."""
     shared = (root / "docs/tools/README.md").read_text()
     words = re.findall(r"^  (\w+) +[A-Z]", called(built / "snl", "--help"), re.MULTILINE)
-    pages = {it.stem for it in root.glob("docs/tools/*.md")} - {"README", "requirements"}
+    pages = {it.stem for it in root.glob("docs/tools/*.md")} - {"README", "many", "requirements"}
     if {*words} != pages:
         return f"--help has the words {words}, and there are pages of {sorted(pages)}"
     for word in words:
         page = (root / f"docs/tools/{word}.md").read_text()
-        # `snl same --search` has a help of its own.
-        helped = "".join(called(built / "snl", word, *more, "--help") for more in ((), ("--search",))[: 2 if word == "same" else 1])
+        # `snl same --search` and `snl search --join` have helps of their own.
+        own = {"same": [("--search",)], "search": [("--join",)]}.get(word, [])
+        helped = "".join(called(built / "snl", word, *more, "--help") for more in ((), *own))
         options, written = ({*re.findall(r"(?<![\w-])--[a-z][a-z-]*", it)} for it in (helped, page))
         lacking = [it for it in options - written if not re.search(rf"{it}\b", shared)]
         if not options or lacking or written - options:

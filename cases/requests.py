@@ -42,6 +42,12 @@ option +s;
 int x; assign x to "X"; monitor x;
 ss s { state a { when (x > 5) {} state b } state b { when (x < 1) {} state a } }
 """
+RULE = """program watch
+option +s; option -c;
+int x; assign x to "a"; monitor x;
+int q; assign q to "put:q"; monitor q;
+ss rule { state kept { when (q > 5) {} state broken } state broken { when (q < 1) {} state kept } }
+"""
 SOURCES = {
     "r.st": SOURCE,
     "syntax.st": SOURCE.replace("ss two", "ss ss"),
@@ -57,6 +63,16 @@ SOURCES = {
     # No trace of a search, so it is not written over.
     "notes": "mine\n",
     "faulty.st": SAFE.replace("{} state b }", "{ x = 1 / (x - 6); } state b }"),
+    # A requirement of the first one.
+    "watch.st": RULE,
+    # One that it breaks: a value of 2 is put to `q`.
+    "strict.st": RULE.replace("q > 5", "q > 1"),
+    # One of the program whose searches are short, which that breaks at its first line.
+    "guard.st": """program guard
+option +s; option -c;
+int s; assign s to "state:s"; monitor s;
+ss rule { state kept { when (s == 1) {} state broken } state broken { when (s == 0) {} state kept } }
+""",
     "functions.st": SOURCE.replace("int w", "int twice(int n) { int m = n; return m + n; } int w").replace("w % 7", "twice(w) % 7"),
 }
 
@@ -70,7 +86,8 @@ class Call(NamedTuple):
     status: int
     least: int
     # So many are of no weight: what the library collects it asks all room for at first, and else room for one more each time.
-    # The words of a call are collected so, the messages that are let through, and what names are compared by.
+    # The words of a call are collected so, the messages that are let through, and what names are compared by. A search with a
+    # requirement does each line as `snl run --watch` does, which notes the last lines for a summary that a search does not tell.
     free: int
     # The file or the folder that the call writes beside its streams.
     written: str = ""
@@ -102,10 +119,13 @@ CALLS = (
     Call("snl", ["run", "r.st"], 0, 100, 6),
     Call("snl", ["run", "--budget", "40", "valve.st"], 5, 300, 3),
     Call("snl", ["run", "--whole", "functions.st"], 0, 100, 1),
+    Call("snl", ["run", "--watch", "watch.st", "r.st"], 0, 500, 1),
+    Call("snl", ["run", "--watch", "strict.st", "--never", "rule.broken", "r.st"], 1, 500, 1),
     Call("snl", ["trace", "day.log"], 0, 20, 1),
     Call("snl", ["trace", "--program", "r.st", "day.log"], 0, 100, 1),
     Call("snl", ["search", "--lines", "1", "safe.st"], 0, 300, 1),
     Call("snl", ["search", "--lines", "1", "--out", "found", "faulty.st"], 1, 300, 1, "found"),
+    Call("snl", ["search", "--lines", "1", "--watch", "guard.st", "--never", "rule.broken", "safe.st"], 1, 500, 6),
     Call("snl", ["same", "--search", "--lines", "1", "safe.st", "faulty.st"], 1, 500, 1),
     Call("snl", ["search", "--lines", "1", "--cover", "suite", "safe.st"], 0, 300, 1, "suite"),
     Call("snl", ["search", "--lines", "1", "--out", "notes", "safe.st"], 2, 50, 2),
