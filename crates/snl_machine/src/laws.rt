@@ -35,8 +35,8 @@ pub fn rounds_end()
     ensures { RoundsEnd }
 {}
 
-/// An instant takes no more ticks than its budget: none is ever given back, and where none is left, each transition and
-/// each turn of a loop is a fault.
+/// An instant takes no more ticks than its budget: none is ever given back, and where none is left, each transition,
+/// each turn of a loop and each call of a function is a fault.
 pub fn ticks_within_budget()
     ensures { TicksWithinBudget }
 {}
