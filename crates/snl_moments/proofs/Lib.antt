@@ -1,0 +1,11 @@
+pub mod MeansLaws
+pub mod WalkLaws
+pub mod StepLaws
+pub mod ReadLaws
+pub mod LineLaws
+pub mod TellLaws
+pub mod WakeLaws
+pub mod TakeLaws
+pub mod DoneLaws
+pub mod PlanLaws
+pub mod LoadLaws

@@ -1,0 +1,8 @@
+use Rattle.snl_moments.proofs.PlanLaws.{closes-ended, closes-over}
+use Rattle.snl_moments.proofs.ending.finish_over.Goals as goal
+
+pub returns-in-Some-clause-plan : goal.returns-in-Some-clause-plan
+returns-in-Some-clause-plan c = closes-ended c.in-Some.end c.args.walk.now c.finish.new.walk c.in_ok-finish.ensures.plan.keeps
+
+pub returns-in-None-clause-plan : goal.returns-in-None-clause-plan
+returns-in-None-clause-plan c = closes-over c.args.walk.now c.finish.new.walk c.in_ok-finish.ensures.plan
