@@ -1,0 +1,2 @@
+pub mod LoadLaws
+pub mod TellLaws
