@@ -2,6 +2,7 @@
 //!
 //! `suite_of` finds the programs and their tests among the names of a folder. A `Comparer` is a sink that compares the output of a run
 //! with the wanted bytes as both come, and keeps no more than the first difference. `Written` hands the output on to a file.
+//! `never_in` reads what no search may find.
 //! `difference_text` tells a difference, `Report` makes a file of JUnit.
 #![tactic(auto)]
 
@@ -13,6 +14,7 @@ mod fitting;
 mod junit;
 pub mod laws;
 mod line_text;
+mod nevers;
 mod suites;
 mod telling;
 mod visible;
@@ -24,6 +26,7 @@ pub use escaped::push_escaped;
 pub use fitting::program_of;
 pub use junit::Report;
 pub use line_text::LineText;
+pub use nevers::{Never, never_in, states_in};
 pub use suites::{Day, Program, Suite, suite_of};
 pub use telling::difference_text;
 pub use visible::push_visible;

@@ -24,10 +24,14 @@ pub struct Program {
     pub name: String,
     /// Whether there is a file with the words of the call.
     pub has_args: bool,
+    /// Whether there is a file with what no search may find.
+    pub has_never: bool,
+    /// Whether there is a requirement that watches it.
+    pub has_watch: bool,
+    /// Whether there is a file with the states of the requirement that must not be.
+    pub has_watch_never: bool,
     /// Its tests, in the order of their stems.
     pub days: Vec<Day>,
-    /// The names of its files that no test reads: what a search may not find, and an observer.
-    pub untried: Vec<String>,
 }
 
 /// What is tested in a folder.
@@ -35,7 +39,7 @@ pub struct Program {
 pub struct Suite {
     /// The programs, in the order of their names.
     pub programs: Vec<Program>,
-    /// The stems of traces whose program is missing.
+    /// The names of traces whose program is missing, and those of files with what no search may find.
     pub orphans: Vec<String>,
 }
 
@@ -107,32 +111,16 @@ fn day_of(alloc: Global, names: &[String], stem: &str) -> Result<Day, AllocError
     })
 }
 
-/// Adds the name of a file that is there and that no test reads.
-fn push_untried(
-    alloc: Global,
-    names: &[String],
-    program: &mut Program,
-    ending: &str,
-) -> Result<(), AllocError> {
-    if has(names, program.name.as_str(), ending) {
-        let name = program.name.as_str();
-        let file = format!(in alloc; "{name}{ending}")?;
-        program.untried.push(file)?;
-    }
-    Ok(())
-}
-
 /// A program, of which no test was found yet.
 fn program_named(alloc: Global, names: &[String], name: &str) -> Result<Program, AllocError> {
-    let mut program = Program {
+    Ok(Program {
         name: String::from_str(alloc, name)?,
         has_args: has(names, name, ".args"),
+        has_never: has(names, name, ".never"),
+        has_watch: has(names, name, ".watch.st"),
+        has_watch_never: has(names, name, ".watch.never"),
         days: Vec::new(alloc),
-        untried: Vec::new(alloc),
-    };
-    push_untried(alloc, names, &mut program, ".never")?;
-    push_untried(alloc, names, &mut program, ".watch.st")?;
-    Ok(program)
+    })
 }
 
 /// The names of programs, as bytes.
@@ -166,12 +154,24 @@ fn place(
     match program_of(programs, stem.as_bytes()) {
         Some(name) => push_day(&mut suite.programs, name, day_of(alloc, names, stem)?),
         None if has(names, stem, ".trace") => {
-            let stem = String::from_str(alloc, stem)?;
-            suite.orphans.push(stem)?;
+            let name = format!(in alloc; "{stem}.trace")?;
+            suite.orphans.push(name)?;
             Ok(())
         }
         None => Ok(()),
     }
+}
+
+/// Names the files with what no search may find whose program is missing.
+fn push_lost(alloc: Global, names: &[String], orphans: &mut Vec<String>) -> Result<(), AllocError> {
+    for name in names {
+        if let Some(stem) = name.as_str().strip_suffix(".never") {
+            if !has(names, stem, ".st") {
+                orphans.push(String::from_str(alloc, name.as_str())?)?;
+            }
+        }
+    }
+    Ok(())
 }
 
 /// The programs of some names, each with a test of its own where it has no other.
@@ -200,7 +200,7 @@ fn fill(alloc: Global, names: &[String], programs: &mut Vec<Program>) -> Result<
 
 /// The tests among the files of a folder, by their names. Each `NAME.st` is a program. A trace or an output is that of the longest NAME
 /// that it fits: `NAME.trace`, or `NAME-DAY.trace`. A program that has neither is a test by itself, over an empty trace. `NAME.watch.st`
-/// is no program where `NAME.st` is there. The only error is that memory ends.
+/// is no program where `NAME.st` is there, but its requirement. The only error is that memory ends.
 pub fn suite_of(alloc: Global, names: &[String]) -> Result<Suite, AllocError> {
     let programs = programs_in(alloc, names)?;
     let bytes = all_bytes(alloc, programs.as_slice())?;
@@ -212,6 +212,7 @@ pub fn suite_of(alloc: Global, names: &[String]) -> Result<Suite, AllocError> {
     for stem in stems.iter() {
         place(alloc, names, bytes.as_slice(), stem, &mut suite)?;
     }
+    push_lost(alloc, names, &mut suite.orphans)?;
     fill(alloc, names, &mut suite.programs)?;
     Ok(suite)
 }

@@ -1,1 +1,2 @@
 pub mod RightLaws
+pub mod CertainLaws

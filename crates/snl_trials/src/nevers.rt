@@ -1,0 +1,64 @@
+//! A search of a program, as a test: nothing may be found.
+
+ghost use Rattle.std.specs.Prelude.{◌≡◌, [], map, string_bytes, IfOk, IfSome, IsSomeAnd, IsTrue, None};
+ghost use Rattle.std.specs.Option.{option_map, unwrap_or};
+ghost use Rattle.snl_search.specs.Shown.{IsShown};
+ghost use Rattle.snl_trials.specs.Certain.{Reaches};
+
+use snc::macros_of;
+use snc_args::Job;
+use snl_search::{Scouts, SearchAnswer, Searched, Verdict, Watches, WishFault, Wishes, search};
+use std::alloc::Global;
+
+/// What came of a search.
+#[derive(Drop)]
+pub struct SearchTrial {
+    /// The answer, as lines of text.
+    pub text: Vec<u8>,
+    /// The traces of which it is certain that none does what must not happen, where nothing was found.
+    pub none: Option<Searched>,
+    /// Whether nothing is to be found, by as many lines as were asked for.
+    pub is_right: bool,
+}
+
+/// Whether an answer says that nothing is to be found; by any number of lines, where that is asked for.
+fn is_certain(answer: &SearchAnswer, is_ever: bool) -> bool
+    ensures nothing { IsTrue result → answer.now.verdict ≡ Verdict.Nothing }
+    ensures ever { IsTrue result → IsTrue is_ever →
+        IsSomeAnd answer.now.none (λ some. some.bound ≡ None) }
+{
+    match (answer.verdict, &answer.none) {
+        (Verdict::Nothing, Some(none)) => !is_ever || none.bound.is_none(),
+        _ => false,
+    }
+}
+
+/// Searches traces of a checked program over a small alphabet, the shortest first, for what it must not do. Answers whether it is certain
+/// that none of them does it: of those with as many lines as are wished, or of all. The program is dropped.
+///
+/// What is wrong with the wishes is an error; so is that memory ran out.
+pub fn sought<T: Scouts + Drop, W: Watches + Drop>(
+    alloc: Global,
+    checked: Box<T>,
+    job: &Job,
+    wishes: &Wishes,
+    watch: W,
+    is_ever: bool,
+) -> Result<SearchTrial, WishFault>
+    ensures shown { IfOk result (λ t. IsTrue t.is_right → IsSomeAnd t.none (λ some.
+        IsShown (T.scouted checked.value (unwrap_or (option_map string_bytes job.now.macros) [])
+        job.now.budget) wishes.now.part (map string_bytes wishes.now.never.items)
+        (map string_bytes wishes.now.ends.items) t.text.items some)) }
+    ensures reaches { IfOk result (λ t. IsTrue t.is_right → IsSomeAnd t.none (λ some.
+        Reaches is_ever wishes.now.bounds.lines some.bound)) }
+{
+    let macros = macros_of(job);
+    let answer = search(alloc, checked, &macros, job.budget, wishes, watch)?;
+    let is_right = is_certain(&answer, is_ever);
+    let SearchAnswer { text, none, .. } = answer;
+    Ok(SearchTrial {
+        text,
+        none,
+        is_right,
+    })
+}
