@@ -2,11 +2,9 @@
 
 ghost use Rattle.std.specs.Prelude.{◌≡◌, ◌-◌, ◌^◌, ◌<◌, []};
 
-use crate::subjects::path_in;
-use crate::suites::Folder;
 use crate::trying::{opened, unread};
-use crate::verdicts::{Halt, Verdict, stuck, wrong};
 use snc::{Status, status_of};
+use snl_cli::{Folder, Halt, Verdict, path_in, stuck, wrong};
 use snl_suite::{Day, Written};
 use snl_trace::{End, Source};
 use snl_trials::Nothing;

@@ -1,12 +1,11 @@
 //! `snl same --search`.
 
-use crate::comparing::{Both, both_of, tell_messages};
-use crate::outputs::write_trace;
 use crate::searching::{Clock, owned, recorded, told_fault};
 use crate::units::{units_for, wished_values};
 use snc::{Judgement, Status, judged, macros_of};
 use snc_cli::{source_in, write};
 use snl_args::{Call, SameWords, SearchWords};
+use snl_cli::{Both, both_of, tell_messages, write_trace};
 use snl_equivalence::{
     Budgets, PairAnswer, PairFault, PairWishes, Prepared, Prepares, Question, Sides, prepared_by,
     search_pair,

@@ -1,15 +1,13 @@
 //! `snl search --watch`.
 
-use crate::asked::Asked;
 use crate::contrasting::{Wished, wishes_of};
-use crate::outputs::write_trace;
 use crate::searching::{Clock, recorded, told_fault};
 use crate::units::wished_values;
-use crate::watching::{Both, both_of, check_both, places_of};
 use snc::{Judgement, Status, judged, macros_of};
 use snc_args::Job;
 use snc_cli::{source_in, tell, write};
 use snl_args::SearchWords;
+use snl_cli::{Asked, WatchPair, check_both, places_of, watch_pair_of, write_trace};
 use snl_equivalence::PairWishes;
 use snl_guards::{Crew, Watched, WatchedAnswer, WatchedQuestion, heard_by, search_watched};
 use snl_machine::Machine;
@@ -223,8 +221,8 @@ fn guarded(rt: &HostRuntime, guard: Guard, judge: Watched) -> Result<u8, Status>
 }
 
 /// The same of two sources that were read. The messages come behind the answer.
-fn guarded_in(rt: &HostRuntime, guard: Guard, both: Both) -> Result<u8, Status> {
-    let Both { run, watch, notes } = both;
+fn guarded_in(rt: &HostRuntime, guard: Guard, pair: WatchPair) -> Result<u8, Status> {
+    let WatchPair { run, watch, notes } = pair;
     let Ready { messages, program } = run;
     let run = program;
     let of_run = messages;
@@ -261,7 +259,7 @@ pub fn answered_guard(
         watch,
         begun,
     };
-    let both = match both_of(rt, asked, job, watch) {
+    let both = match watch_pair_of(rt, asked, job, watch) {
         Ok(both) => both,
         Err(_) => return Status::Memory.code(),
     };

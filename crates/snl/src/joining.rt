@@ -1,9 +1,9 @@
 //! `snl search --join`: the answers of the jobs that share a search, joined.
 
-use crate::wholes::whole_of;
 use snc::Status;
 use snc_cli::write;
 use snl_args::JoinWords;
+use snl_cli::whole_of;
 use snl_joins::{Answer, Certain, End, answer_of, certain_of, first_missing, is_of_same};
 use snl_search::Verdict;
 use std::alloc::AllocError;

@@ -3,70 +3,35 @@
 //! The answer goes to standard output, all else to standard error.
 #![tactic(auto)]
 
-mod asked;
 mod blessing;
-mod checking;
-mod comparing;
 mod contrasting;
-mod counting;
-mod covering;
-mod graphing;
 mod guarding;
-mod input;
 mod joining;
-mod logs;
-mod macros;
-mod noting;
-mod outputs;
-mod overhearing;
-mod run;
+mod nevers;
+mod requirements;
 mod searching;
-mod sets;
-mod sharing;
-mod sources;
-mod subjects;
-mod suites;
-mod tallies;
 mod testing;
-mod trace_programs;
-mod traces;
 mod tracing;
-mod trees;
 mod trying;
 mod units;
-mod verdicts;
-mod waiting;
-mod watching;
-mod wholes;
 
-use asked::Asked;
-use checking::check_lints;
-use comparing::answered_same;
 use contrasting::answered_contrast;
-use counting::check_counts;
-use covering::answered_cover;
-use graphing::answered_graph;
 use guarding::answered_guard;
 use joining::answered_join;
-use macros::{check_macros, notes_of};
-use outputs::check_outputs;
-use run::answered_run;
 use searching::answered_search;
-use sets::answered_sets;
 use snc::Status;
 use snc_cli::{source_in, tell, words_of, write};
 use snl_args::{Call, CallFault, SameWords, SearchWords, Word, read_call};
-use sources::answered_checks;
+use snl_cli::{
+    Asked, VERSION, answered_at, answered_checks, answered_cover, answered_graph, answered_run,
+    answered_same, answered_sets, answered_tree, answered_waits, check_counts, check_lints,
+    check_macros, check_outputs, notes_of,
+};
 use std::process::ExitCode;
 use std::time::Instant;
 use testing::{answered_test, check_tests};
 use tracing::{answered_trace, check_times};
-use trees::answered_tree;
 use units::units_for;
-use waiting::answered_waits;
-
-/// The version of the programs, that of the file VERSION.
-const VERSION: &str = "0.9.0";
 
 fn main(rt: HostRuntime) -> ExitCode {
     let begun = Instant::now(&rt).ok();
@@ -99,7 +64,7 @@ fn check_words(rt: &HostRuntime, call: &Call) -> Result<(), Status> {
         Word::Trace(words) => check_times(rt, words),
         Word::Test(words) => check_tests(rt, words),
         Word::Cover(words) => check_counts(rt, &words.counts),
-        Word::Waits | Word::Run(_) | Word::Graph(_) => Ok(()),
+        Word::Waits | Word::Run(_) | Word::At(_) | Word::Graph(_) => Ok(()),
         Word::Same(words) => check_same(rt, call, words),
         Word::Tree | Word::Sets(_) | Word::Join(_) => Ok(()),
     }
@@ -202,6 +167,7 @@ fn answered_word(rt: &HostRuntime, asked: Asked, begun: Option<Instant>) -> u8 {
     match &asked.call.word {
         Word::Waits => code_of(answered_waits(rt, asked)),
         Word::Run(words) => code_of(answered_run(rt, asked, words)),
+        Word::At(words) => code_of(answered_at(rt, asked, words)),
         Word::Cover(words) => code_of(answered_cover(rt, asked, words)),
         Word::Graph(words) => code_of(answered_graph(rt, asked, words)),
         Word::Search(words) => answered_sought(rt, asked, words, begun),

@@ -1,12 +1,10 @@
 //! `snl search`.
 
-use crate::asked::Asked;
-use crate::outputs::{write_suite, write_trace};
-use crate::sharing::part_of;
 use crate::units::{wished_lines, wished_values};
 use snc::{Judgement, Status, judged, macros_of};
 use snc_cli::write;
 use snl_args::SearchWords;
+use snl_cli::{Asked, part_of, write_suite, write_trace};
 use snl_joins::Part;
 use snl_search::{
     Bounds, Scouts, SearchAnswer, Verdict, Watches, WishFault, WishedValues, Wishes, search,
@@ -176,11 +174,21 @@ pub fn recorded(rt: &HostRuntime, words: &SearchWords) -> Result<Option<File>, S
 
 /// What is wished of a search.
 fn all_wishes(rt: &HostRuntime, asked: Asked, words: &SearchWords) -> Result<Wishes, Status> {
-    let wished = wished_in(rt, words, asked.units)?;
-    let like = recorded(rt, words)?;
     let Ok(part) = part_of(rt.alloc(), asked, words) else {
         return Err(Status::Memory);
     };
+    wishes_over(rt, words, asked.units, part)
+}
+
+/// What is wished of a search over all starts, or over a part of them.
+pub fn wishes_over(
+    rt: &HostRuntime,
+    words: &SearchWords,
+    units: &[ChannelUnits],
+    part: Option<Part>,
+) -> Result<Wishes, Status> {
+    let wished = wished_in(rt, words, units)?;
+    let like = recorded(rt, words)?;
     wishes_of(rt.alloc(), words, wished, like, part).map_err(|_| Status::Memory)
 }
 

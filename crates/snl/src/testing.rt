@@ -1,13 +1,12 @@
 //! `snl test`: programs beside recorded traces and the outputs that are wanted.
 
 use crate::blessing::blessed;
-use crate::subjects::subject_of;
-use crate::suites::{Folder, folders_of};
-use crate::tallies::{Tally, told};
+use crate::nevers::tested_never;
+use crate::requirements::{Watching, tested_watch, watching_of};
 use crate::trying::{outcome_of, verdict_of, wanted_status};
-use crate::verdicts::{Halt, Verdict, wrong};
 use snc::Status;
 use snl_args::{Call, TestWords};
+use snl_cli::{Folder, Halt, Tally, Verdict, folders_of, subject_of, told, wrong};
 use snl_suite::{Day, Program};
 use snl_views::{Coverage, RunnerAnswer, gaps_of};
 use std::alloc::AllocError;
@@ -129,18 +128,6 @@ fn tell_coverage(
     }
 }
 
-/// Tells of the files of a program that no test reads.
-fn tell_untried(rt: &HostRuntime, folder: &Folder, program: &Program) -> Result<(), Status> {
-    let front = folder.front.as_str();
-    for file in &program.untried {
-        match format!(in rt.alloc(); "not tried: {front}{file}\n") {
-            Ok(text) => told(rt, text.as_bytes())?,
-            Err(_) => return Err(Status::Memory),
-        }
-    }
-    Ok(())
-}
-
 /// Runs all tests of a program that can be run.
 fn tested_days(
     rt: &HostRuntime,
@@ -156,6 +143,77 @@ fn tested_days(
         tally.note(rt, folder, day.stem.as_str(), &verdict, begun)?;
     }
     tell_coverage(rt, folder, program, subject)
+}
+
+/// The name of a test by a file beside a program.
+fn beside(rt: &HostRuntime, stem: &str, ending: &str) -> Result<String, Status> {
+    match format!(in rt.alloc(); "{stem}{ending}") {
+        Ok(name) => Ok(name),
+        Err(_) => Err(Status::Memory),
+    }
+}
+
+/// Searches a program for what may not be found, where a file says that.
+fn tested_search(
+    rt: &HostRuntime,
+    call: &Call,
+    folder: &Folder,
+    program: &Program,
+    tally: &mut Tally,
+) -> Result<(), Status> {
+    if !program.has_never {
+        return Ok(());
+    }
+    let name = beside(rt, program.name.as_str(), ".never")?;
+    let begun = Instant::now(rt).ok();
+    let verdict = settled(tested_never(rt, call, folder, program))?;
+    tally.note(rt, folder, name.as_str(), &verdict, begun)
+}
+
+/// Whether a day can be run: it is the program's own, or has a trace.
+fn can_run(program: &Program, day: &Day) -> bool {
+    day.has_trace || day.stem.as_str() == program.name.as_str()
+}
+
+/// Runs all days of a program while its requirement watches.
+fn watched_days(
+    rt: &HostRuntime,
+    watching: &Watching,
+    folder: &Folder,
+    program: &Program,
+    tally: &mut Tally,
+) -> Result<(), Status> {
+    for day in &program.days {
+        if can_run(program, day) {
+            let name = beside(rt, day.stem.as_str(), ".watch")?;
+            let begun = Instant::now(rt).ok();
+            let of = program.name.as_str();
+            let verdict = settled(tested_watch(rt, watching, folder, of, day))?;
+            tally.note(rt, folder, name.as_str(), &verdict, begun)?;
+        }
+    }
+    Ok(())
+}
+
+/// The same, where it has one. Where that can't be read, it is told once.
+fn tested_watches(
+    rt: &HostRuntime,
+    call: &Call,
+    folder: &Folder,
+    program: &Program,
+    tally: &mut Tally,
+) -> Result<(), Status> {
+    if !program.has_watch {
+        return Ok(());
+    }
+    match watching_of(rt, call, folder, program) {
+        Ok(watching) => watched_days(rt, &watching, folder, program, tally),
+        Err(halt) => {
+            let name = beside(rt, program.name.as_str(), ".watch")?;
+            let verdict = settled(Err(halt))?;
+            tally.note(rt, folder, name.as_str(), &verdict, None)
+        }
+    }
 }
 
 /// Runs the tests of a program. Where it can't be run, each of them tells why.
@@ -176,17 +234,22 @@ fn tested_program(
             }
         }
     }
-    tell_untried(rt, folder, program)
+    tested_watches(rt, call, folder, program, tally)?;
+    tested_search(rt, call, folder, program, tally)
 }
 
-/// Tells of a trace whose program is missing.
+/// Tells of a file whose program is missing.
 fn tell_orphan(
     rt: &HostRuntime,
     folder: &Folder,
-    stem: &str,
+    file: &str,
     tally: &mut Tally,
 ) -> Result<(), Status> {
-    let halt = match format!(in rt.alloc(); ": there is no program for {stem}.trace\n") {
+    let stem = match file.rsplit_once('.') {
+        Some((stem, _)) => stem,
+        None => file,
+    };
+    let halt = match format!(in rt.alloc(); ": there is no program for {file}\n") {
         Ok(text) => wrong(rt.alloc(), text.as_str()),
         Err(_) => Halt::End(Status::Memory),
     };
@@ -205,8 +268,8 @@ fn tested_folder(
     for program in &folder.suite.programs {
         tested_program(rt, call, words, folder, program, tally)?;
     }
-    for stem in &folder.suite.orphans {
-        tell_orphan(rt, folder, stem.as_str(), tally)?;
+    for file in &folder.suite.orphans {
+        tell_orphan(rt, folder, file.as_str(), tally)?;
     }
     Ok(())
 }

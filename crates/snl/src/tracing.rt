@@ -1,12 +1,10 @@
 //! `snl trace`: logs in files, written as a trace.
 
-use crate::VERSION;
-use crate::logs::{LogFeed, feeds_of, held_logs, told_unread};
-use crate::trace_programs::{Traced, traced_program};
 use crate::units::units_for;
 use snc::Status;
 use snc_cli::{Lines, Outlet, tell};
 use snl_args::{Call, NamedNumber, NamedText, TraceWords};
+use snl_cli::{LogFeed, Traced, VERSION, feeds_of, held_logs, told_unread, traced_program};
 use snl_import::{
     AnyProgram, ChannelNumber, ChannelText, ImportError, Imported, LoadedProgram, Program, Wishes,
     import,

@@ -2,11 +2,9 @@
 
 ghost use Rattle.std.specs.Prelude.{◌≡◌, ◌-◌, ◌^◌, ◌<◌, [], IfSome};
 
-use crate::subjects::{path_in, small_text};
-use crate::suites::Folder;
-use crate::verdicts::{Halt, Verdict, stuck, wrong};
 use snc::Status;
 use snc_cli::Stream;
+use snl_cli::{Folder, Halt, Verdict, path_in, small_text, stuck, wrong};
 use snl_suite::{Agreement, Day, difference_text, push_visible};
 use snl_trace::{End, Source};
 use snl_trials::{Nothing, Trial, tried, untried};
@@ -94,6 +92,18 @@ fn trial_of(
     }
 }
 
+/// Adds the lines of a text that are not empty, with two blanks in front, as a person sees them.
+pub fn push_lines(out: &mut Vec<u8>, text: &[u8]) -> Result<(), AllocError> {
+    for line in text.split(|byte| *byte == b'\n') {
+        if !line.is_empty() {
+            out.extend_from_slice(b"  ")?;
+            push_visible(out, line)?;
+            out.push(b'\n')?;
+        }
+    }
+    Ok(())
+}
+
 /// Adds why the status is not the one that is wanted.
 fn push_cause(
     alloc: Global,
@@ -105,14 +115,7 @@ fn push_cause(
     match trial.end {
         None => {
             out.extend_from_slice(b": the program has errors\n")?;
-            for line in messages.split(|byte| *byte == b'\n') {
-                if !line.is_empty() {
-                    out.extend_from_slice(b"  ")?;
-                    push_visible(out, line)?;
-                    out.push(b'\n')?;
-                }
-            }
-            Ok(())
+            push_lines(out, messages)
         }
         Some(End::TraceFault(number, fault)) => {
             let text = format!(in alloc; ": {stem}.trace:{number}: {fault}\n")?;

@@ -5,6 +5,7 @@
 #![tactic(auto)]
 
 mod arguments;
+mod ats;
 mod calls;
 mod checks;
 mod commands;
@@ -20,6 +21,7 @@ mod texts;
 mod traces;
 mod words;
 
+pub use ats::AtWords;
 pub use calls::{Call, CallFault, read_call};
 pub use checks::{CheckWords, Format};
 pub use joins::JoinWords;

@@ -1,5 +1,6 @@
 //! A word in the place of MACROS that gives no macro a value, and the call that was meant.
 
+use crate::ats::AtWords;
 use crate::calls::Call;
 use crate::runs::RunWords;
 use crate::sames::SameWords;
@@ -68,6 +69,16 @@ fn right_search(
     )
 }
 
+/// How a trace is given to a look at a program, with the right call.
+fn right_at(alloc: Global, words: &AtWords, file: &str, trace: &str) -> Result<String, AllocError> {
+    let when = match words {
+        AtWords::Times(_) => String::from_str(alloc, "MS")?,
+        AtWords::Trip => String::from_str(alloc, "--trip")?,
+        AtWords::Into(state) => format!(in alloc; "--into {state}")?,
+    };
+    format!(in alloc; "The trace comes on standard input: snl at {when} {file} < {trace}")
+}
+
 /// How a trace is given to a word, with the right call.
 fn right_call(alloc: Global, word: &Word, file: &str, trace: &str) -> Result<String, AllocError> {
     match word {
@@ -86,6 +97,7 @@ fn right_call(alloc: Global, word: &Word, file: &str, trace: &str) -> Result<Str
         Word::Check(_) => format!(in alloc; "No trace is read: snl check {file}"),
         Word::Trace(_) => format!(in alloc; "A log stands behind the word: snl trace {trace}"),
         Word::Test(_) => format!(in alloc; "Traces are found by their names: snl test {file}"),
+        Word::At(words) => right_at(alloc, words, file, trace),
         Word::Join(_) => format!(in alloc;
             "Answers stand behind the word: snl search --join {trace}"
         ),

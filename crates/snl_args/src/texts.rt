@@ -30,6 +30,7 @@ Record:
 
 Run:
   run     A run with notes on what fired and why, blocks that repeat folded, and a summary
+  at      The state of a program at a time of a trace, and what its clauses wait for
   same    Where two programs differ over a trace, or over any
   test    Programs beside recorded traces and the outputs that are wanted
 
@@ -65,6 +66,7 @@ Record:
 
 Run:
   run     A run with notes on what fired and why, blocks that repeat folded, and a summary
+  at      The state of a program at a time of a trace, and what its clauses wait for
   same    Where two programs differ over a trace, or over any
   test    Programs beside recorded traces and the outputs that are wanted
 
@@ -245,6 +247,23 @@ Example: snl same --search --puts light.st light-new.st
 Status: 0 they are the same, up to so many lines or whatever the length, 1 they differ, or a program has errors, 2 the words of
 the call are wrong, 3 a file or the output failed, 4 memory ran out, 6 a line of TRACE is bad, 7 a bound stopped it, or neither
 program can begin, or no line can come behind the start.",
+};
+
+/// What `snl at --help` tells.
+pub(crate) const AT: Texts = Texts {
+    usage: "snl at [±X..] MS[,MS]..|--trip|--into SS.STATE [--budget N] [--progress] FILE [MACROS] < TRACE",
+    about: "\
+What a program is at a time of a trace: its states and since when, what each of their clauses waits for, its variables, event
+flags, queues, channels and last puts. All lines up to that time were done, and all delays that end by then.",
+    more: "\
+The trace is read from standard input, and no further than the last time. With --trip it is told where the program faults,
+with --into where it came last into a state, in the place of times.
+
+Example: snl at 4100,5200 light.st < light.trace
+         snl at --into room.lit light.st < light.trace
+
+Status: 0 told, 1 there is no fault, or no way into the state, or the program has errors, 2 the words of the call are wrong,
+3 the file, the input or the output failed, 4 memory ran out, 5 the program faulted before a time, 6 a line of the trace is bad.",
 };
 
 /// What `snl test --help` tells.

@@ -1,6 +1,7 @@
 //! The words behind `snl`, and what follows each of them.
 
 use crate::arguments::{Argument, OF_PROGRAM, OF_RUNS, OVER_TRACE, command_of};
+use crate::ats::{AtWords, OF_AT, OF_AT_EVENT, asks_event, at_event, at_times};
 use crate::calls::{Call, CallFault, matches_in};
 use crate::checks::{CheckWords, OF_CHECK, check_words};
 use crate::commands::{OF_COVER, OF_GRAPH, OF_RUN, OF_SETS, OF_WAITS};
@@ -10,7 +11,7 @@ use crate::sames::{OF_SAME, OF_SAME_SEARCH, SameWords, same_words};
 use crate::searches::{OF_SEARCH, SearchWords, search_words};
 use crate::tests::{OF_TEST, TestWords, test_words};
 use crate::texts::{
-    CHECK, COVER, GRAPH, JOIN, RUN, SAME, SAME_SEARCH, SEARCH, SETS, TEST, TRACE, TREE, Texts,
+    AT, CHECK, COVER, GRAPH, JOIN, RUN, SAME, SAME_SEARCH, SEARCH, SETS, TEST, TRACE, TREE, Texts,
     WAITS,
 };
 use crate::traces::{OF_TRACE, TraceWords, trace_words};
@@ -70,13 +71,15 @@ pub enum Word {
     Trace(TraceWords),
     /// The messages about a program, and what is seldom meant: `snl check [--macros MACROS] [--format FORMAT] [--no-lint NAME].. [--strict] FILE..`.
     Check(CheckWords),
+    /// What a program is at times of a trace, where it faults, or comes into a state: `snl at MS[,MS].. FILE [MACROS]`.
+    At(AtWords),
     /// Programs with recorded traces and the outputs that are wanted: `snl test [--junit FILE] [--bless [--force]] PATH..`.
     Test(TestWords),
 }
 
 /// The names of the words.
-pub(crate) const NAMES: [&str; 12] = [
-    "waits", "run", "cover", "graph", "same", "search", "tree", "sets", "check", "explain",
+pub(crate) const NAMES: [&str; 13] = [
+    "waits", "run", "at", "cover", "graph", "same", "search", "tree", "sets", "check", "explain",
     "trace", "test",
 ];
 
@@ -315,6 +318,20 @@ fn read_same(alloc: Global, words: &[&str], options: Options) -> Result<Call, Ca
     trace_call(alloc, &matches, "OLD", options, word)
 }
 
+/// What follows `at` where no times are asked for.
+fn read_at_event(alloc: Global, words: &[&str], options: Options) -> Result<Call, CallFault> {
+    let matches = found_in(alloc, &AT, &OVER_TRACE, &OF_AT_EVENT, words)?;
+    let word = Word::At(at_event(alloc, &matches)?);
+    trace_call(alloc, &matches, "FILE", options, word)
+}
+
+/// What follows `at`.
+fn read_at(alloc: Global, words: &[&str], options: Options) -> Result<Call, CallFault> {
+    let matches = found_in(alloc, &AT, &OF_AT, &OVER_TRACE, words)?;
+    let word = Word::At(at_times(alloc, &matches)?);
+    trace_call(alloc, &matches, "FILE", options, word)
+}
+
 /// What follows `tree`.
 fn read_tree(alloc: Global, words: &[&str], options: Options) -> Result<Call, CallFault> {
     let matches = found_in(alloc, &TREE, &OF_PROGRAM, &[], words)?;
@@ -365,6 +382,8 @@ pub(crate) fn read_word(
         "search" => read_search(alloc, words, options)?,
         "same" if has_word(words, "--search") => read_same_search(alloc, words, options)?,
         "same" => read_same(alloc, words, options)?,
+        "at" if asks_event(words) => read_at_event(alloc, words, options)?,
+        "at" => read_at(alloc, words, options)?,
         "tree" => read_tree(alloc, words, options)?,
         "sets" => read_sets(alloc, words, options)?,
         "check" => read_check(alloc, words, options)?,

@@ -1,8 +1,8 @@
 //! A share of a search, and of what search it is.
 
-use crate::VERSION;
 use crate::asked::Asked;
 use crate::counting::{head_of, words_of};
+use crate::version::VERSION;
 use snl_args::{ChannelValues, SearchWords};
 use snl_joins::Part;
 use std::alloc::{AllocError, Global};

@@ -116,7 +116,7 @@ fn both(own: Options, call: Options) -> Options {
 }
 
 /// The job of a program, by the words in its file, where it has one.
-fn job_of(
+pub fn job_of(
     rt: &HostRuntime,
     folder: &Folder,
     program: &Program,
@@ -134,6 +134,23 @@ fn job_of(
     Ok(job)
 }
 
+/// The source in a file of a test.
+pub fn program_source(
+    rt: &HostRuntime,
+    path: &str,
+    name: &str,
+    ending: &str,
+) -> Result<Vec<u8>, Halt> {
+    match source_of(rt, "snl", path) {
+        Ok(source) => Ok(source),
+        Err(Status::InputOutput) => {
+            let text = format!(in rt.alloc(); ": cannot read {name}{ending}\n")?;
+            Err(stuck(rt.alloc(), text.as_str()))
+        }
+        Err(status) => Err(Halt::End(status)),
+    }
+}
+
 /// Reads and checks a program that is tested, with the options of the call.
 pub fn subject_of(
     rt: &HostRuntime,
@@ -142,13 +159,6 @@ pub fn subject_of(
     options: Options,
 ) -> Result<RunnerAnswer, Halt> {
     let job = job_of(rt, folder, program, options)?;
-    match source_of(rt, "snl", job.file.as_str()) {
-        Ok(source) => Ok(runner_of(rt.alloc(), source.as_slice(), &job)?),
-        Err(Status::InputOutput) => {
-            let name = program.name.as_str();
-            let text = format!(in rt.alloc(); ": cannot read {name}.st\n")?;
-            Err(stuck(rt.alloc(), text.as_str()))
-        }
-        Err(status) => Err(Halt::End(status)),
-    }
+    let source = program_source(rt, job.file.as_str(), program.name.as_str(), ".st")?;
+    Ok(runner_of(rt.alloc(), source.as_slice(), &job)?)
 }

@@ -44,6 +44,11 @@ pub fn wrong(alloc: Global, text: &str) -> Halt {
     }
 }
 
+/// The same, by a text that need not be one of words.
+pub fn wrong_bytes(text: Vec<u8>) -> Halt {
+    Halt::Verdict(Verdict::Wrong(text))
+}
+
 /// A file of a test could not be read or written, by a text.
 pub fn stuck(alloc: Global, text: &str) -> Halt {
     match bytes_of(alloc, text) {

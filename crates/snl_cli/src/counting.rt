@@ -1,7 +1,7 @@
 //! Files of counts: those that a call reads, and the one that it writes.
 
-use crate::VERSION;
 use crate::asked::Asked;
+use crate::version::VERSION;
 use crate::wholes::whole_of;
 use snc::Status;
 use snl_tallies::{Head, ReadFault, Subject, is_counts, push_tallies, read_counts};

@@ -17,7 +17,7 @@ use std::io::BufWriter;
 
 /// What came of both sources.
 #[derive(Drop)]
-pub struct Both {
+pub struct WatchPair {
     /// The program.
     pub run: Ready,
     /// The requirement.
@@ -27,17 +27,17 @@ pub struct Both {
 }
 
 /// Reads and checks both sources.
-pub fn both_of(
+pub fn watch_pair_of(
     rt: &HostRuntime,
     asked: Asked,
     job: &Job,
     watch: &[u8],
-) -> Result<Both, AllocError> {
+) -> Result<WatchPair, AllocError> {
     let Asked { source, call, .. } = asked;
     let notes = notes_of(rt, call, source, watch)?;
     let run = program_of(rt.alloc(), source, &call.job)?;
     let watch = program_of(rt.alloc(), watch, job)?;
-    Ok(Both { run, watch, notes })
+    Ok(WatchPair { run, watch, notes })
 }
 
 /// Sees that one program can be watched, and that the other can watch. Where that is not so, the user is told.
@@ -149,9 +149,9 @@ fn watched<'c>(
     asked: Asked<'c>,
     job: &Job,
     never: &[String],
-    both: Both,
+    pair: WatchPair,
 ) -> Result<Status, Status> {
-    let Both { run, watch, notes } = both;
+    let WatchPair { run, watch, notes } = pair;
     tell(rt, notes.as_slice());
     tell(rt, run.messages.as_slice());
     tell(rt, watch.messages.as_slice());
@@ -171,7 +171,7 @@ pub fn answered_watch<'c>(
     never: &[String],
 ) -> Result<Status, Status> {
     let watch = source_in(rt, "snl", job.file.as_str())?;
-    match both_of(rt, asked, job, watch.as_slice()) {
+    match watch_pair_of(rt, asked, job, watch.as_slice()) {
         Ok(both) => watched(rt, asked, job, never, both),
         Err(_) => Err(Status::Memory),
     }

@@ -1,0 +1,57 @@
+//! What the words of `snl` do with the system they run on: the files that they read and write, and the answers over one trace. What
+//! searches over every trace, and what tests, stands in the program.
+#![tactic(auto)]
+
+mod asked;
+mod at;
+mod checking;
+mod comparing;
+mod counting;
+mod covering;
+mod graphing;
+mod input;
+mod logs;
+mod macros;
+mod noting;
+mod outputs;
+mod overhearing;
+mod run;
+mod sets;
+mod sharing;
+mod sources;
+mod subjects;
+mod suites;
+mod tallies;
+mod trace_programs;
+mod traces;
+mod trees;
+mod verdicts;
+mod version;
+mod waiting;
+mod watching;
+mod wholes;
+
+pub use asked::Asked;
+pub use at::answered_at;
+pub use checking::check_lints;
+pub use comparing::{Both, answered_same, both_of, tell_messages};
+pub use counting::check_counts;
+pub use covering::answered_cover;
+pub use graphing::answered_graph;
+pub use logs::{LogFeed, feeds_of, held_logs, told_unread};
+pub use macros::{check_macros, notes_of};
+pub use outputs::{check_outputs, write_suite, write_trace};
+pub use run::answered_run;
+pub use sets::answered_sets;
+pub use sharing::part_of;
+pub use sources::answered_checks;
+pub use subjects::{job_of, path_in, program_source, small_text, subject_of};
+pub use suites::{Folder, folders_of};
+pub use tallies::{Tally, told};
+pub use trace_programs::{Traced, traced_program};
+pub use trees::answered_tree;
+pub use verdicts::{Halt, Verdict, stuck, wrong, wrong_bytes};
+pub use version::VERSION;
+pub use waiting::answered_waits;
+pub use watching::{WatchPair, check_both, places_of, watch_pair_of};
+pub use wholes::whole_of;
