@@ -47,7 +47,7 @@ def numbers(root):
     night = re.search(r"the picture of a night, ([\d,]+ lines) .* (a page of \d+ kB)", (root / "docs/BENCHMARKS.md").read_text())
     yield "docs/PLOT.md", f"A night of {night[1]} is {night[2]}"
     minutes = re.search(r"some \d+ minutes of a processor", (root / "docs/DEVELOPING.md").read_text())[0]
-    yield "README.md", f"| `.ci/run` | all proofs, tests and cases, from nothing | an hour on four processors: {minutes} |"
+    yield "README.md", f"| `.ci/run` | all proofs, tests and cases, from nothing | one to two hours on four processors: {minutes} |"
     yield "docs/START.md", f"all proofs, tests and cases, from nothing: {minutes}, "
     yield "docs/PROMISES.md", f"of {NUMBERS[refused]} calls of the programs"
     yield "cases/README.md", f"of {NUMBERS[refused]} calls, and of a test"

@@ -116,11 +116,15 @@ def message(text):
 
 
 def examples(root):
-    """Each trace of an example with its program and its output, and each table with its program."""
+    """Each trace of an example with its program and its output. `snl test` runs them (tests.py), and `scripts/definitions`."""
     for trace in sorted(root.glob("examples/**/*.trace")):
         program = program_of(trace)
         name = f"{trace.relative_to(root)}, of {program.name}"
         yield Case(name, program.read_bytes(), trace.read_bytes(), stdout=trace.with_suffix(".out").read_bytes())
+
+
+def example_tables(root):
+    """Each table of an example with its program."""
     for tables in sorted(root.glob("examples/**/*.tables")):
         program = tables.with_suffix(".st")
         yield of_tables(str(tables.relative_to(root)), program.read_bytes(), tables.read_bytes())

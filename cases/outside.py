@@ -140,10 +140,12 @@ def told_of(root, folder, built):
         # `snl same --search` and `snl search --join` have helps of their own.
         own = {"same": [("--search",)], "search": [("--join",)]}.get(word, [])
         helped = "".join(called(built / "snl", word, *more, "--help") for more in ((), *own))
-        options, written = ({*re.findall(r"(?<![\w-])--[a-z][a-z-]*", it)} for it in (helped, page))
+        # A NAME.never of `snl test` has options of `snl search`.
+        lent = called(built / "snl", "search", "--help") if word == "test" else ""
+        options, other, written = ({*re.findall(r"(?<![\w-])--[a-z][a-z-]*", it)} for it in (helped, lent, page))
         lacking = [it for it in options - written if not re.search(rf"{it}\b", shared)]
-        if not options or lacking or written - options:
-            return f"{word}.md lacks {sorted(lacking)}, and has {sorted(written - options)}"
+        if not options or lacking or written - options - other:
+            return f"{word}.md lacks {sorted(lacking)}, and has {sorted(written - options - other)}"
     return ""
 
 

@@ -1,4 +1,4 @@
-"""`snl same` of the examples and of changed copies of them: what tells each apart from what it was, and that two say the same; long lines."""
+"""`snl same` of the examples and of changed copies of them: what tells each apart from what it was, and that two say the same; long lines, of `snl at` too."""
 from case import Case
 from shell import Calls
 
@@ -101,3 +101,10 @@ def cases(root):
     far = LONG % (b" " * 32_000) + b"#%s\n" % (b" " * 20_000) + b"#%s\n" % (b" " * 50_000)
     told = b"the same over 5 lines of the trace: 2 lines, 0 puts\neach does not take the line: line too long\n"
     yield Case("snl same: a line that is too long, in two pieces", SOURCE, far, CALL, told, b"trace:5: line too long\n", (6,), "snl")
+    # A program is looked at in front of such a line, however the bytes of the trace come.
+    for last in (b"#%s\n" % (b" " * 32_768), b"#%s" % (b" " * 100_000)):
+        told = b"at 7 is not reached: a line of the trace is bad, behind line 2 of the trace, at 0\nstate s b since 0 (from a)\nclause 1 of b, line 3: x=6 < 3: no\nvalue x = 6\nchannel X = 6 since 0 (line 2), up\n"
+        yield Case(f"snl at: a line of {len(last)} bytes", SOURCE, b"0 up X\n0 val X 6\n" + last, [b"at", b"7", b"p.st"], told, b"trace:3: line too long\n", (6,), "snl")
+    longest = LONG % (b" " * 32_767) + b"9 val X 1"
+    told = b"at 7, behind line 2 of the trace, at 0\nstate s b since 0 (from a)\nclause 1 of b, line 3: x=6 < 3: no\nvalue x = 6\nchannel X = 6 since 0 (line 2), up\n"
+    yield Case("snl at: a longest line, and one that no newline ends", SOURCE, longest, [b"at", b"7", b"p.st"], told, tool="snl")

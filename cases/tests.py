@@ -9,6 +9,7 @@ from typing import Callable
 
 from case import SECONDS
 from diskcases import ALONE
+from files import program_of
 
 # A light that goes on above 5.
 LIGHT = """program light option +s;
@@ -33,6 +34,40 @@ ss s { state a { when (10 / x > 20) {} state a } }
 """
 FAULTY_TRACE = "0 up X\n0 val X 1\n5 val X 0\n"
 FAULTY_OUT = "0 start faulty\n5 fault s 3 division by zero\n"
+# The light goes on only at LIMIT or more.
+WATCH = """program bright option +s; option -c;
+int v; assign v to "V"; monitor v;
+int l; assign l to "put:L"; monitor l;
+ss rule {
+  state off { when (l == 1 && v < LIMIT) {} state broken when (l == 1) {} state on }
+  state on { when (l == 0) {} state off }
+  state broken { when (FALSE) {} state off }
+}
+"""
+FOUND = """
+  never: put L 1 (l, line 3)
+  starts: 6; V 0 1 2 3 5 6
+  channels: V 0 1 2 3 5 6; gaps: 0, wake
+  found: 0 put L 1, at the start with V 6
+  6 worlds, 0 whole levels (1 of 2 clauses)
+"""
+FOUND_STATE = """
+  never: room.lit (line 6)
+  starts: 6; V 0 1 2 3 5 6
+  channels: V 0 1 2 3 5 6; gaps: 0, wake
+  found: 0 go room dark lit, at the start with V 6
+  6 worlds, 0 whole levels (1 of 2 clauses)
+"""
+TOO_EARLY = """
+  starts: 6; V 0 1 2 3 5 6
+  channels: V 0 1 2 3 5 6; gaps: 0, wake
+  never taken: room lit 1 to dark (line 6)
+  not all was seen: none up to 0 lines (6 worlds; 1 of 2 clauses)
+"""
+MISTAKE = """
+  mistake of the requirement: its line 5 faults: division by zero (line 5 of the trace)
+  requirement rule in off since 0 (1 of 1 state set)
+"""
 WRONG = "program wrong option +s;\nss s { state a { when (y) {} state a } }\n"
 
 
@@ -117,6 +152,8 @@ def cases(root):
     yield from outcomes()
     yield from calls_of_tests()
     yield from finding()
+    yield from nevers()
+    yield from watches()
     yield from blessings()
     yield from wrong_words()
     yield Check("snl test: of ten tests one is told, with its reason", one_of_ten)
@@ -210,11 +247,86 @@ def finding():
     lost = {**good, "lamp-monday.trace": TRACE}
     said = "FAILED lamp-monday: there is no program for lamp-monday.trace\n"
     yield Suite("snl test: a trace without a program", lost, ("test", "."), f"ok light\n{ALL}{said}1 passed, 1 failed\n", status=1)
-    beside = {**good, "light.watch.st": "", "light.never": "ever\n", "other.out": "", "notes.txt": ""}
-    said = "not tried: light.never\nnot tried: light.watch.st\n"
-    yield Suite("snl test: files that are not tried", beside, ("test", "."), f"ok light\n{ALL}{said}1 passed, 0 failed\n")
+    beside = {**good, "other.out": "", "notes.txt": "", "light.never.txt": ""}
+    yield Suite("snl test: files that are no tests", beside, ("test", "."), f"ok light\n{ALL}1 passed, 0 failed\n")
     alone = {"light.watch.st": LIGHT, "light.watch.trace": TRACE, "light.watch.out": OUT}
     yield Suite("snl test: a program called watch", alone, ("test", "."), f"ok light.watch\n{ALL.replace('light', 'light.watch')}1 passed, 0 failed\n")
+
+
+def nevers():
+    """What no search may find."""
+    good = suite(light_trace=TRACE, light_out=OUT)
+    front = f"ok light\n{ALL}"
+
+    def of(text, said, failed=True, files=good):
+        first = f"FAILED light.never{said}" if failed else "ok light.never\n"
+        sums = "1 passed, 1 failed\n" if failed else "2 passed, 0 failed\n"
+        return {**files, "light.never": text}, ("test", "."), front + first + sums, "", int(failed)
+
+    yield Suite("snl test: nothing is ever found", *of("ever\n", "", False))
+    yield Suite("snl test: nothing is found in so many lines", *of("lines 2\nput L 2\n--first V=7\n", "", False))
+    yield Suite("snl test: comments of a NAME.never", *of("# of the hall\n\nlines 2\r\n# no 2\nput L 2\n\n", "", False))
+    yield Suite("snl test: a line is found", *of("lines 2\nput L 1\n", FOUND))
+    yield Suite("snl test: a state is found", *of("ever\nroom.lit\n", FOUND_STATE))
+    yield Suite("snl test: a search that ends too early", *of("ever\n--worlds 2\n", TOO_EARLY))
+    yield Suite("snl test: values of a recorded trace", *of("ever\n--like light.trace\nput L 2\n", "", False))
+    for text, said in (
+        ("put L 1\n", "the first line is 'lines K', or 'ever'"),
+        ("lines 0\n", "the first line is 'lines K', or 'ever'"),
+        ("", "the first line is 'lines K', or 'ever'"),
+        ("ever\nput M 1\n", "'put M 1': the program has no channel 'M'"),
+        ("ever\n--out found\n", "--out is not taken here: a test writes no file"),
+        ("ever\n--cover found\n", "--cover is not taken here: a test writes no file"),
+        ("ever\n--watch light.st\n", "--watch is not taken here: a requirement is NAME.watch.st"),
+        ("ever\n--units light.units\n", "--units is not taken here: values are whole numbers"),
+        ("ever\n--frist V=0\n", "unexpected argument '--frist' found"),
+    ):
+        yield Suite(f"snl test: a wrong NAME.never: {' '.join(text.split())}", *of(text, f": light.never: {said}\n"))
+    lost = {**good, "lamp.never": "ever\n", "light.watch.never": "rule.broken\n"}
+    said = "FAILED lamp: there is no program for lamp.never\nFAILED light.watch: there is no program for light.watch.never\n"
+    yield Suite("snl test: what may not be found without a program", lost, ("test", "."), f"{front}{said}1 passed, 2 failed\n", status=1)
+    wrong = {"wrong.st": WRONG, "wrong.out": "", "wrong.status": "1\n", "wrong.never": "ever\n"}
+    said = "FAILED wrong.never: the program has errors\n  wrong.st:2: error: E13 'y' is not declared\n"
+    yield Suite("snl test: what may not be found in a program with errors", wrong, ("test", "."), f"ok wrong\n{said}1 passed, 1 failed\n", status=1)
+
+
+def watches():
+    """A requirement over each day."""
+    good = suite(light_trace=TRACE, light_out=OUT)
+    front = f"ok light\n{ALL}"
+
+    def of(limit, never, said, source=WATCH):
+        files = {**good, "light.watch.st": source.replace("LIMIT", limit)}
+        files |= {"light.watch.never": never} if never else {}
+        first = f"FAILED light.watch{said}" if said else "ok light.watch\n"
+        sums = "1 passed, 1 failed\n" if said else "2 passed, 0 failed\n"
+        return files, ("test", "."), front + first + sums, "", int(bool(said))
+
+    lines = (
+        "\n  never: rule is in broken at 10, line 5 of the trace: 10 val V 7\n  the last lines of the program:\n    0 start light\n    10 put L 1\n"
+        "  requirement rule in broken since 10 (1 of 1 state set)\n"
+    )
+    yield Suite("snl test: a requirement is kept", *of("6", "rule.broken\n", ""))
+    yield Suite("snl test: a requirement is broken", *of("8", "# on no day\n\nrule.broken\n", lines))
+    yield Suite("snl test: a requirement of which no state is named", *of("8", "", ""))
+    yield Suite("snl test: a requirement makes a mistake", *of("10 / (l - 1)", "", MISTAKE))
+    yield Suite("snl test: a state that a requirement does not have", *of("6", "rule.lit\n", ": light.watch.never: 'rule.lit' is no state of the requirement: it is SS.STATE\n"))
+    yield Suite("snl test: a word that names no state", *of("6", "broken\n", ": light.watch.never: 'broken' is no state of the requirement: it is SS.STATE\n"))
+    waits = WATCH.replace(" option -c;", "")
+    yield Suite("snl test: a requirement that waits", *of("6", "", ": the requirement waits for its channels: it does not, and says so by 'option -c;'\n", waits))
+    yield Suite("snl test: a requirement with errors", *of("y", "", ": the requirement has errors\n  light.watch.st:5: error: E13 'y' is not declared\n"))
+    days = {**good, "light-monday.trace": SHORT, "light-monday.out": SHORT_OUT, "light-sunday.out": SHORT_OUT}
+    days |= {"light.watch.st": WATCH.replace("LIMIT", "8"), "light.watch.never": "rule.broken\n"}
+    said = f"ok light\nok light-monday\nFAILED light-sunday: light-sunday.trace is missing\n{ALL}FAILED light.watch{lines}FAILED light-monday.watch{lines}"
+    yield Suite("snl test: a requirement over two days", days, ("test", "."), f"{said}2 passed, 3 failed\n", status=1)
+    named = LIGHT.replace("{A}L", "put:L")
+    files = {"light.st": named, "light.out": "", "light.watch.st": WATCH.replace("LIMIT", "6")}
+    sums = "light: 0 of 2 clauses taken, 0 of 2 states entered, 0 of 1 channels put\n"
+    said = "FAILED light.watch: a channel of the program is called 'put:L': names with put: or state: in front are those that a requirement hears\n"
+    yield Suite("snl test: a channel with a name of those that a requirement hears", files, ("test", "."), f"ok light\n{sums}{said}1 passed, 1 failed\n", status=1)
+    wrong = {"wrong.st": WRONG, "wrong.out": "", "wrong.status": "1\n", "wrong.watch.st": WATCH.replace("LIMIT", "6")}
+    said = "FAILED wrong.watch: the program has errors\n  wrong.st:2: error: E13 'y' is not declared\n"
+    yield Suite("snl test: a requirement of a program with errors", wrong, ("test", "."), f"ok wrong\n{said}1 passed, 1 failed\n", status=1)
 
 
 def blessings():
@@ -357,8 +469,11 @@ def full_output(program, folder):
 
 
 def examples(root, program, folder):
+    """All runs of examples/, which stand there in the place of a case for each trace."""
     os.symlink(root / "examples", folder / "examples")
-    status, out, err = called(program, folder, "test", "examples", "examples/station")
-    wrong = [it for it in out.splitlines() if it.startswith("FAILED")]
-    count = len([*(root / "examples").glob("*.trace"), *(root / "examples/station").glob("*.trace")])
-    return differs((status, wrong, out.splitlines()[-1:], err), (0, [], [f"{count} passed, 0 failed"], ""))
+    traces = sorted(root.glob("examples/**/*.trace"))
+    paths = sorted({str(program_of(it).relative_to(root)) for it in traces})
+    status, out, err = called(program, folder, "test", *paths)
+    passed = sorted(it for it in out.splitlines() if it.startswith("ok "))
+    wanted = sorted(f"ok {it.relative_to(root).with_suffix('')}" for it in traces)
+    return differs((status, passed, out.splitlines()[-1:], err), (0, wanted, [f"{len(traces)} passed, 0 failed"], ""))
