@@ -106,9 +106,10 @@ def stored_cases(root):
     loader = importlib.machinery.SourceFileLoader("cases_run", str(root / "cases/run"))
     module = importlib.util.module_from_spec(importlib.util.spec_from_loader("cases_run", loader))
     loader.exec_module(module)
+    import files
     from case import Case as Stored
 
-    return [it for it in module.cases_of(root) if type(it) is Stored and it.tool in TOOLS]
+    return [it for it in [*files.examples(root), *module.cases_of(root)] if type(it) is Stored and it.tool in TOOLS]
 
 
 def all_cases(root):
