@@ -30,6 +30,7 @@ left-next xs n ms is =
 pub left-none : (s : Subject) → length s.times.items ≤ s.next → left_of s ≡ []
 left-none s past = drop_all s.next s.times.items past
 
+-- past the last time none is left
 pub left-past : (s : Subject) → slice_get s.times.items s.next ≡ None → left_of s ≡ []
 left-past s none = left-none s (past s.times.items s.next none)
   where
@@ -38,15 +39,19 @@ left-past s none = left-none s (past s.times.items s.next none)
 
 -- ---- what stays
 
+-- what stays as it is was asked the same
 pub stays-same : (s : Subject) → SameAsked s s
 stays-same s = record { sort = refl; times = refl; next = refl }
 
+-- where the moments stay, what is left to be told stays
 pub stays-asked : (s t : Subject) → SameAsked s t → t.moments.items ≡ s.moments.items → StaysAsked s t
 stays-asked s t same moments = record { same = same; told = λ _. ap kinds moments }
 
+-- the same twice is the same
 pub same-then : (s t u : Subject) → SameAsked s t → SameAsked t u → SameAsked s u
 same-then s t u one other = record { sort = other.sort ∙ one.sort; times = other.times ∙ one.times; next = other.next ∙ one.next }
 
+-- to stay twice is to stay
 pub stays-then : (s t u : Subject) → StaysAsked s t → StaysAsked t u → StaysAsked s u
 stays-then s t u one other = record { same = same-then s t u one.same other.same; told = λ is. other.told (one.same.sort ∙ is) ∙ one.told is }
 
@@ -54,6 +59,7 @@ stays-then s t u one other = record { same = same-then s t u one.same other.same
 pub left-same : (s t : Subject) → SameAsked s t → left_of t ≡ left_of s
 left-same s t same = (λ j. drop (same.next j) (same.times j))
 
+-- what stays keeps its plan
 pub stays-plan : (s t : Subject) → StaysAsked s t → KeepsPlan s t
 stays-plan s t stays = record {
   sort = stays.same.sort;
@@ -63,9 +69,11 @@ stays-plan s t stays = record {
       ∙ ap (λ (xs : List ℕ). kinds s.moments.items ++ map At xs) (left-same s t stays.same);
 }
 
+-- each plan is kept by itself
 pub keeps-plan : (s : Subject) → KeepsPlan s s
 keeps-plan s = record { sort = refl; times = refl; plan = λ _. refl }
 
+-- plans are kept one after another
 pub plan-then : (s t u : Subject) → KeepsPlan s t → KeepsPlan t u → KeepsPlan s u
 plan-then s t u one other = record { sort = other.sort ∙ one.sort; times = other.times ∙ one.times; plan = λ is. other.plan (one.sort ∙ is) ∙ one.plan is }
 
@@ -107,6 +115,7 @@ pub told-plan : (ms : ℕ) (s t u : Subject) → StaysAsked s t → TellsNext ms
 told-plan ms s t u stays tells is =
     plan-then s t u (stays-plan s t stays) (tells-plan ms t u tells ((λ j. slice_get (stays.same.times j) (stays.same.next j)) ∙ is))
 
+-- where the next time was told, the one behind it is next
 pub told-next : (ms : ℕ) (s t u : Subject) → StaysAsked s t → TellsNext ms t u → slice_get s.times.items s.next ≡ Some ms → u.next ≡ s.next + 1
 told-next ms s t u stays tells is =
     tells.next ((λ j. slice_get (stays.same.times j) (stays.same.next j)) ∙ is) ∙ ap (λ (n : ℕ). n + 1) stays.same.next
@@ -140,9 +149,11 @@ closes-bad ms end s t tells next = λ is times planned. record {
 
 -- ---- one after another
 
+-- what keeps its plan first closes as planned
 pub closes-then : (close : Close) (s t u : Subject) → KeepsPlan s t → ClosesPlan close t u → ClosesPlan close s u
 closes-then close s t u keeps closes = λ is times planned. closes (keeps.sort ∙ is) times (keeps.plan is ∙ planned)
 
+-- what keeps its plan first goes on as planned
 pub goes-then : (close : Option Close) (s t u : Subject) → KeepsPlan s t → GoesPlanned close t u → GoesPlanned close s u
 goes-then None s t u keeps goes = plan-then s t u keeps goes
 goes-then (Some close) s t u keeps goes = closes-then close s t u keeps goes
@@ -157,18 +168,23 @@ tells-kind s t m same moments = record { same = same; told = ap kinds moments �
 
 -- ---- where no times are asked for
 
+-- a trip is no time
 pub trip-not : (sort : Sort) → sort ≡ Trip → sort ≢ Times
 trip-not sort trip times = cc
 
+-- a way into a state is no time
 pub into-not : (sort : Sort) → sort ≡ Into → sort ≢ Times
 into-not sort into times = cc
 
+-- where no times are asked for, each plan is kept
 pub other-keeps : (s t : Subject) → SameAsked s t → s.sort ≢ Times → KeepsPlan s t
 other-keeps s t same never = record { sort = same.sort; times = same.times; plan = λ is. absurd (never is) }
 
+-- and each end is as planned
 pub ends-other : (is_over : Bool) (s t : Subject) → SameAsked s t → s.sort ≢ Times → EndsPlan is_over s t
 ends-other is_over s t same never = record { keeps = other-keeps s t same never; none = λ over is. absurd (never is) }
 
+-- and all stays
 pub other-stays : (s t : Subject) → SameAsked s t → s.sort ≢ Times → StaysAsked s t
 other-stays s t same never = record { same = same; told = λ is. absurd (never is) }
 

@@ -95,6 +95,7 @@ ends-clean begun s t none ends = λ r first gave at.
 whole-line : (r : Rules) (first : World) (gave begun : List ℕ) (s : Subject) → Stands false r first gave begun s → Stands false r first (whole_of true gave) (begun ++ 10 ∷ []) s
 whole-line r first gave begun s at = stands-more r first gave begun (10 ∷ []) s at
 
+-- a line that was begun, and the end of the trace behind it
 pub ends-line : (begun : List ℕ) (s t u : Subject) → GoesBy begun s t None → EndsAt true t u → EndsBehind begun s u
 ends-line begun s t u goes ends = λ r first gave at.
     let here = goes r first (whole_of true gave) [] (whole-line r first gave begun s at) in

@@ -174,6 +174,7 @@ later-more r ms w rest bytes (inl ended) = inl ended
 later-more r ms w rest bytes (inr (line, at, here, read, late)) =
     inr (line, at, record { more = here.more ++ bytes; plain = here.plain; is = ap (λ (z : List ℕ). z ++ bytes) here.is ∙ append_assoc line (10 ∷ here.more) bytes }, read, late)
 
+-- a bad line stays bad, whatever follows
 bad-more : (r : Rules) (w : World) (rest bytes : List ℕ) → IsBad r w rest → IsBad r w (rest ++ bytes)
 bad-more r w rest bytes (inl (line, fault, here, read)) =
     inl (line, fault, record { more = here.more ++ bytes; plain = here.plain; is = ap (λ (z : List ℕ). z ++ bytes) here.is ∙ append_assoc line (10 ∷ here.more) bytes }, read)
@@ -186,6 +187,7 @@ bad-more r w rest bytes (inr long) =
       is = ap (λ (z : List ℕ). z ++ bytes) long.is ∙ append_assoc long.begun long.more bytes;
     })
 
+-- a moment stays right, whatever follows
 at-more : (k : Kind) (r : Rules) (w : World) (rest bytes : List ℕ) → IsAtTime false k r w rest → IsAtTime false k r w (rest ++ bytes)
 at-more (kind.At ms) r w rest bytes at = (at.0, at.1, later-more r ms w rest bytes at.2)
 at-more (kind.Before ms) r w rest bytes at = (at.0, bad-more r w rest bytes at.1)
@@ -229,6 +231,7 @@ stands-more r first gave rest bytes s at = record {
 
 -- ---- at the end
 
+-- a moment that is right before the end is right at the end
 at-ends : (e : Bool) (k : Kind) (r : Rules) (w : World) (rest : List ℕ) → IsAtTime false k r w rest → IsAtTime e k r w rest
 at-ends false k r w rest at = at
 at-ends true (kind.At ms) r w rest at = (at.0, at.1, inr at.2)
@@ -249,6 +252,7 @@ behind-ends e r first gave _ _ (ByLine line more number w u read comes plain rea
 behind-ends e r first gave _ _ (ByWake rest w u ms wake comes due later is) =
     ByWake rest w u ms wake (behind-ends e r first gave w rest comes) due (later-ends e r wake w rest later) is
 
+-- the same of a moment with its world
 pub moment-ends : (e : Bool) (r : Rules) (first : World) (gave : List ℕ) (m : Moment) → IsMoment false r first gave m → IsMoment e r first gave m
 moment-ends e r first gave m is = record {
   world = is.world;
@@ -314,6 +318,7 @@ untold at_end r first gave rest s t m machine asked moments spares at =
 pub leaves-keeps : (s t : Subject) → Leaves s t → Keeps s t
 leaves-keeps s t same = λ at_end r first gave rest at. leaves-stands at_end r first gave rest s t same at
 
+-- to keep twice is to keep
 pub keeps-then : (s t u : Subject) → Keeps s t → Keeps t u → Keeps s u
 keeps-then s t u one other = λ at_end r first gave rest at. other at_end r first gave rest (one at_end r first gave rest at)
 
@@ -321,12 +326,15 @@ keeps-then s t u one other = λ at_end r first gave rest at. other at_end r firs
 pub keeps-nears : (line : List ℕ) (s t : Subject) → Keeps s t → Nears line s t
 keeps-nears line s t keeps = λ r first gave more plain at. keeps false r first gave (line ++ 10 ∷ more) at
 
+-- a line comes nearer twice
 pub nears-then : (line : List ℕ) (s t u : Subject) → Nears line s t → Nears line t u → Nears line s u
 nears-then line s t u one other = λ r first gave more plain at. other r first gave more plain (one r first gave more plain at)
 
+-- what is kept ends right
 pub keeps-ends : (is_over : Bool) (s t : Subject) → Keeps s t → EndsAt is_over s t
 keeps-ends is_over s t keeps = λ r first gave rest over at. keeps is_over r first gave rest at
 
+-- ends come one after another
 pub ends-then : (is_over : Bool) (s t u : Subject) → EndsAt is_over s t → EndsAt is_over t u → EndsAt is_over s u
 ends-then is_over s t u one other = λ r first gave rest over at. other r first gave rest over (one r first gave rest over at)
 

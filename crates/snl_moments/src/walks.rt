@@ -18,8 +18,11 @@ pub enum Asked<'t> {
 /// The same, without the times.
 #[derive(Clone, Copy, Debug, PartialEq, Eq)]
 pub enum Sort {
+    /// Some times.
     Times,
+    /// Where it faults.
     Trip,
+    /// Where it came last into a state.
     Into,
 }
 

@@ -141,7 +141,8 @@ pub struct Ready {
 pub fn ready_of(alloc: Global, source: &[u8], job: &Job, count: usize) -> Result<Ready, AllocError>
     ensures ready { IfOk result (IsReady job.now.options (string_bytes job.now.file)
         (unwrap_or (option_map string_bytes job.now.macros) []) source.now job.now.budget) }
-    ensures untold { IfOk result (λ r. IfSome r.scene (λ scene. IsUntold scene.value.subject.value)) }
+    ensures untold { IfOk result (λ r. IfSome r.scene (λ scene.
+        IsUntold scene.value.subject.value)) }
 {
     let Judgement { messages, checked } = judged(alloc, source, job.file.as_bytes(), job.options)?;
     let Some(checked) = checked else {

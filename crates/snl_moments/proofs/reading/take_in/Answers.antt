@@ -26,7 +26,8 @@ returns-then-extend-clause-takes c = part-all _ _ _ _ _ _ _ c.loop-line.invarian
 
 pub returns-clause-takes : goal.returns-clause-takes
 returns-clause-takes c =
-    part-long c.in_ok-too_long.field-0 _ _ _ _ c.extend.new.line.items _ _ _ c.loop-line.invariant.way c.in_default.ensures.none (c.extend.ensures.long c.if-extend.false) c.in_ok-too_long.ensures.tells
+    part-long c.in_ok-too_long.field-0 _ _ _ _ c.extend.new.line.items _ _ _ c.loop-line.invariant.way c.in_default.ensures.none
+    (c.extend.ensures.long c.if-extend.false) c.in_ok-too_long.ensures.tells
 
 pub returns-clause-plan : goal.returns-clause-plan
 returns-clause-plan c = closes-then c.in_ok-too_long.field-0 _ _ c.too_long.new.walk c.loop-line.invariant.plan c.in_ok-too_long.ensures.plan
