@@ -125,7 +125,7 @@ fn tokens_judged<'a>(
     };
     match parse(alloc, lexed) {
         Ok(program) => {
-            let found = tree_judged(alloc, program, names, given)?;
+            let found = tree_judged(alloc, names, program, given)?;
             Ok(found)
         }
         Err(ParseFault::Memory) => Err(AllocError),
@@ -144,8 +144,8 @@ fn tokens_judged<'a>(
 /// All messages of a program.
 fn tree_judged<'a>(
     alloc: Global,
+    names: Names<'_, 'a>,
     program: Program<'a>,
-    names: Names,
     given: Options,
 ) -> Result<Judgement<'a>, AllocError>
     ensures told { IfOk result (λ f. IsTreeTold given names.entry.read.now

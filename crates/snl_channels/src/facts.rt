@@ -36,14 +36,14 @@ struct Syncs<'a> {
 /// What the definitions of a program say. It finds what they say of an element as fast among many as
 /// among few.
 #[derive(Drop)]
-pub struct Facts<'s, 'p, 'a> {
+pub struct Facts<'s, 'a> {
     /// In the order of the source.
-    all: &'s [Said<'p, 'a>],
+    all: &'s [Said<'s, 'a>],
     monitored: Monitored,
     syncs: Syncs<'a>,
 }
 
-impl<'s, 'p, 'a> Model for Facts<'s, 'p, 'a> {
+impl<'s, 'a> Model for Facts<'s, 'a> {
     ghost use Rattle.std.specs.Prelude.{List, map};
     ghost use Rattle.snl_channels.specs.Links.{Said};
     ghost use Rattle.snl_channels.specs.LinkViews.{said_view};
@@ -88,7 +88,7 @@ impl Monitored {
     }
 
     /// The elements that some definitions monitor.
-    fn of(alloc: Global, all: &[Said]) -> Result<Monitored, AllocError>
+    fn of<'s, 'a>(alloc: Global, all: &'s [Said<'s, 'a>]) -> Result<Monitored, AllocError>
         ensures { IfOk result (λ monitored. (v k : ℕ) → monitored_in monitored v k
             ≡ spec.is_monitored v k (map said_view all.now)) }
     {
@@ -177,7 +177,7 @@ impl<'a> Syncs<'a> {
     }
 
     /// What some definitions say first of each element.
-    fn of(alloc: Global, all: &[Said<'_, 'a>]) -> Result<Syncs<'a>, AllocError>
+    fn of<'s>(alloc: Global, all: &'s [Said<'s, 'a>]) -> Result<Syncs<'a>, AllocError>
         ensures { IfOk result (λ syncs. (v k : ℕ) → synced_in syncs v k None
             ≡ spec.first_sync v k (map said_view all.now)) }
     {
@@ -209,9 +209,9 @@ impl<'a> Syncs<'a> {
     }
 }
 
-impl<'s, 'p, 'a> Facts<'s, 'p, 'a> {
+impl<'s, 'a> Facts<'s, 'a> {
     /// What these definitions say. The only error is that memory ends.
-    pub fn of(alloc: Global, all: &'s [Said<'p, 'a>]) -> Result<Facts<'s, 'p, 'a>, AllocError>
+    pub fn of(alloc: Global, all: &'s [Said<'s, 'a>]) -> Result<Facts<'s, 'a>, AllocError>
         ensures { IfOk result (λ facts. facts ≡ map said_view all.now) }
     {
         let monitored = Monitored::of(alloc, all)?;

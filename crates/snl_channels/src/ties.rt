@@ -53,8 +53,8 @@ pub struct Tie<'a> {
 }
 
 /// A link of so many elements of a variable, from the first on.
-fn tie_of<'a>(
-    facts: &Facts<'_, '_, 'a>,
+fn tie_of<'s, 'a>(
+    facts: &'s Facts<'s, 'a>,
     name: Token<'a>,
     part: Part,
     first: usize,
@@ -80,8 +80,8 @@ fn tie_of<'a>(
 }
 
 /// Adds the link of all that a place names.
-fn push_tie<'a>(
-    facts: &Facts<'_, '_, 'a>,
+fn push_tie<'s, 'a>(
+    facts: &'s Facts<'s, 'a>,
     name: Token<'a>,
     part: Part,
     channel: Option<Token<'a>>,
@@ -99,8 +99,8 @@ fn push_tie<'a>(
 }
 
 /// Adds a link of one element for each of some channels, from element 0 on.
-fn push_list<'a>(
-    facts: &Facts<'_, '_, 'a>,
+fn push_list<'s, 'a>(
+    facts: &'s Facts<'s, 'a>,
     name: Token<'a>,
     part: Part,
     channels: &[Token<'a>],
@@ -116,9 +116,9 @@ fn push_list<'a>(
 }
 
 /// Adds the links of an `assign` (SNL Reference, "Assign").
-fn push_assigned<'a>(
-    channels: &Option<Channels<'a>>,
-    facts: &Facts<'_, '_, 'a>,
+fn push_assigned<'s, 'a>(
+    channels: &'s Option<Channels<'a>>,
+    facts: &'s Facts<'s, 'a>,
     name: Token<'a>,
     part: Part,
     ties: &mut Vec<Tie<'a>>,
@@ -137,9 +137,9 @@ fn push_assigned<'a>(
 }
 
 /// Adds the links that follow from what one definition says.
-fn push_ties<'a>(
-    facts: &Facts<'_, '_, 'a>,
-    said: &Said<'_, 'a>,
+fn push_ties<'s, 'a>(
+    facts: &'s Facts<'s, 'a>,
+    said: &'s Said<'s, 'a>,
     ties: &mut Vec<Tie<'a>>,
 ) -> Result<(), AllocError>
     ensures { OnOk result (ties.new.items ≡ ties.old.items
@@ -156,10 +156,10 @@ fn push_ties<'a>(
 }
 
 /// The links that follow from what definitions say, in the order of the `assign` definitions.
-fn ties_among<'a>(
+fn ties_among<'s, 'a>(
     alloc: Global,
-    facts: &Facts<'_, '_, 'a>,
-    all: &[Said<'_, 'a>],
+    facts: &'s Facts<'s, 'a>,
+    all: &'s [Said<'s, 'a>],
 ) -> Result<Vec<Tie<'a>>, AllocError>
     requires { facts.now ≡ map said_view all.now }
     ensures { IfOk result (λ ties. ties.items ≡ spec.ties_among (map said_view all.now)) }

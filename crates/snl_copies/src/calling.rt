@@ -12,7 +12,7 @@ use snl_syntax::{Def, Function};
 use std::alloc::AllocError;
 
 /// Whether this is a call of a function.
-fn calls(touch: &Touch, function: &Function) -> bool
+fn calls<'a>(function: &Function<'a>, touch: &Touch<'a>) -> bool
     ensures { result ≡ spec.calls (function_view function.now) touch.now }
 {
     match touch {
@@ -22,11 +22,11 @@ fn calls(touch: &Touch, function: &Function) -> bool
 }
 
 /// Whether code calls a function.
-fn has_call(code: &[Touch], function: &Function) -> bool
+fn has_call<'a>(function: &Function<'a>, code: &[Touch<'a>]) -> bool
     ensures { result ≡ list_any (spec.calls (function_view function.now)) code.now }
 {
     for touch in code {
-        if calls(touch, function) {
+        if calls(function, touch) {
             return true;
         }
     }
@@ -38,7 +38,7 @@ fn push_if_called<'a>(function: &Function<'a>, code: &mut Vec<Touch<'a>>) -> Res
     ensures { OnOk result (code.new.items
         ≡ spec.with_function (function_view function.now) code.old.items) }
 {
-    if has_call(code.as_slice(), function) {
+    if has_call(function, code.as_slice()) {
         push_function(function, code)?;
     }
     Ok(())

@@ -197,6 +197,30 @@ fn push_set_to<'a>(
     push_states_to(alloc, sets[set].states.as_slice(), way, found)
 }
 
+/// What clauses that lead to a state read of the state set's copy that is never written, by what is known of the copy.
+fn unwritten_by<'a>(
+    alloc: Global,
+    program: &Program<'a>,
+    uses: &UseTable,
+    set: usize,
+    state: &[u8],
+    copy: &SetCopy<'a>,
+) -> Result<Vec<Unwritten<'a>>, AllocError>
+    ensures { IfOk result (λ found. found.items ≡ spec.in_set_to
+        (map definition_view program.now.definitions.items) state.now uses.now copy.now
+        (slice_get (map state_set_view program.now.state_sets.items) set)) }
+{
+    let way = Way {
+        definitions: program.definitions.as_slice(),
+        state,
+        uses,
+        copy,
+    };
+    let mut found = Vec::new(alloc);
+    push_set_to(alloc, program.state_sets.as_slice(), set, &way, &mut found)?;
+    Ok(found)
+}
+
 /// The names by which clauses that lead to a state, with the functions that they call, read variables of which the state set's copy is
 /// never written. The state set goes by its number, from 0 on, the state by its name; `uses` is the table of the program's names. A
 /// variable that is read by several names stands there as often. The only error is that memory ends.
@@ -212,13 +236,6 @@ pub fn unwritten_into<'a>(
         ↔ ReadsUnwritten (program_view program.now) set state.now u.name u.declared) }
 {
     let copy = SetCopy::of(alloc, program, set)?;
-    let way = Way {
-        definitions: program.definitions.as_slice(),
-        state,
-        uses,
-        copy: &copy,
-    };
-    let mut found = Vec::new(alloc);
-    push_set_to(alloc, program.state_sets.as_slice(), set, &way, &mut found)?;
+    let found = unwritten_by(alloc, program, uses, set, state, &copy)?;
     Ok(found)
 }

@@ -117,7 +117,7 @@ fn statement_depth(statement: &Stmt, functions: &[Outline]) -> usize
 
 /// Of a `for` loop.
 #[cycle(depths)]
-fn for_depth(header: &Header, body: &Stmt, functions: &[Outline]) -> usize
+fn for_depth<'a>(header: &Header<'a>, body: &Stmt<'a>, functions: &[Outline]) -> usize
     ensures { result ≡ capped (max
         (max (spec.maybe_depth (outlines functions.now) (shown boxed header.now.start))
         (spec.maybe_depth (outlines functions.now) (shown boxed header.now.condition)))

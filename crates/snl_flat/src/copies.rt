@@ -92,7 +92,10 @@ fn shared_by<'p, 'a>(
 }
 
 /// The places of the variables of copies.
-fn placed_sets(alloc: Global, sets: &[Vec<CopyVariable>]) -> Result<Vec<Places>, AllocError>
+fn placed_sets<'p, 'a>(
+    alloc: Global,
+    sets: &'p [Vec<CopyVariable<'p, 'a>>],
+) -> Result<Vec<Places>, AllocError>
     ensures { IfOk result (λ copies. copies.items ≡ map (placed_from 0) (sets_of sets.now)) }
 {
     let mut copies = Vec::new(alloc);

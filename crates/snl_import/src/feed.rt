@@ -338,6 +338,25 @@ fn take_line<R: BufRead + Drop, P: Program + Drop>(
     Ok(())
 }
 
+/// Takes in what the next line of a log says, which has a place among others, and goes on to its next line.
+fn take_from<R: BufRead + Drop, P: Program + Drop>(
+    alloc: Global,
+    feed: &mut Feed<R>,
+    place: usize,
+    importer: &mut Importer<P>,
+) -> Result<(), ImportError>
+    ensures lines { OnOk result (importer.new.counts.lines ≡ importer.old.counts.lines + 1) }
+    ensures first { importer.new.recorder.first ≡ importer.old.recorder.first }
+    ensures before { importer.new.recorder.before ≡ importer.old.recorder.before }
+    ensures program { importer.new.recorder.program ≡ importer.old.recorder.program }
+{
+    take_line(alloc, feed, importer)?;
+    match feed.advance(alloc) {
+        Ok(()) => Ok(()),
+        Err(error) => Err(fault_of(error, place)),
+    }
+}
+
 /// Takes in the next line of several logs, the earliest first, up to a time. Answers whether there was one: at the end of all logs, or
 /// behind that time, there is none.
 pub fn take_next<R: BufRead + Drop, P: Program + Drop>(
@@ -359,9 +378,6 @@ pub fn take_next<R: BufRead + Drop, P: Program + Drop>(
     if feed.time() > until {
         return Ok(false);
     }
-    take_line(alloc, feed, importer)?;
-    match feed.advance(alloc) {
-        Ok(()) => Ok(true),
-        Err(error) => Err(fault_of(error, place)),
-    }
+    take_from(alloc, feed, place, importer)?;
+    Ok(true)
 }

@@ -1,6 +1,7 @@
 //! Recorded logs, written as one trace.
 
-ghost use Rattle.std.specs.Prelude.{◌≡◌, ◌+◌, ◌-◌, ◌^◌, ◌<◌, ℕ, List, [], Some, IfOk, OnErr};
+ghost use Rattle.std.specs.Prelude.{◌≡◌, ◌+◌, ◌-◌, ◌^◌, ◌<◌, ℕ, Bool, List, [], Some, IfOk, OnErr};
+ghost use Rattle.snl_trace.specs.Grammar.{Told};
 ghost use Rattle.snl_import.specs.Counts.{left_total};
 ghost use Rattle.snl_import.specs.Taken.{TellsTaken};
 ghost use Rattle.snl_import.specs.Written.{IsTrace, IsTraceFront};
@@ -129,6 +130,44 @@ fn preface_of<R: BufRead + Drop>(
     Ok(preface)
 }
 
+/// Hands the comments with which the trace of logs begins to a sink to which nothing was written. Answers what is known of channels.
+fn write_front<R: BufRead + Drop, K: Sink>(
+    alloc: Global,
+    wishes: &Wishes,
+    feeds: &[Feed<R>],
+    begin: Begin,
+    sink: &mut K,
+) -> Result<Channels, ImportError>
+    requires sink { K.failures sink.old < 2 ^ 64 - 1 }
+    requires fresh { (text : List ℕ) → K.told sink.old ≡ Some text → text ≡ [] }
+    ensures trace { IfOk result (λ _. IsTrace (K.told sink.new) (0, 0)) }
+    ensures front { OnErr result (IsTraceFront (K.told sink.new)) }
+    ensures taken { (taken : Told → Bool) → TellsTaken taken (K.told sink.new) }
+    ensures failures { IfOk result (λ _. K.failures sink.new ≡ K.failures sink.old) }
+{
+    let channels = channels_of(alloc, wishes)?;
+    let preface = preface_of(alloc, wishes, feeds, begin, &channels)?;
+    write_comments(&preface, sink)?;
+    Ok(channels)
+}
+
+/// What came of logs that were written whole.
+fn imported_of<R: BufRead + Drop, P: Program + Drop>(
+    alloc: Global,
+    importer: &Importer<P>,
+    feeds: &[Feed<R>],
+) -> Result<Imported, AllocError>
+    ensures counts { IfOk result (λ i. i.counts ≡ importer.now.counts) }
+    ensures last { IfOk result (λ i. i.last ≡ importer.now.recorder.last) }
+{
+    Ok(Imported {
+        counts: importer.counts(),
+        last: importer.last(),
+        notes: notes_of(alloc, importer, feeds)?,
+        is_whole: importer.channels().lacking() == 0 && have_numbers(feeds),
+    })
+}
+
 /// Writes logs as one trace to a sink to which nothing was written. Whatever the bytes of the logs are, each line that is written is
 /// a comment with which the trace begins, or an event that a run takes, in the order of time: behind all of them a run stands at the time `last`, and has heard `written` values.
 /// Each line that was read is understood or not, and each value of the lines was written or is left out; both are counted. What was
@@ -154,16 +193,9 @@ pub fn import<R: BufRead + Drop, P: Program + Drop, K: Sink>(
 {
     let begin = begin_of(alloc, wishes, feeds)?;
     advance_all(alloc, feeds)?;
-    let channels = channels_of(alloc, wishes)?;
-    let preface = preface_of(alloc, wishes, feeds, begin, &channels)?;
-    write_comments(&preface, sink)?;
+    let channels = write_front(alloc, wishes, feeds, begin, sink)?;
     let mut importer = Importer::new(alloc, channels, begin, program);
     let until = wishes.to.unwrap_or(u64::MAX);
     write_events(alloc, feeds, until, &mut importer, sink)?;
-    Ok(Imported {
-        counts: importer.counts(),
-        last: importer.last(),
-        notes: notes_of(alloc, &importer, feeds)?,
-        is_whole: importer.channels().lacking() == 0 && have_numbers(feeds),
-    })
+    Ok(imported_of(alloc, &importer, feeds)?)
 }

@@ -66,7 +66,7 @@ pub struct Known<'s, 'a> {
     pub above: usize,
 }
 
-fn held_from(place: usize, is_shared: bool, held: &CopyVariable) -> Variable
+fn held_from<'p, 'a>(place: usize, is_shared: bool, held: &'p CopyVariable<'p, 'a>) -> Variable
     ensures { result ≡ spec.held_from is_shared place (variable_view held.now) }
 {
     let (least, greatest) = held.range;
@@ -81,8 +81,8 @@ fn held_from(place: usize, is_shared: bool, held: &CopyVariable) -> Variable
 
 /// Adds variables, each by its declaration; their words stand one after another, among those that all state sets share or among
 /// those of a copy. The only error is that memory ends.
-pub fn push_places(
-    variables: &[CopyVariable],
+pub fn push_places<'p, 'a>(
+    variables: &'p [CopyVariable<'p, 'a>],
     is_shared: bool,
     places: &mut Vec<Placed>,
 ) -> Result<(), AllocError>

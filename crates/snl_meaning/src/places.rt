@@ -53,7 +53,10 @@ fn declared_of(alloc: Global, all: &[Placed]) -> Result<Offsets, AllocError>
 
 impl Places {
     /// The variables of a copy; their words stand one after another. The only error is that memory ends.
-    pub fn of(alloc: Global, variables: &[CopyVariable]) -> Result<Places, AllocError>
+    pub fn of<'p, 'a>(
+        alloc: Global,
+        variables: &'p [CopyVariable<'p, 'a>],
+    ) -> Result<Places, AllocError>
         ensures { IfOk result (λ places. places
             ≡ spec.placed_from 0 (map variable_view variables.now)) }
     {
@@ -65,10 +68,10 @@ impl Places {
 
     /// The variables that the functions of a program may name: those that stand first in each copy, and those of functions. The
     /// only error is that memory ends.
-    pub fn of_functions(
+    pub fn of_functions<'p, 'a>(
         alloc: Global,
-        own: &[CopyVariable],
-        shared: &[CopyVariable],
+        own: &'p [CopyVariable<'p, 'a>],
+        shared: &'p [CopyVariable<'p, 'a>],
     ) -> Result<Places, AllocError>
         ensures { IfOk result (λ places. places ≡ spec.placed_from 0 (map variable_view own.now)
             ++ spec.placed_shared 0 (map variable_view shared.now)) }

@@ -54,6 +54,41 @@ fn put_chart(
     })
 }
 
+/// Numbers the channel of a link, which has a name. Answers the number where a variable is declared at one of these offsets, and the
+/// channel comes first.
+fn put_number<'l>(
+    link: &'l Link,
+    declared: &IndexSet<usize>,
+    channels: &mut IndexSet<&'l [u8]>,
+    seen: &mut IndexSet<usize>,
+) -> Result<Option<usize>, AllocError> {
+    let (number, _) = channels.insert_full(link.name.as_slice())?;
+    if declared.contains(&link.variable.offset) && seen.insert(number)? {
+        Ok(Some(number))
+    } else {
+        Ok(None)
+    }
+}
+
+/// The links of the channels that are put to, each with the number of its channel.
+fn put_links<'l>(
+    alloc: Global,
+    links: &'l [Link],
+    declared: &IndexSet<usize>,
+) -> Result<Vec<(&'l Link, usize)>, AllocError> {
+    let mut channels = IndexSet::new(alloc);
+    let mut seen = IndexSet::new(alloc);
+    let mut found = Vec::new(alloc);
+    for link in links {
+        if !link.name.is_empty() {
+            if let Some(number) = put_number(link, declared, &mut channels, &mut seen)? {
+                found.push((link, number))?;
+            }
+        }
+    }
+    Ok(found)
+}
+
 /// The channels of variables that are declared at these offsets of a source, each once, by its first link. The only error is
 /// that memory ends.
 pub(crate) fn put_charts(
@@ -62,17 +97,10 @@ pub(crate) fn put_charts(
     links: &[Link],
     declared: &IndexSet<usize>,
 ) -> Result<Vec<PutChart>, AllocError> {
-    let mut channels: IndexSet<&[u8]> = IndexSet::new(alloc);
-    let mut seen: IndexSet<usize> = IndexSet::new(alloc);
+    let found = put_links(alloc, links, declared)?;
     let mut puts = Vec::new(alloc);
-    for link in links {
-        if link.name.is_empty() {
-            continue;
-        }
-        let (number, _) = channels.insert_full(link.name.as_slice())?;
-        if declared.contains(&link.variable.offset) && seen.insert(number)? {
-            puts.push(put_chart(alloc, source, links, link, number)?)?;
-        }
+    for (link, number) in &found {
+        puts.push(put_chart(alloc, source, links, link, *number)?)?;
     }
     Ok(puts)
 }

@@ -100,6 +100,22 @@ fn push_note(out: &mut Vec<u8>, name: &str, meant: Option<&str>) -> Result<(), A
     out.extend_from_slice(b"\n")
 }
 
+/// A line for each macro that has a value and is not used.
+fn notes_among<'n>(
+    alloc: Global,
+    used: &IndexSet<&'n str>,
+    given: &IndexSet<&'n str>,
+) -> Result<Vec<u8>, AllocError> {
+    let mut out = Vec::new(alloc);
+    for name in given {
+        if !used.contains(name) {
+            let meant = meant(alloc, used, given, name)?;
+            push_note(&mut out, name, meant)?;
+        }
+    }
+    Ok(out)
+}
+
 /// A line for each macro of MACROS that the source of these tokens does not use.
 fn notes_of<'n>(
     alloc: Global,
@@ -108,14 +124,7 @@ fn notes_of<'n>(
 ) -> Result<Vec<u8>, AllocError> {
     let used = used_in(alloc, tokens)?;
     let given = given_in(alloc, macros)?;
-    let mut out = Vec::new(alloc);
-    for name in &given {
-        if !used.contains(name) {
-            let meant = meant(alloc, &used, &given, name)?;
-            push_note(&mut out, name, meant)?;
-        }
-    }
-    Ok(out)
+    notes_among(alloc, &used, &given)
 }
 
 /// A line for each macro that MACROS give a value and that no `assign` of a source uses, with the one that may have been meant.

@@ -70,6 +70,27 @@ fn clauses_of(
     Ok(clauses)
 }
 
+/// Nothing came yet of the states of a state set, which have these names. `next` is the number of their first clause among all, and
+/// then that behind their last.
+fn state_trails(
+    alloc: Global,
+    states: &[StateChart],
+    names: &IndexSet<&[u8]>,
+    lines: &Lines,
+    next: &mut usize,
+) -> Result<Vec<StateTrail>, AllocError> {
+    let mut trails = Vec::new(alloc);
+    for state in states {
+        let clauses = clauses_of(alloc, state, names, lines, *next)?;
+        *next = next.saturating_add(clauses.len());
+        trails.push(StateTrail {
+            entered: 0,
+            clauses,
+        })?;
+    }
+    Ok(trails)
+}
+
 /// Nothing came yet of a state set. `next` is the number of its first clause among all, and then that behind its last.
 fn set_trail(
     alloc: Global,
@@ -78,15 +99,7 @@ fn set_trail(
     next: &mut usize,
 ) -> Result<SetTrail, AllocError> {
     let names = names_of(alloc, set)?;
-    let mut states = Vec::new(alloc);
-    for state in &set.states {
-        let clauses = clauses_of(alloc, state, &names, lines, *next)?;
-        *next = next.saturating_add(clauses.len());
-        states.push(StateTrail {
-            entered: 0,
-            clauses,
-        })?;
-    }
+    let states = state_trails(alloc, set.states.as_slice(), &names, lines, next)?;
     Ok(SetTrail { states })
 }
 

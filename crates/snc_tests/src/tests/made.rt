@@ -1,33 +1,32 @@
 //! What tests ask: a checked program, and the machine of a program. What owns a program stands here alone: a test that owns one would be dear.
 
-use snl_check::{Checked, Options, check};
+use snc::judged;
+use snl_check::{Checked, Options};
 use snl_links::Macros;
 use snl_machine::{Loads, Machine};
-use snl_text::{Lexed, lex};
-use snl_tree::parse;
 use std::alloc::Global;
 use std::test::Fail;
 
-/// The program that tokens spell, checked.
-pub fn checked<'a>(alloc: Global, lexed: &Lexed<'a>) -> Result<Box<Checked<'a>>, Fail> {
-    let program = parse(alloc, lexed)?;
-    let outcome = check(alloc, program, Options::none())?;
-    boxed(alloc, outcome.checked)
+/// The program that a source spells, checked.
+pub fn checked<'a>(alloc: Global, source: &'a [u8]) -> Result<Box<Checked<'a>>, Fail> {
+    let found = judged(alloc, source, b"", Options::none())?;
+    there(found.checked)
 }
 
-/// What was found, in a box.
-fn boxed<T: Drop>(alloc: Global, found: Option<T>) -> Result<Box<T>, Fail> {
-    match found {
-        Some(found) => Ok(Box::new(alloc, found)?),
-        None => Err("not accepted".into()),
-    }
+/// What is there.
+fn there<T: Drop>(found: Option<T>) -> Result<T, Fail> {
+    Ok(found.ok_or("not accepted")?)
 }
 
 /// The machine of a program with a budget of 10. It outlives the bytes of the source, which end here.
 pub fn loaded(alloc: Global, program: &[u8]) -> Result<Box<Machine>, Fail> {
     let source = Vec::from_slice(alloc, program)?;
-    let lexed = lex(alloc, source.as_slice())?;
-    loaded_from(alloc, checked(alloc, &lexed)?)
+    loaded_of(alloc, source.as_slice())
+}
+
+/// The machine of a program, which ends here.
+fn loaded_of(alloc: Global, source: &[u8]) -> Result<Box<Machine>, Fail> {
+    loaded_from(alloc, checked(alloc, source)?)
 }
 
 fn loaded_from<T: Loads + Drop>(alloc: Global, checked: Box<T>) -> Result<Box<Machine>, Fail> {

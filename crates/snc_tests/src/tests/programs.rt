@@ -6,7 +6,6 @@ use snl_check::Checked;
 use snl_code::{Code, Piece, compile};
 use snl_links::{Macros, links, tables};
 use snl_meaning::Instr;
-use snl_text::lex;
 use std::alloc::{AllocError, Global};
 use std::process::Abort;
 use std::test::Fail;
@@ -122,44 +121,19 @@ pub enum Question {
     Tables,
 }
 
-/// What answers questions of a program. A function that owns a whole checked program is dear to prove; one that owns a value of a type
-/// parameter is not.
-trait Answers {
-    /// Answers a question, by a number.
-    fn answer<A: Abort>(
-        &self,
-        rt: &A,
-        alloc: Global,
-        question: Question,
-        text: &mut Vec<u8>,
-    ) -> Result<usize, Fail>;
-}
-
-impl<'a> Answers for Checked<'a> {
-    fn answer<A: Abort>(
-        &self,
-        rt: &A,
-        alloc: Global,
-        question: Question,
-        text: &mut Vec<u8>,
-    ) -> Result<usize, Fail> {
-        match question {
-            Question::Told => tells(self, rt, alloc),
-            Question::Length => length_of(self, alloc),
-            Question::Tables => Ok(usize::from(tables(alloc, self, text).is_err())),
-        }
-    }
-}
-
-/// The same, and the program ends.
-fn answer_by_owner<T: Answers + Drop, A: Abort>(
-    checked: Box<T>,
+/// The answer to a question of a checked program, by a number.
+fn answer<'a, A: Abort>(
+    checked: &Checked<'a>,
     rt: &A,
     alloc: Global,
     question: Question,
     text: &mut Vec<u8>,
 ) -> Result<usize, Fail> {
-    checked.answer(rt, alloc, question, text)
+    match question {
+        Question::Told => tells(checked, rt, alloc),
+        Question::Length => length_of(checked, alloc),
+        Question::Tables => Ok(usize::from(tables(alloc, checked, text).is_err())),
+    }
 }
 
 /// The answer to a question of the program that a source spells.
@@ -170,8 +144,8 @@ pub fn asked<A: Abort>(
     question: Question,
     text: &mut Vec<u8>,
 ) -> Result<usize, Fail> {
-    let lexed = lex(alloc, source)?;
-    answer_by_owner(checked(alloc, &lexed)?, rt, alloc, question, text)
+    let checked = checked(alloc, source)?;
+    answer(&checked, rt, alloc, question, text)
 }
 
 #[test]

@@ -56,6 +56,48 @@ impl<P: Program + Drop> Importer<P> {
         Ok(())
     }
 
+    /// Writes that a channel is connected, where that is new.
+    fn write_up(&mut self, ms: u64, name: &[u8], is_up: bool) -> Result<(), ImportError>
+        ensures lines { self.new.counts.lines ≡ self.old.counts.lines }
+        ensures first { self.new.recorder.first ≡ self.old.recorder.first }
+        ensures before { self.new.recorder.before ≡ self.old.recorder.before }
+        ensures program { self.new.recorder.program ≡ self.old.recorder.program }
+    {
+        if is_up {
+            self.recorder.add(ms, name, Happening::Up)?;
+        }
+        Ok(())
+    }
+
+    /// Writes an alarm, with that its channel is connected, where that is new.
+    fn write_alarm(
+        &mut self,
+        ms: u64,
+        name: &[u8],
+        alarm: Severity,
+        is_up: bool,
+    ) -> Result<(), ImportError>
+        ensures lines { self.new.counts.lines ≡ self.old.counts.lines }
+        ensures first { self.new.recorder.first ≡ self.old.recorder.first }
+        ensures before { self.new.recorder.before ≡ self.old.recorder.before }
+        ensures program { self.new.recorder.program ≡ self.old.recorder.program }
+    {
+        let name = with_suffix(self.alloc, name, ALARM)?;
+        self.write_up(ms, name.as_slice(), is_up)?;
+        self.write_beside(ms, name.as_slice(), number_of(alarm))
+    }
+
+    /// Writes that the channel of a time is connected.
+    fn write_time_up(&mut self, ms: u64, name: &[u8]) -> Result<(), ImportError>
+        ensures lines { self.new.counts.lines ≡ self.old.counts.lines }
+        ensures first { self.new.recorder.first ≡ self.old.recorder.first }
+        ensures before { self.new.recorder.before ≡ self.old.recorder.before }
+        ensures program { self.new.recorder.program ≡ self.old.recorder.program }
+    {
+        let name = with_suffix(self.alloc, name, TIME)?;
+        self.write_up(ms, name.as_slice(), true)
+    }
+
     /// Writes that a channel is connected, with those that are told beside it, and its alarm, where that is new.
     pub(super) fn write_state(
         &mut self,
@@ -68,19 +110,12 @@ impl<P: Program + Drop> Importer<P> {
         ensures before { self.new.recorder.before ≡ self.old.recorder.before }
         ensures program { self.new.recorder.program ≡ self.old.recorder.program }
     {
-        if news.is_up {
-            self.recorder.add(ms, name, Happening::Up)?;
-        }
+        self.write_up(ms, name, news.is_up)?;
         if let Some(alarm) = news.alarm {
-            let name = with_suffix(self.alloc, name, ALARM)?;
-            if news.is_up {
-                self.recorder.add(ms, name.as_slice(), Happening::Up)?;
-            }
-            self.write_beside(ms, name.as_slice(), number_of(alarm))?;
+            self.write_alarm(ms, name, alarm, news.is_up)?;
         }
         if news.is_up && news.tells_time {
-            let name = with_suffix(self.alloc, name, TIME)?;
-            self.recorder.add(ms, name.as_slice(), Happening::Up)?;
+            return self.write_time_up(ms, name);
         }
         Ok(())
     }

@@ -10,14 +10,8 @@ returns-in_err-begin-clause-front g c = on-err c.from_residual.result _ (fresh-f
 pub returns-in_err-advance_all-clause-front : goal.returns-in_err-advance_all-clause-front
 returns-in_err-advance_all-clause-front g c = on-err c.from_residual-in_err-advance_all.result _ (fresh-front _ c.requires.fresh)
 
-pub returns-in_err-channels-clause-front : goal.returns-in_err-channels-clause-front
-returns-in_err-channels-clause-front g c = on-err c.from_residual-in_err-channels.result _ (fresh-front _ c.requires.fresh)
-
-pub returns-in_err-preface-clause-front : goal.returns-in_err-preface-clause-front
-returns-in_err-preface-clause-front g c = on-err c.from_residual-in_err-preface.result _ (fresh-front _ c.requires.fresh)
-
-pub returns-in_err-notes_of-clause-front : goal.returns-in_err-notes_of-clause-front
-returns-in_err-notes_of-clause-front g c = on-err c.from_residual-in_err-notes_of.result _ (whole-front _ _ c.in_ok-write_events.ensures.trace)
+pub returns-in_err-imported_of-clause-front : goal.returns-in_err-imported_of-clause-front
+returns-in_err-imported_of-clause-front g c = on-err c.from_residual-in_err-imported_of.result _ (whole-front _ _ c.in_ok-write_events.ensures.trace)
 
 pub returns-in_err-begin-clause-taken : goal.returns-in_err-begin-clause-taken
 returns-in_err-begin-clause-taken g c = fresh-taken _ _ c.requires.fresh
@@ -26,15 +20,9 @@ pub returns-in_err-advance_all-clause-taken : goal.returns-in_err-advance_all-cl
 returns-in_err-advance_all-clause-taken g c = fresh-taken _ _ c.requires.fresh
 
 pub returns-in_err-channels-clause-taken : goal.returns-in_err-channels-clause-taken
-returns-in_err-channels-clause-taken g c = fresh-taken _ _ c.requires.fresh
-
-pub returns-in_err-preface-clause-taken : goal.returns-in_err-preface-clause-taken
-returns-in_err-preface-clause-taken g c = fresh-taken _ _ c.requires.fresh
-
-pub returns-in_err-write_comments-clause-taken : goal.returns-in_err-write_comments-clause-taken
-returns-in_err-write_comments-clause-taken g c = c.write_comments.ensures.taken (g.P.Program.taken c.args.program)
+returns-in_err-channels-clause-taken g c = c.write_front.ensures.taken (g.P.Program.taken c.args.program)
 
 pub write_events-requires-clause-taken : goal.write_events-requires-clause-taken
 write_events-requires-clause-taken g c =
-    subst (λ p. TellsTaken (g.P.Program.taken p) (g.K.Sink.told c.write_comments.new.sink)) (sym c.new-importer.ensures.program)
-    (c.write_comments.ensures.taken (g.P.Program.taken c.args.program))
+    subst (λ p. TellsTaken (g.P.Program.taken p) (g.K.Sink.told c.write_front.new.sink)) (sym c.new-importer.ensures.program)
+    (c.write_front.ensures.taken (g.P.Program.taken c.args.program))
