@@ -11,10 +11,12 @@ use Rattle.snl_moments.specs.declared.stepping.Done.{Done}
 use Rattle.snl_moments.specs.declared.stepping.Done.TheVariants.{Bad, Well}
 use Rattle.snl_moments.specs.declared.walks.Close.{Close}
 use Rattle.snl_trace.specs.declared.runner.End.{End}
+use Rattle.snl_trace.specs.declared.trace_faults.TraceFault.{TraceFault}
 
 -- a line that is bad
-pub bad-does : (line : List ℕ) (end : End) (close : Close) (s t u : Subject) → IsLine line → IsDone line (Bad end) s t → TellsBad t u → DoesBy line s u (Some close)
-bad-does line end close s t u plain did tells =
+pub bad-does : (line : List ℕ) (number : ℕ) (fault : TraceFault) (close : Close) (s t u : Subject) → IsLine line → IsDone line (Bad number fault) s t → TellsBad t u →
+    DoesBy line s u (Some close)
+bad-does line number fault close s t u plain did tells =
     does-bad line close s t u plain (record { told = record { machine = did.0; spares = did.1.spares; moments = did.1.moments }; asked = did.1.asked }) did.2 tells
 
 -- one behind which the walk goes on
@@ -28,4 +30,4 @@ well-ends line o close s t u plain did ends = does-end line close s t u plain di
 -- none tells anything by itself
 pub done-plan : (line : List ℕ) (d : Done) (s t : Subject) → IsDone line d s t → KeepsPlan s t
 done-plan line (Well o) s t did = stays-plan s t (stays-asked s t did.1.asked did.1.moments)
-done-plan line (Bad end) s t did = stays-plan s t (stays-asked s t did.1.asked did.1.moments)
+done-plan line (Bad number fault) s t did = stays-plan s t (stays-asked s t did.1.asked did.1.moments)

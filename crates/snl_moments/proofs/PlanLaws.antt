@@ -1,21 +1,23 @@
 -- Laws of which moments are told.
-use Rattle.std.proofs.Common.{◌≡◌, ◌≢◌, ◌∙◌, ◌+◌, ◌<◌, ◌≤◌, ℕ, suc, Bool, true, false, List, [], ◌∷◌, ◌++◌, Option, None, Some, add-one, append_assoc, arith, ap, drop, get_or, inl, inr, length, map, refl, slice_get, subst, sym}
+use Rattle.std.proofs.Common.{◌≡◌, ◌≢◌, ◌∙◌, ◌+◌, ◌<◌, ◌≤◌, ℕ, suc, Bool, true, false, List, [], ◌∷◌, ◌++◌, Option, None, Some, add-one, append-nil, append_assoc, arith, ap, drop, get_or, inl, inr, length, map, refl, slice_get, subst, sym}
 use Rattle.std.proofs.Math.Seq.{drop-cons, drop-nil}
 use Rattle.std.specs.Option.{IfSome}
 use Rattle.std.proofs.lemmas.Bool.{false≢true}
 use Rattle.std.proofs.lemmas.List.{drop_all, map-append}
 use Rattle.std.proofs.lemmas.Option.{get_or_from_slice_get, none-some, slice_get_cases, slice_get_within}
 use Rattle.snl_moments.specs.Loaded.{IsUntold}
-use Rattle.snl_moments.specs.Plans.{AreFrom, AreTold, AsksFor, ClosesPlan, EndsPlan, GoesPlanned, IsWhole, KeepsPlan, SameAsked, StaysAsked, TellsKind, TellsNext, kinds, left_of, planned}
+use Rattle.snl_moments.specs.Plans.{AreFrom, AreTold, AsksFor, ClosesPlan, EndsPlan, GoesPlanned, KeepsPlan, SameAsked, StaysAsked, TellsKind, TellsNext, kinds, left_of, planned}
 use Rattle.snl_moments.specs.declared.loading.Subject.{Subject}
 use Rattle.snl_moments.specs.declared.walks.Close.{Close}
-use Rattle.snl_moments.specs.declared.walks.Close.TheVariants.{Ended, Over}
+use Rattle.snl_moments.specs.declared.walks.Close.TheVariants.{Ended, Over, Told}
 use Rattle.snl_moments.specs.declared.walks.Kind.{Kind}
 use Rattle.snl_moments.specs.declared.walks.Kind.TheVariants.{At, Before}
 use Rattle.snl_moments.specs.declared.walks.Moment.{Moment}
 use Rattle.snl_moments.specs.declared.walks.Sort.{Sort}
 use Rattle.snl_moments.specs.declared.walks.Sort.TheVariants.{Into, Times, Trip}
-use Rattle.snl_trace.specs.declared.runner.End.{End}
+use Rattle.snl_trace.specs.declared.runner.End.TheVariants as End
+use Rattle.snl_trace.specs.declared.runner.End.TheVariants.{Fault, ProgramEnded, SinkFailed, SourceFailed, TraceEnded}
+use Rattle.snl_trace.specs.declared.trace_faults.TraceFault.{TraceFault}
 
 -- ---- the next time
 
@@ -122,30 +124,49 @@ told-next ms s t u stays tells is =
 
 -- ---- the end
 
--- a plan that is kept is told in order
-pub closes-by : (close : Close) (s t : Subject) → KeepsPlan s t → (s.sort ≡ Times → IsWhole close (left_of t)) → ClosesPlan close s t
-closes-by close s t keeps whole = λ is times planned. record { left = left_of t; whole = whole is; order = inl (keeps.plan is ∙ planned) }
+-- where all are told, that is right for each close
+all-told : (close : Close) (times : List ℕ) (told : List Kind) → told ≡ map At times → AreTold times close told
+all-told Told times told is = is
+all-told Over times told is = is
+all-told (Ended TraceEnded) times told is = is
+all-told (Ended ProgramEnded) times told is = is
+all-told (Ended (Fault fault line)) times told is = is
+all-told (Ended (End.TraceFault number fault)) times told is = inl is
+all-told (Ended SourceFailed) times told is = record { left = []; are = append-nil told ∙ is }
+all-told (Ended SinkFailed) times told is = record { left = []; are = append-nil told ∙ is }
 
--- where the program ended nothing is said of what is left
-pub closes-ended : (end : End) (s t : Subject) → KeepsPlan s t → ClosesPlan (Ended end) s t
-closes-ended end s t keeps = closes-by (Ended end) s t keeps (λ _. tt)
+-- where none is left of a plan that is kept, all are told
+pub closes-by : (close : Close) (s t : Subject) → KeepsPlan s t → (s.sort ≡ Times → left_of t ≡ []) → ClosesPlan close s t
+closes-by close s t keeps none = λ is times planned.
+    let told = kinds t.moments.items in
+    all-told close times told (sym (append-nil told) ∙ ap (λ (xs : List ℕ). told ++ map At xs) (sym (none is)) ∙ keeps.plan is ∙ planned)
 
 -- at the end of a trace none is left
-pub closes-over : (s t : Subject) → EndsPlan true s t → ClosesPlan Over s t
-closes-over s t ends = closes-by Over s t ends.keeps (λ is. ends.none refl is)
+pub closes-over : (close : Close) (s t : Subject) → EndsPlan true s t → ClosesPlan close s t
+closes-over close s t ends = closes-by close s t ends.keeps (λ is. ends.none refl is)
+
+-- where a trace can't be read on, the first ones are told
+pub closes-source : (s t : Subject) → KeepsPlan s t → ClosesPlan (Ended SourceFailed) s t
+closes-source s t keeps = λ is times planned. record { left = left_of t; are = keeps.plan is ∙ planned }
+
+-- so they are where nobody takes what a run writes
+pub closes-sink : (s t : Subject) → KeepsPlan s t → ClosesPlan (Ended SinkFailed) s t
+closes-sink s t keeps = λ is times planned. record { left = left_of t; are = keeps.plan is ∙ planned }
 
 -- in front of a bad line the next time is told
-pub closes-bad : (ms : ℕ) (end : End) (s t : Subject) → TellsKind (Before ms) s t → slice_get s.times.items s.next ≡ Some ms → ClosesPlan (Ended end) s t
-closes-bad ms end s t tells next = λ is times planned. record {
+pub closes-bad : (ms number : ℕ) (fault : TraceFault) (s t : Subject) → TellsKind (Before ms) s t → slice_get s.times.items s.next ≡ Some ms →
+    ClosesPlan (Ended (End.TraceFault number fault)) s t
+closes-bad ms number fault s t tells next = λ is times planned. inr (record {
+  front = kinds s.moments.items;
+  ms = ms;
   left = drop (s.next + 1) s.times.items;
-  whole = tt;
-  order = inr (record {
-    front = kinds s.moments.items;
-    ms = ms;
-    told_is = tells.told;
-    times_are = ap (λ (xs : List ℕ). kinds s.moments.items ++ map At xs) (sym (left-next s.times.items s.next ms next)) ∙ planned;
-  });
-}
+  told_is = tells.told;
+  times_are = ap (λ (xs : List ℕ). kinds s.moments.items ++ map At xs) (sym (left-next s.times.items s.next ms next)) ∙ planned;
+})
+
+-- where no time is next, all are told
+pub closes-none : (close : Close) (s : Subject) → slice_get s.times.items s.next ≡ None → ClosesPlan close s s
+closes-none close s none = closes-by close s s (keeps-plan s) (λ _. left-past s none)
 
 -- ---- one after another
 

@@ -9,6 +9,7 @@ use Rattle.snl_moments.specs.declared.walks.Kind.{Kind}
 use Rattle.snl_moments.specs.declared.walks.Kind.TheVariants.{At, Before}
 use Rattle.snl_moments.specs.declared.walks.Moment.{Moment}
 use Rattle.snl_moments.specs.declared.walks.Sort.TheVariants.{Times}
+use Rattle.snl_trace.specs.declared.runner.End.TheVariants.{Fault, ProgramEnded, SinkFailed, SourceFailed, TraceEnded, TraceFault}
 
 -- ---- what is told
 
@@ -27,28 +28,34 @@ abbrev pub AreFrom : ℕ → (times : List ℕ) → Type 0
 AreFrom ms [] = Unit {0}
 AreFrom ms (next ∷ times) = (ms ≤ next) × AreFrom next times
 
--- Behind what is told of some times others are left, of which the first is told in front of a bad line.
-pub record HasBefore (times : List ℕ) (told : List Kind) (left : List ℕ) : Type 0 where
+-- All are told, each as that time, in their order;
+abbrev pub AreAll : (times : List ℕ) → (told : List Kind) → Type 0
+AreAll times told = told ≡ map At times
+
+-- or the first ones are;
+pub record AreFirst (times : List ℕ) (told : List Kind) : Type 0 where
+  pub left : List ℕ
+  pub are : told ++ map At left ≡ map At times
+
+-- or so they are, and the next one is told in front of a bad line.
+pub record HasBefore (times : List ℕ) (told : List Kind) : Type 0 where
   pub front : List Kind
   pub ms : ℕ
+  pub left : List ℕ
   pub told_is : told ≡ front ++ Before ms ∷ []
   pub times_are : front ++ At ms ∷ map At left ≡ map At times
 
--- Times are told in their order, each as that time, and some last ones are left; of these one more may be told in front of a bad line.
-abbrev pub AreInOrder : (times : List ℕ) → (told : List Kind) → (left : List ℕ) → Type 0
-AreInOrder times told left = (told ++ map At left ≡ map At times) ⊎ HasBefore times told left
-
--- None is left where all were told, or the trace came to its end.
-abbrev pub IsWhole : Close → (left : List ℕ) → Type 0
-IsWhole Told left = left ≡ []
-IsWhole Over left = left ≡ []
-IsWhole (Ended end) left = Unit {0}
-
--- So are the times of a walk that closed.
-pub record AreTold (times : List ℕ) (close : Close) (told : List Kind) : Type 0 where
-  pub left : List ℕ
-  pub whole : IsWhole close left
-  pub order : AreInOrder times told left
+-- Which times a walk told that closed: all, where the trace was read so far, or came to its end, or the program did; where a line is bad, those up
+-- to it, if some are left; and the first ones where the trace can't be read on, or nobody takes what the run writes.
+abbrev pub AreTold : (times : List ℕ) → Close → (told : List Kind) → Type 0
+AreTold times Told told = AreAll times told
+AreTold times Over told = AreAll times told
+AreTold times (Ended TraceEnded) told = AreAll times told
+AreTold times (Ended ProgramEnded) told = AreAll times told
+AreTold times (Ended (Fault fault line)) told = AreAll times told
+AreTold times (Ended (TraceFault number fault)) told = AreAll times told ⊎ HasBefore times told
+AreTold times (Ended SourceFailed) told = AreFirst times told
+AreTold times (Ended SinkFailed) told = AreFirst times told
 
 -- ---- a walk that tells times
 

@@ -37,6 +37,6 @@ pub record LeavesMoments (old new : Subject) : Type 0 where
 -- What came of a line: where it can't be read, the machine stays as it is.
 abbrev pub IsDone : List ℕ → Done → Subject → Subject → Type 0
 IsDone line (Well e) old new = LineFollows line old.machine new.machine × LeavesMoments old new
-IsDone line (Bad e) old new =
+IsDone line (Bad number fault) old new =
     (new.machine ≡ old.machine) × LeavesMoments old new
     × ((r : Rules) → MeansAs r old.machine → IsRefused r (world_held old.machine) line)

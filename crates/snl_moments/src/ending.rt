@@ -1,8 +1,9 @@
 //! What is told where a walk ends.
 
-ghost use Rattle.std.specs.Prelude.{◌≡◌, ◌⊎◌, IfOk, IsTrue, Some, false, slice_get, true};
+ghost use Rattle.std.specs.Prelude.{◌≡◌, ◌⊎◌, [], IfOk, IsTrue, Some, false, slice_get, true};
 ghost use Rattle.snl_machine.specs.MachineOf.{world_held};
-ghost use Rattle.snl_moments.specs.Plans.{ClosesPlan, EndsPlan, SameAsked, StaysAsked, TellsLast};
+ghost use Rattle.snl_moments.specs.Plans.{ClosesPlan, EndsPlan, SameAsked, StaysAsked, TellsLast, left_of};
+ghost use Rattle.snl_moments.specs.declared.walks.Sort.TheVariants.{Times};
 ghost use Rattle.snl_moments.specs.Walks.{EndsAt, Keeps, TellsBad};
 
 use crate::loading::Subject;
@@ -11,7 +12,7 @@ use crate::times::{next_time, tell_next};
 use crate::waking::{is_sought, note_into};
 use crate::walks::{Close, Kind, Sort};
 use snl_machine::Live;
-use snl_trace::End;
+use snl_trace::{End, TraceFault};
 use std::alloc::{AllocError, Global};
 
 /// Whether nothing follows, or the program has ended.
@@ -97,12 +98,25 @@ fn finish(alloc: Global, walk: &mut Subject, end: End, is_over: bool) -> Result<
     }
 }
 
-/// Ends a walk where the program has ended so.
+/// Whether a time that is asked for is not told yet.
+fn has_left(walk: &Subject) -> bool
+    ensures { result ≡ false → walk.now.sort ≡ Times → left_of walk.now ≡ [] }
+{
+    match walk.sort {
+        Sort::Times => walk.next < walk.times.len(),
+        Sort::Trip | Sort::Into => false,
+    }
+}
+
+/// Ends a walk where the run has ended so. One that ends and leaves its program as it is was stopped by its sink, which that of a walk never does.
 pub(crate) fn finish_amid(alloc: Global, walk: &mut Subject, end: End) -> Result<Close, AllocError>
     ensures ends { IfOk result (λ _. EndsAt false walk.old walk.new) }
     ensures plan { IfOk result (λ close. ClosesPlan close walk.old walk.new) }
 {
     finish(alloc, walk, end, false)?;
+    if has_left(walk) {
+        return Ok(Close::Ended(End::SinkFailed));
+    }
     Ok(Close::Ended(end))
 }
 
@@ -119,13 +133,19 @@ pub(crate) fn finish_over(alloc: Global, walk: &mut Subject) -> Result<Close, Al
     }
 }
 
-/// Ends a walk in front of a bad line, and tells what the program is there, where a time is still asked for. The only error is that memory
-/// ends.
-pub(crate) fn finish_bad(alloc: Global, walk: &mut Subject, end: End) -> Result<Close, AllocError>
+/// Ends a walk in front of a bad line, by its number, and tells what the program is there, where a time is still asked for. The only error
+/// is that memory ends.
+pub(crate) fn finish_bad(
+    alloc: Global,
+    walk: &mut Subject,
+    number: u128,
+    fault: TraceFault,
+) -> Result<Close, AllocError>
     ensures tells { IfOk result (λ _. TellsBad walk.old walk.new) }
     ensures plan { IfOk result (λ close. ClosesPlan close walk.old walk.new) }
 {
     let now = walk.machine.snapshot(alloc)?;
+    let end = End::TraceFault(number, fault);
     if let Some(ms) = next_time(walk) {
         tell(alloc, walk, Kind::Before(ms), &now)?;
         return Ok(Close::Ended(end));

@@ -64,7 +64,7 @@ fn do_line(alloc: Global, walk: &mut Subject, line: &[u8]) -> Result<Option<Clos
     ensures plan { IfOk result (λ close. GoesPlanned close walk.old walk.new) }
 {
     match line_done(walk, line) {
-        Done::Bad(end) => Ok(Some(finish_bad(alloc, walk, end)?)),
+        Done::Bad(number, fault) => Ok(Some(finish_bad(alloc, walk, number, fault)?)),
         Done::Well(None) => {
             tell_into(alloc, walk)?;
             Ok(None)
@@ -94,8 +94,8 @@ fn too_long(alloc: Global, walk: &mut Subject) -> Result<Close, AllocError>
     ensures tells { IfOk result (λ _. TellsBad walk.old walk.new) }
     ensures plan { IfOk result (λ close. ClosesPlan close walk.old walk.new) }
 {
-    let end = End::TraceFault(walk.number, TraceFault::LineTooLong);
-    finish_bad(alloc, walk, end)
+    let number = walk.number;
+    finish_bad(alloc, walk, number, TraceFault::LineTooLong)
 }
 
 /// Takes in the rest of a line, which ends there. Answers how the walk ends there, if it does. The only error is that memory ends.

@@ -4,7 +4,7 @@ use Rattle.snl_moments.proofs.reading.do_line.Goals as goal
 
 pub returns-in_ok-finish_bad-in-Bad-clause-does : goal.returns-in_ok-finish_bad-in-Bad-clause-does
 returns-in_ok-finish_bad-in-Bad-clause-does c =
-    bad-does c.args.line.now c.in-Bad.end c.in_ok-finish_bad-in-Bad.field-0 c.args.walk.now c.line_done.new.walk c.finish_bad.new.walk c.requires c.in-Bad.ensures
+    bad-does c.args.line.now c.in-Bad.number c.in-Bad.fault c.in_ok-finish_bad-in-Bad.field-0 c.args.walk.now c.line_done.new.walk c.finish_bad.new.walk c.requires c.in-Bad.ensures
     c.in_ok-finish_bad-in-Bad.ensures.tells
 
 pub returns-in_ok-finish_bad-in-Bad-clause-plan : goal.returns-in_ok-finish_bad-in-Bad-clause-plan

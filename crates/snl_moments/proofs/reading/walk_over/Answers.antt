@@ -1,9 +1,8 @@
 use Rattle.std.proofs.Common.{◌≡◌, ◌∙◌, ◌<◌, length, refl, arith, true}
 use Rattle.std.proofs.lemmas.Result.{IfOk-weaker}
-use Rattle.snl_moments.proofs.PlanLaws.{closes-ended, closes-then, keeps-plan, plan-then}
+use Rattle.snl_moments.proofs.PlanLaws.{closes-source, closes-then, keeps-plan, plan-then}
 use Rattle.snl_moments.proofs.TakeLaws.{under_way-all, under_way-broken, under_way-ended, under_way-ends, under_way-on, under_way-start}
 use Rattle.snl_trace.proofs.SourceLaws.{says-end}
-use Rattle.snl_trace.specs.declared.runner.End.TheVariants.{SourceFailed}
 use Rattle.snl_moments.proofs.reading.walk_over.Goals as goal
 
 pub loop-reads-init : goal.loop-reads-init
@@ -13,7 +12,7 @@ pub returns-in-Err-clause-walked : goal.returns-in-Err-clause-walked
 returns-in-Err-clause-walked g c = under_way-broken _ _ _ (g.R.Source.ended c.read.new.self) _ _ c.loop-reads.invariant.way c.in-Err.ensures.gave
 
 pub returns-in-Err-clause-plan : goal.returns-in-Err-clause-plan
-returns-in-Err-clause-plan g c = closes-ended SourceFailed _ _ c.loop-reads.invariant.plan
+returns-in-Err-clause-plan g c = closes-source _ _ c.loop-reads.invariant.plan
 
 pub end_trace-requires : goal.end_trace-requires
 end_trace-requires g c = rw c.as_slice.ensures.value c.loop-reads.invariant.way.plain
@@ -53,4 +52,4 @@ pub returns-clause-walked : goal.returns-clause-walked
 returns-clause-walked g c = under_way-all _ _ _ _ _ c.loop-reads.invariant.way
 
 pub returns-clause-plan : goal.returns-clause-plan
-returns-clause-plan g c = closes-ended SourceFailed _ _ c.loop-reads.invariant.plan
+returns-clause-plan g c = closes-source _ _ c.loop-reads.invariant.plan
