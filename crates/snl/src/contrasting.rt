@@ -1,6 +1,6 @@
 //! `snl same --search`.
 
-use crate::searching::{Clock, owned, recorded, told_fault};
+use crate::searching::{Clock, owned, recorded, times_of, told_fault};
 use crate::units::{units_for, wished_values};
 use snc::{Judgement, Status, judged, macros_of};
 use snc_cli::{source_in, write};
@@ -75,7 +75,7 @@ pub fn wishes_of(
         new_like,
         values,
         firsts,
-        gaps: Vec::from_slice(alloc, words.gaps.as_slice())?,
+        gaps: times_of(alloc, &words.gaps)?,
         down: owned(alloc, words.down.as_slice())?,
         bounds: Bounds {
             lines: words.lines as usize,

@@ -58,7 +58,7 @@ fn call_of(rt: &HostRuntime) -> Result<Call, Status> {
 /// Sees that what the words of a call name is such a thing. Where it is not, the user is told.
 fn check_words(rt: &HostRuntime, call: &Call) -> Result<(), Status> {
     check_macros(rt, call)?;
-    match &call.word {
+    match &*call.word {
         Word::Search(words) => check_outputs(rt, call, words),
         Word::Check(words) => check_lints(rt, words),
         Word::Trace(words) => check_times(rt, words),
@@ -107,7 +107,7 @@ fn told(rt: &HostRuntime, fault: &CallFault) -> Status {
 
 /// Does what a call asks for that began at a time. Answers the exit status.
 fn answered(rt: &HostRuntime, call: &Call, begun: Option<Instant>) -> u8 {
-    match &call.word {
+    match &*call.word {
         Word::Check(words) => answered_checks(rt, call, words).code(),
         Word::Trace(words) => code_of(answered_trace(rt, call, words)),
         Word::Same(words) => answered_pair(rt, call, words, begun),
@@ -164,7 +164,7 @@ fn answered_sought(
 
 /// Does what a word asks for of a program, and answers the exit status.
 fn answered_word(rt: &HostRuntime, asked: Asked, begun: Option<Instant>) -> u8 {
-    match &asked.call.word {
+    match &*asked.call.word {
         Word::Waits => code_of(answered_waits(rt, asked)),
         Word::Run(words) => code_of(answered_run(rt, asked, words)),
         Word::At(words) => code_of(answered_at(rt, asked, words)),

@@ -90,7 +90,7 @@ fn placed(alloc: Global, folder: &Folder, words: &mut SearchWords) -> Result<(),
 
 /// The words of a search that a call has.
 fn search_in(call: &mut Call) -> Option<&mut SearchWords> {
-    match &mut call.word {
+    match &mut *call.word {
         Word::Search(words) => Some(words),
         _ => None,
     }
@@ -168,7 +168,7 @@ fn searched<T: Scouts + Drop>(
     name: &str,
     aim: &Aim,
 ) -> Result<Verdict, Halt> {
-    let Word::Search(words) = &aim.call.word else {
+    let Word::Search(words) = &*aim.call.word else {
         return Err(wrong_never(rt, name, "it asks for no search"));
     };
     let wishes = match wishes_over(rt, words, &[], None) {

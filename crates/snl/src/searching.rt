@@ -122,6 +122,14 @@ fn wished_in(
     })
 }
 
+/// Times between lines, of the library's own; None where they are all.
+pub fn times_of(alloc: Global, times: &Option<Vec<u64>>) -> Result<Option<Vec<u64>>, AllocError> {
+    match times {
+        Some(times) => Ok(Some(Vec::from_slice(alloc, times.as_slice())?)),
+        None => Ok(None),
+    }
+}
+
 /// What the words of a call wish. `like` is the recorded trace that they name.
 fn wishes_of(
     alloc: Global,
@@ -141,7 +149,7 @@ fn wishes_of(
         like,
         values,
         firsts,
-        gaps: Vec::from_slice(alloc, words.gaps.as_slice())?,
+        gaps: times_of(alloc, &words.gaps)?,
         down: owned(alloc, words.down.as_slice())?,
         part,
         bounds: Bounds {

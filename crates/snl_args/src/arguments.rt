@@ -124,18 +124,24 @@ fn option<'a>(
     text_behind(alloc, name, name, value, action)
 }
 
-/// An option with a number.
-fn number_option<'a>(alloc: Global, name: &'static str, number: Number) -> Arg<'a> {
-    option(alloc, name, number.value, ArgAction::Set)
-        .value_parser(clap::value_parser!(u32).range(number.least..=1_000_000_000))
-        .default_value(number.usual)
+/// An option with a number in a range.
+fn ranged_option<'a>(
+    alloc: Global,
+    name: &'static str,
+    value: &'static str,
+    least: i64,
+    most: i64,
+) -> Arg<'a> {
+    option(alloc, name, value, ArgAction::Set).value_parser(clap::value_parser!(u32).range(
+        least..=most,
+    ))
 }
 
-/// An option with how much of 100.
-fn percent_option<'a>(alloc: Global, name: &'static str) -> Arg<'a> {
-    option(alloc, name, "PERCENT", ArgAction::Set).value_parser(clap::value_parser!(u32).range(
-        0..=100,
-    ))
+/// An option with a number, which is told where it is not given.
+fn number_option<'a>(alloc: Global, name: &'static str, number: Number) -> Arg<'a> {
+    ranged_option(alloc, name, number.value, number.least, 1_000_000_000).default_value(
+        number.usual,
+    )
 }
 
 /// The option of a format.
@@ -154,8 +160,7 @@ fn place<'a>(alloc: Global, name: &'static str, is_needed: bool) -> Arg<'a> {
 
 /// All words from a place on.
 fn places<'a>(alloc: Global, name: &'static str) -> Arg<'a> {
-    Arg::new(alloc, name)
-        .required(true)
+    place(alloc, name, true)
         .num_args(1usize..)
         .action(ArgAction::Append)
 }
@@ -169,7 +174,7 @@ fn made_argument<'a>(alloc: Global, argument: Argument) -> Arg<'a> {
         Takes::Texts(value) => option(alloc, name, value, ArgAction::Append),
         Takes::Behind(option) => text_behind(alloc, name, option, name, ArgAction::Set),
         Takes::Number(of) => number_option(alloc, name, of),
-        Takes::Percent => percent_option(alloc, name),
+        Takes::Percent => ranged_option(alloc, name, "PERCENT", 0, 100),
         Takes::Format => format_option(alloc, name),
         Takes::Place => place(alloc, name, true),
         Takes::MaybePlace => place(alloc, name, false),
@@ -197,26 +202,28 @@ fn bare<'a>(alloc: Global, texts: &Texts) -> Command<'a> {
         .after_help(texts.more)
 }
 
-/// Adds arguments to a command.
-fn with_all<'a>(
+/// Adds arguments as `clap` has them.
+fn push_all<'a>(
     alloc: Global,
-    command: Command<'a>,
     arguments: &[Argument],
-) -> Result<Command<'a>, AllocError> {
-    let mut command = command;
+    all: &mut Vec<Arg<'a>>,
+) -> Result<(), AllocError> {
     for one in arguments {
-        command = command.arg(made_argument(alloc, *one))?;
+        all.push(made_argument(alloc, *one))?;
     }
-    Ok(command)
+    Ok(())
 }
 
-/// The command of a word with these texts and arguments, those of both lists, and `--help`.
+/// The command of a word with these texts, these lists of arguments and `--help`.
 pub(crate) fn command_of<'a>(
     alloc: Global,
     texts: &Texts,
-    first: &[Argument],
-    own: &[Argument],
+    arguments: &[&[Argument]],
 ) -> Result<Command<'a>, AllocError> {
-    let command = with_all(alloc, bare(alloc, texts), first)?;
-    with_all(alloc, command, own)?.arg(help_argument(alloc))
+    let mut all = Vec::new(alloc);
+    for list in arguments {
+        push_all(alloc, list, &mut all)?;
+    }
+    all.push(help_argument(alloc))?;
+    bare(alloc, texts).args(all)
 }

@@ -1,7 +1,7 @@
 //! What follows the word `at`: times, or where a program faults, or comes into a state.
 
 use crate::arguments::{Argument, Takes};
-use crate::calls::CallFault;
+use crate::calls::{CallFault, usage};
 use clap::ArgMatches;
 use std::alloc::{AllocError, Global};
 
@@ -84,9 +84,10 @@ pub(crate) fn at_times(alloc: Global, matches: &ArgMatches) -> Result<AtWords, C
 /// The fault or the state of a call, as the command found it. Both at once are `Usage`.
 pub(crate) fn at_event(alloc: Global, matches: &ArgMatches) -> Result<AtWords, CallFault> {
     match matches.get_str("into") {
-        Some(_) if matches.get_flag("trip") => Err(CallFault::Usage(format!(in alloc;
-            "error: '--trip' and '--into SS.STATE' are not both taken\n\nFor more information, try '--help'.\n"
-        )?)),
+        Some(_) if matches.get_flag("trip") => Err(usage(
+            alloc,
+            "error: '--trip' and '--into SS.STATE' are not both taken\n\nFor more information, try '--help'.\n",
+        )),
         Some(state) => Ok(AtWords::Into(String::from_str(alloc, state)?)),
         None => Ok(AtWords::Trip),
     }

@@ -1,12 +1,15 @@
 //! What the words of a call ask for, and what may be wrong with them.
 
 use crate::explains::read_explain;
+use crate::forms::{Form, form_of, found_in};
+use crate::found::{budget_in, job_in, text_in};
 use crate::language::with_help;
 use crate::texts::{HELP, WORDS};
-use crate::words::{NAMES, Word, read_word};
+use crate::words::{NAMES, Word, word_in};
 use clap::error::ErrorKind;
 use clap::{ArgMatches, Command, Error};
-use snc_args::{Job, first_refused, options_in_force, rest_of};
+use snc_args::{DEFAULT_BUDGET, Job, first_refused, options_in_force, rest_of};
+use snl_resolve::Options;
 use std::alloc::{AllocError, Global};
 use strsim::levenshtein;
 use thiserror::Error;
@@ -15,8 +18,8 @@ use thiserror::Error;
 pub struct Call {
     /// The file, the options, the macros and the budget.
     pub job: Job,
-    /// The word behind `snl`, with what it takes alone.
-    pub word: Word,
+    /// The word behind `snl`, with what it takes alone; in a box, since it is large.
+    pub word: Box<Word>,
     /// Whether to tell how far the trace was read.
     pub progress: bool,
     /// The file of units.
@@ -58,6 +61,14 @@ impl From<AllocError> for CallFault {
     }
 }
 
+/// The fault of words that are no call, with a text about them.
+pub(crate) fn usage(alloc: Global, text: &str) -> CallFault {
+    match String::from_str(alloc, text) {
+        Ok(text) => CallFault::Usage(text),
+        Err(_) => CallFault::Memory,
+    }
+}
+
 /// What an error of `clap` says.
 fn fault_in(alloc: Global, error: Error) -> CallFault {
     let kind = error.kind();
@@ -83,9 +94,12 @@ pub(crate) fn matches_in<'w>(
     }
 }
 
+/// The names of the words, as a static: a proof lists what a constant holds at each step of a function that borrows it.
+static KNOWN: [&str; 13] = NAMES;
+
 /// The word that may have been meant: one of which less than half the letters have to be changed.
 fn meant(alloc: Global, name: &str) -> Result<Option<&'static str>, AllocError> {
-    for word in NAMES {
+    for word in &KNOWN {
         if levenshtein(alloc, name, word)? <= word.len() / 2 {
             return Ok(Some(word));
         }
@@ -100,6 +114,14 @@ fn no_word(alloc: Global, name: &str) -> Result<String, AllocError> {
             "error: there is no word '{name}'; did you mean '{word}'?\n{WORDS}"
         ),
         None => format!(in alloc; "error: there is no word '{name}'\n{WORDS}"),
+    }
+}
+
+/// What is told where there is no word.
+fn no_words(alloc: Global) -> CallFault {
+    match format!(in alloc; "error: no word was given\n{WORDS}") {
+        Ok(text) => CallFault::Usage(text),
+        Err(_) => CallFault::Memory,
     }
 }
 
@@ -120,20 +142,80 @@ fn fault_of(
     }
 }
 
+/// How many ticks an instant of a run may take. What a search found is run again with the budget that `snlrun` has where nothing
+/// is said.
+fn budget_of(form: Form, matches: &ArgMatches) -> u32 {
+    match form {
+        Form::Search | Form::SameSearch => DEFAULT_BUDGET,
+        _ => budget_in(matches),
+    }
+}
+
+/// What the program of a call is to be run with. A call of `trace` runs none, and one of `test` has many.
+fn job_of(
+    alloc: Global,
+    form: Form,
+    matches: &ArgMatches,
+    options: Options,
+) -> Result<Job, AllocError> {
+    let file = match form {
+        Form::Same | Form::SameSearch => "OLD",
+        _ => "FILE",
+    };
+    job_in(alloc, matches, file, options, budget_of(form, matches))
+}
+
+/// What a call of a form asks for, as its command found it.
+fn call_in(
+    alloc: Global,
+    form: Form,
+    matches: &ArgMatches,
+    options: Options,
+) -> Result<Call, CallFault> {
+    let word = word_in(alloc, form, matches, options, budget_of(form, matches))?;
+    let job = job_of(alloc, form, matches, options)?;
+    Ok(Call {
+        job,
+        word,
+        progress: matches.get_flag("progress"),
+        units: text_in(alloc, matches, "units")?,
+    })
+}
+
+/// What a call of a form asks for, by the words behind its own.
+fn read_form(
+    alloc: Global,
+    form: Form,
+    words: &[&str],
+    options: Options,
+) -> Result<Call, CallFault> {
+    let matches = found_in(alloc, form, words)?;
+    call_in(alloc, form, &matches, options)
+}
+
+/// What words ask for that are no options of the language.
+fn call_by(
+    alloc: Global,
+    words: &[&str],
+    options: Options,
+    version: &str,
+) -> Result<Call, CallFault> {
+    let [first, more @ ..] = words else {
+        return Err(no_words(alloc));
+    };
+    match form_of(first, more) {
+        Some(form) => read_form(alloc, form, more, options),
+        None => Err(fault_of(alloc, first, more, version)?),
+    }
+}
+
 /// What words ask for that have `--help` in the place of `-h`.
 fn call_of(alloc: Global, words: &[String], version: &str) -> Result<Call, CallFault> {
     if let Some((sign, character)) = first_refused(words) {
         return Err(CallFault::BadOption(sign, character));
     }
-    let options = options_in_force(words);
     let rest = rest_of(alloc, words)?;
-    match rest.as_slice() {
-        [first, more @ ..] => match read_word(alloc, first, more, options)? {
-            Some(call) => Ok(call),
-            None => Err(fault_of(alloc, first, more, version)?),
-        },
-        [] => Err(CallFault::Usage(format!(in alloc; "error: no word was given\n{WORDS}")?)),
-    }
+    call_by(alloc, rest.as_slice(), options_in_force(words), version)
 }
 
 /// What the words of a call ask for; `words` are those after the program's own name, `version` is what `--version` tells.

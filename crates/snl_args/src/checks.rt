@@ -1,7 +1,7 @@
 //! What follows the word `check`: which lints say nothing, and whether the others make the status 1.
 
 use crate::arguments::{Argument, Takes};
-use crate::words::all_owned;
+use crate::found::texts_in;
 use clap::ArgMatches;
 use std::alloc::{AllocError, Global};
 
@@ -67,18 +67,10 @@ fn format_of(word: &str) -> Format {
     }
 }
 
-/// All values of an argument, as texts of the caller's own.
-fn all_of(alloc: Global, matches: &ArgMatches, name: &str) -> Result<Vec<String>, AllocError> {
-    match matches.get_strs(name) {
-        Some(texts) => all_owned(alloc, texts),
-        None => Ok(Vec::new(alloc)),
-    }
-}
-
 /// What a check is asked for, as the command found it.
 pub(crate) fn check_words(alloc: Global, matches: &ArgMatches) -> Result<CheckWords, AllocError> {
-    let files = all_of(alloc, matches, "FILE")?;
-    let silenced = all_of(alloc, matches, "no-lint")?;
+    let files = texts_in(alloc, matches, "FILE")?;
+    let silenced = texts_in(alloc, matches, "no-lint")?;
     Ok(CheckWords {
         files,
         format: format_of(matches.get_str("format").unwrap_or("")),

@@ -2,8 +2,8 @@
 
 use crate::arguments::{Argument, Takes};
 use crate::calls::CallFault;
-use crate::texts::EXPLAIN;
-use crate::words::found_in;
+use crate::forms::{Synopsis, found_by};
+use crate::texts;
 use snl_pages::{nearest_name, page_named};
 use std::alloc::{AllocError, Global};
 
@@ -13,6 +13,11 @@ const OF_EXPLAIN: [Argument; 1] = [Argument {
     takes: Takes::Place,
     help: "The number of a message, as E20 or W7, or the name of a lint",
 }];
+
+static EXPLAIN: Synopsis = Synopsis {
+    texts: texts::EXPLAIN,
+    arguments: &[&OF_EXPLAIN],
+};
 
 /// The section of a name, or that there is none.
 fn section_of(alloc: Global, name: &str) -> Result<CallFault, AllocError> {
@@ -27,15 +32,13 @@ fn section_of(alloc: Global, name: &str) -> Result<CallFault, AllocError> {
     }
 }
 
-/// What is told of the name behind the word, or what is wrong with the words.
-fn explained(alloc: Global, words: &[&str]) -> Result<CallFault, CallFault> {
-    let matches = found_in(alloc, &EXPLAIN, &OF_EXPLAIN, &[], words)?;
-    Ok(section_of(alloc, matches.get_str("NAME").unwrap_or(""))?)
-}
-
 /// What follows `explain`: it asks for no file, so all that it tells is a text.
 pub(crate) fn read_explain(alloc: Global, words: &[&str]) -> CallFault {
-    match explained(alloc, words) {
-        Ok(fault) | Err(fault) => fault,
+    match found_by(alloc, &EXPLAIN, words) {
+        Ok(matches) => match section_of(alloc, matches.get_str("NAME").unwrap_or("")) {
+            Ok(section) => section,
+            Err(_) => CallFault::Memory,
+        },
+        Err(fault) => fault,
     }
 }

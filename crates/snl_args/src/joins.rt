@@ -1,7 +1,7 @@
 //! What follows `search --join`: the answers of jobs that went over shares of one search.
 
 use crate::arguments::{Argument, Takes};
-use crate::words::all_owned;
+use crate::found::texts_in;
 use clap::ArgMatches;
 use std::alloc::{AllocError, Global};
 
@@ -28,9 +28,7 @@ pub(crate) const OF_JOIN: [Argument; 2] = [
 
 /// Which answers are joined, as the command found them.
 pub(crate) fn join_words(alloc: Global, matches: &ArgMatches) -> Result<JoinWords, AllocError> {
-    let answers = match matches.get_strs("ANSWER") {
-        Some(names) => all_owned(alloc, names)?,
-        None => Vec::new(alloc),
-    };
-    Ok(JoinWords { answers })
+    Ok(JoinWords {
+        answers: texts_in(alloc, matches, "ANSWER")?,
+    })
 }

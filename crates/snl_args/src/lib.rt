@@ -10,6 +10,8 @@ mod calls;
 mod checks;
 mod commands;
 mod explains;
+mod forms;
+mod found;
 mod joins;
 mod language;
 mod misplaced;

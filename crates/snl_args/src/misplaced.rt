@@ -6,6 +6,7 @@ use crate::runs::RunWords;
 use crate::sames::SameWords;
 use crate::searches::SearchWords;
 use crate::words::Word;
+use snc_args::Job;
 use std::alloc::{AllocError, Global};
 
 /// Whether a shell takes a character as it is.
@@ -21,6 +22,26 @@ fn quoted(alloc: Global, word: &str) -> Result<String, AllocError> {
     format!(in alloc; "'{word}'")
 }
 
+/// The right call of a word that reads a trace from standard input.
+fn over_input(alloc: Global, word: &str, files: &str, trace: &str) -> Result<String, AllocError> {
+    format!(in alloc; "The trace comes on standard input: snl {word} {files} < {trace}")
+}
+
+/// The right call of a word that takes a recorded trace behind `--like`.
+fn over_like(alloc: Global, word: &str, files: &str, trace: &str) -> Result<String, AllocError> {
+    format!(in alloc; "A recorded trace comes behind --like: snl {word} --like {trace} {files}")
+}
+
+/// The right call of a word that takes one file, with what there is to know of it.
+fn over_file(alloc: Global, told: &str, word: &str, file: &str) -> Result<String, AllocError> {
+    format!(in alloc; "{told}: snl {word} {file}")
+}
+
+/// The right call of a word that takes traces as files.
+fn over_trace(alloc: Global, file: &str, trace: &str) -> Result<String, AllocError> {
+    format!(in alloc; "A trace comes behind --trace: snl cover --trace {trace} {file}")
+}
+
 /// How a trace is given to a comparison, with the right call.
 fn right_same(
     alloc: Global,
@@ -29,12 +50,21 @@ fn right_same(
     trace: &str,
 ) -> Result<String, AllocError> {
     let new = quoted(alloc, words.new.file.as_str())?;
+    let files = format!(in alloc; "{file} {new}")?;
     if words.search.is_some() {
-        return format!(in alloc;
-            "A recorded trace comes behind --like: snl same --search --like {trace} {file} {new}"
-        );
+        over_like(alloc, "same --search", files.as_str(), trace)
+    } else {
+        over_input(alloc, "same", files.as_str(), trace)
     }
-    format!(in alloc; "The trace comes on standard input: snl same {file} {new} < {trace}")
+}
+
+/// A word with the requirement of a call, where it has one.
+fn with_watch(alloc: Global, word: &str, watch: &Option<Job>) -> Result<String, AllocError> {
+    let Some(watch) = watch else {
+        return String::from_str(alloc, word);
+    };
+    let watch = quoted(alloc, watch.file.as_str())?;
+    format!(in alloc; "{word} --watch {watch}")
 }
 
 /// How a trace is given to a run, with the right call.
@@ -44,11 +74,8 @@ fn right_run(
     file: &str,
     trace: &str,
 ) -> Result<String, AllocError> {
-    let Some(watch) = &words.watch else {
-        return format!(in alloc; "The trace comes on standard input: snl run {file} < {trace}");
-    };
-    let watch = quoted(alloc, watch.file.as_str())?;
-    format!(in alloc; "The trace comes on standard input: snl run --watch {watch} {file} < {trace}")
+    let word = with_watch(alloc, "run", &words.watch)?;
+    over_input(alloc, word.as_str(), file, trace)
 }
 
 /// How a trace is given to a search, with the right call.
@@ -58,48 +85,44 @@ fn right_search(
     file: &str,
     trace: &str,
 ) -> Result<String, AllocError> {
-    let Some(watch) = &words.watch else {
-        return format!(in alloc;
-            "A recorded trace comes behind --like: snl search --like {trace} {file}"
-        );
-    };
-    let watch = quoted(alloc, watch.file.as_str())?;
-    format!(in alloc;
-        "A recorded trace comes behind --like: snl search --watch {watch} --like {trace} {file}"
-    )
+    let word = with_watch(alloc, "search", &words.watch)?;
+    over_like(alloc, word.as_str(), file, trace)
 }
 
 /// How a trace is given to a look at a program, with the right call.
 fn right_at(alloc: Global, words: &AtWords, file: &str, trace: &str) -> Result<String, AllocError> {
-    let when = match words {
-        AtWords::Times(_) => String::from_str(alloc, "MS")?,
-        AtWords::Trip => String::from_str(alloc, "--trip")?,
-        AtWords::Into(state) => format!(in alloc; "--into {state}")?,
+    let word = match words {
+        AtWords::Times(_) => "at MS",
+        AtWords::Trip => "at --trip",
+        AtWords::Into(state) => return right_into(alloc, state.as_str(), file, trace),
     };
-    format!(in alloc; "The trace comes on standard input: snl at {when} {file} < {trace}")
+    over_input(alloc, word, file, trace)
+}
+
+/// The same, where a state is asked for.
+fn right_into(alloc: Global, state: &str, file: &str, trace: &str) -> Result<String, AllocError> {
+    let word = format!(in alloc; "at --into {state}")?;
+    over_input(alloc, word.as_str(), file, trace)
 }
 
 /// How a trace is given to a word, with the right call.
 fn right_call(alloc: Global, word: &Word, file: &str, trace: &str) -> Result<String, AllocError> {
     match word {
-        Word::Waits => format!(in alloc;
-            "The trace comes on standard input: snl waits {file} < {trace}"
-        ),
+        Word::Waits => over_input(alloc, "waits", file, trace),
         Word::Run(words) => right_run(alloc, words, file, trace),
-        Word::Graph(_) => format!(in alloc;
-            "The trace comes on standard input: snl graph {file} < {trace}"
-        ),
-        Word::Cover(_) => format!(in alloc;
-            "A trace comes behind --trace: snl cover --trace {trace} {file}"
-        ),
-        Word::Tree => format!(in alloc; "No trace is read: snl tree {file}"),
-        Word::Sets(_) => format!(in alloc; "No trace is read: snl sets {file}"),
-        Word::Check(_) => format!(in alloc; "No trace is read: snl check {file}"),
-        Word::Trace(_) => format!(in alloc; "A log stands behind the word: snl trace {trace}"),
-        Word::Test(_) => format!(in alloc; "Traces are found by their names: snl test {file}"),
+        Word::Graph(_) => over_input(alloc, "graph", file, trace),
+        Word::Cover(_) => over_trace(alloc, file, trace),
+        Word::Tree => over_file(alloc, "No trace is read", "tree", file),
+        Word::Sets(_) => over_file(alloc, "No trace is read", "sets", file),
+        Word::Check(_) => over_file(alloc, "No trace is read", "check", file),
+        Word::Trace(_) => over_file(alloc, "A log stands behind the word", "trace", trace),
+        Word::Test(_) => over_file(alloc, "Traces are found by their names", "test", file),
         Word::At(words) => right_at(alloc, words, file, trace),
-        Word::Join(_) => format!(in alloc;
-            "Answers stand behind the word: snl search --join {trace}"
+        Word::Join(_) => over_file(
+            alloc,
+            "Answers stand behind the word",
+            "search --join",
+            trace,
         ),
         Word::Same(words) => right_same(alloc, words, file, trace),
         Word::Search(words) => right_search(alloc, words, file, trace),
@@ -111,7 +134,7 @@ fn right_call(alloc: Global, word: &Word, file: &str, trace: &str) -> Result<Str
 pub fn misplaced_text(alloc: Global, call: &Call, macros: &str) -> Result<String, AllocError> {
     let file = quoted(alloc, call.job.file.as_str())?;
     let trace = quoted(alloc, macros)?;
-    let call = right_call(alloc, &call.word, file.as_str(), trace.as_str())?;
+    let call = right_call(alloc, &*call.word, file.as_str(), trace.as_str())?;
     format!(in alloc;
         "error: '{macros}' stands in the place of MACROS, which are NAME=VALUE,..\n\n{call}\n\n\
          For more information, try '--help'.\n"

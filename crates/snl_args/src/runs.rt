@@ -1,7 +1,7 @@
 //! What follows the word `run`: whether blocks are folded, and the requirement that watches the run.
 
-use crate::calls::CallFault;
-use crate::words::all_owned;
+use crate::calls::{CallFault, usage};
+use crate::found::texts_in;
 use clap::ArgMatches;
 use snc_args::Job;
 use std::alloc::Global;
@@ -23,15 +23,13 @@ pub(crate) fn run_words(
     matches: &ArgMatches,
     watch: Option<Job>,
 ) -> Result<RunWords, CallFault> {
-    let never = match matches.get_strs("never") {
-        Some(names) => all_owned(alloc, names)?,
-        None => Vec::new(alloc),
-    };
+    let never = texts_in(alloc, matches, "never")?;
     if watch.is_none() && !never.is_empty() {
-        return Err(CallFault::Usage(format!(in alloc;
+        return Err(usage(
+            alloc,
             "error: '--never SS.STATE' names a state of a requirement, and there is none: it is a program behind --watch\n\n\
-             For more information, try '--help'.\n"
-        )?));
+             For more information, try '--help'.\n",
+        ));
     }
     Ok(RunWords {
         is_whole: matches.get_flag("whole"),

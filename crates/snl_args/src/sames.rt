@@ -1,11 +1,12 @@
 //! What follows the word `same`: the other program, and what of the outputs is compared.
 
 use crate::arguments::{Argument, MACROS, Takes};
-use crate::searches::SearchWords;
-use crate::words::all_owned;
+use crate::calls::CallFault;
+use crate::found::texts_in;
+use crate::searches::{SearchWords, search_words};
 use clap::ArgMatches;
 use snc_args::Job;
-use std::alloc::{AllocError, Global};
+use std::alloc::Global;
 
 /// What a comparison is asked for.
 #[derive(Drop)]
@@ -78,22 +79,32 @@ pub(crate) const OF_SAME_SEARCH: [Argument; 6] = [
     PUTS,
 ];
 
+/// What a search is asked for, as the command found it; None for a comparison over a trace.
+fn search_in(
+    alloc: Global,
+    matches: &ArgMatches,
+    is_search: bool,
+) -> Result<Option<SearchWords>, CallFault> {
+    if is_search {
+        Ok(Some(search_words(alloc, matches, None)?))
+    } else {
+        Ok(None)
+    }
+}
+
 /// What a comparison is asked for, as the command found it.
 pub(crate) fn same_words(
     alloc: Global,
     matches: &ArgMatches,
     new: Job,
-    search: Option<SearchWords>,
-) -> Result<SameWords, AllocError> {
-    let but = match matches.get_strs("but") {
-        Some(names) => all_owned(alloc, names)?,
-        None => Vec::new(alloc),
-    };
+    is_search: bool,
+) -> Result<SameWords, CallFault> {
+    let but = texts_in(alloc, matches, "but")?;
     Ok(SameWords {
         new,
         puts_only: matches.get_flag("puts"),
         but,
         is_whole: matches.get_flag("whole"),
-        search,
+        search: search_in(alloc, matches, is_search)?,
     })
 }

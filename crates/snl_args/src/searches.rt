@@ -1,7 +1,7 @@
 //! What follows the word `search`: what is looked for, over which values, and where the search stops.
 
-use crate::arguments::{Argument, Number, Takes};
 use crate::calls::CallFault;
+use crate::found::{pushed, text_in, texts_in};
 use clap::ArgMatches;
 use snc_args::Job;
 use std::alloc::{AllocError, Global};
@@ -39,8 +39,8 @@ pub struct SearchWords {
     pub values: Vec<ChannelValues>,
     /// Values at the start.
     pub firsts: Vec<ChannelValues>,
-    /// Times between lines in milliseconds, in the place of 0.
-    pub gaps: Vec<u64>,
+    /// Times between lines in milliseconds, in the place of 0; None where a line may come at any time.
+    pub gaps: Option<Vec<u64>>,
     /// Channels that may go down and up.
     pub down: Vec<String>,
     /// The share of the starts that the search goes over, in the place of all.
@@ -60,115 +60,6 @@ pub struct SearchWords {
     /// The folder that traces go to which take the clauses of the program.
     pub cover: Option<String>,
 }
-
-/// What `search` takes beside FILE and MACROS.
-pub(crate) const OF_SEARCH: [Argument; 17] = [
-    Argument {
-        name: "never",
-        takes: Takes::Texts("LINE|SS.STATE"),
-        help: "A line that the output may not have, or a state that may not be entered",
-    },
-    Argument {
-        name: "never-end",
-        takes: Takes::Texts("TEXT"),
-        help: "What no output line may end with, compared as bytes",
-    },
-    Argument {
-        name: "like",
-        takes: Takes::Text("TRACE"),
-        help: "A recorded trace, whose values take the place of those of the source",
-    },
-    Argument {
-        name: "values",
-        takes: Takes::Texts("NAME=V,V.."),
-        help: "The values of a channel, in the place of those of the source",
-    },
-    Argument {
-        name: "first",
-        takes: Takes::Texts("NAME=V"),
-        help: "Its value at the start",
-    },
-    Argument {
-        name: "units",
-        takes: Takes::Text("FILE"),
-        help: "A file of units, as snl-port writes it: the values of these options are in it",
-    },
-    Argument {
-        name: "gaps",
-        takes: Takes::Texts("MS,MS.."),
-        help: "Times between lines, in the place of 0; the next wake is always one",
-    },
-    Argument {
-        name: "down",
-        takes: Takes::Texts("NAME"),
-        help: "A channel that can go down and up",
-    },
-    Argument {
-        name: "lines",
-        takes: Takes::Number(Number {
-            value: "K",
-            least: 1,
-            usual: "4",
-        }),
-        help: "How many lines behind the start",
-    },
-    Argument {
-        name: "worlds",
-        takes: Takes::Number(Number {
-            value: "N",
-            least: 1,
-            usual: "1000000",
-        }),
-        help: "How many worlds are kept",
-    },
-    Argument {
-        name: "memory",
-        takes: Takes::Number(Number {
-            value: "MB",
-            least: 1,
-            usual: "2000",
-        }),
-        help: "How many million bytes they take",
-    },
-    Argument {
-        name: "seconds",
-        takes: Takes::Number(Number {
-            value: "S",
-            least: 1,
-            usual: "60",
-        }),
-        help: "How many seconds the search takes",
-    },
-    Argument {
-        name: "budget",
-        takes: Takes::Number(Number {
-            value: "N",
-            least: 1,
-            usual: "300",
-        }),
-        help: "The ticks of an instant in the search",
-    },
-    Argument {
-        name: "out",
-        takes: Takes::Text("FILE"),
-        help: "Where the trace of what was found goes",
-    },
-    Argument {
-        name: "cover",
-        takes: Takes::Text("DIR"),
-        help: "The folder of traces that take the clauses, each a shortest one",
-    },
-    Argument {
-        name: "watch",
-        takes: Takes::Text("W"),
-        help: "The file of a requirement: --never names a state of it, SS.STATE",
-    },
-    Argument {
-        name: "part",
-        takes: Takes::Text("I/N"),
-        help: "Go over each Nth start from the Ith on: one of N jobs",
-    },
-];
 
 /// The error of an option whose text is none.
 pub(crate) fn bad_text(alloc: Global, option: &str, text: &str, form: &str) -> CallFault {
@@ -193,7 +84,53 @@ fn numbers_in(alloc: Global, text: &str) -> Result<Option<Vec<i64>>, AllocError>
     Ok(Some(numbers))
 }
 
-/// Words with commas between them; none in an empty text. None where a word is no whole number and has to be one.
+/// How many numbers an interval of values may have.
+const INTERVAL: i64 = 1_000;
+
+/// The ends of an interval of whole numbers, `A..B`, if a word is one.
+fn ends_in(word: &str) -> Option<(i64, i64)> {
+    let (first, last) = word.split_once("..")?;
+    match (first.parse::<i64>(), last.parse::<i64>()) {
+        (Ok(first), Ok(last)) => Some((first, last)),
+        _ => None,
+    }
+}
+
+/// Adds each whole number of an interval. Answers whether it has one, and not too many.
+fn push_interval(
+    alloc: Global,
+    first: i64,
+    last: i64,
+    values: &mut Vec<String>,
+) -> Result<bool, AllocError> {
+    if last < first || last.saturating_sub(first) >= INTERVAL {
+        return Ok(false);
+    }
+    for number in first..last {
+        values.push(format!(in alloc; "{number}")?)?;
+    }
+    values.push(format!(in alloc; "{last}")?)?;
+    Ok(true)
+}
+
+/// Adds the values that a word stands for. Answers whether it is good: a whole number, where it has to be one, or an interval of them.
+fn push_word(
+    alloc: Global,
+    word: &str,
+    are_numbers: bool,
+    values: &mut Vec<String>,
+) -> Result<bool, AllocError> {
+    if let Some((first, last)) = ends_in(word) {
+        return push_interval(alloc, first, last, values);
+    }
+    if are_numbers && word.parse::<i64>().is_err() {
+        return Ok(false);
+    }
+    values.push(String::from_str(alloc, word)?)?;
+    Ok(true)
+}
+
+/// The values of words with commas between them; none in an empty text. None where a word is not good.
 fn values_in(
     alloc: Global,
     text: &str,
@@ -204,12 +141,20 @@ fn values_in(
         return Ok(Some(values));
     }
     for word in text.split(',') {
-        if are_numbers && word.parse::<i64>().is_err() {
+        if !push_word(alloc, word, are_numbers, &mut values)? {
             return Ok(None);
         }
-        values.push(String::from_str(alloc, word)?)?;
     }
     Ok(Some(values))
+}
+
+/// What the text of an option has to be that has values of a channel.
+fn form_of(text: &str) -> &'static str {
+    if text.contains("..") {
+        "NAME=A..B, at most 1000 whole numbers"
+    } else {
+        "NAME=V,V.."
+    }
 }
 
 /// A name and its values, of `NAME=V,V..`.
@@ -219,16 +164,15 @@ fn named_in(
     text: &str,
     are_numbers: bool,
 ) -> Result<ChannelValues, CallFault> {
-    let form = "NAME=V,V..";
     let Some((name, values)) = text.rsplit_once('=') else {
-        return Err(bad_text(alloc, option, text, form));
+        return Err(bad_text(alloc, option, text, form_of(text)));
     };
     match values_in(alloc, values, are_numbers)? {
         Some(values) => Ok(ChannelValues {
             name: String::from_str(alloc, name)?,
             values,
         }),
-        None => Err(bad_text(alloc, option, text, form)),
+        None => Err(bad_text(alloc, option, text, form_of(text))),
     }
 }
 
@@ -240,22 +184,8 @@ fn all_named(
 ) -> Result<Vec<ChannelValues>, CallFault> {
     let are_numbers = matches.get_str("units").is_none();
     let mut all = Vec::new(alloc);
-    if let Some(texts) = matches.get_strs(option) {
-        for text in texts {
-            let named = named_in(alloc, option, text, are_numbers)?;
-            all.push(named).map_err(|_| AllocError)?;
-        }
-    }
-    Ok(all)
-}
-
-/// The texts of an option.
-fn all_texts(alloc: Global, matches: &ArgMatches, option: &str) -> Result<Vec<String>, AllocError> {
-    let mut all = Vec::new(alloc);
-    if let Some(texts) = matches.get_strs(option) {
-        for text in texts {
-            all.push(String::from_str(alloc, text)?)?;
-        }
+    for text in matches.get_strs(option).unwrap_or(&[]) {
+        pushed(&mut all, named_in(alloc, option, text, are_numbers)?)?;
     }
     Ok(all)
 }
@@ -271,56 +201,31 @@ fn push_times(numbers: &[i64], times: &mut Vec<u64>) -> Result<bool, AllocError>
     Ok(true)
 }
 
-/// The times of `--gaps`.
-fn gaps_in(alloc: Global, matches: &ArgMatches) -> Result<Vec<u64>, CallFault> {
+/// Adds the times of `MS,MS..`. Answers whether it is that.
+fn push_gaps(alloc: Global, text: &str, times: &mut Vec<u64>) -> Result<bool, AllocError> {
+    match numbers_in(alloc, text)? {
+        Some(numbers) => push_times(numbers.as_slice(), times),
+        None => Ok(false),
+    }
+}
+
+/// The times of `--gaps`; None where `all` is one of its texts.
+fn gaps_in(alloc: Global, matches: &ArgMatches) -> Result<Option<Vec<u64>>, CallFault> {
     let mut times = Vec::new(alloc);
-    if let Some(texts) = matches.get_strs("gaps") {
-        for text in texts {
-            let is_good = match numbers_in(alloc, text)? {
-                Some(numbers) => push_times(numbers.as_slice(), &mut times)?,
-                None => false,
-            };
-            if !is_good {
-                return Err(bad_text(alloc, "gaps", text, "MS,MS.."));
-            }
+    let mut are_all = false;
+    for text in matches.get_strs("gaps").unwrap_or(&[]) {
+        if *text == "all" {
+            are_all = true;
+        } else if !push_gaps(alloc, text, &mut times)? {
+            return Err(bad_text(alloc, "gaps", text, "MS,MS.. or all"));
         }
     }
-    Ok(times)
+    if are_all { Ok(None) } else { Ok(Some(times)) }
 }
 
 /// A number of an option.
 fn number_in(matches: &ArgMatches, option: &str) -> u32 {
     matches.get_one::<u32>(option).unwrap_or(1)
-}
-
-/// The text of an option that may be missing.
-fn maybe_text(
-    alloc: Global,
-    matches: &ArgMatches,
-    option: &str,
-) -> Result<Option<String>, AllocError> {
-    match matches.get_str(option) {
-        Some(text) => Ok(Some(String::from_str(alloc, text)?)),
-        None => Ok(None),
-    }
-}
-
-/// Sees that a search with a requirement is asked for nothing that it does not do.
-fn check_watched(alloc: Global, words: &SearchWords) -> Result<(), CallFault> {
-    let option = if words.watch.is_none() {
-        return Ok(());
-    } else if !words.ends.is_empty() {
-        "--never-end"
-    } else if words.cover.is_some() {
-        "--cover"
-    } else if words.part.is_some() {
-        "--part"
-    } else {
-        return Ok(());
-    };
-    Err(CallFault::Usage(format!(in alloc;
-        "error: '{option}' does not go with --watch\n\nFor more information, try '--help'.\n"
-    )?))
 }
 
 /// A share, of `I/N` with I from 1 to N; None where the text is none.
@@ -346,39 +251,145 @@ fn part_in(alloc: Global, matches: &ArgMatches) -> Result<Option<PartWord>, Call
     }
 }
 
+/// How traces begin, and what their lines are made of.
+#[derive(Drop)]
+struct Alphabet {
+    values: Vec<ChannelValues>,
+    firsts: Vec<ChannelValues>,
+    gaps: Option<Vec<u64>>,
+    part: Option<PartWord>,
+    down: Vec<String>,
+}
+
+/// How traces begin, and what their lines are made of, as a command found it.
+fn alphabet_in(alloc: Global, matches: &ArgMatches) -> Result<Alphabet, CallFault> {
+    Ok(Alphabet {
+        values: all_named(alloc, matches, "values")?,
+        firsts: all_named(alloc, matches, "first")?,
+        gaps: gaps_in(alloc, matches)?,
+        part: part_in(alloc, matches)?,
+        down: texts_in(alloc, matches, "down")?,
+    })
+}
+
+/// What must not happen, and the files of a search.
+#[derive(Drop)]
+struct Wanted {
+    never: Vec<String>,
+    ends: Vec<String>,
+    like: Option<String>,
+    out: Option<String>,
+    cover: Option<String>,
+}
+
+/// What must not happen, and the files of a search, as a command found them.
+fn wanted_in(alloc: Global, matches: &ArgMatches) -> Result<Wanted, AllocError> {
+    Ok(Wanted {
+        never: texts_in(alloc, matches, "never")?,
+        ends: texts_in(alloc, matches, "never-end")?,
+        like: text_in(alloc, matches, "like")?,
+        out: text_in(alloc, matches, "out")?,
+        cover: text_in(alloc, matches, "cover")?,
+    })
+}
+
+/// Where a search stops.
+#[derive(Clone, Copy)]
+struct Limits {
+    lines: u32,
+    worlds: u32,
+    memory: u32,
+    seconds: u32,
+    budget: u32,
+}
+
+/// Where a search stops, as a command found it.
+fn limits_in(matches: &ArgMatches) -> Limits {
+    Limits {
+        lines: number_in(matches, "lines"),
+        worlds: number_in(matches, "worlds"),
+        memory: number_in(matches, "memory"),
+        seconds: number_in(matches, "seconds"),
+        budget: number_in(matches, "budget"),
+    }
+}
+
+/// What a search with a requirement is asked for that it does not do, if it is asked for such a thing.
+fn unwatched_option(wanted: &Wanted, has_part: bool) -> Option<&'static str> {
+    if !wanted.ends.is_empty() {
+        Some("--never-end")
+    } else if wanted.cover.is_some() {
+        Some("--cover")
+    } else if has_part {
+        Some("--part")
+    } else {
+        None
+    }
+}
+
+/// Sees that a search with a requirement is asked for nothing that it does not do.
+fn check_watched(alloc: Global, wanted: &Wanted, has_part: bool) -> Result<(), CallFault> {
+    let Some(option) = unwatched_option(wanted, has_part) else {
+        return Ok(());
+    };
+    Err(CallFault::Usage(format!(in alloc;
+        "error: '{option}' does not go with --watch\n\nFor more information, try '--help'.\n"
+    )?))
+}
+
+/// What a search is asked for, by its parts.
+fn words_by(watch: Option<Job>, wanted: Wanted, alphabet: Alphabet, limits: Limits) -> SearchWords {
+    let Wanted {
+        never,
+        ends,
+        like,
+        out,
+        cover,
+    } = wanted;
+    let Alphabet {
+        values,
+        firsts,
+        gaps,
+        part,
+        down,
+    } = alphabet;
+    let Limits {
+        lines,
+        worlds,
+        memory,
+        seconds,
+        budget,
+    } = limits;
+    SearchWords {
+        watch,
+        never,
+        ends,
+        like,
+        values,
+        firsts,
+        gaps,
+        down,
+        part,
+        lines,
+        worlds,
+        memory,
+        seconds,
+        budget,
+        out,
+        cover,
+    }
+}
+
 /// What a search is asked for, as a command found it.
 pub(crate) fn search_words(
     alloc: Global,
     matches: &ArgMatches,
     watch: Option<Job>,
 ) -> Result<SearchWords, CallFault> {
-    let words = all_words(alloc, matches, watch)?;
-    check_watched(alloc, &words)?;
-    Ok(words)
-}
-
-/// The same, whether or not it does it.
-fn all_words(
-    alloc: Global,
-    matches: &ArgMatches,
-    watch: Option<Job>,
-) -> Result<SearchWords, CallFault> {
-    Ok(SearchWords {
-        watch,
-        never: all_texts(alloc, matches, "never")?,
-        ends: all_texts(alloc, matches, "never-end")?,
-        like: maybe_text(alloc, matches, "like")?,
-        values: all_named(alloc, matches, "values")?,
-        firsts: all_named(alloc, matches, "first")?,
-        gaps: gaps_in(alloc, matches)?,
-        down: all_texts(alloc, matches, "down")?,
-        part: part_in(alloc, matches)?,
-        lines: number_in(matches, "lines"),
-        worlds: number_in(matches, "worlds"),
-        memory: number_in(matches, "memory"),
-        seconds: number_in(matches, "seconds"),
-        budget: number_in(matches, "budget"),
-        out: maybe_text(alloc, matches, "out")?,
-        cover: maybe_text(alloc, matches, "cover")?,
-    })
+    let alphabet = alphabet_in(alloc, matches)?;
+    let wanted = wanted_in(alloc, matches)?;
+    if watch.is_some() {
+        check_watched(alloc, &wanted, alphabet.part.is_some())?;
+    }
+    Ok(words_by(watch, wanted, alphabet, limits_in(matches)))
 }

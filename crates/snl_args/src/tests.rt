@@ -1,7 +1,7 @@
 //! What follows the word `test`: what is tested, and what is written.
 
 use crate::arguments::{Argument, Takes};
-use crate::words::all_owned;
+use crate::found::{text_in, texts_in};
 use clap::ArgMatches;
 use std::alloc::{AllocError, Global};
 
@@ -44,17 +44,9 @@ pub(crate) const OF_TEST: [Argument; 4] = [
 
 /// What tests are asked for, as the command found it.
 pub(crate) fn test_words(alloc: Global, matches: &ArgMatches) -> Result<TestWords, AllocError> {
-    let paths = match matches.get_strs("PATH") {
-        Some(texts) => all_owned(alloc, texts)?,
-        None => Vec::new(alloc),
-    };
-    let junit = match matches.get_str("junit") {
-        Some(file) => Some(String::from_str(alloc, file)?),
-        None => None,
-    };
     Ok(TestWords {
-        paths,
-        junit,
+        paths: texts_in(alloc, matches, "PATH")?,
+        junit: text_in(alloc, matches, "junit")?,
         blesses: matches.get_flag("bless"),
         forces: matches.get_flag("force"),
     })

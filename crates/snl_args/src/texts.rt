@@ -11,7 +11,7 @@ pub(crate) struct Texts {
 }
 
 /// What `snl --help` tells.
-pub(crate) const HELP: &str = "\
+pub(crate) static HELP: &str = "\
 The companion of snc and snlrun: what goes round a dry run of a program in the State Notation Language.
 
 Usage: snl [+X|-X].. WORD [OPTIONS] ..
@@ -49,7 +49,7 @@ Licence: Apache-2.0
 ";
 
 /// What is told behind words that begin with none that is known.
-pub(crate) const WORDS: &str = "
+pub(crate) static WORDS: &str = "
 Usage: snl [+X|-X].. WORD [OPTIONS] ..
 
 Look:
@@ -234,7 +234,7 @@ Status: 0 they are the same, 1 they differ, or a program has errors, 2 the words
 /// What `snl same --search --help` tells.
 pub(crate) const SAME_SEARCH: Texts = Texts {
     usage: "snl same --search [±X..] [--but CHANNEL].. [--puts] [--like TRACE] [--values NAME=V,V..].. [--first NAME=V].. [--units FILE] \
-     [--gaps MS,MS..] [--down NAME].. [--lines K] [--worlds N] [--memory MB] [--seconds S] [--budget N] [--out FILE] OLD NEW [MACROS]",
+     [--gaps MS,MS..|all] [--down NAME].. [--lines K] [--worlds N] [--memory MB] [--seconds S] [--budget N] [--out FILE] OLD NEW [MACROS]",
     about: "\
 Every trace over a small alphabet, the shortest first, for one over which two programs differ: in the lines that they write
 at a line of the trace, or in how they end there. The values come from the constants of both sources.",
@@ -287,7 +287,7 @@ output failed, 4 memory ran out.",
 /// What `snl search --help` tells.
 pub(crate) const SEARCH: Texts = Texts {
     usage: "snl search [±X..] [--watch W] [--never LINE|SS.STATE].. [--never-end TEXT].. [--like TRACE] [--values NAME=V,V..].. \
-     [--first NAME=V].. [--units FILE] [--gaps MS,MS..] [--down NAME].. [--lines K] [--worlds N] [--memory MB] [--seconds S] [--budget N] [--out FILE] [--cover DIR] \
+     [--first NAME=V].. [--units FILE] [--gaps MS,MS..|all] [--down NAME].. [--lines K] [--worlds N] [--memory MB] [--seconds S] [--budget N] [--out FILE] [--cover DIR] \
      [--part I/N] FILE [MACROS]",
     about: "\
 Every trace over a small alphabet, the shortest first, for a fault of the program and for output lines that must

@@ -1,7 +1,8 @@
 //! What follows the word `trace`: the logs, the program, the units of their channels, and where the trace begins and ends.
 
 use crate::arguments::{Argument, Number, Takes};
-use crate::calls::CallFault;
+use crate::calls::{CallFault, usage};
+use crate::found::{pushed, text_in, texts_in};
 use crate::searches::bad_text;
 use clap::ArgMatches;
 use std::alloc::{AllocError, Global};
@@ -124,37 +125,6 @@ fn texts_of<'m>(matches: &'m ArgMatches, option: &str) -> &'m [&'m str] {
     matches.get_strs(option).unwrap_or(&[])
 }
 
-/// The name and the number of `NAME=N`.
-fn number_in(alloc: Global, text: &str) -> Result<Option<NamedNumber>, AllocError> {
-    let Some((name, digits)) = text.rsplit_once('=') else {
-        return Ok(None);
-    };
-    match digits.parse::<i64>() {
-        Ok(number) if !name.is_empty() => Ok(Some(NamedNumber {
-            name: String::from_str(alloc, name)?,
-            number,
-        })),
-        _ => Ok(None),
-    }
-}
-
-/// The names and numbers of an option.
-fn numbers_of(
-    alloc: Global,
-    matches: &ArgMatches,
-    option: &str,
-    form: &str,
-) -> Result<Vec<NamedNumber>, CallFault> {
-    let mut all = Vec::new(alloc);
-    for text in texts_of(matches, option) {
-        match number_in(alloc, text)? {
-            Some(number) => all.push(number).map_err(|_| AllocError)?,
-            None => return Err(bad_text(alloc, option, text, form)),
-        }
-    }
-    Ok(all)
-}
-
 /// Two digits as a number.
 fn two_digits(text: &str) -> Option<i64> {
     if text.len() != 2 || !text.bytes().all(|byte| byte.is_ascii_digit()) {
@@ -183,27 +153,57 @@ fn offset_of(text: &str) -> Option<i64> {
     }
 }
 
-/// The file and the minutes of `FILE=+HH:MM`.
-fn offset_in(alloc: Global, text: &str) -> Result<Option<NamedNumber>, AllocError> {
-    let Some((file, time)) = text.rsplit_once('=') else {
-        return Ok(None);
-    };
-    match offset_of(time) {
-        Some(number) => Ok(Some(NamedNumber {
-            name: String::from_str(alloc, file)?,
-            number,
-        })),
-        None => Ok(None),
+/// What stands behind the name of an option.
+#[derive(Clone, Copy)]
+enum Counted {
+    /// A whole number.
+    Number,
+    /// By how many minutes a clock is ahead: `+HH:MM` or `-HH:MM`.
+    Minutes,
+}
+
+/// The number of a text.
+fn number_of(text: &str, counted: Counted) -> Option<i64> {
+    match counted {
+        Counted::Number => text.parse::<i64>().ok(),
+        Counted::Minutes => offset_of(text),
     }
 }
 
-/// The offsets of files.
-fn offsets_of(alloc: Global, matches: &ArgMatches) -> Result<Vec<NamedNumber>, CallFault> {
+/// The name and the number of `NAME=N`, or the file and the minutes of `FILE=+HH:MM`. A channel has a name; that of a file may be
+/// empty.
+fn number_in(
+    alloc: Global,
+    text: &str,
+    counted: Counted,
+) -> Result<Option<NamedNumber>, AllocError> {
+    let Some((name, text)) = text.rsplit_once('=') else {
+        return Ok(None);
+    };
+    match number_of(text, counted) {
+        Some(number) if matches!(counted, Counted::Minutes) || !name.is_empty() => {
+            Ok(Some(NamedNumber {
+                name: String::from_str(alloc, name)?,
+                number,
+            }))
+        }
+        _ => Ok(None),
+    }
+}
+
+/// The names and numbers of an option.
+fn numbers_of(
+    alloc: Global,
+    matches: &ArgMatches,
+    option: &str,
+    counted: Counted,
+    form: &str,
+) -> Result<Vec<NamedNumber>, CallFault> {
     let mut all = Vec::new(alloc);
-    for text in texts_of(matches, "offset") {
-        match offset_in(alloc, text)? {
-            Some(offset) => all.push(offset).map_err(|_| AllocError)?,
-            None => return Err(bad_text(alloc, "offset", text, "FILE=+HH:MM or FILE=-HH:MM")),
+    for text in texts_of(matches, option) {
+        match number_in(alloc, text, counted)? {
+            Some(number) => pushed(&mut all, number)?,
+            None => return Err(bad_text(alloc, option, text, form)),
         }
     }
     Ok(all)
@@ -252,50 +252,78 @@ fn enums_of(alloc: Global, matches: &ArgMatches) -> Result<Vec<NamedText>, CallF
     Ok(all)
 }
 
-/// The text of an option that may be missing.
-fn maybe_text(
-    alloc: Global,
-    matches: &ArgMatches,
-    option: &str,
-) -> Result<Option<String>, AllocError> {
-    match matches.get_str(option) {
-        Some(text) => Ok(Some(String::from_str(alloc, text)?)),
-        None => Ok(None),
-    }
-}
-
-/// The files of the logs.
-fn logs_of(alloc: Global, matches: &ArgMatches) -> Result<Vec<String>, AllocError> {
-    let mut all = Vec::new(alloc);
-    for file in texts_of(matches, "LOG") {
-        all.push(String::from_str(alloc, file)?)?;
-    }
-    Ok(all)
-}
-
 /// Whether a program is named, as a command found it. Macros are those of a program.
 fn names_program(alloc: Global, matches: &ArgMatches) -> Result<bool, CallFault> {
     let has_program = matches.get_str("FILE").is_some();
     if !has_program && matches.get_str("MACROS").is_some() {
-        return Err(CallFault::Usage(format!(in alloc;
-            "error: '--macros' says nothing without '--program'\n\nFor more information, try '--help'.\n"
-        )?));
+        return Err(usage(
+            alloc,
+            "error: '--macros' says nothing without '--program'\n\nFor more information, try '--help'.\n",
+        ));
     }
     Ok(has_program)
 }
 
+/// What the values of the logs stand for.
+#[derive(Drop)]
+struct Meanings {
+    scales: Vec<NamedNumber>,
+    texts: Vec<NamedText>,
+    values: Vec<NamedNumber>,
+}
+
+/// What the values of the logs stand for, as a command found it.
+fn meanings_of(alloc: Global, matches: &ArgMatches) -> Result<Meanings, CallFault> {
+    Ok(Meanings {
+        scales: numbers_of(alloc, matches, "scale", Counted::Number, "NAME=K")?,
+        texts: enums_of(alloc, matches)?,
+        values: numbers_of(alloc, matches, "value", Counted::Number, "NAME=N")?,
+    })
+}
+
+/// The files, and the times between which they are read.
+#[derive(Drop)]
+struct Span {
+    from: Option<String>,
+    to: Option<String>,
+    logs: Vec<String>,
+}
+
+/// The files, and the times between which they are read, as a command found them.
+fn span_of(alloc: Global, matches: &ArgMatches) -> Result<Span, AllocError> {
+    Ok(Span {
+        from: text_in(alloc, matches, "from")?,
+        to: text_in(alloc, matches, "to")?,
+        logs: texts_in(alloc, matches, "LOG")?,
+    })
+}
+
 /// What a trace is made of, as a command found it.
 pub(crate) fn trace_words(alloc: Global, matches: &ArgMatches) -> Result<TraceWords, CallFault> {
+    let has_program = names_program(alloc, matches)?;
+    let Meanings {
+        scales,
+        texts,
+        values,
+    } = meanings_of(alloc, matches)?;
+    let offsets = numbers_of(
+        alloc,
+        matches,
+        "offset",
+        Counted::Minutes,
+        "FILE=+HH:MM or FILE=-HH:MM",
+    )?;
+    let Span { from, to, logs } = span_of(alloc, matches)?;
     Ok(TraceWords {
-        has_program: names_program(alloc, matches)?,
-        scales: numbers_of(alloc, matches, "scale", "NAME=K")?,
-        texts: enums_of(alloc, matches)?,
-        values: numbers_of(alloc, matches, "value", "NAME=N")?,
-        offsets: offsets_of(alloc, matches)?,
+        has_program,
+        scales,
+        texts,
+        values,
+        offsets,
         lead: matches.get_one::<u32>("lead").unwrap_or(10),
         tells_alarms: matches.get_flag("severity"),
-        from: maybe_text(alloc, matches, "from")?,
-        to: maybe_text(alloc, matches, "to")?,
-        logs: logs_of(alloc, matches)?,
+        from,
+        to,
+        logs,
     })
 }

@@ -34,6 +34,18 @@ fn push_values(
     Ok(())
 }
 
+/// Adds the times between lines.
+fn push_gaps(alloc: Global, out: &mut String, gaps: &Option<Vec<u64>>) -> Result<(), AllocError> {
+    let Some(gaps) = gaps else {
+        return out.push_str("\ngap all");
+    };
+    for gap in gaps {
+        let gap = format!(in alloc; "\ngap {gap}")?;
+        out.push_str(gap.as_str())?;
+    }
+    Ok(())
+}
+
 /// The words of a call that the answer of a search depends on, but for those of its bounds.
 fn search_text(alloc: Global, asked: Asked, words: &SearchWords) -> Result<String, AllocError> {
     let mut out = words_of(alloc, asked)?;
@@ -44,10 +56,7 @@ fn search_text(alloc: Global, asked: Asked, words: &SearchWords) -> Result<Strin
     push_values(&mut out, "values", words.values.as_slice())?;
     push_values(&mut out, "first", words.firsts.as_slice())?;
     push_texts(&mut out, "down", words.down.as_slice())?;
-    for gap in &words.gaps {
-        let gap = format!(in alloc; "\ngap {gap}")?;
-        out.push_str(gap.as_str())?;
-    }
+    push_gaps(alloc, &mut out, &words.gaps)?;
     Ok(out)
 }
 

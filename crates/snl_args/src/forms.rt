@@ -1,0 +1,208 @@
+//! The forms of a call: what the words behind the first one may be.
+//!
+//! What a form takes is a static. A proof lists what a constant holds at each step of a function that borrows it.
+
+use crate::arguments::{Argument, OF_PROGRAM, OF_RUNS, OVER_TRACE, command_of};
+use crate::ats::{OF_AT, OF_AT_EVENT, asks_event};
+use crate::calls::{CallFault, matches_in};
+use crate::checks::OF_CHECK;
+use crate::commands::{
+    OF_ANSWERS, OF_COVER, OF_GRAPH, OF_RULES, OF_RUN, OF_SEARCH, OF_SETS, OF_WAITS,
+};
+use crate::joins::OF_JOIN;
+use crate::sames::{OF_SAME, OF_SAME_SEARCH};
+use crate::tests::OF_TEST;
+use crate::texts::{self, Texts};
+use crate::traces::OF_TRACE;
+use clap::ArgMatches;
+use std::alloc::Global;
+
+/// The form of a call: its word, and for some words an option that makes them take other arguments.
+#[derive(Clone, Copy)]
+pub(crate) enum Form {
+    /// `waits`.
+    Waits,
+    /// `run`.
+    Run,
+    /// `cover`.
+    Cover,
+    /// `graph`.
+    Graph,
+    /// `search`.
+    Search,
+    /// `search --join`.
+    Join,
+    /// `same`.
+    Same,
+    /// `same --search`.
+    SameSearch,
+    /// `at`.
+    At,
+    /// `at --trip` and `at --into`.
+    AtEvent,
+    /// `tree`.
+    Tree,
+    /// `sets`.
+    Sets,
+    /// `check`.
+    Check,
+    /// `trace`.
+    Trace,
+    /// `test`.
+    Test,
+}
+
+/// What a form takes, and what its help tells.
+pub(crate) struct Synopsis {
+    /// The texts of the help.
+    pub texts: Texts,
+    /// The arguments, in the order of the help.
+    pub arguments: &'static [&'static [Argument]],
+}
+
+static WAITS: Synopsis = Synopsis {
+    texts: texts::WAITS,
+    arguments: &[&OVER_TRACE, &OF_WAITS],
+};
+
+static RUN: Synopsis = Synopsis {
+    texts: texts::RUN,
+    arguments: &[&OVER_TRACE, &OF_RUN],
+};
+
+static COVER: Synopsis = Synopsis {
+    texts: texts::COVER,
+    arguments: &[&OVER_TRACE, &OF_COVER],
+};
+
+static GRAPH: Synopsis = Synopsis {
+    texts: texts::GRAPH,
+    arguments: &[&OVER_TRACE, &OF_GRAPH],
+};
+
+static SEARCH: Synopsis = Synopsis {
+    texts: texts::SEARCH,
+    arguments: &[&OF_PROGRAM, &OF_RULES, &OF_SEARCH, &OF_ANSWERS],
+};
+
+static JOIN: Synopsis = Synopsis {
+    texts: texts::JOIN,
+    arguments: &[&OF_JOIN],
+};
+
+static SAME: Synopsis = Synopsis {
+    texts: texts::SAME,
+    arguments: &[&OF_SAME, &OF_RUNS],
+};
+
+static SAME_SEARCH: Synopsis = Synopsis {
+    texts: texts::SAME_SEARCH,
+    arguments: &[&OF_SAME_SEARCH, &OF_SEARCH],
+};
+
+static AT: Synopsis = Synopsis {
+    texts: texts::AT,
+    arguments: &[&OF_AT, &OVER_TRACE],
+};
+
+static AT_EVENT: Synopsis = Synopsis {
+    texts: texts::AT,
+    arguments: &[&OVER_TRACE, &OF_AT_EVENT],
+};
+
+static TREE: Synopsis = Synopsis {
+    texts: texts::TREE,
+    arguments: &[&OF_PROGRAM],
+};
+
+static SETS: Synopsis = Synopsis {
+    texts: texts::SETS,
+    arguments: &[&OF_PROGRAM, &OF_SETS],
+};
+
+static CHECK: Synopsis = Synopsis {
+    texts: texts::CHECK,
+    arguments: &[&OF_CHECK],
+};
+
+static TRACE: Synopsis = Synopsis {
+    texts: texts::TRACE,
+    arguments: &[&OF_TRACE],
+};
+
+static TEST: Synopsis = Synopsis {
+    texts: texts::TEST,
+    arguments: &[&OF_TEST],
+};
+
+/// Whether this option is among the words of a call.
+fn has_word(words: &[&str], option: &str) -> bool {
+    for word in words {
+        if *word == option {
+            return true;
+        }
+    }
+    false
+}
+
+/// The form of a call whose first word has a name, by the words that follow; None where no word that asks for something has it.
+pub(crate) fn form_of(name: &str, words: &[&str]) -> Option<Form> {
+    Some(match name {
+        "waits" => Form::Waits,
+        "run" => Form::Run,
+        "cover" => Form::Cover,
+        "graph" => Form::Graph,
+        "search" if has_word(words, "--join") => Form::Join,
+        "search" => Form::Search,
+        "same" if has_word(words, "--search") => Form::SameSearch,
+        "same" => Form::Same,
+        "at" if asks_event(words) => Form::AtEvent,
+        "at" => Form::At,
+        "tree" => Form::Tree,
+        "sets" => Form::Sets,
+        "check" => Form::Check,
+        "trace" => Form::Trace,
+        "test" => Form::Test,
+        _ => return None,
+    })
+}
+
+/// What a form takes.
+fn synopsis_of(form: Form) -> &'static Synopsis {
+    match form {
+        Form::Waits => &WAITS,
+        Form::Run => &RUN,
+        Form::Cover => &COVER,
+        Form::Graph => &GRAPH,
+        Form::Search => &SEARCH,
+        Form::Join => &JOIN,
+        Form::Same => &SAME,
+        Form::SameSearch => &SAME_SEARCH,
+        Form::At => &AT,
+        Form::AtEvent => &AT_EVENT,
+        Form::Tree => &TREE,
+        Form::Sets => &SETS,
+        Form::Check => &CHECK,
+        Form::Trace => &TRACE,
+        Form::Test => &TEST,
+    }
+}
+
+/// What is found in the words behind those of a form.
+pub(crate) fn found_by<'w>(
+    alloc: Global,
+    synopsis: &Synopsis,
+    words: &'w [&'w str],
+) -> Result<ArgMatches<'w>, CallFault> {
+    let command = command_of(alloc, &synopsis.texts, synopsis.arguments)?;
+    matches_in(alloc, command, words)
+}
+
+/// What is found in the words behind those of a form.
+pub(crate) fn found_in<'w>(
+    alloc: Global,
+    form: Form,
+    words: &'w [&'w str],
+) -> Result<ArgMatches<'w>, CallFault> {
+    found_by(alloc, synopsis_of(form), words)
+}
