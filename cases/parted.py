@@ -121,6 +121,7 @@ def refused(root, program, folder):
         "first": (("--first", "VAC:RESET=1"), "p.st"),
         "budget": (("--budget", "200"), "p.st"),
         "gaps": (("--gaps", "0,5"), "p.st"),
+        "any time": (("--gaps", "all"), "p.st"),
     }.items():
         others[name] = called(program, folder, "search", "--part", "2/2", *words, file)[1]
     second = called(program, folder, "search", "--part", "2/2", "p.st")[1]
