@@ -2,10 +2,10 @@
 use Rattle.std.proofs.Common.{◌≡◌, ℕ, ◌+◌, ◌-◌, ◌<◌, Bool, List, [], ◌∷◌, ◌++◌, length, drop, get_or, map, Vec, Box, Global, ◌⊎◌, inl, inr, refl, sym, ap, ◌∙◌, append_assoc}
 use Rattle.std.proofs.lemmas.List.{drop_more}
 use Rattle.snl_text.specs.declared.tokens.Token.{Token}
-use Rattle.snl_syntax.specs.declared.expressions.Expr.{Expr, Chain, Call}
+use Rattle.snl_syntax.specs.declared.expressions.Expr.{Expr, Chain, Call, Conditional, Assignment}
 use Rattle.snl_syntax.specs.declared.expressions.Term.{Term}
 use Rattle.snl_syntax.specs.declared.expressions.Argument.{Argument, Value', Text}
-use Rattle.snl_syntax.specs.Expressions.{ExprTree, call, no_arguments}
+use Rattle.snl_syntax.specs.Expressions.{ExprTree, call, postfix, no_arguments}
 use Rattle.snl_syntax.specs.view.Lists.{term_list}
 use Rattle.snl_syntax.specs.view.Expressions.{view, pair_of, argument_of, list_before}
 use Rattle.snl_names.specs.declared.sites.Purpose.{Purpose}
@@ -38,6 +38,44 @@ pub call_viewed : (w : Bool) (s : Sight) (p : Purpose) (e : Expr) (f : Token) (v
     → new ≡ old ++ in_expression w s p (view e)
 call_viewed w s p e f v items old new ee ei en =
     en ∙ (λ j. old ++ in_expression w s p (call f (list_before (ei j) no_arguments))) ∙ ap (λ x. old ++ in_expression w s p x) (sym (ap view ee ∙ view_call f v))
+
+-- A form whose parts hold no row: what is noted of the form is noted of the expression.
+pub form_noted : (w : Bool) (s : Sight) (p : Purpose) (e : Expr) (t : ExprTree) (old new : List Site) → view e ≡ t → new ≡ old ++ in_expression w s p t → new ≡ old ++ in_expression w s p (view e)
+form_noted w s p e t old new ev en = en ∙ ap (λ x. old ++ in_expression w s p x) (sym ev)
+
+-- A part for a purpose is noted, whatever both are called.
+pub part_noted : (w : Bool) (s : Sight) (p q : Purpose) (e d : Expr) (old new : List Site) → q ≡ p → d ≡ e → new ≡ old ++ in_expression w s q (view d) → new ≡ old ++ in_expression w s p (view e)
+part_noted w s p q e d old new eq ed en = en ∙ (λ j. old ++ in_expression w s (eq j) (view (ed j)))
+
+-- A conditional: its three parts, one after the other.
+pub conditional_noted : (w : Bool) (s : Sight) (p q : Purpose) (e a b c : Expr) (x y z : Box Expr Global) (old first second new : List Site)
+    → e ≡ Conditional x y z → a ≡ x.value → b ≡ y.value → c ≡ z.value → q ≡ inner p
+    → first ≡ old ++ in_expression w s q (view a) → second ≡ first ++ in_expression w s q (view b) → new ≡ second ++ in_expression w s q (view c)
+    → new ≡ old ++ in_expression w s p (view e)
+conditional_noted w s p q e a b c x y z old first second new ee ea eb ec eq ef es en =
+    let i = inner p in
+    let one = in_expression w s i (view x.value) in
+    let two = in_expression w s i (view y.value) in
+    let three = in_expression w s i (view z.value) in
+    let at : first ≡ old ++ one = part_noted w s i q x.value a old first eq ea ef in
+    let on : second ≡ first ++ two = part_noted w s i q y.value b first second eq eb es in
+    let end : new ≡ second ++ three = part_noted w s i q z.value c second new eq ec en in
+    end
+    ∙ ap (λ l. l ++ three) (on ∙ ap (λ l. l ++ two) at)
+    ∙ ap (λ l. l ++ three) (append_assoc old one two) ∙ append_assoc old (one ++ two) three
+    ∙ ap (λ f. old ++ in_expression w s p (view f)) (sym ee)
+
+-- An assignment: the change of its target, then its value.
+pub assignment_noted : (w : Bool) (s : Sight) (p q : Purpose) (e a b : Expr) (x y : Box Expr Global) (op : Token) (old mid new : List Site)
+    → e ≡ Assignment x op y → a ≡ x.value → b ≡ y.value → q ≡ inner p
+    → mid ≡ old ++ in_expression w s p (postfix (view a) op) → new ≡ mid ++ in_expression w s q (view b)
+    → new ≡ old ++ in_expression w s p (view e)
+assignment_noted w s p q e a b x y op old mid new ee ea eb eq em en =
+    let value = in_expression w s (inner p) (view y.value) in
+    part_noted w s (inner p) q y.value b mid new eq eb en
+    ∙ ap (λ l. l ++ value) (em ∙ ap (λ d. old ++ in_expression w s p (postfix (view d) op)) ea)
+    ∙ append_assoc old (in_expression w s p (postfix (view x.value) op)) value
+    ∙ ap (λ f. old ++ in_expression w s p (view f)) (sym ee)
 
 -- A chain: its first operand, then the others.
 pub chain_noted : (w : Bool) (s : Sight) (p q r : Purpose) (e d : Expr) (b : Box Expr Global) (v : Vec Term Global) (items : List Term) (old mid new : List Site)
