@@ -2,8 +2,8 @@
 use Rattle.std.proofs.Common.{◌≡◌, ◌∙◌, ℕ, ℤ, Bool, true, false, List, [], ◌∷◌, ◌++◌, refl, sym, ap, append_assoc, ◌+◌, length, drop, map, Vec, Box, Global, None, Option, Some}
 use Rattle.snl_text.specs.declared.kinds.Kind.{Kind}
 use Rattle.snl_text.specs.declared.tokens.Token.{Token}
-use Rattle.snl_syntax.specs.Expressions.{ExprTree, conditional, assignment, postfix, prefix, no_arguments}
-use Rattle.snl_syntax.specs.declared.expressions.Expr.{Expr, Chain, Call, Conditional, Assignment, Postfix, Prefix}
+use Rattle.snl_syntax.specs.Expressions.{ExprTree, parenthesized, element, conditional, assignment, postfix, prefix, no_arguments}
+use Rattle.snl_syntax.specs.declared.expressions.Expr.{Expr, Parenthesized, Element, Chain, Call, Conditional, Assignment, Postfix, Prefix}
 use Rattle.snl_syntax.specs.declared.expressions.Term.{Term}
 use Rattle.snl_syntax.specs.declared.expressions.Argument.{Argument}
 use Rattle.snl_syntax.specs.view.Lists.{term_list}
@@ -13,9 +13,9 @@ use Rattle.snl_meaning.specs.declared.instrs.Instr.{Instr}
 use Rattle.snl_meaning.specs.declared.instrs.Instr.TheVariants.{Adjust, AdjustAt, Push, Jump, JumpIfZero}
 use Rattle.std.specs.Prelude.{pos}
 use Rattle.snl_names.specs.declared.builtins.Query.{Query}
-use Rattle.snl_meaning.specs.Names.{Here}
+use Rattle.snl_meaning.specs.Names.{Here, sense_of}
 use Rattle.snl_emit.specs.ExpressionCode.{expression_code, folded, if_code, lead_code, terms_code, target_code, signed_code}
-use Rattle.snl_emit.specs.Emission.{front_code, sign_code, call_code, put_target_code, ask_target_code}
+use Rattle.snl_emit.specs.Emission.{element_code, front_code, sign_code, call_code, put_target_code, ask_target_code}
 use Rattle.snl_names.specs.declared.constants.Constant.{Constant}
 use Rattle.snl_names.specs.declared.constants.Constant.TheVariants.{Varies, Faults, Worth}
 use Rattle.snl_emit.specs.Worth.{worth_of, worth_or, constant_number}
@@ -76,6 +76,52 @@ own-folded (Worth z) own never = absurd (never z refl)
 pub none-is : (number : Option ℤ) → number ≡ None → (z : ℤ) → number ≡ Some z → ⊥
 none-is number none z some = let e : ◌≡◌ {A = Option ℤ} None (Some z) = sym none ∙ some in cc
 
+-- what is a number has one push
+number-folded : (c : Constant) (own : List Instr) (z : ℤ) → worth_or c Some None ≡ Some z → folded c own ≡ Push z ∷ []
+number-folded Varies own z is = absurd (none-is None refl z is)
+number-folded Faults own z is = absurd (none-is None refl z is)
+number-folded (Worth y) own z is = ap (λ o. number_of o y) is
+  where
+    number_of : Option ℤ → ℤ → List Instr
+    number_of (Some x) y = Push x ∷ []
+    number_of None y = Push y ∷ []
+
+-- A form whose parts hold no row: its code is the expression's.
+pub form-made : (h : Here) (a : Expr) (t : ExprTree) (old new : List Instr) → view a ≡ t → new ≡ expression_code h t ++ old → new ≡ expression_code h (view a) ++ old
+form-made h a t old new ea en = en ∙ ap (λ x. expression_code h x ++ old) (sym ea)
+
+-- An expression in parentheses, which stands in a box.
+pub parenthesized-made : (h : Here) (a d : Expr) (b : Box Expr Global) (old new : List Instr) → a ≡ Parenthesized b → d ≡ b.value
+    → new ≡ expression_code h (view d) ++ old → new ≡ expression_code h (view a) ++ old
+parenthesized-made h a d b old new ea ed en = form-made h a (parenthesized (view b.value)) old new (ap view ea) (en ∙ ap (λ x. expression_code h (view x) ++ old) ed)
+
+-- A prefix operator that is a number with its operand.
+pub prefix-number-made : (h : Here) (a : Expr) (b : Box Expr Global) (op : Token) (number : Option ℤ) (z : ℤ) (old new : List Instr)
+    → a ≡ Prefix op b → number ≡ constant_number h.sites (view a) → number ≡ Some z → new ≡ Push z ∷ old → new ≡ expression_code h (view a) ++ old
+prefix-number-made h a b op number z old new ea ew is en =
+    en
+    ∙ ap (λ l. l ++ old) (sym (number-folded (worth_of h.sites (prefix op (view b.value))) (sign_code h op false (view b.value)) z
+    (sym (ew ∙ ap (λ x. constant_number h.sites (view x)) ea) ∙ is)))
+    ∙ ap (λ l. l ++ old) (sym (prefix-is h (view b.value) op)) ∙ ap (λ x. expression_code h (view x) ++ old) (sym ea)
+
+-- A conditional that is a number.
+pub conditional-number-made : (h : Here) (a : Expr) (c x y : Box Expr Global) (number : Option ℤ) (z : ℤ) (old new : List Instr)
+    → a ≡ Conditional c x y → number ≡ constant_number h.sites (view a) → number ≡ Some z → new ≡ Push z ∷ old → new ≡ expression_code h (view a) ++ old
+conditional-number-made h a c x y number z old new ea ew is en =
+    en
+    ∙ ap (λ l. l ++ old) (sym (number-folded (worth_of h.sites (conditional (view c.value) (view x.value) (view y.value)))
+    (if_code (expression_code h (view c.value)) (expression_code h (view x.value)) (expression_code h (view y.value))) z
+    (sym (ew ∙ ap (λ q. constant_number h.sites (view q)) ea) ∙ is)))
+    ∙ ap (λ q. expression_code h (view q) ++ old) (sym ea)
+
+-- An element: the read of it, and its subscript in front.
+pub element-made : (h : Here) (a d : Expr) (x b : Token) (i : Box Expr Global) (old new : List Instr) → a ≡ Element x b i → d ≡ i.value
+    → new ≡ expression_code h (view d) ++ (element_code (sense_of h x) b.pos.line ++ old) → new ≡ expression_code h (view a) ++ old
+element-made h a d x b i old new ea ed en =
+    form-made h a (element x b (view i.value)) old new (ap view ea)
+    (en ∙ ap (λ q. expression_code h (view q) ++ (element_code (sense_of h x) b.pos.line ++ old)) ed
+    ∙ sym (append_assoc (expression_code h (view i.value)) (element_code (sense_of h x) b.pos.line) old))
+
 -- A call, with its arguments in a vector.
 pub call-made : (h : Here) (e : Expr) (f : Token) (v : Vec Argument Global) (items : List Argument) (old new : List Instr)
     → e ≡ Call f v → items ≡ v.items → new ≡ call_code h f (list_before items no_arguments) ++ old → new ≡ expression_code h (view e) ++ old
@@ -116,7 +162,8 @@ conditional-made h a d d2 d3 c x y number old failed held new ea ed e2 e3 ew nev
     ∙ (λ j. cc' ++ test ∷ (hc ++ Jump (length (expression_code h (view (ed j)))) ∷ (expression_code h (view (ed j)) ++ old)))
     ∙ sym (append_assoc cc' (test ∷ (hc ++ over ∷ fc)) old ∙ ap (λ l. cc' ++ test ∷ l) (append_assoc hc (over ∷ fc) old))
     ∙ ap (λ l. l ++ old)
-    (sym (own-folded (worth_of h.sites (conditional (view c.value) (view x.value) (view y.value))) (if_code cc' hc fc) (λ z is. never z (ew ∙ ap (λ q. constant_number h.sites (view q)) ea ∙ is))))
+    (sym (own-folded (worth_of h.sites (conditional (view c.value) (view x.value) (view y.value))) (if_code cc' hc fc) (λ z is. never z (ew ∙ ap (λ q.
+    constant_number h.sites (view q)) ea ∙ is))))
     ∙ ap (λ q. expression_code h (view q) ++ old) (sym ea)
 
 -- A sign before its operand, which stands in a box, where the two are no number.

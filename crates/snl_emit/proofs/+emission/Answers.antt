@@ -1,11 +1,12 @@
-use Rattle.std.proofs.Common.{◌≡◌, ◌∙◌, ◌∷◌, ◌++◌, ap, arith, drop, map, reverse}
+use Rattle.std.proofs.Common.{◌≡◌, ◌∙◌, ◌∷◌, ◌++◌, ap, arith, drop, map, reverse, to_z, of_z, w64, rules}
 use Rattle.std.proofs.lemmas.Result.{on_ok_weaker}
-use Rattle.snl_syntax.specs.Expressions.{no_arguments}
+use Rattle.snl_syntax.specs.Expressions.{no_arguments, constant, named}
+use Rattle.snl_meaning.specs.declared.instrs.Instr.TheVariants.{Push}
 use Rattle.snl_syntax.specs.view.Expressions.{view, pair_of, list_before}
 use Rattle.snl_syntax.specs.view.Lists.{term_list}
-use Rattle.snl_emit.specs.ExpressionCode.{terms_code, values_code}
+use Rattle.snl_emit.specs.ExpressionCode.{name_code, terms_code, values_code}
 use Rattle.snl_meaning.specs.Known.{here_of}
-use Rattle.snl_emit.proofs.Emitting.{none-is, assigned-made, postfix-made, prefix-made, chain-made, conditional-made, call-made, put-made, ask-made}
+use Rattle.snl_emit.proofs.Emitting.{none-is, form-made, parenthesized-made, element-made, prefix-number-made, conditional-number-made, assigned-made, postfix-made, prefix-made, chain-made, conditional-made, call-made, put-made, ask-made}
 use Rattle.snl_emit.proofs.+emission.Goals as goal
 
 pub emission::emit_expression-returns-in-Call : goal.emission::emit_expression-returns-in-Call
@@ -88,3 +89,51 @@ calls::emit_ask_of-returns t c =
     (reverse c.args.code.now.items) (reverse c.put.new.code.items) (reverse c.emit_place.new.code.items)
     (c.in_ok-put.ensures ∙ ap (λ i. i ∷ reverse c.args.code.now.items) c.ask_instr.ensures))
     c.emit_place.ensures
+
+pub emission::emit_expression-returns-in-Constant : goal.emission::emit_expression-returns-in-Constant
+emission::emit_expression-returns-in-Constant t c =
+    let same : to_z w64 (of_z w64 c.constant_of.result) ≡ c.constant_of.result = search rules in
+    on_ok_weaker c.put.result
+    (λ h. form-made (here_of c.args.known.now) c.args.expression.now (constant c.in-Constant.token) (reverse c.args.code.now.items) (reverse c.put.new.code.items) (ap view c.in-Constant.is)
+    (h ∙ ap (λ z. Push z ∷ reverse c.args.code.now.items) (same ∙ c.constant_of.ensures)))
+    c.put.ensures
+
+pub emission::emit_expression-returns-in-Parenthesized : goal.emission::emit_expression-returns-in-Parenthesized
+emission::emit_expression-returns-in-Parenthesized t c =
+    on_ok_weaker c.emit_expression.result
+    (parenthesized-made (here_of c.args.known.now) c.args.expression.now c.deref.result.now c.in-Parenthesized.inner (reverse c.args.code.now.items) (reverse
+    c.emit_expression.new.code.items) c.in-Parenthesized.is c.deref.ensures)
+    c.emit_expression.ensures
+
+pub emission::emit_expression-returns-in-Named : goal.emission::emit_expression-returns-in-Named
+emission::emit_expression-returns-in-Named t c =
+    on_ok_weaker c.put-in-Named.result
+    (λ h. form-made (here_of c.args.known.now) c.args.expression.now (named c.in-Named.name) (reverse c.args.code.now.items) (reverse c.put-in-Named.new.code.items) (ap view c.in-Named.is)
+    (h ∙ ap (λ i. i ∷ reverse c.args.code.now.items) (c.read_name.ensures ∙ ap name_code c.sense.ensures)))
+    c.put-in-Named.ensures
+
+pub emission::emit_expression-returns-in-Element : goal.emission::emit_expression-returns-in-Element
+emission::emit_expression-returns-in-Element t c =
+    on_ok_weaker c.emit_element.result
+    (element-made (here_of c.args.known.now) c.args.expression.now c.deref-in-Element.result.now c.in-Element.name c.in-Element.bracket c.in-Element.index (reverse
+    c.args.code.now.items) (reverse c.emit_element.new.code.items)
+    c.in-Element.is c.deref-in-Element.ensures)
+    c.emit_element.ensures
+
+pub emission::emit_expression-returns-in-Some : goal.emission::emit_expression-returns-in-Some
+emission::emit_expression-returns-in-Some t c =
+    let same : to_z w64 (of_z w64 c.in-Some.number) ≡ c.in-Some.number = search rules in
+    on_ok_weaker c.put-in-Some.result
+    (λ h. prefix-number-made (here_of c.args.known.now) c.args.expression.now c.in-Prefix.operand c.in-Prefix.operator c.constant_number.result c.in-Some.number
+    (reverse c.args.code.now.items) (reverse c.put-in-Some.new.code.items)
+    c.in-Prefix.is c.constant_number.ensures c.in-Some.is (h ∙ ap (λ z. Push z ∷ reverse c.args.code.now.items) same))
+    c.put-in-Some.ensures
+
+pub emission::emit_expression-returns-in-Some-constant_number : goal.emission::emit_expression-returns-in-Some-constant_number
+emission::emit_expression-returns-in-Some-constant_number t c =
+    let same : to_z w64 (of_z w64 c.in-Some-constant_number.number) ≡ c.in-Some-constant_number.number = search rules in
+    on_ok_weaker c.put-in-Some-constant_number.result
+    (λ h. conditional-number-made (here_of c.args.known.now) c.args.expression.now c.in-Conditional.condition c.in-Conditional.yes c.in-Conditional.no
+    c.constant_number-in-Conditional.result c.in-Some-constant_number.number (reverse c.args.code.now.items) (reverse c.put-in-Some-constant_number.new.code.items)
+    c.in-Conditional.is c.constant_number-in-Conditional.ensures c.in-Some-constant_number.is (h ∙ ap (λ z. Push z ∷ reverse c.args.code.now.items) same))
+    c.put-in-Some-constant_number.ensures
