@@ -104,21 +104,24 @@ note_expression-returns-in-Parenthesized t c =
 pub note_expression-returns-in-Element : goal.note_expression-returns-in-Element
 note_expression-returns-in-Element t c =
     on_ok_weaker c.note_element.result
-    (form_noted c.args.in_condition (sight_of c.args.sight.now) c.args.purpose c.args.expression.now (element c.in-Element.name c.in-Element.bracket (view c.deref-in-Element.result.now)) c.args.sites.now.items c.note_element.new.sites.items
+    (form_noted c.args.in_condition (sight_of c.args.sight.now) c.args.purpose c.args.expression.now (element c.in-Element.name c.in-Element.bracket (view
+    c.deref-in-Element.result.now)) c.args.sites.now.items c.note_element.new.sites.items
     (ap view c.in-Element.is ∙ ap (λ x. element c.in-Element.name c.in-Element.bracket (view x)) (sym c.deref-in-Element.ensures)))
     c.note_element.ensures
 
 pub note_expression-returns-in-Postfix : goal.note_expression-returns-in-Postfix
 note_expression-returns-in-Postfix t c =
     on_ok_weaker c.note_changed.result
-    (form_noted c.args.in_condition (sight_of c.args.sight.now) c.args.purpose c.args.expression.now (postfix (view c.deref-in-Postfix.result.now) c.in-Postfix.operator) c.args.sites.now.items c.note_changed.new.sites.items
+    (form_noted c.args.in_condition (sight_of c.args.sight.now) c.args.purpose c.args.expression.now (postfix (view c.deref-in-Postfix.result.now)
+    c.in-Postfix.operator) c.args.sites.now.items c.note_changed.new.sites.items
     (ap view c.in-Postfix.is ∙ ap (λ x. postfix (view x) c.in-Postfix.operator) (sym c.deref-in-Postfix.ensures)))
     c.note_changed.ensures
 
 pub note_expression-returns-in-Prefix : goal.note_expression-returns-in-Prefix
 note_expression-returns-in-Prefix t c =
     on_ok_weaker c.note_prefixed.result
-    (form_noted c.args.in_condition (sight_of c.args.sight.now) c.args.purpose c.args.expression.now (prefix c.in-Prefix.operator (view c.deref-in-Prefix.result.now)) c.args.sites.now.items c.note_prefixed.new.sites.items
+    (form_noted c.args.in_condition (sight_of c.args.sight.now) c.args.purpose c.args.expression.now (prefix c.in-Prefix.operator (view
+    c.deref-in-Prefix.result.now)) c.args.sites.now.items c.note_prefixed.new.sites.items
     (ap view c.in-Prefix.is ∙ ap (λ x. prefix c.in-Prefix.operator (view x)) (sym c.deref-in-Prefix.ensures)))
     c.note_prefixed.ensures
 
