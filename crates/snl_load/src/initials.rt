@@ -196,6 +196,23 @@ pub fn push_zeros(count: usize, words: &mut Vec<i64>) -> Result<(), AllocError>
     Ok(())
 }
 
+/// Adds what the buffer of a link begins with, among the variables of these copies. The only error is that memory ends.
+fn push_buffer(
+    sets: &[Vec<CopyVariable>],
+    offsets: &Offsets,
+    link: &Link,
+    words: &mut Vec<i64>,
+) -> Result<(), AllocError>
+    requires { offsets.now ≡ offsets_of (first_of (sets_of sets.now)) }
+    ensures { OnOk result (words.new.items ≡ words.old.items
+        ++ spec.first_buffer (sets_of sets.now) (link_view link.now)) }
+{
+    match held_by(sets, offsets, link.variable.offset) {
+        Some(held) => push_elements(&held, link.first, link.count, words),
+        None => push_zeros(link.count, words),
+    }
+}
+
 /// What the buffers of links of these copies' variables begin with, one buffer after another. The only error is that
 /// memory ends.
 pub fn first_buffers(
@@ -209,10 +226,7 @@ pub fn first_buffers(
     let offsets = first_offsets(alloc, sets)?;
     let mut words = Vec::new(alloc);
     for link in links {
-        match held_by(sets, &offsets, link.variable.offset) {
-            Some(held) => push_elements(&held, link.first, link.count, &mut words)?,
-            None => push_zeros(link.count, &mut words)?,
-        }
+        push_buffer(sets, &offsets, link, &mut words)?;
     }
     Ok(words)
 }
