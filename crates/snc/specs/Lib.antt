@@ -1,4 +1,5 @@
 pub mod Judging
+pub mod Answered
 pub mod Outcomes
 pub mod Texts
 pub mod ReportSteps

@@ -1,5 +1,5 @@
 -- What the steps of `report` and `session` answer: texts, with the messages whose text they are. No reader of the theorem needs them.
-use Rattle.std.specs.Prelude.{◌≡◌, ◌≤◌, ◌↔◌, ℕ, Bool, true, List, [], length, take, Option, Some, IsSome, IfSome}
+use Rattle.std.specs.Prelude.{◌≡◌, ◌≤◌, ◌↔◌, ℕ, Bool, true, false, List, [], length, take, Option, Some, IsSome, IfSome}
 use Rattle.snl_text.specs.Cut.{Reading}
 use Rattle.snl_text.specs.Lexing.{IsCut}
 use Rattle.snl_text.specs.declared.faults.LexFault.{LexFault}
@@ -43,7 +43,11 @@ pub record IsTreeTold (given : Options) (word : List ℕ) (names : List (List �
   pub accepted : IsSome checked ↔ NoErrors messages
   pub same : IfSome checked (λ p. p ≡ whole)
 
--- the tables of a tree that is there, where they are asked for
-abbrev pub asked_tables : Bool → Option ProgramTree → List ℕ
-asked_tables true (Some whole) = tables whole
-asked_tables _ _ = []
+-- the tables of a tree, where they are asked for
+abbrev pub asked_tables : Bool → ProgramTree → List ℕ
+asked_tables true whole = tables whole
+asked_tables false whole = []
+
+-- a text is that of these tables
+abbrev pub AreTablesOf : Bool → ProgramTree → (text : List ℕ) → Type 0
+AreTablesOf asked whole text = text ≡ asked_tables asked whole

@@ -32,8 +32,8 @@ pub struct Judgement<'a> {
 /// Fails only where memory ran out.
 pub fn judged<'a>(
     alloc: Global,
-    source: &'a [u8],
     file: &[u8],
+    source: &'a [u8],
     given: Options,
 ) -> Result<Judgement<'a>, AllocError>
     ensures judged { IfOk result (λ f. IsJudged given file.now source.now f.messages.items

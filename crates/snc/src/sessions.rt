@@ -2,16 +2,47 @@
 
 ghost use Rattle.std.specs.Prelude.{◌≡◌, ◌-◌, ◌^◌, ◌<◌, ℕ, List, [], Option, IfOk, OnErr, string_bytes};
 ghost use Rattle.std.specs.Option.{option_map, unwrap_or};
+ghost use Rattle.snl_check.specs.Waits.{waits};
+ghost use Rattle.snl_machine.specs.Loading.{IsLoaded};
+ghost use Rattle.snc.specs.Answered.{macros_in};
 ghost use Rattle.snc.specs.Outcomes as spec;
 ghost use Rattle.snc.specs.Outcomes.{IsSession};
 
+use crate::answering::{Answered, Maker, answer};
 use crate::jobs::Status;
-use crate::messages::{Judgement, judged};
 use snc_args::Job;
+use snl_check::Checked;
 use snl_links::Macros;
 use snl_machine::{Loads, Machine, Sink};
 use snl_trace::{End, Source, run};
 use std::alloc::{AllocError, Global};
+
+/// Makes the machine of a program, which has not started, with the macros and the budget of the job.
+pub struct Loading;
+
+impl Maker<Box<Machine>> for Loading {
+    ghost right = { λ maker job whole options machine.
+        IsLoaded whole (macros_in job) (waits options) job.budget machine.value };
+
+    fn make<'a>(
+        checked: &Checked<'a>,
+        alloc: Global,
+        _source: &[u8],
+        job: &Job,
+        _maker: &Self,
+    ) -> Result<Box<Machine>, AllocError> {
+        let macros = macros_of(job);
+        let machine = checked.machine(alloc, &macros, job.budget)?;
+        boxed(alloc, machine)
+    }
+}
+
+/// A value in a box: what is in one is cheap to prove things about where it is dropped. The only error is that memory ends.
+pub fn boxed<T: Drop>(alloc: Global, value: T) -> Result<Box<T>, AllocError>
+    ensures { IfOk result (λ found. found.value ≡ value) }
+{
+    Ok(Box::new(alloc, value)?)
+}
 
 /// Reads and checks a program and, if it has no error, runs it over a trace: the messages, how the run
 /// ended, and the status.
@@ -34,26 +65,12 @@ pub fn session<R: Source, S: Sink>(
     ensures unread { OnErr result (trace.new ≡ trace.old) }
     ensures unwritten { OnErr result (sink.new ≡ sink.old) }
 {
-    let Judgement { messages, checked } = judged(alloc, source, job.file.as_bytes(), job.options)?;
-    let Some(checked) = checked else {
+    let Answered { messages, made } = answer(alloc, job, source, &Loading)?;
+    let Some(mut machine) = made else {
         return Ok((messages, None, Status::SourceErrors));
     };
-    let macros = macros_of(job);
-    let mut machine = loaded_from(alloc, checked, &macros, job.budget)?;
-    let end = run(&mut machine, trace, sink);
+    let end = run(machine.as_mut(), trace, sink);
     Ok((messages, Some(end), status_of(end)))
-}
-
-/// The machine of what is in a box, which is dropped then.
-fn loaded_from<T: Loads + Drop>(
-    alloc: Global,
-    checked: Box<T>,
-    macros: &Macros,
-    budget: u32,
-) -> Result<Machine, AllocError>
-    ensures { IfOk result (T.loaded checked.value macros.now.text.now budget) }
-{
-    checked.machine(alloc, macros, budget)
 }
 
 /// The macros of a call; none where they were left out.

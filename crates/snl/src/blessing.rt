@@ -3,12 +3,12 @@
 ghost use Rattle.std.specs.Prelude.{◌≡◌, ◌-◌, ◌^◌, ◌<◌, []};
 
 use crate::trying::{opened, unread};
-use snc::{Status, status_of};
+use snc::{Answered, Status, status_of};
 use snl_cli::{Folder, Halt, Verdict, path_in, stuck, wrong};
 use snl_suite::{Day, Written};
 use snl_trace::{End, Source};
 use snl_trials::Nothing;
-use snl_views::{Covered, RunnerAnswer};
+use snl_views::{Covered, Runner};
 use std::alloc::AllocError;
 use std::fs::File;
 use std::io::{BufWriter, ErrorKind, Write};
@@ -20,14 +20,14 @@ const HELD: usize = 65_536;
 /// Runs a program over a trace into a file; one with an error writes nothing. Answers how the run ended.
 fn run_into<R: Source>(
     rt: &HostRuntime,
-    subject: &mut RunnerAnswer,
+    subject: &mut Answered<Box<Runner>>,
     trace: &mut R,
     file: File,
 ) -> io::Result<Option<End>>
     requires trace { R.failures trace.old < 2 ^ 64 - 1 }
     requires fresh { R.gave trace.old ≡ [] }
 {
-    let Some(runner) = &mut subject.runner else {
+    let Some(runner) = &mut subject.made else {
         return Ok(None);
     };
     let writer = BufWriter::with_capacity(rt.alloc(), HELD, file)?;
@@ -44,7 +44,7 @@ fn run_into<R: Source>(
 fn run_to(
     rt: &HostRuntime,
     trace: Option<&str>,
-    subject: &mut RunnerAnswer,
+    subject: &mut Answered<Box<Runner>>,
     path: &str,
 ) -> io::Result<Option<End>> {
     let file = File::create_new(rt, path)?;
@@ -117,7 +117,7 @@ fn run_new(
     rt: &HostRuntime,
     folder: &Folder,
     day: &Day,
-    subject: &mut RunnerAnswer,
+    subject: &mut Answered<Box<Runner>>,
     new: &str,
     forces: bool,
 ) -> Result<Option<End>, Halt> {
@@ -168,7 +168,7 @@ fn bless_output(
     rt: &HostRuntime,
     folder: &Folder,
     day: &Day,
-    subject: &mut RunnerAnswer,
+    subject: &mut Answered<Box<Runner>>,
     forces: bool,
 ) -> Result<Option<End>, Halt> {
     let stem = day.stem.as_str();
@@ -198,7 +198,7 @@ pub fn blessed(
     rt: &HostRuntime,
     folder: &Folder,
     day: &Day,
-    subject: &mut RunnerAnswer,
+    subject: &mut Answered<Box<Runner>>,
     wanted: u8,
     lines: &[u8],
     forces: bool,

@@ -148,7 +148,7 @@ fn prepared_in<W: Watches>(
     limits: &mut Limits<W>,
 ) -> Result<Option<Box<Prepared>>, AllocError> {
     let name = source.file.as_bytes();
-    match judged(rt.alloc(), source.text, name, asked.call.job.options) {
+    match judged(rt.alloc(), name, source.text, asked.call.job.options) {
         Ok(Judgement { checked, .. }) => match checked {
             Some(checked) => prepared(rt, checked, asked, source.like, limits),
             None => Ok(None),
@@ -238,7 +238,7 @@ fn searched_in(
 
 /// Searches both programs, where neither has an error. The messages come behind what was found.
 fn answered_by(rt: &HostRuntime, asked: Asked, texts: Texts, both: &mut Both) -> u8 {
-    let (Some(old), Some(new)) = (&mut both.old.side, &mut both.new.side) else {
+    let (Some(old), Some(new)) = (&mut both.old.made, &mut both.new.made) else {
         tell_messages(rt, both);
         return Status::SourceErrors.code();
     };

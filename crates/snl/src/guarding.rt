@@ -3,15 +3,15 @@
 use crate::contrasting::{Wished, wishes_of};
 use crate::searching::{Clock, recorded, told_fault};
 use crate::units::wished_values;
-use snc::{Judgement, Status, judged, macros_of};
+use snc::{Answered, Judgement, Status, judged, macros_of};
 use snc_args::Job;
 use snc_cli::{source_in, tell, write};
 use snl_args::SearchWords;
-use snl_cli::{Asked, WatchPair, check_both, places_of, watch_pair_of, write_trace};
+use snl_cli::{Asked, WatchPair, check_both, job_of_file, places_of, watch_pair_of, write_trace};
 use snl_equivalence::PairWishes;
 use snl_guards::{Crew, Watched, WatchedAnswer, WatchedQuestion, heard_by, search_watched};
 use snl_machine::Machine;
-use snl_observer::{Place, Ready, program_of};
+use snl_observer::{Place, program_of};
 use snl_safety::Forbidden;
 use snl_search::{Heard, Limits, Watches, WishFault};
 use std::alloc::{AllocError, Global};
@@ -38,31 +38,19 @@ struct Never {
     names: Vec<Forbidden>,
 }
 
-/// A text of the caller's own, where there is one.
-fn owned(alloc: Global, text: &Option<String>) -> Result<Option<String>, AllocError> {
-    match text {
-        Some(text) => Ok(Some(String::from_str(alloc, text.as_str())?)),
-        None => Ok(None),
-    }
-}
-
 /// The same job with another budget.
 fn job_with(alloc: Global, job: &Job, budget: u32) -> Result<Job, AllocError> {
-    Ok(Job {
-        file: String::from_str(alloc, job.file.as_str())?,
-        options: job.options,
-        tables: job.tables,
-        budget,
-        macros: owned(alloc, &job.macros)?,
-    })
+    let mut same = job_of_file(alloc, job, job.file.as_str())?;
+    same.budget = budget;
+    Ok(same)
 }
 
 /// The program and the requirement, with a budget; None where one of them has an error.
 fn team_of(alloc: Global, guard: Guard, budget: u32) -> Result<Option<Watched>, AllocError> {
     let job = job_with(alloc, &guard.asked.call.job, budget)?;
-    let Ready { program: run, .. } = program_of(alloc, guard.asked.source, &job)?;
+    let Answered { made: run, .. } = program_of(alloc, guard.asked.source, &job)?;
     let job = job_with(alloc, guard.job, budget)?;
-    let Ready { program: watch, .. } = program_of(alloc, guard.watch, &job)?;
+    let Answered { made: watch, .. } = program_of(alloc, guard.watch, &job)?;
     match (run, watch) {
         (Some(run), Some(watch)) => Ok(Some(Watched { run, watch })),
         _ => Ok(None),
@@ -144,7 +132,7 @@ fn heard_in<W: Watches>(
 ) -> Result<Option<Heard>, WishFault> {
     let Asked { source, call, .. } = guard.asked;
     let job = &call.job;
-    let Judgement { checked, .. } = judged(rt.alloc(), source, job.file.as_bytes(), job.options)?;
+    let Judgement { checked, .. } = judged(rt.alloc(), job.file.as_bytes(), source, job.options)?;
     let Some(checked) = checked else {
         return Ok(None);
     };
@@ -223,11 +211,11 @@ fn guarded(rt: &HostRuntime, guard: Guard, judge: Watched) -> Result<u8, Status>
 /// The same of two sources that were read. The messages come behind the answer.
 fn guarded_in(rt: &HostRuntime, guard: Guard, pair: WatchPair) -> Result<u8, Status> {
     let WatchPair { run, watch, notes } = pair;
-    let Ready { messages, program } = run;
-    let run = program;
+    let Answered { messages, made } = run;
+    let run = made;
     let of_run = messages;
-    let Ready { messages, program } = watch;
-    let code = match (run, program) {
+    let Answered { messages, made } = watch;
+    let code = match (run, made) {
         (Some(run), Some(watch)) => guarded(rt, guard, Watched { run, watch })?,
         _ => Status::SourceErrors.code(),
     };

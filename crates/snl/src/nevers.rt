@@ -206,8 +206,8 @@ pub fn tested_never(
     let source = program_source(rt, job.file.as_str(), name, ".st")?;
     match judged(
         rt.alloc(),
-        source.as_slice(),
         job.file.as_bytes(),
+        source.as_slice(),
         job.options,
     ) {
         Ok(Judgement { messages, checked }) => match checked {

@@ -4,12 +4,12 @@ ghost use Rattle.std.specs.Prelude.{◌≡◌, ◌-◌, ◌^◌, ◌<◌, []};
 
 use crate::nevers::wrong_source;
 use crate::trying::{opened, push_lines, unread};
-use snc::{Job, Status};
+use snc::{Answered, Job, Status};
 use snl_args::Call;
 use snl_cli::{
     Folder, Halt, Verdict, job_of, path_in, program_source, small_text, wrong, wrong_bytes,
 };
-use snl_observer::{Close, Observed, Place, Program as Watcher, Ready, observe, program_of};
+use snl_observer::{Close, Observed, Place, Program as Watcher, observe, program_of};
 use snl_suite::{Day, Program, push_visible, states_in};
 use snl_trace::{End, Source};
 use snl_trials::Nothing;
@@ -59,13 +59,13 @@ pub fn watching_of(
 
 /// Both programs, made ready. Where one has an error, the test is wrong.
 fn both_in(alloc: Global, watching: &Watching) -> Result<(Box<Watcher>, Box<Watcher>), Halt> {
-    let Ready { messages, program } = program_of(alloc, watching.source.as_slice(), &watching.job)?;
-    let Some(run) = program else {
+    let Answered { messages, made } = program_of(alloc, watching.source.as_slice(), &watching.job)?;
+    let Some(run) = made else {
         return Err(wrong_source(alloc, "the program", messages.as_slice())?);
     };
     let watch = program_of(alloc, watching.watch.as_slice(), &watching.watch_job)?;
-    let Ready { messages, program } = watch;
-    match program {
+    let Answered { messages, made } = watch;
+    match made {
         Some(watch) => Ok((run, watch)),
         None => Err(wrong_source(alloc, "the requirement", messages.as_slice())?),
     }

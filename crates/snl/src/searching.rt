@@ -268,7 +268,7 @@ pub fn answered_search(
 ) -> u8 {
     let Asked { source, call, .. } = asked;
     let file = call.job.file.as_bytes();
-    match judged(rt.alloc(), source, file, call.job.options) {
+    match judged(rt.alloc(), file, source, call.job.options) {
         Ok(Judgement { messages, checked }) => {
             let code = match checked {
                 Some(checked) => searched(rt, checked, asked, words, begun),

@@ -4,11 +4,11 @@ use crate::blessing::blessed;
 use crate::nevers::tested_never;
 use crate::requirements::{Watching, tested_watch, watching_of};
 use crate::trying::{outcome_of, verdict_of, wanted_status};
-use snc::Status;
+use snc::{Answered, Status};
 use snl_args::{Call, TestWords};
 use snl_cli::{Folder, Halt, Tally, Verdict, folders_of, subject_of, told, wrong};
 use snl_suite::{Day, Program};
-use snl_views::{Coverage, RunnerAnswer, gaps_of};
+use snl_views::{Coverage, Runner, gaps_of};
 use std::alloc::AllocError;
 use std::fs::File;
 use std::io::Read;
@@ -69,7 +69,7 @@ fn tested_day(
     folder: &Folder,
     program: &Program,
     day: &Day,
-    subject: &mut RunnerAnswer,
+    subject: &mut Answered<Box<Runner>>,
 ) -> Result<Verdict, Halt> {
     check_files(rt, program, day, words.blesses)?;
     let wanted = wanted_status(rt, folder, day)?;
@@ -109,9 +109,9 @@ fn tell_coverage(
     rt: &HostRuntime,
     folder: &Folder,
     program: &Program,
-    subject: &RunnerAnswer,
+    subject: &Answered<Box<Runner>>,
 ) -> Result<(), Status> {
-    let Some(runner) = &subject.runner else {
+    let Some(runner) = &subject.made else {
         return Ok(());
     };
     if !program.days.iter().any(|day| day.has_out) {
@@ -134,7 +134,7 @@ fn tested_days(
     words: &TestWords,
     folder: &Folder,
     program: &Program,
-    subject: &mut RunnerAnswer,
+    subject: &mut Answered<Box<Runner>>,
     tally: &mut Tally,
 ) -> Result<(), Status> {
     for day in &program.days {

@@ -2,13 +2,13 @@
 
 ghost use Rattle.std.specs.Prelude.{◌≡◌, ◌-◌, ◌^◌, ◌<◌, [], IfSome};
 
-use snc::Status;
+use snc::{Answered, Status};
 use snc_cli::Stream;
 use snl_cli::{Folder, Halt, Verdict, path_in, small_text, stuck, wrong};
 use snl_suite::{Agreement, Day, difference_text, push_visible};
 use snl_trace::{End, Source};
 use snl_trials::{Nothing, Trial, tried, untried};
-use snl_views::RunnerAnswer;
+use snl_views::Runner;
 use std::alloc::{AllocError, Global};
 use std::fs::File;
 
@@ -53,7 +53,7 @@ pub fn unread(rt: &HostRuntime, stem: &str, ending: &str) -> Halt {
 /// Runs a program over a trace, beside the output that is wanted; one with an error is not run.
 fn tried_over<R: Source>(
     rt: &HostRuntime,
-    subject: &mut RunnerAnswer,
+    subject: &mut Answered<Box<Runner>>,
     trace: &mut R,
     file: Wanted,
     wanted: u8,
@@ -63,7 +63,7 @@ fn tried_over<R: Source>(
     requires file { file.failures ≡ 0 }
     requires unread { file.input.past.bytes ≡ [] }
 {
-    match &mut subject.runner {
+    match &mut subject.made {
         Some(runner) => tried(rt.alloc(), runner.as_mut(), trace, file, wanted),
         None => untried(rt.alloc(), file, wanted),
     }
@@ -74,7 +74,7 @@ fn trial_of(
     rt: &HostRuntime,
     folder: &Folder,
     day: &Day,
-    subject: &mut RunnerAnswer,
+    subject: &mut Answered<Box<Runner>>,
     wanted: u8,
 ) -> Result<Trial<Wanted>, Halt> {
     let stem = day.stem.as_str();
@@ -167,7 +167,7 @@ pub fn outcome_of(
     rt: &HostRuntime,
     folder: &Folder,
     day: &Day,
-    subject: &mut RunnerAnswer,
+    subject: &mut Answered<Box<Runner>>,
     wanted: u8,
 ) -> Result<Outcome, Halt> {
     let stem = day.stem.as_str();

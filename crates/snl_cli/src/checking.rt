@@ -1,58 +1,54 @@
 //! `snl check`.
 
 use crate::noting::{in_front, notes_on};
-use snc::{Judgement, Status, judged};
+use snc::{Answered, Maker, Status, answer, macros_of};
+use snc_args::Job;
 use snc_cli::write;
 use snl_args::{CheckWords, Format};
-use snl_channels::Macros;
-use snl_check::{Checked, Options};
+use snl_check::Checked;
 use snl_lints::{Text, lines_of, lint_named, remarks_of};
 use snl_notes::objects_of;
 use std::alloc::{AllocError, Global};
 
-/// A source, what its file is called, and the options of the call.
+/// A source, with the job of its file.
 #[derive(Clone, Copy)]
 pub struct Piece<'c> {
     /// The bytes of the file.
     pub source: &'c [u8],
-    /// The word that names it.
-    pub file: &'c [u8],
-    /// The options of the language that the call gives.
-    pub options: Options,
-    /// The macros in the names of channels that the call gives.
-    pub macros: Macros<'c>,
+    /// The word that names it, and what the call says of its options and macros.
+    pub job: &'c Job,
 }
 
-/// What lints remark on. A function that owns a whole checked program is dear to prove; one that owns a value of a type parameter is not.
-trait Remarked {
-    /// A line for each remark of a lint that is not silenced. The only error is that memory ends.
-    fn remark_lines(
-        &self,
-        alloc: Global,
-        words: &CheckWords,
-        piece: Piece,
-    ) -> Result<Vec<u8>, AllocError>;
+/// What lints remark on.
+#[derive(Drop)]
+struct Remarks {
+    /// A line for each remark of a lint that is not silenced.
+    lines: Vec<u8>,
 }
 
-impl<'a> Remarked for Checked<'a> {
-    fn remark_lines(
-        &self,
+impl Maker<Remarks> for CheckWords {
+    ghost right = { λ words job whole options remarks. Unit {0} };
+
+    fn make<'a>(
+        checked: &Checked<'a>,
         alloc: Global,
-        words: &CheckWords,
-        piece: Piece,
-    ) -> Result<Vec<u8>, AllocError> {
-        let program = self.program();
-        let remarks = remarks_of(alloc, program, self.uses(), &piece.macros)?;
+        source: &[u8],
+        job: &Job,
+        words: &Self,
+    ) -> Result<Remarks, AllocError> {
+        let program = checked.program();
+        let remarks = remarks_of(alloc, program, checked.uses(), &macros_of(job))?;
         let text = Text {
-            source: piece.source,
-            file: piece.file,
+            source,
+            file: job.file.as_bytes(),
             marked: program.files.as_slice(),
         };
         let silenced = words.silenced.as_slice();
-        match words.format {
-            Format::Json => objects_of(alloc, silenced, text, remarks.as_slice()),
-            Format::Text | Format::Gcc => lines_of(alloc, silenced, text, remarks.as_slice()),
-        }
+        let lines = match words.format {
+            Format::Json => objects_of(alloc, silenced, text, remarks.as_slice())?,
+            Format::Text | Format::Gcc => lines_of(alloc, silenced, text, remarks.as_slice())?,
+        };
+        Ok(Remarks { lines })
     }
 }
 
@@ -94,21 +90,18 @@ pub fn check_lints(rt: &HostRuntime, words: &CheckWords) -> Result<(), Status> {
 }
 
 /// Writes the messages and the lines of the lints.
-fn told_remarks<T: Remarked + Drop>(
+fn told_remarks(
     rt: &HostRuntime,
     piece: Piece,
     words: &CheckWords,
     messages: &[u8],
-    checked: Box<T>,
+    lines: &[u8],
 ) -> Status {
-    let Ok(lines) = checked.remark_lines(rt.alloc(), words, piece) else {
-        return Status::Memory;
-    };
     let status = told_messages(rt, piece, words.format, messages);
     if status != Status::Well {
         return status;
     }
-    if write(rt, lines.as_slice()).is_err() {
+    if write(rt, lines).is_err() {
         return Status::InputOutput;
     }
     if words.is_strict && !lines.is_empty() {
@@ -140,14 +133,12 @@ fn told_errors(rt: &HostRuntime, piece: Piece, format: Format, messages: &[u8]) 
 
 /// Writes what `snc` tells of a program, behind it a note on each message, and what lints remark, where no message is an error.
 pub fn answered_check(rt: &HostRuntime, piece: Piece, words: &CheckWords) -> Status {
-    match judged(rt.alloc(), piece.source, piece.file, piece.options) {
-        Ok(Judgement { messages, checked }) => {
-            let messages = messages.as_slice();
-            match checked {
-                Some(checked) => told_remarks(rt, piece, words, messages, checked),
-                None => told_errors(rt, piece, words.format, messages),
-            }
-        }
-        Err(_) => Status::Memory,
+    let Ok(Answered { messages, made }) = answer(rt.alloc(), piece.job, piece.source, words) else {
+        return Status::Memory;
+    };
+    let messages = messages.as_slice();
+    match made {
+        Some(remarks) => told_remarks(rt, piece, words, messages, remarks.lines.as_slice()),
+        None => told_errors(rt, piece, words.format, messages),
     }
 }

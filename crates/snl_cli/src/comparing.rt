@@ -4,10 +4,10 @@ ghost use Rattle.std.specs.Prelude.{◌≡◌, []};
 
 use crate::input::Input;
 use crate::overhearing::{clock_text, tell_bad_line};
-use snc::Status;
+use snc::{Answered, Status};
 use snc_cli::{source_in, tell, write};
 use snl_args::{Call, SameWords};
-use snl_same::{Compared, Filter, Ready, Side, compare, ready_of};
+use snl_same::{Compared, Filter, Side, compare, ready_of};
 use snl_trace::End;
 use snl_views::{Overheard, macro_notes};
 use std::alloc::AllocError;
@@ -66,9 +66,9 @@ fn told(rt: &HostRuntime, compared: &Compared, heard: &Overheard) -> Result<Stat
 #[derive(Drop)]
 pub struct Both {
     /// What came of the old one.
-    pub old: Ready,
+    pub old: Answered<Box<Side>>,
     /// What came of the new one.
-    pub new: Ready,
+    pub new: Answered<Box<Side>>,
     notes: Vec<u8>,
 }
 
@@ -101,7 +101,7 @@ fn answered_by(
     words: &SameWords,
     both: &mut Both,
 ) -> Result<Status, Status> {
-    let (Some(old), Some(new)) = (&mut both.old.side, &mut both.new.side) else {
+    let (Some(old), Some(new)) = (&mut both.old.made, &mut both.new.made) else {
         tell_messages(rt, both);
         return Ok(Status::SourceErrors);
     };

@@ -8,11 +8,11 @@ use crate::input::Input;
 use crate::overhearing::bad_line_text;
 use crate::traces::TraceFile;
 use crate::wholes::paths_in;
-use snc::{Status, status_of};
+use snc::{Answered, Status, status_of};
 use snc_cli::{tell, write};
 use snl_args::CoverWords;
 use snl_trace::{End, Source};
-use snl_views::{Coverage, Overheard, Runner, RunnerAnswer, coverage_text, gaps_of, runner_of};
+use snl_views::{Coverage, Overheard, Runner, coverage_text, gaps_of, runner_of};
 use snl_watch::Nowhere;
 use std::alloc::AllocError;
 
@@ -234,11 +234,11 @@ pub fn answered_cover(
     words: &CoverWords,
 ) -> Result<Status, Status> {
     let Asked { source, call, .. } = asked;
-    let Ok(RunnerAnswer { messages, runner }) = runner_of(rt.alloc(), source, &call.job) else {
+    let Ok(Answered { messages, made }) = runner_of(rt.alloc(), source, &call.job) else {
         return Err(Status::Memory);
     };
     let messages = messages.as_slice();
-    let Some(mut runner) = runner else {
+    let Some(mut runner) = made else {
         asked.tell(rt, messages);
         return Ok(Status::SourceErrors);
     };

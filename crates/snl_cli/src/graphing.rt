@@ -4,11 +4,11 @@ use crate::asked::Asked;
 use crate::counting::add_files;
 use crate::input::Input;
 use crate::overhearing::tell_bad_line;
-use snc::{Status, status_of};
+use snc::{Answered, Status, status_of};
 use snc_cli::write;
 use snl_args::GraphWords;
 use snl_trace::End;
-use snl_views::{Overheard, Runner, RunnerAnswer, graph, runner_of};
+use snl_views::{Overheard, Runner, graph, runner_of};
 use snl_watch::Nowhere;
 
 /// Writes the picture of a program, which tells counts or does not; answers the status, which is that of the run, if there was one.
@@ -84,11 +84,11 @@ pub fn answered_graph(
     words: &GraphWords,
 ) -> Result<Status, Status> {
     let Asked { source, call, .. } = asked;
-    let Ok(RunnerAnswer { messages, runner }) = runner_of(rt.alloc(), source, &call.job) else {
+    let Ok(Answered { messages, made }) = runner_of(rt.alloc(), source, &call.job) else {
         return Err(Status::Memory);
     };
     let messages = messages.as_slice();
-    let Some(mut runner) = runner else {
+    let Some(mut runner) = made else {
         asked.tell(rt, messages);
         return Ok(Status::SourceErrors);
     };

@@ -26,10 +26,10 @@ pub fn notes_on(
     }
     let read = Read {
         source: piece.source,
-        file: piece.file,
+        file: piece.job.file.as_bytes(),
         form: form_of(format),
     };
-    notes_of(rt.alloc(), read, piece.options)
+    notes_of(rt.alloc(), read, piece.job.options)
 }
 
 /// The messages as they stand in front of the notes: none where these have all that they say.

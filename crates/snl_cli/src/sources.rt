@@ -1,7 +1,8 @@
 //! The files that a check looks at: those that the call names, and of a folder the programs in it.
 
 use crate::checking::{Piece, answered_check};
-use snc::{Status, macros_of};
+use crate::jobs::job_of_file;
+use snc::Status;
 use snc_cli::source_in;
 use snl_args::{Call, CheckWords};
 use std::alloc::{AllocError, Global};
@@ -49,18 +50,24 @@ fn worse(one: Status, other: Status) -> Status {
     }
 }
 
+/// Checks the source in a file.
+fn checked_source(
+    rt: &HostRuntime,
+    call: &Call,
+    words: &CheckWords,
+    file: &str,
+    source: &[u8],
+) -> Status {
+    match job_of_file(rt.alloc(), &call.job, file) {
+        Ok(job) => answered_check(rt, Piece { source, job: &job }, words),
+        Err(_) => Status::Memory,
+    }
+}
+
 /// Checks a file.
 fn checked_file(rt: &HostRuntime, call: &Call, words: &CheckWords, file: &str) -> Status {
     match source_in(rt, "snl", file) {
-        Ok(source) => {
-            let piece = Piece {
-                source: source.as_slice(),
-                file: file.as_bytes(),
-                options: call.job.options,
-                macros: macros_of(&call.job),
-            };
-            answered_check(rt, piece, words)
-        }
+        Ok(source) => checked_source(rt, call, words, file, source.as_slice()),
         Err(status) => status,
     }
 }

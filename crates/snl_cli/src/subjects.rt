@@ -2,10 +2,10 @@
 
 use crate::suites::Folder;
 use crate::verdicts::{Halt, stuck, wrong};
-use snc::{Job, Options, Status, Tool, WordsFault, read_words};
+use snc::{Answered, Job, Options, Status, Tool, WordsFault, read_words};
 use snc_cli::source_of;
 use snl_suite::Program;
-use snl_views::{RunnerAnswer, runner_of};
+use snl_views::{Runner, runner_of};
 use std::alloc::{AllocError, Global};
 use std::fs::File;
 use std::io::{self, ErrorKind, Read};
@@ -157,7 +157,7 @@ pub fn subject_of(
     folder: &Folder,
     program: &Program,
     options: Options,
-) -> Result<RunnerAnswer, Halt> {
+) -> Result<Answered<Box<Runner>>, Halt> {
     let job = job_of(rt, folder, program, options)?;
     let source = program_source(rt, job.file.as_str(), program.name.as_str(), ".st")?;
     Ok(runner_of(rt.alloc(), source.as_slice(), &job)?)

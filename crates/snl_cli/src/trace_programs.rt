@@ -1,12 +1,12 @@
 //! The program that a trace of logs is made for.
 
 use crate::macros::notes_of;
-use snc::{Judgement, Status, judged, macros_of};
+use snc::{Answered, Loading, Status, answer};
 use snc_args::Job;
 use snc_cli::{source_in, tell};
 use snl_args::Call;
 use snl_import::{ProgramChannel, WishedProgram};
-use snl_machine::{Loads, Machine};
+use snl_machine::Machine;
 use std::alloc::{AllocError, Global};
 
 /// A program that a trace is made for.
@@ -18,22 +18,6 @@ pub struct Traced {
     pub program: WishedProgram,
     /// What is noted of its macros, and the messages about it.
     pub messages: Vec<u8>,
-}
-
-/// A value in a box.
-fn boxed<T: Drop>(alloc: Global, value: T) -> Result<Box<T>, AllocError> {
-    Ok(Box::new(alloc, value)?)
-}
-
-/// The machine of a checked program, which is dropped. A function that owns a whole checked program is dear to prove; one that owns a
-/// value of a type parameter is not.
-fn loaded<T: Loads + Drop>(
-    alloc: Global,
-    checked: Box<T>,
-    job: &Job,
-) -> Result<Box<Machine>, AllocError> {
-    let machine = checked.machine(alloc, &macros_of(job), job.budget)?;
-    boxed(alloc, machine)
 }
 
 /// The channels of a machine's program, by their names.
@@ -83,14 +67,13 @@ fn words_of(alloc: Global, job: &Job) -> Result<Vec<u8>, AllocError> {
     Ok(words)
 }
 
-/// What is made of a checked program.
-fn traced_of<T: Loads + Drop>(
+/// What a trace is made for, by the machine of its program.
+fn traced_of(
     alloc: Global,
-    checked: Box<T>,
+    machine: Box<Machine>,
     job: &Job,
     messages: Vec<u8>,
 ) -> Result<Traced, AllocError> {
-    let machine = loaded(alloc, checked, job)?;
     let program = WishedProgram {
         words: words_of(alloc, job)?,
         channels: channels_of(alloc, machine.as_ref())?,
@@ -107,26 +90,18 @@ pub fn traced_program(rt: &HostRuntime, call: &Call) -> Result<Traced, Status> {
     let job = &call.job;
     let source = source_in(rt, "snl", job.file.as_str())?;
     let mut notes = notes_of(rt, source.as_slice(), call)?;
-    match judged(
-        rt.alloc(),
-        source.as_slice(),
-        job.file.as_bytes(),
-        job.options,
-    ) {
-        Ok(Judgement { messages, checked }) => {
-            if notes.extend_from_slice(messages.as_slice()).is_err() {
-                return Err(Status::Memory);
-            }
-            match checked {
-                Some(checked) => traced_of(rt.alloc(), checked, job, notes).map_err(
-                    |_| Status::Memory,
-                ),
-                None => {
-                    tell(rt, notes.as_slice());
-                    Err(Status::SourceErrors)
-                }
-            }
+    let Ok(Answered { messages, made }) = answer(rt.alloc(), job, source.as_slice(), &Loading)
+    else {
+        return Err(Status::Memory);
+    };
+    if notes.extend_from_slice(messages.as_slice()).is_err() {
+        return Err(Status::Memory);
+    }
+    match made {
+        Some(machine) => traced_of(rt.alloc(), machine, job, notes).map_err(|_| Status::Memory),
+        None => {
+            tell(rt, notes.as_slice());
+            Err(Status::SourceErrors)
         }
-        Err(_) => Err(Status::Memory),
     }
 }

@@ -7,11 +7,11 @@ use crate::comparing::notes_of;
 use crate::input::Input;
 use crate::overhearing::{clock_text, status_with, tell_bad_line, units_text};
 use crate::run::OUTPUT_HELD;
-use snc::Status;
+use snc::{Answered, Status};
 use snc_args::Job;
 use snc_cli::{Lines, Outlet, source_in, tell, write};
 use snl_args::Call;
-use snl_observer::{Observed, Place, Program, Ready, observe, program_of};
+use snl_observer::{Observed, Place, Program, observe, program_of};
 use std::alloc::AllocError;
 use std::io::BufWriter;
 
@@ -19,9 +19,9 @@ use std::io::BufWriter;
 #[derive(Drop)]
 pub struct WatchPair {
     /// The program.
-    pub run: Ready,
+    pub run: Answered<Box<Program>>,
     /// The requirement.
-    pub watch: Ready,
+    pub watch: Answered<Box<Program>>,
     /// What is noted of the call.
     pub notes: Vec<u8>,
 }
@@ -155,7 +155,7 @@ fn watched<'c>(
     tell(rt, notes.as_slice());
     tell(rt, run.messages.as_slice());
     tell(rt, watch.messages.as_slice());
-    let (Some(mut run), Some(mut watch)) = (run.program, watch.program) else {
+    let (Some(mut run), Some(mut watch)) = (run.made, watch.made) else {
         return Ok(Status::SourceErrors);
     };
     check_both(rt, asked.call, job, run.as_ref(), watch.as_ref())?;

@@ -7,4 +7,3 @@ pub mod TellLaws
 pub mod StepLaws
 pub mod TakingLaws
 pub mod OverLaws
-pub mod LoadLaws

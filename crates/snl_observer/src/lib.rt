@@ -23,7 +23,7 @@ mod writing;
 pub use closes::{Close, Ending};
 pub use doing::{Done, line_done};
 pub use lines::{LineHeard, line_heard};
-pub use loading::{Ready, program_of};
+pub use loading::program_of;
 pub use pages::Held;
 pub use programs::Program;
 pub use reading::{Observed, observe};

@@ -7,4 +7,3 @@ pub mod MeaningLaws
 pub mod StandLaws
 pub mod TakingLaws
 pub mod OverLaws
-pub mod LoadLaws

@@ -27,6 +27,6 @@ mod words;
 pub use comparing::apart_at;
 pub use differences::{Apart, Close, Difference};
 pub use filters::Filter;
-pub use loading::{Ready, ready_of};
+pub use loading::ready_of;
 pub use reading::{Compared, compare};
 pub use sides::Side;

@@ -18,5 +18,5 @@ mod texts;
 mod values;
 mod waiting;
 
-pub use staging::{Ready, Scene, ready_of};
+pub use staging::{Scene, ready_of};
 pub use telling::{Answer, tell_moments};

@@ -1,17 +1,17 @@
 //! From the bytes of a source to a program whose moments can be told.
 
-ghost use Rattle.std.specs.Prelude.{ℕ, List, [], IfOk, IfSome, string_bytes};
+ghost use Rattle.std.specs.Prelude.{[], IfOk, IfSome, string_bytes};
 ghost use Rattle.std.specs.Option.{option_map, unwrap_or};
-ghost use Rattle.snl_moments.specs.Loaded.{IsSubjectFrom, IsUntold};
-ghost use Rattle.snl_scenes.specs.Staged.{IsReady, IsSceneFrom};
-ghost use Rattle.snl_scenes.specs.declared.staging.Scene as made;
+ghost use Rattle.snl_syntax.specs.view.Programs.{program_view};
+ghost use Rattle.snc.specs.Answered.{IsAnswered, macros_in};
+ghost use Rattle.snl_moments.specs.Loaded.{IsUntold};
+ghost use Rattle.snl_scenes.specs.Staged.{IsBoxedScene, IsSubjectOf};
 
 use crate::names::{Legend, legend_of};
-use snc::{Judgement, judged, macros_of};
+use snc::{Answered, Maker, answer, boxed, macros_of};
 use snc_args::Job;
 use snl_check::Checked;
-use snl_legends::boxed;
-use snl_links::{Macros, links};
+use snl_links::links;
 use snl_machine::Tied;
 use snl_moments::{Subject, subject_of};
 use std::alloc::{AllocError, Global};
@@ -39,122 +39,69 @@ fn ties_of(alloc: Global, subject: &Subject) -> Result<Vec<Tied>, AllocError> {
 /// The program of a checked one, for so many moments, in a box: what is in one is cheap to prove things about where it is dropped. The only
 /// error is that memory ends.
 fn boxed_subject<'a>(
-    alloc: Global,
     checked: &Checked<'a>,
-    macros: &Macros,
-    budget: u32,
+    alloc: Global,
+    job: &Job,
     count: usize,
 ) -> Result<Box<Subject>, AllocError>
-    ensures { IfOk result (λ s. IsSubjectFrom checked.now macros.now.text.now budget s.value) }
+    ensures { IfOk result (λ s. IsSubjectOf (macros_in job.now) job.now.budget
+        (program_view checked.now.program) checked.now.options s.value) }
 {
-    let subject = subject_of(alloc, checked, macros, budget, count)?;
+    let macros = macros_of(job);
+    let subject = subject_of(alloc, checked, &macros, job.budget, count)?;
     boxed(alloc, subject)
 }
 
 /// What the parts of a program that is ready are called.
 fn legend_by<'a>(
-    alloc: Global,
     checked: &Checked<'a>,
+    alloc: Global,
     source: &[u8],
-    macros: &Macros,
+    job: &Job,
     subject: &Subject,
 ) -> Result<Legend, AllocError> {
-    let links = links(alloc, checked, macros)?;
+    let macros = macros_of(job);
+    let links = links(alloc, checked, &macros)?;
     let ties = ties_of(alloc, subject)?;
     legend_of(alloc, checked, source, links.as_slice(), ties)
 }
 
-/// What is lent while a scene is made of it. A function that owns a whole checked program and lends it is dear to prove; one that owns a
-/// value of a type parameter is not.
-trait Lends {
-    /// What is right of what is made, by the text of the macros and the budget of an instant.
-    ghost lent: { Self → List ℕ → ℕ → made.Scene → Type 0 };
-
-    /// Makes it, for so many moments; `source` is what the program was read from. The only error is that memory ends.
-    fn lend(
-        &self,
-        alloc: Global,
-        source: &[u8],
-        macros: &Macros,
-        budget: u32,
-        count: usize,
-    ) -> Result<Box<Scene>, AllocError>
-        ensures { IfOk result (λ s. lent self.now macros.now.text.now budget s.value) };
-}
-
-/// The scene of a checked program that is lent, for so many moments. The only error is that memory ends.
-fn scene_of<'a>(
-    alloc: Global,
-    checked: &Checked<'a>,
-    source: &[u8],
-    macros: &Macros,
-    budget: u32,
+/// Makes the scene of a checked program, for so many moments.
+#[derive(Clone, Copy)]
+struct Staging {
     count: usize,
-) -> Result<Box<Scene>, AllocError>
-    ensures { IfOk result (λ s. IsSceneFrom checked.now macros.now.text.now budget s.value) }
-{
-    let subject = boxed_subject(alloc, checked, macros, budget, count)?;
-    let legend = legend_by(alloc, checked, source, macros, subject.as_ref())?;
-    boxed(alloc, Scene { subject, legend })
 }
 
-impl<'a> Lends for Checked<'a> {
-    ghost lent = { IsSceneFrom };
+impl Maker<Box<Scene>> for Staging {
+    ghost right = { λ maker job. IsBoxedScene (macros_in job) job.budget };
 
-    fn lend(
-        &self,
+    fn make<'a>(
+        checked: &Checked<'a>,
         alloc: Global,
         source: &[u8],
-        macros: &Macros,
-        budget: u32,
-        count: usize,
+        job: &Job,
+        maker: &Self,
     ) -> Result<Box<Scene>, AllocError> {
-        scene_of(alloc, self, source, macros, budget, count)
+        let subject = boxed_subject(checked, alloc, job, maker.count)?;
+        let legend = legend_by(checked, alloc, source, job, subject.as_ref())?;
+        boxed(alloc, Scene { subject, legend })
     }
-}
-
-/// The scene of what is lent, which is dropped. The only error is that memory ends.
-fn scene_by<T: Lends + Drop>(
-    alloc: Global,
-    checked: Box<T>,
-    source: &[u8],
-    macros: &Macros,
-    budget: u32,
-    count: usize,
-) -> Result<Box<Scene>, AllocError>
-    ensures { IfOk result (λ found. T.lent checked.value macros.now.text.now budget found.value) }
-{
-    checked.lend(alloc, source, macros, budget, count)
-}
-
-/// What came of a source.
-#[derive(Drop)]
-pub struct Ready {
-    /// A line for each message.
-    pub messages: Vec<u8>,
-    /// None where a message is an error.
-    pub scene: Option<Box<Scene>>,
 }
 
 /// Reads and checks a source and, if it has no error, makes its program ready for so many moments, with the options, the macros and the
 /// budget of a job. The only error is that memory ends.
-pub fn ready_of(alloc: Global, source: &[u8], job: &Job, count: usize) -> Result<Ready, AllocError>
-    ensures ready { IfOk result (IsReady job.now.options (string_bytes job.now.file)
-        (unwrap_or (option_map string_bytes job.now.macros) []) source.now job.now.budget) }
-    ensures untold { IfOk result (λ r. IfSome r.scene (λ scene.
+pub fn ready_of(
+    alloc: Global,
+    source: &[u8],
+    job: &Job,
+    count: usize,
+) -> Result<Answered<Box<Scene>>, AllocError>
+    ensures answer { IfOk result (λ r. IsAnswered
+        (IsBoxedScene (unwrap_or (option_map string_bytes job.now.macros) []) job.now.budget)
+        job.now.options (string_bytes job.now.file) source.now r.messages.items r.made) }
+    ensures untold { IfOk result (λ r. IfSome r.made (λ scene.
         IsUntold scene.value.subject.value)) }
 {
-    let Judgement { messages, checked } = judged(alloc, source, job.file.as_bytes(), job.options)?;
-    let Some(checked) = checked else {
-        return Ok(Ready {
-            messages,
-            scene: None,
-        });
-    };
-    let macros = macros_of(job);
-    let scene = scene_by(alloc, checked, source, &macros, job.budget, count)?;
-    Ok(Ready {
-        messages,
-        scene: Some(scene),
-    })
+    let answered = answer(alloc, job, source, &Staging { count })?;
+    Ok(answered)
 }

@@ -1,5 +1,5 @@
 -- What the counts of a run say of its lines.
-use Rattle.std.proofs.Common.{◌≡◌, ◌∙◌, ℕ, List, [], Option, Some, ap, map, refl, subst, sym}
+use Rattle.std.proofs.Common.{◌≡◌, ◌∙◌, ℕ, List, [], Some, ap, map, refl, subst, sym}
 use Rattle.snl_output.specs.TraceLines.{lines_to, whole_lines}
 use Rattle.snl_watch.specs.Counts.{Reading, count_in, cut, no_cut, reading_of}
 use Rattle.snl_watch.proofs.WholeLines.{cut-is-whole-lines}

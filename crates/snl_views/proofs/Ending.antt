@@ -1,25 +1,22 @@
 -- What a run into a sink that takes nothing says of what a program waits for.
-use Rattle.std.proofs.Common.{◌≡◌, ◌+◌, ◌↔◌, ℕ, Bool, true, false, List, [], ◌∷◌, ◌++◌, Option, None, Some, length, refl, sym, ap, subst, ◌∙◌}
+use Rattle.std.proofs.Common.{◌≡◌, ◌+◌, ℕ, Bool, true, false, List, [], ◌∷◌, ◌++◌, Some, length, sym, ap, ◌∙◌}
 use Rattle.snl_syntax.specs.Programs.{ProgramTree}
-use Rattle.snl_flat.specs.Starts.{holds_in, table_of}
 use Rattle.snl_channels.specs.Links.{Link}
 use Rattle.snl_load.specs.Meaning.{program_meaning}
-use Rattle.snl_load.specs.Reached.{only_reached}
 use Rattle.snl_load.proofs.Meant.{plans_are_right}
 use Rattle.snl_meaning.specs.Keeping.{world_after}
-use Rattle.snl_meaning.specs.Ran.{Ran, Gives, Faults, also, then_do}
+use Rattle.snl_meaning.specs.Ran.{also}
 use Rattle.snl_meaning.specs.World.{World}
 use Rattle.snl_meaning.specs.declared.live.Live.TheVariants.{Waiting}
-use Rattle.snl_meaning.specs.declared.ties.Tied.{Tied}
 use Rattle.snl_machine.specs.Holding.{loaded_by}
 use Rattle.snl_machine.specs.MachineOf.{IsMachineOf, Task, task_held}
 use Rattle.snl_machine.specs.declared.machine.Machine.{Machine}
 use Rattle.snl_output.specs.Devices.{told_more}
 use Rattle.snl_output.specs.Does.{Gave, text_of}
-use Rattle.snl_schedule.specs.Instant.{Program, is_ready}
+use Rattle.snl_schedule.specs.Instant.{Program}
 use Rattle.snl_output.specs.TraceLines.{lines_from, whole_lines}
-use Rattle.snl_trace.specs.Run.{Rules, line_done, or_rest, rules_by, run_from}
-use Rattle.snl_trace.specs.RunOver.{IsCutIn, MayFollow, Place, RunsByLine}
+use Rattle.snl_trace.specs.Run.{line_done, or_rest, rules_by, run_from}
+use Rattle.snl_trace.specs.RunOver.{IsCutIn, Place, RunsByLine}
 use Rattle.snl_trace.specs.declared.runner.End.{End}
 use Rattle.snl_trace.specs.declared.runner.End.TheVariants as end
 use Rattle.snl_trace.proofs.RunLaws.{run_from-append}

@@ -2,21 +2,19 @@
 use Rattle.std.proofs.Common.{◌≡◌, ◌∙◌, ℕ, Bool, true, false, List, Option, None, Some, Box, Global, ap, refl, subst, sym}
 use Rattle.std.specs.Prelude.{not}
 use Rattle.snl_syntax.specs.Programs.{ProgramTree}
-use Rattle.snl_check.specs.Waits.{waits}
+use Rattle.snc.specs.Answered.{IsAnswered}
 use Rattle.snl_channels.specs.Links.{Link, links}
 use Rattle.snl_load.specs.First.{first_world_of}
 use Rattle.snl_machine.specs.MachineOf.{IsMachineOf, world_held}
 use Rattle.snl_meaning.specs.World.{World}
-use Rattle.snl_messages.specs.Silence.{options_in_force}
 use Rattle.snl_names.specs.declared.options.Options.{Options}
 use Rattle.snl_output.specs.Devices.{counted}
 use Rattle.snl_trace.specs.declared.runner.End.{End}
-use Rattle.snl_views.specs.Answered.{IsAnswered}
 use Rattle.snl_views.specs.Runs.{EndsAt, RunsLike, RunsWith}
-use Rattle.snl_views.specs.Staged.{IsStage, IsStaged, StagedOn}
+use Rattle.snl_views.specs.Staged.{IsBoxedStage}
 use Rattle.snl_views.specs.declared.preparing.Prepared.{Prepared}
 use Rattle.snl_views.specs.declared.staging.Stage.{Stage}
-use Rattle.snl_views.specs.declared.staging.Staged.{Staged}
+use Rattle.snl_views.proofs.Answered.{accepted, refused}
 
 -- a run, by other names of what was told
 pub runs-like : (whole : ProgramTree) (ls : List Link) (waiting : Bool) (budget : ℕ) (first world : World) (gave : List ℕ) (ended : Bool)
@@ -47,46 +45,22 @@ runs-like-as before started world gave ended old told old' told' end same is is'
     (λ p ls budget made. runs-like p ls started.waits budget (world_held started.machine) world gave ended old told old' told' end is is'
     (means p ls started.waits budget made))
 
-module _ (given : Options) (word macros source : List ℕ) (budget : ℕ) (gave : List ℕ) (ended : Bool) (told told' : Option (List ℕ)) (s : Staged) where
+module _ (given : Options) (word macros source text : List ℕ) (budget : ℕ) (gave : List ℕ) (ended : Bool) (told told' : Option (List ℕ)) (made : Option (Box Stage Global)) where
   -- a source with an error
-  pub refused-run : s.stage ≡ None → IsStaged given word macros source budget s →
-      IsAnswered (RunsWith macros budget gave ended told told') given word source s.messages.items None
-  refused-run none w = record {
-    names = w.names;
-    messages = w.messages;
-    tree = w.tree;
-    finds = w.finds;
-    text_is = w.text_is;
-    says = subst (λ (o : Option (Box Stage Global)). StagedOn given macros w.messages w.tree budget o) none w.staged;
-  }
+  pub refused-run : made ≡ None → IsAnswered (IsBoxedStage macros budget) given word source text made →
+      IsAnswered (RunsWith macros budget gave ended told told') given word source text None
+  refused-run = refused (IsBoxedStage macros budget) (RunsWith macros budget gave ended told told') given word source text made
 
   -- a program that was run, lent out of its box
-  pub accepted-run : (stage : Box Stage Global) (lent : Stage) (end : End) → s.stage ≡ Some stage → lent ≡ stage.value → IsStaged given word macros source budget s →
+  pub accepted-run : (stage : Box Stage Global) (lent : Stage) (end : End) → made ≡ Some stage → lent ≡ stage.value → IsAnswered (IsBoxedStage macros budget) given word source text made →
       ((p : ProgramTree) (ls : List Link) (b : ℕ) → IsMachineOf p ls lent.prepared.waits b lent.prepared.machine →
       RunsLike p ls lent.prepared.waits b (world_held lent.prepared.machine) gave ended told told' end) →
-      IsAnswered (RunsWith macros budget gave ended told told') given word source s.messages.items (Some end)
-  accepted-run stage lent end some same w lent_said =
+      IsAnswered (RunsWith macros budget gave ended told told') given word source text (Some end)
+  accepted-run stage lent end some same is lent_said =
       let said = subst (λ (q : Stage). (p : ProgramTree) (ls : List Link) (b : ℕ) → IsMachineOf p ls q.prepared.waits b q.prepared.machine →
       RunsLike p ls q.prepared.waits b (world_held q.prepared.machine) gave ended told told' end) same lent_said in
-      let on = subst (λ (o : Option (Box Stage Global)). StagedOn given macros w.messages w.tree budget o) some w.staged in
-      let whole : ProgramTree = on.1.0 in
-      let ls : List Link = links whole macros in
-      let staged : IsStage whole ls (waits (options_in_force whole given)) budget stage.value = on.1.1.1 in
-      record {
-        names = w.names;
-        messages = w.messages;
-        tree = w.tree;
-        finds = w.finds;
-        text_is = w.text_is;
-        says = (
-          on.0,
-          (
-            whole,
-            (
-              on.1.1.0,
-              subst (λ (b : Bool). RunsLike whole ls b budget (first_world_of whole ls) gave ended told told' end) staged.waits
-                  (subst (λ (f : World). RunsLike whole ls stage.value.prepared.waits budget f gave ended told told' end) staged.first (said whole ls budget staged.machine)),
-            ),
-          ),
-        );
-      }
+      accepted (IsBoxedStage macros budget) (RunsWith macros budget gave ended told told') given word source text made stage end some is
+      (λ whole options staged.
+      let ls = links whole macros in
+      subst (λ (b : Bool). RunsLike whole ls b budget (first_world_of whole ls) gave ended told told' end) staged.waits
+      (subst (λ (f : World). RunsLike whole ls stage.value.prepared.waits budget f gave ended told told' end) staged.first (said whole ls budget staged.machine)))

@@ -1,5 +1,5 @@
 -- Over lines with an event, where nothing was written, the program isn't ready.
-use Rattle.std.proofs.Common.{◌≡◌, ◌+◌, ◌⊎◌, inl, inr, ℕ, Bool, true, false, List, [], ◌∷◌, ◌++◌, Option, None, Some, Result, Ok, Err, sym, subst, ◌∙◌}
+use Rattle.std.proofs.Common.{◌≡◌, ◌+◌, ◌⊎◌, inl, inr, ℕ, true, false, List, [], ◌∷◌, Option, None, Some, Result, Ok, Err, sym, subst, ◌∙◌}
 use Rattle.snl_meaning.specs.Keeping.{world_after}
 use Rattle.snl_meaning.specs.Ran.{Ran, Gives, Faults, also, then_do}
 use Rattle.snl_meaning.specs.World.{World}
@@ -10,7 +10,7 @@ use Rattle.snl_output.specs.Does.{text_of}
 use Rattle.snl_output.proofs.Doing.{also-nil}
 use Rattle.snl_schedule.specs.Instant.{Program, is_ready}
 use Rattle.snl_schedule.specs.declared.events.Event.{Event}
-use Rattle.snl_trace.specs.Run.{Rules, done_by, end_by, or_rest, rules_by, run_from}
+use Rattle.snl_trace.specs.Run.{done_by, end_by, or_rest, rules_by, run_from}
 use Rattle.snl_trace.specs.declared.runner.End.{End}
 use Rattle.snl_trace.specs.declared.trace_faults.TraceFault.{TraceFault}
 use Rattle.snl_views.specs.Awaits.{has_event, is_event_or}

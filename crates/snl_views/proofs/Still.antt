@@ -12,7 +12,7 @@ use Rattle.snl_output.specs.Lines.{joined, newline, start_line}
 use Rattle.snl_schedule.specs.declared.events.Event.{Event}
 use Rattle.snl_schedule.specs.declared.events.Event.TheVariants.{Up, Down, Val, Done, Tick, Other}
 use Rattle.snl_schedule.specs.Arrivals.{is_of, received_link, received_from, answered}
-use Rattle.snl_schedule.specs.Event.{applied, wake_by, woken, wakes_of, all_wakes, event_by, closed, line_by, line_of}
+use Rattle.snl_schedule.specs.Event.{applied, wake_by, woken, wakes_of, all_wakes, event_by, closed, line_by}
 use Rattle.snl_schedule.specs.Instant.{Program, all_rounds, instant_by, is_ready, opened, started}
 use Rattle.snl_schedule.proofs.Answering.{answers_change_no_more}
 use Rattle.snl_views.specs.Laws.{StillWaits, WaitsOrBegins}

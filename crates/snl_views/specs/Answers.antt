@@ -1,5 +1,5 @@
 -- What `waits` says of a program and a trace.
-use Rattle.std.specs.Prelude.{ℕ, Bool, List, [], Option, Some}
+use Rattle.std.specs.Prelude.{ℕ, Bool, List, [], Some}
 use Rattle.snl_syntax.specs.Programs.{ProgramTree}
 use Rattle.snl_check.specs.Waits.{waits}
 use Rattle.snl_channels.specs.Links.{links}

@@ -4,7 +4,6 @@ pub mod Laws
 pub mod Prepared
 pub mod Runs
 pub mod Staged
-pub mod Answered
 pub mod Coverage
 pub mod Graphs
 pub mod Pictures

@@ -2,8 +2,6 @@
 use Rattle.std.specs.Prelude.{◌≡◌, ℕ, Bool, List, [], ◌++◌, Option, Some, Box}
 use Rattle.std.proofs.Common.{Global}
 use Rattle.snl_syntax.specs.Programs.{ProgramTree}
-use Rattle.snl_syntax.specs.view.Programs.{program_view}
-use Rattle.snl_check.specs.declared.checked.Checked.{Checked}
 use Rattle.snl_check.specs.Waits.{waits}
 use Rattle.snl_channels.specs.Links.{Link, links}
 use Rattle.snl_flat.specs.declared.code.Code.{Code}
@@ -20,9 +18,9 @@ use Rattle.snl_views.specs.Shapes.{charted, go_texts, shape_of}
 use Rattle.snl_views.specs.declared.charts.Chart.{Chart}
 use Rattle.snl_views.specs.declared.runner.Runner.{Runner}
 
--- A chart has the shape of a checked program.
-abbrev pub IsCharted : Checked → Chart → Type 0
-IsCharted c chart = charted chart ≡ shape_of (program_view c.program)
+-- A chart has the shape of a program.
+abbrev pub IsCharted : ProgramTree → Chart → Type 0
+IsCharted whole chart = charted chart ≡ shape_of whole
 
 -- A snapshot pictures the first world of a program with some links, in which a machine with some code can be.
 pub record IsStart (p : ProgramTree) (ls : List Link) (code : Code) (at : Snapshot) : Type 0 where
@@ -38,11 +36,7 @@ pub record IsRunner (macros : List ℕ) (budget : ℕ) (lines : List (List ℕ))
   pub shape : charted r.coverage.chart ≡ shape_of whole
   pub counts : AreCounts (go_texts (shape_of whole)) r.coverage.shown.items lines
 
--- Before its first run,
-abbrev pub IsFreshRunner : Checked → List ℕ → ℕ → Runner → Type 0
-IsFreshRunner c macros budget r = IsRunner macros budget [] (program_view c.program) c.options r
-
--- and the same in a box.
+-- Before its first run, in a box.
 abbrev pub IsBoxedRunner : List ℕ → ℕ → ProgramTree → Options → Box Runner Global → Type 0
 IsBoxedRunner macros budget whole options r = IsRunner macros budget [] whole options r.value
 

@@ -1,6 +1,7 @@
 //! The chart of a checked program, made while the program is lent.
 
 ghost use Rattle.std.specs.Prelude.{IfOk};
+ghost use Rattle.snl_syntax.specs.view.Programs.{program_view};
 ghost use Rattle.snl_views.specs.Runners.{IsCharted};
 
 use crate::charts::{Chart, chart_of};
@@ -55,7 +56,7 @@ fn chart_by<'a>(
     checked: &Checked<'a>,
     marks: &Marks,
 ) -> Result<(Chart, IndexSet<usize>), AllocError>
-    ensures { IfOk result (λ r. IsCharted checked.now r.0) }
+    ensures { IfOk result (λ r. IsCharted (program_view checked.now.program) r.0) }
 {
     let chart = chart_of(alloc, checked.program(), &marks.conditions)?;
     let puts = declared_puts(alloc, checked, marks.puts.as_slice())?;
@@ -76,7 +77,7 @@ pub(crate) fn outline_of<'a>(
     source: &[u8],
     links: &[Link],
 ) -> Result<Outline, AllocError>
-    ensures { IfOk result (λ o. IsCharted checked.now o.chart) }
+    ensures { IfOk result (λ o. IsCharted (program_view checked.now.program) o.chart) }
 {
     let marks = marks_of(alloc, source)?;
     let (chart, declared) = chart_by(alloc, checked, &marks)?;

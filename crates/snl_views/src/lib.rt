@@ -45,7 +45,7 @@ pub use awaited::Awaited;
 pub use charts::{ArrowChart, Chart, SetChart, StateChart};
 pub use coverage::{Coverage, PutChart};
 pub use graphing::{Drawing, graph};
-pub use launching::{RunnerAnswer, runner_of};
+pub use launching::runner_of;
 pub use missed::{Gaps, Missed, Share, gaps_of};
 pub use missing::coverage_text;
 pub use overheard::Overheard;

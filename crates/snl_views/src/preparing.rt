@@ -1,11 +1,14 @@
 //! What a run of a checked program needs, made while the program is lent.
 
 ghost use Rattle.std.specs.Prelude.{IfOk};
-ghost use Rattle.snl_views.specs.Prepared.{IsPrepared};
+ghost use Rattle.snl_syntax.specs.view.Programs.{program_view};
+ghost use Rattle.snc.specs.Answered.{macros_in};
+ghost use Rattle.snl_views.specs.Prepared.{IsBoxedPrepared, IsPrepared};
 
+use snc::{Maker, boxed, macros_of};
+use snc_args::Job;
 use snl_check::Checked;
-use snl_legends::Lends;
-use snl_links::{Link, Macros, links};
+use snl_links::{Link, links};
 use snl_machine::{Loads, Machine};
 use std::alloc::{AllocError, Global};
 
@@ -20,17 +23,18 @@ pub struct Prepared {
     pub waits: bool,
 }
 
-/// What the run of a checked program needs that is lent.
+/// What the run of a checked program needs that is lent, with the macros and the budget of the job.
 pub(crate) fn prepared_of<'a>(
-    alloc: Global,
     checked: &Checked<'a>,
-    macros: &Macros,
-    budget: u32,
+    alloc: Global,
+    job: &Job,
 ) -> Result<Prepared, AllocError>
-    ensures { IfOk result (IsPrepared checked.now macros.now.text.now budget) }
+    ensures { IfOk result (IsPrepared (macros_in job.now) job.now.budget
+        (program_view checked.now.program) checked.now.options) }
 {
-    let links = links(alloc, checked, macros)?;
-    let machine = checked.machine(alloc, macros, budget)?;
+    let macros = macros_of(job);
+    let links = links(alloc, checked, &macros)?;
+    let machine = checked.machine(alloc, &macros, job.budget)?;
     Ok(Prepared {
         links,
         machine,
@@ -38,16 +42,20 @@ pub(crate) fn prepared_of<'a>(
     })
 }
 
-impl<'a> Lends<Prepared> for Checked<'a> {
-    ghost lent = { IsPrepared };
+/// Makes that, in a box.
+pub(crate) struct Preparing;
 
-    fn lend(
-        &self,
+impl Maker<Box<Prepared>> for Preparing {
+    ghost right = { λ maker job. IsBoxedPrepared (macros_in job) job.budget };
+
+    fn make<'a>(
+        checked: &Checked<'a>,
         alloc: Global,
         _source: &[u8],
-        macros: &Macros,
-        budget: u32,
-    ) -> Result<Prepared, AllocError> {
-        prepared_of(alloc, self, macros, budget)
+        job: &Job,
+        _maker: &Self,
+    ) -> Result<Box<Prepared>, AllocError> {
+        let prepared = prepared_of(checked, alloc, job)?;
+        boxed(alloc, prepared)
     }
 }

@@ -9,15 +9,15 @@ ghost use Rattle.snl_output.specs.Devices.{counted};
 ghost use Rattle.snl_trace.specs.Ends.{sink_failed, source_failed};
 ghost use Rattle.snl_watch.specs.Extra.{shown};
 ghost use Rattle.snl_watch.specs.Folding.{IsFolded};
-ghost use Rattle.snl_views.specs.Answered.{IsAnswered};
+ghost use Rattle.snc.specs.Answered.{IsAnswered};
 ghost use Rattle.snl_views.specs.Runs.{EndsAt, RunsLike, RunsWith, trace_failures};
 
-use crate::staging::{Stage, Staged, staged_of};
+use crate::staging::{Stage, Staging};
 use crate::starting::names_of;
 use crate::summaries::summary_of;
 use crate::telling::Scene;
 use crate::units::units_of;
-use snc::{Status, status_of};
+use snc::{Answered, Status, answer, status_of};
 use snc_args::Job;
 use snl_machine::{Machine, Sink};
 use snl_trace::{End, Source, run};
@@ -317,8 +317,8 @@ pub fn run_whole<R: Source + Drop, K: Sink + Drop>(
     ensures counted { IfOk result (λ a. K.failures a.sink
         ≡ counted (not a.is_whole) (K.failures sink)) }
 {
-    let Staged { messages, stage } = staged_of(alloc, subject.source, job)?;
-    let Some(mut stage) = stage else {
+    let Answered { messages, made } = answer(alloc, job, subject.source, &Staging)?;
+    let Some(mut stage) = made else {
         return Ok(RunAnswer {
             messages,
             end: None,
@@ -369,8 +369,8 @@ pub fn run_folded<R: Source + Drop, K: Sink + Drop, W: Sink + Drop>(
     ensures counted { IfOk result (λ a. K.failures a.sink.0 + W.failures a.sink.1
         ≡ counted (not a.is_whole) (K.failures sink + W.failures witness)) }
 {
-    let Staged { messages, stage } = staged_of(alloc, subject.source, job)?;
-    let Some(mut stage) = stage else {
+    let Answered { messages, made } = answer(alloc, job, subject.source, &Staging)?;
+    let Some(mut stage) = made else {
         return Ok(RunAnswer {
             messages,
             end: None,

@@ -10,18 +10,17 @@ ghost use Rattle.snl_machine.specs.MachineOf.{IsMachineOf, task_of, world_held};
 ghost use Rattle.snl_output.specs.Devices.{counted};
 ghost use Rattle.snl_trace.specs.Ends.{source_failed};
 ghost use Rattle.snl_trace.specs.Run.{rules_by};
-ghost use Rattle.snl_views.specs.Answered.{IsAnswered};
+ghost use Rattle.snc.specs.Answered.{IsAnswered};
 ghost use Rattle.snl_views.specs.Answers.{AwaitsOver};
 ghost use Rattle.snl_views.specs.Awaits.{Awaits};
 ghost use Rattle.snl_views.specs.Runs.{RunsLike, trace_failures};
 
 use crate::awaited::Awaited;
-use crate::preparing::Prepared;
+use crate::preparing::{Prepared, Preparing};
 use crate::starting::start_of;
 use crate::telling::{Scene, start_text};
-use snc::{Judgement, Status, judged, macros_of};
+use snc::{Answered, Status, answer};
 use snc_args::Job;
-use snl_legends::lent_boxed;
 use snl_trace::{End, Source};
 use std::alloc::{AllocError, Global};
 
@@ -105,16 +104,14 @@ pub fn waits<R: Source + Drop>(
     ensures source { IfOk result (λ a. R.failures a.trace
         ≡ trace_failures (option_map (λ o. o.end) a.outcome) (R.failures trace)) }
 {
-    let Judgement { messages, checked } = judged(alloc, source, job.file.as_bytes(), job.options)?;
-    let Some(checked) = checked else {
+    let Answered { messages, made } = answer(alloc, job, source, &Preparing)?;
+    let Some(mut prepared) = made else {
         return Ok(Answer {
             messages,
             outcome: None,
             trace,
         });
     };
-    let macros = macros_of(job);
-    let mut prepared: Box<Prepared> = lent_boxed(alloc, checked, source, &macros, job.budget)?;
     let (outcome, trace) = outcome_of(alloc, source, prepared.as_mut(), trace)?;
     Ok(Answer {
         messages,

@@ -1,6 +1,6 @@
 use Rattle.std.proofs.Common.{◌∙◌, ap, sym, map}
 use Rattle.std.specs.Option.{option_map}
-use Rattle.snc.proofs.Answering.{fault_told}
+use Rattle.snc.proofs.AnswerLaws.{fault_told}
 use Rattle.snc.proofs.messages.fault_messages.Goals as goal
 
 pub returns : goal.returns

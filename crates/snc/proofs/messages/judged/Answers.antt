@@ -1,4 +1,4 @@
-use Rattle.snc.proofs.Answering.{has_fault, has_tokens, judged_fault, judged_tokens, tree_of}
+use Rattle.snc.proofs.AnswerLaws.{has_fault, has_tokens, judged_fault, judged_tokens, tree_of}
 use Rattle.snc.proofs.messages.judged.Goals as goal
 
 pub returns-in_ok-found-in-Ok-clause-judged : goal.returns-in_ok-found-in-Ok-clause-judged

@@ -1,4 +1,4 @@
-use Rattle.snc.proofs.Answering.{names_cut}
+use Rattle.snc.proofs.AnswerLaws.{names_cut}
 use Rattle.snc.proofs.messages.marked_names.Goals as goal
 
 pub returns-in-Ok : goal.returns-in-Ok

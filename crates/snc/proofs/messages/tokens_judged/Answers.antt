@@ -2,7 +2,7 @@ use Rattle.std.proofs.Common.{◌≡◌, ◌<◌, ap, sym, subst, map, length, s
 use Rattle.snl_syntax.specs.view.Programs.{program_view}
 use Rattle.snc.specs.Judging.{syntax_error}
 use Rattle.snc.specs.Texts.{messages_text}
-use Rattle.snc.proofs.Answering.{told_deep, told_program, told_stuck, tree_of}
+use Rattle.snc.proofs.AnswerLaws.{told_deep, told_program, told_stuck, tree_of}
 use Rattle.snc.proofs.messages.tokens_judged.Goals as goal
 
 pub returns-in_ok-found-in-Ok-clause-told : goal.returns-in_ok-found-in-Ok-clause-told

@@ -1,7 +1,7 @@
 use Rattle.std.proofs.Common.{◌≡◌, ◌∙◌, ◌++◌, map}
 use Rattle.snl_messages.specs.Messages.{said}
 use Rattle.snc.specs.Texts.{messages_text}
-use Rattle.snc.proofs.Answering.{boxed_options, told_held}
+use Rattle.snc.proofs.AnswerLaws.{boxed_options, told_held}
 use Rattle.snc.proofs.messages.tree_judged.Goals as goal
 
 pub returns-clause-told : goal.returns-clause-told

@@ -1,21 +1,19 @@
-use Rattle.std.proofs.Common.{◌∙◌, ap, sym, subst, List, ℕ, if◌then◌else◌, string_bytes}
-use Rattle.snc.specs.declared.jobs.Status.{Status}
-use Rattle.snc.specs.declared.jobs.Status.TheVariants.{Well, SourceErrors}
-use Rattle.snc.specs.Judging.{IsJudged}
-use Rattle.snc.specs.Outcomes.{IsReport}
-use Rattle.snc.proofs.Answering.{reported, tree_of}
+use Rattle.std.proofs.Common.{◌≡◌, None, Some, refl, string_bytes}
+use Rattle.snc.proofs.AnswerLaws.{report_refused, reported}
 use Rattle.snc.proofs.reports.report.Goals as goal
 
-pub returns : goal.returns
-returns c =
-    let source = c.args.source.now in
-    let given = c.args.job.now.options in
-    let asked = c.args.job.now.tables in
-    let found = c.in_ok-found.found in
-    let text = found.messages.items in
-    let shown = c.in_ok-tables.tables.items in
-    let word = string_bytes c.args.job.now.file in
-    let judged : IsJudged given word source text (tree_of found.checked) =
-    subst (λ (w : List ℕ). IsJudged given w source text (tree_of found.checked)) c.as_bytes.ensures.value c.in_ok-found.ensures.judged in
-    subst (λ (s : Status). IsReport given asked word source text shown s) (sym (c.source_status-status.ensures ∙ ap (λ b. if b then Well else SourceErrors) c.is_some.ensures))
-    (reported given asked word source text shown found.checked judged c.in_ok-tables.ensures)
+-- it has no error
+pub returns-in-Some : goal.returns-in-Some
+returns-in-Some c =
+    let found = c.in_ok-messages.field-0 in
+    let some : found.made ≡ Some c.in-Some.tables = cc in
+    reported (λ t. t.items) c.args.job.now.options c.args.job.now.tables (string_bytes c.args.job.now.file) c.args.source.now found.messages.items c.in-Some.tables.items
+    found.made c.in-Some.tables some c.in_ok-messages.ensures refl
+
+-- it has an error
+pub returns-in-None : goal.returns-in-None
+returns-in-None c =
+    let found = c.in_ok-messages.field-0 in
+    let none : found.made ≡ None = cc in
+    report_refused (λ t. t.items) c.args.job.now.options c.args.job.now.tables (string_bytes c.args.job.now.file) c.args.source.now found.messages.items c.new.result.items
+    found.made none c.in_ok-messages.ensures c.new.ensures.items

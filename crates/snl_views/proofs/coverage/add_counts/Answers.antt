@@ -1,4 +1,4 @@
-use Rattle.std.proofs.Common.{◌++◌, ◌∙◌, ap, arith, drop, length, sym, take}
+use Rattle.std.proofs.Common.{◌++◌, ◌∙◌, ap, arith, drop, sym, take}
 use Rattle.std.proofs.lemmas.List.{drop_all, take-append-drop}
 use Rattle.snl_views.specs.Coverage.{both}
 use Rattle.snl_views.proofs.Counting.{both-none}

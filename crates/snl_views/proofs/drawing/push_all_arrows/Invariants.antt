@@ -1,4 +1,4 @@
-use Rattle.std.proofs.Common.{◌≡◌, ◌++◌, drop, map}
+use Rattle.std.proofs.Common.{◌≡◌, ◌++◌, drop}
 use Rattle.std.specs.List.{flat_map}
 use Rattle.snl_views.specs.Pictures.{arrows_from}
 use Rattle.snl_views.proofs.drawing.push_all_arrows.Given as goal

@@ -1,4 +1,4 @@
-use Rattle.std.proofs.Common.{◌≡◌, ◌++◌, drop, map}
+use Rattle.std.proofs.Common.{◌≡◌, ◌++◌, drop}
 use Rattle.snl_views.specs.Pictures.{node_lines}
 use Rattle.snl_views.proofs.drawing.push_nodes.Given as goal
 

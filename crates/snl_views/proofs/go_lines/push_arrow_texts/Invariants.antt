@@ -1,4 +1,4 @@
-use Rattle.std.proofs.Common.{◌≡◌, ◌++◌, drop, map}
+use Rattle.std.proofs.Common.{◌≡◌, ◌++◌, drop}
 use Rattle.snl_views.specs.Shapes.{arrow_texts, bytes_of, charted_arrows}
 use Rattle.snl_views.proofs.go_lines.push_arrow_texts.Given as goal
 

@@ -1,5 +1,6 @@
-use Rattle.std.proofs.Common.{◌≡◌, ◌∙◌, [], ap, subst}
+use Rattle.std.proofs.Common.{◌∙◌, [], ap, subst}
 use Rattle.snl_syntax.specs.view.Programs.{program_view}
+use Rattle.snc.specs.Answered.{macros_in}
 use Rattle.snl_channels.specs.Links.{links}
 use Rattle.snl_machine.specs.declared.machine.Machine.{Machine}
 use Rattle.snl_machine.specs.MachineOf.{world_held}
@@ -13,7 +14,7 @@ use Rattle.snl_views.proofs.launching.runner_by.Goals as goal
 pub returns : goal.returns
 returns c =
     let whole = program_view c.args.checked.now.program in
-    let ls = links whole c.args.macros.now.text.now in
+    let ls = links whole (macros_in c.args.job.now) in
     let machine = c.in_ok-machine.machine.value in
     let loaded = c.in_ok-machine.ensures in
     let can : CanBeIn whole ls machine.code _ = record { world_is = loaded.made.world_is; reached = loaded.made.reached } in

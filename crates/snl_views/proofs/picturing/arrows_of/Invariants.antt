@@ -1,4 +1,4 @@
-use Rattle.std.proofs.Common.{◌≡◌, ◌++◌, drop, map}
+use Rattle.std.proofs.Common.{◌≡◌, ◌++◌, drop}
 use Rattle.snl_views.specs.Pictures.{pictured_arrows}
 use Rattle.snl_views.specs.Shapes.{charted_arrows}
 use Rattle.snl_views.proofs.picturing.arrows_of.Given as goal

@@ -1,4 +1,4 @@
-use Rattle.std.proofs.Common.{◌≡◌, ◌∙◌, ap, map, subst, sym, ℕ, List, [], Option, Some}
+use Rattle.std.proofs.Common.{◌≡◌, ◌∙◌, ap, map, sym, []}
 use Rattle.snl_machine.specs.MachineOf.{task_of, world_held}
 use Rattle.snl_trace.specs.Run.{rules_by}
 use Rattle.snl_trace.specs.RunOver.{standing}

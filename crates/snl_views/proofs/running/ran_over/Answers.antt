@@ -1,4 +1,4 @@
-use Rattle.std.proofs.Common.{◌≡◌, ◌∙◌, ℕ, Bool, List, [], ap, subst, sym}
+use Rattle.std.proofs.Common.{◌∙◌, [], ap, subst, sym}
 use Rattle.snl_machine.specs.MachineOf.{task_of, world_held}
 use Rattle.snl_trace.specs.Run.{rules_by}
 use Rattle.snl_trace.specs.RunOver.{standing}

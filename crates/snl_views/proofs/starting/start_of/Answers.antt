@@ -1,5 +1,4 @@
-use Rattle.std.proofs.Common.{◌≡◌, ◌∙◌, ap, ℕ, List, Some}
-use Rattle.snl_load.specs.Meaning.{program_meaning}
+use Rattle.std.proofs.Common.{◌∙◌, ap, List}
 use Rattle.snl_machine.specs.MachineOf.{IsMachineOf, task_of, world_held}
 use Rattle.snl_meaning.specs.declared.ties.Tied.{Tied}
 use Rattle.snl_views.specs.Awaits.{awaited_in, left_in}

@@ -1,5 +1,5 @@
 -- What the steps answer is what the source means.
-use Rattle.std.proofs.Common.{◌≡◌, ◌<◌, ◌≤◌, ◌↔◌, inl, inr, ℕ, Bool, List, [], ◌∷◌, Option, None, Some, IsSome, IfSome, Box, Global, is_some, if◌then◌else◌, Contains, Result, Ok, Err, length, take, drop, slice_get, true, false, refl, sym, ap, subst, ◌∙◌, arith, zero, suc, lit≤}
+use Rattle.std.proofs.Common.{◌≡◌, ◌<◌, ◌≤◌, ◌↔◌, inl, inr, ℕ, Bool, List, [], ◌∷◌, Option, None, Some, IsSome, IfSome, Box, Global, Contains, Result, Ok, Err, length, take, drop, slice_get, true, false, refl, sym, ap, subst, ◌∙◌, arith, zero, suc, lit≤}
 use Rattle.std.specs.Option.{option_map}
 use Rattle.std.proofs.lemmas.Bool.{false≢true}
 use Rattle.std.proofs.lemmas.List.Elements.{Contains-push}
@@ -28,6 +28,7 @@ use Rattle.snl_messages.specs.Silence.{options_in_force}
 use Rattle.snl_check.specs.declared.checked.Checked.{Checked}
 use Rattle.snl_check.specs.Accepted.{IsAccepted}
 use Rattle.snl_check.specs.Waits.{waits}
+use Rattle.snl_machine.specs.Loading.{IsLoaded}
 use Rattle.snl_machine.specs.declared.machine.Machine.{Machine}
 use Rattle.snl_machine.specs.MachineOf.{Task, world_held}
 use Rattle.snl_meaning.specs.World.{World}
@@ -36,11 +37,12 @@ use Rattle.snl_trace.specs.RunOver.{RunsOn, standing}
 use Rattle.snl_trace.specs.declared.runner.End.{End}
 use Rattle.snc.specs.declared.jobs.Status.TheVariants.{Well, SourceErrors}
 use Rattle.snl_channels.specs.Links.{links}
-use Rattle.snl_channels.specs.Tables.{tables}
+use Rattle.snc.specs.Answered.{IsAnswered, SaysIf}
 use Rattle.snc.specs.Judging.{AreNamesBefore, ReadsNames, HasFault, HasTokens, IsJudged, IsSaidOf, IsTreeSaid, NoErrors, error_at, names_of, nesting_error, syntax_error}
+use Rattle.snl_channels.specs.Tables.{tables}
 use Rattle.snc.specs.Outcomes.{IsReport, IsRunOf, IsSession, at_first, status_of, tables_text}
 use Rattle.snc.specs.Texts.{messages_text}
-use Rattle.snc.specs.ReportSteps.{AreNamesOf, AreTokensTold, IsFaultTold, IsTreeTold, asked_tables}
+use Rattle.snc.specs.ReportSteps.{AreNamesOf, AreTablesOf, AreTokensTold, IsFaultTold, IsTreeTold, asked_tables}
 
 -- an error alone
 lone_error : (messages : List Said) (pos : Pos) (number : ℕ) (text : List ℕ) → messages ≡ error_at pos number text ∷ [] → NoErrors messages → ⊥
@@ -294,43 +296,83 @@ boxed_options given p checked held in_box same are =
     held_options given held (subst (λ (o : Option Checked). IfSome o (λ c. c.options ≡ options_in_force (program_view c.program) given)) (sym in_box)
     (checked_options given p checked same are))
 
+module _ {O : Type 0} (IsRight : ProgramTree → Options → O → Type 0) (given : Options) (word source text : List ℕ) (said : Option O) where
+  -- what is answered of a source with an error
+  pub refused : (checked : Option (Box Checked Global)) → checked ≡ None → IsJudged given word source text (tree_of checked) → said ≡ None →
+      IsAnswered IsRight given word source text said
+  refused checked none w is = record {
+    names = w.names;
+    messages = w.messages;
+    tree = w.tree;
+    finds = w.finds;
+    text_is = w.text_is;
+    says = subst (λ (o : Option O). SaysIf IsRight given w.messages w.tree o) (sym is)
+        (λ h. false≢true (subst (λ o. IsSome (tree_of o)) none (w.accepted.1 h)));
+  }
+
+  -- and of a program that is accepted
+  pub accepted : (checked : Option (Box Checked Global)) (c : Box Checked Global) (o : O) → checked ≡ Some c → IsJudged given word source text (tree_of checked) →
+      c.value.options ≡ options_in_force (program_view c.value.program) given → IsRight (program_view c.value.program) c.value.options o → said ≡ Some o →
+      IsAnswered IsRight given word source text said
+  accepted checked c o some w are right is =
+      let v = subst (λ o. IsJudged given word source text (tree_of o)) some w in
+      let whole = program_view c.value.program in
+      record {
+        names = v.names;
+        messages = v.messages;
+        tree = v.tree;
+        finds = v.finds;
+        text_is = v.text_is;
+        says = subst (λ (x : Option O). SaysIf IsRight given v.messages v.tree x) (sym is)
+            (v.accepted.0 refl, (whole, (v.same, subst (λ options. IsRight whole options o) are right)));
+      }
+
 -- a tree that is given is the one that was found
-same_some : (tree : Option ProgramTree) (p : ProgramTree) (asked : Bool) → tree ≡ Some p → asked_tables asked (Some p) ≡ tables_text asked Well tree
+same_some : (tree : Option ProgramTree) (p : ProgramTree) (asked : Bool) → tree ≡ Some p → asked_tables asked p ≡ tables_text asked Well tree
 same_some tree p true e = ap (λ t. tables_text true Well t) (sym e)
 same_some tree p false e = refl
 
--- the tables that are asked for, of a checked program that is there
-pub asked_are : (asked : Bool) (checked : Option (Box Checked Global)) (c : Box Checked Global) (text : List ℕ) → asked ≡ true → checked ≡ Some c → text ≡ tables (program_view c.value.program)
-    → text ≡ asked_tables asked (tree_of checked)
-asked_are asked checked c text ea ec et = et ∙ (λ i. asked_tables (sym ea i) (tree_of (sym ec i)))
+-- the tables that are asked for, of a program that is lent
+pub asked_are : (asked : Bool) (p q : Program) (text : List ℕ) → asked ≡ true → q ≡ p → text ≡ tables (program_view q) → AreTablesOf asked (program_view p) text
+asked_are asked p q text ea same is = is ∙ ap (λ r. tables (program_view r)) same ∙ ap (λ (b : Bool). asked_tables b (program_view p)) (sym ea)
 
--- no tables are asked for, or there are none
-no_tables : (asked : Bool) (tree : Option ProgramTree) → asked_tables asked None ≡ tables_text asked SourceErrors tree
+-- there are no tables with an error
+no_tables : (asked : Bool) (tree : Option ProgramTree) → [] ≡ tables_text asked SourceErrors tree
 no_tables true None = refl
 no_tables true (Some p) = refl
 no_tables false tree = refl
 
--- what `report` answers
-pub reported : (given : Options) (asked : Bool) (word source text shown : List ℕ) (checked : Option (Box Checked Global)) → IsJudged given word source text (tree_of checked)
-    → shown ≡ asked_tables asked (tree_of checked) → IsReport given asked word source text shown (if is_some checked then Well else SourceErrors)
-reported given asked word source text shown None w e = record {
-  names = w.names;
-  messages = w.messages;
-  tree = w.tree;
-  finds = w.finds;
-  text_is = w.text_is;
-  status_is = λ none. false≢true (w.accepted.1 none);
-  shown_is = e ∙ no_tables asked w.tree;
-}
-reported given asked word source text shown (Some c) w e = record {
-  names = w.names;
-  messages = w.messages;
-  tree = w.tree;
-  finds = w.finds;
-  text_is = w.text_is;
-  status_is = w.accepted.0 refl;
-  shown_is = e ∙ same_some w.tree (program_view c.value.program) asked w.same;
-}
+module _ {O : Type 0} (text_of : O → List ℕ) (given : Options) (asked : Bool) (word source text shown : List ℕ) where
+  -- a report on a source with an error
+  pub report_refused : (said : Option O) → said ≡ None → IsAnswered (λ whole options o. AreTablesOf asked whole (text_of o)) given word source text said → shown ≡ [] →
+      IsReport given asked word source text shown SourceErrors
+  report_refused said none w e =
+      let v = subst (λ (o : Option O). IsAnswered (λ whole options x. AreTablesOf asked whole (text_of x)) given word source text o) none w in
+      record {
+        names = v.names;
+        messages = v.messages;
+        tree = v.tree;
+        finds = v.finds;
+        text_is = v.text_is;
+        status_is = v.says;
+        shown_is = e ∙ no_tables asked v.tree;
+      }
+
+  -- and on a program
+  pub reported : (said : Option O) (o : O) → said ≡ Some o → IsAnswered (λ whole options x. AreTablesOf asked whole (text_of x)) given word source text said → shown ≡ text_of o →
+      IsReport given asked word source text shown Well
+  reported said o some w e =
+      let v = subst (λ (o : Option O). IsAnswered (λ whole options x. AreTablesOf asked whole (text_of x)) given word source text o) some w in
+      let whole : ProgramTree = v.says.1.0 in
+      record {
+        names = v.names;
+        messages = v.messages;
+        tree = v.tree;
+        finds = v.finds;
+        text_is = v.text_is;
+        status_is = v.says.0;
+        shown_is = e ∙ v.says.1.1.1 ∙ same_some v.tree whole asked v.says.1.1.0;
+      }
 
 -- a machine that was loaded begins in the first world of its program
 pub ran_first : (m : Machine) (task : Task) (first : World) (budget : ℕ) (end : End) (old new : List ℕ) (ended : Bool) (told told' : Option (List ℕ)) (w : World) → world_held m ≡ first
@@ -338,36 +380,39 @@ pub ran_first : (m : Machine) (task : Task) (first : World) (budget : ℕ) (end 
     → RunsOn (rules_by task budget) end old new ended (at_first first told) w told'
 ran_first m task first budget end old new ended told told' w is ran = subst (λ (v : World). RunsOn (rules_by task budget) end old new ended (at_first v told) w told') is ran
 
+-- the machine that a job has made
+abbrev pub LoadedBy : (macros : List ℕ) (budget : ℕ) → ProgramTree → Options → Box Machine Global → Type 0
+LoadedBy macros budget whole options machine = IsLoaded whole macros (waits options) budget machine.value
+
 module _ {R S : Type 0} (source_gave : R → List ℕ) (source_ended : R → Bool) (source_failures : R → ℕ) (sink_told : S → Option (List ℕ)) (sink_failures : S → ℕ)
     (given : Options) (word macros source text : List ℕ) (budget : ℕ) (trace trace' : R) (sink sink' : S) where
   -- a session on a source with an error
-  pub session_refused : (checked : Option (Box Checked Global)) → checked ≡ None → IsJudged given word source text (tree_of checked) → trace' ≡ trace → sink' ≡ sink
+  pub session_refused : (said : Option (Box Machine Global)) → said ≡ None → IsAnswered (LoadedBy macros budget) given word source text said → trace' ≡ trace → sink' ≡ sink
       → IsSession source_gave source_ended source_failures sink_told sink_failures given word macros source budget trace trace' sink sink' text None SourceErrors
-  session_refused checked none w unread unwritten = record {
-    names = w.names;
-    messages = w.messages;
-    tree = w.tree;
-    finds = w.finds;
-    text_is = w.text_is;
-    goes_on = ((λ h. false≢true (subst (λ o. IsSome (tree_of o)) none (w.accepted.1 h))), refl, unread, unwritten);
-  }
-
-  -- a session that ran the program
-  pub session_ran : (checked : Option (Box Checked Global)) (c : Box Checked Global) (end : End) → checked ≡ Some c → IsJudged given word source text (tree_of checked)
-      → c.value.options ≡ options_in_force (program_view c.value.program) given
-      → IsRunOf source_gave source_ended source_failures sink_told sink_failures (program_view c.value.program) (links (program_view c.value.program) macros)
-      (waits c.value.options) budget trace trace' sink sink' end
-      → IsSession source_gave source_ended source_failures sink_told sink_failures given word macros source budget trace trace' sink sink' text (Some end) (status_of end)
-  session_ran checked c end some w are run =
-      let v = subst (λ o. IsJudged given word source text (tree_of o)) some w in
-      let whole = program_view c.value.program in
-      let under = subst (λ o.
-      IsRunOf source_gave source_ended source_failures sink_told sink_failures whole (links whole macros) (waits o) budget trace trace' sink sink' end) are run in
+  session_refused said none w unread unwritten =
+      let v = subst (λ (o : Option (Box Machine Global)). IsAnswered (LoadedBy macros budget) given word source text o) none w in
       record {
         names = v.names;
         messages = v.messages;
         tree = v.tree;
         finds = v.finds;
         text_is = v.text_is;
-        goes_on = (v.accepted.0 refl, refl, record { whole = whole; tree_is = v.same; run = under });
+        goes_on = (v.says, refl, unread, unwritten);
+      }
+
+  -- a session that ran the program
+  pub session_ran : (said : Option (Box Machine Global)) (m : Box Machine Global) (end : End) → said ≡ Some m → IsAnswered (LoadedBy macros budget) given word source text said
+      → ((whole : ProgramTree) (options : Options) → LoadedBy macros budget whole options m
+      → IsRunOf source_gave source_ended source_failures sink_told sink_failures whole (links whole macros) (waits options) budget trace trace' sink sink' end)
+      → IsSession source_gave source_ended source_failures sink_told sink_failures given word macros source budget trace trace' sink sink' text (Some end) (status_of end)
+  session_ran said m end some w ran =
+      let v = subst (λ (o : Option (Box Machine Global)). IsAnswered (LoadedBy macros budget) given word source text o) some w in
+      let whole : ProgramTree = v.says.1.0 in
+      record {
+        names = v.names;
+        messages = v.messages;
+        tree = v.tree;
+        finds = v.finds;
+        text_is = v.text_is;
+        goes_on = (v.says.0, refl, record { whole = whole; tree_is = v.says.1.1.0; run = ran whole (options_in_force whole given) v.says.1.1.1 });
       }

@@ -1,0 +1,13 @@
+use Rattle.std.proofs.Common.{List, ℕ, subst}
+use Rattle.snl_check.specs.Waits.{waits}
+use Rattle.snl_machine.specs.Loading.{IsLoaded}
+use Rattle.snl_syntax.specs.view.Programs.{program_view}
+use Rattle.snl_views.proofs.preparing.prepared_of.Goals as goal
+
+-- the machine is loaded with the macros of the job
+pub returns : goal.returns
+returns c = record {
+  machine = subst (λ (t : List ℕ). IsLoaded (program_view c.args.checked.now.program) t (waits c.args.checked.now.options) c.args.job.now.budget c.in_ok-machine.machine)
+      c.macros_of-macros.ensures c.in_ok-machine.ensures;
+  waits = c.waits.ensures;
+}
