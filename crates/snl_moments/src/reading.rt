@@ -1,12 +1,13 @@
 //! `moments`: what a program is at some times of a recorded day.
 
-ghost use Rattle.std.specs.Prelude.{◌≡◌, ◌≢◌, ◌+◌, ◌-◌, ◌^◌, ◌<◌, ◌++◌, ◌∷◌, [], All, IfNone, IfOk, IfSome, IsTrue, false, length, true};
+ghost use Rattle.std.specs.Prelude.{◌≡◌, ◌≢◌, ◌+◌, ◌-◌, ◌^◌, ◌<◌, ◌++◌, ◌∷◌, [], All, IfNone, IfOk, IfSome, IsTrue, false, is_none, length, true};
 ghost use Rattle.snl_machine.specs.MachineOf.{world_held};
 ghost use Rattle.snl_meaning.specs.World.{World};
 ghost use Rattle.snl_moments.specs.Loaded.{IsUntold};
-ghost use Rattle.snl_moments.specs.Plans.{AreFrom, AreTold, AsksFor, ClosesPlan, GoesPlanned, kinds, left_of, times_of};
+ghost use Rattle.snl_moments.specs.Plans.{AreFrom, AreTold, AsksFor, ClosesPlan, GoesPlanned, TellsPlan, kinds, left_of, times_of};
 ghost use Rattle.snl_moments.specs.Tells.{AreMoments};
 ghost use Rattle.snl_moments.specs.Walks.{DoesBy, EndsBehind, GoesBy, HasRoom, KeepsTold, MeansAs, Stands, TakesIn, TellsBad};
+ghost use Rattle.snl_output.specs.Devices.{counted};
 ghost use Rattle.snl_trace.specs.Run.{Rules};
 
 use crate::ending::{finish_amid, finish_bad, finish_over, tell_into};
@@ -16,7 +17,7 @@ use crate::times::come_towards;
 use crate::walks::{Asked, Close, Sort};
 use arrayvec::ArrayVec;
 use memchr::memchr;
-use snl_trace::{End, Source, TraceFault};
+use snl_trace::{Source, TraceFault};
 use std::alloc::{AllocError, Global};
 
 /// One byte more than a line may have: with that many it is known to be too long.
@@ -163,34 +164,40 @@ fn end_trace(alloc: Global, walk: &mut Subject, begun: &[u8]) -> Result<Close, A
     }
 }
 
-/// Walks along a trace of which nothing was read, line by line. The only error is that memory ends.
+/// Walks along a trace of which nothing was read, line by line. Answers how the walk closed; None where the trace could not be read on. The
+/// only error is that memory ends.
 fn walk_over<R: Source>(
     alloc: Global,
     walk: &mut Subject,
     trace: &mut R,
-) -> Result<Close, AllocError>
+) -> Result<Option<Close>, AllocError>
     requires trace { R.failures trace.old < 2 ^ 64 - 1 }
     requires fresh { R.gave trace.old ≡ [] }
     ensures walked { IfOk result (λ _. (r : Rules) (first : World) →
         Stands false r first [] [] walk.old →
         AreMoments r first (R.gave trace.new) (R.ended trace.new) walk.new.moments.items) }
-    ensures plan { IfOk result (λ close. ClosesPlan close walk.old walk.new) }
+    ensures plan { IfOk result (λ close. TellsPlan close walk.old walk.new) }
+    ensures source { IfOk result (λ close. R.failures trace.new
+        ≡ counted (is_none close) (R.failures trace.old)) }
 {
     let mut room = [0u8; PIECE];
     let mut begun = Line::new();
     for _reads in 0..u64::MAX {
         match trace.read(&mut room) {
-            Err(_) => return Ok(Close::Ended(End::SourceFailed)),
-            Ok(0) => return end_trace(alloc, walk, begun.as_slice()),
+            Err(_) => return Ok(None),
+            Ok(0) => {
+                let close = end_trace(alloc, walk, begun.as_slice())?;
+                return Ok(Some(close));
+            }
             Ok(count) => {
                 match take_in(alloc, walk, &mut begun, &room[..count])? {
-                    Some(close) => return Ok(close),
+                    Some(close) => return Ok(Some(close)),
                     None => {}
                 }
             }
         }
     }
-    Ok(Close::Ended(End::SourceFailed))
+    Err(AllocError)
 }
 
 /// What is asked for goes into a walk that has not begun. The only error is that memory ends.
@@ -221,18 +228,21 @@ fn ask(walk: &mut Subject, asked: Asked<'_>) -> Result<(), AllocError>
 /// bad, it is kept once more what the program is in front of that line. Or it is kept what the program is where it faults, or behind the
 /// instant in which it came last into a state.
 ///
-/// No more of the trace is read than is needed. The only error is that memory ends, or that there are more moments than stores.
+/// No more of the trace is read than is needed. Answers how the walk closed; None exactly where the trace could not be read on: then the
+/// first times are told. The only error is that memory ends, or that there are more moments than stores.
 pub fn moments<R: Source>(
     alloc: Global,
     walk: &mut Subject,
     asked: Asked<'_>,
     trace: &mut R,
-) -> Result<Close, AllocError>
+) -> Result<Option<Close>, AllocError>
     requires trace { R.failures trace.old < 2 ^ 64 - 1 }
     requires fresh { R.gave trace.old ≡ [] }
     requires untold { IsUntold walk.old }
     ensures told { IfOk result (λ close. IfSome (times_of asked.entry) (λ times.
         AreTold times close (kinds walk.new.moments.items))) }
+    ensures source { IfOk result (λ close. R.failures trace.new
+        ≡ counted (is_none close) (R.failures trace.old)) }
     ensures are { IfOk result (λ _. (r : Rules) → MeansAs r walk.old.machine →
         All (HasRoom (world_held walk.old.machine)) walk.old.spares.items →
         IfSome (times_of asked.entry) (AreFrom (world_held walk.old.machine).time) →

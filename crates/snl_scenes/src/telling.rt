@@ -1,11 +1,12 @@
 //! The moments of a program, as a text.
 
-ghost use Rattle.std.specs.Prelude.{◌≡◌, ◌-◌, ◌^◌, ◌<◌, [], All, IfOk, IfSome};
+ghost use Rattle.std.specs.Prelude.{◌≡◌, ◌-◌, ◌^◌, ◌<◌, [], All, IfOk, IfSome, is_none};
 ghost use Rattle.snl_machine.specs.MachineOf.{world_held};
 ghost use Rattle.snl_moments.specs.Loaded.{IsUntold};
 ghost use Rattle.snl_moments.specs.Plans.{AreFrom, AreTold, kinds, times_of};
 ghost use Rattle.snl_moments.specs.Tells.{AreMoments};
 ghost use Rattle.snl_moments.specs.Walks.{HasRoom, MeansAs};
+ghost use Rattle.snl_output.specs.Devices.{counted};
 ghost use Rattle.snl_trace.specs.Run.{Rules};
 
 use crate::channels::{push_channels, push_puts, push_queues};
@@ -25,8 +26,8 @@ use std::alloc::{AllocError, Global};
 pub struct Answer {
     /// What is told, as lines.
     pub text: Vec<u8>,
-    /// How the walk along the trace ended.
-    pub close: Close,
+    /// How the walk along the trace ended; None where the trace could not be read on.
+    pub close: Option<Close>,
     /// Whether something was told.
     pub is_told: bool,
 }
@@ -139,16 +140,17 @@ fn push_head(out: &mut Vec<u8>, moment: &Moment, is_last: bool) -> Result<(), Al
 }
 
 /// How a run ended, where that is how a walk closed.
-fn end_of(close: Close) -> Option<End> {
+fn end_of(close: Option<Close>) -> Option<End> {
     match close {
-        Close::Ended(end) => Some(end),
-        Close::Told | Close::Over => None,
+        Some(Close::Ended(end)) => Some(end),
+        Some(Close::Told | Close::Over) => None,
+        None => Some(End::SourceFailed),
     }
 }
 
 /// Whether nothing of the trace follows behind a moment.
-fn is_last(scene: &Scene, moment: &Moment, close: Close) -> bool {
-    close == Close::Over && moment.heard.last == scene.subject.heard().last
+fn is_last(scene: &Scene, moment: &Moment, close: Option<Close>) -> bool {
+    close == Some(Close::Over) && moment.heard.last == scene.subject.heard().last
 }
 
 /// Adds a moment.
@@ -157,7 +159,7 @@ fn push_moment<'s>(
     out: &mut Vec<u8>,
     scene: &'s Scene,
     moment: &'s Moment,
-    close: Close,
+    close: Option<Close>,
 ) -> Result<(), AllocError> {
     push_head(out, moment, is_last(scene, moment, close))?;
     push_world(alloc, out, &scene.legend, moment, end_of(close))
@@ -203,7 +205,7 @@ fn text_of(
     alloc: Global,
     scene: &Scene,
     asked: Asked<'_>,
-    close: Close,
+    close: Option<Close>,
 ) -> Result<Vec<u8>, AllocError> {
     let mut out = Vec::new(alloc);
     for (number, moment) in scene.subject.moments().iter().enumerate() {
@@ -231,6 +233,8 @@ pub fn tell_moments<R: Source>(
     requires untold { IsUntold scene.old.subject.value }
     ensures told { IfOk result (λ answer. IfSome (times_of asked.entry) (λ times.
         AreTold times answer.close (kinds scene.new.subject.value.moments.items))) }
+    ensures source { IfOk result (λ answer. R.failures trace.new
+        ≡ counted (is_none answer.close) (R.failures trace.old)) }
     ensures are { IfOk result (λ _. (r : Rules) → MeansAs r scene.old.subject.value.machine →
         All (HasRoom (world_held scene.old.subject.value.machine))
         scene.old.subject.value.spares.items → IfSome (times_of asked.entry)

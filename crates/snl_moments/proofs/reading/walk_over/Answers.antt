@@ -1,7 +1,6 @@
 use Rattle.std.proofs.Common.{◌≡◌, ◌∙◌, ◌<◌, length, refl, arith, true}
-use Rattle.std.proofs.lemmas.Result.{IfOk-weaker}
 use Rattle.snl_moments.proofs.PlanLaws.{closes-source, closes-then, keeps-plan, plan-then}
-use Rattle.snl_moments.proofs.TakeLaws.{under_way-all, under_way-broken, under_way-ended, under_way-ends, under_way-on, under_way-start}
+use Rattle.snl_moments.proofs.TakeLaws.{under_way-broken, under_way-ended, under_way-ends, under_way-on, under_way-start}
 use Rattle.snl_trace.proofs.SourceLaws.{says-end}
 use Rattle.snl_moments.proofs.reading.walk_over.Goals as goal
 
@@ -22,12 +21,12 @@ returns-in-Ok-eq0-clause-walked g c =
     let some : 0 < length c.loop-reads.room = omega (arith, c.loop-reads.invariant.room) in
     let nothing : c.in-Ok-eq0.field-0 ≡ 0 = omega arith in
     let ended : g.R.Source.ended c.read.new.self ≡ true = c.in-Ok-eq0.ensures.ended ∙ says-end c.in-Ok-eq0.field-0 (length c.loop-reads.room) nothing some in
-    IfOk-weaker c.end_trace.result _ _
-    (λ _ h. under_way-ended _ _ c.in-Ok-eq0.field-0 c.read.new.room _ _ _ _ c.end_trace.new.walk c.loop-reads.invariant.way c.in-Ok-eq0.ensures.gave nothing ended (rw c.as_slice.ensures.value at h))
-    c.end_trace.ensures.ends
+    under_way-ended _ _ c.in-Ok-eq0.field-0 c.read.new.room _ _ _ _ c.end_trace.new.walk c.loop-reads.invariant.way c.in-Ok-eq0.ensures.gave nothing ended
+    (rw c.as_slice.ensures.value at c.in_ok-close-in-Ok-eq0.ensures.ends)
 
 pub returns-in-Ok-eq0-clause-plan : goal.returns-in-Ok-eq0-clause-plan
-returns-in-Ok-eq0-clause-plan g c = IfOk-weaker c.end_trace.result _ _ (λ close h. closes-then close _ _ c.end_trace.new.walk c.loop-reads.invariant.plan h) c.end_trace.ensures.plan
+returns-in-Ok-eq0-clause-plan g c =
+    closes-then c.in_ok-close-in-Ok-eq0.close _ _ c.end_trace.new.walk c.loop-reads.invariant.plan c.in_ok-close-in-Ok-eq0.ensures.plan
 
 pub take_in-requires : goal.take_in-requires
 take_in-requires g c = c.loop-reads.invariant.way.plain
@@ -47,9 +46,3 @@ loop-reads-preserved g c = record {
   room = omega (arith, c.read.auto.room, c.loop-reads.invariant.room);
   works = c.in-Ok.ensures.failures ∙ c.loop-reads.invariant.works;
 }
-
-pub returns-clause-walked : goal.returns-clause-walked
-returns-clause-walked g c = under_way-all _ _ _ _ _ c.loop-reads.invariant.way
-
-pub returns-clause-plan : goal.returns-clause-plan
-returns-clause-plan g c = closes-source _ _ c.loop-reads.invariant.plan
