@@ -71,6 +71,8 @@ fn refused(words: &SearchWords, call_has_units: bool) -> Option<&'static str> {
         Some("--out is not taken here: a test writes no file")
     } else if words.cover.is_some() {
         Some("--cover is not taken here: a test writes no file")
+    } else if words.after.is_some() {
+        Some("--after is not taken here: a test starts with first values")
     } else if call_has_units {
         Some("--units is not taken here: values are whole numbers")
     } else {
@@ -171,7 +173,7 @@ fn searched<T: Scouts + Drop>(
     let Word::Search(words) = &*aim.call.word else {
         return Err(wrong_never(rt, name, "it asks for no search"));
     };
-    let wishes = match wishes_over(rt, words, &[], None) {
+    let wishes = match wishes_over(rt, words, &[], None, None) {
         Ok(wishes) => wishes,
         Err(Status::Memory) => return Err(Halt::End(Status::Memory)),
         Err(_) => return Err(unread_like(rt, name)),

@@ -3,11 +3,12 @@
 use crate::units::{wished_lines, wished_values};
 use snc::{Judgement, Status, judged, macros_of};
 use snc_cli::write;
-use snl_args::SearchWords;
+use snl_args::{SearchWords, StopWords};
 use snl_cli::{Asked, part_of, write_suite, write_trace};
 use snl_joins::Part;
 use snl_search::{
-    Bounds, Scouts, SearchAnswer, Verdict, Watches, WishFault, WishedValues, Wishes, search,
+    Bounds, Day, Limits, Scouts, SearchAnswer, Stops, Verdict, Watches, WishFault, WishedValues,
+    Wishes, search, trace_in,
 };
 use snl_units::ChannelUnits;
 use std::alloc::{AllocError, Global};
@@ -130,12 +131,18 @@ pub fn times_of(alloc: Global, times: &Option<Vec<u64>>) -> Result<Option<Vec<u6
     }
 }
 
-/// What the words of a call wish. `like` is the recorded trace that they name.
+/// How many bytes a search may take.
+fn memory_of(words: &SearchWords) -> u64 {
+    u64::from(words.memory).saturating_mul(1_000_000)
+}
+
+/// What the words of a call wish. `like` is the recorded trace that they name, and `day` that in which the search starts.
 fn wishes_of(
     alloc: Global,
     words: &SearchWords,
     wished: Wished,
     like: Option<File>,
+    day: Option<Day>,
     part: Option<Part>,
 ) -> Result<Wishes, AllocError> {
     let Wished {
@@ -147,6 +154,7 @@ fn wishes_of(
         never,
         ends: owned(alloc, words.ends.as_slice())?,
         like,
+        day,
         values,
         firsts,
         gaps: times_of(alloc, &words.gaps)?,
@@ -155,7 +163,7 @@ fn wishes_of(
         bounds: Bounds {
             lines: words.lines as usize,
             worlds: words.worlds as usize,
-            memory: u64::from(words.memory).saturating_mul(1_000_000),
+            memory: memory_of(words),
             covers: words.cover.is_some(),
         },
         budget: words.budget,
@@ -168,36 +176,81 @@ pub fn told_unread(rt: &HostRuntime, name: &str) -> Status {
     Status::InputOutput
 }
 
-/// The recorded trace that the words of a call name, if they do. Where it cannot be opened, the user is told.
-pub fn recorded(rt: &HostRuntime, words: &SearchWords) -> Result<Option<File>, Status> {
-    let Some(name) = &words.like else {
-        return Ok(None);
-    };
-    match File::open(rt, name.as_str()) {
-        Ok(trace) => Ok(Some(trace)),
+/// A recorded trace. Where it cannot be opened, the user is told.
+fn opened(rt: &HostRuntime, name: &str) -> Result<File, Status> {
+    match File::open(rt, name) {
+        Ok(trace) => Ok(trace),
         Err(fault) if fault.kind() == ErrorKind::OutOfMemory => Err(Status::Memory),
-        Err(_) => Err(told_unread(rt, name.as_str())),
+        Err(_) => Err(told_unread(rt, name)),
     }
 }
 
-/// What is wished of a search.
-fn all_wishes(rt: &HostRuntime, asked: Asked, words: &SearchWords) -> Result<Wishes, Status> {
-    let Ok(part) = part_of(rt.alloc(), asked, words) else {
-        return Err(Status::Memory);
-    };
-    wishes_over(rt, words, asked.units, part)
+/// The recorded trace that the words of a call name, if they do. Where it cannot be opened, the user is told.
+pub fn recorded(rt: &HostRuntime, words: &SearchWords) -> Result<Option<File>, Status> {
+    match &words.like {
+        Some(name) => Ok(Some(opened(rt, name.as_str())?)),
+        None => Ok(None),
+    }
 }
 
-/// What is wished of a search over all starts, or over a part of them.
+/// Where a search starts in a recorded day.
+fn stops_of(alloc: Global, words: &StopWords) -> Result<Stops, AllocError> {
+    Ok(match words {
+        StopWords::Every(each) => Stops::Each(*each),
+        StopWords::At(times) => Stops::At(Vec::from_slice(alloc, times.as_slice())?),
+    })
+}
+
+/// The recorded day in which a search starts, if it does in one. Where it cannot be read, the user is told; so where it is more than there
+/// is memory or time for. Then there is a status.
+fn day_in(
+    rt: &HostRuntime,
+    words: &SearchWords,
+    begun: Option<Instant>,
+) -> Result<Option<Day>, u8> {
+    let Some(after) = &words.after else {
+        return Ok(None);
+    };
+    let name = after.trace.as_str();
+    let file = opened(rt, name).map_err(|status| status.code())?;
+    let clock = Clock::new(rt, begun, words.seconds);
+    let mut limits = Limits::new(rt.alloc(), clock, memory_of(words));
+    let trace = match trace_in(rt.alloc(), &file, &mut limits) {
+        Ok(trace) => trace,
+        Err(WishFault::Unread) => return Err(told_unread(rt, name).code()),
+        Err(fault) => return Err(told_fault(rt, words, &fault)),
+    };
+    match stops_of(rt.alloc(), &after.stops) {
+        Ok(stops) => Ok(Some(Day { trace, stops })),
+        Err(_) => Err(Status::Memory.code()),
+    }
+}
+
+/// What is wished of a search that starts in a recorded day, if it starts in one.
+fn all_wishes(
+    rt: &HostRuntime,
+    asked: Asked,
+    words: &SearchWords,
+    day: Option<Day>,
+) -> Result<Wishes, Status> {
+    let trace = day.as_ref().map(|day| day.trace.as_slice());
+    let Ok(part) = part_of(rt.alloc(), asked, words, trace) else {
+        return Err(Status::Memory);
+    };
+    wishes_over(rt, words, asked.units, day, part)
+}
+
+/// What is wished of a search over all starts, or over a part of them; those of channels, or of a recorded day.
 pub fn wishes_over(
     rt: &HostRuntime,
     words: &SearchWords,
     units: &[ChannelUnits],
+    day: Option<Day>,
     part: Option<Part>,
 ) -> Result<Wishes, Status> {
     let wished = wished_in(rt, words, units)?;
     let like = recorded(rt, words)?;
-    wishes_of(rt.alloc(), words, wished, like, part).map_err(|_| Status::Memory)
+    wishes_of(rt.alloc(), words, wished, like, day, part).map_err(|_| Status::Memory)
 }
 
 /// Says what a search answers.
@@ -211,16 +264,22 @@ fn told_answer(rt: &HostRuntime, words: &SearchWords, answer: &SearchAnswer) -> 
     answer.verdict.code()
 }
 
+/// Says that a line of a recorded trace is bad.
+fn told_bad_line(rt: &HostRuntime, name: &str, fault: &WishFault) -> u8 {
+    let _ = eprintln!(rt; "{name}:{fault}");
+    Status::TraceFault.code()
+}
+
 /// Says what is wrong with a wish.
 pub fn told_fault(rt: &HostRuntime, words: &SearchWords, fault: &WishFault) -> u8 {
-    match (fault, &words.like) {
-        (WishFault::Memory, _) => Status::Memory.code(),
-        (WishFault::Unread, Some(name)) => told_unread(rt, name.as_str()).code(),
-        (WishFault::BadLine(_, _), Some(name)) => {
-            let _ = eprintln!(rt; "{name}:{fault}");
-            Status::TraceFault.code()
+    match (fault, &words.like, &words.after) {
+        (WishFault::Memory, _, _) => Status::Memory.code(),
+        (WishFault::Unread, Some(name), _) => told_unread(rt, name.as_str()).code(),
+        (WishFault::BadLine(_, _), Some(name), _) => told_bad_line(rt, name.as_str(), fault),
+        (WishFault::BadDay(_, _), _, Some(after)) => {
+            told_bad_line(rt, after.trace.as_str(), fault)
         }
-        (WishFault::Late | WishFault::Large, _) => {
+        (WishFault::Late | WishFault::Large | WishFault::Long, _, _) => {
             let _ = eprintln!(rt; "snl: {fault}");
             Verdict::Stopped.code()
         }
@@ -240,7 +299,11 @@ fn searched<T: Scouts + Drop>(
     begun: Option<Instant>,
 ) -> u8 {
     let call = asked.call;
-    let wishes = match all_wishes(rt, asked, words) {
+    let day = match day_in(rt, words, begun) {
+        Ok(day) => day,
+        Err(code) => return code,
+    };
+    let wishes = match all_wishes(rt, asked, words, day) {
         Ok(wishes) => wishes,
         Err(status) => return status.code(),
     };

@@ -51,7 +51,7 @@ pub(crate) fn asks_event(words: &[&str]) -> bool {
 }
 
 /// The times in a text; None where a part of it is no time.
-fn times_in(alloc: Global, text: &str) -> Result<Option<Vec<u64>>, AllocError> {
+pub(crate) fn times_in(alloc: Global, text: &str) -> Result<Option<Vec<u64>>, AllocError> {
     let mut times = Vec::new(alloc);
     for word in text.split(',') {
         match word.parse::<u64>() {

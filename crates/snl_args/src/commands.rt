@@ -127,7 +127,7 @@ pub(crate) const OF_SEARCH: [Argument; 12] = [
     Argument {
         name: "gaps",
         takes: Takes::Texts("MS,MS..|all"),
-        help: "Times between lines, in the place of 0; the next wake is always one",
+        help: "Times between lines, in the place of 0; the next wake is one more, with all for ticks alone",
     },
     Argument {
         name: "down",
@@ -183,6 +183,25 @@ pub(crate) const OF_SEARCH: [Argument; 12] = [
         name: "out",
         takes: Takes::Text("FILE"),
         help: "Where the trace of what was found goes",
+    },
+];
+
+/// What `search` takes of a recorded day.
+pub(crate) const OF_DAY: [Argument; 3] = [
+    Argument {
+        name: "after",
+        takes: Takes::Text("TRACE"),
+        help: "A recorded trace: each start has the first of its lines, in the place of first values",
+    },
+    Argument {
+        name: "every",
+        takes: Takes::Text("N"),
+        help: "A start after each Nth line of it; without this after each line",
+    },
+    Argument {
+        name: "at",
+        takes: Takes::Text("MS,MS.."),
+        help: "A start at each of these times of it, all wakes up to then done",
     },
 ];
 

@@ -7,7 +7,7 @@ use crate::ats::{OF_AT, OF_AT_EVENT, asks_event};
 use crate::calls::{CallFault, matches_in};
 use crate::checks::OF_CHECK;
 use crate::commands::{
-    OF_ANSWERS, OF_COVER, OF_GRAPH, OF_RULES, OF_RUN, OF_SEARCH, OF_SETS, OF_WAITS,
+    OF_ANSWERS, OF_COVER, OF_DAY, OF_GRAPH, OF_RULES, OF_RUN, OF_SEARCH, OF_SETS, OF_WAITS,
 };
 use crate::joins::OF_JOIN;
 use crate::sames::{OF_SAME, OF_SAME_SEARCH};
@@ -82,7 +82,7 @@ static GRAPH: Synopsis = Synopsis {
 
 static SEARCH: Synopsis = Synopsis {
     texts: texts::SEARCH,
-    arguments: &[&OF_PROGRAM, &OF_RULES, &OF_SEARCH, &OF_ANSWERS],
+    arguments: &[&OF_PROGRAM, &OF_RULES, &OF_SEARCH, &OF_DAY, &OF_ANSWERS],
 };
 
 static JOIN: Synopsis = Synopsis {

@@ -4,6 +4,7 @@
 //! stand. The first word of the rest says what is asked for; `clap` reads what follows it.
 #![tactic(auto)]
 
+mod afters;
 mod arguments;
 mod ats;
 mod calls;
@@ -23,6 +24,7 @@ mod texts;
 mod traces;
 mod words;
 
+pub use afters::{AfterWords, StopWords};
 pub use ats::AtWords;
 pub use calls::{Call, CallFault, read_call};
 pub use checks::{CheckWords, Format};

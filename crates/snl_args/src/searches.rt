@@ -1,5 +1,6 @@
 //! What follows the word `search`: what is looked for, over which values, and where the search stops.
 
+use crate::afters::{AfterWords, after_in};
 use crate::calls::CallFault;
 use crate::found::{pushed, text_in, texts_in};
 use clap::ArgMatches;
@@ -35,6 +36,8 @@ pub struct SearchWords {
     pub ends: Vec<String>,
     /// The file of a recorded trace, whose values take the place of those of the source.
     pub like: Option<String>,
+    /// The recorded day in which the search starts, in the place of first values.
+    pub after: Option<AfterWords>,
     /// Values of channels, in the place of those of the source or the trace.
     pub values: Vec<ChannelValues>,
     /// Values at the start.
@@ -254,6 +257,7 @@ fn part_in(alloc: Global, matches: &ArgMatches) -> Result<Option<PartWord>, Call
 /// How traces begin, and what their lines are made of.
 #[derive(Drop)]
 struct Alphabet {
+    after: Option<AfterWords>,
     values: Vec<ChannelValues>,
     firsts: Vec<ChannelValues>,
     gaps: Option<Vec<u64>>,
@@ -264,6 +268,7 @@ struct Alphabet {
 /// How traces begin, and what their lines are made of, as a command found it.
 fn alphabet_in(alloc: Global, matches: &ArgMatches) -> Result<Alphabet, CallFault> {
     Ok(Alphabet {
+        after: after_in(alloc, matches)?,
         values: all_named(alloc, matches, "values")?,
         firsts: all_named(alloc, matches, "first")?,
         gaps: gaps_in(alloc, matches)?,
@@ -315,21 +320,23 @@ fn limits_in(matches: &ArgMatches) -> Limits {
 }
 
 /// What a search with a requirement is asked for that it does not do, if it is asked for such a thing.
-fn unwatched_option(wanted: &Wanted, has_part: bool) -> Option<&'static str> {
+fn unwatched_option(wanted: &Wanted, alphabet: &Alphabet) -> Option<&'static str> {
     if !wanted.ends.is_empty() {
         Some("--never-end")
     } else if wanted.cover.is_some() {
         Some("--cover")
-    } else if has_part {
+    } else if alphabet.part.is_some() {
         Some("--part")
+    } else if alphabet.after.is_some() {
+        Some("--after")
     } else {
         None
     }
 }
 
 /// Sees that a search with a requirement is asked for nothing that it does not do.
-fn check_watched(alloc: Global, wanted: &Wanted, has_part: bool) -> Result<(), CallFault> {
-    let Some(option) = unwatched_option(wanted, has_part) else {
+fn check_watched(alloc: Global, wanted: &Wanted, alphabet: &Alphabet) -> Result<(), CallFault> {
+    let Some(option) = unwatched_option(wanted, alphabet) else {
         return Ok(());
     };
     Err(CallFault::Usage(format!(in alloc;
@@ -347,34 +354,29 @@ fn words_by(watch: Option<Job>, wanted: Wanted, alphabet: Alphabet, limits: Limi
         cover,
     } = wanted;
     let Alphabet {
+        after,
         values,
         firsts,
         gaps,
         part,
         down,
     } = alphabet;
-    let Limits {
-        lines,
-        worlds,
-        memory,
-        seconds,
-        budget,
-    } = limits;
     SearchWords {
         watch,
         never,
         ends,
         like,
+        after,
         values,
         firsts,
         gaps,
         down,
         part,
-        lines,
-        worlds,
-        memory,
-        seconds,
-        budget,
+        lines: limits.lines,
+        worlds: limits.worlds,
+        memory: limits.memory,
+        seconds: limits.seconds,
+        budget: limits.budget,
         out,
         cover,
     }
@@ -389,7 +391,7 @@ pub(crate) fn search_words(
     let alphabet = alphabet_in(alloc, matches)?;
     let wanted = wanted_in(alloc, matches)?;
     if watch.is_some() {
-        check_watched(alloc, &wanted, alphabet.part.is_some())?;
+        check_watched(alloc, &wanted, &alphabet)?;
     }
     Ok(words_by(watch, wanted, alphabet, limits_in(matches)))
 }

@@ -286,7 +286,7 @@ output failed, 4 memory ran out.",
 
 /// What `snl search --help` tells.
 pub(crate) const SEARCH: Texts = Texts {
-    usage: "snl search [±X..] [--watch W] [--never LINE|SS.STATE].. [--never-end TEXT].. [--like TRACE] [--values NAME=V,V..].. \
+    usage: "snl search [±X..] [--watch W] [--never LINE|SS.STATE].. [--never-end TEXT].. [--like TRACE] [--after TRACE [--every N|--at MS,MS..]] [--values NAME=V,V..].. \
      [--first NAME=V].. [--units FILE] [--gaps MS,MS..|all] [--down NAME].. [--lines K] [--worlds N] [--memory MB] [--seconds S] [--budget N] [--out FILE] [--cover DIR] \
      [--part I/N] FILE [MACROS]",
     about: "\
@@ -301,6 +301,9 @@ With --units FILE a value of --never, --values and --first is one of the control
 one that is no whole number of a trace then is refused. The answer has the numbers of a trace.
 
 With --watch W each trace runs beside the requirement W, as in snl run --watch, and --never names a state of W that may not come to be.
+
+With --after TRACE the search starts in a recorded day: each start has the first lines of TRACE, in the place of first values.
+There is one after each line, with --every N after each Nth, with --at MS,MS.. at these times.
 
 With --part I/N the search goes over each Nth start alone, from the Ith on, and says so: N jobs share it, and
 snl search --join ANSWER.. joins their answers.

@@ -38,13 +38,13 @@ pub fn words_of(alloc: Global, asked: Asked) -> Result<String, AllocError> {
 }
 
 /// The first line of a file of counts of the program of a call, that depend on some words.
-pub fn head_of(alloc: Global, asked: Asked, words: &str) -> Result<Head, AllocError> {
+pub fn head_of(alloc: Global, asked: Asked, words: &[u8]) -> Result<Head, AllocError> {
     let macros = match &asked.call.job.macros {
         Some(macros) => macros.as_bytes(),
         None => b"",
     };
     let subject = Subject {
-        words: words.as_bytes(),
+        words,
         macros,
         source: asked.source,
     };
@@ -54,7 +54,7 @@ pub fn head_of(alloc: Global, asked: Asked, words: &str) -> Result<Head, AllocEr
 /// The first line of the files that tell counts of the program of a call.
 fn own_head(alloc: Global, asked: Asked) -> Result<Head, AllocError> {
     let words = words_of(alloc, asked)?;
-    head_of(alloc, asked, words.as_str())
+    head_of(alloc, asked, words.as_bytes())
 }
 
 /// Adds the counts in a file, whose first line has to be this one, to those of a program that ran.

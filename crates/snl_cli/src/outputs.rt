@@ -18,6 +18,8 @@ enum Guard {
     Program,
     /// It is the recorded trace.
     Like,
+    /// It is the day in which the search starts.
+    After,
     /// Its first line is not that of a trace that is written here.
     Foreign,
 }
@@ -27,6 +29,7 @@ fn text_of(guard: Guard) -> &'static str {
     match guard {
         Guard::Program => "is the program",
         Guard::Like => "is the trace of --like",
+        Guard::After => "is the trace of --after",
         Guard::Foreign => "was not written by snl search",
     }
 }
@@ -58,6 +61,11 @@ fn guard_of(rt: &HostRuntime, call: &Call, words: &SearchWords, path: &str) -> O
     if let Some(like) = &words.like {
         if is_same(rt, path, like.as_str()) {
             return Some(Guard::Like);
+        }
+    }
+    if let Some(after) = &words.after {
+        if is_same(rt, path, after.trace.as_str()) {
+            return Some(Guard::After);
         }
     }
     match is_ours(rt, path) {

@@ -47,7 +47,7 @@ pub fn sought<T: Scouts + Drop, W: Watches + Drop>(
 ) -> Result<SearchTrial, WishFault>
     ensures shown { IfOk result (λ t. IsTrue t.is_right → IsSomeAnd t.none (λ some.
         IsShown (T.scouted checked.value (unwrap_or (option_map string_bytes job.now.macros) [])
-        job.now.budget) wishes.now.part (map string_bytes wishes.now.never.items)
+        job.now.budget) wishes.now.part wishes.now.day (map string_bytes wishes.now.never.items)
         (map string_bytes wishes.now.ends.items) t.text.items some)) }
     ensures reaches { IfOk result (λ t. IsTrue t.is_right → IsSomeAnd t.none (λ some.
         Reaches is_ever wishes.now.bounds.lines some.bound)) }

@@ -11,7 +11,7 @@ pub returns-clause-shown : goal.returns-clause-shown
 returns-clause-shown g c is_right =
     let answer = c.in_ok-answer.answer in
     let Of : List ℕ → Searched → Type 0 = λ macros.
-    IsShown (g.T.Scouts.scouted c.args.checked.value macros c.args.job.now.budget) c.args.wishes.now.part
+    IsShown (g.T.Scouts.scouted c.args.checked.value macros c.args.job.now.budget) c.args.wishes.now.part c.args.wishes.now.day
     (map string_bytes c.args.wishes.now.never.items) (map string_bytes c.args.wishes.now.ends.items) answer.text.items in
     subst (λ (macros : List ℕ). IsSomeAnd answer.none (Of macros)) c.macros_of-macros.ensures
     (shown-there (Of c.macros_of-macros.result.text.now) answer.none c.args.wishes.now.bounds.lines c.in_ok-answer.ensures.none
