@@ -49,7 +49,10 @@ def cases():
     yield Bound("snl search: --seconds holds while worlds are reached and checked", lambda *it: ends(*it, COUNTERS, 4, "--lines", "99"))
     yield Bound("snl search: --seconds cuts a line that runs past too many wakes", lambda *it: ends(*it, WAKING, 1, "--gaps", "1000000000000"))
     yield Bound("snl search: --seconds holds while a recorded trace is read", endless)
+    yield Bound("snl search: --seconds holds while a day is read in which it starts", endless_day)
+    yield Bound("snl search: --seconds holds while it goes to the starts of a long day", long_day)
     yield Bound("snl search: --memory holds", memory, of_memory=True)
+    yield Bound("snl search: --memory holds for the lines of a day", day_memory, of_memory=True)
 
 
 def searched(programs, folder, source, words, stdin=subprocess.DEVNULL):
@@ -78,6 +81,45 @@ def endless(programs, folder):
     if (out, said, status) != ("", wanted, 7):
         return f"status {status}, {out!r}, {said!r}"
     return "" if took < 1 + SLACK else f"{took:.1f} seconds, and 1 was said"
+
+
+def endless_day(programs, folder):
+    """Nor is a day; its bytes may take a quarter of the memory."""
+    with subprocess.Popen(["yes", "0 tick"], stdout=subprocess.PIPE) as lines:
+        out, said, status, took = searched(programs, folder, WAKING, ["--seconds", "1", "--memory", "8", "--after", "/dev/stdin"], lines.stdout)
+        lines.kill()
+    if (out, said, status) != ("", "snl: not all was seen: the lines of the trace take more memory than there may be\n", 7):
+        return f"status {status}, {out!r}, {said!r}"
+    return "" if took < 1 + SLACK else f"{took:.1f} seconds, and 1 was said"
+
+
+def day_of(folder, lines):
+    """A day of so many lines."""
+    (folder / "day.trace").write_text("0 up X\n0 up Y\n0 val X 0\n" + "".join(f"{it} val Y {it % 9}\n" for it in range(lines - 3)))
+
+
+def long_day(programs, folder):
+    """Of ten thousand lines not all starts are reached in a second, and their lines do not fit into the memory: both are said."""
+    day_of(folder, 10_000)
+    out, said, status, took = searched(programs, folder, COUNTERS, ["--seconds", "1", "--after", "day.trace"])
+    note = "\nnote: nothing can be certified: the lines of the starts take more than the memory\n"
+    if (said, status) != ("", 7) or note not in out or "\nnot all was seen: nothing found in " not in out:
+        return f"status {status}, {out!r}, {said!r}"
+    return "" if took < 1 + SLACK else f"{took:.1f} seconds, and 1 was said"
+
+
+def day_memory(programs, folder):
+    """A day, its starts and what is certified of them take no more than a tenth more than was said."""
+    (folder / "p.st").write_text(COUNTERS)
+    for lines, megabytes, wanted in (80, 40, "none up to 1 line ("), (400, 40, "nothing found in "):
+        day_of(folder, lines)
+        words = ["search", "--memory", str(megabytes), "--lines", "1", "--after", "day.trace", "p.st"]
+        ran = peak([programs["snl"], *words], folder, subprocess.DEVNULL)
+        if not ran.last.startswith(wanted):
+            return f"status {ran.status}, {ran.last!r}"
+        if ran.kilobytes > megabytes * 1_100 + ITSELF:
+            return f"{ran.kilobytes} kilobytes, and {megabytes} megabytes were said"
+    return ""
 
 
 def memory(programs, folder):

@@ -94,6 +94,13 @@ WORDS = (
     Word("snl", ["graph", "p.st"], r'digraph "p" .*"s.a" -> "s.b" \[label="1: x > 1\\n2x"\];.*"s.b" -> "s.a" \[label="1: x < 1\\n1x"\];.*\}\n', ("", "", 3), ("", "")),
     Word("snl", ["trace", "-"], re.escape(DAY + "4000 val X 5\n"), (DAY, UNREAD_LOG, 3), ("", UNREAD_LOG), "lines: 5; values: 5, 5 written\n", LOG),
     Word("snl", ["search", "--lines", "1", "--like", "/dev/stdin", "p.st"], r"starts: 1; X 0\n.*none up to 1 line .*\n", None, ("", SAID)),
+    Word(
+        "snl",
+        ["search", "--lines", "1", "--after", "/dev/stdin", "--every", "5", "p.st"],
+        r"starts: 1; after every 5 lines of the trace\n.*none up to 1 line .*\n",
+        None,
+        ("", SAID),
+    ),
 )
 
 

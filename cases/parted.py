@@ -20,6 +20,7 @@ def cases(root):
         ("something was found", found),
         ("no trace of any length", ever),
         ("answers of other searches, and what is none", refused),
+        ("the starts of a recorded day are shared", days),
         ("wrong words", wrong_words),
     ):
         yield Tool(f"parts: {name}", lambda program, folder, check=check: prepared(root, program, folder, check))
@@ -147,6 +148,32 @@ def refused(root, program, folder):
     (folder / "bytes").write_bytes(b"\xff\n")
     wrong.append(differs(join(program, folder, one, "bytes"), (3, "", f"snl: bytes: {FOREIGN}\n")))
     wrong.append(differs(join(program, folder, "gone"), (3, "", "snl: cannot read gone\n")))
+    return first_of(*wrong)
+
+
+def days(root, program, folder):
+    """A search in a recorded day: its parts share the starts. Another trace, or other places of it, is another search."""
+    day = (root / "examples/interlock.trace").read_text()
+    (folder / "day.trace").write_text(day)
+    (folder / "longer.trace").write_text(day + "8600 tick\n")
+    words = "--lines", "1", "--after", "day.trace", "--every", "2"
+    parts = [search(program, folder, f"{it}/3", *words) for it in (1, 2, 3)]
+    begins = "; after every 2 lines of the trace\n"
+    wrong = []
+    for (_, (status, text, said)), count in zip(parts, (4, 3, 3)):
+        first, starts, *_ = text.splitlines(keepends=True)
+        wrong.append(differs((status, said), (0, "")))
+        wrong.append(differs(first.split(": ")[1], f"{count} of 10 starts\n"))
+        wrong.append(differs(starts, f"starts: {count}{begins}"))
+    answer = join(program, folder, *(name for name, _ in parts))
+    wrong.append(differs((answer[0], answer[1].splitlines()[-1]), (0, "none up to 1 line, by the answers of 3 jobs")))
+    wrong.append("" if f"\nstarts: 10{begins}" in answer[1] else f"the answer is {answer[1]!r}")
+    for other in (("--every", "3"), ("--at", "2000,4000,8000")):
+        name = "other.txt"
+        (folder / name).write_text(called(program, folder, "search", "--part", "2/3", "--lines", "1", "--after", "day.trace", *other, "p.st")[1])
+        wrong.append(differs(join(program, folder, parts[0][0], name), (3, "", f"snl: {name}: {OTHER}\n")))
+    (folder / "other.txt").write_text(called(program, folder, "search", "--part", "2/3", "--lines", "1", "--after", "longer.trace", "--every", "2", "p.st")[1])
+    wrong.append(differs(join(program, folder, parts[0][0], "other.txt"), (3, "", f"snl: other.txt: {OTHER}\n")))
     return first_of(*wrong)
 
 

@@ -278,6 +278,7 @@ def nevers():
         ("ever\n--out found\n", "--out is not taken here: a test writes no file"),
         ("ever\n--cover found\n", "--cover is not taken here: a test writes no file"),
         ("ever\n--watch light.st\n", "--watch is not taken here: a requirement is NAME.watch.st"),
+        ("ever\n--after light.trace\n", "--after is not taken here: a test starts with first values"),
         ("ever\n--units light.units\n", "--units is not taken here: values are whole numbers"),
         ("ever\n--frist V=0\n", "unexpected argument '--frist' found"),
     ):

@@ -49,6 +49,7 @@ def cases(root):
         yield Tool(f"snl search --cover: {name}, as snl cover says of the traces", lambda *it, of=(name, lines): suite(root, *of, *it))
     yield Tool("snl run: MACROS that are the name of a file", file_for_macros)
     yield Tool("snl search --out: which files it writes over", written_over)
+    yield Tool("snl search --after: the trace that it writes has the lines of the day in front", day_in_front)
     yield Tool("snl search --cover: which folders it takes", folders_taken)
     yield Tool("snl search --seconds: it stops, and says how much is certain", seconds)
     yield Tool("snl search: on a terminal it tells how far it has come", far)
@@ -183,9 +184,20 @@ def written_over(program, folder):
         or differs(text.startswith(f"{FIRST}0 up X\n"), True)
         or refused(program, folder, ("--out", "notes"), "was not written by snl search, and is not written over")
         or refused(program, folder, ("--like", "found", "--out", "./found"), "is the trace of --like, and is not written over")
+        or refused(program, folder, ("--after", "found", "--out", "./found"), "is the trace of --after, and is not written over")
         or refused(program, folder, ("--out", "safe.st"), "is the program, and is not written over")
         or differs([Path(folder, it).read_text() for it in ("notes", "found", "safe.st")], ["mine\n", text, SAFE])
     )
+
+
+def day_in_front(program, folder):
+    """A line of a channel that the program does not use is a `tick` there. What `--at` asks for ends with one."""
+    Path(folder, "day.trace").write_text("# a day\n0 up X\n\n0 val X 1\n5 val OTHER 2\n9 val X 0\n")
+    wrong = ""
+    for words, lines in (("--every", "3"), "5 val X 2\n"), (("--at", "7"), "7 tick\n7 val X 2\n"):
+        ran = called(program, folder, "search", "--after", "day.trace", *words, "--never", "s.a", "--out", "found", "p.st")
+        wrong = wrong or differs((ran[0], Path(folder, "found").read_text()), (1, f"{FIRST}0 up X\n0 val X 1\n5 tick\n{lines}"))
+    return wrong
 
 
 def folders_taken(program, folder):
