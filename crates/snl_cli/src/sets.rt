@@ -4,7 +4,7 @@ use crate::asked::Asked;
 use snc::{Answered, Job, Maker, Status, answer};
 use snc_cli::write;
 use snl_check::Checked;
-use snl_outline::{Form, outline_of};
+use snl_outline::{Form, outline_text};
 use std::alloc::{AllocError, Global};
 
 /// Makes a line for each state of a program, in a form.
@@ -23,7 +23,7 @@ impl Maker<Vec<u8>> for Outlines {
         _job: &Job,
         maker: &Self,
     ) -> Result<Vec<u8>, AllocError> {
-        outline_of(alloc, checked.program(), maker.form)
+        outline_text(alloc, checked.program(), maker.form)
     }
 }
 

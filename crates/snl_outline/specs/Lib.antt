@@ -1,2 +1,4 @@
 pub mod Examples
+pub mod Names
 pub mod Outline
+pub mod Shapes

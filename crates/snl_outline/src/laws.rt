@@ -1,4 +1,4 @@
-//! Examples of outlines. Each function is its contract.
+//! Examples of outlines as text. Each function is its contract.
 
 ghost use Rattle.snl_outline.specs.Examples.{OutlineExamples};
 

@@ -1,7 +1,10 @@
-//! The state sets of a program and their states, with the numbers that these have in a run.
+//! The outline of a program: its state sets, their states and where their clauses lead, with the numbers that they have in a run; and
+//! that of states as text.
 #![tactic(auto)]
 
 pub mod laws;
 mod outline;
+mod shapes;
 
-pub use outline::{Form, outline_of};
+pub use outline::{Form, outline_text};
+pub use shapes::{ClauseOutline, ProgramOutline, SetOutline, StateOutline, outline_of};

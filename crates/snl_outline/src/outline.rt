@@ -109,7 +109,7 @@ fn push_sets(sets: &[StateSet], form: Form, out: &mut Vec<u8>) -> Result<(), All
 ///
 /// The states of a state set have the numbers from 0 on; the first is the initial one. The line of a state is that of its name, from
 /// 1 on. The only error is that memory ends.
-pub fn outline_of<'a>(
+pub fn outline_text<'a>(
     alloc: Global,
     program: &Program<'a>,
     form: Form,
