@@ -2,16 +2,11 @@
 use Rattle.std.proofs.Common.{◌≡◌, ◌∙◌, ◌+◌, ◌<◌, ℕ, Bool, true, false, cond, List, [], ◌∷◌, ◌++◌, Option, Some, None, Result, Ok, Err, IfOk, bytes_eq, drop, get_or, length, map, take, refl, ap, sym}
 use Rattle.std.proofs.lemmas.List.{drop_more, drop_all}
 use Rattle.snl_heard.specs.Heard.{entered, entered_in, number_from, number_of}
-use Rattle.snl_heard.specs.Names.{Names}
+use Rattle.snl_outline.specs.Names.{Names}
 
 -- the elements from a place on: the one there, and those behind it
 pub rest-at : {A B : Type 0} (f : A → B) (xs : List A) (i : ℕ) (d : A) → i < length xs → map f (drop i xs) ≡ f (get_or xs i d) ∷ map f (drop (i + 1) xs)
 rest-at f xs i d within = ap (map f) (drop_more xs i d within)
-
--- a function of a list, of what it is seen as
-pub seen-twice : {A B C : Type 0} (f : A → B) (g : B → C) (xs : List A) → map g (map f xs) ≡ map (λ x. g (f x)) xs
-seen-twice f g [] = refl
-seen-twice f g (x ∷ xs) = ap (λ z. g (f x) ∷ z) (seen-twice f g xs)
 
 -- one element more
 pub seen-push : {A B : Type 0} (f : A → B) (xs : List A) (x : A) → map f (xs ++ x ∷ []) ≡ map f xs ++ f x ∷ []

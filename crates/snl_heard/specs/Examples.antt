@@ -1,7 +1,7 @@
 -- What is heard of small runs, and what is written of them.
 use Rattle.std.specs.Prelude.{◌≡◌, ℕ, true, false, List, [], ◌∷◌, codes}
 use Rattle.snl_heard.specs.Heard.{among, heard_of}
-use Rattle.snl_heard.specs.Names.{Names}
+use Rattle.snl_outline.specs.Names.{Names}
 use Rattle.snl_heard.specs.Printed.{run_lines, watch_lines}
 use Rattle.snl_heard.specs.Words.{has_time, kind_of, rest_of, set_of, target_of, time_of}
 

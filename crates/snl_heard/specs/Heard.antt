@@ -1,6 +1,6 @@
 -- What a requirement hears of the lines that a program writes: lines of a trace.
 use Rattle.std.specs.Prelude.{ℕ, ◌+◌, List, [], ◌∷◌, ◌++◌, Option, None, Some, bytes_eq, codes, decimal, map, if◌then◌else◌}
-use Rattle.snl_heard.specs.Names.{Names}
+use Rattle.snl_outline.specs.Names.{Names}
 use Rattle.snl_heard.specs.Words.{has_time, kind_of, rest_of, set_of, target_of, time_of}
 use Rattle.snl_output.specs.Lines.{joined}
 

@@ -1,5 +1,4 @@
 pub mod Words
-pub mod Names
 pub mod Heard
 pub mod Printed
 pub mod Examples

@@ -2,11 +2,11 @@
 
 ghost use Rattle.std.specs.Prelude.{◌≡◌, ◌∷◌, [], IfOk, map};
 ghost use Rattle.snl_heard.specs.Heard as spec;
-ghost use Rattle.snl_heard.specs.Names.{seen};
+ghost use Rattle.snl_outline.specs.Names.{seen};
 
-use crate::names::SetNames;
 use crate::words::{behind, word};
 use itoa::Buffer;
+use snl_outline::SetOutline;
 use snl_output::push_all;
 use std::alloc::{AllocError, Global};
 
@@ -45,11 +45,11 @@ fn alone(alloc: Global, line: Vec<u8>) -> Result<Vec<Vec<u8>>, AllocError>
 }
 
 /// The number of the state of a name in a state set, if it has one.
-fn state_named(names: &SetNames, state: &[u8]) -> Option<usize>
+fn state_named(names: &SetOutline, state: &[u8]) -> Option<usize>
     ensures { result ≡ spec.number_of state.now (seen names.now).states }
 {
-    for (number, name) in names.states.as_slice().iter().enumerate() {
-        if name.as_slice() == state {
+    for (number, one) in names.states.as_slice().iter().enumerate() {
+        if one.name.as_slice() == state {
             return Some(number);
         }
     }
@@ -59,7 +59,7 @@ fn state_named(names: &SetNames, state: &[u8]) -> Option<usize>
 /// The event of a transition into the state of a name; none where the state set has no such state. The only error is that memory ends.
 fn entered_in(
     alloc: Global,
-    names: &SetNames,
+    names: &SetOutline,
     time: &[u8],
     state: &[u8],
 ) -> Result<Vec<Vec<u8>>, AllocError>
@@ -79,7 +79,7 @@ fn entered_in(
 /// The same, with the state set by its name. The only error is that memory ends.
 fn entered(
     alloc: Global,
-    sets: &[SetNames],
+    sets: &[SetOutline],
     time: &[u8],
     named: &[u8],
     state: &[u8],
@@ -96,7 +96,7 @@ fn entered(
 }
 
 /// At the start each state set is in its first state. The only error is that memory ends.
-fn begun(alloc: Global, sets: &[SetNames], time: &[u8]) -> Result<Vec<Vec<u8>>, AllocError>
+fn begun(alloc: Global, sets: &[SetOutline], time: &[u8]) -> Result<Vec<Vec<u8>>, AllocError>
     ensures { IfOk result (λ lines. map (λ line. line.items) lines.items
         ≡ spec.begun (map seen sets.now) time.now) }
 {
@@ -110,7 +110,7 @@ fn begun(alloc: Global, sets: &[SetNames], time: &[u8]) -> Result<Vec<Vec<u8>>, 
 /// What is heard of a line that a program wrote, as lines of a trace at its time: of a put `MS val put:CHANNEL V ..`, of a transition
 /// `MS val state:SET N` with the number of the state, and of the start the same of the first state of each state set. Of other lines
 /// nothing is heard. The only error is that memory ends.
-pub fn heard_of(alloc: Global, sets: &[SetNames], line: &[u8]) -> Result<Vec<Vec<u8>>, AllocError>
+pub fn heard_of(alloc: Global, sets: &[SetOutline], line: &[u8]) -> Result<Vec<Vec<u8>>, AllocError>
     ensures { IfOk result (λ lines. map (λ line. line.items) lines.items
         ≡ spec.heard_of (map seen sets.now) line.now) }
 {

@@ -6,14 +6,12 @@
 
 mod heard;
 pub mod laws;
-mod names;
 mod page;
 mod texts;
 mod words;
 mod writing;
 
 pub use heard::heard_of;
-pub use names::{SetNames, set_names_of};
 pub use page::Page;
 pub use texts::{WATCH, first_line};
 pub use words::{behind, has_time, word};

@@ -2,7 +2,7 @@
 use Rattle.std.proofs.Common.{◌≡◌, ◌∙◌, ℕ, Bool, false, List, [], Option, None, Some, Result, Ok, Err, unwrap_or, refl, ap, sym, subst, append-nil}
 use Rattle.snl_channels.specs.Links.{Link}
 use Rattle.snl_heard.specs.Heard.{among}
-use Rattle.snl_heard.specs.Names.{Names}
+use Rattle.snl_outline.specs.Names.{Names}
 use Rattle.snl_load.specs.Meaning.{program_meaning}
 use Rattle.snl_machine.specs.MachineOf.{IsMachineOf, world_held}
 use Rattle.snl_machine.specs.declared.machine.Machine.{Machine}

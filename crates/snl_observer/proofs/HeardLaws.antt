@@ -1,7 +1,7 @@
 -- Laws of what is heard at a line of the trace.
 use Rattle.std.proofs.Common.{◌≡◌, ◌∙◌, ◌+◌, ℕ, cond, List, [], ◌∷◌, ◌++◌, Option, None, Some, length, refl, ap, sym, arith, add-zero, append_assoc, append-nil}
 use Rattle.snl_heard.specs.Heard.{among, heard_all, heard_of}
-use Rattle.snl_heard.specs.Names.{Names}
+use Rattle.snl_outline.specs.Names.{Names}
 use Rattle.snl_meaning.specs.Keeping.{world_after}
 use Rattle.snl_meaning.specs.Ran.{Ran, Faults, Gives, also, then_do}
 use Rattle.snl_meaning.specs.World.{World}

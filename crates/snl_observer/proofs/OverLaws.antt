@@ -1,6 +1,6 @@
 -- Laws of a program and its requirement over the bytes that a source gives.
 use Rattle.std.proofs.Common.{◌≡◌, ◌∙◌, ◌+◌, ◌<◌, ◌≤◌, ◌^◌, ℕ, Bool, true, false, List, [], ◌++◌, Option, None, Some, length, map, take, refl, ap, sym, subst, arith, append-nil, length-append, length-take}
-use Rattle.snl_heard.specs.Names.{seen}
+use Rattle.snl_outline.specs.Names.{seen}
 use Rattle.snl_machine.specs.MachineOf.{world_held}
 use Rattle.snl_machine.specs.declared.machine.Machine.{Machine}
 use Rattle.snl_observer.proofs.TakingLaws.{right-so-far, taken-none, taken-then, takes-behind}

@@ -1,7 +1,7 @@
 -- Laws of a line of the trace, done by the program, and heard by the requirement.
 use Rattle.std.proofs.Common.{◌≡◌, ◌∙◌, ◌+◌, ◌<◌, ℕ, Bool, true, false, List, [], ◌∷◌, ◌++◌, Option, None, Some, Err, length, refl, ap, sym, subst, arith, append_assoc, append-nil, length-append}
 use Rattle.std.proofs.lemmas.Bool.{lt-ltb}
-use Rattle.snl_heard.specs.Names.{Names}
+use Rattle.snl_outline.specs.Names.{Names}
 use Rattle.snl_machine.specs.MachineOf.{StaysMachineOf, world_held}
 use Rattle.snl_machine.specs.declared.machine.Machine.{Machine}
 use Rattle.snl_meaning.specs.Keeping.{world_after}

@@ -2,7 +2,7 @@
 use Rattle.std.proofs.Common.{◌≡◌, ◌≢◌, ◌∙◌, ◌<◌, ℕ, true, false, List, [], ◌∷◌, ◌++◌, All, Option, None, Some, IsSome, get_or, length, refl, ap, sym, subst, append_assoc, append-nil}
 use Rattle.std.proofs.lemmas.List.Elements.{All-get_or}
 use Rattle.snl_heard.specs.Heard.{among, heard_all, heard_of}
-use Rattle.snl_heard.specs.Names.{Names}
+use Rattle.snl_outline.specs.Names.{Names}
 use Rattle.snl_machine.specs.declared.machine.Machine.{Machine}
 use Rattle.snl_observer.proofs.HeardLaws.{all-append, all-none, all-one, among-back, among-front, before-append, halts-none}
 use Rattle.snl_observer.proofs.LineLaws.{led-more, led-none, led-same, led-then}

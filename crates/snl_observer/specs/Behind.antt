@@ -1,6 +1,6 @@
 -- A program and its requirement that stand behind some lines of a trace.
 use Rattle.std.specs.Prelude.{◌≡◌, ◌+◌, ℕ, Bool, true, false, List, [], ◌∷◌, ◌++◌, Option, None, Some, length, map}
-use Rattle.snl_heard.specs.Names.{Names, seen}
+use Rattle.snl_outline.specs.Names.{Names, seen}
 use Rattle.snl_machine.specs.MachineOf.{world_held}
 use Rattle.snl_machine.specs.declared.machine.Machine.{Machine}
 use Rattle.snl_meaning.specs.Ran.{Gives}

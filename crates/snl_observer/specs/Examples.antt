@@ -1,6 +1,6 @@
 -- What is heard of a run of an interlock over six lines.
 use Rattle.std.specs.Prelude.{◌≡◌, ◌==◌, ℕ, true, List, [], ◌∷◌, None, Some, codes, if◌then◌else◌}
-use Rattle.snl_heard.specs.Names.{Names}
+use Rattle.snl_outline.specs.Names.{Names}
 use Rattle.snl_meaning.specs.Examples.{start}
 use Rattle.snl_meaning.specs.Ran.{Faults, Gives}
 use Rattle.snl_meaning.specs.World.{World}

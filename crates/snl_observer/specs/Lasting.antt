@@ -1,6 +1,6 @@
 -- What no line changes of a program that watches or is watched, and what a requirement does at one line.
 use Rattle.std.specs.Prelude.{◌≡◌, ℕ, Bool, false, List, [], Option, None, Some}
-use Rattle.snl_heard.specs.declared.names.SetNames.{SetNames}
+use Rattle.snl_outline.specs.declared.shapes.SetOutline.{SetOutline}
 use Rattle.snl_heard.specs.Printed.{IsPrinted}
 use Rattle.snl_machine.specs.MachineOf.{Fixed, fixed_of, world_held}
 use Rattle.snl_machine.specs.Snapshots.{lasting_frame}
@@ -14,7 +14,7 @@ use Rattle.snl_observer.specs.declared.programs.Program.{Program}
 pub record Lasting : Type 0 where
   pub fixed : Fixed
   pub frame : Frame
-  pub sets : List SetNames
+  pub sets : List SetOutline
 
 -- That of a program.
 abbrev pub lasting_of : Program → Lasting

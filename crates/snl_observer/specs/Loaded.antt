@@ -3,7 +3,7 @@ use Rattle.std.specs.Prelude.{◌≡◌, ℕ, Bool, List, Box, map}
 use Rattle.std.proofs.Common.{Global}
 use Rattle.snl_channels.specs.Links.{links}
 use Rattle.snl_check.specs.Waits.{waits}
-use Rattle.snl_heard.specs.Names.{names_of, seen}
+use Rattle.snl_outline.specs.Names.{names_of, seen}
 use Rattle.snl_machine.specs.Loading.{IsLoaded}
 use Rattle.snl_machine.specs.MachineOf.{task_of}
 use Rattle.snl_machine.specs.declared.machine.Machine.{Machine}

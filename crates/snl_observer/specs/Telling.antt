@@ -1,7 +1,7 @@
 -- Lines of a program that are written, and that its requirement hears of.
 use Rattle.std.specs.Prelude.{◌≡◌, ℕ, Bool, true, false, List, [], ◌∷◌, ◌++◌, Option, None, Some, IsSome}
 use Rattle.snl_heard.specs.Heard.{heard_all}
-use Rattle.snl_heard.specs.Names.{Names}
+use Rattle.snl_outline.specs.Names.{Names}
 use Rattle.snl_heard.specs.Words.{has_time}
 use Rattle.snl_machine.specs.declared.machine.Machine.{Machine}
 use Rattle.snl_observer.specs.Watching.{Led}

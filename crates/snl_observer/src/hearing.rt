@@ -2,7 +2,7 @@
 
 ghost use Rattle.std.specs.Prelude.{◌≡◌, ◌++◌, ◌∷◌, [], IfNone, IfSome, IsSome, None, false, map, true};
 ghost use Rattle.snl_heard.specs.Heard.{among, heard_all, heard_of};
-ghost use Rattle.snl_heard.specs.Names.{seen};
+ghost use Rattle.snl_outline.specs.Names.{seen};
 ghost use Rattle.snl_observer.specs.Heard.{heard_quiet, heard_told};
 ghost use Rattle.snl_observer.specs.Lasting.{lasting_of};
 ghost use Rattle.snl_observer.specs.Telling.{Adds, EndsIn, Tells, comes_at};
@@ -14,7 +14,8 @@ use crate::doing::{Done, line_done};
 use crate::logs::Log;
 use crate::programs::Program;
 use crate::writing::write_lines;
-use snl_heard::{SetNames, first_line, has_time, heard_of};
+use snl_heard::{first_line, has_time, heard_of};
+use snl_outline::SetOutline;
 use snl_output::Sink;
 
 /// A line of the trace that was done, with its time, and the names of the program's states.
@@ -22,7 +23,7 @@ use snl_output::Sink;
 struct TraceLine<'l> {
     text: &'l [u8],
     ms: u64,
-    sets: &'l [SetNames],
+    sets: &'l [SetOutline],
 }
 
 /// How a requirement stands behind a line, by how its program ended there, and whether all that it wrote was written.
@@ -74,7 +75,7 @@ fn hear<K: Sink>(watch: &mut Program, log: &mut Log<K>, line: &[u8])
 }
 
 /// A requirement hears what there is to be heard of a line that the program wrote. Where memory ends it has ended.
-fn hear_line<K: Sink>(watch: &mut Program, log: &mut Log<K>, sets: &[SetNames], line: &[u8])
+fn hear_line<K: Sink>(watch: &mut Program, log: &mut Log<K>, sets: &[SetOutline], line: &[u8])
     ensures led { Led (heard_of (map seen sets.now) line.now) watch.old.machine
         watch.new.machine log.old.page.watch.bytes log.new.page.watch.bytes log.old.how
         log.new.how }
@@ -92,7 +93,12 @@ fn hear_line<K: Sink>(watch: &mut Program, log: &mut Log<K>, sets: &[SetNames], 
 
 /// Writes a line of the program, and lets the requirement hear what there is to be heard of it. Answers whether the run goes on: the
 /// line was written, and the requirement goes on, or came to its end by itself.
-fn tell_line<K: Sink>(watch: &mut Program, log: &mut Log<K>, sets: &[SetNames], line: &[u8]) -> bool
+fn tell_line<K: Sink>(
+    watch: &mut Program,
+    log: &mut Log<K>,
+    sets: &[SetOutline],
+    line: &[u8],
+) -> bool
     ensures led { Led (heard_of (map seen sets.now) line.now) watch.old.machine
         watch.new.machine log.old.page.watch.bytes log.new.page.watch.bytes log.old.how
         log.new.how }
@@ -130,7 +136,7 @@ fn is_at(until: Option<u64>, line: &[u8]) -> bool
 fn tell_lines<'t, K: Sink>(
     watch: &mut Program,
     log: &mut Log<K>,
-    sets: &[SetNames],
+    sets: &[SetOutline],
     text: &'t [u8],
     until: Option<u64>,
 ) -> Option<&'t [u8]>
@@ -156,7 +162,12 @@ fn tell_lines<'t, K: Sink>(
 }
 
 /// The same of all lines of a text. Answers whether all of it was written.
-fn tell_rest<K: Sink>(watch: &mut Program, log: &mut Log<K>, sets: &[SetNames], text: &[u8]) -> bool
+fn tell_rest<K: Sink>(
+    watch: &mut Program,
+    log: &mut Log<K>,
+    sets: &[SetOutline],
+    text: &[u8],
+) -> bool
     ensures led { Led (heard_all (map seen sets.now) (whole_lines text.now)) watch.old.machine
         watch.new.machine log.old.page.watch.bytes log.new.page.watch.bytes log.old.how
         log.new.how }

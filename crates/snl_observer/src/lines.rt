@@ -1,7 +1,7 @@
 //! One line of a trace, heard by a requirement that goes on, wherever it stands.
 
 ghost use Rattle.std.specs.Prelude.{◌≡◌, ◌-◌, ◌^◌, ◌<◌, ℕ, List, [], IfOk, None, Some, map};
-ghost use Rattle.snl_heard.specs.Names.{seen};
+ghost use Rattle.snl_outline.specs.Names.{seen};
 ghost use Rattle.snl_observer.specs.Heard.{heard_told};
 ghost use Rattle.snl_observer.specs.Lasting.{HearsSo, lasting_of};
 

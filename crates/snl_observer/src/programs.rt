@@ -8,8 +8,8 @@ ghost use Rattle.snl_observer.specs.Lasting.{lasting_of};
 
 use crate::pages::Held;
 use crate::standing::{Place, place_named};
-use snl_heard::SetNames;
 use snl_machine::{Machine, Snapshot};
+use snl_outline::SetOutline;
 use snl_trace::Events;
 
 /// A program that can be watched, or that can watch.
@@ -22,7 +22,7 @@ pub struct Program {
     /// Room for what it hears.
     pub(crate) events: Events,
     /// The names of its states.
-    pub sets: Vec<SetNames>,
+    pub sets: Vec<SetOutline>,
     /// A channel that has a name of those that a requirement hears.
     pub(crate) reserved: Option<Vec<u8>>,
     /// Whether it waits for its channels before it starts.

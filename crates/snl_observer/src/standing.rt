@@ -1,6 +1,7 @@
 //! Where the state sets of a requirement stand, by the lines that it writes.
 
-use snl_heard::{SetNames, behind, word};
+use snl_heard::{behind, word};
+use snl_outline::SetOutline;
 use std::alloc::{AllocError, Global};
 
 /// A state that must not be: the numbers of its state set and of the state.
@@ -29,7 +30,7 @@ struct Hit {
 /// Where the state sets of a requirement stand.
 #[derive(Drop)]
 pub(crate) struct Standing {
-    names: Vec<SetNames>,
+    names: Vec<SetOutline>,
     /// By state set.
     at: Vec<At>,
     has_begun: bool,
@@ -56,17 +57,19 @@ pub(crate) fn ms_of(text: &[u8]) -> u64 {
 }
 
 /// The number of the state set of a name.
-fn set_named(names: &[SetNames], name: &[u8]) -> Option<usize> {
+fn set_named(names: &[SetOutline], name: &[u8]) -> Option<usize> {
     names.iter().position(|set| set.name.as_slice() == name)
 }
 
 /// The number of the state of a name, in a state set.
-fn state_named(set: &SetNames, name: &[u8]) -> Option<usize> {
-    set.states.iter().position(|state| state.as_slice() == name)
+fn state_named(set: &SetOutline, name: &[u8]) -> Option<usize> {
+    set.states
+        .iter()
+        .position(|other| other.name.as_slice() == name)
 }
 
 /// The state of a state set, by their names; None where there is no such.
-pub(crate) fn place_named(names: &[SetNames], set: &[u8], state: &[u8]) -> Option<Place> {
+pub(crate) fn place_named(names: &[SetOutline], set: &[u8], state: &[u8]) -> Option<Place> {
     let number = set_named(names, set)?;
     let state = state_named(names.get(number)?, state)?;
     Some(Place { set: number, state })
@@ -76,7 +79,7 @@ impl Standing {
     /// Nothing has begun. The only error is that memory ends.
     pub(crate) fn new(
         alloc: Global,
-        names: Vec<SetNames>,
+        names: Vec<SetOutline>,
         never: Vec<Place>,
     ) -> Result<Self, AllocError> {
         let at = vec![in alloc; At { state: 0, since: 0 }; names.len()]?;
@@ -112,7 +115,7 @@ impl Standing {
     }
 
     /// Its state sets, and where they stand.
-    pub(crate) fn sets(&self) -> &[SetNames] {
+    pub(crate) fn sets(&self) -> &[SetOutline] {
         self.names.as_slice()
     }
 

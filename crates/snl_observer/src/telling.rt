@@ -3,7 +3,7 @@
 use crate::closes::{Close, Ending};
 use crate::standing::{At, Standing, ms_of};
 use crate::trail::Trail;
-use snl_heard::SetNames;
+use snl_outline::SetOutline;
 use snl_output::{push_all, push_told};
 use snl_trace::End;
 use std::alloc::{AllocError, Global};
@@ -59,9 +59,9 @@ fn push_last(out: &mut Vec<u8>, trail: &Trail) -> Result<(), AllocError> {
 }
 
 /// Adds that a state came to be that must not.
-fn push_never(out: &mut Vec<u8>, told: Told, set: &SetNames, at: At) -> Result<(), AllocError> {
+fn push_never(out: &mut Vec<u8>, told: Told, set: &SetOutline, at: At) -> Result<(), AllocError> {
     let name = match set.states.get(at.state) {
-        Some(name) => name.as_slice(),
+        Some(state) => state.name.as_slice(),
         None => b"",
     };
     push_all(out, &[b"# never: ", set.name.as_slice(), b" is in ", name])?;
@@ -132,7 +132,7 @@ fn push_set(out: &mut Vec<u8>, standing: &Standing, number: usize) -> Result<(),
         return Ok(());
     };
     let name = match set.states.get(at.state) {
-        Some(name) => name.as_slice(),
+        Some(state) => state.name.as_slice(),
         None => b"",
     };
     push_all(

@@ -1,7 +1,7 @@
 use Rattle.std.proofs.Common.{◌≡◌, ◌∙◌, ◌+◌, ◌++◌, ◌∷◌, [], ap, append-nil, append_assoc, drop, map, sym}
 use Rattle.std.proofs.lemmas.List.{drop_all}
 use Rattle.snl_heard.specs.Heard.{begun, state_event}
-use Rattle.snl_heard.specs.Names.{seen}
+use Rattle.snl_outline.specs.Names.{seen}
 use Rattle.snl_heard.proofs.PlaceLaws.{rest-at, seen-push}
 use Rattle.snl_heard.proofs.heard.begun.Goals as goal
 

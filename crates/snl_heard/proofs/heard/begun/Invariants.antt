@@ -1,6 +1,6 @@
 use Rattle.std.proofs.Common.{◌≡◌, ◌++◌, drop, map}
 use Rattle.snl_heard.specs.Heard.{begun}
-use Rattle.snl_heard.specs.Names.{seen}
+use Rattle.snl_outline.specs.Names.{seen}
 use Rattle.snl_heard.proofs.heard.begun.Given as goal
 
 -- the lines so far, and those of the rest, are all

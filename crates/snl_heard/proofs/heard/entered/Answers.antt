@@ -1,7 +1,7 @@
 use Rattle.std.proofs.Common.{◌≡◌, ◌∙◌, ◌+◌, ◌∷◌, [], ℕ, List, ap, bytes_eq, drop, get_or, map, sym, true, false}
 use Rattle.std.proofs.lemmas.List.{drop_all}
 use Rattle.snl_heard.specs.Heard.{entered, entered_in, number_of}
-use Rattle.snl_heard.specs.Names.{seen}
+use Rattle.snl_outline.specs.Names.{seen}
 use Rattle.snl_heard.proofs.PlaceLaws.{entered-here, entered-none, entered-on, if-ok, rest-at}
 use Rattle.snl_heard.proofs.heard.entered.Goals as goal
 

@@ -1,6 +1,6 @@
 use Rattle.std.proofs.Common.{◌≡◌, drop, map}
 use Rattle.snl_heard.specs.Heard.{entered}
-use Rattle.snl_heard.specs.Names.{seen}
+use Rattle.snl_outline.specs.Names.{seen}
 use Rattle.snl_heard.proofs.heard.entered.Given as goal
 
 -- what the rest gives is what all give

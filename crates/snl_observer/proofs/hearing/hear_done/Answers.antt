@@ -1,5 +1,5 @@
 use Rattle.std.proofs.Common.{ap, map}
-use Rattle.snl_heard.specs.Names.{seen}
+use Rattle.snl_outline.specs.Names.{seen}
 use Rattle.snl_observer.proofs.HeardLaws.{told-among, told-quiet}
 use Rattle.snl_observer.proofs.LineLaws.{led-same}
 use Rattle.snl_observer.proofs.hearing.hear_done.Goals as goal

@@ -1,5 +1,5 @@
 use Rattle.std.proofs.Common.{◌≡◌, length, map}
-use Rattle.snl_heard.specs.Names.{seen}
+use Rattle.snl_outline.specs.Names.{seen}
 use Rattle.snl_observer.proofs.TellLaws.{IsWay}
 use Rattle.snl_observer.specs.Lasting.{lasting_of}
 use Rattle.snl_observer.proofs.hearing.tell_lines.Given as goal

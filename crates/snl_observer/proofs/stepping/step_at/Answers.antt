@@ -1,5 +1,5 @@
 use Rattle.std.proofs.Common.{ap, map, refl}
-use Rattle.snl_heard.specs.Names.{seen}
+use Rattle.snl_outline.specs.Names.{seen}
 use Rattle.snl_observer.proofs.StepLaws.{steps-by, steps-not}
 use Rattle.snl_observer.proofs.stepping.step_at.Goals as goal
 
