@@ -13,7 +13,8 @@ use Rattle.snl_meaning.specs.World.{World}
 use Rattle.snl_names.specs.declared.options.Options.{Options}
 use Rattle.snl_views.specs.Coverage.{AreCounts, both}
 use Rattle.snl_views.specs.Runners.{IsRunner}
-use Rattle.snl_views.specs.Shapes.{Shape, charted, go_texts, shape_of}
+use Rattle.snl_outline.specs.Shapes.{Shape, shape_of}
+use Rattle.snl_views.specs.Shapes.{charted, go_texts}
 use Rattle.snl_views.specs.declared.runner.Runner.{Runner}
 use Rattle.snl_views.proofs.Counting.{counts-add-up}
 

@@ -1,7 +1,7 @@
 -- What `graph` draws of a program.
 use Rattle.std.specs.Prelude.{◌≡◌}
 use Rattle.snl_views.specs.Pictures.{drawn, pictured}
-use Rattle.snl_views.specs.Shapes.{Shape}
+use Rattle.snl_outline.specs.Shapes.{Shape}
 use Rattle.snl_views.specs.declared.graphing.Drawing.{Drawing}
 
 -- A picture of a program of some shape: it has that shape, so it shows each state of each state set, and from each state one arrow

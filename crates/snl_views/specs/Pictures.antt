@@ -3,7 +3,7 @@ use Rattle.std.specs.Prelude.{ℕ, suc, ◌==◌, Bool, List, [], ◌∷◌, ◌
 use Rattle.std.specs.List.{flat_map}
 use Rattle.std.specs.Str.{bytes_eq}
 use Rattle.snl_output.specs.Lines.{joined}
-use Rattle.snl_views.specs.Shapes.{Shape, SetShape, StateShape}
+use Rattle.snl_outline.specs.Shapes.{SetShape, Shape, StateShape}
 use Rattle.snl_views.specs.declared.pictures.Arrow.{Arrow}
 use Rattle.snl_views.specs.declared.pictures.Cluster.{Cluster}
 use Rattle.snl_views.specs.declared.pictures.Node.{Node}

@@ -14,7 +14,8 @@ use Rattle.snl_output.specs.TraceLines.{whole_lines}
 use Rattle.snl_trace.specs.declared.runner.End.{End}
 use Rattle.snl_views.specs.Coverage.{AreCounts}
 use Rattle.snl_views.specs.Runs.{RunsWith}
-use Rattle.snl_views.specs.Shapes.{charted, go_texts, shape_of}
+use Rattle.snl_outline.specs.Shapes.{shape_of}
+use Rattle.snl_views.specs.Shapes.{charted, go_texts}
 use Rattle.snl_views.specs.declared.charts.Chart.{Chart}
 use Rattle.snl_views.specs.declared.runner.Runner.{Runner}
 

@@ -4,13 +4,14 @@ ghost use Rattle.std.specs.Prelude.{IfOk};
 ghost use Rattle.snl_syntax.specs.view.Programs.{program_view};
 ghost use Rattle.snl_views.specs.Runners.{IsCharted};
 
-use crate::charts::{Chart, chart_of};
+use crate::charts::Chart;
 use crate::coverage::PutChart;
 use crate::puts::{put_charts, put_names};
 use indexmap::IndexSet;
 use snl_check::Checked;
 use snl_legends::Conditions;
 use snl_links::Link;
+use snl_outline::outline_of;
 use snl_text::lex;
 use std::alloc::{AllocError, Global};
 
@@ -50,37 +51,29 @@ fn declared_puts<'a>(
     Ok(declared)
 }
 
-/// The chart of a checked program that is lent, and where the variables are declared that it puts.
-fn chart_by<'a>(
-    alloc: Global,
-    checked: &Checked<'a>,
-    marks: &Marks,
-) -> Result<(Chart, IndexSet<usize>), AllocError>
-    ensures { IfOk result (λ r. IsCharted (program_view checked.now.program) r.0) }
-{
-    let chart = chart_of(alloc, checked.program(), &marks.conditions)?;
-    let puts = declared_puts(alloc, checked, marks.puts.as_slice())?;
-    Ok((chart, puts))
-}
-
 /// A chart, and the channels that a `pvPut` names.
 #[derive(Drop)]
-pub(crate) struct Outline {
+pub(crate) struct Charted {
     pub chart: Chart,
     pub puts: Vec<PutChart>,
 }
 
 /// The chart of a checked program that is lent, and the channels that it puts, by its links.
-pub(crate) fn outline_of<'a>(
+pub(crate) fn charted_of<'a>(
     alloc: Global,
     checked: &Checked<'a>,
     source: &[u8],
     links: &[Link],
-) -> Result<Outline, AllocError>
+) -> Result<Charted, AllocError>
     ensures { IfOk result (λ o. IsCharted (program_view checked.now.program) o.chart) }
 {
-    let marks = marks_of(alloc, source)?;
-    let (chart, declared) = chart_by(alloc, checked, &marks)?;
+    let Marks { conditions, puts } = marks_of(alloc, source)?;
+    let declared = declared_puts(alloc, checked, puts.as_slice())?;
     let puts = put_charts(alloc, source, links, &declared)?;
-    Ok(Outline { chart, puts })
+    let outline = outline_of(alloc, checked.program())?;
+    let chart = Chart {
+        outline,
+        conditions,
+    };
+    Ok(Charted { chart, puts })
 }

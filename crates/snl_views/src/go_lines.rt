@@ -2,10 +2,12 @@
 
 ghost use Rattle.std.specs.Prelude.{◌≡◌, ◌++◌, IfOk, OnOk};
 ghost use Rattle.std.specs.List.{flat_map};
+ghost use Rattle.snl_outline.specs.Shapes.{outlined_set, outlined_state, targets_in};
 ghost use Rattle.snl_views.specs.Shapes as spec;
 
-use crate::charts::{ArrowChart, Chart, SetChart, StateChart};
+use crate::charts::Chart;
 use snl_names::pushed;
+use snl_outline::{ClauseOutline, SetOutline, StateOutline};
 use snl_output::push_all;
 use std::alloc::{AllocError, Global};
 
@@ -23,11 +25,11 @@ fn push_arrow_texts(
     alloc: Global,
     set: &[u8],
     from: &[u8],
-    arrows: &[ArrowChart],
+    arrows: &[ClauseOutline],
     texts: &mut Vec<Vec<u8>>,
 ) -> Result<(), AllocError>
     ensures { OnOk result (spec.bytes_of texts.new.items ≡ spec.bytes_of texts.old.items
-        ++ spec.arrow_texts set.now from.now (spec.charted_arrows arrows.now)) }
+        ++ spec.arrow_texts set.now from.now (targets_in arrows.now)) }
 {
     for arrow in arrows {
         let text = go_text(alloc, set, from, arrow.target.as_slice())?;
@@ -40,20 +42,24 @@ fn push_arrow_texts(
 fn push_state_texts(
     alloc: Global,
     set: &[u8],
-    state: &StateChart,
+    state: &StateOutline,
     texts: &mut Vec<Vec<u8>>,
 ) -> Result<(), AllocError>
     ensures { OnOk result (spec.bytes_of texts.new.items ≡ spec.bytes_of texts.old.items
-        ++ spec.state_texts set.now (spec.charted_state state.now)) }
+        ++ spec.state_texts set.now (outlined_state state.now)) }
 {
     let from = state.name.as_slice();
-    push_arrow_texts(alloc, set, from, state.arrows.as_slice(), texts)
+    push_arrow_texts(alloc, set, from, state.clauses.as_slice(), texts)
 }
 
 /// Adds those of a state set.
-fn push_set_texts(alloc: Global, set: &SetChart, texts: &mut Vec<Vec<u8>>) -> Result<(), AllocError>
+fn push_set_texts(
+    alloc: Global,
+    set: &SetOutline,
+    texts: &mut Vec<Vec<u8>>,
+) -> Result<(), AllocError>
     ensures { OnOk result (spec.bytes_of texts.new.items ≡ spec.bytes_of texts.old.items
-        ++ spec.set_texts (spec.charted_set set.now)) }
+        ++ spec.set_texts (outlined_set set.now)) }
 {
     for state in set.states.as_slice() {
         push_state_texts(alloc, set.name.as_slice(), state, texts)?;
@@ -67,7 +73,7 @@ pub(crate) fn go_texts(alloc: Global, chart: &Chart) -> Result<Vec<Vec<u8>>, All
         ≡ spec.go_texts (spec.charted chart.now)) }
 {
     let mut texts = Vec::new(alloc);
-    for set in chart.sets.as_slice() {
+    for set in chart.outline.sets.as_slice() {
         push_set_texts(alloc, set, &mut texts)?;
     }
     Ok(texts)

@@ -10,7 +10,7 @@ ghost use Rattle.snl_views.specs.Coverage.{AreCounts};
 ghost use Rattle.snl_views.specs.Runners.{IsBoxedRunner, IsCharted, IsRunner};
 ghost use Rattle.snl_views.specs.Shapes.{charted, go_texts};
 
-use crate::charting::{Outline, outline_of};
+use crate::charting::{Charted, charted_of};
 use crate::coverage::Coverage;
 use crate::runner::Runner;
 use crate::seen::{Seen, unseen};
@@ -34,7 +34,7 @@ fn coverage_of<'a>(
 {
     let macros = macros_of(job);
     let links = links(alloc, checked, &macros)?;
-    let Outline { chart, puts } = outline_of(alloc, checked, source, links.as_slice())?;
+    let Charted { chart, puts } = charted_of(alloc, checked, source, links.as_slice())?;
     let Seen { shown, trail } = unseen(alloc, &chart, puts.as_slice())?;
     Ok(Coverage {
         chart,

@@ -42,7 +42,7 @@ mod waiting;
 mod watching;
 
 pub use awaited::Awaited;
-pub use charts::{ArrowChart, Chart, SetChart, StateChart};
+pub use charts::Chart;
 pub use coverage::{Coverage, PutChart};
 pub use graphing::{Drawing, graph};
 pub use launching::runner_of;

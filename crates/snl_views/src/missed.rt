@@ -1,7 +1,7 @@
 //! What of a program no run showed.
 
-use crate::charts::{SetChart, StateChart};
 use crate::coverage::Coverage;
+use snl_outline::{SetOutline, StateOutline};
 use std::alloc::{AllocError, Global};
 
 /// Something that no run showed.
@@ -64,11 +64,11 @@ fn look_at_clauses(
     coverage: &Coverage,
     set: usize,
     state: usize,
-    chart: &StateChart,
+    chart: &StateOutline,
     first: usize,
     gaps: &mut Gaps,
 ) -> Result<(), AllocError> {
-    for clause in 0..chart.arrows.len() {
+    for clause in 0..chart.clauses.len() {
         let number = first.saturating_add(clause);
         let is_missed = coverage.is_missed(number, coverage.taken(set, state, clause));
         gaps.clauses.count(!is_missed);
@@ -98,7 +98,7 @@ fn look_at_state(
 fn look_at_set(
     coverage: &Coverage,
     set: usize,
-    chart: &SetChart,
+    chart: &SetOutline,
     first: usize,
     gaps: &mut Gaps,
 ) -> Result<usize, AllocError> {
@@ -106,7 +106,7 @@ fn look_at_set(
     for (state, one) in chart.states.iter().enumerate() {
         look_at_state(coverage, set, state, gaps)?;
         look_at_clauses(coverage, set, state, one, next, gaps)?;
-        next = next.saturating_add(one.arrows.len());
+        next = next.saturating_add(one.clauses.len());
     }
     Ok(next)
 }
@@ -132,7 +132,7 @@ pub fn gaps_of(alloc: Global, coverage: &Coverage) -> Result<Gaps, AllocError> {
         channels: Share::none(),
     };
     let mut next = 0usize;
-    for (set, chart) in coverage.chart.sets.iter().enumerate() {
+    for (set, chart) in coverage.chart.outline.sets.iter().enumerate() {
         next = look_at_set(coverage, set, chart, next, &mut gaps)?;
     }
     look_at_channels(coverage, &mut gaps)?;

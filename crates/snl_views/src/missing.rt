@@ -1,8 +1,8 @@
 //! The answer of `cover`, as a text: what no run showed.
 
-use crate::charts::StateChart;
 use crate::coverage::Coverage;
 use crate::missed::{Gaps, Missed, Share};
+use snl_outline::StateOutline;
 use snl_output::{push_all, push_told};
 use std::alloc::{AllocError, Global};
 
@@ -13,7 +13,7 @@ fn push_line(out: &mut Vec<u8>, line: usize, end: &[u8]) -> Result<(), AllocErro
 }
 
 /// Adds a state that was never entered.
-fn push_state(out: &mut Vec<u8>, set: &[u8], state: &StateChart) -> Result<(), AllocError> {
+fn push_state(out: &mut Vec<u8>, set: &[u8], state: &StateOutline) -> Result<(), AllocError> {
     push_all(out, &[b"never entered: ", set, b" ", state.name.as_slice()])?;
     let end: &[u8] = if state.is_reached {
         b""
@@ -27,11 +27,11 @@ fn push_state(out: &mut Vec<u8>, set: &[u8], state: &StateChart) -> Result<(), A
 fn push_clause(
     out: &mut Vec<u8>,
     set: &[u8],
-    state: &StateChart,
+    state: &StateOutline,
     clause: usize,
     left: bool,
 ) -> Result<(), AllocError> {
-    let Some(arrow) = state.arrows.get(clause) else {
+    let Some(arrow) = state.clauses.get(clause) else {
         return Ok(());
     };
     let name = state.name.as_slice();
@@ -69,7 +69,7 @@ fn push_missed(out: &mut Vec<u8>, coverage: &Coverage, missed: Missed) -> Result
         Missed::State(set, state) | Missed::Clause(set, state, _) => (set, state),
         Missed::Channel(number) => return push_channel(out, coverage, number),
     };
-    let Some(set) = coverage.chart.sets.get(number) else {
+    let Some(set) = coverage.chart.outline.sets.get(number) else {
         return Ok(());
     };
     let Some(chart) = set.states.get(state) else {

@@ -2,12 +2,15 @@
 
 ghost use Rattle.std.specs.Prelude.{◌≡◌, map, IfOk};
 ghost use Rattle.snl_views.specs.Pictures.{pictured, pictured_arrows, pictured_set, pictured_state};
-ghost use Rattle.snl_views.specs.Shapes.{charted, charted_arrows, charted_set, charted_state};
+ghost use Rattle.snl_outline.specs.Shapes.{outlined_set, outlined_state, targets_in};
+ghost use Rattle.snl_views.specs.Shapes.{charted};
 
-use crate::charts::{ArrowChart, Chart, SetChart, StateChart};
+use crate::charts::Chart;
 use crate::coverage::Coverage;
 use crate::pictures::{Arrow, Cluster, Node, Picture};
+use snl_legends::Conditions;
 use snl_names::pushed;
+use snl_outline::{ClauseOutline, SetOutline, StateOutline};
 use snl_output::push_told;
 use std::alloc::{AllocError, Global};
 
@@ -18,6 +21,13 @@ struct Place {
     set: usize,
     state: usize,
     first: usize,
+}
+
+/// What stands beside an arrow: its condition, and what was seen in runs.
+#[derive(Clone, Copy)]
+struct Beside<'b> {
+    conditions: &'b Conditions,
+    coverage: Option<&'b Coverage>,
 }
 
 /// How often a clause was taken, as its label tells it.
@@ -45,17 +55,17 @@ fn label_of(alloc: Global, clause: usize, condition: &[u8]) -> Result<Vec<u8>, A
 /// The arrow of a clause of a number.
 fn arrow_of(
     alloc: Global,
-    chart: &ArrowChart,
-    coverage: Option<&Coverage>,
+    chart: &ClauseOutline,
+    beside: Beside,
     place: Place,
     clause: usize,
 ) -> Result<Arrow, AllocError>
     ensures { IfOk result (λ arrow. arrow.target.items ≡ chart.now.target.items) }
 {
     let target = Vec::from_slice(alloc, chart.target.as_slice())?;
-    let mut label = label_of(alloc, clause, chart.condition.as_slice())?;
+    let mut label = label_of(alloc, clause, beside.conditions.text(chart.offset))?;
     let mut is_missed = false;
-    if let Some(coverage) = coverage {
+    if let Some(coverage) = beside.coverage {
         let taken = coverage.taken(place.set, place.state, clause);
         let left = coverage.left(place.set, place.state, clause);
         push_taken(&mut label, taken, left)?;
@@ -71,15 +81,15 @@ fn arrow_of(
 /// The arrows of clauses.
 fn arrows_of(
     alloc: Global,
-    charts: &[ArrowChart],
-    coverage: Option<&Coverage>,
+    charts: &[ClauseOutline],
+    beside: Beside,
     place: Place,
 ) -> Result<Vec<Arrow>, AllocError>
-    ensures { IfOk result (λ arrows. pictured_arrows arrows.items ≡ charted_arrows charts.now) }
+    ensures { IfOk result (λ arrows. pictured_arrows arrows.items ≡ targets_in charts.now) }
 {
     let mut arrows = Vec::new(alloc);
     for (clause, chart) in charts.iter().enumerate() {
-        let arrow = arrow_of(alloc, chart, coverage, place, clause)?;
+        let arrow = arrow_of(alloc, chart, beside, place, clause)?;
         pushed(&mut arrows, arrow)?;
     }
     Ok(arrows)
@@ -88,27 +98,27 @@ fn arrows_of(
 /// The node of a state.
 fn node_of(
     alloc: Global,
-    chart: &StateChart,
-    coverage: Option<&Coverage>,
+    chart: &StateOutline,
+    beside: Beside,
     place: Place,
 ) -> Result<Node, AllocError>
-    ensures { IfOk result (λ node. pictured_state node ≡ charted_state chart.now) }
+    ensures { IfOk result (λ node. pictured_state node ≡ outlined_state chart.now) }
 {
     let name = Vec::from_slice(alloc, chart.name.as_slice())?;
-    let arrows = arrows_of(alloc, chart.arrows.as_slice(), coverage, place)?;
+    let arrows = arrows_of(alloc, chart.clauses.as_slice(), beside, place)?;
     Ok(Node { name, arrows })
 }
 
 /// The nodes of states. `next` is the number of their first clause among all, and then that behind their last.
 fn nodes_of(
     alloc: Global,
-    charts: &[StateChart],
-    coverage: Option<&Coverage>,
+    charts: &[StateOutline],
+    beside: Beside,
     set: usize,
     next: &mut usize,
 ) -> Result<Vec<Node>, AllocError>
     ensures { IfOk result (λ nodes. map pictured_state nodes.items
-        ≡ map charted_state charts.now) }
+        ≡ map outlined_state charts.now) }
 {
     let mut nodes = Vec::new(alloc);
     for (state, chart) in charts.iter().enumerate() {
@@ -117,9 +127,9 @@ fn nodes_of(
             state,
             first: *next,
         };
-        let node = node_of(alloc, chart, coverage, place)?;
+        let node = node_of(alloc, chart, beside, place)?;
         pushed(&mut nodes, node)?;
-        *next = next.saturating_add(chart.arrows.len());
+        *next = next.saturating_add(chart.clauses.len());
     }
     Ok(nodes)
 }
@@ -127,31 +137,31 @@ fn nodes_of(
 /// The cluster of a state set.
 fn cluster_of(
     alloc: Global,
-    chart: &SetChart,
-    coverage: Option<&Coverage>,
+    chart: &SetOutline,
+    beside: Beside,
     set: usize,
     next: &mut usize,
 ) -> Result<Cluster, AllocError>
-    ensures { IfOk result (λ cluster. pictured_set cluster ≡ charted_set chart.now) }
+    ensures { IfOk result (λ cluster. pictured_set cluster ≡ outlined_set chart.now) }
 {
     let name = Vec::from_slice(alloc, chart.name.as_slice())?;
-    let nodes = nodes_of(alloc, chart.states.as_slice(), coverage, set, next)?;
+    let nodes = nodes_of(alloc, chart.states.as_slice(), beside, set, next)?;
     Ok(Cluster { name, nodes })
 }
 
 /// The clusters of state sets.
 fn clusters_of(
     alloc: Global,
-    charts: &[SetChart],
-    coverage: Option<&Coverage>,
+    charts: &[SetOutline],
+    beside: Beside,
 ) -> Result<Vec<Cluster>, AllocError>
     ensures { IfOk result (λ clusters. map pictured_set clusters.items
-        ≡ map charted_set charts.now) }
+        ≡ map outlined_set charts.now) }
 {
     let mut clusters = Vec::new(alloc);
     let mut next = 0usize;
     for (set, chart) in charts.iter().enumerate() {
-        let cluster = cluster_of(alloc, chart, coverage, set, &mut next)?;
+        let cluster = cluster_of(alloc, chart, beside, set, &mut next)?;
         pushed(&mut clusters, cluster)?;
     }
     Ok(clusters)
@@ -166,7 +176,11 @@ pub(crate) fn picture_of(
 ) -> Result<Picture, AllocError>
     ensures { IfOk result (λ picture. pictured picture ≡ charted chart.now) }
 {
-    let name = Vec::from_slice(alloc, chart.name.as_slice())?;
-    let clusters = clusters_of(alloc, chart.sets.as_slice(), coverage)?;
+    let beside = Beside {
+        conditions: &chart.conditions,
+        coverage,
+    };
+    let name = Vec::from_slice(alloc, chart.outline.name.as_slice())?;
+    let clusters = clusters_of(alloc, chart.outline.sets.as_slice(), beside)?;
     Ok(Picture { name, clusters })
 }

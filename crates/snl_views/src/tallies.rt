@@ -3,9 +3,10 @@
 ghost use Rattle.std.specs.Prelude.{◌≡◌, ◌++◌, ◌∷◌, [], OnOk};
 ghost use Rattle.snl_tallies.specs.Counts.{counts_of};
 
-use crate::charts::{Chart, SetChart, StateChart};
+use crate::charts::Chart;
 use crate::coverage::Coverage;
 use crate::go_lines::go_texts;
+use snl_outline::{SetOutline, StateOutline};
 use snl_output::{push_all, push_told};
 use snl_tallies::Tally;
 use std::alloc::{AllocError, Global};
@@ -50,10 +51,10 @@ fn left_ending(alloc: Global, clause: usize) -> Result<Vec<u8>, AllocError> {
 }
 
 /// The number of a clause in its state, and where it leads: ` N TO`.
-fn taken_ending(alloc: Global, chart: &StateChart, clause: usize) -> Result<Vec<u8>, AllocError> {
+fn taken_ending(alloc: Global, chart: &StateOutline, clause: usize) -> Result<Vec<u8>, AllocError> {
     let mut ending = left_ending(alloc, clause)?;
     ending.extend_from_slice(b" ")?;
-    if let Some(arrow) = chart.arrows.get(clause) {
+    if let Some(arrow) = chart.clauses.get(clause) {
         ending.extend_from_slice(arrow.target.as_slice())?;
     }
     Ok(ending)
@@ -64,7 +65,7 @@ fn push_taken(
     alloc: Global,
     coverage: &Coverage,
     place: Place,
-    chart: &StateChart,
+    chart: &StateOutline,
     clause: usize,
     tallies: &mut Vec<Tally>,
 ) -> Result<(), AllocError> {
@@ -84,7 +85,7 @@ fn push_left(
     alloc: Global,
     coverage: &Coverage,
     place: Place,
-    chart: &StateChart,
+    chart: &StateOutline,
     clause: usize,
     tallies: &mut Vec<Tally>,
 ) -> Result<(), AllocError> {
@@ -104,7 +105,7 @@ fn push_state(
     alloc: Global,
     coverage: &Coverage,
     place: Place,
-    chart: &StateChart,
+    chart: &StateOutline,
     tallies: &mut Vec<Tally>,
 ) -> Result<(), AllocError> {
     let entered = coverage.trail.entered(place.set, place.state);
@@ -115,7 +116,7 @@ fn push_state(
         &[b"entered ", place.name, b" ", name],
         entered,
     )?;
-    for clause in 0..chart.arrows.len() {
+    for clause in 0..chart.clauses.len() {
         push_taken(alloc, coverage, place, chart, clause, tallies)?;
         push_left(alloc, coverage, place, chart, clause, tallies)?;
     }
@@ -127,7 +128,7 @@ fn push_set(
     alloc: Global,
     coverage: &Coverage,
     set: usize,
-    chart: &SetChart,
+    chart: &SetOutline,
     tallies: &mut Vec<Tally>,
 ) -> Result<(), AllocError> {
     for (state, one) in chart.states.iter().enumerate() {
@@ -147,7 +148,7 @@ fn push_sets(
     coverage: &Coverage,
     tallies: &mut Vec<Tally>,
 ) -> Result<(), AllocError> {
-    for (set, chart) in coverage.chart.sets.iter().enumerate() {
+    for (set, chart) in coverage.chart.outline.sets.iter().enumerate() {
         push_set(alloc, coverage, set, chart, tallies)?;
     }
     Ok(())

@@ -1,8 +1,9 @@
 //! What became of a program in runs that are known by their counts alone.
 
-use crate::charts::{Chart, SetChart, StateChart};
+use crate::charts::Chart;
 use crate::coverage::PutChart;
 use crate::puts::no_puts;
+use snl_outline::{SetOutline, StateOutline};
 use snl_watch::{ClauseTrail, SetTrail, StateTrail, Trail};
 use std::alloc::{AllocError, Global};
 
@@ -25,11 +26,11 @@ impl<'c> Counts<'c> {
 /// What became of the clauses of a state.
 fn clause_trails(
     alloc: Global,
-    chart: &StateChart,
+    chart: &StateOutline,
     counts: &mut Counts,
 ) -> Result<Vec<ClauseTrail>, AllocError> {
     let mut clauses = Vec::new(alloc);
-    for _arrow in &chart.arrows {
+    for _clause in &chart.clauses {
         let taken = counts.take();
         let left = counts.take();
         clauses.push(ClauseTrail {
@@ -43,7 +44,11 @@ fn clause_trails(
 }
 
 /// What became of the states of a state set.
-fn set_trail(alloc: Global, chart: &SetChart, counts: &mut Counts) -> Result<SetTrail, AllocError> {
+fn set_trail(
+    alloc: Global,
+    chart: &SetOutline,
+    counts: &mut Counts,
+) -> Result<SetTrail, AllocError> {
     let mut states = Vec::new(alloc);
     for state in &chart.states {
         let entered = counts.take();
@@ -60,7 +65,7 @@ fn set_trails(
     counts: &mut Counts,
 ) -> Result<Vec<SetTrail>, AllocError> {
     let mut sets = Vec::new(alloc);
-    for set in &chart.sets {
+    for set in &chart.outline.sets {
         sets.push(set_trail(alloc, set, counts)?)?;
     }
     Ok(sets)

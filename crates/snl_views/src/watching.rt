@@ -6,8 +6,9 @@ ghost use Rattle.snl_watch.specs.Seen.{seen};
 ghost use Rattle.snl_watch.specs.Sets.{names_in};
 ghost use Rattle.snl_views.specs.Shapes.{bytes_of};
 
-use crate::charts::{Chart, SetChart, StateChart};
+use crate::charts::Chart;
 use indexmap::IndexSet;
+use snl_outline::{SetOutline, StateOutline};
 use snl_watch::{ClauseTrail, Counter, SetTrail, StateTrail, Trail};
 use std::alloc::{AllocError, Global};
 
@@ -41,7 +42,7 @@ fn lines_of(alloc: Global, texts: &[Vec<u8>]) -> Result<Lines, AllocError> {
 }
 
 /// The names of the states of a state set, by their numbers.
-fn names_of(alloc: Global, set: &SetChart) -> Result<IndexSet<&[u8]>, AllocError> {
+fn names_of(alloc: Global, set: &SetOutline) -> Result<IndexSet<&[u8]>, AllocError> {
     let mut names = IndexSet::new(alloc);
     for state in &set.states {
         names.insert(state.name.as_slice())?;
@@ -52,13 +53,13 @@ fn names_of(alloc: Global, set: &SetChart) -> Result<IndexSet<&[u8]>, AllocError
 /// Nothing came yet of the clauses of a state, of which the first has a number among all clauses of the program.
 fn clauses_of(
     alloc: Global,
-    state: &StateChart,
+    state: &StateOutline,
     names: &IndexSet<&[u8]>,
     lines: &Lines,
     first: usize,
 ) -> Result<Vec<ClauseTrail>, AllocError> {
     let mut clauses = Vec::new(alloc);
-    for (number, arrow) in state.arrows.iter().enumerate() {
+    for (number, arrow) in state.clauses.iter().enumerate() {
         let line = lines.of_clauses.get(first.saturating_add(number)).copied();
         clauses.push(ClauseTrail {
             line: line.unwrap_or(usize::MAX),
@@ -74,7 +75,7 @@ fn clauses_of(
 /// then that behind their last.
 fn state_trails(
     alloc: Global,
-    states: &[StateChart],
+    states: &[StateOutline],
     names: &IndexSet<&[u8]>,
     lines: &Lines,
     next: &mut usize,
@@ -94,7 +95,7 @@ fn state_trails(
 /// Nothing came yet of a state set. `next` is the number of its first clause among all, and then that behind its last.
 fn set_trail(
     alloc: Global,
-    set: &SetChart,
+    set: &SetOutline,
     lines: &Lines,
     next: &mut usize,
 ) -> Result<SetTrail, AllocError> {
@@ -107,7 +108,7 @@ fn set_trail(
 fn set_trails(alloc: Global, chart: &Chart, lines: &Lines) -> Result<Vec<SetTrail>, AllocError> {
     let mut sets = Vec::new(alloc);
     let mut next = 0usize;
-    for set in &chart.sets {
+    for set in &chart.outline.sets {
         let trail = set_trail(alloc, set, lines, &mut next)?;
         sets.push(trail)?;
     }
@@ -115,7 +116,7 @@ fn set_trails(alloc: Global, chart: &Chart, lines: &Lines) -> Result<Vec<SetTrai
 }
 
 /// The most bytes that a name of a state of a state set has.
-fn longest_name(set: &SetChart) -> usize {
+fn longest_name(set: &SetOutline) -> usize {
     let mut longest = 0usize;
     for state in &set.states {
         longest = longest.max(state.name.len());
@@ -126,7 +127,7 @@ fn longest_name(set: &SetChart) -> usize {
 /// The most bytes that follow the time in the line of any transition of a program.
 fn longest_go(chart: &Chart) -> usize {
     let mut longest = 0usize;
-    for set in &chart.sets {
+    for set in &chart.outline.sets {
         let names = longest_name(set).max(4).saturating_mul(2);
         longest = longest.max(set.name.len().saturating_add(names).saturating_add(6));
     }

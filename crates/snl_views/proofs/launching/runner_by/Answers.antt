@@ -7,7 +7,8 @@ use Rattle.snl_machine.specs.MachineOf.{world_held}
 use Rattle.snl_machine.specs.Snapshots.{CanBeIn, Pictures, anew}
 use Rattle.snl_meaning.specs.World.{World}
 use Rattle.snl_views.specs.Coverage.{AreCounts}
-use Rattle.snl_views.specs.Shapes.{Shape, go_texts}
+use Rattle.snl_outline.specs.Shapes.{Shape}
+use Rattle.snl_views.specs.Shapes.{go_texts}
 use Rattle.snl_views.proofs.launching.runner_by.Goals as goal
 
 -- the machine was loaded, its snapshot is that of the first world, and nothing was counted yet

@@ -1,7 +1,8 @@
 use Rattle.std.proofs.Common.{◌∙◌, refl, subst, sym}
 use Rattle.std.proofs.lemmas.Result.{on_ok_weaker}
 use Rattle.snl_views.specs.Coverage.{AreCounts}
-use Rattle.snl_views.specs.Shapes.{Shape, charted, go_texts}
+use Rattle.snl_outline.specs.Shapes.{Shape}
+use Rattle.snl_views.specs.Shapes.{charted, go_texts}
 use Rattle.snl_views.proofs.RunnerLaws.{with-more}
 use Rattle.snl_views.proofs.Sums.{count-each}
 use Rattle.snl_views.proofs.runner.Runner.add_counts.Goals as goal

@@ -1,9 +1,0 @@
-use Rattle.std.proofs.Common.{◌≡◌, ◌++◌, drop, map}
-use Rattle.snl_syntax.specs.view.Programs.{clause_view}
-use Rattle.snl_views.specs.Shapes.{charted_arrows, targets_of}
-use Rattle.snl_views.proofs.charts.arrow_charts.Given as goal
-
--- the clauses so far, and those that are left
-abbrev pub invariant-loop-clause : goal.invariant-loop-clause
-invariant-loop-clause l =
-    charted_arrows l.charts.items ++ targets_of (map clause_view (drop l.clause-index l.clauses)) ≡ targets_of (map clause_view l.clauses)

@@ -1,9 +1,0 @@
-use Rattle.std.proofs.Common.{◌≡◌, ◌++◌, drop, map}
-use Rattle.snl_syntax.specs.view.Programs.{state_set_view}
-use Rattle.snl_views.specs.Shapes.{charted_set, set_shape}
-use Rattle.snl_views.proofs.charts.set_charts.Given as goal
-
--- the state sets so far, and those that are left
-abbrev pub invariant-loop-set : goal.invariant-loop-set
-invariant-loop-set l =
-    map charted_set l.charts.items ++ map set_shape (map state_set_view (drop l.set-index l.sets)) ≡ map set_shape (map state_set_view l.sets)
