@@ -1,7 +1,7 @@
 -- The rows of lists that are gone through from their end.
-use Rattle.std.proofs.Common.{◌≡◌, ◌∙◌, ◌++◌, ℕ, Bool, true, false, List, [], ◌∷◌, length, drop, map, refl, sym, ap, arith}
+use Rattle.std.proofs.Common.{◌≡◌, ◌∙◌, ◌++◌, ℕ, ◌+◌, ◌-◌, ◌<◌, ◌≤◌, Bool, true, false, List, [], ◌∷◌, length, drop, get_or, map, refl, sym, ap, arith}
 use Rattle.std.specs.Prelude.{codes}
-use Rattle.std.proofs.lemmas.List.{drop_all}
+use Rattle.std.proofs.lemmas.List.{drop_all, drop_more}
 use Rattle.serde_json.specs.Data.{Data}
 use Rattle.snl_text.specs.declared.tokens.Token.{Token}
 use Rattle.snl_syntax.specs.declared.expressions.Term.{Term}
@@ -13,7 +13,9 @@ use Rattle.snl_syntax.specs.view.Declarations.{value_list, values_before}
 use Rattle.snl_syntax.specs.view.Expressions.{pair_of, list_before}
 use Rattle.snl_syntax.specs.view.Lists.{term_list, statement_list}
 use Rattle.snl_syntax.specs.view.Statements.{statement_view}
-use Rattle.snl_json.specs.Rows.{with_row, last, with_things, with_tokens}
+use Rattle.snl_json.specs.declared.rows.Part.{Part}
+use Rattle.snl_json.specs.declared.rows.Part.TheVariants as part
+use Rattle.snl_json.specs.Rows.{with_row, last, with_first, with_things, with_tokens}
 use Rattle.snl_json.specs.Expressions.{with_expression, with_terms, with_arguments}
 use Rattle.snl_json.specs.Declarations.{with_values, with_before}
 use Rattle.snl_json.specs.Statements.{with_statements}
@@ -41,6 +43,30 @@ arguments_none xs rows = ap (λ l. with_arguments (list_before l no_arguments) r
 -- and of statements
 pub statements_none : (xs : List Stmt) (rows : List Data) → with_statements (statement_list (map statement_view (drop (length xs) xs))) rows ≡ rows
 statements_none xs rows = ap (λ l. with_statements (statement_list (map statement_view l)) rows) (none xs)
+
+-- what is left from a number on is the thing there, and the rest
+next_thing : {A : Type 0} (all : List A) (n : ℕ) (x : A) → 0 < n → n ≤ length all → drop (n - 1) all ≡ get_or all (n - 1) x ∷ drop n all
+next_thing all n x some few =
+    let next : n - 1 + 1 ≡ n = omega (arith, some) in
+    let here : n - 1 < length all = omega (arith, some, few) in
+    drop_more all (n - 1) x here ∙ ap (λ k. get_or all (n - 1) x ∷ drop k all) next
+
+-- one thing more in front of a list
+pub things_more : {A B : Type 0} (see : A → B) (put : B → List Data → List Data) (all : List A) (n : ℕ) (x d : A) (others : Part) (old first mid new : List Data)
+    → 0 < n → n ≤ length all → x ≡ get_or all (n - 1) d → others ≡ last first → first ≡ with_things put (map see (drop n all)) old → mid ≡ put (see x) first
+    → new ≡ with_row (codes "cons") (last mid ∷ others ∷ []) mid → new ≡ with_things put (map see (drop (n - 1) all)) old
+things_more see put all n x d others old first mid new some few is eo ef em en =
+    en ∙ (λ j. with_row (codes "cons") (last (em j) ∷ eo j ∷ []) (em j)) ∙ ap (with_first put (see x)) ef
+    ∙ ap (λ l. with_things put (map see l) old) (ap (λ y. y ∷ drop n all) is ∙ sym (next_thing all n d some few))
+
+-- one token more
+pub words_more : (all : List Token) (n : ℕ) (x : Token) (others : Part) (old first new : List Data)
+    → 0 < n → n ≤ length all → others ≡ last first → first ≡ with_tokens (drop n all) old
+    → new ≡ with_row (codes "cons") (part.Word (get_or all (n - 1) x) ∷ others ∷ []) first → new ≡ with_tokens (drop (n - 1) all) old
+words_more all n x others old first new some few eo ef en =
+    let d = get_or all (n - 1) x in
+    en ∙ (λ j. with_row (codes "cons") (part.Word d ∷ eo j ∷ []) first) ∙ ap (λ r. with_row (codes "cons") (part.Word d ∷ last r ∷ []) r) ef
+    ∙ ap (λ l. with_tokens l old) (sym (next_thing all n x some few))
 
 -- values with a comma behind each, in front of others
 before_rows : (es : List ExprTree) (rest : ValueList) (rows : List Data) → with_values (values_before es rest) rows ≡ with_before es (with_values rest rows)

@@ -176,7 +176,6 @@ pub fn put_declaration<'a>(
 }
 
 /// Puts the rows of the sizes of a declared name behind others, the last one first.
-#[tactic(auto, using(crate::proofs::Lists::list_none))]
 fn put_sizes<'a>(
     alloc: Global,
     sizes: &[Box<Expr<'a>>],
@@ -195,7 +194,6 @@ fn put_sizes<'a>(
 }
 
 /// Puts the rows of declared names behind others, the last one first.
-#[tactic(auto, using(crate::proofs::Lists::list_none))]
 fn put_declarators<'a>(
     alloc: Global,
     declarators: &[Declarator<'a>],

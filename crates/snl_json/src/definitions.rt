@@ -31,7 +31,6 @@ fn put_place<'a>(alloc: Global, place: &Place<'a>, rows: &mut Vec<Value>) -> Res
 }
 
 /// Puts the rows of a list of tokens behind others, the last one first.
-#[tactic(auto, using(crate::proofs::Lists::words_none))]
 fn put_words<'a>(
     alloc: Global,
     words: &[Token<'a>],
@@ -264,7 +263,6 @@ pub fn put_definition<'a>(
 }
 
 /// Puts the rows of definitions behind others, the last one first. Fails only where memory ends.
-#[tactic(auto, using(crate::proofs::Lists::list_none))]
 pub fn put_definitions<'a>(
     alloc: Global,
     definitions: &[Def<'a>],

@@ -115,7 +115,6 @@ pub fn put_function<'a>(
 }
 
 /// Puts the rows of parameters behind others, the last one first.
-#[tactic(auto, using(crate::proofs::Lists::list_none))]
 fn put_each_parameter<'a>(
     alloc: Global,
     parameters: &[Parameter<'a>],

@@ -135,7 +135,6 @@ pub fn put_program<'a>(
 }
 
 /// Puts the rows of clauses behind others, the last one first.
-#[tactic(auto, using(crate::proofs::Lists::list_none))]
 fn put_clauses<'a>(
     alloc: Global,
     clauses: &[Clause<'a>],
@@ -154,7 +153,6 @@ fn put_clauses<'a>(
 }
 
 /// Puts the rows of states behind others, the last one first.
-#[tactic(auto, using(crate::proofs::Lists::list_none))]
 fn put_states<'a>(
     alloc: Global,
     states: &[State<'a>],
@@ -173,7 +171,6 @@ fn put_states<'a>(
 }
 
 /// Puts the rows of state sets behind others, the last one first.
-#[tactic(auto, using(crate::proofs::Lists::list_none))]
 fn put_state_sets<'a>(
     alloc: Global,
     sets: &[StateSet<'a>],

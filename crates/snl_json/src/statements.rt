@@ -226,7 +226,6 @@ pub fn put_maybe_block<'a>(
 }
 
 /// Puts the rows of declarations behind others, the last one first.
-#[tactic(auto, using(crate::proofs::Lists::list_none))]
 fn put_declarations<'a>(
     alloc: Global,
     declarations: &[Declaration<'a>],

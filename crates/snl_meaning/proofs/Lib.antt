@@ -10,6 +10,7 @@ pub mod Ends
 pub mod Turns
 pub mod Texts
 pub mod Tables
+pub mod Rows
 pub mod Apart
 pub mod Keeping
 pub mod StepKeeps

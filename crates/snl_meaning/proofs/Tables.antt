@@ -25,6 +25,17 @@ string_step all i size t d h is before after inv step q =
     ∙ (elim (bytes_eq t.now q) as (λ b. unwrap_or (cond b (Some i) (before q)) size ≡ i + cond b 0 (suc rest)) [ true ↦ omega arith | false ↦ omega (arith, inv q) ])
     ∙ ap (λ l. i + text_number (map (λ s. s.now) l) q) (sym front)
 
+-- One offset more is in the table of offsets, before those that are there.
+pub offset_step : (all : List ℕ) (i size t d : ℕ) → i < length all → t ≡ get_or all i d → (before after : ℕ → Option ℕ)
+    → ((q : ℕ) → unwrap_or (before q) size ≡ (i + 1) + number_at (drop (i + 1) all) q) → ((q : ℕ) → after q ≡ cond (t == q) (Some i) (before q))
+    → (q : ℕ) → unwrap_or (after q) size ≡ i + number_at (drop i all) q
+offset_step all i size t d h is before after inv step q =
+    let rest = number_at (drop (i + 1) all) q in
+    let front : drop i all ≡ t ∷ drop (i + 1) all = drop-cons all i d h ∙ (λ j. sym is j ∷ drop (sym (add-one i) j) all) in
+    ap (λ o. unwrap_or o size) (step q)
+    ∙ (elim (t == q) as (λ b. unwrap_or (cond b (Some i) (before q)) size ≡ i + cond b 0 (suc rest)) [ true ↦ omega arith | false ↦ omega (arith, inv q) ])
+    ∙ ap (λ l. i + number_at l q) (sym front)
+
 -- The variable at the number of a declaration is the one that is declared there.
 pub placed_got : (vs all : List Placed) (ds : List ℕ) (q n : ℕ) (o : Option Variable) → o ≡ option_map (λ v. v.variable) (slice_get all n) → n ≡ number_at ds q
     → ds ≡ map (λ v. v.offset) all → vs ≡ all → o ≡ variable_in vs q

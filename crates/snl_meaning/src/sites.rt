@@ -1,6 +1,6 @@
 //! The sites of a program, with tables of what the code of a piece asks of them.
 
-ghost use Rattle.std.specs.Prelude.{◌≡◌, map, IfOk};
+ghost use Rattle.std.specs.Prelude.{◌≡◌, ◌++◌, map, IfOk, OnOk};
 ghost use Rattle.std.specs.List.{flat_map};
 ghost use Rattle.snl_names.specs.Uses.{declared_in};
 ghost use Rattle.snl_names.specs.UseTables.{IsUseTable};
@@ -42,20 +42,28 @@ impl<'s, 'a> Model for Sites<'s, 'a> {
         × (s.texts ≡ flat_map format_at s.all.now) };
 }
 
+/// Adds where a site declares an event flag, if it does.
+fn push_flag(site: &Site, flags: &mut Vec<usize>) -> Result<(), AllocError>
+    ensures { OnOk result (flags.new.items ≡ flags.old.items ++ spec.flag_at site.now) }
+{
+    if let Site::Declaration {
+        name,
+        is_flag: true,
+        ..
+    } = site
+    {
+        flags.push(name.pos.offset)?;
+    }
+    Ok(())
+}
+
 /// Where the event flags of a program are declared.
 fn flag_offsets(alloc: Global, sites: &[Site]) -> Result<Vec<usize>, AllocError>
     ensures { IfOk result (λ flags. flags.items ≡ spec.flags_of sites.now) }
 {
     let mut flags = Vec::new(alloc);
     for site in sites {
-        if let Site::Declaration {
-            name,
-            is_flag: true,
-            ..
-        } = site
-        {
-            flags.push(name.pos.offset)?;
-        }
+        push_flag(site, &mut flags)?;
     }
     Ok(flags)
 }
@@ -69,6 +77,17 @@ pub fn flags_of(alloc: Global, sites: &[Site]) -> Result<Offsets, AllocError>
     Offsets::of(alloc, flags)
 }
 
+/// Adds the string of a site that is a format, as spelled.
+fn push_format<'a>(site: &Site<'a>, texts: &mut Vec<&'a [u8]>) -> Result<(), AllocError>
+    ensures { OnOk result (map (λ t. t.now) texts.new.items ≡ map (λ t. t.now) texts.old.items
+        ++ spec.format_at site.now) }
+{
+    if let Site::Format { text, .. } = site {
+        texts.push(text.text)?;
+    }
+    Ok(())
+}
+
 /// The strings that are formats, as spelled.
 fn format_texts<'a>(alloc: Global, sites: &[Site<'a>]) -> Result<Vec<&'a [u8]>, AllocError>
     ensures { IfOk result (λ texts. map (λ t. t.now) texts.items
@@ -76,9 +95,7 @@ fn format_texts<'a>(alloc: Global, sites: &[Site<'a>]) -> Result<Vec<&'a [u8]>, 
 {
     let mut texts = Vec::new(alloc);
     for site in sites {
-        if let Site::Format { text, .. } = site {
-            texts.push(text.text)?;
-        }
+        push_format(site, &mut texts)?;
     }
     Ok(texts)
 }
