@@ -1,10 +1,12 @@
 pub mod ByLineLaws
 pub mod EndLaws
 pub mod FieldLaws
+pub mod LaneLaws
 pub mod LineLaws
 pub mod NumberLaws
 pub mod PlainLaws
 pub mod ReadLaws
+pub mod DigitLaws
 pub mod RunLaws
 pub mod ShortLaws
 pub mod SourceLaws

@@ -1,6 +1,7 @@
 -- What is read at the front of a text, up to its first blank.
-use Rattle.std.specs.Prelude.{◌≡◌, ◌≤◌, ℕ, Bool, true, false, List, [], ◌∷◌, length, take, drop, Option, None, Some, if◌then◌else◌}
+use Rattle.std.specs.Prelude.{◌≡◌, ◌≤◌, ◌==◌, ℕ, Bool, true, false, List, [], ◌∷◌, length, take, drop, Option, None, Some, if◌then◌else◌}
 use Rattle.std.specs.Char.{is_ascii_digit}
+use Rattle.std.specs.Int.{w64, trailing_zeros}
 use Rattle.std.specs.List.{list_all}
 use Rattle.std.specs.Str.Parse.{digits_value}
 use denote.Ref.{Bor}
@@ -33,3 +34,12 @@ pub record IsRun (number count most : ℕ) (text : List ℕ) : Type 0 where
 abbrev pub Reads : {A : Type 0} → Option A → List ℕ → Option (A × Bor (List ℕ)) → Type 0
 Reads read text None = read ≡ None
 Reads read text (Some found) = (read ≡ Some found.0) × (found.1.now ≡ drop (length (front text)) text)
+
+-- the first so many bytes of a text are of a class
+pub record IsFront (has : ℕ → Bool) (count : ℕ) (text : List ℕ) : Type 0 where
+  pub within : count ≤ length text
+  pub all : list_all has (take count text) ≡ true
+
+-- the number of the lowest bit that is set; where none is, this number
+abbrev pub lowest_of : ℕ → ℕ → ℕ
+lowest_of none bits = if bits == 0 then none else trailing_zeros w64 bits

@@ -7,6 +7,7 @@
 
 mod events;
 mod fields;
+mod lanes;
 pub mod laws;
 mod lines;
 mod memory;

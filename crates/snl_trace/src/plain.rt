@@ -7,9 +7,11 @@ ghost use Rattle.snl_trace.specs.Grammar.{told_of};
 ghost use Rattle.snl_trace.specs.Numbers.{spelled_number, time_of, spelled_value};
 ghost use Rattle.snl_trace.specs.Plain as spec;
 ghost use Rattle.snl_trace.specs.Plain.{Begins, BeginsWithValues, BeginsWithTelling};
+ghost use Rattle.snl_trace.specs.Reading.{IsFront, IsRun};
 ghost use Rattle.snl_trace.specs.Seen.{told};
 
-use crate::numbers::{below_zero, digits, from_zero};
+use crate::lanes::{LANES, plain_lanes};
+use crate::numbers::{below_zero, digits, from_zero, many_digits};
 use crate::trace_faults::{LINE_LIMIT, TIME_LIMIT};
 use crate::words::{LineValues, Telling, keep};
 
@@ -34,7 +36,21 @@ fn is_plain(byte: u8) -> bool
     matches!(byte, b'!'..=b'~')
 }
 
-/// The number that one digit or more spell with which a text begins, the byte behind them, and the text behind that.
+/// The number that one digit or more spell at the front of a text, the byte behind them, and the text behind that.
+#[inline(always)]
+fn cut(number: u64, count: usize, most: usize, text: &[u8]) -> Option<(u64, u8, &[u8])>
+    requires { IsRun number count most text.now }
+    ensures { IfSome result (λ read. Begins (λ field. spelled_number most field ≡ Some read.0)
+        read.1 text.now read.2.now) }
+{
+    if count == 0 {
+        return None;
+    }
+    let (stop, rest) = text[count..].split_first()?;
+    Some((number, *stop, rest))
+}
+
+/// The number with which a text begins, the byte behind it, and the text behind that.
 #[inline(always)]
 fn number(text: &[u8], most: usize) -> Option<(u64, u8, &[u8])>
     requires { most ≤ 19 }
@@ -42,11 +58,18 @@ fn number(text: &[u8], most: usize) -> Option<(u64, u8, &[u8])>
         read.1 text.now read.2.now) }
 {
     let (number, count) = digits(text, most)?;
-    if count == 0 {
-        return None;
-    }
-    let (stop, rest) = text[count..].split_first()?;
-    Some((number, *stop, rest))
+    cut(number, count, most, text)
+}
+
+/// The same, where the number mostly has many digits.
+#[inline(always)]
+fn long_number(text: &[u8], most: usize) -> Option<(u64, u8, &[u8])>
+    requires { most ≤ 19 }
+    ensures { IfSome result (λ read. Begins (λ field. spelled_number most field ≡ Some read.0)
+        read.1 text.now read.2.now) }
+{
+    let (number, count) = many_digits(text, most)?;
+    cut(number, count, most, text)
 }
 
 /// The time that a text begins with, and the text behind the space that ends it.
@@ -55,7 +78,7 @@ fn time(text: &[u8]) -> Option<(u64, &[u8])>
     ensures { IfSome result (λ read. Begins (λ field. time_of field ≡ Some read.0) 32
         text.now read.1.now) }
 {
-    let (ms, stop, rest) = number(text, 16)?;
+    let (ms, stop, rest) = long_number(text, 16)?;
     if stop != b' ' || ms > TIME_LIMIT {
         return None;
     }
@@ -84,6 +107,19 @@ fn behind_tick(text: &[u8]) -> Option<&[u8]>
     }
 }
 
+/// How many plain bytes stand at the front of a text of which the first so many are plain. One after another is looked at.
+#[inline(always)]
+fn more_plain_bytes(text: &[u8], from: usize) -> usize
+    requires { IsFront spec.is_plain from text.now }
+    ensures { IsFront spec.is_plain result text.now }
+{
+    let mut count = from;
+    while count < text.len() && is_plain(text[count]) {
+        count += 1;
+    }
+    count
+}
+
 /// How many plain bytes stand at the front of a text.
 #[inline(always)]
 fn plain_bytes(text: &[u8]) -> usize
@@ -91,10 +127,14 @@ fn plain_bytes(text: &[u8]) -> usize
     ensures plain { list_all spec.is_plain (take result text.now) ≡ true }
 {
     let mut count = 0;
-    while count < text.len() && is_plain(text[count]) {
-        count += 1;
+    while text.len() - count >= LANES {
+        let more = plain_lanes(&text[count..]);
+        count += more;
+        if more < LANES {
+            return count;
+        }
     }
-    count
+    more_plain_bytes(text, count)
 }
 
 /// The name that a text begins with, and the text behind the space that ends it.
