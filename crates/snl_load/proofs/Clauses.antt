@@ -56,7 +56,7 @@ module _ (p : ProgramTree) (code : List Instr) (functions : List Entry) (t : Pro
       by (Some start) there = block-means p code functions room set c.block start there (omega (arith, enough, depth_is_enough p (Block set state k) (Action set c.block) is))
 
   -- a clause means what its plan runs
-  clause-means : (k : ℕ) (c : ClauseTree) → clause_at p set state k ≡ Some c → clause_of context code (clause_plan (here_in p set).states t set state k c) ≡ clause_meaning (scene_in p set) c
+  clause-means : (k : ℕ) (c : ClauseTree) → clause_at p set state k ≡ Some c → clause_of context code (clause_plan (here_in p set).states code t set state k c) ≡ clause_meaning (scene_in p set) c
   clause-means k c at =
       let tests = (condition k c at).0 in
       let acts = (block k c at).0 in
@@ -64,8 +64,8 @@ module _ (p : ProgramTree) (code : List Instr) (functions : List Entry) (t : Pro
       λ j. record { holds = λ w. tests w j; acts = λ w. acts w j; target = m.target; line = m.line }
 
   -- and it can run
-  clause-runs : (k : ℕ) (c : ClauseTree) → clause_at p set state k ≡ Some c → CanRun context code (clause_plan (here_in p set).states t set state k c)
-  clause-runs k c at = record { condition = (condition k c at).1; block = (block k c at).1 }
+  clause-runs : (k : ℕ) (c : ClauseTree) → clause_at p set state k ≡ Some c → CanRun context code (clause_plan (here_in p set).states code t set state k c)
+  clause-runs k c at = record { condition = (condition k c at).1; block = (block k c at).1; tested = refl; emptied = refl }
 
   -- clauses that stand in the state from a number on
   abbrev pub StandFrom : ℕ → List ClauseTree → Type 0
@@ -77,14 +77,14 @@ module _ (p : ProgramTree) (code : List Instr) (functions : List Entry) (t : Pro
 
   -- clauses mean what their plans run
   pub clauses-mean : (k : ℕ) (cs : List ClauseTree) → StandFrom k cs →
-      map (clause_of context code) (clause_plans (here_in p set).states t set state k cs) ≡ map (clause_meaning (scene_in p set)) cs
+      map (clause_of context code) (clause_plans (here_in p set).states code t set state k cs) ≡ map (clause_meaning (scene_in p set)) cs
   clauses-mean k [] stand = refl
   clauses-mean k (c ∷ cs) stand = λ j. clause-means k c (stand 0 k c (omega arith) refl) j ∷ clauses-mean (k + 1) cs (next k c cs stand) j
 
   -- and they can run
-  pub clauses-run : (k : ℕ) (cs : List ClauseTree) → StandFrom k cs → CanRunAll context code (clause_plans (here_in p set).states t set state k cs)
+  pub clauses-run : (k : ℕ) (cs : List ClauseTree) → StandFrom k cs → CanRunAll context code (clause_plans (here_in p set).states code t set state k cs)
   clauses-run k [] stand i c there = absurd (cc)
   clauses-run k (d ∷ cs) stand zero c there =
-      let is : clause_plan (here_in p set).states t set state k d ≡ c = cc in
+      let is : clause_plan (here_in p set).states code t set state k d ≡ c = cc in
       subst (λ (x : ClausePlan). CanRun context code x) is (clause-runs k d (stand 0 k d (omega arith) refl))
   clauses-run k (d ∷ cs) stand (suc i) c there = clauses-run (k + 1) cs (next k d cs stand) i c there

@@ -42,7 +42,7 @@ module _ (p : ProgramTree) (ls : List Link) (waits : Bool) (c : Code) (t : Loade
   enough = omega (arith, is.room, is.counted, is.code_is.depth)
 
   -- the code of a state set runs with what is known of it
-  contexts : (k : ℕ) (g : StateSetTree) (plan : SetPlan) → slice_get p.state_sets k ≡ Some g → set_view plan ≡ set_plan (table_of c) k g →
+  contexts : (k : ℕ) (g : StateSetTree) (plan : SetPlan) → slice_get p.state_sets k ≡ Some g → set_view plan ≡ set_plan t.code (table_of c) k g →
       context_in t k plan ≡ context_of (scene_in p k) t.functions t.room
   contexts k g plan at one =
       let names : plan.name.items ≡ name_by (slice_get p.state_sets k) = ap (λ (v : PlainSet). v.name) one ∙ sym (ap name_by at) in
@@ -56,13 +56,13 @@ module _ (p : ProgramTree) (ls : List Link) (waits : Bool) (c : Code) (t : Loade
       ap (λ (i : ℕ). state_at p k i) same' ∙ ap (option_and_then (λ h. slice_get h.states j)) at ∙ there
 
   -- its states are planned with the names that the code knows
-  states-planned : (k : ℕ) (g : StateSetTree) (plan : SetPlan) → slice_get p.state_sets k ≡ Some g → set_view plan ≡ set_plan (table_of c) k g →
-      map state_view plan.states.items ≡ state_plans (here_in p k).states (table_of c) k 0 g.states
+  states-planned : (k : ℕ) (g : StateSetTree) (plan : SetPlan) → slice_get p.state_sets k ≡ Some g → set_view plan ≡ set_plan t.code (table_of c) k g →
+      map state_view plan.states.items ≡ state_plans (here_in p k).states t.code (table_of c) k 0 g.states
   states-planned k g plan at one =
-      ap (λ (v : PlainSet). v.states) one ∙ ap (λ (o : Option StateSetTree). state_plans (states_by o) (table_of c) k 0 g.states) (sym at)
+      ap (λ (v : PlainSet). v.states) one ∙ ap (λ (o : Option StateSetTree). state_plans (states_by o) t.code (table_of c) k 0 g.states) (sym at)
 
   -- a state set means what its plan runs
-  set-means : (k : ℕ) (g : StateSetTree) (plan : SetPlan) → slice_get p.state_sets k ≡ Some g → set_view plan ≡ set_plan (table_of c) k g →
+  set-means : (k : ℕ) (g : StateSetTree) (plan : SetPlan) → slice_get p.state_sets k ≡ Some g → set_view plan ≡ set_plan t.code (table_of c) k g →
       set_of (context_in t k plan) t.code plan ≡ set_reached (holds_in (table_of c)) (set_meaning p k g)
   set-means k g plan at one =
       let names = ap (λ (v : PlainSet). v.name) one in
@@ -72,7 +72,7 @@ module _ (p : ProgramTree) (ls : List Link) (waits : Bool) (c : Code) (t : Loade
       in λ j. record { set = k; name = names j; states = states j }
 
   -- and it can run
-  set-runs : (k : ℕ) (g : StateSetTree) (plan : SetPlan) → slice_get p.state_sets k ≡ Some g → set_view plan ≡ set_plan (table_of c) k g →
+  set-runs : (k : ℕ) (g : StateSetTree) (plan : SetPlan) → slice_get p.state_sets k ≡ Some g → set_view plan ≡ set_plan t.code (table_of c) k g →
       CanRunSet (context_in t k plan) t.code plan.states.items
   set-runs k g plan at one =
       subst (λ (s : PieceContext). CanRunSet s t.code plan.states.items) (sym (contexts k g plan at one))
@@ -106,29 +106,29 @@ module _ (p : ProgramTree) (ls : List Link) (waits : Bool) (c : Code) (t : Loade
   next k g gs stand j n d same there = stand (suc j) n d (omega (arith, same)) there
 
   -- state sets mean what their plans run
-  sets-mean : (k : ℕ) (gs : List StateSetTree) (plans : List SetPlan) → StandFrom k gs → map set_view plans ≡ set_plans (table_of c) k gs →
+  sets-mean : (k : ℕ) (gs : List StateSetTree) (plans : List SetPlan) → StandFrom k gs → map set_view plans ≡ set_plans t.code (table_of c) k gs →
       sets_from t k plans ≡ map (set_reached (holds_in (table_of c))) (set_meanings p k gs)
   sets-mean k [] [] stand same = refl
   sets-mean k [] (plan ∷ plans) stand same = absurd (cc)
   sets-mean k (g ∷ gs) [] stand same = absurd (cc)
   sets-mean k (g ∷ gs) (plan ∷ plans) stand same =
-      let one : set_view plan ≡ set_plan (table_of c) k g = cc in
-      let rest : map set_view plans ≡ set_plans (table_of c) (k + 1) gs = cc in
+      let one : set_view plan ≡ set_plan t.code (table_of c) k g = cc in
+      let rest : map set_view plans ≡ set_plans t.code (table_of c) (k + 1) gs = cc in
       λ j. set-means k g plan (stand 0 k g (omega arith) refl) one j ∷ sets-mean (k + 1) gs plans (next k g gs stand) rest j
 
   -- and they can run
-  sets-run : (k : ℕ) (gs : List StateSetTree) (plans : List SetPlan) → StandFrom k gs → map set_view plans ≡ set_plans (table_of c) k gs →
+  sets-run : (k : ℕ) (gs : List StateSetTree) (plans : List SetPlan) → StandFrom k gs → map set_view plans ≡ set_plans t.code (table_of c) k gs →
       (i n : ℕ) (plan : SetPlan) → n ≡ k + i → slice_get plans i ≡ Some plan → CanRunSet (context_in t n plan) t.code plan.states.items
   sets-run k gs [] stand same i n plan at there = absurd (cc)
   sets-run k [] (first ∷ plans) stand same i n plan at there = absurd (cc)
   sets-run k (g ∷ gs) (first ∷ plans) stand same zero n plan at there =
       let this : first ≡ plan = cc in
       let here : k ≡ n = omega (arith, at) in
-      let one : set_view first ≡ set_plan (table_of c) k g = cc in
+      let one : set_view first ≡ set_plan t.code (table_of c) k g = cc in
       subst (λ (x : SetPlan). CanRunSet (context_in t n x) t.code x.states.items) this
       (subst (λ (m : ℕ). CanRunSet (context_in t m first) t.code first.states.items) here (set-runs k g first (stand 0 k g (omega arith) refl) one))
   sets-run k (g ∷ gs) (first ∷ plans) stand same (suc i) n plan at there =
-      let rest : map set_view plans ≡ set_plans (table_of c) (k + 1) gs = cc in
+      let rest : map set_view plans ≡ set_plans t.code (table_of c) (k + 1) gs = cc in
       sets-run (k + 1) gs plans (next k g gs stand) rest i n plan (omega (arith, at)) there
 
 -- the first state set of a program has the name that the code knows
@@ -149,7 +149,7 @@ plans_are_right p ls waits c t is =
     let names = ap (λ (v : PlainPlan). v.name) is.plan in
     let links = ap (λ (v : PlainPlan). v.links) is.plan in
     let waiting = ap (λ (v : PlainPlan). v.waits) is.plan in
-    let plans = ap (λ (v : PlainPlan). v.sets) is.plan in
+    let plans = ap (λ (v : PlainPlan). v.sets) is.plan ∙ ap (λ (code : List Instr). set_plans code (table_of c) 0 p.state_sets) (sym is.code) in
     let all = t.plan.sets.items in
     let sets = sets-mean p ls waits c t is 0 p.state_sets all (all-stand p) plans in
     let first : first_name (sets_from t 0 all) ≡ name_by (slice_get p.state_sets 0) = ap first_name sets ∙ first-name p (holds_in (table_of c)) in

@@ -53,7 +53,7 @@ module _ (p : ProgramTree) (code : List Instr) (functions : List run.Entry) (t :
   IsRight b k s plan = (state_of context code plan ≡ if_reached b (state_meaning (scene_in p set) s)) × CanRunState context code plan
 
   -- one of a state that the code has
-  held-right : (k : ℕ) (s : StateTree) (plan : StatePlan) → holds_in t set k ≡ true → state_at p set k ≡ Some s → state_view plan ≡ state_plan (here_in p set).states t set k s →
+  held-right : (k : ℕ) (s : StateTree) (plan : StatePlan) → holds_in t set k ≡ true → state_at p set k ≡ Some s → state_view plan ≡ state_plan (here_in p set).states code t set k s →
       IsRight true k s plan
   held-right k s plan held at is =
       let kept : (o : Option PieceTree) → (if holds_in t set k then o else None) ≡ o = λ o. ap (λ (b : Bool). if b then o else None) held in
@@ -62,8 +62,8 @@ module _ (p : ProgramTree) (code : List Instr) (functions : List run.Entry) (t :
       let names = ap (λ (v : PlainState). v.name) is in
       let enters : (w : World) → block_at context code plan.blocks.entry w ≡ block_meaning (scene_in p set) s.entry w =
       λ w. ap (λ (v : PlainState). block_at context code v.blocks.entry w) is ∙ entry.0 w in
-      let planned : plan.clauses.items ≡ clause_plans (here_in p set).states t set k 0 s.clauses =
-      ap (λ (v : PlainState). v.clauses) is ∙ ap (λ (b : Bool). clauses_if b (here_in p set).states t set k s.clauses) held in
+      let planned : plan.clauses.items ≡ clause_plans (here_in p set).states code t set k 0 s.clauses =
+      ap (λ (v : PlainState). v.clauses) is ∙ ap (λ (b : Bool). clauses_if b (here_in p set).states code t set k s.clauses) held in
       let clauses = ap (map (clause_of context code)) planned ∙ clauses-mean p code functions t room set placed enough k held 0 s.clauses (stands k s at) in
       let leaves : (w : World) → block_at context code plan.blocks.exit w ≡ block_meaning (scene_in p set) s.exit w =
       λ w. ap (λ (v : PlainState). block_at context code v.blocks.exit w) is ∙ exit.0 w in
@@ -77,13 +77,13 @@ module _ (p : ProgramTree) (code : List Instr) (functions : List run.Entry) (t :
       )
 
   -- one of a state that it does not have
-  left-right : (k : ℕ) (s : StateTree) (plan : StatePlan) → holds_in t set k ≡ false → state_view plan ≡ state_plan (here_in p set).states t set k s → IsRight false k s plan
+  left-right : (k : ℕ) (s : StateTree) (plan : StatePlan) → holds_in t set k ≡ false → state_view plan ≡ state_plan (here_in p set).states code t set k s → IsRight false k s plan
   left-right k s plan held is =
       let left : (o : Option PieceTree) → (if holds_in t set k then o else None) ≡ None = λ o. ap (λ (b : Bool). if b then o else None) held in
       let entry : plan.blocks.entry ≡ None = ap (λ (v : PlainState). v.blocks.entry) is ∙ unplaced (Entry set k) (left (piece_of p (Entry set k))) in
       let exit : plan.blocks.exit ≡ None = ap (λ (v : PlainState). v.blocks.exit) is ∙ unplaced (Exit set k) (left (piece_of p (Exit set k))) in
       let clauses : plan.clauses.items ≡ [] =
-      ap (λ (v : PlainState). v.clauses) is ∙ ap (λ (b : Bool). clauses_if b (here_in p set).states t set k s.clauses) held in
+      ap (λ (v : PlainState). v.clauses) is ∙ ap (λ (b : Bool). clauses_if b (here_in p set).states code t set k s.clauses) held in
       let names = ap (λ (v : PlainState). v.name) is in
       let again = ap (λ (v : PlainState). v.again) is in (
         λ j. record {
@@ -101,7 +101,7 @@ module _ (p : ProgramTree) (code : List Instr) (functions : List run.Entry) (t :
       )
 
   -- each
-  state-right : (k : ℕ) (s : StateTree) (plan : StatePlan) → state_at p set k ≡ Some s → state_view plan ≡ state_plan (here_in p set).states t set k s →
+  state-right : (k : ℕ) (s : StateTree) (plan : StatePlan) → state_at p set k ≡ Some s → state_view plan ≡ state_plan (here_in p set).states code t set k s →
       IsRight (holds_in t set k) k s plan
   state-right k s plan at is = by (holds_in t set k) refl
     where
@@ -118,25 +118,25 @@ module _ (p : ProgramTree) (code : List Instr) (functions : List run.Entry) (t :
   next k s ss stand j n d is there = stand (suc j) n d (omega (arith, is)) there
 
   -- states mean what their plans run
-  pub states-mean : (k : ℕ) (ss : List StateTree) (plans : List StatePlan) → StandFrom k ss → map state_view plans ≡ state_plans (here_in p set).states t set k ss →
+  pub states-mean : (k : ℕ) (ss : List StateTree) (plans : List StatePlan) → StandFrom k ss → map state_view plans ≡ state_plans (here_in p set).states code t set k ss →
       map (state_of context code) plans ≡ states_reached (holds_in t set) k (map (state_meaning (scene_in p set)) ss)
   states-mean k [] [] stand is = refl
   states-mean k [] (plan ∷ plans) stand is = absurd (cc)
   states-mean k (s ∷ ss) [] stand is = absurd (cc)
   states-mean k (s ∷ ss) (plan ∷ plans) stand is =
-      let one : state_view plan ≡ state_plan (here_in p set).states t set k s = cc in
-      let rest : map state_view plans ≡ state_plans (here_in p set).states t set (k + 1) ss = cc in
+      let one : state_view plan ≡ state_plan (here_in p set).states code t set k s = cc in
+      let rest : map state_view plans ≡ state_plans (here_in p set).states code t set (k + 1) ss = cc in
       λ j. (state-right k s plan (stand 0 k s (omega arith) refl) one).0 j ∷ states-mean (k + 1) ss plans (next k s ss stand) rest j
 
   -- and they can run
-  pub states-run : (k : ℕ) (ss : List StateTree) (plans : List StatePlan) → StandFrom k ss → map state_view plans ≡ state_plans (here_in p set).states t set k ss →
+  pub states-run : (k : ℕ) (ss : List StateTree) (plans : List StatePlan) → StandFrom k ss → map state_view plans ≡ state_plans (here_in p set).states code t set k ss →
       CanRunSet context code plans
   states-run k ss [] stand is i plan there = absurd (cc)
   states-run k [] (first ∷ plans) stand is i plan there = absurd (cc)
   states-run k (s ∷ ss) (first ∷ plans) stand is zero plan there =
       let same : first ≡ plan = cc in
-      let one : state_view first ≡ state_plan (here_in p set).states t set k s = cc in
+      let one : state_view first ≡ state_plan (here_in p set).states code t set k s = cc in
       subst (λ (x : StatePlan). CanRunState context code x) same (state-right k s first (stand 0 k s (omega arith) refl) one).1
   states-run k (s ∷ ss) (first ∷ plans) stand is (suc i) plan there =
-      let rest : map state_view plans ≡ state_plans (here_in p set).states t set (k + 1) ss = cc in
+      let rest : map state_view plans ≡ state_plans (here_in p set).states code t set (k + 1) ss = cc in
       states-run (k + 1) ss plans (next k s ss stand) rest i plan there

@@ -23,7 +23,7 @@ pub record IsLoadedOf (p : ProgramTree) (ls : List Link) (waits : Bool) (c : Cod
   pub functions : t.functions ≡ entries_of c
   pub room : t.room ≡ c.depth
   pub counted : c.depth < 2 ^ 64 - 1
-  pub plan : plan_view t.plan ≡ program_plan p ls waits (table_of c)
+  pub plan : plan_view t.plan ≡ program_plan p ls waits c.instrs.items (table_of c)
 
 -- What it runs is what the program means on its tree, without the pieces of the states that the code does not have; and no piece
 -- of it is ever stuck.

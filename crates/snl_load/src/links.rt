@@ -10,7 +10,7 @@ use crate::channels::channel_number;
 use indexmap::IndexSet;
 use snl_channels::Link;
 use snl_meaning::{Offsets, Places, Tied, Variable};
-use snl_vm::Homes;
+use snl_vm::{AllHomes, Homes};
 use std::alloc::{AllocError, Global};
 
 /// Where the elements of a link begin in a copy, if that has the link's variable.
@@ -36,8 +36,8 @@ fn homes_of(alloc: Global, places: &Places, links: &[Link]) -> Result<Homes, All
 }
 
 /// The words where the elements of each link begin, in each copy that has its variable. The only error is that memory ends.
-pub fn homes_in(alloc: Global, copies: &[Places], links: &[Link]) -> Result<Vec<Homes>, AllocError>
-    ensures { IfOk result (λ homes. map (λ h. h.places.items) homes.items
+pub fn homes_in(alloc: Global, copies: &[Places], links: &[Link]) -> Result<AllHomes, AllocError>
+    ensures { IfOk result (λ homes. map (λ h. h.places.items) homes.sets.items
         ≡ spec.homes_in copies.now (map link_view links.now)) }
 {
     let mut homes = Vec::new(alloc);
@@ -45,7 +45,7 @@ pub fn homes_in(alloc: Global, copies: &[Places], links: &[Link]) -> Result<Vec<
         let of_copy = homes_of(alloc, places, links)?;
         homes.push(of_copy)?;
     }
-    Ok(homes)
+    AllHomes::new(alloc, homes)
 }
 
 /// The variable that is declared at an offset, by the first copy that has it.

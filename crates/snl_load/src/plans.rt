@@ -12,15 +12,17 @@ ghost use Rattle.snl_load.specs.Meaning as meaning;
 ghost use Rattle.snl_load.specs.Places.{channels, flags_in, placed_sets};
 ghost use Rattle.snl_load.specs.Plans as spec;
 ghost use Rattle.snl_load.specs.Sets.{names_in};
+ghost use Rattle.snl_schedule.specs.Plans.{tested_by};
 
 use crate::links::ties_of;
 use indexmap::IndexSet;
 use snl_channels::Link;
 use snl_flat::{Code, Piece, names_in};
-use snl_meaning::{Offsets, Places};
+use snl_meaning::{Instr, Offsets, Places};
 use snl_resolve::{Numbered, sign_in_force};
 use snl_schedule::{Again, Blocks, ClausePlan, Destination, Plan, SetPlan, StatePlan};
 use snl_syntax::{self as syntax, Clause, Def, Program, State, StateSet};
+use snl_vm::{Test, is_empty_at, test_at};
 use std::alloc::{AllocError, Global};
 
 /// Where a clause leads, by the names of the states.
@@ -41,6 +43,16 @@ struct Which {
     clause: usize,
 }
 
+/// What the condition at an address tests; a missing one is no test.
+fn tested_by(code: &[Instr], condition: Option<usize>) -> Test
+    ensures { result ≡ tested_by code.now condition }
+{
+    match condition {
+        Some(start) => test_at(code, start),
+        None => Test::Code,
+    }
+}
+
 /// The plan of a clause.
 fn clause_plan<'a>(
     clause: &Clause<'a>,
@@ -48,27 +60,31 @@ fn clause_plan<'a>(
     states: &Numbered<'a>,
     code: &Code,
 ) -> ClausePlan
-    ensures { result ≡ spec.clause_plan states.now (table_of code.now) which.set which.state
-        which.clause (clause_view clause.now) }
+    ensures { result ≡ spec.clause_plan states.now code.now.instrs.items (table_of code.now)
+        which.set which.state which.clause (clause_view clause.now) }
 {
     let Which {
         set,
         state,
         clause: number,
     } = which;
-    ClausePlan {
-        condition: code.start(Piece::Condition {
+    let condition = code.start(Piece::Condition {
+        set,
+        state,
+        clause: number,
+    });
+    let block = code
+        .start(Piece::Block {
             set,
             state,
             clause: number,
-        }),
-        block: code
-            .start(Piece::Block {
-                set,
-                state,
-                clause: number,
-            })
-            .unwrap_or(0),
+        })
+        .unwrap_or(0);
+    ClausePlan {
+        condition,
+        test: tested_by(code.instrs(), condition),
+        block,
+        is_empty: is_empty_at(code.instrs(), block),
         target: target_of(clause.target, states),
         line: clause.word.pos.line,
         number,
@@ -84,10 +100,10 @@ fn clause_plans<'a>(
     states: &Numbered<'a>,
     code: &Code,
 ) -> Result<Vec<ClausePlan>, AllocError>
-    ensures { IfOk result (λ plans. plans.items ≡ spec.clause_plans states.now (table_of code.now)
-        set state 0 (map clause_view clauses.now)) }
+    ensures { IfOk result (λ plans. plans.items ≡ spec.clause_plans states.now
+        code.now.instrs.items (table_of code.now) set state 0 (map clause_view clauses.now)) }
 {
-    let mut plans = Vec::new(alloc);
+    let mut plans = Vec::with_capacity(alloc, clauses.len())?;
     for (clause, one) in clauses.iter().enumerate() {
         plans.push(clause_plan(one, Which { set, state, clause }, states, code))?;
     }
@@ -104,8 +120,8 @@ fn kept_clauses<'a>(
     code: &Code,
 ) -> Result<Vec<ClausePlan>, AllocError>
     ensures { IfOk result (λ plans. plans.items ≡ spec.clauses_if
-        (holds_in (table_of code.now) set state) states.now (table_of code.now) set state
-        (map clause_view clauses.now)) }
+        (holds_in (table_of code.now) set state) states.now code.now.instrs.items
+        (table_of code.now) set state (map clause_view clauses.now)) }
 {
     if code.holds(set, state) {
         return clause_plans(alloc, clauses, set, state, states, code);
@@ -154,7 +170,7 @@ fn state_plan<'a>(
     code: &Code,
 ) -> Result<StatePlan, AllocError>
     ensures { IfOk result (λ plan. spec.state_view plan ≡ spec.state_plan states.now
-        (table_of code.now) set number (state_view state.now)) }
+        code.now.instrs.items (table_of code.now) set number (state_view state.now)) }
 {
     let name = Vec::from_slice(alloc, state.name.text)?;
     let clauses = kept_clauses(alloc, state.clauses.as_slice(), set, number, states, code)?;
@@ -175,7 +191,7 @@ fn state_plans<'a>(
     code: &Code,
 ) -> Result<Vec<StatePlan>, AllocError>
     ensures { IfOk result (λ plans. map spec.state_view plans.items ≡ spec.state_plans names.now
-        (table_of code.now) set 0 (map state_view states.now)) }
+        code.now.instrs.items (table_of code.now) set 0 (map state_view states.now)) }
 {
     let mut plans = Vec::new(alloc);
     for (number, state) in states.iter().enumerate() {
@@ -193,8 +209,8 @@ fn states_of<'a>(
     code: &Code,
 ) -> Result<Vec<StatePlan>, AllocError>
     ensures { IfOk result (λ plans. map spec.state_view plans.items
-        ≡ spec.state_plans (spec.names_of (state_set_view set.now)) (table_of code.now) number 0
-        (state_set_view set.now).states) }
+        ≡ spec.state_plans (spec.names_of (state_set_view set.now)) code.now.instrs.items
+        (table_of code.now) number 0 (state_set_view set.now).states) }
 {
     let states = set.states.as_slice();
     let names = names_in(alloc, set)?;
@@ -208,8 +224,8 @@ fn set_plan(
     number: usize,
     code: &Code,
 ) -> Result<SetPlan, AllocError>
-    ensures { IfOk result (λ plan. spec.set_view plan ≡ spec.set_plan (table_of code.now) number
-        (state_set_view set.now)) }
+    ensures { IfOk result (λ plan. spec.set_view plan ≡ spec.set_plan code.now.instrs.items
+        (table_of code.now) number (state_set_view set.now)) }
 {
     let name = Vec::from_slice(alloc, set.name.text)?;
     let states = states_of(alloc, set, number, code)?;
@@ -219,7 +235,7 @@ fn set_plan(
 /// The plans of all state sets.
 fn set_plans(alloc: Global, sets: &[StateSet], code: &Code) -> Result<Vec<SetPlan>, AllocError>
     ensures { IfOk result (λ plans. map spec.set_view plans.items ≡ spec.set_plans
-        (table_of code.now) 0 (map state_set_view sets.now)) }
+        code.now.instrs.items (table_of code.now) 0 (map state_set_view sets.now)) }
 {
     let mut plans = Vec::new(alloc);
     for (number, set) in sets.iter().enumerate() {
@@ -246,7 +262,8 @@ pub fn plan_of<'a>(
     requires copies { copies.now
         ≡ placed_sets (program_view program.now) 0 (program_view program.now).state_sets }
     ensures { IfOk result (λ plan. spec.plan_view plan ≡ spec.program_plan
-        (program_view program.now) (map link_view links.now) waits (table_of code.now)) }
+        (program_view program.now) (map link_view links.now) waits code.now.instrs.items
+        (table_of code.now)) }
 {
     let name = Vec::from_slice(alloc, program.name.text)?;
     let ties = ties_of(alloc, links, names, flags, copies)?;

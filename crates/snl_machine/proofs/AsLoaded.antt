@@ -24,10 +24,10 @@ use Rattle.snl_machine.specs.MachineOf.{IsMachineOf, world_held}
 use Rattle.snl_machine.proofs.Footprint.{machines_hold_the_footprint}
 
 module _ (p : ProgramTree) (ls given : List Link) (waits : Bool) (code : Code) (plan : Plan) (links-are : given ≡ ls)
-    (planned : plan_view plan ≡ program_plan p given waits (table_of code)) where
+    (planned : plan_view plan ≡ program_plan p given waits code.instrs.items (table_of code)) where
   -- the plan is that of the links
-  plan-is : plan_view plan ≡ program_plan p ls waits (table_of code)
-  plan-is = planned ∙ ap (λ (l : List Link). program_plan p l waits (table_of code)) links-are
+  plan-is : plan_view plan ≡ program_plan p ls waits code.instrs.items (table_of code)
+  plan-is = planned ∙ ap (λ (l : List Link). program_plan p l waits code.instrs.items (table_of code)) links-are
 
   -- code and plan of a program, where there was room for the operands
   pub loaded-is : IsCodeOf p code → IsInside p code → length code.instrs.items ≤ program_size (holds_in (table_of code)) p → code.depth < 2 ^ 64 - 1 →

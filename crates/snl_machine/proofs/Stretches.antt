@@ -48,39 +48,39 @@ over-ends (Faults f line w text) = tt
 -- ---- what stands in a plan
 
 -- the state set of a number
-sets-found : (tb : ProgramTable) (k : ℕ) (gs : List StateSetTree) (plans : List SetPlan) → map set_view plans ≡ set_plans tb k gs → (i n : ℕ) (s : SetPlan) → n ≡ k + i → slice_get plans i ≡ Some s →
-    (g : StateSetTree) × (slice_get gs i ≡ Some g) × (set_view s ≡ set_plan tb n g)
-sets-found tb k gs [] same i n s is there = absurd (cc)
-sets-found tb k [] (plan ∷ plans) same i n s is there = absurd (cc)
-sets-found tb k (g ∷ gs) (plan ∷ plans) same zero n s is there =
-    let one : set_view plan ≡ set_plan tb k g = cc in
+sets-found : (code : List Instr) (tb : ProgramTable) (k : ℕ) (gs : List StateSetTree) (plans : List SetPlan) → map set_view plans ≡ set_plans code tb k gs →
+    (i n : ℕ) (s : SetPlan) → n ≡ k + i → slice_get plans i ≡ Some s → (g : StateSetTree) × (slice_get gs i ≡ Some g) × (set_view s ≡ set_plan code tb n g)
+sets-found code tb k gs [] same i n s is there = absurd (cc)
+sets-found code tb k [] (plan ∷ plans) same i n s is there = absurd (cc)
+sets-found code tb k (g ∷ gs) (plan ∷ plans) same zero n s is there =
+    let one : set_view plan ≡ set_plan code tb k g = cc in
     let this : s ≡ plan = cc in
-    let number : k ≡ n = omega (arith, is) in (g, refl, ap set_view this ∙ one ∙ ap (λ (m : ℕ). set_plan tb m g) number)
-sets-found tb k (g ∷ gs) (plan ∷ plans) same (suc i) n s is there =
-    let rest : map set_view plans ≡ set_plans tb (k + 1) gs = cc in sets-found tb (k + 1) gs plans rest i n s (omega (arith, is)) there
+    let number : k ≡ n = omega (arith, is) in (g, refl, ap set_view this ∙ one ∙ ap (λ (m : ℕ). set_plan code tb m g) number)
+sets-found code tb k (g ∷ gs) (plan ∷ plans) same (suc i) n s is there =
+    let rest : map set_view plans ≡ set_plans code tb (k + 1) gs = cc in sets-found code tb (k + 1) gs plans rest i n s (omega (arith, is)) there
 
 -- and the state
-states-found : (names : List Token) (tb : ProgramTable) (set k : ℕ) (ss : List StateTree) (plans : List StatePlan) → map state_view plans ≡ state_plans names tb set k ss →
-    (i n : ℕ) (q : StatePlan) → n ≡ k + i → slice_get plans i ≡ Some q → (s : StateTree) × (slice_get ss i ≡ Some s) × (state_view q ≡ state_plan names tb set n s)
-states-found names tb set k ss [] same i n q is there = absurd (cc)
-states-found names tb set k [] (plan ∷ plans) same i n q is there = absurd (cc)
-states-found names tb set k (s ∷ ss) (plan ∷ plans) same zero n q is there =
-    let one : state_view plan ≡ state_plan names tb set k s = cc in
+states-found : (names : List Token) (code : List Instr) (tb : ProgramTable) (set k : ℕ) (ss : List StateTree) (plans : List StatePlan) → map state_view plans ≡ state_plans names code tb set k ss →
+    (i n : ℕ) (q : StatePlan) → n ≡ k + i → slice_get plans i ≡ Some q → (s : StateTree) × (slice_get ss i ≡ Some s) × (state_view q ≡ state_plan names code tb set n s)
+states-found names code tb set k ss [] same i n q is there = absurd (cc)
+states-found names code tb set k [] (plan ∷ plans) same i n q is there = absurd (cc)
+states-found names code tb set k (s ∷ ss) (plan ∷ plans) same zero n q is there =
+    let one : state_view plan ≡ state_plan names code tb set k s = cc in
     let this : q ≡ plan = cc in
-    let number : k ≡ n = omega (arith, is) in (s, refl, ap state_view this ∙ one ∙ ap (λ (m : ℕ). state_plan names tb set m s) number)
-states-found names tb set k (s ∷ ss) (plan ∷ plans) same (suc i) n q is there =
-    let rest : map state_view plans ≡ state_plans names tb set (k + 1) ss = cc in states-found names tb set (k + 1) ss plans rest i n q (omega (arith, is)) there
+    let number : k ≡ n = omega (arith, is) in (s, refl, ap state_view this ∙ one ∙ ap (λ (m : ℕ). state_plan names code tb set m s) number)
+states-found names code tb set k (s ∷ ss) (plan ∷ plans) same (suc i) n q is there =
+    let rest : map state_view plans ≡ state_plans names code tb set (k + 1) ss = cc in states-found names code tb set (k + 1) ss plans rest i n q (omega (arith, is)) there
 
 -- as many state sets are planned as there are, with numbers from k on
-sets-planned : (tb : ProgramTable) (k : ℕ) (gs : List StateSetTree) (plans : List SetPlan) → map set_view plans ≡ set_plans tb k gs → length plans ≡ length gs
-sets-planned tb k [] [] same = refl
-sets-planned tb k [] (plan ∷ plans) same = absurd (cc)
-sets-planned tb k (g ∷ gs) [] same = absurd (cc)
-sets-planned tb k (g ∷ gs) (plan ∷ plans) same = let rest : map set_view plans ≡ set_plans tb (k + 1) gs = cc in ap suc (sets-planned tb (k + 1) gs plans rest)
+sets-planned : (code : List Instr) (tb : ProgramTable) (k : ℕ) (gs : List StateSetTree) (plans : List SetPlan) → map set_view plans ≡ set_plans code tb k gs → length plans ≡ length gs
+sets-planned code tb k [] [] same = refl
+sets-planned code tb k [] (plan ∷ plans) same = absurd (cc)
+sets-planned code tb k (g ∷ gs) [] same = absurd (cc)
+sets-planned code tb k (g ∷ gs) (plan ∷ plans) same = let rest : map set_view plans ≡ set_plans code tb (k + 1) gs = cc in ap suc (sets-planned code tb (k + 1) gs plans rest)
 
 -- all of them
 pub as-many : (p : ProgramTree) (ls : List Link) (waits : Bool) (c : Code) (t : Loaded) → IsLoadedOf p ls waits c t → length t.plan.sets.items ≡ length p.state_sets
-as-many p ls waits c t is = sets-planned (table_of c) 0 p.state_sets t.plan.sets.items (ap (λ (v : PlainPlan). v.sets) is.plan)
+as-many p ls waits c t is = sets-planned c.instrs.items (table_of c) 0 p.state_sets t.plan.sets.items (ap (λ (v : PlainPlan). v.sets) is.plan)
 
 module _ (stretches : StretchesAreBounded) (p : ProgramTree) (ls : List Link) (waits : Bool) (c : Code) (t : Loaded) (is : IsLoadedOf p ls waits c t)
     (apart : (set state : ℕ) (s : StateTree) (x : StateTable) → state_at p set state ≡ Some s → state_in (table_of c) set state ≡ Some x → x.is_reached ≡ true →
@@ -122,7 +122,7 @@ module _ (stretches : StretchesAreBounded) (p : ProgramTree) (ls : List Link) (w
   module _ (set state : ℕ) (st : StateTree) (x : StateTable) (at : state_at p set state ≡ Some st) (there : state_in tb set state ≡ Some x) (held : x.is_reached ≡ true) where
     -- the plan of a clause
     abbrev plan_of : ℕ → ClauseTree → ClausePlan
-    plan_of j d = clause_plan (here_in p set).states tb set state j d
+    plan_of j d = clause_plan (here_in p set).states code tb set state j d
 
     -- where its block begins
     block-is : (j : ℕ) (s : ClauseStarts) → slice_get x.clauses j ≡ Some s → unwrap_or (start_in tb (Block set state j)) 0 ≡ s.block
@@ -185,18 +185,18 @@ module _ (stretches : StretchesAreBounded) (p : ProgramTree) (ls : List Link) (w
     -- clauses with numbers from j on
     rows-tested : (j from : ℕ) (ds : List ClauseTree) (ss : List ClauseStarts) → ((i n : ℕ) (d : ClauseTree) → n ≡ j + i → slice_get ds i ≡ Some d → slice_get st.clauses n ≡ Some d) →
         ((i n : ℕ) (s : ClauseStarts) → n ≡ j + i → slice_get ss i ≡ Some s → slice_get x.clauses n ≡ Some s) → AreApart p set code functions from ds ss →
-        AreTested (context set) code from (clause_plans (here_in p set).states tb set state j ds)
+        AreTested (context set) code from (clause_plans (here_in p set).states code tb set state j ds)
     rows-tested j from [] ss trees starts all = tt
     rows-tested j from (d ∷ ds) [] trees starts all = absurd all
     rows-tested j from (d ∷ ds) (s ∷ ss) trees starts all =
         let first = starts 0 j s (omega arith) refl in (
           tested j from d s (trees 0 j d (omega arith) refl) first all.0,
-          subst (λ (b : ℕ). AreTested (context set) code b (clause_plans (here_in p set).states tb set state (j + 1) ds)) (sym (block-is j s first))
+          subst (λ (b : ℕ). AreTested (context set) code b (clause_plans (here_in p set).states code tb set state (j + 1) ds)) (sym (block-is j s first))
               (rows-tested (j + 1) s.block ds ss (λ i n y same at'. trees (suc i) n y (omega (arith, same)) at') (λ i n y same at'. starts (suc i) n y (omega (arith, same)) at') all.1),
         )
 
     -- all clauses of a state that the code has
-    held-tested : AreTested (context set) code 0 (clause_plans (here_in p set).states tb set state 0 st.clauses)
+    held-tested : AreTested (context set) code 0 (clause_plans (here_in p set).states code tb set state 0 st.clauses)
     held-tested =
         rows-tested 0 0 st.clauses x.clauses
         (λ i n d same found. let e : n ≡ i = omega (arith, same) in ap (λ (m : ℕ). slice_get st.clauses m) e ∙ found)
@@ -204,22 +204,22 @@ module _ (stretches : StretchesAreBounded) (p : ProgramTree) (ls : List Link) (w
         (apart set state st x at there held)
 
   -- all clauses that are planned of a state
-  state-tested : (set state : ℕ) (st : StateTree) (q : StatePlan) → state_at p set state ≡ Some st → state_view q ≡ state_plan (here_in p set).states tb set state st →
+  state-tested : (set state : ℕ) (st : StateTree) (q : StatePlan) → state_at p set state ≡ Some st → state_view q ≡ state_plan (here_in p set).states code tb set state st →
       AreTested (context set) code 0 q.clauses.items
   state-tested set state st q at planned = by (state_in tb set state) refl
     where
       -- without clauses
       without : holds_in tb set state ≡ false → AreTested (context set) code 0 q.clauses.items
       without left =
-          let none : q.clauses.items ≡ [] = ap (λ (v : PlainState). v.clauses) planned ∙ ap (λ (b : Bool). clauses_if b (here_in p set).states tb set state st.clauses) left in
+          let none : q.clauses.items ≡ [] = ap (λ (v : PlainState). v.clauses) planned ∙ ap (λ (b : Bool). clauses_if b (here_in p set).states code tb set state st.clauses) left in
           subst (λ (cs : List ClausePlan). AreTested (context set) code 0 cs) (sym none) tt
 
       -- with them
       with_it : (x : StateTable) → state_in tb set state ≡ Some x → (b : Bool) → x.is_reached ≡ b → AreTested (context set) code 0 q.clauses.items
       with_it x there false left = without (ap is_held there ∙ left)
       with_it x there true held =
-          let all : q.clauses.items ≡ clause_plans (here_in p set).states tb set state 0 st.clauses =
-          ap (λ (v : PlainState). v.clauses) planned ∙ ap (λ (b : Bool). clauses_if b (here_in p set).states tb set state st.clauses) (ap is_held there ∙ held) in
+          let all : q.clauses.items ≡ clause_plans (here_in p set).states code tb set state 0 st.clauses =
+          ap (λ (v : PlainState). v.clauses) planned ∙ ap (λ (b : Bool). clauses_if b (here_in p set).states code tb set state st.clauses) (ap is_held there ∙ held) in
           subst (λ (cs : List ClausePlan). AreTested (context set) code 0 cs) (sym all) (held-tested set state st x at there held)
 
       by : (o : Option StateTable) → state_in tb set state ≡ o → AreTested (context set) code 0 q.clauses.items
@@ -227,7 +227,7 @@ module _ (stretches : StretchesAreBounded) (p : ProgramTree) (ls : List Link) (w
       by (Some x) there = with_it x there x.is_reached refl
 
   -- the code of a state set runs with what is known of it
-  contexts : (k : ℕ) (g : StateSetTree) (s : SetPlan) → slice_get p.state_sets k ≡ Some g → set_view s ≡ set_plan tb k g → context_in t k s ≡ context k
+  contexts : (k : ℕ) (g : StateSetTree) (s : SetPlan) → slice_get p.state_sets k ≡ Some g → set_view s ≡ set_plan code tb k g → context_in t k s ≡ context k
   contexts k g s at one =
       let names : s.name.items ≡ name_by (slice_get p.state_sets k) = ap (λ (v : PlainSet). v.name) one ∙ sym (ap name_by at) in
       let texts : t.formats ≡ formats_of (here_in p k) = is.formats ∙ is.code_is.texts in
@@ -236,12 +236,12 @@ module _ (stretches : StretchesAreBounded) (p : ProgramTree) (ls : List Link) (w
   -- the conditions of each state lie beside each other
   pub all-tested : AllTested t
   all-tested k s there n q found =
-      let set = sets-found tb 0 p.state_sets t.plan.sets.items (ap (λ (v : PlainPlan). v.sets) is.plan) k k s (omega arith) there in
+      let set = sets-found code tb 0 p.state_sets t.plan.sets.items (ap (λ (v : PlainPlan). v.sets) is.plan) k k s (omega arith) there in
       let g : StateSetTree = set.0 in
       let at : slice_get p.state_sets k ≡ Some g = set.1 in
-      let planned : map state_view s.states.items ≡ state_plans (here_in p k).states tb k 0 g.states =
-      ap (λ (v : PlainSet). v.states) set.2 ∙ ap (λ (o : Option StateSetTree). state_plans (states_by o) tb k 0 g.states) (sym at) in
-      let state = states-found (here_in p k).states tb k 0 g.states s.states.items planned n n q (omega arith) found in
+      let planned : map state_view s.states.items ≡ state_plans (here_in p k).states code tb k 0 g.states =
+      ap (λ (v : PlainSet). v.states) set.2 ∙ ap (λ (o : Option StateSetTree). state_plans (states_by o) code tb k 0 g.states) (sym at) in
+      let state = states-found (here_in p k).states code tb k 0 g.states s.states.items planned n n q (omega arith) found in
       let stands : state_at p k n ≡ Some state.0 = ap (option_and_then (λ (h : StateSetTree). slice_get h.states n)) at ∙ state.1 in
       subst (λ (h : PieceContext). AreTested h t.code 0 q.clauses.items) (sym (contexts k g s at set.2))
       (subst (λ (l : List Instr). AreTested (context k) l 0 q.clauses.items) (sym is.code) (state-tested k n state.0 q stands state.2))

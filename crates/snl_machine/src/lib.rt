@@ -6,6 +6,7 @@
 
 mod calls;
 pub mod laws;
+mod lending;
 mod loading;
 mod machine;
 mod making;

@@ -1,5 +1,5 @@
 -- Laws of the count of steps: of what follows one another.
-use Rattle.std.proofs.Common.{◌≡◌, ◌+◌, ◌<◌, ◌≤◌, ℕ, suc, Bool, true, false, List, Option, None, Some, Result, Err, ap, sym, subst, arith, length, drop, get_or, slice_get, if◌then◌else◌}
+use Rattle.std.proofs.Common.{◌≡◌, ◌+◌, ◌<◌, ◌≤◌, ℕ, zero, suc, Bool, true, false, List, Option, None, Some, Result, Err, ap, refl, sym, subst, arith, length, drop, get_or, slice_get, if◌then◌else◌}
 use Rattle.std.proofs.lemmas.List.{drop_all, drop_more}
 use Rattle.snl_output.specs.declared.faults.Stop.{Stop}
 use Rattle.snl_output.specs.declared.faults.Stop.TheVariants as stop
@@ -20,6 +20,7 @@ use Rattle.snl_schedule.specs.Loaded.{Loaded, context_in, own_context, program_o
 use Rattle.snl_schedule.specs.Plans.{test_at, set_of}
 use Rattle.snl_schedule.specs.Turn.{turn_of}
 use Rattle.snl_schedule.specs.Steps.{steps_then, block_steps, held_steps, chosen_if_steps, chosen_steps, AddsUpTo, turn_steps, turns_steps, unless_exited_steps, round_steps, rounds_steps, unless_still_steps, begun_steps, begun_sets_steps, instant_steps, wakes_steps, woken_steps}
+use Rattle.snl_schedule.proofs.Waking.{none-noted}
 
 -- ---- one step and then another
 
@@ -208,6 +209,11 @@ module _ (t : Loaded) (sets : List SetPlan) (i : ℕ) (s : SetPlan) (within : i 
       (adds-stops (Unit {0}) (λ x. x) why (begun (set_of g t.code s) w) after_begin u old new (begun_of g s) mid after did added)
 
 -- ---- wakes
+
+-- none is noted
+pub uncounted : (t : Loaded) (budget ms n : ℕ) (w : World) → w.wake ≡ None → wakes_steps t budget ms n w ≡ 0
+uncounted t budget ms zero w none = refl
+uncounted t budget ms (suc n) w none = ap (λ (o : Option ℕ). woken_steps t budget (wakes_steps t budget ms n) o w) (none-noted ms w none)
 
 module _ (t : Loaded) (budget ms : ℕ) (w : World) (n m : ℕ) (fuel : n ≡ suc m) (o : Option ℕ) (is : o ≡ wake_before ms w) (all mid : ℕ) (so_far : mid + wakes_steps t budget ms n w ≡ all) where
   -- what is left begins with the next wake

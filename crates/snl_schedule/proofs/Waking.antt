@@ -3,12 +3,27 @@ use Rattle.std.proofs.Common.{◌≡◌, ◌∙◌, ℕ, zero, suc, List, [], �
 use Rattle.snl_output.specs.declared.faults.Stop.{Stop}
 use Rattle.snl_output.specs.Does.{Does, Gave}
 use Rattle.snl_output.proofs.Doing.{IsOnWay, on_way-then, on_way-does, stopped-then, gave-silent}
-use Rattle.snl_meaning.specs.declared.live.Live.TheVariants.{Ended}
+use Rattle.snl_meaning.specs.declared.live.Live.{Live}
+use Rattle.snl_meaning.specs.declared.live.Live.TheVariants.{Waiting, Running, Ended}
 use Rattle.snl_meaning.specs.Frames.{Frame, frame_of}
 use Rattle.snl_meaning.specs.Ran.{Ran, Gives, Faults, also, then_do}
 use Rattle.snl_meaning.specs.World.{World}
 use Rattle.snl_schedule.specs.Instant.{Program, instant_of}
-use Rattle.snl_schedule.specs.Event.{wake_before, woken, wakes_of, all_wakes, HasInstant, AtWake, AtLine}
+use Rattle.snl_schedule.specs.Event.{wake_by, wake_before, woken, wakes_of, all_wakes, HasInstant, AtWake, AtLine}
+
+-- where no wake is noted there is none before any time
+pub none-noted : (ms : ℕ) (w : World) → w.wake ≡ None → wake_before ms w ≡ None
+none-noted ms w none = ap (wake_by ms w.phase) none ∙ by w.phase
+  where
+    by : (phase : Live) → wake_by ms phase None ≡ None
+    by Waiting = refl
+    by Running = refl
+    by Ended = refl
+
+-- so nothing comes before it
+pub no-wakes : (p : Program) (budget ms n : ℕ) (w : World) → w.wake ≡ None → wakes_of p budget ms n w ≡ Gives tt w []
+no-wakes p budget ms zero w none = refl
+no-wakes p budget ms (suc n) w none = ap (λ (o : Option ℕ). woken p budget (wakes_of p budget ms n) o w) (none-noted ms w none)
 
 module _ (p : Program) (budget ms : ℕ) (w : World) (n m : ℕ) (fuel : n ≡ suc m) (whole : Ran (Unit {0})) (old mid : Option (List ℕ)) (way : IsOnWay old mid whole (wakes_of p budget ms n w)) where
   -- what is left begins with the next wake

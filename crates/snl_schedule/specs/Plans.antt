@@ -7,6 +7,9 @@ use Rattle.snl_meaning.specs.Endings.{IsOver}
 use Rattle.snl_meaning.specs.Run.{PieceContext, run_of}
 use Rattle.snl_meaning.specs.World.{World}
 use Rattle.snl_vm.specs.Running.{context_by, LeavesValue, value_at, left_at}
+use Rattle.snl_vm.specs.Conditions as conditions
+use Rattle.snl_vm.specs.declared.parts.Test.{Test}
+use Rattle.snl_vm.specs.declared.parts.Test.TheVariants as test
 use Rattle.snl_schedule.specs.declared.plans.ClausePlan.{ClausePlan}
 use Rattle.snl_schedule.specs.declared.plans.StatePlan.{StatePlan}
 use Rattle.snl_schedule.specs.declared.plans.SetPlan.{SetPlan}
@@ -17,6 +20,11 @@ use Rattle.snl_schedule.specs.Turn.{Clause, State, StateSet, nothing}
 abbrev pub test_at : PieceContext → List Instr → Option ℕ → World → Ran Bool
 test_at g code None w = Gives true w []
 test_at g code (Some start) w = then_do (value_at g code start w) holds
+
+-- What the condition tests whose code begins at an address; a missing one is no test.
+abbrev pub tested_by : List Instr → Option ℕ → Test
+tested_by code None = test.Code
+tested_by code (Some start) = conditions.test_at code start
 
 -- Where an entry or an exit block leads does not count.
 abbrev pub ended : Option ℕ → World → Ran (Unit {0})
@@ -78,10 +86,12 @@ abbrev pub CanDo : PieceContext → List Instr → Option ℕ → Type 0
 CanDo g code None = Unit {0}
 CanDo g code (Some start) = (w : World) → IsOver (run_of g code start w)
 
--- The pieces of a clause come to their ends in every world.
+-- The pieces of a clause come to their ends in every world; what its plan says of them is so.
 pub record CanRun (g : PieceContext) (code : List Instr) (c : ClausePlan) : Type 0 where
   pub condition : CanTest g code c.condition
   pub block : (w : World) → IsOver (run_of g code c.block w)
+  pub tested : c.test ≡ tested_by code c.condition
+  pub emptied : c.is_empty ≡ conditions.is_empty_at code c.block
 
 -- The same of a clause that may be missing.
 abbrev pub CanFire : PieceContext → List Instr → Option ClausePlan → Type 0

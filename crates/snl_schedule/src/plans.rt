@@ -9,7 +9,7 @@ ghost use Rattle.std.proofs.Props.{props};
 
 use crate::goes::Goes;
 use snl_meaning::{Instr, Tied};
-use snl_vm::{CodeContext, PieceContext, Rows};
+use snl_vm::{CodeContext, PieceContext, Rows, Test};
 use std::alloc::{AllocError, Global};
 
 /// Where a clause leads (SNL Reference, "State Transitions").
@@ -26,8 +26,12 @@ pub enum Destination {
 pub struct ClausePlan {
     /// Where the code of its condition begins; None where it has none.
     pub condition: Option<usize>,
+    /// What that code tests.
+    pub test: Test,
     /// Where the code of its block begins.
     pub block: usize,
+    /// Whether the block is empty.
+    pub is_empty: bool,
     /// Where it leads.
     pub target: Destination,
     /// The line of the word `when`, from 1.

@@ -60,7 +60,7 @@ fn next_wake(ms: u64, store: &Store) -> Option<u64>
 
 /// An instant at each wake before a time. Each wake lies after the one before it, so there are no more than
 /// milliseconds until that time.
-fn wake_up<S: Sink, L: Ledger>(
+fn wake_each<S: Sink, L: Ledger>(
     ms: u64,
     program: &ProgramContext,
     memory: &mut Memory,
@@ -90,6 +90,31 @@ fn wake_up<S: Sink, L: Ledger>(
         }
     }
     Ok(())
+}
+
+/// The same. Where no wake is noted, the time and how far the program has come are not looked at.
+#[inline(always)]
+fn wake_up<S: Sink, L: Ledger>(
+    ms: u64,
+    program: &ProgramContext,
+    memory: &mut Memory,
+    sink: &mut S,
+    steps: &mut Steps<L>,
+) -> Result<(), Stop>
+    requires ready { CanGoOn S.failures (wanted_in program.now) memory.old sink.old }
+    requires runs { CanRunLoaded (loaded program.now) }
+    ensures does { DoesOn S.told (λ x. x) result memory.old memory.new sink.old sink.new
+        (spec.all_wakes (program_of (loaded program.now)) program.now.budget ms) }
+    ensures steps { Adds result (all_wakes_steps (loaded program.now) program.now.budget ms
+        (world_of memory.old.store)) steps.old steps.new }
+    ensures time { OnErr result (spec.HasInstant (program_of (loaded program.now))
+        program.now.budget ms (world_of memory.old.store) (world_of memory.new.store).time) }
+    ensures keeps { KeepsButTime S.failures result memory.old memory.new sink.old sink.new }
+{
+    match memory.store.wake {
+        None => Ok(()),
+        Some(_) => wake_each(ms, program, memory, sink, steps),
+    }
 }
 
 /// An event at its time, unless the program has ended.

@@ -5,7 +5,8 @@ ghost use Rattle.snl_output.specs.Devices.{counted, Wrote};
 ghost use Rattle.snl_output.specs.Lines.{go_line};
 ghost use Rattle.snl_vm.specs.Counting.{Adds};
 ghost use Rattle.snl_vm.specs.Memory.{CanGoOn, DoesOn, Keeps};
-ghost use Rattle.snl_vm.specs.Running.{context_by, wanted_by};
+ghost use Rattle.snl_meaning.specs.Run.{steps_of};
+ghost use Rattle.snl_vm.specs.Running.{context_by, left_at, wanted_by};
 ghost use Rattle.snl_vm.specs.Views.{world_of};
 ghost use Rattle.snl_schedule.specs.Goes.{name_at, target_name};
 ghost use Rattle.snl_schedule.specs.Plans.{CanDo, CanRun, CanTurn, block_at, clause_on, context_on, set_on, state_at};
@@ -16,7 +17,7 @@ use crate::goes::{name_at, target_name};
 use crate::plans::{ClausePlan, Destination, SetContext, SetPlan};
 use snl_meaning::Instr;
 use snl_output::{Sink, SinkFault, Stop, Went, write_go, write_timed};
-use snl_vm::{Memory, PieceContext, Steps, Store, perform, spend};
+use snl_vm::{Memory, PieceContext, Steps, Store, pass_by, perform, spend};
 use std::sync::ledger::Ledger;
 
 /// How a turn, or a round of turns, came to its end.
@@ -74,8 +75,8 @@ fn do_if_due<S: Sink, L: Ledger>(
     ensures keeps { Keeps S.failures result memory.old memory.new sink.old sink.new }
 {
     if is_due {
-        let context = &state_set.context;
-        do_block(start, state_set.code, context, memory, sink, steps)
+        let context = state_set.context;
+        do_block(start, state_set.code, &context, memory, sink, steps)
     } else {
         Ok(())
     }
@@ -286,6 +287,31 @@ fn target_by(left: Option<usize>, target: Destination) -> Destination
     }
 }
 
+/// A clause's block. For one that is empty no code is run.
+#[inline(always)]
+fn do_action<S: Sink, L: Ledger>(
+    clause: ClausePlan,
+    state_set: &SetContext,
+    memory: &mut Memory,
+    sink: &mut S,
+    steps: &mut Steps<L>,
+) -> Result<Option<usize>, Stop>
+    requires ready { CanGoOn S.failures (wanted_by state_set.now.context) memory.old sink.old }
+    requires clause { CanRun (context_on state_set.now) state_set.now.code.now clause }
+    ensures does { DoesOn S.told (λ state. state) result memory.old memory.new sink.old sink.new
+        (left_at (context_on state_set.now) state_set.now.code.now clause.block) }
+    ensures steps { Adds result (steps_of (context_on state_set.now) state_set.now.code.now
+        clause.block (world_of memory.old.store)) steps.old steps.new }
+    ensures keeps { Keeps S.failures result memory.old memory.new sink.old sink.new }
+{
+    let context = state_set.context;
+    if clause.is_empty {
+        pass_by(state_set.code, clause.block, &context, &memory.store, steps);
+        return Ok(None);
+    }
+    perform(state_set.code, clause.block, &context, memory, sink, steps)
+}
+
 /// A clause's block, and then the state that the block leaves for, or else where the clause leads.
 fn act<S: Sink, L: Ledger>(
     clause: ClausePlan,
@@ -304,14 +330,7 @@ fn act<S: Sink, L: Ledger>(
         state_set.now.plan.now from clause (world_of memory.old.store)) steps.old steps.new }
     ensures keeps { Keeps S.failures result memory.old memory.new sink.old sink.new }
 {
-    match perform(
-        state_set.code,
-        clause.block,
-        &state_set.context,
-        memory,
-        sink,
-        steps,
-    ) {
+    match do_action(clause, state_set, memory, sink, steps) {
         Ok(left) => {
             let transition = Transition {
                 from,

@@ -1,12 +1,12 @@
 //! The turn of a state set: refresh, conditions, and a transition.
 
-ghost use Rattle.std.specs.Prelude.{◌≡◌, ℕ, map, slice_get, IfOk};
+ghost use Rattle.std.specs.Prelude.{◌≡◌, ℕ, map, slice_get, Some, IfOk};
 ghost use Rattle.snl_vm.specs.Counting.{Adds};
 ghost use Rattle.snl_vm.specs.Memory.{CanGoOn, DoesOn, Keeps};
 ghost use Rattle.snl_vm.specs.Running.{context_by, wanted_by};
 ghost use Rattle.snl_meaning.specs.World.{World, copy_of};
 ghost use Rattle.snl_vm.specs.Views.{world_of};
-ghost use Rattle.snl_schedule.specs.Plans.{CanDo, CanTest, CanFire, CanRunAll, CanTurn, block_at, test_at, clause_of, clause_by, context_on, set_on};
+ghost use Rattle.snl_schedule.specs.Plans.{CanDo, CanTest, CanFire, CanRunAll, CanTurn, block_at, test_at, tested_by, clause_of, clause_by, context_on, set_on};
 ghost use Rattle.snl_schedule.specs.Steps.{AddsUpTo, block_steps, held_steps, chosen_steps, clauses_in, fired_steps, transition_steps_on, tried_steps, turn_steps};
 ghost use Rattle.snl_schedule.specs.Turn as spec;
 
@@ -15,12 +15,39 @@ use crate::refreshing::refresh;
 use crate::transitions::{Turned, do_block, transit};
 use snl_meaning::Instr;
 use snl_output::{Fired, Sink, Stop, fault_text, write_fault};
-use snl_vm::{Memory, PieceContext, Steps, Store, evaluate};
+use snl_vm::{Memory, PieceContext, Steps, Store, Test, evaluate, holds_by};
 use std::sync::ledger::Ledger;
 
-/// Whether a condition holds. A missing one does.
+/// Whether the condition at an address holds, by a run of its code.
+#[inline(always)]
+fn evaluated<S: Sink, L: Ledger>(
+    start: usize,
+    state_set: &SetContext,
+    memory: &mut Memory,
+    sink: &mut S,
+    steps: &mut Steps<L>,
+) -> Result<bool, Stop>
+    requires ready { CanGoOn S.failures (wanted_by state_set.now.context) memory.old sink.old }
+    requires runs { CanTest (context_on state_set.now) state_set.now.code.now (Some start) }
+    ensures does { DoesOn S.told (λ b. b) result memory.old memory.new sink.old sink.new
+        (test_at (context_on state_set.now) state_set.now.code.now (Some start)) }
+    ensures steps { Adds result (held_steps (context_on state_set.now) state_set.now.code.now
+        (Some start) (world_of memory.old.store)) steps.old steps.new }
+    ensures keeps { Keeps S.failures result memory.old memory.new sink.old sink.new }
+{
+    // A copy for the call, so that the rest of a turn has the context in registers of the processor.
+    let context = state_set.context;
+    match evaluate(state_set.code, start, &context, memory, sink, steps) {
+        Ok(number) => Ok(number != 0),
+        Err(stop) => Err(stop),
+    }
+}
+
+/// Whether a condition holds. A missing one does. For one that is a test no code is run.
+#[inline(always)]
 fn holds<S: Sink, L: Ledger>(
     condition: Option<usize>,
+    test: Test,
     state_set: &SetContext,
     memory: &mut Memory,
     sink: &mut S,
@@ -28,6 +55,7 @@ fn holds<S: Sink, L: Ledger>(
 ) -> Result<bool, Stop>
     requires ready { CanGoOn S.failures (wanted_by state_set.now.context) memory.old sink.old }
     requires runs { CanTest (context_on state_set.now) state_set.now.code.now condition }
+    requires tested { test ≡ tested_by state_set.now.code.now condition }
     ensures does { DoesOn S.told (λ b. b) result memory.old memory.new sink.old sink.new
         (test_at (context_on state_set.now) state_set.now.code.now condition) }
     ensures steps { Adds result (held_steps (context_on state_set.now) state_set.now.code.now
@@ -36,16 +64,16 @@ fn holds<S: Sink, L: Ledger>(
 {
     match condition {
         None => Ok(true),
-        Some(start) => match evaluate(
+        Some(start) => match holds_by(
+            test,
             state_set.code,
             start,
             &state_set.context,
-            memory,
-            sink,
+            &mut memory.store,
             steps,
         ) {
-            Ok(number) => Ok(number != 0),
-            Err(stop) => Err(stop),
+            Some(is_true) => Ok(is_true),
+            None => evaluated(start, state_set, memory, sink, steps),
         },
     }
 }
@@ -70,7 +98,14 @@ fn first_true<S: Sink, L: Ledger>(
     ensures keeps { Keeps S.failures result memory.old memory.new sink.old sink.new }
 {
     for clause in clauses {
-        match holds(clause.condition, state_set, memory, sink, steps) {
+        match holds(
+            clause.condition,
+            clause.test,
+            state_set,
+            memory,
+            sink,
+            steps,
+        ) {
             Ok(true) => return Ok(Some(*clause)),
             Ok(false) => {}
             Err(stop) => return Err(stop),

@@ -1,3 +1,4 @@
+pub mod AllHomeLaws
 pub mod Topmost
 pub mod Bits
 pub mod RowLaws
@@ -24,3 +25,5 @@ pub mod Pushing
 pub mod Pictured
 pub mod Framed
 pub mod PicturesApart
+pub mod Ranges
+pub mod Tested

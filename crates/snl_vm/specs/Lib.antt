@@ -7,6 +7,7 @@ pub mod Running
 pub mod Steps
 pub mod Usual
 pub mod Homes
+pub mod AllHomes
 pub mod Lending
 pub mod Asking
 pub mod Footprint
@@ -14,3 +15,5 @@ pub mod Counting
 pub mod Memory
 pub mod Pictures
 pub mod Zeros
+pub mod Conditions
+pub mod ConditionExamples

@@ -41,4 +41,11 @@ impl<L: Ledger> Steps<L> {
     {
         self.book.add(&mut self.share, 1);
     }
+
+    /// So many more.
+    pub(crate) fn add(&mut self, count: u64)
+        ensures { self.new ≡ self.old + count }
+    {
+        self.book.add(&mut self.share, count);
+    }
 }

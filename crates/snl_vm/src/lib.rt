@@ -1,17 +1,21 @@
 //! The virtual machine: the memory of a run, which has all that a run reads and changes, and the execution of flat code on it.
 #![tactic(auto)]
 
+mod all_homes;
 mod asking;
 mod calling;
 mod calls;
+mod conditions;
 mod contexts;
 mod counting;
 mod elements;
 mod homes;
+pub mod laws;
 mod linking;
 mod marks;
 mod memory;
 mod operands;
+mod parts;
 mod picturing;
 mod queues;
 mod reckoning;
@@ -25,6 +29,8 @@ mod stores;
 mod telling;
 mod words;
 
+pub use all_homes::AllHomes;
+pub use conditions::{holds_by, pass_by};
 pub use contexts::{CodeContext, PieceContext};
 pub use counting::Steps;
 pub use homes::Homes;
@@ -32,6 +38,7 @@ pub use linking::{fetch, fill, notice};
 pub use marks::Marks;
 pub use memory::Memory;
 pub use operands::Operands;
+pub use parts::{Range, Test, is_empty_at, test_at};
 pub use queues::Queue;
 pub use room::words_with;
 pub use rows::Rows;

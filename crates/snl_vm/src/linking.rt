@@ -3,12 +3,13 @@
 ghost use Rattle.std.specs.Prelude.{◌≡◌, [], map, nat_lt, slice_index_or, slice_set, true, if◌then◌else◌};
 ghost use Rattle.snl_meaning.specs.Links as spec;
 ghost use Rattle.snl_meaning.specs.World.{copy_of, overwritten, words_at};
+ghost use Rattle.snl_vm.specs.AllHomes.{homes_views};
 ghost use Rattle.snl_vm.specs.Marks.{marks_of};
 ghost use Rattle.snl_vm.specs.Queues.{queue_view};
 ghost use Rattle.snl_vm.specs.Views.{world_of};
 
+use crate::all_homes::AllHomes;
 use crate::elements::{put_after, word_after};
-use crate::homes::Homes;
 use crate::marks::Marks;
 use crate::queues::Queue;
 use crate::stores::Store;
@@ -116,23 +117,15 @@ fn is_left_out(but: Option<usize>, set: usize) -> bool
     }
 }
 
-/// Marks a link for a state set, if the copy of that has the link's variable and it is not left out.
-fn mark_by(but: Option<usize>, set: usize, link: usize, homes: &Homes, marks: &mut Vec<Marks>)
-    ensures { map marks_of marks.new.items ≡ spec.marked_but but set link homes.now.places.items
-        (map marks_of marks.old.items) }
-{
-    if !is_left_out(but, set) && homes.home(link).is_some() {
-        mark_in(marks, set, link);
-    }
-}
-
-/// Marks a link for all state sets that have its variable, but for one.
-fn mark(but: Option<usize>, link: usize, homes: &[Homes], marks: &mut Vec<Marks>)
+/// Marks a link for all state sets that have its variable, but for one. It takes no walk over the others.
+fn mark(but: Option<usize>, link: usize, homes: &AllHomes, marks: &mut Vec<Marks>)
     ensures { map marks_of marks.new.items ≡ spec.marked_from but link 0
-        (map (λ h. h.places.items) homes.now) (map marks_of marks.old.items) }
+        (homes_views homes.now.sets.items) (map marks_of marks.old.items) }
 {
-    for (set, of_set) in homes.iter().enumerate() {
-        mark_by(but, set, link, of_set, marks);
+    for set in homes.takers(link) {
+        if !is_left_out(but, *set) {
+            mark_in(marks, *set, link);
+        }
     }
 }
 
@@ -141,7 +134,7 @@ fn mark_monitored(but: Option<usize>, link: usize, tie: Tied, store: &mut Store)
     ensures { world_of store.new ≡ spec.marked but link tie (world_of store.old) }
 {
     if tie.is_monitored {
-        mark(but, link, store.homes.as_slice(), &mut store.marks);
+        mark(but, link, &store.homes, &mut store.marks);
     }
 }
 
@@ -152,7 +145,7 @@ fn announce(link: usize, tie: Tied, store: &mut Store)
 {
     let is_queued = enqueue(link, store.buffers.as_slice(), tie.from, &mut store.queues);
     if !is_queued {
-        mark(None, link, store.homes.as_slice(), &mut store.marks);
+        mark(None, link, &store.homes, &mut store.marks);
     }
 }
 

@@ -13,15 +13,22 @@ pub struct Rows {
 impl Rows {
     ghost use Rattle.snl_vm.specs.Rows.{row_in, rows_of, numbers_of, with_number};
 
+    /// No rows.
+    pub fn none(alloc: Global) -> Self
+        ensures { (key : ℕ) → row_in (rows_of result) key ≡ [] }
+    {
+        Rows {
+            rows: Vec::new(alloc),
+        }
+    }
+
     /// The rows of some places, each of which has a key or none. There are as many rows as the greatest key says. The
     /// only error is that memory ends.
     pub fn new(alloc: Global, keys: &[Option<usize>]) -> Result<Self, AllocError>
         ensures { IfOk result (λ rows. (key : ℕ)
             → row_in (rows_of rows) key ≡ numbers_of key 0 keys.now) }
     {
-        let mut rows = Rows {
-            rows: Vec::new(alloc),
-        };
+        let mut rows = Rows::none(alloc);
         for (number, key) in keys.iter().enumerate() {
             if let Some(key) = *key {
                 rows.add(alloc, key, number)?;
@@ -41,7 +48,7 @@ impl Rows {
     }
 
     /// One number more in the row of a key.
-    fn add(&mut self, alloc: Global, key: usize, number: usize) -> Result<(), AllocError>
+    pub fn add(&mut self, alloc: Global, key: usize, number: usize) -> Result<(), AllocError>
         ensures { OnOk result ((other : ℕ) → row_in (rows_of self.new) other
             ≡ with_number key number other (row_in (rows_of self.old) other)) }
     {

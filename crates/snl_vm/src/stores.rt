@@ -4,8 +4,8 @@ ghost use Rattle.std.specs.Borrow.{sem};
 ghost use Rattle.std.specs.Prelude.{◌≡◌, ◌+◌, [], false, pos, slice_get, slice_index_or, IfSome};
 ghost use Rattle.snl_vm.specs.Lending.{LendsWords};
 
+use crate::all_homes::AllHomes;
 use crate::elements::{put_after, word_after, zero_from};
-use crate::homes::Homes;
 use crate::marks::Marks;
 use crate::queues::Queue;
 use snl_meaning::{Live, Tied, Variable};
@@ -48,7 +48,7 @@ pub struct Store {
     /// By link: what never changes of it.
     pub ties: Vec<Tied>,
     /// By state set: where the elements of links begin in its copy, which never changes.
-    pub homes: Vec<Homes>,
+    pub homes: AllHomes,
     /// The elements of the buffers of all links, one link after another.
     pub buffers: Vec<i64>,
     /// By state set, then by link: whether a value came that the copy does not have yet.
@@ -239,7 +239,7 @@ impl Store {
     pub fn home(&self, set: usize, link: usize) -> Option<usize>
         ensures { home_of set link (world_of self.now) ≡ result }
     {
-        match self.homes.get(set) {
+        match self.homes.sets.get(set) {
             Some(homes) => homes.home(link),
             None => None,
         }
@@ -249,7 +249,7 @@ impl Store {
     pub fn link_at(&self, set: usize, place: usize) -> Option<usize>
         ensures { link_at set place (world_of self.now) ≡ result }
     {
-        match self.homes.get(set) {
+        match self.homes.sets.get(set) {
             Some(homes) => homes.link_at(place),
             None => None,
         }

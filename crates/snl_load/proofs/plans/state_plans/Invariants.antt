@@ -7,5 +7,5 @@ use Rattle.snl_load.proofs.plans.state_plans.Given as goal
 -- plans so far, and those that are left
 abbrev pub invariant-loop-number : goal.invariant-loop-number
 invariant-loop-number l =
-    map spec.state_view l.plans.items ++ spec.state_plans l.names (table_of l.code) l.set l.number (map state_view (drop l.number l.states))
-    ≡ spec.state_plans l.names (table_of l.code) l.set 0 (map state_view l.states)
+    map spec.state_view l.plans.items ++ spec.state_plans l.names l.code.instrs.items (table_of l.code) l.set l.number (map state_view (drop l.number l.states))
+    ≡ spec.state_plans l.names l.code.instrs.items (table_of l.code) l.set 0 (map state_view l.states)

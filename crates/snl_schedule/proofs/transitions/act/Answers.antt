@@ -8,9 +8,6 @@ use Rattle.snl_schedule.specs.Turn.{arrived_by, target_by}
 use Rattle.snl_schedule.proofs.Counting.{adds-then, adds-stops}
 use Rattle.snl_schedule.proofs.transitions.act.Goals as goal
 
-pub perform-requires-clause-over : goal.perform-requires-clause-over
-perform-requires-clause-over g c = c.requires.clause.block (world_of c.args.memory.now.store)
-
 pub returns-in-Ok-clause-does : goal.returns-in-Ok-clause-does
 returns-in-Ok-clause-does g c =
     let t = c.args.state_set.now in

@@ -31,6 +31,10 @@ pub holds-requires-clause-runs : goal.holds-requires-clause-runs
 holds-requires-clause-runs g c =
     (c.requires.runs c.loop-clause.clause-index _ (slice_get-get_or c.args.clauses.now c.loop-clause.clause-index _ c.loop-clause-test.true)).condition
 
+pub holds-requires-clause-tested : goal.holds-requires-clause-tested
+holds-requires-clause-tested g c =
+    (c.requires.runs c.loop-clause.clause-index _ (slice_get-get_or c.args.clauses.now c.loop-clause.clause-index _ c.loop-clause-test.true)).tested
+
 pub returns-in-Ok-true-clause-runs : goal.returns-in-Ok-true-clause-runs
 returns-in-Ok-true-clause-runs g c =
     c.requires.runs c.loop-clause.clause-index _ (slice_get-get_or c.args.clauses.now c.loop-clause.clause-index _ c.loop-clause-test.true)

@@ -7,7 +7,7 @@ use Rattle.snl_schedule.specs.Loaded.{loaded, program_of}
 use Rattle.snl_schedule.specs.Steps.{all_wakes_steps, wakes_steps}
 use Rattle.snl_schedule.proofs.Frames.{SameButTime}
 use Rattle.snl_schedule.proofs.Waking.{IsPast}
-use Rattle.snl_schedule.proofs.taking.wake_up.Given as goal
+use Rattle.snl_schedule.proofs.taking.wake_each.Given as goal
 
 -- what was told, the steps that were counted, the wakes that are over, and those that are left
 abbrev pub invariant-loop-wake : goal.invariant-loop-wake
