@@ -1,3 +1,0 @@
-pub mod Assigned
-pub mod Lines
-pub mod Examples

@@ -1,0 +1,182 @@
+-- Where tables are right of a program, its lines come out alike from worlds that are the same outside.
+use Rattle.std.proofs.Common.{◌≡◌, ◌∙◌, ◌-◌, ◌<◌, refl, sym, ap, subst, ℕ, Bool, true, false, List, Option, None, Some, length, if◌then◌else◌}
+use Rattle.std.specs.Prelude.{codes, decimal}
+use Rattle.snl_flat.specs.declared.code.Code.{Code}
+use Rattle.snl_flat.specs.Pieces.{PieceTree, Test, Action}
+use Rattle.snl_flat.specs.Starts.{holds_in, table_of}
+use Rattle.snl_load.specs.Meaning.{program_meaning}
+use Rattle.snl_load.specs.Reached.{only_reached}
+use Rattle.snl_machine.specs.Reached.{AreReached, IsIn}
+use Rattle.snl_machine.proofs.Reached.{reached_are_closed, unreached_do_nothing}
+use Rattle.snl_meaning.specs.declared.live.Live.{Live}
+use Rattle.snl_meaning.specs.Frames.{Frame}
+use Rattle.snl_meaning.specs.Links.{with_elements}
+use Rattle.snl_meaning.specs.Printing.{print_line}
+use Rattle.snl_meaning.specs.Ran.{Ran}
+use Rattle.snl_meaning.specs.World.{World, copy_of}
+use Rattle.snl_output.specs.Lines.{start_line, go_line, exit_line, fault_line, fault_text, space}
+use Rattle.snl_schedule.specs.Event.{line_of, wake_before}
+use Rattle.snl_schedule.specs.Turn.{entered_in}
+use Rattle.snl_syntax.specs.Programs.{ProgramTree}
+use Rattle.snl_alike.specs.Lines.{EndsLine, Newline}
+use Rattle.snl_alike.specs.Runs.{AreAlikeInRuns, WakesAlike, NoWakes, Wakes}
+use Rattle.snl_alike.specs.TwoRuns.{Alike, BothGive, BothFault, FirstLeftOut, SecondLeftOut, KeepsAlike, rest_of, with_rest}
+use Rattle.snl_alike.proofs.Instants.{line-alike}
+use Rattle.snl_flows.specs.Flows.{IsAlike, LinesFlow, PieceFlows, ground_of}
+use Rattle.snl_flows.specs.LeftOut.{IsLeftOut}
+use Rattle.snl_flows.specs.Outside.{IsSameOutside}
+use Rattle.snl_flows.specs.Tables.{Ground, HasLinks}
+use Rattle.snl_flows.specs.Texts.{SameButValues, NoLines}
+use Rattle.snl_flows.proofs.Agree.{agree-overwritten}
+use Rattle.snl_flows.proofs.Pieces.{pieces_flow}
+use Rattle.snl_flows.proofs.Programs.{PieceAgrees, program-agrees}
+use Rattle.snl_flows.proofs.Texts.{ends-behind, one-line, print-ends, texts-joined}
+use Rattle.snl_flows.proofs.Worlds.{Known, SameOn, copy-change, same-nowhere, same-outside, words-agree, words-change}
+
+-- ---- lines of a run
+
+-- `start`
+start-ends : (ms : ℕ) (name : List ℕ) → EndsLine (start_line ms name)
+start-ends ms name = ends-behind (decimal ms) _ (ends-behind (codes " start ") _ (ends-behind name _ Newline))
+
+-- `go`
+go-ends : (ms : ℕ) (set from to : List ℕ) → EndsLine (go_line ms set from to)
+go-ends ms set from to =
+    ends-behind (decimal ms) _ (ends-behind (codes " go ") _ (ends-behind set _ (ends-behind space _ (ends-behind from _ (ends-behind space _ (ends-behind to _ Newline))))))
+
+-- `exit`
+exit-ends : (ms : ℕ) (name : List ℕ) → EndsLine (exit_line ms name)
+exit-ends ms name = ends-behind (decimal ms) _ (ends-behind (codes " exit ") _ (ends-behind name _ Newline))
+
+-- `fault`
+fault-ends : (ms : ℕ) (set : List ℕ) (line : ℕ) (text : List ℕ) → EndsLine (fault_line ms set line text)
+fault-ends ms set line text =
+    ends-behind (decimal ms) _ (ends-behind (codes " fault ") _ (ends-behind set _ (ends-behind space _ (ends-behind (decimal line) _ (ends-behind space _ (ends-behind text _ Newline))))))
+
+-- ---- the relation is one that all steps keep
+
+module _ (g : Ground) where
+  -- of nothing more it is known that it is the same
+  abbrev Nowhere : Bool → ℕ → Type 0
+  Nowhere b k = ⊥
+
+  -- two worlds, of which nothing more is known
+  bare : (set : ℕ) (w u : World) → IsSameOutside g.hidden w u → SameOn g.hidden set Nowhere w u
+  bare set w u e = same-nowhere g.hidden set Nowhere w u (λ b k p. p) e
+
+  -- a line at the same time
+  same-line : (line : ℕ → List ℕ) → ((ms : ℕ) → EndsLine (line ms)) → (w u : World) → IsAlike g w u → SameButValues g.names (line w.time) (line u.time)
+  same-line line ends w u e =
+      subst (λ (ms : ℕ). SameButValues g.names (line w.time) (line ms)) (ap (λ (v : World). v.time) e.outside.same) (one-line g.names (line w.time) (ends w.time))
+
+  -- of a state set
+  flow-keeps : (set : ℕ) → KeepsAlike set (IsAlike g) (SameButValues g.names)
+  flow-keeps set = record {
+    rest = λ w u e. ap rest_of e.outside.same;
+    rest_changes = λ r w u homes ties channels e. record {
+      links = record { channels = channels ∙ e.links.channels; ties = ties ∙ e.links.ties; homes = homes ∙ e.links.homes };
+      outside = record { same = ap (with_rest r) e.outside.same; long = e.outside.long; count = e.outside.count; copies = e.outside.copies };
+    };
+    comes = λ place zs w u e. record {
+      links = record { channels = e.links.channels; ties = e.links.ties; homes = e.links.homes };
+      outside = same-outside g.hidden set Nowhere (with_elements set place zs w) (with_elements set place zs u)
+          (words-change g.hidden set Nowhere Nowhere false _ _ w u (λ k p. p)
+          (agree-overwritten zs (Known g.hidden set Nowhere false) _ _ place (words-agree g.hidden set Nowhere false w u (bare set w u e.outside))) (bare set w u e.outside));
+    };
+    prints = λ name text w u e. same-line (λ ms. print_line ms name text) (λ ms. print-ends ms name text) w u e;
+    silent = NoLines;
+    joined = texts-joined g.names;
+  }
+
+  -- the same wakes
+  wakes-same : (o : Option ℕ) → WakesAlike (λ n m. n ≡ m) o o
+  wakes-same None = NoWakes
+  wakes-same (Some n) = Wakes n n refl
+
+  -- a state that is entered
+  enter : (set state : ℕ) (is_timed : Bool) (w u : World) → IsAlike g w u → IsAlike g (entered_in set state is_timed w) (entered_in set state is_timed u)
+  enter set state is_timed w u e = record {
+    links = record { channels = e.links.channels; ties = e.links.ties; homes = e.links.homes };
+    outside = same-outside g.hidden set Nowhere (entered_in set state is_timed w) (entered_in set state is_timed u)
+        (copy-change g.hidden set Nowhere (record (copy_of set w) { state = state; entered = if is_timed then w.time else (copy_of set w).entered })
+        (record (copy_of set u) { state = state; entered = if is_timed then u.time else (copy_of set u).entered }) w u
+        (record { state = refl; entered = at is_timed; words = (on.copies set).words }) on);
+  }
+    where
+      on : SameOn g.hidden set Nowhere w u
+      on = bare set w u e.outside
+
+      at : (b : Bool) → (if b then w.time else (copy_of set w).entered) ≡ (if b then u.time else (copy_of set u).entered)
+      at true = ap (λ (v : World). v.time) e.outside.same
+      at false = (e.outside.copies set).entered
+
+  -- of runs
+  flow-in-runs : (sets : ℕ) → 0 < sets → AreAlikeInRuns sets (λ n m. n ≡ m) (IsAlike g) (SameButValues g.names)
+  flow-in-runs sets some = record {
+    some = some;
+    keeps = λ set low. flow-keeps set;
+    states = λ set low w u e. (e.outside.copies set).state;
+    enters = λ set state is_timed low w u e. enter set state is_timed w u e;
+    opens = λ w u e. record {
+      links = record { channels = e.links.channels; ties = e.links.ties; homes = e.links.homes };
+      outside = record { same = ap (λ (v : World). record v { due = None }) e.outside.same; long = e.outside.long; count = e.outside.count; copies = e.outside.copies };
+    };
+    wakes = λ w u e. record {
+      links = record { channels = e.links.channels; ties = e.links.ties; homes = e.links.homes };
+      outside = record { same = ap (λ (v : World). record v { wake = v.due }) e.outside.same; long = e.outside.long; count = e.outside.count; copies = e.outside.copies };
+    };
+    times = λ n m w u at e. subst (λ (t : ℕ). IsAlike g (record w { time = n }) (record u { time = t })) at (record {
+      links = record { channels = e.links.channels; ties = e.links.ties; homes = e.links.homes };
+      outside = record { same = ap (λ (v : World). record v { time = n }) e.outside.same; long = e.outside.long; count = e.outside.count; copies = e.outside.copies };
+    });
+    before = λ n m w u at e.
+        subst (λ (o : Option ℕ). WakesAlike (λ (a b : ℕ). a ≡ b) (wake_before n w) o)
+        (ap (λ (v : World). wake_before n v) e.outside.same ∙ ap (λ (t : ℕ). wake_before t u) at) (wakes-same (wake_before n w));
+    left = λ n m w u at e. ap (λ (v : World). n - v.time) e.outside.same ∙ ap (λ (t : ℕ). t - u.time) at;
+    starts = λ name w u e. same-line (λ ms. start_line ms name) (λ ms. start-ends ms name) w u e;
+    goes = λ set from to w u e. same-line (λ ms. go_line ms set from to) (λ ms. go-ends ms set from to) w u e;
+    exits = λ name w u e. same-line (λ ms. exit_line ms name) (λ ms. exit-ends ms name) w u e;
+    faults = λ set line f w u e. same-line (λ ms. fault_line ms set line (fault_text f)) (λ ms. fault-ends ms set line (fault_text f)) w u e;
+  }
+
+  -- what is known of links is let go
+  let-go : {A : Type 0} (r s : Ran A) → Alike (IsLeftOut g.lines) (IsAlike g) (SameButValues g.names) r s → Alike (IsLeftOut g.lines) (IsSameOutside g.hidden) (SameButValues g.names) r s
+  let-go _ _ (BothGive v w u a b e t) = BothGive v w u a b e.outside t
+  let-go _ _ (BothFault fault line w u a b e t) = BothFault fault line w u a b e.outside t
+  let-go _ _ (FirstLeftOut fault line w a r out) = FirstLeftOut fault line w a r out
+  let-go _ _ (SecondLeftOut fault line u b r out) = SecondLeftOut fault line u b r out
+
+  -- a piece, by what it is
+  piece-agrees : (p : ProgramTree) (piece : PieceTree) → PieceFlows g p piece → PieceAgrees (IsLeftOut g.lines) (IsAlike g) (SameButValues g.names) NoLines (texts-joined g.names) p piece
+  piece-agrees p (Test set x) flows = flows
+  piece-agrees p (Action set b) flows = flows
+
+-- ---- lines
+
+-- states that a run can come to are so in the second world, too
+reached-in-both : (hidden : List (List ℕ)) (p : ProgramTree) (c : Code) (w u : World) → IsSameOutside hidden w u → AreReached p (holds_in (table_of c)) w → AreReached p (holds_in (table_of c)) u
+reached-in-both hidden p c w u e at going set =
+    subst (IsIn p (holds_in (table_of c)) set) (e.copies set).state (at (λ ended. going (sym (ap (λ (v : World). v.phase) e.same) ∙ ended)) set)
+
+-- the law
+pub lines_flow : LinesFlow
+lines_flow p ls c hidden lines names flows waits budget ms event w u right some can e =
+    let g : Ground = ground_of p ls c hidden lines names in
+    let reached = holds_in (table_of c) in
+    let closed = reached_are_closed p reached right.code.reached in
+    let sets = length p.state_sets in
+    let links : HasLinks g w = record {
+      channels = ap (λ (r : Frame). r.channels) can.world_is.frame_is;
+      ties = ap (λ (r : Frame). r.ties) can.world_is.frame_is;
+      homes = ap (λ (r : Frame). r.homes) can.world_is.frame_is;
+    } in
+    let there : AreReached p reached u = reached-in-both hidden p c w u e can.reached in
+    let less = line_of (only_reached reached (program_meaning p ls waits)) budget ms event in
+    let both : Alike (IsLeftOut lines) (IsAlike g) (SameButValues names) (less w) (less u) =
+    line-alike (IsLeftOut lines) sets (λ n m. n ≡ m) (IsAlike g) (SameButValues names) (flow-in-runs g sets some) (only_reached reached (program_meaning p ls waits))
+    (program-agrees (IsLeftOut lines) (IsAlike g) (SameButValues names) NoLines (texts-joined names) p reached
+    (λ name piece is. piece-agrees g p piece (pieces_flow p ls c hidden lines names flows right name piece is)) ls waits) budget ms ms refl event w u (record { links = links; outside = e }) in
+    subst (λ (r : Ran Live). Alike (IsLeftOut lines) (IsSameOutside hidden) (SameButValues names) r (line_of (program_meaning p ls waits) budget ms event u))
+    (unreached_do_nothing p ls waits reached budget ms event w closed can.reached)
+    (subst (λ (r : Ran Live). Alike (IsLeftOut lines) (IsSameOutside hidden) (SameButValues names) (less w) r) (unreached_do_nothing p ls waits reached budget ms event u closed there)
+    (let-go g (less w) (less u) both))

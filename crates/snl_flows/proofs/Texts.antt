@@ -1,0 +1,48 @@
+-- Texts that are the same but for values of puts, one after another.
+use Rattle.std.proofs.Common.{sym, subst, ℕ, ℤ, List, [], ◌∷◌, ◌++◌, append_assoc}
+use Rattle.std.proofs.lemmas.List.{append-nil}
+use Rattle.std.specs.Prelude.{codes, decimal}
+use Rattle.snl_alike.specs.Lines.{EndsLine, Newline, Before}
+use Rattle.snl_meaning.specs.Printing.{print_line, put_line, spaced}
+use Rattle.snl_flows.specs.Texts.{IsNamed, SameButValues, NoLines, SameLine, OtherValues}
+
+module _ (names : List (List ℕ)) where
+  -- one after the other
+  pub texts-joined : (a b c d : List ℕ) → SameButValues names a b → SameButValues names c d → SameButValues names (a ++ c) (b ++ d)
+  texts-joined _ _ c d NoLines k = k
+  texts-joined _ _ c d (SameLine line a b ends h) k =
+      subst (λ (x : List ℕ). SameButValues names x ((line ++ b) ++ d)) (sym (append_assoc line a c))
+      (subst (λ (y : List ℕ). SameButValues names (line ++ (a ++ c)) y) (sym (append_assoc line b d)) (SameLine line (a ++ c) (b ++ d) ends (texts-joined a b c d h k)))
+  texts-joined _ _ c d (OtherValues ms channel xs ys a b named h) k =
+      subst (λ (x : List ℕ). SameButValues names x ((put_line ms channel ys ++ b) ++ d)) (sym (append_assoc (put_line ms channel xs) a c))
+      (subst (λ (y : List ℕ). SameButValues names (put_line ms channel xs ++ (a ++ c)) y) (sym (append_assoc (put_line ms channel ys) b d))
+      (OtherValues ms channel xs ys (a ++ c) (b ++ d) named (texts-joined a b c d h k)))
+
+  -- the other way round
+  pub texts-back : (a b : List ℕ) → SameButValues names a b → SameButValues names b a
+  texts-back _ _ NoLines = NoLines
+  texts-back _ _ (SameLine line a b ends h) = SameLine line b a ends (texts-back a b h)
+  texts-back _ _ (OtherValues ms channel xs ys a b named h) = OtherValues ms channel ys xs b a named (texts-back a b h)
+
+  -- one line that is the same
+  pub one-line : (line : List ℕ) → EndsLine line → SameButValues names line line
+  one-line line ends = subst (λ (x : List ℕ). SameButValues names x x) (append-nil line) (SameLine line [] [] ends NoLines)
+
+  -- one of a put
+  pub one-put : (ms : ℕ) (channel : List ℕ) (xs ys : List ℤ) → IsNamed names channel → SameButValues names (put_line ms channel xs) (put_line ms channel ys)
+  one-put ms channel xs ys named =
+      subst (λ (x : List ℕ). SameButValues names x (put_line ms channel ys)) (append-nil (put_line ms channel xs))
+      (subst (λ (y : List ℕ). SameButValues names (put_line ms channel xs ++ []) y) (append-nil (put_line ms channel ys)) (OtherValues ms channel xs ys [] [] named NoLines))
+
+-- what ends a line ends it behind more
+pub ends-behind : (xs ys : List ℕ) → EndsLine ys → EndsLine (xs ++ ys)
+ends-behind [] ys h = h
+ends-behind (x ∷ xs) ys h = Before x (xs ++ ys) (ends-behind xs ys h)
+
+-- the line of a `print`
+pub print-ends : (ms : ℕ) (name text : List ℕ) → EndsLine (print_line ms name text)
+print-ends ms name text = ends-behind (decimal ms ++ codes " print " ++ name ++ codes " " ++ text) (10 ∷ []) Newline
+
+-- that of a `put`
+pub put-ends : (ms : ℕ) (channel : List ℕ) (zs : List ℤ) → EndsLine (put_line ms channel zs)
+put-ends ms channel zs = ends-behind (decimal ms ++ codes " put " ++ channel ++ spaced zs) (10 ∷ []) Newline

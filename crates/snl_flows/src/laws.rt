@@ -1,0 +1,32 @@
+//! Laws of variables that decide nothing. Each is a function without code, whose contract is the law.
+
+ghost use Rattle.snl_flows.specs.Checks.{ChecksAreRight};
+ghost use Rattle.snl_flows.specs.Examples.{FlowsExamples};
+ghost use Rattle.snl_flows.specs.Flows.{LinesFlow, NothingIsLeftOut, PiecesFlow};
+
+/// Where tables are right of the code of a program, its pieces come out alike from worlds that are the same outside.
+pub fn pieces_flow()
+    ensures { PiecesFlow }
+{}
+
+/// So do its lines.
+pub fn lines_flow()
+    ensures { LinesFlow }
+{}
+
+/// With no line nothing is left out, and with no channel texts are the same.
+#[tactic(auto, using(crate::proofs::Nothing::nothing_is_left_out))]
+pub fn nothing_is_left_out()
+    ensures { NothingIsLeftOut }
+{}
+
+/// Where the check of a table says so, the table is right.
+pub fn checks_are_right()
+    ensures { ChecksAreRight }
+{}
+
+/// A counter, one that decides something, and a variable that is written before it is read.
+#[tactic(auto, using(crate::proofs::Examples::examples_of_flows))]
+pub fn examples_of_flows()
+    ensures { FlowsExamples }
+{}
