@@ -1,9 +1,12 @@
 //! The outline of a program: its state sets, their states, and where their clauses lead.
 
-ghost use Rattle.std.specs.Prelude.{◌≡◌, map, IfOk};
+ghost use Rattle.std.specs.Prelude.{◌≡◌, true, map, slice_index_or, IfOk};
+ghost use Rattle.snl_reach.specs.Marks.{AreReached};
 ghost use Rattle.snl_syntax.specs.view.Programs.{clause_view, program_view, state_set_view, state_view, target_view};
 ghost use Rattle.snl_outline.specs.Names.{names_of, seen};
-ghost use Rattle.snl_outline.specs.Shapes as spec;
+ghost use Rattle.snl_outline.specs.Reached.{AreMarked, marks_of};
+ghost use Rattle.snl_outline.specs.Shapes.{outlined, shape_of, target_name as name_of_target};
+ghost use Rattle.snl_outline.specs.Told as spec;
 
 use snl_names::pushed;
 use snl_reach::reached_states;
@@ -56,7 +59,7 @@ pub struct ProgramOutline {
 
 /// The name of where a clause leads.
 fn target_name<'a>(target: Target<'a>) -> &'a [u8]
-    ensures { result.now ≡ spec.target_name (target_view target.entry) }
+    ensures { result.now ≡ name_of_target (target_view target.entry) }
 {
     match target {
         Target::State(name) => name.text,
@@ -66,8 +69,8 @@ fn target_name<'a>(target: Target<'a>) -> &'a [u8]
 
 /// The outline of a clause.
 fn clause_outline(alloc: Global, clause: &Clause) -> Result<ClauseOutline, AllocError>
-    ensures { IfOk result (λ outline. outline.target.items
-        ≡ spec.target_name (clause_view clause.now).target) }
+    ensures { IfOk result (λ outline. spec.clause_said outline
+        ≡ spec.clause_told (clause_view clause.now)) }
 {
     Ok(ClauseOutline {
         target: Vec::from_slice(alloc, target_name(clause.target))?,
@@ -78,8 +81,8 @@ fn clause_outline(alloc: Global, clause: &Clause) -> Result<ClauseOutline, Alloc
 
 /// The outlines of the clauses of a state.
 fn clause_outlines(alloc: Global, clauses: &[Clause]) -> Result<Vec<ClauseOutline>, AllocError>
-    ensures { IfOk result (λ outlines. spec.targets_in outlines.items
-        ≡ spec.targets_of (map clause_view clauses.now)) }
+    ensures { IfOk result (λ outlines. map spec.clause_said outlines.items
+        ≡ map spec.clause_told (map clause_view clauses.now)) }
 {
     let mut outlines = Vec::new(alloc);
     for clause in clauses {
@@ -91,8 +94,9 @@ fn clause_outlines(alloc: Global, clauses: &[Clause]) -> Result<Vec<ClauseOutlin
 
 /// The outline of a state.
 fn state_outline(alloc: Global, state: &State, is_reached: bool) -> Result<StateOutline, AllocError>
-    ensures { IfOk result (λ outline. spec.outlined_state outline
-        ≡ spec.state_shape (state_view state.now)) }
+    ensures told { IfOk result (λ outline. spec.state_said outline
+        ≡ spec.state_told (state_view state.now)) }
+    ensures reached { IfOk result (λ outline. outline.is_reached ≡ is_reached) }
 {
     let name = Vec::from_slice(alloc, state.name.text)?;
     let clauses = clause_outlines(alloc, state.clauses.as_slice())?;
@@ -104,16 +108,27 @@ fn state_outline(alloc: Global, state: &State, is_reached: bool) -> Result<State
     })
 }
 
+/// The mark of a number.
+fn is_marked(marks: &[bool], number: usize) -> bool
+    ensures { result ≡ slice_index_or marks.now number true }
+{
+    match marks.get(number) {
+        Some(mark) => *mark,
+        None => true,
+    }
+}
+
 /// The outlines of the states of a state set.
 fn state_outlines(alloc: Global, states: &[State]) -> Result<Vec<StateOutline>, AllocError>
-    ensures { IfOk result (λ outlines. map spec.outlined_state outlines.items
-        ≡ map spec.state_shape (map state_view states.now)) }
+    ensures told { IfOk result (λ outlines. map spec.state_said outlines.items
+        ≡ map spec.state_told (map state_view states.now)) }
+    ensures reached { IfOk result (λ outlines.
+        AreReached (map state_view states.now) (marks_of outlines.items)) }
 {
     let reached = reached_states(alloc, states)?;
     let mut outlines = Vec::new(alloc);
     for (number, state) in states.iter().enumerate() {
-        let is_reached = reached.get(number).copied().unwrap_or(true);
-        let outline = state_outline(alloc, state, is_reached)?;
+        let outline = state_outline(alloc, state, is_marked(&reached, number))?;
         pushed(&mut outlines, outline)?;
     }
     Ok(outlines)
@@ -121,8 +136,10 @@ fn state_outlines(alloc: Global, states: &[State]) -> Result<Vec<StateOutline>, 
 
 /// The outline of a state set.
 fn set_outline(alloc: Global, set: &StateSet) -> Result<SetOutline, AllocError>
-    ensures { IfOk result (λ outline. spec.outlined_set outline
-        ≡ spec.set_shape (state_set_view set.now)) }
+    ensures told { IfOk result (λ outline. spec.set_said outline
+        ≡ spec.set_told (state_set_view set.now)) }
+    ensures reached { IfOk result (λ outline.
+        AreReached (state_set_view set.now).states (marks_of outline.states.items)) }
 {
     let name = Vec::from_slice(alloc, set.name.text)?;
     let states = state_outlines(alloc, set.states.as_slice())?;
@@ -131,8 +148,10 @@ fn set_outline(alloc: Global, set: &StateSet) -> Result<SetOutline, AllocError>
 
 /// The outlines of state sets.
 fn set_outlines(alloc: Global, sets: &[StateSet]) -> Result<Vec<SetOutline>, AllocError>
-    ensures { IfOk result (λ outlines. map spec.outlined_set outlines.items
-        ≡ map spec.set_shape (map state_set_view sets.now)) }
+    ensures told { IfOk result (λ outlines. map spec.set_said outlines.items
+        ≡ map spec.set_told (map state_set_view sets.now)) }
+    ensures reached { IfOk result (λ outlines.
+        AreMarked (map state_set_view sets.now) outlines.items) }
 {
     let mut outlines = Vec::new(alloc);
     for set in sets {
@@ -144,8 +163,12 @@ fn set_outlines(alloc: Global, sets: &[StateSet]) -> Result<Vec<SetOutline>, All
 
 /// The outline of a program (SNL Reference, "State Set", "State"). The only error is that memory ends.
 pub fn outline_of(alloc: Global, program: &Program) -> Result<ProgramOutline, AllocError>
-    ensures shape { IfOk result (λ outline. spec.outlined outline
-        ≡ spec.shape_of (program_view program.now)) }
+    ensures told { IfOk result (λ outline. spec.program_said outline
+        ≡ spec.program_told (program_view program.now)) }
+    ensures reached { IfOk result (λ outline.
+        AreMarked (program_view program.now).state_sets outline.sets.items) }
+    ensures shape { IfOk result (λ outline. outlined outline
+        ≡ shape_of (program_view program.now)) }
     ensures names { IfOk result (λ outline. map seen outline.sets.items
         ≡ names_of (program_view program.now)) }
 {

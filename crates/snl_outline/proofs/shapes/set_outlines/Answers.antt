@@ -1,11 +1,15 @@
 use Rattle.std.proofs.Common.{map, refl}
 use Rattle.snl_syntax.specs.view.Programs.{state_set_view}
-use Rattle.snl_outline.specs.Shapes.{outlined_set, set_shape}
+use Rattle.snl_outline.specs.Told.{set_said, set_told}
+use Rattle.snl_outline.proofs.Marked.{next-marked}
 use Rattle.snl_outline.proofs.Rows.{next-shown}
 use Rattle.snl_outline.proofs.shapes.set_outlines.Goals as goal
 
 pub loop-set-preserved : goal.loop-set-preserved
-loop-set-preserved c =
-    next-shown outlined_set (λ x. set_shape (state_set_view x)) (λ l. map set_shape (map state_set_view l)) (λ x xs. refl)
-    c.args.sets.now c.loop-set.set-index c.set-item.result c.loop-set.outlines.items c.pushed.new.row.items c.in_ok-outline.outline _
-    c.loop-set-test.true c.set-item.is c.loop-set.invariant c.in_ok-pushed.ensures c.in_ok-outline.ensures
+loop-set-preserved c = (
+  next-shown set_said (λ x. set_told (state_set_view x)) (λ l. map set_told (map state_set_view l)) (λ x xs. refl)
+      c.args.sets.now c.loop-set.set-index c.set-item.result c.loop-set.outlines.items c.pushed.new.row.items c.in_ok-outline.outline _
+      c.loop-set-test.true c.set-item.is c.loop-set.invariant.0 c.in_ok-pushed.ensures c.in_ok-outline.ensures.told,
+  next-marked state_set_view c.args.sets.now c.loop-set.set-index c.set-item.result c.loop-set.outlines.items c.pushed.new.row.items c.in_ok-outline.outline
+      c.loop-set-test.true c.set-item.is c.loop-set.invariant.1 c.in_ok-pushed.ensures c.in_ok-outline.ensures.reached,
+)
