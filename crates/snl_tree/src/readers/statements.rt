@@ -142,7 +142,6 @@ fn declarations<'a, 't>(
 }
 
 /// Reads a `return`, with its value if it has one.
-#[tactic(auto, using(crate::proofs::code::StatementForms::return_form))]
 fn return_statement<'a, 't>(
     alloc: Global,
     cursor: &mut Cursor<'a, 't>,
