@@ -25,6 +25,7 @@ use Rattle.snl_syntax.specs.view.Programs.{target_view, clause_view, state_view,
 use Rattle.snl_names.specs.declared.sites.Purpose.TheVariants.{Read}
 use Rattle.snl_names.specs.declared.sites.Site.{Site}
 use Rattle.snl_names.specs.declared.sites.Site.TheVariants.{Clause as ClauseSite, Function as FunctionSite}
+use Rattle.snl_resolve.specs.Seen.{in_program}
 use Rattle.snl_names.specs.Scopes.{Scope, scope_of}
 use Rattle.snl_names.specs.Sights.{Sight, within, headings_by, parameters_of}
 use Rattle.snl_names.specs.declared.calls.Heading.{Heading}
@@ -138,22 +139,35 @@ program_parts_step s all i d above after before now start h ed inv en ea =
     (λ j. en j ++ in_program_parts s (ea j) rest) ∙ append_assoc before one (in_program_parts s (above ++ headings_by (definition_view d)) rest)
     ∙ ap (λ (l : List Def). before ++ in_program_parts s above (map definition_view l)) (ap (λ x. x ∷ drop (i + 1) all) ed ∙ sym (drop_more all i d h)) ∙ inv
 
--- a program: its definitions and functions, then its blocks and its state sets
-pub program_noted : (p : Program) (ds : List Def) (gs : List DeclaredSet) (scope : Scope) (all : List Heading) (old one two new : List Site)
-    → ds ≡ p.definitions.items → gs ≡ p.state_sets.items → scope ≡ scope_of [] (map definition_view ds) → all ≡ flat_map headings_by (map definition_view ds)
+-- what stands in a program: its definitions and functions, then its blocks and its state sets
+pub inside_noted : (p : Program) (ds : List Def) (gs : List DeclaredSet) (s : List Scope) (all : List Heading) (old two new : List Site)
+    → ds ≡ p.definitions.items → gs ≡ p.state_sets.items → all ≡ flat_map headings_by (map definition_view ds)
+    → two ≡ old ++ in_program_parts s [] (map definition_view ds)
+    → new ≡ two ++ in_parts (record { scopes = s; functions = all }) (shown (held block_view) p.entry) (map state_set_view gs) (shown (held block_view) p.exit)
+    → new ≡ old ++ in_program s (program_view p)
+inside_noted p ds gs s all old two new ed eg ef e2 en =
+    let defs = map definition_view p.definitions.items in
+    let above : all ≡ flat_map headings_by defs = ef ∙ ap (λ (x : List Def). flat_map headings_by (map definition_view x)) ed in
+    en
+    ∙ (λ j. e2 j ++ in_parts (record { scopes = s; functions = above j }) (shown (held block_view) p.entry) (map state_set_view (eg j)) (shown (held block_view) p.exit))
+    ∙ (λ j. (old ++ in_program_parts s [] (map definition_view (ed j))) ++ in_parts (record { scopes = s; functions = flat_map headings_by defs }) (shown (held block_view) p.entry)
+    (map state_set_view p.state_sets.items) (shown (held block_view) p.exit))
+    ∙ append_assoc old _ _
+
+-- a program: the names of its definitions, then what stands in it
+pub program_noted : (p : Program) (ds : List Def) (scope : Scope) (old one new : List Site)
+    → ds ≡ p.definitions.items → scope ≡ scope_of [] (map definition_view ds)
     → one ≡ old ++ declares [] (scope_of [] (map definition_view ds))
-    → two ≡ one ++ in_program_parts (scope ∷ []) [] (map definition_view ds)
-    → new ≡ two ++ in_parts (record { scopes = scope ∷ []; functions = all }) (shown (held block_view) p.entry) (map state_set_view gs) (shown (held block_view) p.exit)
+    → new ≡ one ++ in_program (scope ∷ []) (program_view p)
     → new ≡ old ++ sites (program_view p)
-program_noted p ds gs scope all old one two new ed eg es ef e1 e2 en =
+program_noted p ds scope old one new ed es e1 en =
     let defs = map definition_view p.definitions.items in
     let same : scope ≡ scope_of [] defs = es ∙ ap (λ x. scope_of [] (map definition_view x)) ed in
-    let above : all ≡ flat_map headings_by defs = ef ∙ ap (λ (x : List Def). flat_map headings_by (map definition_view x)) ed in
-    let inside = in_parts (program_sight (program_view p)) (shown (held block_view) p.entry) (map state_set_view p.state_sets.items) (shown (held block_view) p.exit) in
     en
-    ∙ (λ j. e2 j ++ in_parts (record { scopes = same j ∷ []; functions = above j }) (shown (held block_view) p.entry) (map state_set_view (eg j)) (shown (held block_view) p.exit))
-    ∙ (λ j. (e1 j ++ in_program_parts (same j ∷ []) [] (map definition_view (ed j))) ++ inside)
-    ∙ (λ j. ((old ++ declares [] (scope_of [] (map definition_view (ed j)))) ++ in_program_parts (scope_of [] defs ∷ []) [] defs) ++ inside)
+    ∙ (λ j. (e1 j) ++ in_program (same j ∷ []) (program_view p))
+    ∙ (λ j. (old ++ declares [] (scope_of [] (map definition_view (ed j)))) ++ in_program (scope_of [] defs ∷ []) (program_view p))
+    ∙ sym (append_assoc (old ++ declares [] (scope_of [] defs)) (in_program_parts (scope_of [] defs ∷ []) [] defs)
+    (in_parts (program_sight (program_view p)) (shown (held block_view) p.entry) (map state_set_view p.state_sets.items) (shown (held block_view) p.exit)))
     ∙ two_and_three old _ _ _ _ _
 
 -- a clause: its condition, its block, its target

@@ -41,21 +41,28 @@ pub definitions_held : (s : List Scope) (ds : List DefinitionTree) (names scope 
     → names ≡ scope_of s ds → scope ≡ names → new ≡ old ++ flat_map (by_definition (scope ∷ s)) ds → new ≡ old ++ by_definitions s ds
 definitions_held s ds names scope old new en es e = e ∙ (λ j. old ++ flat_map (by_definition ((es ∙ en) j ∷ s)) ds)
 
--- a block: its declarations, then its statements
-pub block_held : (s : List Scope) (b : DeclaredBlock) (ds es : List Declaration) (ss : List Stmt) (names scope : Scope) (old mid new : List CopyVariable)
-    → ds ≡ b.declarations.items → es ≡ b.declarations.items → ss ≡ b.statements.items
-    → names ≡ scope_of s (map declaration (map declaration_view ds)) → scope ≡ names
-    → mid ≡ old ++ flat_map (by_declaration (scope ∷ s)) (map declaration_view es)
-    → new ≡ mid ++ by_statements (scope ∷ s) (statement_list (map statement_view ss))
-    → new ≡ old ++ by_block s (block_view b)
-block_held s b ds es ss names scope old mid new ed ee et en ec em e =
-    let views = map declaration_view b.declarations.items in
-    let inside = scope_of s (map declaration views) in
-    let same : scope ≡ inside = ec ∙ en ∙ ap (λ x. scope_of s (map declaration (map declaration_view x))) ed in
+-- what stands in a block: its declarations, then its statements
+pub inside_held : (s : List Scope) (b : DeclaredBlock) (es : List Declaration) (ss : List Stmt) (old mid new : List CopyVariable)
+    → es ≡ b.declarations.items → ss ≡ b.statements.items
+    → mid ≡ old ++ flat_map (by_declaration s) (map declaration_view es)
+    → new ≡ mid ++ by_statements s (statement_list (map statement_view ss))
+    → new ≡ old ++ (flat_map (by_declaration s) (map declaration_view b.declarations.items) ++ by_statements s (statement_list (map statement_view b.statements.items)))
+inside_held s b es ss old mid new ee et em e =
     e
-    ∙ (λ j. em j ++ by_statements (same j ∷ s) (statement_list (map statement_view (et j))))
-    ∙ (λ j. (old ++ flat_map (by_declaration (same j ∷ s)) (map declaration_view (ee j))) ++ by_statements (inside ∷ s) (statement_list (map statement_view b.statements.items)))
+    ∙ (λ j. em j ++ by_statements s (statement_list (map statement_view (et j))))
+    ∙ (λ j. (old ++ flat_map (by_declaration s) (map declaration_view (ee j))) ++ by_statements s (statement_list (map statement_view b.statements.items)))
     ∙ append_assoc old _ _
+
+-- a block: what stands in it, within its own scope
+pub block_held : (s : List Scope) (b : DeclaredBlock) (scope : Scope) (old new : List CopyVariable)
+    → scope ≡ scope_of s (map declaration (map declaration_view b.declarations.items))
+    → new ≡ old ++ (flat_map (by_declaration (scope ∷ s)) (map declaration_view b.declarations.items)
+    ++ by_statements (scope ∷ s) (statement_list (map statement_view b.statements.items)))
+    → new ≡ old ++ by_block s (block_view b)
+block_held s b scope old new same e =
+    e
+    ∙ (λ j. old ++ (flat_map (by_declaration (same j ∷ s)) (map declaration_view b.declarations.items)
+    ++ by_statements (same j ∷ s) (statement_list (map statement_view b.statements.items))))
 
 -- a block that stands among statements
 pub nested_held : (s : List Scope) (a : Stmt) (b : DeclaredBlock) (old new : List CopyVariable) → a ≡ Block b

@@ -4,7 +4,8 @@ ghost use Rattle.std.specs.Prelude.{◌≡◌, [], ◌++◌, map, OnOk, IfOk};
 ghost use Rattle.snl_syntax.specs.view.Shown.{shown, held};
 ghost use Rattle.snl_syntax.specs.view.Statements.{block_view};
 ghost use Rattle.snl_syntax.specs.view.Programs.{state_view, state_set_view, program_view};
-ghost use Rattle.snl_resolve.specs.Seen.{sight_of};
+ghost use Rattle.snl_resolve.specs.Seen.{sight_of, in_program};
+ghost use Rattle.snl_names.specs.Chains.{scopes_of};
 ghost use Rattle.snl_names.specs.Programs as spec;
 ghost use Rattle.snl_names.specs.Sites.{maybe};
 
@@ -198,6 +199,26 @@ fn note_parts<'a>(
     note_program_block(alloc, exit, sight, sites)
 }
 
+/// Notes the sites in a program behind the names of its definitions, whose scope stands innermost.
+fn note_inside<'a>(
+    alloc: Global,
+    program: &Program<'a>,
+    scopes: Scopes<'_, 'a>,
+    sites: &mut Vec<Site<'a>>,
+) -> Result<(), AllocError>
+    ensures { OnOk result (sites.new.items ≡ sites.old.items
+        ++ in_program (scopes_of scopes.entry) (program_view program.now)) }
+{
+    let definitions = program.definitions.as_slice();
+    let functions = note_program_parts(alloc, definitions, scopes, sites)?;
+    let sight = Sight {
+        scopes,
+        functions: &functions,
+    };
+    let sets = program.state_sets.as_slice();
+    note_parts(alloc, &program.entry, sets, &program.exit, &sight, sites)
+}
+
 /// Notes the sites in a program.
 fn note_program<'a>(
     alloc: Global,
@@ -210,14 +231,7 @@ fn note_program<'a>(
     let outside = Scopes::Outside;
     let definitions = program.definitions.as_slice();
     let scope = definition_scope(alloc, definitions, &outside, sites)?;
-    let scopes = Scopes::Within(&scope, &outside);
-    let functions = note_program_parts(alloc, definitions, scopes, sites)?;
-    let sight = Sight {
-        scopes,
-        functions: &functions,
-    };
-    let sets = program.state_sets.as_slice();
-    note_parts(alloc, &program.entry, sets, &program.exit, &sight, sites)
+    note_inside(alloc, program, Scopes::Within(&scope, &outside), sites)
 }
 
 /// The sites of a program, in the order of the source, but that the declared names stand first in

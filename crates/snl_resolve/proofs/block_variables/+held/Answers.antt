@@ -6,17 +6,23 @@ use Rattle.snl_names.specs.Variables.{by_statement, by_statements}
 use Rattle.snl_names.specs.Chains.{scopes_of}
 use Rattle.snl_names.specs.CopyVariables.{variable_view}
 use Rattle.snl_resolve.proofs.Steps.{row_step}
-use Rattle.snl_resolve.proofs.VariableLaws.{block_held, nested_held}
+use Rattle.snl_resolve.proofs.VariableLaws.{inside_held, block_held, nested_held}
 use Rattle.snl_resolve.proofs.block_variables.+held.Goals as goal
+
+pub push_inside-returns : goal.push_inside-returns
+push_inside-returns t c =
+    on_ok_weaker c.push_statements.result
+    (inside_held (scopes_of c.args.scopes.now) c.args.block.now c.as_slice.result.now c.as_slice-2.result.now
+    (map variable_view c.args.kept.now.items) (map variable_view c.push_declarations.new.kept.items) (map variable_view c.push_statements.new.kept.items)
+    c.as_slice.ensures.value c.as_slice-2.ensures.value c.in_ok-push_declarations.ensures)
+    c.push_statements.ensures
 
 pub push_block-returns : goal.push_block-returns
 push_block-returns t c =
-    on_ok_weaker c.push_statements.result
-    (block_held (scopes_of c.args.outer.now) c.args.block.now c.as_slice.result.now c.as_slice-2.result.now c.as_slice-3.result.now c.in_ok-names.names.items c.in_ok-scope.scope
-    (map variable_view c.args.kept.now.items) (map variable_view c.push_declarations.new.kept.items) (map variable_view c.push_statements.new.kept.items)
-    c.as_slice.ensures.value c.as_slice-2.ensures.value c.as_slice-3.ensures.value
-    c.in_ok-names.ensures c.in_ok-scope.ensures c.in_ok-push_declarations.ensures)
-    c.push_statements.ensures
+    on_ok_weaker c.push_inside.result
+    (block_held (scopes_of c.args.outer.now) c.args.block.now c.in_ok-scope.scope
+    (map variable_view c.args.kept.now.items) (map variable_view c.push_inside.new.kept.items) c.in_ok-scope.ensures)
+    c.push_inside.ensures
 
 pub push_statement-returns-in-Block : goal.push_statement-returns-in-Block
 push_statement-returns-in-Block t c =
