@@ -18,7 +18,7 @@ pub use faults::Fault;
 pub use functions::FunctionEntry;
 pub use instrs::{Instr, Variable};
 pub use live::Live;
-pub use names::{Known, Outline, Placed, Sense, Within};
+pub use names::{Known, Outline, Placed, Sense, Within, sense_in};
 pub use offsets::Offsets;
 pub use operators::{Joint, Unary, compound_of, is_decimal, joint_of, sign_of};
 pub use places::Places;

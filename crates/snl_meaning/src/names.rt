@@ -154,3 +154,10 @@ impl<'s, 'a> Known<'s, 'a> {
         self.states.find(name).unwrap_or(0)
     }
 }
+
+/// The same of a name in a tree: what is known has the same place here as where a tree stands first.
+pub fn sense_in<'a>(name: &Token<'a>, known: &Known<'_, 'a>) -> Sense
+    ensures { result ≡ spec.sense_of (here_of known.now) name.now }
+{
+    known.sense(*name)
+}
