@@ -79,14 +79,17 @@ fn emit_print<'a>(
         ≡ spec.print_code (here_of known.now) (list_before arguments.now no_arguments)
         ++ reverse code.old.items) }
 {
-    match arguments.first() {
-        Some(Argument::Text(text)) => {
-            let format = known.format(*text);
-            let count = count_values(arguments);
-            put(code, Instr::Print { format, count })?;
-            emit_values(arguments, known, code)
-        }
-        _ => put(code, Instr::Push(0)),
+    match arguments {
+        [first, ..] => match first {
+            Argument::Text(text) => {
+                let format = known.format(*text);
+                let count = count_values(arguments);
+                put(code, Instr::Print { format, count })?;
+                emit_values(arguments, known, code)
+            }
+            Argument::Value(_) => put(code, Instr::Push(0)),
+        },
+        [] => put(code, Instr::Push(0)),
     }
 }
 
@@ -134,13 +137,16 @@ fn emit_wait<'a>(
         ≡ spec.wait_code (here_of known.now) (list_before arguments.now no_arguments)
         ++ reverse code.old.items) }
 {
-    match arguments.first() {
-        Some(Argument::Value(time)) => {
-            let in_seconds = !is_decimal(time);
-            put(code, Instr::Wait { in_seconds })?;
-            emit_expression(time, known, code)
-        }
-        _ => put(code, Instr::Push(0)),
+    match arguments {
+        [first, ..] => match first {
+            Argument::Value(time) => {
+                let in_seconds = !is_decimal(time);
+                put(code, Instr::Wait { in_seconds })?;
+                emit_expression(time, known, code)
+            }
+            Argument::Text(_) => put(code, Instr::Push(0)),
+        },
+        [] => put(code, Instr::Push(0)),
     }
 }
 
@@ -192,10 +198,12 @@ fn emit_ask<'a>(
         ≡ spec.ask_code (here_of known.now) (list_before arguments.now no_arguments) query
         ++ reverse code.old.items) }
 {
-    match arguments.first() {
-        None => put(code, Instr::Ask { query, number: 0 }),
-        Some(Argument::Value(target)) => emit_ask_of(target, known, query, code),
-        Some(Argument::Text(_)) => put(code, Instr::Push(0)),
+    match arguments {
+        [first, ..] => match first {
+            Argument::Value(target) => emit_ask_of(target, known, query, code),
+            Argument::Text(_) => put(code, Instr::Push(0)),
+        },
+        [] => put(code, Instr::Ask { query, number: 0 }),
     }
 }
 

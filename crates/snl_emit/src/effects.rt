@@ -10,7 +10,7 @@ ghost use Rattle.snl_meaning.specs.Value as meaning;
 
 use crate::emission::emit_expression;
 use crate::rows::put;
-use snl_meaning::{Instr, Known, Sense, Unary, Variable, compound_of, sign_of};
+use snl_meaning::{Instr, Known, Sense, Unary, Variable, compound_of, sense_in, sign_of};
 use snl_syntax::Expr;
 use snl_text::{Kind, Token};
 use std::alloc::AllocError;
@@ -21,7 +21,7 @@ fn named_variable<'a>(expression: &Expr<'a>, known: &Known<'_, 'a>) -> Option<(V
 {
     match expression {
         Expr::Parenthesized(inner) => named_variable(inner, known),
-        Expr::Named(name) => match known.sense(*name) {
+        Expr::Named(name) => match sense_in(name, known) {
             Sense::Varies(variable) => Some((variable, name.pos.line)),
             Sense::Stands(_) => None,
         },

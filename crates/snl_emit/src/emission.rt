@@ -17,7 +17,7 @@ use crate::parts::{put_checked, put_old, put_read, read_name};
 use crate::rows::put;
 use crate::targets::{adjusted, put_stored};
 use crate::worth::{constant_number, front_of, worth_of};
-use snl_meaning::{Instr, Joint, Known, Unary, compound_of, joint_of, sign_of};
+use snl_meaning::{Instr, Joint, Known, Unary, compound_of, joint_of, sense_in, sign_of};
 use snl_syntax::{Expr, Term};
 use snl_text::{Kind, Token};
 use std::alloc::AllocError;
@@ -37,7 +37,7 @@ pub fn emit_expression<'a>(
     match expression {
         Expr::Constant(token) => put(code, Instr::Push(constant_of(*token))),
         Expr::Parenthesized(inner) => emit_expression(inner, known, code),
-        Expr::Named(name) => put(code, read_name(known.sense(*name))),
+        Expr::Named(name) => put(code, read_name(sense_in(name, known))),
         Expr::Element {
             name,
             bracket,
@@ -89,7 +89,7 @@ fn emit_element<'a>(
         ++ (form.element_code (sense_of (here_of known.now) name.entry) line
         ++ reverse code.old.items)) }
 {
-    put_read(code, known.sense(name), line)?;
+    put_read(code, sense_in(&name, known), line)?;
     emit_expression(index, known, code)
 }
 
@@ -271,13 +271,13 @@ pub fn emit_place<'a>(
 {
     match target {
         Expr::Parenthesized(inner) => emit_place(inner, known, operator, code),
-        Expr::Named(name) => put_old(code, known.sense(*name), operator),
+        Expr::Named(name) => put_old(code, sense_in(name, known), operator),
         Expr::Element {
             name,
             bracket,
             index,
         } => {
-            put_checked(code, known.sense(*name), bracket.pos.line, operator)?;
+            put_checked(code, sense_in(name, known), bracket.pos.line, operator)?;
             emit_expression(index, known, code)
         }
         _ => Ok(()),

@@ -6,7 +6,7 @@ ghost use Rattle.snl_meaning.specs.Known.{here_of};
 ghost use Rattle.snl_emit.specs.Targets as spec;
 
 use crate::rows::put;
-use snl_meaning::{Instr, Known, Sense};
+use snl_meaning::{Instr, Known, Sense, sense_in};
 use snl_names::Query;
 use snl_syntax::Expr;
 use snl_text::Kind;
@@ -96,11 +96,11 @@ pub fn put_stored<'a>(
     match target {
         Expr::Parenthesized(inner) => put_stored(inner, known, operator, operator_line, code),
         Expr::Named(name) => {
-            let sense = known.sense(*name);
+            let sense = sense_in(name, known);
             put_stored_alone(code, sense, operator, operator_line, name.pos.line)
         }
         Expr::Element { name, .. } => {
-            let sense = known.sense(*name);
+            let sense = sense_in(name, known);
             put_stored_at(code, sense, operator, operator_line, name.pos.line)
         }
         _ => Ok(()),
@@ -165,11 +165,11 @@ pub fn adjusted<'a>(
     match target {
         Expr::Parenthesized(inner) => adjusted(inner, known, operator, operator_line, is_before),
         Expr::Named(name) => {
-            let sense = known.sense(*name);
+            let sense = sense_in(name, known);
             adjusted_alone(sense, operator, operator_line, name.pos.line, is_before)
         }
         Expr::Element { name, .. } => {
-            let sense = known.sense(*name);
+            let sense = sense_in(name, known);
             adjusted_at(sense, operator, operator_line, name.pos.line, is_before)
         }
         _ => Instr::Push(0),
@@ -202,8 +202,8 @@ pub fn put_instr<'a>(target: &Expr<'a>, is_async: bool, known: &Known<'_, 'a>) -
 {
     match target {
         Expr::Parenthesized(inner) => put_instr(inner, is_async, known),
-        Expr::Named(name) => put_alone(known.sense(*name), is_async),
-        Expr::Element { name, .. } => put_element(known.sense(*name), is_async),
+        Expr::Named(name) => put_alone(sense_in(name, known), is_async),
+        Expr::Element { name, .. } => put_element(sense_in(name, known), is_async),
         _ => Instr::Push(0),
     }
 }
@@ -237,8 +237,8 @@ pub fn ask_instr<'a>(target: &Expr<'a>, known: &Known<'_, 'a>, query: Query) -> 
 {
     match target {
         Expr::Parenthesized(inner) => ask_instr(inner, known, query),
-        Expr::Named(name) => ask_alone(known.sense(*name), query, known.flag(*name)),
-        Expr::Element { name, .. } => ask_element(known.sense(*name), query),
+        Expr::Named(name) => ask_alone(sense_in(name, known), query, known.flag(*name)),
+        Expr::Element { name, .. } => ask_element(sense_in(name, known), query),
         _ => Instr::Push(0),
     }
 }

@@ -16,8 +16,8 @@ use snl_syntax::{Expr, Term};
 use snl_text::Token;
 
 /// A name: it is constant where it is predefined and has no declaration.
-fn of_use<'a>(name: Token<'a>, sites: &Sites<'_, 'a>) -> Constant
-    ensures { result ≡ spec.of_use sites.now name.entry }
+fn of_use<'a>(name: &Token<'a>, sites: &Sites<'_, 'a>) -> Constant
+    ensures { result ≡ spec.of_use sites.now name.now }
 {
     match sites.declared(name.pos.offset) {
         Some(_) => Constant::Varies,
@@ -33,7 +33,7 @@ pub fn worth_of<'a>(expression: &Expr<'a>, sites: &Sites<'_, 'a>) -> Constant
     match expression {
         Expr::Constant(token) => of_token(*token),
         Expr::Parenthesized(inner) => worth_of(inner, sites),
-        Expr::Named(name) => of_use(*name, sites),
+        Expr::Named(name) => of_use(name, sites),
         Expr::Prefix(operator, operand) => prefixed(operator.kind, worth_of(operand, sites)),
         Expr::Chain(first, terms) => worth_chain(terms.as_slice(), sites, worth_of(first, sites)),
         Expr::Conditional { condition, yes, no } => chosen(

@@ -109,7 +109,7 @@ pub emission::emit_expression-returns-in-Named : goal.emission::emit_expression-
 emission::emit_expression-returns-in-Named t c =
     on_ok_weaker c.put-in-Named.result
     (λ h. form-made (here_of c.args.known.now) c.args.expression.now (named c.in-Named.name) (reverse c.args.code.now.items) (reverse c.put-in-Named.new.code.items) (ap view c.in-Named.is)
-    (h ∙ ap (λ i. i ∷ reverse c.args.code.now.items) (c.read_name.ensures ∙ ap name_code c.sense.ensures)))
+    (h ∙ ap (λ i. i ∷ reverse c.args.code.now.items) (c.read_name.ensures ∙ ap name_code c.sense_in.ensures)))
     c.put-in-Named.ensures
 
 pub emission::emit_expression-returns-in-Element : goal.emission::emit_expression-returns-in-Element
