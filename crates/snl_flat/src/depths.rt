@@ -221,9 +221,12 @@ fn wait_depth(arguments: &[Argument], functions: &[Outline]) -> usize
         ≡ capped (spec.wait_depth (outlines functions.now)
         (list_before arguments.now no_arguments)) }
 {
-    match arguments.first() {
-        Some(Argument::Value(time)) => expression_depth(time, functions),
-        _ => 1,
+    match arguments {
+        [first, ..] => match first {
+            Argument::Value(time) => expression_depth(time, functions),
+            Argument::Text(_) => 1,
+        },
+        [] => 1,
     }
 }
 
@@ -234,9 +237,12 @@ fn put_depth(arguments: &[Argument], functions: &[Outline]) -> usize
         ≡ capped (spec.put_depth (outlines functions.now)
         (list_before arguments.now no_arguments)) }
 {
-    match arguments.first() {
-        Some(Argument::Value(target)) => target_depth(target, 1, 1, functions),
-        _ => 1,
+    match arguments {
+        [first, ..] => match first {
+            Argument::Value(target) => target_depth(target, 1, 1, functions),
+            Argument::Text(_) => 1,
+        },
+        [] => 1,
     }
 }
 
