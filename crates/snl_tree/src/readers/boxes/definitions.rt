@@ -1,5 +1,7 @@
 //! Places in their boxes, and definitions in rows.
 
+ghost use Rattle.std.specs.Prelude.{◌≡◌, ◌∷◌, ◌++◌, [], IfErr, OnOk};
+ghost use Rattle.snl_tree.specs.declared.readers.cursor.Halt.TheVariants.{Memory};
 ghost use Rattle.snl_syntax.specs.Definitions as kinds;
 ghost use Rattle.snl_tree.specs.reading.Moves.{Appends, Builds};
 ghost use Rattle.snl_syntax.specs.view.Shown.{shown, held};
@@ -29,6 +31,15 @@ pub fn boxed_place<'a>(
     in_box(alloc, Place { name, subscript })
 }
 
+/// Puts a definition at the end of a row. What puts one kind of them there calls this, and no generic function: its proof would go
+/// through all that a definition may hold.
+pub fn push_definition<'a>(row: &mut Vec<Def<'a>>, definition: Def<'a>) -> Result<(), Halt>
+    ensures items { OnOk result (row.new.items ≡ row.old.items ++ definition.entry ∷ []) }
+    ensures memory { IfErr result (λ halt. halt ≡ Memory) }
+{
+    pushed(row, definition)
+}
+
 /// Puts the definition that is a declaration at the end of a row.
 #[tactic(auto, using(crate::proofs::code::Building::in_a_row))]
 pub fn push_declared<'a>(
@@ -38,7 +49,7 @@ pub fn push_declared<'a>(
     ensures { Appends definition_view row.old.items result row.new.items
         (kinds.declaration (held declaration_view declaration.entry)) }
 {
-    pushed(row, Def::Declaration(Box::into_inner(declaration)))
+    push_definition(row, Def::Declaration(Box::into_inner(declaration)))
 }
 
 /// Puts the declaration of these names at the end of a row.
@@ -51,7 +62,7 @@ pub fn push_variables<'a>(
     ensures { Appends definition_view row.old.items result row.new.items (kinds.declaration
         record { type_name = type_view type_name.entry; names = declarator_views names.entry }) }
 {
-    pushed(row, Def::Declaration(Declaration { type_name, names }))
+    push_definition(row, Def::Declaration(Declaration { type_name, names }))
 }
 
 /// Puts an assign at the end of a row.
@@ -73,7 +84,7 @@ pub fn push_assign<'a>(
         place: Box::into_inner(place),
         channels,
     };
-    pushed(row, Def::Assign(assign))
+    push_definition(row, Def::Assign(assign))
 }
 
 /// Puts a monitor at the end of a row.
@@ -82,7 +93,7 @@ pub fn push_monitor<'a>(row: &mut Vec<Def<'a>>, place: Box<Place<'a>>) -> Result
     ensures { Appends definition_view row.old.items result row.new.items
         (kinds.monitor (held place_view place.entry)) }
 {
-    pushed(row, Def::Monitor(Box::into_inner(place)))
+    push_definition(row, Def::Monitor(Box::into_inner(place)))
 }
 
 /// Puts a sync at the end of a row.
@@ -99,7 +110,7 @@ pub fn push_sync<'a>(
         place: Box::into_inner(place),
         flag,
     };
-    pushed(row, Def::Sync(sync))
+    push_definition(row, Def::Sync(sync))
 }
 
 /// Puts a queue at the end of a row.
@@ -124,7 +135,7 @@ pub fn push_sync_queue<'a>(
         flag,
         size,
     };
-    pushed(row, Def::SyncQueue(queue))
+    push_definition(row, Def::SyncQueue(queue))
 }
 
 /// Puts the declaration of event flags at the end of a row.
@@ -133,7 +144,7 @@ pub fn push_event_flags<'a>(row: &mut Vec<Def<'a>>, names: Vec<Token<'a>>) -> Re
     ensures { Appends definition_view row.old.items result row.new.items
         (kinds.event_flags (token_list names.entry)) }
 {
-    pushed(row, Def::EventFlags(names))
+    push_definition(row, Def::EventFlags(names))
 }
 
 /// Puts an option at the end of a row.
@@ -142,5 +153,5 @@ pub fn push_setting<'a>(row: &mut Vec<Def<'a>>, setting: Setting<'a>) -> Result<
     ensures { Appends definition_view row.old.items result row.new.items
         (kinds.setting (setting_view setting.entry)) }
 {
-    pushed(row, Def::Setting(setting))
+    push_definition(row, Def::Setting(setting))
 }

@@ -8,8 +8,9 @@ ghost use Rattle.snl_syntax.specs.view.Statements.{block_view};
 ghost use Rattle.snl_syntax.specs.view.Functions.{parameters_view, function_view};
 ghost use Rattle.snl_syntax.specs.view.Definitions.{definition_view};
 
+use crate::readers::boxes::definitions::push_definition;
 use crate::readers::cursor::Halt;
-use crate::readers::room::{in_box, pushed};
+use crate::readers::room::in_box;
 use snl_syntax::{Block, Def, Function, Parameters, TypeName};
 use snl_text::Token;
 use std::alloc::Global;
@@ -45,5 +46,5 @@ pub fn push_function<'a>(row: &mut Vec<Def<'a>>, function: Box<Function<'a>>) ->
     ensures { Appends definition_view row.old.items result row.new.items
         (kinds.function (held function_view function.entry)) }
 {
-    pushed(row, Def::Function(function))
+    push_definition(row, Def::Function(function))
 }
