@@ -61,27 +61,27 @@ fn note_defined<'a>(
 
 /// Notes the event flag of a `sync` or `syncQ`.
 fn note_flag<'a>(
+    flag: &Flag<'a>,
     sight: &Sight<'_, 'a>,
-    flag: Flag<'a>,
     sites: &mut Vec<Site<'a>>,
 ) -> Result<(), AllocError>
     ensures { OnOk result (sites.new.items ≡ sites.old.items
-        ++ spec.in_flag (sight_of sight.now) (flag_view flag.entry)) }
+        ++ spec.in_flag (sight_of sight.now) (flag_view flag.now)) }
 {
     note_use(&sight.scopes, Purpose::Flagged, flag.name, false, sites)
 }
 
 /// Notes the event flag of a `syncQ`, where one is written.
 fn note_any_flag<'a>(
+    flag: &Option<Flag<'a>>,
     sight: &Sight<'_, 'a>,
-    flag: Option<Flag<'a>>,
     sites: &mut Vec<Site<'a>>,
 ) -> Result<(), AllocError>
     ensures { OnOk result (sites.new.items ≡ sites.old.items
-        ++ maybe (spec.in_flag (sight_of sight.now)) (shown flag_view flag.entry)) }
+        ++ maybe (spec.in_flag (sight_of sight.now)) (shown flag_view flag.now)) }
 {
     match flag {
-        Some(flag) => note_flag(sight, flag, sites),
+        Some(flag) => note_flag(flag, sight, sites),
         None => Ok(()),
     }
 }
@@ -138,7 +138,7 @@ fn note_sync<'a>(
 {
     let place = &sync.place;
     note_defined(place, Sort::Sync, place.name, sight, None, sites)?;
-    note_flag(sight, sync.flag, sites)
+    note_flag(&sync.flag, sight, sites)
 }
 
 /// Notes the sites in a `syncQ`.
@@ -152,7 +152,7 @@ fn note_queue<'a>(
 {
     let sort = Sort::Queue(queue_size(queue.size));
     note_defined(&queue.place, sort, queue.word, sight, None, sites)?;
-    note_any_flag(sight, queue.flag, sites)?;
+    note_any_flag(&queue.flag, sight, sites)?;
     note_size(queue.size, sites)
 }
 
