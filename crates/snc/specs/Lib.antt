@@ -3,3 +3,4 @@ pub mod Answered
 pub mod Outcomes
 pub mod Texts
 pub mod ReportSteps
+pub mod Runs

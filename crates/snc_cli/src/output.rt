@@ -1,11 +1,12 @@
 //! Standard output, for lines that go out while the trace comes.
 
 ghost use Rattle.std.specs.Prelude.{◌≡◌, [], Some, IfOk};
-ghost use Rattle.std.specs.Io.Buffered.{writer_contents};
 
 use snc::{Sink, SinkFault};
+use snl_output::{Room, Short};
 use snl_past::Past;
-use std::io::{self, BufWriter, Stdout, Write};
+use std::alloc::{AllocError, Global};
+use std::io::{self, Stdout, Write};
 
 /// Standard output, and what it took. Beside the call of the system it is noted what that took: nothing else in a run's way out
 /// has to be believed.
@@ -57,66 +58,119 @@ impl Write for Outlet {
     }
 }
 
-/// Lines on their way to standard output. They are held back until the buffer is full, the run waits for its trace, or all is
+/// Lines on their way to standard output. They are held back until the room for them is full, the run waits for its trace, or all is
 /// written: what they tell is what went out, and behind it what is held back.
 #[derive(Drop)]
 pub struct Lines {
-    writer: BufWriter<Outlet>,
+    out: Outlet,
+    /// What was not written out yet.
+    room: Room,
     failures: u64,
     /// Whether what was held back could not be written out.
     is_stuck: bool,
 }
 
 impl Lines {
-    ghost use Rattle.std.specs.Prelude.{OnOk};
+    ghost use Rattle.std.specs.Prelude.{OnErr, OnOk, ◌+◌, ◌-◌, ◌++◌, ◌^◌, ◌<◌, ◌≤◌, length, take, if◌then◌else◌};
     ghost use Rattle.snc_cli.specs.Streams.{taken_by};
+    ghost use Rattle.snl_output.specs.Devices.{write_fails};
+    ghost use Rattle.snl_output.specs.Rooms.{held_in};
 
-    /// Nothing was written yet.
-    pub fn new(writer: BufWriter<Outlet>) -> Self
-        ensures writer { result.writer ≡ writer }
-        ensures failures { result.failures ≡ 0 }
+    /// Nothing was written yet. The only error is that memory ends.
+    pub fn new(alloc: Global, out: Outlet) -> Result<Self, AllocError>
+        ensures out { IfOk result (λ lines. lines.out ≡ out) }
+        ensures held { IfOk result (λ lines. held_in lines.room ≡ []) }
+        ensures failures { IfOk result (λ lines. lines.failures ≡ 0) }
     {
-        Lines {
-            writer,
+        let room = Room::new(alloc)?;
+        Ok(Lines {
+            out,
+            room,
             failures: 0,
             is_stuck: false,
-        }
+        })
     }
 
     /// Writes out what is held back. Where that works, all that was told has gone out.
     pub fn finish(&mut self) -> Result<(), SinkFault>
         ensures told { taken_by self.new ≡ taken_by self.old }
-        ensures out { OnOk result (self.new.writer.inner.past.bytes ≡ taken_by self.new) }
+        ensures out { OnOk result (self.new.out.past.bytes ≡ taken_by self.new) }
     {
-        self.writer.flush().map_err(|_| SinkFault)
+        self.send()?;
+        self.out.flush().map_err(|_| SinkFault)
+    }
+
+    /// Hands what is held back to standard output. Where that fails, what did not go out is still held.
+    fn send(&mut self) -> Result<(), SinkFault>
+        ensures told { taken_by self.new ≡ taken_by self.old }
+        ensures empty { OnOk result (held_in self.new.room ≡ []) }
+        ensures failures { self.new.failures ≡ self.old.failures }
+    {
+        'send: while !self.room.held().is_empty() {
+            match self.out.write(self.room.held()) {
+                Ok(0) | Err(_) => return Err(SinkFault),
+                Ok(count) => self.room.let_go(count),
+            }
+        }
+        Ok(())
+    }
+
+    /// Takes a piece for which there was no room, or of it what there is room for then.
+    #[cold]
+    #[inline(never)]
+    fn take(&mut self, piece: &[u8]) -> Result<usize, SinkFault>
+        requires { self.old.failures < 2 ^ 64 - 1 }
+        ensures count { IfOk result (λ n. n ≤ length piece.now) }
+        ensures taken { IfOk result (λ n. taken_by self.new
+            ≡ taken_by self.old ++ take n piece.now) }
+        ensures untaken { OnErr result (taken_by self.new ≡ taken_by self.old) }
+        ensures failures { self.new.failures ≡ (if write_fails result
+            (length piece.now) then self.old.failures + 1 else self.old.failures) }
+    {
+        if !self.is_stuck && self.send().is_ok() {
+            let count = piece.len().min(self.room.left());
+            if count > 0 && self.room.hold(&piece[..count]) {
+                return Ok(count);
+            }
+        }
+        self.failures += 1;
+        Err(SinkFault)
     }
 }
 
 impl Sink for Lines {
-    ghost told = { λ lines. writer_contents (λ outlet. Some outlet.past.bytes) lines.writer };
+    ghost use Rattle.std.specs.Prelude.{◌++◌};
+    ghost use Rattle.snl_output.specs.Rooms.{held_in};
+
+    ghost told = { λ lines. Some (lines.out.past.bytes ++ held_in lines.room) };
 
     ghost failures = { λ lines. lines.failures };
 
+    #[inline(always)]
     fn write(&mut self, piece: &[u8]) -> Result<usize, SinkFault> {
-        if self.is_stuck {
-            self.failures += 1;
-            return Err(SinkFault);
+        if self.hold(piece) {
+            return Ok(piece.len());
         }
-        match self.writer.write(piece) {
-            Ok(0) if !piece.is_empty() => {
-                self.failures += 1;
-                Ok(0)
-            }
-            Ok(count) => Ok(count),
-            Err(_) => {
-                self.failures += 1;
-                Err(SinkFault)
-            }
-        }
+        self.take(piece)
+    }
+
+    #[inline(always)]
+    fn hold(&mut self, piece: &[u8]) -> bool {
+        !self.is_stuck && self.room.hold(piece)
+    }
+
+    #[inline(always)]
+    fn hold_short(&mut self, short: &Short) -> bool {
+        !self.is_stuck && self.room.hold_short(short)
+    }
+
+    #[inline(always)]
+    fn hold_timed(&mut self, ms: u64, text: &[u8]) -> bool {
+        !self.is_stuck && self.room.hold_timed(ms, text)
     }
 
     fn wait(&mut self) {
-        if self.writer.flush().is_err() {
+        if self.send().is_err() || self.out.flush().is_err() {
             self.is_stuck = true;
         }
     }

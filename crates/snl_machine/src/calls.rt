@@ -117,7 +117,7 @@ impl Machine {
             plan: &self.plan,
             code: self.code.instrs(),
             context: CodeContext {
-                formats: self.code.texts(),
+                formats: self.formats.as_slice(),
                 functions: self.code.functions(),
                 room: self.code.depth(),
             },

@@ -1,6 +1,8 @@
 //! `Machine`: a program with its code and the memory of its run.
 
-ghost use Rattle.std.specs.Prelude.{◌≡◌, ◌+◌, length};
+ghost use Rattle.std.specs.Prelude.{◌≡◌, ◌+◌, length, map};
+ghost use Rattle.snl_flat.specs.Pieces.{texts_of};
+ghost use Rattle.snl_output.specs.Spelled.{spelled_in};
 ghost use Rattle.snl_vm.specs.Footprint.{operand_words, store_words};
 ghost use Rattle.snl_vm.specs.Stack.{room_for, room_of};
 ghost use Rattle.snl_schedule.specs.Loaded.{CanRunLoaded};
@@ -9,6 +11,7 @@ ghost use Rattle.snl_schedule.proofs.Facts.{loaded-fact};
 
 use indexmap::IndexSet;
 use snl_flat::Code;
+use snl_output::Format;
 use snl_schedule::Plan;
 use snl_vm::Memory;
 
@@ -17,6 +20,8 @@ pub struct Machine {
     /// What the state sets and the links are.
     pub(crate) plan: Plan,
     pub(crate) code: Code,
+    /// The formats of the code, cut at their numbers.
+    pub(crate) formats: Vec<Format>,
     /// The names of the channels, by their numbers.
     pub(crate) names: IndexSet<Vec<u8>>,
     /// How many ticks an instant may take.
@@ -27,6 +32,7 @@ pub struct Machine {
     pub(crate) footprint: u64,
     ghost words: { footprint ≡ store_words memory.store + operand_words memory.operands },
     ghost room: { room_of memory.operands ≡ room_for code.depth (length code.functions.items) },
+    ghost formats_are: { map spelled_in formats.items ≡ texts_of code },
     ghost runs: { CanRunLoaded (loaded_by plan code) } by { loaded-fact (loaded_by plan code) },
 }
 
@@ -36,6 +42,7 @@ impl Drop for Machine {
         let Machine {
             plan: _,
             code: _,
+            formats: _,
             names: _,
             budget: _,
             memory: _,

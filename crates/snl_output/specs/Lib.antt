@@ -1,7 +1,11 @@
 pub mod Devices
 pub mod Does
+pub mod Formats
 pub mod Held
 pub mod Lines
+pub mod Rooms
+pub mod Spelled
+pub mod Texts
 pub mod TraceLines
 pub mod Sources
 pub mod Examples

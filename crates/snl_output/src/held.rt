@@ -1,12 +1,15 @@
 //! A line on its way to a sink.
 
-ghost use Rattle.std.specs.Prelude.{◌≡◌, ◌-◌, ◌^◌, ◌<◌, ◌∷◌, ◌++◌, [], is_err, map};
+ghost use Rattle.std.specs.Prelude.{◌≡◌, ◌-◌, ◌^◌, ◌<◌, ◌∷◌, ◌++◌, [], decimal, is_err, map};
 ghost use Rattle.snl_output.specs.Devices.{counted, Wrote};
 ghost use Rattle.snl_output.specs.Held.{Adds};
 ghost use Rattle.snl_output.specs.Lines.{joined};
+ghost use Rattle.snl_output.specs.Texts.{short_of, text_in};
 
 use crate::sinks::{Sink, SinkFault};
+use crate::texts::{Short, Text};
 use arrayvec::ArrayVec;
+use itoa::Buffer;
 
 /// How many bytes of a line are held back. Most lines have fewer.
 const HELD: usize = 128;
@@ -37,6 +40,9 @@ impl Line {
             (S.told sink.old) (S.told sink.new) }
         ensures failures { S.failures sink.new ≡ counted (is_err result) (S.failures sink.old) }
     {
+        if self.held.is_empty() && sink.hold(piece) {
+            return Ok(());
+        }
         if self.held.try_extend_from_slice(piece).is_ok() {
             return Ok(());
         }
@@ -51,10 +57,74 @@ impl Line {
             (S.told sink.old) (S.told sink.new) }
         ensures failures { S.failures sink.new ≡ counted (is_err result) (S.failures sink.old) }
     {
+        if self.held.is_empty() && sink.hold(&[byte]) {
+            return Ok(());
+        }
         if self.held.try_push(byte).is_ok() {
             return Ok(());
         }
         self.pass_on(&[byte], sink)
+    }
+
+    /// Adds a short text.
+    #[inline(always)]
+    pub fn add_short<S: Sink>(&mut self, short: &Short, sink: &mut S) -> Result<(), SinkFault>
+        requires { S.failures sink.old < 2 ^ 64 - 1 }
+        ensures told { Adds result (self.old.held.items ++ short_of short.now)
+            self.new.held.items (S.told sink.old) (S.told sink.new) }
+        ensures failures { S.failures sink.new ≡ counted (is_err result) (S.failures sink.old) }
+    {
+        if self.held.is_empty() && sink.hold_short(short) {
+            return Ok(());
+        }
+        self.add(short.as_slice(), sink)
+    }
+
+    /// Adds a text. Of most nothing is behind their front.
+    #[inline(always)]
+    pub fn add_text<S: Sink>(&mut self, text: &Text, sink: &mut S) -> Result<(), SinkFault>
+        requires { S.failures sink.old < 2 ^ 64 - 1 }
+        ensures told { Adds result (self.old.held.items ++ text_in text.now)
+            self.new.held.items (S.told sink.old) (S.told sink.new) }
+        ensures failures { S.failures sink.new ≡ counted (is_err result) (S.failures sink.old) }
+    {
+        self.add_short(&text.front, sink)?;
+        if text.more.is_empty() {
+            return Ok(());
+        }
+        self.add(text.more.as_slice(), sink)
+    }
+
+    /// Adds the digits of a time and a text behind them.
+    #[inline(always)]
+    pub fn add_timed<S: Sink>(
+        &mut self,
+        ms: u64,
+        text: &[u8],
+        sink: &mut S,
+    ) -> Result<(), SinkFault>
+        requires { S.failures sink.old < 2 ^ 64 - 1 }
+        ensures told { Adds result (self.old.held.items ++ (decimal ms ++ text.now))
+            self.new.held.items (S.told sink.old) (S.told sink.new) }
+        ensures failures { S.failures sink.new ≡ counted (is_err result) (S.failures sink.old) }
+    {
+        if self.held.is_empty() && sink.hold_timed(ms, text) {
+            return Ok(());
+        }
+        self.add_apart(ms, text, sink)
+    }
+
+    /// The same, one behind the other.
+    #[inline(never)]
+    fn add_apart<S: Sink>(&mut self, ms: u64, text: &[u8], sink: &mut S) -> Result<(), SinkFault>
+        requires { S.failures sink.old < 2 ^ 64 - 1 }
+        ensures told { Adds result (self.old.held.items ++ (decimal ms ++ text.now))
+            self.new.held.items (S.told sink.old) (S.told sink.new) }
+        ensures failures { S.failures sink.new ≡ counted (is_err result) (S.failures sink.old) }
+    {
+        let mut digits = Buffer::new();
+        self.add(digits.format(ms).as_bytes(), sink)?;
+        self.add(text, sink)
     }
 
     /// Hands on what is held back, and then a piece for which there was no room.

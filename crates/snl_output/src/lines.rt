@@ -9,6 +9,7 @@ ghost use Rattle.snl_output.specs.Lines.{joined, start_line, go_line, go_rest, e
 use crate::held::Line;
 use crate::pieces::push_all;
 use crate::sinks::{Sink, SinkFault};
+use crate::texts::Short;
 use itoa::Buffer;
 use std::alloc::{AllocError, Global};
 
@@ -57,7 +58,21 @@ pub fn go_text<'t>(
 }
 
 /// `MS` and the text that follows it, to the end of the line.
+#[inline(always)]
 pub fn write_timed<S: Sink>(sink: &mut S, ms: u64, rest: &[u8]) -> Result<(), SinkFault>
+    requires { S.failures sink.old < 2 ^ 64 - 1 }
+    ensures told { Wrote result (decimal ms ++ rest.now) (S.told sink.old) (S.told sink.new) }
+    ensures failures { S.failures sink.new ≡ counted (is_err result) (S.failures sink.old) }
+{
+    if sink.hold_timed(ms, rest) {
+        return Ok(());
+    }
+    write_apart(sink, ms, rest)
+}
+
+/// The same where the sink did not hold both at once.
+#[inline(never)]
+fn write_apart<S: Sink>(sink: &mut S, ms: u64, rest: &[u8]) -> Result<(), SinkFault>
     requires { S.failures sink.old < 2 ^ 64 - 1 }
     ensures told { Wrote result (decimal ms ++ rest.now) (S.told sink.old) (S.told sink.new) }
     ensures failures { S.failures sink.new ≡ counted (is_err result) (S.failures sink.old) }
@@ -117,9 +132,7 @@ pub fn add_put<'t, S: Sink>(
         line.new.held.items (S.told sink.old) (S.told sink.new) }
     ensures failures { S.failures sink.new ≡ counted (is_err result) (S.failures sink.old) }
 {
-    let mut time = Buffer::new();
-    line.add(time.format(ms).as_bytes(), sink)?;
-    line.add(b" put ", sink)?;
+    line.add_timed(ms, b" put ", sink)?;
     line.add(channel, sink)
 }
 
@@ -131,9 +144,9 @@ pub fn add_number<S: Sink>(line: &mut Line, number: i64, sink: &mut S) -> Result
         line.new.held.items (S.told sink.old) (S.told sink.new) }
     ensures failures { S.failures sink.new ≡ counted (is_err result) (S.failures sink.old) }
 {
-    let mut digits = Buffer::new();
-    line.add(b" ", sink)?;
-    line.add(digits.format(number).as_bytes(), sink)
+    line.push(b' ', sink)?;
+    let digits = Short::number(number);
+    line.add_short(&digits, sink)
 }
 
 /// Hands a line to a sink that is made of pieces.

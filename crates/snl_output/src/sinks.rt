@@ -1,5 +1,6 @@
 //! `Sink`: where the lines of a run go, and what it hears beside them.
 
+use crate::texts::Short;
 use thiserror::Error;
 
 /// A sink did not take what it was given.
@@ -81,8 +82,9 @@ pub struct Put {
 ///
 /// A sink may tell the bytes that it was given so far, and counts its failures.
 pub trait Sink {
-    ghost use Rattle.std.specs.Prelude.{◌≡◌, ◌+◌, ◌-◌, ◌^◌, ◌<◌, ◌≤◌, ℕ, List, Option, IfOk, OnErr, length, take, if◌then◌else◌};
+    ghost use Rattle.std.specs.Prelude.{◌≡◌, ◌+◌, ◌-◌, ◌++◌, ◌^◌, ◌<◌, ◌≤◌, ℕ, List, Option, IfOk, OnErr, decimal, length, take, if◌then◌else◌};
     ghost use Rattle.snl_output.specs.Devices.{told_more, write_fails};
+    ghost use Rattle.snl_output.specs.Texts.{short_of};
 
     ghost told: { Self → Option (List ℕ) };
 
@@ -98,6 +100,37 @@ pub trait Sink {
         ensures untaken { OnErr result (told self.new ≡ told self.old) }
         ensures failures { failures self.new ≡ (if write_fails result
             (length piece.now) then failures self.old + 1 else failures self.old) };
+
+    /// Takes all of a piece where it has a buffer with room for that, and answers whether it did. Else it takes nothing, and the piece
+    /// comes by `write`. A sink without a buffer takes nothing.
+    #[inline(always)]
+    fn hold(&mut self, _piece: &[u8]) -> bool
+        ensures told { told self.new ≡ (if result then told_more (told self.old) _piece.now
+            else told self.old) }
+        ensures failures { failures self.new ≡ failures self.old }
+    {
+        false
+    }
+
+    /// The same of a short text.
+    #[inline(always)]
+    fn hold_short(&mut self, _short: &Short) -> bool
+        ensures told { told self.new ≡ (if result then told_more (told self.old)
+            (short_of _short.now) else told self.old) }
+        ensures failures { failures self.new ≡ failures self.old }
+    {
+        false
+    }
+
+    /// The same of the digits of a time in milliseconds and a text behind them.
+    #[inline(always)]
+    fn hold_timed(&mut self, _ms: u64, _text: &[u8]) -> bool
+        ensures told { told self.new ≡ (if result then told_more (told self.old)
+            (decimal _ms ++ _text.now) else told self.old) }
+        ensures failures { failures self.new ≡ failures self.old }
+    {
+        false
+    }
 
     /// Hears that a clause fired, before its tick and its block. The words are those of the state set's copy as the conditions
     /// left them, one variable after another: who listens can tell what the condition saw.

@@ -1,14 +1,15 @@
 //! What code runs with: its state set, the texts that its lines say, the functions that it calls, and the room for its operands.
 
-ghost use Rattle.std.specs.Prelude.{◌≡◌};
+ghost use Rattle.std.specs.Prelude.{◌≡◌, [], IfNone, IfSome};
 
 use snl_meaning::FunctionEntry;
+use snl_output::Format;
 
 /// What all code of a program runs with. It is made once for an event, and the pieces that run then refer to it.
 #[derive(Clone, Copy)]
 pub struct CodeContext<'t> {
-    /// The strings of the program, as spelled with their quotes, by the numbers that instructions give them.
-    pub formats: &'t [Vec<u8>],
+    /// The formats of the program, by the numbers that instructions give them.
+    pub formats: &'t [Format],
     /// The functions of the program, by the numbers that instructions give them.
     pub functions: &'t [FunctionEntry],
     /// How many operands there is room for. It stands in what is promised of a run, and no code reads it.
@@ -28,15 +29,16 @@ pub struct PieceContext<'t> {
 
 impl<'t> PieceContext<'t> {
     ghost use Rattle.snl_meaning.specs.Names.{format_text};
+    ghost use Rattle.snl_output.specs.Spelled.{spelled_in};
     ghost use Rattle.snl_vm.specs.Running.{formats_of};
 
-    /// The string of a number; empty where there is none.
-    pub fn format(self, number: usize) -> &'t [u8]
-        ensures { result.now ≡ format_text (formats_of self.entry.program.now) number }
+    /// The format of a number, if there is one.
+    pub fn format(self, number: usize) -> Option<&'t Format>
+        ensures some { IfSome result (λ format. spelled_in format.now
+            ≡ format_text (formats_of self.entry.program.now) number) }
+        ensures none { IfNone result
+            (format_text (formats_of self.entry.program.now) number ≡ []) }
     {
-        match self.program.formats.get(number) {
-            Some(text) => text.as_slice(),
-            None => &[],
-        }
+        self.program.formats.get(number)
     }
 }

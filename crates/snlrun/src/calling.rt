@@ -44,7 +44,7 @@ pub fn session_on(
         trace.new.input.past.bytes trace.new.ended (taken_by lines.new) called.messages.items
         called.end called.status) }
     ensures out { IfOk result (λ called. called.is_out ≡ true →
-        lines.new.writer.inner.past.bytes ≡ taken_by lines.new) }
+        lines.new.out.past.bytes ≡ taken_by lines.new) }
 {
     let (messages, end, status) = session(alloc, source, job, trace, lines)?;
     let is_out = lines.finish().is_ok();

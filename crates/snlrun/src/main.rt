@@ -9,11 +9,7 @@ use calling::session_on;
 use snc::{Job, Status, Tool};
 use snc_cli::{Lines, Outlet, Stream, job_of, source_of, tell};
 use snl_trace::End;
-use std::io::BufWriter;
 use std::process::ExitCode;
-
-/// How many bytes of output are held back at most.
-const OUTPUT_HELD: usize = 65_536;
 
 fn main(rt: HostRuntime) -> ExitCode {
     let status = match job_of(&rt, Tool::Snlrun) {
@@ -34,12 +30,10 @@ fn run_file(rt: &HostRuntime, job: &Job) -> Status {
 /// Runs a program over standard input, and says what is to be said of it. The messages come behind the run, and the line
 /// that tells of a bad line of the trace comes last.
 fn run_over_input(rt: &HostRuntime, source: &[u8], job: &Job) -> Status {
-    let outlet = Outlet::new(rt.stdout());
-    let Ok(writer) = BufWriter::with_capacity(rt.alloc(), OUTPUT_HELD, outlet) else {
+    let Ok(mut lines) = Lines::new(rt.alloc(), Outlet::new(rt.stdout())) else {
         return Status::Memory;
     };
     let mut trace = Stream::new(rt.stdin());
-    let mut lines = Lines::new(writer);
     let Ok(called) = session_on(rt.alloc(), source, job, &mut trace, &mut lines) else {
         return Status::Memory;
     };

@@ -31,7 +31,8 @@ invariant_of-result c =
     let counted : code.depth < 2 ^ 64 - 1 = omega (arith, deep, c.in_ok-made.made.memory.operands.items.small) in
     let is = loaded-is p ls ls c.args.waits code plan refl c.in_ok-plan.ensures c.requires.code c.requires.inside c.requires.short counted in
     let words = c.in_ok-made.ensures.words ∙ ap (λ (r : Room). store_words c.in_ok-made.made.memory.store + (r.operands + r.places)) (sym c.in_ok-made.ensures.room) in
-    record { words = words; room = room; runs = (plans_are_right p ls c.args.waits code (loaded_by plan code) is).1 }
+    let formats = c.in_ok-formats.ensures ∙ ap (map (λ text. text.items)) c.texts.ensures in
+    record { words = words; room = room; formats_are = formats; runs = (plans_are_right p ls c.args.waits code (loaded_by plan code) is).1 }
 
 pub returns-clause-made : goal.returns-clause-made
 returns-clause-made c =

@@ -1,5 +1,6 @@
 use Rattle.std.proofs.Common.{◌≡◌, ◌∙◌, ◌+◌, ℕ, List, OnErr, ap, subst, sym, map}
 use Rattle.snl_output.specs.Does.{Does}
+use Rattle.snl_output.specs.Spelled.{spelled_in}
 use Rattle.snl_meaning.specs.declared.functions.FunctionEntry.{FunctionEntry}
 use Rattle.snl_meaning.specs.declared.instrs.Instr.{Instr}
 use Rattle.snl_meaning.specs.declared.live.Live.{Live}
@@ -34,23 +35,23 @@ words-by r = r.operands + r.places
 pub returns-clause-does : goal.returns-clause-does
 returns-clause-does g c =
     let m = c.args.self.now in
-    let same = handed-is m c.instrs.result.now (map (λ text. text.items) c.texts.result.now) c.functions.result.now c.depth.result
-    c.instrs.ensures (ap (map (λ text. text.items)) c.texts.ensures) c.functions.ensures c.depth.ensures in
+    let same = handed-is m c.instrs.result.now (map spelled_in c.as_slice.result.now) c.functions.result.now c.depth.result
+    c.instrs.ensures (ap (map spelled_in) c.as_slice.ensures ∙ m.formats_are) c.functions.ensures c.depth.ensures in
     subst (λ (t : Loaded). Does {V = Live} {A = Live} (λ live. live) c.take.result (world_of c.take.new.memory.store) (g.S.Sink.told c.args.sink.now) (g.S.Sink.told c.take.new.sink)
     (line_of (program_of t) m.budget c.args.ms c.args.event.now (world_held m))) same c.take.ensures.does
 
 pub returns-clause-steps : goal.returns-clause-steps
 returns-clause-steps g c =
     let m = c.args.self.now in
-    let same = handed-is m c.instrs.result.now (map (λ text. text.items) c.texts.result.now) c.functions.result.now c.depth.result
-    c.instrs.ensures (ap (map (λ text. text.items)) c.texts.ensures) c.functions.ensures c.depth.ensures in
+    let same = handed-is m c.instrs.result.now (map spelled_in c.as_slice.result.now) c.functions.result.now c.depth.result
+    c.instrs.ensures (ap (map spelled_in) c.as_slice.ensures ∙ m.formats_are) c.functions.ensures c.depth.ensures in
     subst (λ (t : Loaded). Adds c.take.result (line_steps t m.budget c.args.ms c.args.event.now (world_held m)) c.args.steps.now c.take.new.steps) same c.take.ensures.steps
 
 pub returns-clause-time : goal.returns-clause-time
 returns-clause-time g c =
     let m = c.args.self.now in
-    let same = handed-is m c.instrs.result.now (map (λ text. text.items) c.texts.result.now) c.functions.result.now c.depth.result
-    c.instrs.ensures (ap (map (λ text. text.items)) c.texts.ensures) c.functions.ensures c.depth.ensures in
+    let same = handed-is m c.instrs.result.now (map spelled_in c.as_slice.result.now) c.functions.result.now c.depth.result
+    c.instrs.ensures (ap (map spelled_in) c.as_slice.ensures ∙ m.formats_are) c.functions.ensures c.depth.ensures in
     subst (λ (t : Loaded). OnErr c.take.result (HasInstant (program_of t) m.budget c.args.ms (world_held m) (world_of c.take.new.memory.store).time)) same c.take.ensures.time
 
 -- the words that it holds stay
@@ -60,7 +61,7 @@ invariant_of-self g c =
     let new = c.take.new.memory.store in
     let words = words-stay m.memory.store new (world_of new).time c.take.ensures.keeps.frame in
     let room = c.take.ensures.keeps.room in
-    record { words = m.words ∙ sym (λ j. words j + words-by (room j)); room = room ∙ m.room; runs = m.runs }
+    record { words = m.words ∙ sym (λ j. words j + words-by (room j)); room = room ∙ m.room; formats_are = m.formats_are; runs = m.runs }
 
 -- so all that no event changes does
 pub returns-clause-fixed : goal.returns-clause-fixed

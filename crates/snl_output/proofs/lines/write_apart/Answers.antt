@@ -1,7 +1,7 @@
 use Rattle.std.proofs.Common.{◌≡◌, ◌∙◌, ◌++◌, [], ap, sym, append-nil, decimal, rules}
 use Rattle.snl_output.proofs.Adding.{added-as, added-begun, added-cut, added-more, added-sent}
 use Rattle.snl_output.proofs.Writing.{failed-wrote}
-use Rattle.snl_output.proofs.lines.write_timed.Goals as goal
+use Rattle.snl_output.proofs.lines.write_apart.Goals as goal
 
 pub returns-in_err-add-clause-told : goal.returns-in_err-add-clause-told
 returns-in_err-add-clause-told g c =
