@@ -6,6 +6,8 @@
 
 mod conditions;
 mod legends;
+mod variables;
 
 pub use conditions::Conditions;
 pub use legends::set_legends;
+pub use variables::{Variable, variable_of};

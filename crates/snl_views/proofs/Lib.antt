@@ -5,8 +5,3 @@ pub mod Silent
 pub mod Ending
 pub mod RunAnswers
 pub mod Answered
-pub mod Counting
-pub mod Sums
-pub mod CoverRuns
-pub mod RunnerLaws
-pub mod Texts

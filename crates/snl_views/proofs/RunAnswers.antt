@@ -10,21 +10,12 @@ use Rattle.snl_meaning.specs.World.{World}
 use Rattle.snl_names.specs.declared.options.Options.{Options}
 use Rattle.snl_output.specs.Devices.{counted}
 use Rattle.snl_trace.specs.declared.runner.End.{End}
-use Rattle.snl_views.specs.Runs.{EndsAt, RunsLike, RunsWith}
+use Rattle.snc.specs.Runs.{EndsAt, RunsLike, RunsWith}
+use Rattle.snc.proofs.RunLaws.{runs-like}
 use Rattle.snl_views.specs.Staged.{IsBoxedStage}
 use Rattle.snl_views.specs.declared.preparing.Prepared.{Prepared}
 use Rattle.snl_views.specs.declared.staging.Stage.{Stage}
 use Rattle.snl_views.proofs.Answered.{accepted, refused}
-
--- a run, by other names of what was told
-pub runs-like : (whole : ProgramTree) (ls : List Link) (waiting : Bool) (budget : ℕ) (first world : World) (gave : List ℕ) (ended : Bool)
-    (old told old' told' : Option (List ℕ)) (end : End) → old ≡ told → old' ≡ told' →
-    EndsAt whole ls waiting budget first gave ended old old' end world → RunsLike whole ls waiting budget first gave ended told told' end
-runs-like whole ls waiting budget first world gave ended old told old' told' end is is' ran = record {
-  world = world;
-  ran = subst (λ (t : Option (List ℕ)). EndsAt whole ls waiting budget first gave ended told t end world) is'
-      (subst (λ (t : Option (List ℕ)). EndsAt whole ls waiting budget first gave ended t old' end world) is ran);
-}
 
 -- a sink failed once, in the run or behind it, exactly if not all was taken
 pub failed-once : (failed is_whole : Bool) (before ran after : ℕ) → (failed ≡ true → is_whole ≡ false) → ran ≡ counted failed before → (failed ≡ true → after ≡ ran) →

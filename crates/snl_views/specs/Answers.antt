@@ -9,7 +9,7 @@ use Rattle.snl_machine.specs.MachineOf.{task_of}
 use Rattle.snl_names.specs.declared.options.Options.{Options}
 use Rattle.snl_trace.specs.Run.{rules_by}
 use Rattle.snl_views.specs.Awaits.{Awaits}
-use Rattle.snl_views.specs.Runs.{RunsWith}
+use Rattle.snc.specs.Runs.{RunsWith}
 use Rattle.snl_views.specs.declared.waiting.WaitsOutcome.{WaitsOutcome}
 
 -- The outcome of a program with these macros over a trace that gave some bytes and has ended or not, under the options in force: it

@@ -2,10 +2,4 @@ pub mod Answers
 pub mod Awaits
 pub mod Laws
 pub mod Prepared
-pub mod Runs
 pub mod Staged
-pub mod Coverage
-pub mod Graphs
-pub mod Pictures
-pub mod Runners
-pub mod Shapes

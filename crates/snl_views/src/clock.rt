@@ -1,6 +1,7 @@
 //! The times of a trace, and what looks wrong with them: one jump of days, or times that some other clock counts.
 
 use bstr::ByteSlice;
+use core::dec2flt::read_digits;
 use snl_output::{push_all, push_counted, push_told};
 use std::alloc::AllocError;
 
@@ -32,39 +33,15 @@ pub(crate) struct Clock {
     behind: u64,
 }
 
-/// The number that the digits at the front of eight bytes make, the first in the lowest byte, and how many they are. All eight are
-/// looked at at once: pairs of digits become numbers below 100, these numbers below 10,000, and so on.
-fn number_of_eight(bytes: u64) -> (u64, u32) {
-    let digits = bytes ^ 0x3030_3030_3030_3030;
-    let sums = (digits & 0x7f7f_7f7f_7f7f_7f7f).wrapping_add(0x7676_7676_7676_7676);
-    let others = (sums | digits) & 0x8080_8080_8080_8080;
-    let count = others.trailing_zeros() / 8;
-    if count == 0 {
-        return (0, 0);
-    }
-    let last = 64u32.wrapping_sub(count.wrapping_mul(8));
-    let ones = digits.wrapping_shl(last);
-    let pairs = ones.wrapping_mul(2_561) >> 8;
-    let fours = (pairs & 0x00ff_00ff_00ff_00ff).wrapping_mul(6_553_601) >> 16;
-    let number = (fours & 0x0000_ffff_0000_ffff).wrapping_mul(42_949_672_960_001) >> 32;
-    (number, count)
-}
-
-/// The number that the digits at the front of a text make; one beyond 64 bits counts as the greatest there. Most have fewer than
-/// eight.
+/// The number that the digits at the front of a text make; one beyond 64 bits counts as the greatest there. Most have fewer than 20,
+/// and are read eight at once.
 fn number_in_front(text: &[u8]) -> u64 {
-    if let [a, b, c, d, e, f, g, h, ..] = text {
-        let bytes = u64::from_le_bytes([*a, *b, *c, *d, *e, *f, *g, *h]);
-        let (number, count) = number_of_eight(bytes);
-        if count < 8 {
-            return number;
-        }
+    let (count, number) = read_digits(text, 0, 0);
+    if count < 20 {
+        return number;
     }
     let mut number = 0u64;
-    for byte in text {
-        if !byte.is_ascii_digit() {
-            return number;
-        }
+    for byte in &text[..count] {
         let digit = u64::from(byte.wrapping_sub(b'0'));
         number = number.saturating_mul(10).saturating_add(digit);
     }

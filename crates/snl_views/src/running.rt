@@ -10,7 +10,7 @@ ghost use Rattle.snl_trace.specs.Ends.{sink_failed, source_failed};
 ghost use Rattle.snl_watch.specs.Extra.{shown};
 ghost use Rattle.snl_watch.specs.Folding.{IsFolded};
 ghost use Rattle.snc.specs.Answered.{IsAnswered};
-ghost use Rattle.snl_views.specs.Runs.{EndsAt, RunsLike, RunsWith, trace_failures};
+ghost use Rattle.snc.specs.Runs.{EndsAt, RunsLike, RunsWith, trace_failures};
 
 use crate::staging::{Stage, Staging};
 use crate::starting::names_of;

@@ -10,7 +10,7 @@ ghost use Rattle.snl_output.specs.Devices.{counted};
 ghost use Rattle.snl_trace.specs.Ends.{source_failed};
 ghost use Rattle.snl_trace.specs.Run.{rules_by};
 ghost use Rattle.snl_views.specs.Awaits.{Awaits, awaited_in, left_in};
-ghost use Rattle.snl_views.specs.Runs.{EndsAt, RunsLike};
+ghost use Rattle.snc.specs.Runs.{EndsAt, RunsLike};
 
 use crate::awaited::{Awaited, awaited_of};
 use crate::bad_lines::without_bad_line;

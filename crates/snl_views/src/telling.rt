@@ -4,7 +4,7 @@ use crate::awaited::Awaited;
 use crate::escaped::push_escaped;
 use crate::hints::{Hint, hint_of};
 use crate::starting::Start;
-use crate::variables::variable_of;
+use snl_legends::variable_of;
 use snl_links::Link;
 use snl_machine::Machine;
 use snl_output::{push_all, push_counted, push_told};

@@ -13,7 +13,7 @@ ghost use Rattle.snl_trace.specs.Run.{rules_by};
 ghost use Rattle.snc.specs.Answered.{IsAnswered};
 ghost use Rattle.snl_views.specs.Answers.{AwaitsOver};
 ghost use Rattle.snl_views.specs.Awaits.{Awaits};
-ghost use Rattle.snl_views.specs.Runs.{RunsLike, trace_failures};
+ghost use Rattle.snc.specs.Runs.{RunsLike, trace_failures};
 
 use crate::awaited::Awaited;
 use crate::preparing::{Prepared, Preparing};

@@ -3,7 +3,7 @@ use Rattle.snl_machine.specs.MachineOf.{task_of, world_held}
 use Rattle.snl_trace.specs.Run.{rules_by}
 use Rattle.snl_trace.specs.RunOver.{standing}
 use Rattle.snl_watch.specs.Window.{window}
-use Rattle.snl_views.specs.Runs.{EndsAt}
+use Rattle.snc.specs.Runs.{EndsAt}
 use Rattle.snl_views.proofs.ByLines.{by-line-on}
 use Rattle.snl_views.proofs.running.ran_over.Goals as goal
 

@@ -11,7 +11,7 @@ use Rattle.snl_trace.specs.Run.{rules_by}
 use Rattle.snl_views.specs.Answers.{AwaitsOver}
 use Rattle.snl_views.specs.Awaits.{Awaits}
 use Rattle.snl_views.specs.Prepared.{IsBoxedPrepared}
-use Rattle.snl_views.specs.Runs.{RunsLike}
+use Rattle.snc.specs.Runs.{RunsLike}
 use Rattle.snl_views.specs.declared.preparing.Prepared.{Prepared}
 use Rattle.snl_views.proofs.Answered.{accepted, refused}
 use Rattle.snl_views.proofs.waiting.waits.Goals as goal

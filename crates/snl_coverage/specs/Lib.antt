@@ -1,0 +1,5 @@
+pub mod Coverage
+pub mod Graphs
+pub mod Pictures
+pub mod Runners
+pub mod Shapes

@@ -1,5 +1,0 @@
-use Rattle.snl_views.proofs.Sums.{sums-in-any-order}
-use Rattle.snl_views.proofs.cover_laws.sums_in_any_order.Goals as goal
-
-pub returns : goal.returns
-returns c = sums-in-any-order
